@@ -1,0 +1,177 @@
+//! The limits of a table.
+
+ghost use Rattle.std.specs.Prelude.{◌≡◌, ◌↔◌, IsTrue, MatchResult};
+ghost use Rattle.acc_base.specs.Limits.{limits_of, IsWithinBounds, IsSize, IsFromOne};
+
+use crate::Fault;
+use std::marker::Model;
+
+/// The limits of a table: the sizes of its two memories, and how much it may hold.
+///
+/// Each value lies within the bounds that [`Config::new`] states.
+#[derive(Clone, Copy, Debug, PartialEq, Eq)]
+pub struct Config {
+    host: u64,
+    device: u64,
+    regions: u64,
+    tickets: u64,
+    counter_max: u64,
+    queue_cap: u64,
+    trace_cap: u64,
+}
+
+impl Model for Config {
+    ghost use Rattle.acc_base.specs.Limits.{Limits, IsWithinBounds};
+
+    ghost Value = { Limits };
+
+    ghost view = { λ c. record {
+      host = c.host;
+      device = c.device;
+      regions = c.regions;
+      tickets = c.tickets;
+      counter_max = c.counter_max;
+      queue_cap = c.queue_cap;
+      trace_cap = c.trace_cap;
+    } };
+
+    ghost invariant = { λ c. IsWithinBounds (record {
+      host = c.host;
+      device = c.device;
+      regions = c.regions;
+      tickets = c.tickets;
+      counter_max = c.counter_max;
+      queue_cap = c.queue_cap;
+      trace_cap = c.trace_cap;
+    }) };
+
+    ghost inverse = { λ l. record {
+      host = l.host;
+      device = l.device;
+      regions = l.regions;
+      tickets = l.tickets;
+      counter_max = l.counter_max;
+      queue_cap = l.queue_cap;
+      trace_cap = l.trace_cap;
+    } };
+}
+
+impl Config {
+    /// A configuration of these limits.
+    ///
+    /// - `host` and `device`: the sizes of host and device memory in bytes, each a multiple of 16 from 16 to
+    ///   67,108,864;
+    /// - `regions`: how many data regions may be open at a time, 1 to 65,536;
+    /// - `tickets`: how many events there may be in all, 1 to 2^40;
+    /// - `counter_max`: the greatest value of a counter, 1 to 4,294,967,295;
+    /// - `queue_cap`: how many transfers may wait in one queue, 1 to 4,096;
+    /// - `trace_cap`: how many events the stored trace may have, 1 to 16,777,216.
+    ///
+    /// # Errors
+    ///
+    /// [`Fault::BadConfig`] exactly where one of the seven is out of its bounds.
+    pub fn new(
+        host: u64,
+        device: u64,
+        regions: u64,
+        tickets: u64,
+        counter_max: u64,
+        queue_cap: u64,
+        trace_cap: u64,
+    ) -> Result<Config, Fault>
+        ensures { MatchResult result
+            (λ c. (c ≡ limits_of host device regions tickets counter_max queue_cap trace_cap) × IsWithinBounds c)
+            (λ e. (e ≡ Fault.BadConfig) × ¬ IsWithinBounds (limits_of host device regions tickets counter_max queue_cap trace_cap)) }
+    {
+        if is_size(host)
+            && is_size(device)
+            && is_from_one(regions, 65_536)
+            && is_from_one(tickets, 1 << 40)
+            && is_from_one(counter_max, 4_294_967_295)
+            && is_from_one(queue_cap, 4_096)
+            && is_from_one(trace_cap, 16_777_216)
+        {
+            Ok(Config {
+                host,
+                device,
+                regions,
+                tickets,
+                counter_max,
+                queue_cap,
+                trace_cap,
+            })
+        } else {
+            Err(Fault::BadConfig)
+        }
+    }
+
+    /// Each limit is within the bounds that [`Config::new`] states. Nothing is done.
+    pub fn laws(&self)
+        ensures { IsWithinBounds self.now }
+    {
+        let _ = &self.host;
+    }
+
+    /// The size of host memory in bytes.
+    pub fn host(&self) -> u64
+        ensures { result ≡ self.now.host }
+    {
+        self.host
+    }
+
+    /// The size of device memory in bytes.
+    pub fn device(&self) -> u64
+        ensures { result ≡ self.now.device }
+    {
+        self.device
+    }
+
+    /// How many data regions may be open at a time.
+    pub fn regions(&self) -> u64
+        ensures { result ≡ self.now.regions }
+    {
+        self.regions
+    }
+
+    /// How many events there may be in all.
+    pub fn tickets(&self) -> u64
+        ensures { result ≡ self.now.tickets }
+    {
+        self.tickets
+    }
+
+    /// The greatest value of a reference or attachment counter.
+    pub fn counter_max(&self) -> u64
+        ensures { result ≡ self.now.counter_max }
+    {
+        self.counter_max
+    }
+
+    /// How many transfers may wait in one queue.
+    pub fn queue_cap(&self) -> u64
+        ensures { result ≡ self.now.queue_cap }
+    {
+        self.queue_cap
+    }
+
+    /// How many events the stored trace may have.
+    pub fn trace_cap(&self) -> u64
+        ensures { result ≡ self.now.trace_cap }
+    {
+        self.trace_cap
+    }
+}
+
+/// The number of bytes may be the size of a memory.
+fn is_size(bytes: u64) -> bool
+    ensures { IsTrue result ↔ IsSize bytes }
+{
+    16 <= bytes && bytes <= 67_108_864 && bytes % 16 == 0
+}
+
+/// The number is from 1 to a greatest one.
+fn is_from_one(n: u64, most: u64) -> bool
+    ensures { IsTrue result ↔ IsFromOne most n }
+{
+    1 <= n && n <= most
+}

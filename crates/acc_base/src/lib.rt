@@ -1,0 +1,22 @@
+//! The words of an OpenACC 3.3 data runtime: sections, data clause items, directives, events, faults and limits, and
+//! the definitions that the contracts of every crate cite.
+//!
+//! `specs/` says what a directive does, in OpenACC's words and apart from any code; `docs/MODEL.md` says the same in
+//! prose.
+#![tactic(auto)]
+
+mod configs;
+mod directives;
+mod events;
+mod faults;
+mod items;
+mod lists;
+mod mappings;
+
+pub use configs::Config;
+pub use directives::Directive;
+pub use events::{Did, Event, Step};
+pub use faults::{Fault, ScriptFault};
+pub use items::{EnterClause, ExitClause, Item, Section};
+pub use lists::List;
+pub use mappings::{Block, Counters, Found, Range};

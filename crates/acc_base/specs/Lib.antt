@@ -1,2 +1,12 @@
 pub mod Limits
 pub mod Faults
+pub mod Section
+pub mod Ranges
+pub mod Blocks
+pub mod Records
+pub mod Walk
+pub mod Bytes
+pub mod Judge
+pub mod Calls
+pub mod History
+pub mod Accounts

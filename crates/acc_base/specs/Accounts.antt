@@ -1,0 +1,105 @@
+-- What holds of every world that accepted calls lead to: ranges and blocks are apart and account for every used byte, and every counter is what the history gives.
+use Rattle.std.specs.Prelude.{◌+◌, ◌%◌, ◌≡◌, ◌<◌, ◌≤◌, ◌⊎◌, true, List, [], ◌∷◌, length, map, Some, IsSome, ⊤}
+use Rattle.std.specs.List.{AllByRecursion}
+use Rattle.acc_base.specs.declared.mappings.Range.{Range}
+use Rattle.acc_base.specs.declared.mappings.Block.{Block}
+use Rattle.acc_base.specs.Limits.{Limits}
+use Rattle.acc_base.specs.Section.{is_within, host_memory, device_base}
+use Rattle.acc_base.specs.Records.{Records, State, new_records}
+use Rattle.acc_base.specs.Ranges.{range_of}
+use Rattle.acc_base.specs.Blocks.{block_at, block_end, used_bytes}
+use Rattle.acc_base.specs.Walk.{walk_all}
+use Rattle.acc_base.specs.Calls.{History, World, event_count}
+use Rattle.acc_base.specs.History.{dynamic_in, AreLegal}
+
+-- each one is related to each later one
+abbrev pub AreApart : {X : Type 0} → (X → X → Type 0) → List X → Type 0
+AreApart apart [] = ⊤
+AreApart apart (x ∷ xs) = AllByRecursion (apart x) xs × AreApart apart xs
+
+-- ---- mapped ranges
+
+-- the range is not empty and lies in host memory
+pub record IsInHost (l : Limits) (r : Range) : Type 0 where
+  pub some : 0 < r.section.len
+  pub within : is_within r.section (host_memory l.host) ≡ true
+
+-- the one ends before the other begins
+abbrev pub IsBelow : Range → Range → Type 0
+IsBelow r t = r.section.start + r.section.len ≤ t.section.start
+
+-- mapped ranges are not empty, lie in host memory, and rise without overlap
+pub record AreRangesApart (l : Limits) (ranges : List Range) : Type 0 where
+  pub in_host : AllByRecursion (IsInHost l) ranges
+  pub rising : AreApart IsBelow ranges
+
+-- ---- device blocks
+
+-- the block lies on the device, and begins at a multiple of 16
+pub record IsOnDevice (l : Limits) (b : Block) : Type 0 where
+  pub some : 0 < b.len
+  pub first : device_base ≤ b.place
+  pub last : block_end b ≤ device_base + l.device
+  pub even : b.place % 16 ≡ 0
+
+-- no address is in both, and the one was born before the other
+pub record IsClearOf (b c : Block) : Type 0 where
+  pub addresses : (block_end b ≤ c.place) ⊎ (block_end c ≤ b.place)
+  pub numbers : b.number < c.number
+
+-- blocks lie on the device, do not overlap, and stand in the order of their births
+pub record AreBlocksApart (l : Limits) (w : Records) : Type 0 where
+  pub on_device : AllByRecursion (IsOnDevice l) w.blocks
+  pub apart : AreApart IsClearOf w.blocks
+  pub born : AllByRecursion (λ b. b.number ≤ w.births) w.blocks
+
+-- ---- ranges and blocks
+
+-- the block that the range is mapped to is there, and as long as the range
+abbrev pub IsMapped : List Block → Range → Type 0
+IsMapped blocks r = (b : Block) × (block_at r.block blocks ≡ Some b) × (b.len ≡ r.section.len)
+
+-- each range has a block of its own, and each block is some range's
+pub record HasOneBlockEach (w : Records) : Type 0 where
+  pub mapped : AllByRecursion (IsMapped w.blocks) w.ranges
+  pub distinct : AreApart (λ (r : Range) (t : Range). r.block ≡ t.block → ⊥) w.ranges
+  pub in_use : AllByRecursion (λ b. IsSome (range_of b.number w.ranges)) w.blocks
+
+-- ---- counters
+
+-- both counters are those of the history, at most the limit, and not both zero; nothing raises a structured counter until data regions come
+pub record IsTraced (l : Limits) (h : History) (r : Range) : Type 0 where
+  pub structured : r.structured ≡ 0
+  pub dynamic : r.dynamic ≡ dynamic_in r.block h
+  pub some : 0 < r.structured + r.dynamic
+  pub few : r.dynamic ≤ l.counter_max
+
+-- ---- memories
+
+-- host memory has its size, and each block, in order, a memory of its length
+pub record AreMemoriesSized (l : Limits) (s : State) : Type 0 where
+  pub host : length s.host ≡ l.host
+  pub blocks : map (λ m. m.block) s.memories ≡ map (λ b. b.number) s.records.blocks
+  pub lengths : map (λ m. length m.bytes) s.memories ≡ map (λ b. b.len) s.records.blocks
+
+-- ---- the history
+
+-- the history is legal and leads to the records
+pub record IsHistoryLegal (l : Limits) (h : History) (w : Records) : Type 0 where
+  pub legal : AreLegal l h.trace new_records
+  pub leads : walk_all h.trace new_records ≡ w
+
+-- there are no more events than tickets and places in the trace
+pub record AreBooksCounted (l : Limits) (h : History) : Type 0 where
+  pub tickets : event_count h ≤ l.tickets
+  pub trace : length h.trace ≤ l.trace_cap
+
+pub record IsAccounted (w : World) : Type 0 where
+  pub ranges_apart : AreRangesApart w.limits w.state.records.ranges
+  pub blocks_apart : AreBlocksApart w.limits w.state.records
+  pub bytes_accounted : used_bytes w.state.records.blocks ≤ w.limits.device
+  pub one_block_each : HasOneBlockEach w.state.records
+  pub counters_traced : AllByRecursion (IsTraced w.limits w.history) w.state.records.ranges
+  pub memories_sized : AreMemoriesSized w.limits w.state
+  pub history_legal : IsHistoryLegal w.limits w.history w.state.records
+  pub books_counted : AreBooksCounted w.limits w.history

@@ -3,4 +3,8 @@ pub mod Elements
 pub mod Lookups
 pub mod Where
 pub mod Places
+pub mod Judged
+pub mod Walked
+pub mod Counting
+pub mod Sound
 mod Examples

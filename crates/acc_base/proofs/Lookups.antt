@@ -9,7 +9,7 @@ use Rattle.acc_base.proofs.Elements.{AllByRecursion-both}
 
 module _ {X : Type 0} (number : X → ℕ) where
   -- the element of a number
-  abbrev at : ℕ → List X → Option X
+  abbrev pub at : ℕ → List X → Option X
   at k xs = find (λ x. number x == k) xs
 
   -- ---- without an element
@@ -54,7 +54,7 @@ module _ {X : Type 0} (number : X → ℕ) where
   -- ---- a change of one element that keeps its number
 
   -- the change of the element of a number
-  abbrev change_at : ℕ → (X → X) → X → X
+  abbrev pub change_at : ℕ → (X → X) → X → X
   change_at k f x = cond (number x == k) (f x) x
 
   pub number-change : (k : ℕ) (f : X → X) → ((x : X) → number (f x) ≡ number x) → (x : X) → number (change_at k f x) ≡ number x
@@ -74,7 +74,7 @@ module _ {X : Type 0} (number : X → ℕ) where
 
   -- ---- numbers that differ
 
-  abbrev AreDistinct : List X → Type 0
+  abbrev pub AreDistinct : List X → Type 0
   AreDistinct xs = AreApart (λ x y. number x ≡ number y → ⊥) xs
 
   -- each element is the one of its number

@@ -1,5 +1,5 @@
 -- The search for a place is right: it gives the least of all device addresses at which the size fits.
-use Rattle.std.proofs.Common.{ℕ, ◌≡◌, ◌+◌, ◌-◌, ◌<◌, ◌≤◌, refl, Bool, true, false, cond, List, [], ◌∷◌, Option, Some, None, ◌&&◌, arith, max, ⊎_elim}
+use Rattle.std.proofs.Common.{ℕ, ◌≡◌, ◌+◌, ◌-◌, ◌*◌, ◌/◌, ◌%◌, ◌<◌, ◌≤◌, refl, Bool, true, false, cond, List, [], ◌∷◌, Option, Some, None, ◌&&◌, arith, max, ⊎_elim}
 use Rattle.std.specs.Prelude.{◌⊎◌, map, filter, nat_le, IfSome}
 use Rattle.std.specs.List.{list_all, AllByRecursion}
 use Rattle.std.proofs.lemmas.Bool.{cases_lt}
@@ -8,7 +8,7 @@ use Rattle.acc_base.specs.declared.mappings.Block.{Block}
 use Rattle.acc_base.specs.Section.{device_base}
 use Rattle.acc_base.specs.Blocks.{place_for, fits_at, is_clear_of, least, least_of, block_end, size_of, rounded, Fits, IsFree, IsPlaceFor}
 use Rattle.acc_base.proofs.Tests.{and_true, tested}
-use Rattle.acc_base.proofs.Elements.{AllByRecursion-both, AllByRecursion-weaker, list_all-from, list_all-to}
+use Rattle.acc_base.proofs.Elements.{AllByRecursion-both, AllByRecursion-filter, AllByRecursion-weaker, list_all-from, list_all-to}
 
 -- ---- the test of one place, by addresses
 
@@ -166,3 +166,17 @@ place_for-least device blocks size some filled = go (place_for device blocks siz
 -- a block that is not empty takes some bytes
 pub size-some : (n : ℕ) → 0 < n → 0 < rounded n
 size-some n some = omega arith
+
+-- ---- places are multiples of 16
+
+end_even : (p n : ℕ) → p % 16 ≡ 0 → (p + 16 * n) % 16 ≡ 0
+end_even p n e = omega arith
+
+ends_even : (blocks : List Block) → AllByRecursion (λ b. b.place % 16 ≡ 0) blocks → AllByRecursion (λ p. p % 16 ≡ 0) (map block_end blocks)
+ends_even [] h = tt
+ends_even (b ∷ bs) h = (end_even b.place ((b.len + 15) / 16) h.0, ends_even bs h.1)
+
+pub place_for-even : (device : ℕ) (blocks : List Block) (size : ℕ) → AllByRecursion (λ b. b.place % 16 ≡ 0) blocks → IfSome (place_for device blocks size) (λ p. p % 16 ≡ 0)
+place_for-even device blocks size h =
+    least_of-in (λ p. p % 16 ≡ 0) (filter (fits_at device blocks size) (device_base ∷ map block_end blocks))
+    (AllByRecursion-filter (λ p. p % 16 ≡ 0) (fits_at device blocks size) (device_base ∷ map block_end blocks) (refl, ends_even blocks h))

@@ -4,7 +4,8 @@ use Rattle.std.specs.List.{AllByRecursion}
 use Rattle.acc_base.specs.declared.mappings.Range.{Range}
 use Rattle.acc_base.specs.declared.mappings.Block.{Block}
 use Rattle.acc_base.specs.Limits.{Limits}
-use Rattle.acc_base.specs.Section.{is_within, host_memory, device_base}
+use Rattle.acc_base.specs.Section.{end_of, is_within, host_memory, device_base}
+use Rattle.acc_base.specs.declared.items.Section.{Section}
 use Rattle.acc_base.specs.Records.{Records, State, new_records}
 use Rattle.acc_base.specs.Ranges.{range_of}
 use Rattle.acc_base.specs.Blocks.{block_at, block_end, used_bytes}
@@ -19,19 +20,19 @@ AreApart apart (x ∷ xs) = AllByRecursion (apart x) xs × AreApart apart xs
 
 -- ---- mapped ranges
 
--- the range is not empty and lies in host memory
-pub record IsInHost (l : Limits) (r : Range) : Type 0 where
-  pub some : 0 < r.section.len
-  pub within : is_within r.section (host_memory l.host) ≡ true
+-- the section is not empty and lies in host memory
+pub record IsInHost (l : Limits) (s : Section) : Type 0 where
+  pub some : 0 < s.len
+  pub within : is_within s (host_memory l.host) ≡ true
 
 -- the one ends before the other begins
-abbrev pub IsBelow : Range → Range → Type 0
-IsBelow r t = r.section.start + r.section.len ≤ t.section.start
+abbrev pub IsBelow : Section → Section → Type 0
+IsBelow s t = end_of s ≤ t.start
 
 -- mapped ranges are not empty, lie in host memory, and rise without overlap
 pub record AreRangesApart (l : Limits) (ranges : List Range) : Type 0 where
-  pub in_host : AllByRecursion (IsInHost l) ranges
-  pub rising : AreApart IsBelow ranges
+  pub in_host : AllByRecursion (λ r. IsInHost l r.section) ranges
+  pub rising : AreApart (λ (r : Range) (t : Range). IsBelow r.section t.section) ranges
 
 -- ---- device blocks
 

@@ -7,4 +7,6 @@ pub mod Judged
 pub mod Walked
 pub mod Counting
 pub mod Sound
+pub mod Told
+pub mod Used
 mod Examples

@@ -9,4 +9,6 @@ pub mod Counting
 pub mod Sound
 pub mod Told
 pub mod Used
+pub mod Memories
+pub mod Accounted
 mod Examples

@@ -134,7 +134,7 @@ all_exited_left l n (item ∷ items) dids w h e =
 
 -- ---- events
 
-abbrev after_event : Event → ℕ → ℕ → ℕ
+abbrev pub after_event : Event → ℕ → ℕ → ℕ
 after_event e b n = dynamic_after b n e
 
 pub event_left : (l : Limits) (e : Event) (w : Records) → IsWithinBounds l → IsSound l w → IsLegal l e w → IsLeft l w (walk e w) (after_event e)
@@ -146,7 +146,7 @@ event_left l (ExitedData items did) w bounds h legal =
     let left : IsLeft l w (after_all_exited did w) (dropped did) = all_exited_left l 0 items did w h legal in
     record { sound = left.sound; dynamic_is = left.dynamic_is }
 
-abbrev after_events : List Event → ℕ → ℕ → ℕ
+abbrev pub after_events : List Event → ℕ → ℕ → ℕ
 after_events events b n = fold (dynamic_after b) n events
 
 pub events_left : (l : Limits) (events : List Event) (w : Records) → IsWithinBounds l → IsSound l w → AreLegal l events w → IsLeft l w (walk_all events w) (after_events events)

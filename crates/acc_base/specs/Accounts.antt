@@ -1,12 +1,12 @@
 -- What holds of every world that accepted calls lead to: ranges and blocks are apart and account for every used byte, and every counter is what the history gives.
-use Rattle.std.specs.Prelude.{◌+◌, ◌%◌, ◌≡◌, ◌<◌, ◌≤◌, ◌⊎◌, true, List, [], ◌∷◌, length, map, Some, IsSome, ⊤}
-use Rattle.std.specs.List.{AllByRecursion}
+use Rattle.std.specs.Prelude.{◌+◌, ◌%◌, ◌≡◌, ◌<◌, ◌≤◌, ◌⊎◌, true, List, [], ◌∷◌, length, Some, IsSome, ⊤}
+use Rattle.std.specs.List.{AllByRecursion, AllZip}
 use Rattle.acc_base.specs.declared.mappings.Range.{Range}
 use Rattle.acc_base.specs.declared.mappings.Block.{Block}
 use Rattle.acc_base.specs.Limits.{Limits}
 use Rattle.acc_base.specs.Section.{end_of, is_within, host_memory, device_base}
 use Rattle.acc_base.specs.declared.items.Section.{Section}
-use Rattle.acc_base.specs.Records.{Records, State, new_records}
+use Rattle.acc_base.specs.Records.{Records, Memory, State, new_records}
 use Rattle.acc_base.specs.Ranges.{range_of}
 use Rattle.acc_base.specs.Blocks.{block_at, block_end, used_bytes}
 use Rattle.acc_base.specs.Walk.{walk_all}
@@ -77,11 +77,15 @@ pub record IsTraced (l : Limits) (h : History) (r : Range) : Type 0 where
 
 -- ---- memories
 
--- host memory has its size, and each block, in order, a memory of its length
+-- the memory is the block's, and as long
+pub record IsMemoryOf (m : Memory) (b : Block) : Type 0 where
+  pub block : m.block ≡ b.number
+  pub len : length m.bytes ≡ b.len
+
+-- host memory has its size, and each block, in order, a memory
 pub record AreMemoriesSized (l : Limits) (s : State) : Type 0 where
   pub host : length s.host ≡ l.host
-  pub blocks : map (λ m. m.block) s.memories ≡ map (λ b. b.number) s.records.blocks
-  pub lengths : map (λ m. length m.bytes) s.memories ≡ map (λ b. b.len) s.records.blocks
+  pub blocks : AllZip IsMemoryOf s.memories s.records.blocks
 
 -- ---- the history
 

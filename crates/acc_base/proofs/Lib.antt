@@ -11,4 +11,5 @@ pub mod Told
 pub mod Used
 pub mod Memories
 pub mod Accounted
+pub mod Copied
 mod Examples

@@ -1,0 +1,11 @@
+use Rattle.std.proofs.Common.{◌==◌, cond, arith}
+use Rattle.acc_base.specs.declared.mappings.Range.{Range}
+use Rattle.acc_base.specs.Ranges.{raised}
+use Rattle.acc_table.proofs.Searches.{change_more}
+use Rattle.acc_table.proofs.ranges.raise.Goals as goal
+
+abbrev none : Range
+none = record { section = record { start = 0; len = 0 }; block = 0; structured = 0; dynamic = 0 }
+
+pub loop-range-preserved : goal.loop-range-preserved
+loop-range-preserved c = change_more (λ r. cond (r.block == c.args.block) (raised r) r) c.args.ranges.now c.loop-range.ranges c.loop-range.range-index none c.raised_for.result (omega arith) (omega arith) c.loop-range.invariant c.raised_for.ensures

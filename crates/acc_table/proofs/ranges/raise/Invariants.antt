@@ -1,0 +1,7 @@
+use Rattle.std.proofs.Common.{◌≡◌, ◌++◌, take, drop}
+use Rattle.acc_base.specs.Ranges.{changed_at, raised}
+use Rattle.acc_table.proofs.ranges.raise.Given as goal
+
+-- the ranges so far are changed
+abbrev pub invariant-loop-range : goal.invariant-loop-range
+invariant-loop-range l = l.ranges ≡ changed_at l.block raised (take l.range-index l.fn.ranges) ++ drop l.range-index l.fn.ranges

@@ -1,0 +1,53 @@
+//! What a table is asked, and what it answers.
+
+use acc_base::{Directive, Fault};
+
+/// A call on a table.
+#[derive(Debug, Drop)]
+pub enum Call {
+    /// Carry out a directive.
+    Do(Directive),
+}
+
+/// What an accepted call answers.
+#[derive(Clone, Copy, Debug, PartialEq, Eq)]
+pub enum Reply {
+    /// It is done, and there is nothing more to say.
+    Done,
+}
+
+/// One of a list of calls that are made one after the other.
+#[derive(Debug, Drop)]
+pub enum Turn {
+    /// Carry out a directive.
+    Do(Directive),
+}
+
+/// What came of a turn.
+#[derive(Clone, Copy, Debug, PartialEq, Eq)]
+pub enum Answer {
+    /// It was accepted.
+    Replied {
+        /// The number of what it opened, and else 0.
+        number: u64,
+        /// How many transfers it made, where it waited for transfers, and else 0.
+        count: u64,
+    },
+    /// It was refused, and nothing changed.
+    Refused(Fault),
+}
+
+/// A mapped range, as it is reported.
+#[derive(Clone, Copy, Debug, PartialEq, Eq)]
+pub struct Mapped {
+    /// The first host address.
+    pub start: u64,
+    /// The length in bytes.
+    pub len: u64,
+    /// The device address that the first host address is mapped to.
+    pub place: u64,
+    /// The structured reference counter.
+    pub structured: u64,
+    /// The dynamic reference counter.
+    pub dynamic: u64,
+}

@@ -1,0 +1,10 @@
+//! The table of an OpenACC 3.3 data runtime on one device with memory of its own: one call is one event or no change.
+//!
+//! A [`Table`] holds both memories, the mapped ranges with their reference counters (OpenACC 3.3, section 2.6.7), the
+//! device blocks, and the trace of all events. Its contracts say what `acc_base` defines.
+#![tactic(auto)]
+
+mod blocks;
+mod calls;
+mod memories;
+mod ranges;

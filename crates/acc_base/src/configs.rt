@@ -1,6 +1,6 @@
 //! The limits of a table.
 
-ghost use Rattle.std.specs.Prelude.{◌≡◌, ◌↔◌, IsTrue, MatchResult};
+ghost use Rattle.std.specs.Prelude.{◌≡◌, ◌^◌, ◌↔◌, IsTrue, MatchResult};
 ghost use Rattle.acc_base.specs.Limits.{limits_of, IsWithinBounds, IsSize, IsFromOne};
 
 use crate::Fault;
@@ -112,51 +112,58 @@ impl Config {
         let _ = &self.host;
     }
 
-    /// The size of host memory in bytes.
+    /// The size of host memory in bytes: a multiple of 16 from 16 to 67,108,864.
     pub fn host(&self) -> u64
-        ensures { result ≡ self.now.host }
+        ensures value { result ≡ self.now.host }
+        ensures bounds { IsSize result }
     {
         self.host
     }
 
-    /// The size of device memory in bytes.
+    /// The size of device memory in bytes: a multiple of 16 from 16 to 67,108,864.
     pub fn device(&self) -> u64
-        ensures { result ≡ self.now.device }
+        ensures value { result ≡ self.now.device }
+        ensures bounds { IsSize result }
     {
         self.device
     }
 
-    /// How many data regions may be open at a time.
+    /// How many data regions may be open at a time: 1 to 65,536.
     pub fn regions(&self) -> u64
-        ensures { result ≡ self.now.regions }
+        ensures value { result ≡ self.now.regions }
+        ensures bounds { IsFromOne 65536 result }
     {
         self.regions
     }
 
-    /// How many events there may be in all.
+    /// How many events there may be in all: 1 to 2^40.
     pub fn tickets(&self) -> u64
-        ensures { result ≡ self.now.tickets }
+        ensures value { result ≡ self.now.tickets }
+        ensures bounds { IsFromOne (2 ^ 40) result }
     {
         self.tickets
     }
 
-    /// The greatest value of a reference or attachment counter.
+    /// The greatest value of a reference or attachment counter: 1 to 4,294,967,295.
     pub fn counter_max(&self) -> u64
-        ensures { result ≡ self.now.counter_max }
+        ensures value { result ≡ self.now.counter_max }
+        ensures bounds { IsFromOne 4294967295 result }
     {
         self.counter_max
     }
 
-    /// How many transfers may wait in one queue.
+    /// How many transfers may wait in one queue: 1 to 4,096.
     pub fn queue_cap(&self) -> u64
-        ensures { result ≡ self.now.queue_cap }
+        ensures value { result ≡ self.now.queue_cap }
+        ensures bounds { IsFromOne 4096 result }
     {
         self.queue_cap
     }
 
-    /// How many events the stored trace may have.
+    /// How many events the stored trace may have: 1 to 16,777,216.
     pub fn trace_cap(&self) -> u64
-        ensures { result ≡ self.now.trace_cap }
+        ensures value { result ≡ self.now.trace_cap }
+        ensures bounds { IsFromOne 16777216 result }
     {
         self.trace_cap
     }

@@ -1,1 +1,2 @@
 pub mod Searches
+pub mod Storing

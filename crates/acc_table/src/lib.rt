@@ -8,3 +8,4 @@ mod blocks;
 mod calls;
 mod memories;
 mod ranges;
+mod stores;

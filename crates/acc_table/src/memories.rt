@@ -1,7 +1,7 @@
 //! The bytes of the device blocks.
 
 ghost use Rattle.std.specs.Prelude.{◌≡◌, filter, map, not, ◌==◌};
-ghost use Rattle.acc_table.specs.Stored.{memory_of};
+ghost use Rattle.acc_table.specs.Memories.{memory_of};
 
 /// The bytes of one block.
 #[derive(Drop)]

@@ -157,9 +157,9 @@ fn lowered_for(block: u64, range: Range) -> Range
 }
 
 /// Raises the dynamic counter of the range that is mapped to a block.
-pub fn raise(ranges: &mut [Range], block: u64)
-    requires { All IsShort ranges.old }
-    ensures { ranges.new ≡ changed_at block raised ranges.old }
+pub fn raise(ranges: &mut Vec<Range>, block: u64)
+    requires { All IsShort ranges.old.items }
+    ensures { ranges.new.items ≡ changed_at block raised ranges.old.items }
 {
     for range in ranges.iter_mut() {
         *range = raised_for(block, *range);
@@ -167,8 +167,8 @@ pub fn raise(ranges: &mut [Range], block: u64)
 }
 
 /// Lowers the dynamic counter of the range that is mapped to a block.
-pub fn lower(ranges: &mut [Range], block: u64)
-    ensures { ranges.new ≡ changed_at block lowered ranges.old }
+pub fn lower(ranges: &mut Vec<Range>, block: u64)
+    ensures { ranges.new.items ≡ changed_at block lowered ranges.old.items }
 {
     for range in ranges.iter_mut() {
         *range = lowered_for(block, *range);

@@ -8,4 +8,4 @@ abbrev none : Range
 none = record { section = record { start = 0; len = 0 }; block = 0; structured = 0; dynamic = 0 }
 
 pub loop-range-preserved : goal.loop-range-preserved
-loop-range-preserved c = change_more (λ r. cond (r.block == c.args.block) (lowered r) r) c.args.ranges.now c.loop-range.ranges c.loop-range.range-index none c.lowered_for.result (omega arith) (omega arith) c.loop-range.invariant c.lowered_for.ensures
+loop-range-preserved c = change_more (λ r. cond (r.block == c.args.block) (lowered r) r) c.deref_mut-range-items.result.now c.loop-range.range-items c.loop-range.range-index none c.lowered_for.result (omega arith) (omega arith) c.loop-range.invariant c.lowered_for.ensures

@@ -4,4 +4,4 @@ use Rattle.acc_table.proofs.ranges.raise.Given as goal
 
 -- the ranges so far are changed
 abbrev pub invariant-loop-range : goal.invariant-loop-range
-invariant-loop-range l = l.ranges ≡ changed_at l.block raised (take l.range-index l.fn.ranges) ++ drop l.range-index l.fn.ranges
+invariant-loop-range l = l.range-items ≡ changed_at l.block raised (take l.range-index l.initial.range-items) ++ drop l.range-index l.initial.range-items

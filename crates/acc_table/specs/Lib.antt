@@ -1,3 +1,6 @@
 pub mod Bounds
 pub mod Memories
 pub mod Stored
+pub mod Planned
+pub mod Kept
+pub mod Calls

@@ -7,5 +7,6 @@
 mod blocks;
 mod calls;
 mod memories;
+mod plans;
 mod ranges;
 mod stores;

@@ -1,0 +1,11 @@
+-- What a table keeps from call to call.
+use Rattle.std.specs.Prelude.{◌≤◌}
+use Rattle.acc_base.specs.Limits.{IsWithinBounds}
+use Rattle.acc_base.specs.Calls.{World, event_count}
+use Rattle.acc_base.specs.Accounts.{IsAccounted}
+
+-- the limits are within their bounds, the world is accounted for, and no event brought more than one birth
+pub record IsKept (w : World) : Type 0 where
+  pub bounds : IsWithinBounds w.limits
+  pub accounted : IsAccounted w
+  pub births : w.state.records.births ≤ event_count w.history

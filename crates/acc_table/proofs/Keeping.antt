@@ -1,6 +1,6 @@
 -- Each accepted call keeps what a table keeps.
 use Rattle.std.proofs.Common.{◌≡◌, ◌+◌, ◌≤◌, refl, sym, ◌∙◌, ap, subst, true, false, List, [], ◌∷◌, ◌++◌, length, Option, Some, None, Result, Ok, Err, arith, length-append}
-use Rattle.std.specs.Prelude.{nat_lt, ⊤}
+use Rattle.std.specs.Prelude.{nat_lt, ⊤, OnOk, IfErr}
 use Rattle.std.proofs.lemmas.Bool.Decides.{nat_tests}
 use Rattle.std.proofs.lemmas.List.Elements.{All-from_recursion}
 use Rattle.acc_base.specs.declared.items.Section.{Section}
@@ -12,6 +12,7 @@ use Rattle.acc_base.specs.declared.events.Step.{Step}
 use Rattle.acc_base.specs.declared.events.Step.TheVariants.{Nothing, Counted, Born, Dropped}
 use Rattle.acc_base.specs.declared.events.Did.{Did}
 use Rattle.acc_base.specs.declared.events.Event.{Event}
+use Rattle.acc_base.specs.declared.events.Event.TheVariants.{EnteredData}
 use Rattle.acc_base.specs.declared.faults.Fault.{Fault}
 use Rattle.acc_base.specs.declared.mappings.Range.{Range}
 use Rattle.acc_base.specs.declared.mappings.Block.{Block}
@@ -137,7 +138,7 @@ event_births (ExitData items) step w one = omega (arith, all_exited_births (dids
 
 -- ---- a call
 
-judged_few : (w : World) (d : Directive) (e : Event) → judge w (Do d) ≡ Ok e → item_count d ≤ 1
+pub judged_few : (w : World) (d : Directive) (e : Event) → judge w (Do d) ≡ Ok e → item_count d ≤ 1
 judged_few w d e h = few w d (then_ok (admitted w d) (directive_event w.limits d w.state.records) e (sym (judge_admitted w d) ∙ h)).0
 
 pub kept_after : (w : World) (d : Directive) (step : Option Step) → IsKept w → judge w (Do d) ≡ Ok (event_of d step) → IsKept (world_after (event_of d step) w)
@@ -151,6 +152,26 @@ kept_after w d step k h =
       accounted = accounted_after w (event_of d step) k.bounds (accepted w (Do d) (event_of d step) h) k.accounted;
       births = subst (λ r. r.births ≤ length (w.history.trace ++ event_of d step ∷ [])) (sym is) (omega (arith, k.births));
     }
+
+-- the items were judged as the event says
+judged_items : (w : World) (items : List (Item EnterClause)) (step : Option Step) → judge w (Do (EnterData items)) ≡ Ok (event_of (EnterData items) step) → enter_data_items w.limits 0 items w.state.records ≡ Ok (dids_of step)
+unfolding directive_event
+judged_items w items step h =
+    let rest : directive_event w.limits (EnterData items) w.state.records ≡ Ok (EnteredData items (dids_of step)) = (then_ok (admitted w (EnterData items)) (directive_event w.limits (EnterData items) w.state.records) (event_of (EnterData items) step) (sym (judge_admitted w (EnterData items)) ∙ h)).1 in
+    let found : (dids : List Did) × (enter_data_items w.limits 0 items w.state.records ≡ Ok dids) × (Ok (EnteredData items dids) ≡ Ok (EnteredData items (dids_of step))) = bind_ok (enter_data_items w.limits 0 items w.state.records) (λ dids. Ok (EnteredData items dids)) (EnteredData items (dids_of step)) rest in
+    let same : found.0 ≡ dids_of step = cc in
+    subst (λ dids. enter_data_items w.limits 0 items w.state.records ≡ Ok dids) same found.1
+
+pub may_enter_first : (w : World) (items : List (Item EnterClause)) (step : Option Step) → IsKept w → judge w (Do (EnterData items)) ≡ Ok (event_of (EnterData items) step) → CanEnterFirst items step w.state
+may_enter_first w items step k h = can_enter w items step k (judged_items w items step h)
+
+-- the parts of a table after a commit, which was done or refused for want of memory
+pub kept_committed : {E : Type 0} (items : E) (w : World) (d : Directive) (step : Option Step) (state : State) (trace : List Event) (r : Result ⊤ E) → IsKept w → judge w (Do d) ≡ Ok (event_of d step)
+    → OnOk r (state ≡ after (event_of d step) w.state) → OnOk r (trace ≡ w.history.trace ++ event_of d step ∷ []) → IfErr r (λ back. (back ≡ items) × (state ≡ w.state) × (trace ≡ w.history.trace))
+    → IsKept (record { limits = w.limits; history = record { trace = trace }; state = state })
+unfolding world_after
+kept_committed items w d step state trace (Ok x) k h is told same = rw (is, told) (kept_after w d step k h)
+kept_committed items w d step state trace (Err back) k h is told same = rw (same.1, same.2) k
 
 pub new_kept : (l : Limits) → IsWithinBounds l → IsKept (new_world l)
 new_kept l bounds = record { bounds = bounds; accounted = new_accounted l bounds; births = omega arith }

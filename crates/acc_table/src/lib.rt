@@ -10,3 +10,7 @@ mod memories;
 mod plans;
 mod ranges;
 mod stores;
+mod tables;
+
+pub use calls::{Answer, Call, Mapped, Reply, Turn};
+pub use tables::Table;

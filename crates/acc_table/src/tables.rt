@@ -1,0 +1,177 @@
+//! A table, and one call on it.
+
+ghost use Rattle.std.specs.Prelude.{◌≡◌, ◌≤◌, Ok, Err, MatchResult, IfOk, IfErr, OnOk};
+ghost use Rattle.acc_base.specs.declared.faults.Fault.TheVariants.{Memory};
+ghost use Rattle.acc_base.specs.Limits.{IsWithinBounds};
+ghost use Rattle.acc_base.specs.Judge.{item_count, directive_event};
+ghost use Rattle.acc_base.specs.Calls.{Do, judge, new_world, world_after};
+ghost use Rattle.acc_base.specs.Accounts.{IsAccounted};
+ghost use Rattle.acc_table.specs.Calls.{request_of, IsDone, IsRefusal};
+ghost use Rattle.acc_table.specs.Planned.{admitted, event_of};
+
+use crate::calls::{Call, Reply};
+use crate::plans;
+use crate::stores::Store;
+use acc_base::{Config, Directive, Event, Fault, Step};
+use std::alloc::Global;
+use std::marker::Model;
+
+/// How many items a directive may have.
+const ITEM_LIMIT: usize = 1;
+
+/// The data environment of one device: both memories, the mapped ranges and blocks, and the trace of all events
+/// (OpenACC 3.3, section 2.6).
+///
+/// One call is one event or no change. Contracts see a table as a world: its limits, its history and its state.
+#[derive(Drop)]
+pub struct Table {
+    pub(crate) config: Config,
+    pub(crate) store: Store,
+    pub(crate) trace: Vec<Event>,
+}
+
+impl Model for Table {
+    ghost use Rattle.acc_base.specs.Calls.{World};
+    ghost use Rattle.acc_table.specs.Kept.{IsKept};
+
+    ghost Value = { World };
+
+    ghost view = { λ t. record {
+      limits = t.config;
+      history = record { trace = t.trace.items };
+      state = t.store;
+    } };
+
+    ghost invariant = { λ t. IsKept (record {
+      limits = t.config;
+      history = record { trace = t.trace.items };
+      state = t.store;
+    }) };
+}
+
+impl Table {
+    /// A new table: nothing is mapped, and host memory is zero.
+    ///
+    /// # Errors
+    ///
+    /// [`Fault::Memory`] alone.
+    pub fn new(alloc: Global, config: Config) -> Result<Table, Fault>
+        ensures ok { IfOk result (λ table. table ≡ new_world config) }
+        ensures err { IfErr result (λ fault. fault ≡ Memory) }
+    {
+        config.laws();
+        let store = Store::new(alloc, config.host())?;
+        Ok(Table {
+            config,
+            store,
+            trace: Vec::new(alloc),
+        })
+    }
+
+    /// What holds of every table: mapped ranges and blocks are apart and account for every used byte, each range has
+    /// a block of its own, and every counter is what the history gives. Nothing is done.
+    pub fn laws(&self)
+        ensures accounted { IsAccounted self.now }
+        ensures bounds { IsWithinBounds self.now.limits }
+    {
+        let _ = &self.config;
+    }
+
+    /// Makes one call.
+    ///
+    /// # Errors
+    ///
+    /// The call comes back, and nothing changed. The refusals, in the order in which they are told:
+    /// [`Fault::NoTickets`] where there are as many events as tickets; [`Fault::TooManyItems`]; [`Fault::TraceFull`];
+    /// then for the item [`Fault::OutOfHost`], [`Fault::PartlyPresent`], [`Fault::CounterFull`] and
+    /// [`Fault::DeviceFull`]; last [`Fault::Memory`].
+    pub fn apply(&mut self, call: Call) -> Result<Reply, (Call, Fault)>
+        ensures done { OnOk result (IsDone self.old (request_of call) self.new) }
+        ensures refused { IfErr result (λ back. IsRefusal self.old (request_of call) back.1) }
+        ensures same { IfErr result (λ back. (back.0 ≡ call) × (self.new ≡ self.old)) }
+    {
+        let Call::Do(directive) = call;
+        match self.plan(&directive) {
+            Ok(step) => match self.commit(directive, step) {
+                Ok(()) => Ok(Reply::Done),
+                Err(directive) => Err((Call::Do(directive), Fault::Memory)),
+            },
+            Err(fault) => Err((Call::Do(directive), fault)),
+        }
+    }
+
+    /// The refusals that come before those of the items.
+    #[tactic(auto, unfolding(crate::specs::Planned::admitted))]
+    fn admit(&self, directive: &Directive) -> Result<(), Fault>
+        ensures { result ≡ admitted self.now directive.now }
+    {
+        let events = self.trace.len() as u64;
+        if self.config.tickets() <= events {
+            return Err(Fault::NoTickets { left: 0 });
+        }
+        let count = match directive {
+            Directive::EnterData { items } => items.as_slice().len(),
+            Directive::ExitData { items } => items.as_slice().len(),
+        };
+        if count > ITEM_LIMIT {
+            return Err(Fault::TooManyItems { n: count as u64 });
+        }
+        if self.config.trace_cap() <= events {
+            return Err(Fault::TraceFull { len: events });
+        }
+        Ok(())
+    }
+
+    /// What the one item does, if there is one, or its refusal.
+    #[tactic(auto, unfolding(acc_base::specs::Judge::directive_event))]
+    fn first_step(&self, directive: &Directive) -> Result<Option<Step>, Fault>
+        requires { item_count directive.now ≤ 1 }
+        ensures { MatchResult result
+            (λ step. directive_event self.now.limits directive.now self.now.state.records ≡ Ok (event_of directive.now step))
+            (λ fault. directive_event self.now.limits directive.now self.now.state.records ≡ Err fault) }
+    {
+        match directive {
+            Directive::EnterData { items } => {
+                plans::entry_step(&self.store, &self.config, items.as_slice())
+            }
+            Directive::ExitData { items } => {
+                plans::exit_step(&self.store, &self.config, items.as_slice())
+            }
+        }
+    }
+
+    /// What the directive is to do, or its first refusal.
+    #[tactic(auto, using(crate::proofs::Keeping::judge_admitted))]
+    fn plan(&self, directive: &Directive) -> Result<Option<Step>, Fault>
+        ensures { MatchResult result
+            (λ step. judge self.now (Do directive.now) ≡ Ok (event_of directive.now step))
+            (λ fault. judge self.now (Do directive.now) ≡ Err fault) }
+    {
+        self.admit(directive)?;
+        self.first_step(directive)
+    }
+
+    /// Makes the planned event, or hands the directive back where memory is refused. All growths come before the
+    /// first change.
+    #[tactic(auto, unfolding(acc_base::specs::Calls::world_after, acc_base::specs::Bytes::after))]
+    fn commit(&mut self, directive: Directive, step: Option<Step>) -> Result<(), Directive>
+        requires { judge self.old (Do directive) ≡ Ok (event_of directive step) }
+        ensures ok { OnOk result (self.new ≡ world_after (event_of directive step) self.old) }
+        ensures err { IfErr result (λ back. (back ≡ directive) × (self.new ≡ self.old)) }
+    {
+        match directive {
+            Directive::EnterData { items } => {
+                match plans::enter_data(&mut self.store, &mut self.trace, items, step) {
+                    Ok(()) => Ok(()),
+                    Err(items) => Err(Directive::EnterData { items }),
+                }
+            }
+            Directive::ExitData { items } => {
+                match plans::exit_data(&mut self.store, &mut self.trace, items, step) {
+                    Ok(()) => Ok(()),
+                    Err(items) => Err(Directive::ExitData { items }),
+                }
+            }
+        }
+    }
+}

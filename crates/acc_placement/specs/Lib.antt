@@ -1,0 +1,4 @@
+pub mod Ranges
+pub mod Region
+pub mod Holes
+pub mod Changes

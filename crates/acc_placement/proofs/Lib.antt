@@ -5,4 +5,5 @@ pub mod Cutting
 pub mod AtIndex
 pub mod Filling
 pub mod Giving
+pub mod Partitions
 pub mod Outside

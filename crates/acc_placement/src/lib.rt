@@ -5,6 +5,8 @@ mod beside;
 mod lists;
 mod placement;
 mod rounding;
+#[cfg(test)]
+mod tests;
 
 pub use placement::Holes;
 pub use rounding::rounded;

@@ -1,7 +1,6 @@
 -- The taken ranges and the holes are the region.
 use Rattle.std.proofs.Common.{◌≡◌, ◌%◌, ℕ, ◌+◌, ◌-◌, ◌<◌, ◌≤◌, ◌⊎◌, List, [], ◌∷◌, ◌++◌, inl, inr, arith, subst, sym, length, length-append}
 use Rattle.std.proofs.lemmas.Bool.{cases_lt}
-use Rattle.std.specs.Prelude.{All}
 use Rattle.std.proofs.lemmas.List.Elements.{All-append, All-cons}
 use Rattle.acc_placement.specs.Ranges.{IsWithin, IsIn, IsRising, IsAligned, IsDisjoint}
 use Rattle.acc_placement.specs.Changes.{IsFilled}

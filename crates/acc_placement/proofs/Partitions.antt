@@ -1,10 +1,11 @@
 -- What a caller that keeps a list of its taken ranges does with it.
-use Rattle.std.proofs.Common.{◌≡◌, ℕ, suc, ◌+◌, ◌<◌, ◌⊎◌, List, [], ◌∷◌, ◌++◌, inl, inr, arith, sym, subst, ap, ◌∙◌, length, take, drop, get_or, length-append}
+use Rattle.std.proofs.Common.{◌≡◌, ℕ, suc, ◌+◌, ◌<◌, List, [], ◌∷◌, ◌++◌, inl, inr, arith, sym, subst, ap, ◌∙◌, length, take, drop, get_or, length-append}
 use Rattle.std.specs.List.{remove}
+use Rattle.std.proofs.lemmas.List.{append-nil}
 use Rattle.std.proofs.lemmas.List.Elements.{All-append, All-cons}
-use Rattle.acc_placement.specs.Ranges.{IsWithin, IsIn, IsAligned, IsDisjoint, total}
-use Rattle.acc_placement.specs.Region.{Region, IsPartition, IsTaken, IsUnchanged}
-use Rattle.acc_placement.proofs.Rising.{in_join_left, in_join_right, in_parts, total-append}
+use Rattle.acc_placement.specs.Ranges.{IsWithin, IsIn, IsFit, IsAligned, IsDisjoint}
+use Rattle.acc_placement.specs.Region.{Region, IsCanonical, IsPartition, IsTaken, IsUnchanged}
+use Rattle.acc_placement.proofs.Rising.{in_bounds, in_join_left, in_join_right, in_parts, total-append}
 use Rattle.acc_placement.proofs.Alignment.{all_front, all_rest, all_middle, all_back}
 use Rattle.acc_placement.proofs.AtIndex.{split_at}
 
@@ -52,10 +53,26 @@ partition_moved r before after x p =
 split : (ts : List (ℕ × ℕ)) (i : ℕ) (x : ℕ × ℕ) → x ≡ get_or ts i x → i < length ts → ts ≡ take i ts ++ x ∷ drop (suc i) ts
 split ts i x is lt = split_at ts i x lt ∙ ap (λ (y : ℕ × ℕ). take i ts ++ y ∷ drop (suc i) ts) (sym is)
 
+-- the newest range, put at the end
+pub partition_last : (r : Region) (ts : List (ℕ × ℕ)) (x : ℕ × ℕ) → IsPartition r (x ∷ ts) → IsPartition r (ts ++ x ∷ [])
+partition_last r ts x p = partition_moved r ts [] x (rw append-nil p)
+
 -- the range at an index of the list is taken
-pub taken_at : (r : Region) (ts : List (ℕ × ℕ)) (i : ℕ) (x : ℕ × ℕ) → x ≡ get_or ts i x → i < length ts → IsPartition r ts → IsTaken r x.0 x.1
-taken_at r ts i x is lt p = record { before = take i ts; after = drop (suc i) ts; partition = subst (λ (l : List (ℕ × ℕ)). IsPartition r l) (split ts i x is lt) p }
+pub taken_at : (r : Region) (ts : List (ℕ × ℕ)) (i : ℕ) (x : ℕ × ℕ) (n : ℕ) → x ≡ get_or ts i x → n ≡ x.1 → i < length ts → IsPartition r ts → IsTaken r x.0 n
+taken_at r ts i x n is size lt p =
+    record {
+      before = take i ts;
+      after = drop (suc i) ts;
+      partition = rw size (subst (λ (l : List (ℕ × ℕ)). IsPartition r l) (split ts i x is lt) p);
+    }
 
 -- the list without the range at an index, which was given back
-pub partition_without : (old new : Region) (ts : List (ℕ × ℕ)) (i : ℕ) (x : ℕ × ℕ) → x ≡ get_or ts i x → i < length ts → IsPartition old ts → ((before after : List (ℕ × ℕ)) → IsPartition old (before ++ x ∷ after) → IsPartition new (before ++ after)) → IsPartition new (remove ts i)
-partition_without old new ts i x is lt p back = back (take i ts) (drop (suc i) ts) (subst (λ (l : List (ℕ × ℕ)). IsPartition old l) (split ts i x is lt) p)
+pub partition_without : (old new : Region) (ts : List (ℕ × ℕ)) (i : ℕ) (x : ℕ × ℕ) (n : ℕ) → x ≡ get_or ts i x → n ≡ x.1 → i < length ts → IsPartition old ts → ((before after : List (ℕ × ℕ)) → IsPartition old (before ++ (x.0, n) ∷ after) → IsPartition new (before ++ after)) → IsPartition new (remove ts i)
+partition_without old new ts i x n is size lt p back = back (take i ts) (drop (suc i) ts) (rw size (subst (λ (l : List (ℕ × ℕ)). IsPartition old l) (split ts i x is lt) p))
+
+-- addresses of the region that are in no taken range are free, and free addresses are such
+pub fit_where_clear : (r : Region) (ts : List (ℕ × ℕ)) (n q : ℕ) → IsPartition r ts → ((a : ℕ) → IsWithin q n a → IsWithin r.base r.size a × ¬ IsIn ts a) → IsFit r.holes n q
+fit_where_clear r ts n q p clear a w = let c = clear a w in elim (p.covered a c.0) [ inl h ↦ h | inr i ↦ absurd (c.1 i) ]
+
+pub clear_where_fit : (r : Region) (ts : List (ℕ × ℕ)) (n q : ℕ) → IsCanonical r → IsPartition r ts → IsFit r.holes n q → (a : ℕ) → IsWithin q n a → IsWithin r.base r.size a × ¬ IsIn ts a
+clear_where_fit r ts n q s p fit a w = (in_bounds r.base r.holes (r.base + r.size) a s.rising (fit a w), λ i. p.not_free a i (fit a w))

@@ -1,5 +1,4 @@
-use Rattle.std.proofs.Common.{refl, ◌+◌, ◌^◌, ◌<◌, arith, sym, subst}
-use Rattle.acc_placement.specs.Region.{Region, IsTaken}
+use Rattle.std.proofs.Common.{refl, ◌+◌, ◌^◌, arith}
 use Rattle.acc_placement.specs.Holes.{region_of}
 use Rattle.acc_placement.proofs.Rising.{rising_from, rising_to}
 use Rattle.acc_placement.proofs.Filling.{total_le}

@@ -1,6 +1,6 @@
 -- What a sieve holds.
 use Rattle.std.specs.Prelude.{◌≡◌, All}
-use Rattle.acc_placement.specs.Region.{IsPartition}
+use Rattle.acc_placement.specs.Space.{IsPartition}
 use Rattle.acc_bench.specs.declared.placement.Sieve.{Sieve}
 
 -- its list has the taken ranges, of 16 bytes each

@@ -13,10 +13,10 @@ use std::time::Instant;
 /// How often a call is made in one measurement.
 const ROUNDS: u32 = 1_000;
 
-/// The device address at which the region begins.
+/// The device address at which the space begins.
 const BASE: u64 = 0x1_0000_0000;
 
-/// A region with a hole of 16 bytes behind each of its taken ranges of 16 bytes, and a larger hole at its end.
+/// A space with a hole of 16 bytes behind each of its taken ranges of 16 bytes, and a larger hole at its end.
 #[derive(Drop)]
 struct Sieve {
     holes: Holes,

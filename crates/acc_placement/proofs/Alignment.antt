@@ -1,8 +1,8 @@
 -- A fact of each range of a list, where the list changes at an index.
 use Rattle.std.proofs.Common.{◌≡◌, ℕ, zero, suc, ◌+◌, ◌<◌, ◌%◌, List, [], ◌∷◌, ◌++◌, arith, subst, sym, length, take, drop, get_or}
 use Rattle.std.specs.Prelude.{All, Any}
-use Rattle.std.specs.List.{insert, remove}
-use Rattle.std.proofs.lemmas.List.Elements.{All-append, All-cons, All-take, All-drop}
+use Rattle.std.specs.List.{remove}
+use Rattle.std.proofs.lemmas.List.Elements.{All-append, All-take, All-drop}
 use Rattle.acc_placement.specs.Ranges.{rounded}
 
 pub all_front : (P : ℕ × ℕ → Type 0) (l r : List (ℕ × ℕ)) → All P (l ++ r) → All P l
@@ -22,9 +22,6 @@ all_back P l x r a k d lt = all_rest P l (x ∷ r) a (suc k) d (omega arith)
 
 pub All-remove : (P : ℕ × ℕ → Type 0) (xs : List (ℕ × ℕ)) (i : ℕ) → All P xs → All P (remove xs i)
 All-remove P xs i a = All-append P (take i xs) (drop (suc i) xs) (All-take P i xs a) (All-drop P (suc i) xs a)
-
-pub All-insert : (P : ℕ × ℕ → Type 0) (xs : List (ℕ × ℕ)) (i : ℕ) (x : ℕ × ℕ) → P x → All P xs → All P (insert xs i x)
-All-insert P xs i x p a = All-append P (take i xs) (x ∷ drop i xs) (All-take P i xs a) (All-cons P x (drop i xs) p (All-drop P i xs a))
 
 -- the range that an index reads
 pub all_at : (P : ℕ × ℕ → Type 0) (xs : List (ℕ × ℕ)) (i : ℕ) (x : ℕ × ℕ) → x ≡ get_or xs i x → i < length xs → All P xs → P x

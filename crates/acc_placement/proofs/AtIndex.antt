@@ -49,12 +49,9 @@ first_is_least low high hs i n pos f s =
           ],
     )
 
--- where nothing fits, and where a hole fits
+-- where nothing fits
 pub no_fit : (low high : ℕ) (hs : List (ℕ × ℕ)) (n : ℕ) → 0 < n → IsRising low hs high → All (λ h. h.1 < n) hs → (q : ℕ) → IsFit hs n q → ⊥
 no_fit low high hs n pos s small q f = none_fits low hs high n q pos s small f
-
-pub some_fit : (low high : ℕ) (hs : List (ℕ × ℕ)) (i n : ℕ) → 0 < n → FitsFirst hs n i → IsRising low hs high → ((q : ℕ) → IsFit hs n q → ⊥) → ⊥
-some_fit low high hs i n pos f s none = none (get_or hs i (0, 0)).0 (first_is_least low high hs i n pos f s).0
 
 -- the last of the holes before the index ends at the place or before it
 pub take_fits : (low : ℕ) (hs : List (ℕ × ℕ)) (at p : ℕ) (x : ℕ × ℕ) → x ≡ get_or hs (at - 1) x → 0 < at → at ≤ length hs → IsRising low (take at hs) p → x.0 + x.1 ≤ p

@@ -1,6 +1,6 @@
 -- There is at most one hole more than taken ranges.
 use Rattle.std.proofs.Common.{◌≡◌, ℕ, suc, ◌+◌, ◌≤◌, ◌⊎◌, List, [], ◌∷◌, inl, inr, arith, refl, length}
-use Rattle.acc_placement.specs.Ranges.{IsWithin, IsIn, IsRising}
+use Rattle.acc_placement.specs.Ranges.{Spans, IsIn, IsRising}
 
 -- the address after each hole but the last is in one of the ranges ts
 abbrev pub IsEdged : List (ℕ × ℕ) → List (ℕ × ℕ) → Type 0
@@ -14,9 +14,9 @@ pub record IsWithout (ts : List (ℕ × ℕ)) (e : ℕ) : Type 0 where
   pub place : ℕ
   pub size : ℕ
   pub one_less : length ts ≡ suc (length rest)
-  pub has : IsWithin place size e
-  pub of : (a : ℕ) → IsWithin place size a → IsIn ts a
-  pub others : (a : ℕ) → IsIn ts a → IsWithin place size a ⊎ IsIn rest a
+  pub has : Spans place size e
+  pub of : (a : ℕ) → Spans place size a → IsIn ts a
+  pub others : (a : ℕ) → IsIn ts a → Spans place size a ⊎ IsIn rest a
   pub kept : (a : ℕ) → IsIn rest a → IsIn ts a
 
 without : (ts : List (ℕ × ℕ)) (e : ℕ) → IsIn ts e → IsWithout ts e

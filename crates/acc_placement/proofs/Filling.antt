@@ -6,7 +6,7 @@ use Rattle.std.specs.Prelude.{All}
 use Rattle.std.specs.List.{insert}
 use Rattle.std.proofs.Math.ListN.{set}
 use Rattle.std.proofs.lemmas.Bool.{cases_lt}
-use Rattle.acc_placement.specs.Ranges.{IsWithin, IsIn, IsRising, total}
+use Rattle.acc_placement.specs.Ranges.{Spans, IsIn, IsRising, total}
 use Rattle.acc_placement.specs.Changes.{IsFilled, IsAbsorbed}
 use Rattle.acc_placement.proofs.Rising.{after, rising_front, rising_back, rising_join, rising_from, in_join_left, in_join_right, in_parts, total-append}
 use Rattle.acc_placement.proofs.AtIndex.{split_at}
@@ -25,14 +25,14 @@ pub rising_both : (a b : ℕ) (t : List (ℕ × ℕ)) (high top : ℕ) → IsRis
 rising_both a b [] high top s u = tt
 rising_both a b (h ∷ t) high top s u = (s.0, u.1, u.2, u.3)
 
-pub below_place : (low : ℕ) (l : List (ℕ × ℕ)) (high p n : ℕ) → 0 < n → IsRising low l high → All (λ h. h.0 < p) l → ((a : ℕ) → IsWithin p n a → IsIn l a → ⊥) → IsRising low l p
+pub below_place : (low : ℕ) (l : List (ℕ × ℕ)) (high p n : ℕ) → 0 < n → IsRising low l high → All (λ h. h.0 < p) l → ((a : ℕ) → Spans p n a → IsIn l a → ⊥) → IsRising low l p
 below_place low [] high p n pos s below not_free = tt
 below_place low (h ∷ l) high p n pos s below not_free =
     let b : h.0 < p = below 0 h (omega arith) in
     let e : h.0 + h.1 ≤ p = elim (cases_lt p (h.0 + h.1)) [ inl more ↦ absurd (not_free p (omega arith, omega arith) (inl (omega arith, more))) | inr less ↦ less ] in
     (s.0, s.1, e, below_place (h.0 + h.1 + 1) l high p n pos s.3 (λ k d lt. below (suc k) d (omega arith)) (λ a w i. not_free a w (inr i)))
 
-pub above_place : (low : ℕ) (r : List (ℕ × ℕ)) (high p n : ℕ) → IsRising low r high → (0 < length r → p ≤ (get_or r 0 (0, 0)).0) → ((a : ℕ) → IsWithin p n a → IsIn r a → ⊥) → IsRising (p + n) r high
+pub above_place : (low : ℕ) (r : List (ℕ × ℕ)) (high p n : ℕ) → IsRising low r high → (0 < length r → p ≤ (get_or r 0 (0, 0)).0) → ((a : ℕ) → Spans p n a → IsIn r a → ⊥) → IsRising (p + n) r high
 above_place low [] high p n s head not_free = tt
 above_place low (x ∷ r) high p n s head not_free =
     let b : p ≤ x.0 = head (omega arith) in
@@ -100,7 +100,7 @@ pub record IsParted (hs : List (ℕ × ℕ)) (at p n top : ℕ) : Type 0 where
   pub before : IsRising 0 (take at hs) p
   pub behind : IsRising (p + n) (drop at hs) top
 
-pub parted : (xs hs : List (ℕ × ℕ)) (at p n top : ℕ) → xs ≡ hs → 0 < n → All (λ h. h.0 < p) (take at xs) → (at < length xs → p ≤ (get_or xs at (0, 0)).0) → ((a : ℕ) → IsWithin p n a → IsIn hs a → ⊥) → IsRising 0 hs top → IsParted hs at p n top
+pub parted : (xs hs : List (ℕ × ℕ)) (at p n top : ℕ) → xs ≡ hs → 0 < n → All (λ h. h.0 < p) (take at xs) → (at < length xs → p ≤ (get_or xs at (0, 0)).0) → ((a : ℕ) → Spans p n a → IsIn hs a → ⊥) → IsRising 0 hs top → IsParted hs at p n top
 parted xs hs at p n top e pos below not_below not_free s =
     let b : All (λ (h : ℕ × ℕ). h.0 < p) (take at hs) = subst (λ (l : List (ℕ × ℕ)). All (λ (h : ℕ × ℕ). h.0 < p) (take at l)) e below in
     let nb : at < length hs → p ≤ (get_or hs at (0, 0)).0 = subst (λ (l : List (ℕ × ℕ)). at < length l → p ≤ (get_or l at (0, 0)).0) e not_below in

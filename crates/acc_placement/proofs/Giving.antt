@@ -1,10 +1,10 @@
--- The taken ranges and the holes are the region.
+-- The taken ranges and the holes are the space.
 use Rattle.std.proofs.Common.{◌≡◌, ◌%◌, ℕ, ◌+◌, ◌-◌, ◌<◌, ◌≤◌, ◌⊎◌, List, [], ◌∷◌, ◌++◌, inl, inr, arith, subst, sym, length, length-append}
 use Rattle.std.proofs.lemmas.Bool.{cases_lt}
 use Rattle.std.proofs.lemmas.List.Elements.{All-append, All-cons}
-use Rattle.acc_placement.specs.Ranges.{IsWithin, IsIn, IsRising, IsAligned, IsDisjoint}
+use Rattle.acc_placement.specs.Ranges.{Spans, IsIn, IsRising, IsAligned, IsDisjoint}
 use Rattle.acc_placement.specs.Changes.{IsFilled}
-use Rattle.acc_placement.specs.Region.{Region, IsCanonical, IsPartition, IsTaken, IsTakenFrom, IsGivenBack}
+use Rattle.acc_placement.specs.Space.{Space, IsCanonical, IsPartition, IsTaken, IsTakenFrom, IsGivenBack}
 use Rattle.acc_placement.proofs.Rising.{in_bounds, in_join_left, in_join_right, in_parts, total-append}
 use Rattle.acc_placement.proofs.Alignment.{all_front, all_middle, all_back}
 use Rattle.acc_placement.proofs.Counting.{IsEdged, length_holes}
@@ -13,10 +13,10 @@ use Rattle.acc_placement.proofs.Counting.{IsEdged, length_holes}
 pub in_longer : (l r : List (ℕ × ℕ)) (x : ℕ × ℕ) (a : ℕ) → IsIn (l ++ r) a → IsIn (l ++ x ∷ r) a
 in_longer l r x a i = elim (in_parts l r a i) [ inl j ↦ in_join_left l (x ∷ r) a j | inr j ↦ in_join_right l (x ∷ r) a (inr j) ]
 
-pub in_shorter : (l r : List (ℕ × ℕ)) (x : ℕ × ℕ) (a : ℕ) → IsIn (l ++ x ∷ r) a → IsWithin x.0 x.1 a ⊎ IsIn (l ++ r) a
+pub in_shorter : (l r : List (ℕ × ℕ)) (x : ℕ × ℕ) (a : ℕ) → IsIn (l ++ x ∷ r) a → Spans x.0 x.1 a ⊎ IsIn (l ++ r) a
 in_shorter l r x a i = elim (in_parts l (x ∷ r) a i) [ inl j ↦ inr (in_join_left l r a j) | inr (inl j) ↦ inl j | inr (inr j) ↦ inr (in_join_right l r a j) ]
 
-pub disjoint_middle : (l r : List (ℕ × ℕ)) (x : ℕ × ℕ) (a : ℕ) → IsDisjoint (l ++ x ∷ r) → IsWithin x.0 x.1 a → IsIn (l ++ r) a → ⊥
+pub disjoint_middle : (l r : List (ℕ × ℕ)) (x : ℕ × ℕ) (a : ℕ) → IsDisjoint (l ++ x ∷ r) → Spans x.0 x.1 a → IsIn (l ++ r) a → ⊥
 disjoint_middle [] r x a d w i = d.0 a w i
 disjoint_middle (h ∷ l) r x a d w (inl i) = d.0 a i (in_join_right l (x ∷ r) a (inl w))
 disjoint_middle (h ∷ l) r x a d w (inr i) = disjoint_middle l r x a d.1 w i
@@ -42,9 +42,9 @@ edged_of low (h ∷ k ∷ t) high base top ts s bounds cover =
     )
 
 -- giving back one of the taken ranges leaves no more holes than there were taken ranges
-pub length_new : (r : Region) (new before after : List (ℕ × ℕ)) (p n top : ℕ) → IsCanonical r → IsPartition r (before ++ (p, n) ∷ after) → IsFilled 0 top r.holes new p n → length new ≤ r.taken
+pub length_new : (r : Space) (new before after : List (ℕ × ℕ)) (p n top : ℕ) → IsCanonical r → IsPartition r (before ++ (p, n) ∷ after) → IsFilled 0 top r.holes new p n → length new ≤ r.taken
 length_new r new before after p n top s part f =
-    let mine : (a : ℕ) → IsWithin p n a → IsIn (before ++ (p, n) ∷ after) a = λ a w. in_join_right before ((p, n) ∷ after) a (inl w) in
+    let mine : (a : ℕ) → Spans p n a → IsIn (before ++ (p, n) ∷ after) a = λ a w. in_join_right before ((p, n) ∷ after) a (inl w) in
     let separate : (a : ℕ) → IsIn new a → IsIn (before ++ after) a → ⊥ = λ a i j. elim (f.free a i) [
       | inl h ↦ part.not_free a (in_longer before after (p, n) a j) h
       | inr w ↦ disjoint_middle before after (p, n) a part.disjoint w j
@@ -62,27 +62,27 @@ length_new r new before after p n top s part f =
     omega (arith, part.count, length-append before ((p, n) ∷ after), length-append before after)
 
 -- the first address of a taken range, and the last
-pub taken_limit : (r : Region) (before after : List (ℕ × ℕ)) (p n : ℕ) → 0 < n → IsPartition r (before ++ (p, n) ∷ after) → (r.base ≤ p) × (p + n ≤ r.base + r.size)
+pub taken_limit : (r : Space) (before after : List (ℕ × ℕ)) (p n : ℕ) → 0 < n → IsPartition r (before ++ (p, n) ∷ after) → (r.base ≤ p) × (p + n ≤ r.base + r.size)
 taken_limit r before after p n pos part =
     let a = part.within p (in_join_right before ((p, n) ∷ after) p (inl (omega arith, omega arith))) in
     let b = part.within (p + n - 1) (in_join_right before ((p, n) ∷ after) (p + n - 1) (inl (omega arith, omega arith))) in
     omega arith
 
-pub taken_not_free : (r : Region) (before after : List (ℕ × ℕ)) (p n : ℕ) → IsPartition r (before ++ (p, n) ∷ after) → (a : ℕ) → IsWithin p n a → IsIn r.holes a → ⊥
+pub taken_not_free : (r : Space) (before after : List (ℕ × ℕ)) (p n : ℕ) → IsPartition r (before ++ (p, n) ∷ after) → (a : ℕ) → Spans p n a → IsIn r.holes a → ⊥
 taken_not_free r before after p n part a w i = part.not_free a (in_join_right before ((p, n) ∷ after) a (inl w)) i
 
-pub taken_count : (r : Region) (before after : List (ℕ × ℕ)) (p n : ℕ) → IsPartition r (before ++ (p, n) ∷ after) → 0 < r.taken
+pub taken_count : (r : Space) (before after : List (ℕ × ℕ)) (p n : ℕ) → IsPartition r (before ++ (p, n) ∷ after) → 0 < r.taken
 taken_count r before after p n part = omega (arith, part.count, length-append before ((p, n) ∷ after))
 
--- addresses that are all free lie in the region
-pub free_within : (r : Region) (p n : ℕ) → 0 < n → IsCanonical r → ((a : ℕ) → IsWithin p n a → IsIn r.holes a) → (r.base ≤ p) × (p + n ≤ r.base + r.size)
+-- addresses that are all free lie in the space
+pub free_within : (r : Space) (p n : ℕ) → 0 < n → IsCanonical r → ((a : ℕ) → Spans p n a → IsIn r.holes a) → (r.base ≤ p) × (p + n ≤ r.base + r.size)
 free_within r p n pos s free =
     let a = in_bounds r.base r.holes (r.base + r.size) p s.rising (free p (omega arith, omega arith)) in
     let b = in_bounds r.base r.holes (r.base + r.size) (p + n - 1) s.rising (free (p + n - 1) (omega arith, omega arith)) in
     omega arith
 
 -- taking and giving back keep the partition
-pub taken_partition : (old new : Region) (ts : List (ℕ × ℕ)) (p n : ℕ) → n % 16 ≡ 0 → IsCanonical old → IsTakenFrom old new p n → IsPartition old ts → IsPartition new ((p, n) ∷ ts)
+pub taken_partition : (old new : Space) (ts : List (ℕ × ℕ)) (p n : ℕ) → n % 16 ≡ 0 → IsCanonical old → IsTakenFrom old new p n → IsPartition old ts → IsPartition new ((p, n) ∷ ts)
 taken_partition old new ts p n round s t part =
     record {
       count = omega (arith, part.count, t.taken);
@@ -106,7 +106,7 @@ taken_partition old new ts p n round s t part =
       ];
     }
 
-pub given_partition : (old new : Region) (before after : List (ℕ × ℕ)) (p n : ℕ) → IsGivenBack old new p n → IsPartition old (before ++ (p, n) ∷ after) → IsPartition new (before ++ after)
+pub given_partition : (old new : Space) (before after : List (ℕ × ℕ)) (p n : ℕ) → IsGivenBack old new p n → IsPartition old (before ++ (p, n) ∷ after) → IsPartition new (before ++ after)
 given_partition old new before after p n g part =
     record {
       count = omega (arith, part.count, g.taken, length-append before ((p, n) ∷ after), length-append before after);
@@ -125,14 +125,14 @@ given_partition old new before after p n g part =
     }
 
 -- what a taken range tells
-pub record TellsTaken (r : Region) (p n : ℕ) : Type 0 where
+pub record TellsTaken (r : Space) (p n : ℕ) : Type 0 where
   pub limit : (r.base ≤ p) × (p + n ≤ r.base + r.size)
-  pub not_free : (a : ℕ) → IsWithin p n a → IsIn r.holes a → ⊥
+  pub not_free : (a : ℕ) → Spans p n a → IsIn r.holes a → ⊥
   pub count : 0 < r.taken
   pub aligned : p % 16 ≡ 0
   pub room : (new : List (ℕ × ℕ)) (top : ℕ) → IsFilled 0 top r.holes new p n → length new ≤ r.taken
 
-pub tells_taken : (r : Region) (p n : ℕ) → 0 < n → IsCanonical r → IsTaken r p n → TellsTaken r p n
+pub tells_taken : (r : Space) (p n : ℕ) → 0 < n → IsCanonical r → IsTaken r p n → TellsTaken r p n
 tells_taken r p n pos s t =
     record {
       limit = taken_limit r t.before t.after p n pos t.partition;
@@ -142,6 +142,6 @@ tells_taken r p n pos s t =
       room = λ new top f. length_new r new t.before t.after p n top s t.partition f;
     }
 
--- the same, where the condition speaks of the region as a caller sees it
-pub told : (now r : Region) (p n m : ℕ) → r ≡ now → n ≡ m → 0 < n → IsCanonical r → IsTaken now p m → TellsTaken r p n
-told now r p n m same round pos s t = tells_taken r p n pos s (subst (λ (x : Region). IsTaken x p n) (sym same) (subst (λ (k : ℕ). IsTaken now p k) (sym round) t))
+-- the same, where the condition speaks of the space as a caller sees it
+pub told : (now r : Space) (p n m : ℕ) → r ≡ now → n ≡ m → 0 < n → IsCanonical r → IsTaken now p m → TellsTaken r p n
+told now r p n m same round pos s t = tells_taken r p n pos s (subst (λ (x : Space). IsTaken x p n) (sym same) (subst (λ (k : ℕ). IsTaken now p k) (sym round) t))

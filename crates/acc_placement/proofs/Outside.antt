@@ -2,7 +2,7 @@
 use Rattle.std.proofs.Common.{◌≡◌, ℕ, suc, ◌+◌, ◌<◌, ◌≤◌, ◌⊎◌, List, [], ◌∷◌, ◌++◌, inl, inr, arith, subst, sym, ap, ◌∙◌, length, take, drop, get_or}
 use Rattle.std.specs.Prelude.{All, Any}
 use Rattle.std.proofs.lemmas.Bool.{cases_lt}
-use Rattle.acc_placement.specs.Ranges.{IsWithin, IsIn, IsFit, IsFitBeside, IsLeastFitBeside, IsRising, IsTakeBelow, rounded, all_rounded}
+use Rattle.acc_placement.specs.Ranges.{Spans, IsIn, IsFit, IsFitBeside, IsLeastFitBeside, IsRising, IsTakeBelow, rounded, all_rounded}
 use Rattle.std.proofs.lemmas.List.{drop_all}
 use Rattle.std.proofs.Math.Seq.{drop-cons}
 use Rattle.std.proofs.Common.{zero, add-one}
@@ -18,14 +18,14 @@ beside_all (t ∷ ts) n q out a w (inr i) = beside_all ts n q (λ k d lt. out (s
 pub le-rounded : (n : ℕ) → n ≤ rounded n
 le-rounded n = omega arith
 
-in_rounded : (ts : List (ℕ × ℕ)) (k : ℕ) (t : ℕ × ℕ) (a : ℕ) → k < length ts → get_or ts k t ≡ t → IsWithin t.0 (rounded t.1) a → IsIn (all_rounded ts) a
+in_rounded : (ts : List (ℕ × ℕ)) (k : ℕ) (t : ℕ × ℕ) (a : ℕ) → k < length ts → get_or ts k t ≡ t → Spans t.0 (rounded t.1) a → IsIn (all_rounded ts) a
 in_rounded [] k t a lt e w = absurd (omega arith)
-in_rounded (h ∷ ts) zero t a lt e w = inl (subst (λ (x : ℕ × ℕ). IsWithin x.0 (rounded x.1) a) (sym e) w)
+in_rounded (h ∷ ts) zero t a lt e w = inl (subst (λ (x : ℕ × ℕ). Spans x.0 (rounded x.1) a) (sym e) w)
 in_rounded (h ∷ ts) (suc k) t a lt e w = inr (in_rounded ts k t a (omega arith) e w)
 
-pub in_at : (ts : List (ℕ × ℕ)) (k : ℕ) (t : ℕ × ℕ) (a : ℕ) → k < length ts → get_or ts k t ≡ t → IsWithin t.0 t.1 a → IsIn ts a
+pub in_at : (ts : List (ℕ × ℕ)) (k : ℕ) (t : ℕ × ℕ) (a : ℕ) → k < length ts → get_or ts k t ≡ t → Spans t.0 t.1 a → IsIn ts a
 in_at [] k t a lt e w = absurd (omega arith)
-in_at (h ∷ ts) zero t a lt e w = inl (subst (λ (x : ℕ × ℕ). IsWithin x.0 x.1 a) (sym e) w)
+in_at (h ∷ ts) zero t a lt e w = inl (subst (λ (x : ℕ × ℕ). Spans x.0 x.1 a) (sym e) w)
 in_at (h ∷ ts) (suc k) t a lt e w = inr (in_at ts k t a (omega arith) e w)
 
 -- the end of a range that has an address of a place: how far the place moves
@@ -73,6 +73,6 @@ found low high hs i x ts n place pos lt is s ge fits outside least so_far =
 pub none_left : (hs : List (ℕ × ℕ)) (i : ℕ) (ts : List (ℕ × ℕ)) (n : ℕ) → 0 < n → length hs ≤ i → ((q : ℕ) → IsFitBeside hs (all_rounded ts) n q → IsFit (drop i hs) n q) → (q : ℕ) → IsFitBeside hs (all_rounded ts) n q → ⊥
 none_left hs i ts n pos le so_far q f = subst (λ (l : List (ℕ × ℕ)). IsIn l q) (drop_all i hs le) (so_far q f q (omega arith, omega arith))
 
--- the place of a hole is within the region
+-- the place of a hole is within the space
 pub start_below : (low high : ℕ) (hs : List (ℕ × ℕ)) (i : ℕ) (x : ℕ × ℕ) → x ≡ get_or hs i x → i < length hs → IsRising low hs high → x.0 ≤ high
 start_below low high hs i x is lt s = let b = hole_below low high hs i x is lt s in omega arith

@@ -3,14 +3,14 @@ use Rattle.std.proofs.Common.{◌≡◌, ℕ, suc, ◌+◌, ◌<◌, List, [], �
 use Rattle.std.specs.List.{remove}
 use Rattle.std.proofs.lemmas.List.{append-nil}
 use Rattle.std.proofs.lemmas.List.Elements.{All-append, All-cons}
-use Rattle.acc_placement.specs.Ranges.{IsWithin, IsIn, IsFit, IsAligned, IsDisjoint}
-use Rattle.acc_placement.specs.Region.{Region, IsCanonical, IsPartition, IsTaken, IsUnchanged}
+use Rattle.acc_placement.specs.Ranges.{Spans, IsIn, IsFit, IsAligned, IsDisjoint}
+use Rattle.acc_placement.specs.Space.{Space, IsCanonical, IsPartition, IsTaken, IsUnchanged}
 use Rattle.acc_placement.proofs.Rising.{in_bounds, in_join_left, in_join_right, in_parts, total-append}
 use Rattle.acc_placement.proofs.Alignment.{all_front, all_rest, all_middle, all_back}
 use Rattle.acc_placement.proofs.AtIndex.{split_at}
 
--- the taken ranges of an unchanged region
-pub partition_unchanged : (old new : Region) (ts : List (ℕ × ℕ)) → IsUnchanged old new → IsPartition old ts → IsPartition new ts
+-- the taken ranges of an unchanged space
+pub partition_unchanged : (old new : Space) (ts : List (ℕ × ℕ)) → IsUnchanged old new → IsPartition old ts → IsPartition new ts
 partition_unchanged old new ts u p =
     record {
       count = p.count ∙ sym u.taken;
@@ -38,7 +38,7 @@ disjoint_moved (h ∷ l) r x d = (
 )
 
 -- the order of the list is free: the newest range may be put anywhere
-pub partition_moved : (r : Region) (before after : List (ℕ × ℕ)) (x : ℕ × ℕ) → IsPartition r (x ∷ (before ++ after)) → IsPartition r (before ++ x ∷ after)
+pub partition_moved : (r : Space) (before after : List (ℕ × ℕ)) (x : ℕ × ℕ) → IsPartition r (x ∷ (before ++ after)) → IsPartition r (before ++ x ∷ after)
 partition_moved r before after x p =
     record {
       count = omega (arith, p.count, length-append before (x ∷ after), length-append before after);
@@ -54,11 +54,11 @@ split : (ts : List (ℕ × ℕ)) (i : ℕ) (x : ℕ × ℕ) → x ≡ get_or ts 
 split ts i x is lt = split_at ts i x lt ∙ ap (λ (y : ℕ × ℕ). take i ts ++ y ∷ drop (suc i) ts) (sym is)
 
 -- the newest range, put at the end
-pub partition_last : (r : Region) (ts : List (ℕ × ℕ)) (x : ℕ × ℕ) → IsPartition r (x ∷ ts) → IsPartition r (ts ++ x ∷ [])
+pub partition_last : (r : Space) (ts : List (ℕ × ℕ)) (x : ℕ × ℕ) → IsPartition r (x ∷ ts) → IsPartition r (ts ++ x ∷ [])
 partition_last r ts x p = partition_moved r ts [] x (rw append-nil p)
 
 -- the range at an index of the list is taken
-pub taken_at : (r : Region) (ts : List (ℕ × ℕ)) (i : ℕ) (x : ℕ × ℕ) (n : ℕ) → x ≡ get_or ts i x → n ≡ x.1 → i < length ts → IsPartition r ts → IsTaken r x.0 n
+pub taken_at : (r : Space) (ts : List (ℕ × ℕ)) (i : ℕ) (x : ℕ × ℕ) (n : ℕ) → x ≡ get_or ts i x → n ≡ x.1 → i < length ts → IsPartition r ts → IsTaken r x.0 n
 taken_at r ts i x n is size lt p =
     record {
       before = take i ts;
@@ -67,12 +67,12 @@ taken_at r ts i x n is size lt p =
     }
 
 -- the list without the range at an index, which was given back
-pub partition_without : (old new : Region) (ts : List (ℕ × ℕ)) (i : ℕ) (x : ℕ × ℕ) (n : ℕ) → x ≡ get_or ts i x → n ≡ x.1 → i < length ts → IsPartition old ts → ((before after : List (ℕ × ℕ)) → IsPartition old (before ++ (x.0, n) ∷ after) → IsPartition new (before ++ after)) → IsPartition new (remove ts i)
+pub partition_without : (old new : Space) (ts : List (ℕ × ℕ)) (i : ℕ) (x : ℕ × ℕ) (n : ℕ) → x ≡ get_or ts i x → n ≡ x.1 → i < length ts → IsPartition old ts → ((before after : List (ℕ × ℕ)) → IsPartition old (before ++ (x.0, n) ∷ after) → IsPartition new (before ++ after)) → IsPartition new (remove ts i)
 partition_without old new ts i x n is size lt p back = back (take i ts) (drop (suc i) ts) (rw size (subst (λ (l : List (ℕ × ℕ)). IsPartition old l) (split ts i x is lt) p))
 
--- addresses of the region that are in no taken range are free, and free addresses are such
-pub fit_where_clear : (r : Region) (ts : List (ℕ × ℕ)) (n q : ℕ) → IsPartition r ts → ((a : ℕ) → IsWithin q n a → IsWithin r.base r.size a × ¬ IsIn ts a) → IsFit r.holes n q
+-- addresses of the space that are in no taken range are free, and free addresses are such
+pub fit_where_clear : (r : Space) (ts : List (ℕ × ℕ)) (n q : ℕ) → IsPartition r ts → ((a : ℕ) → Spans q n a → Spans r.base r.size a × ¬ IsIn ts a) → IsFit r.holes n q
 fit_where_clear r ts n q p clear a w = let c = clear a w in elim (p.covered a c.0) [ inl h ↦ h | inr i ↦ absurd (c.1 i) ]
 
-pub clear_where_fit : (r : Region) (ts : List (ℕ × ℕ)) (n q : ℕ) → IsCanonical r → IsPartition r ts → IsFit r.holes n q → (a : ℕ) → IsWithin q n a → IsWithin r.base r.size a × ¬ IsIn ts a
+pub clear_where_fit : (r : Space) (ts : List (ℕ × ℕ)) (n q : ℕ) → IsCanonical r → IsPartition r ts → IsFit r.holes n q → (a : ℕ) → Spans q n a → Spans r.base r.size a × ¬ IsIn ts a
 clear_where_fit r ts n q s p fit a w = (in_bounds r.base r.holes (r.base + r.size) a s.rising (fit a w), λ i. p.not_free a i (fit a w))

@@ -1,11 +1,11 @@
 -- What the fields of `Holes` stand for, and what holds of them.
 use Rattle.std.specs.Prelude.{◌≡◌, ◌+◌, ◌-◌, ◌≤◌, vec_capacity}
 use Rattle.acc_placement.specs.Ranges.{total}
-use Rattle.acc_placement.specs.Region.{Region, IsCanonical}
+use Rattle.acc_placement.specs.Space.{Space, IsCanonical}
 use Rattle.acc_placement.specs.declared.placement.Holes.TheInside.{Inside}
 
-abbrev pub region_of : Inside → Region
-region_of h = record {
+abbrev pub space_of : Inside → Space
+space_of h = record {
   base = h.base;
   size = h.size;
   holes = h.holes.items;
@@ -14,6 +14,6 @@ region_of h = record {
 }
 
 pub record IsSound (h : Inside) : Type 0 where
-  pub canonical : IsCanonical (region_of h)
+  pub canonical : IsCanonical (space_of h)
   pub used : h.used + total h.holes.items ≡ h.size
   pub room : h.taken + 1 ≤ vec_capacity h.holes

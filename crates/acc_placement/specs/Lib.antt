@@ -1,4 +1,4 @@
 pub mod Ranges
-pub mod Region
+pub mod Space
 pub mod Holes
 pub mod Changes

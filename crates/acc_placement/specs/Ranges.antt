@@ -7,17 +7,17 @@ abbrev pub rounded : ℕ → ℕ
 rounded n = 16 * ((n + 15) / 16)
 
 -- a is one of the n addresses from p on
-abbrev pub IsWithin : ℕ → ℕ → ℕ → Type 0
-IsWithin p n a = (p ≤ a) × (a < p + n)
+abbrev pub Spans : ℕ → ℕ → ℕ → Type 0
+Spans p n a = (p ≤ a) × (a < p + n)
 
 -- a is in one of the ranges
 abbrev pub IsIn : List (ℕ × ℕ) → ℕ → Type 0
 IsIn [] a = ⊥
-IsIn (h ∷ t) a = IsWithin h.0 h.1 a ⊎ IsIn t a
+IsIn (h ∷ t) a = Spans h.0 h.1 a ⊎ IsIn t a
 
 -- the n addresses from q on are all in the ranges
 abbrev pub IsFit : List (ℕ × ℕ) → ℕ → ℕ → Type 0
-IsFit hs n q = (a : ℕ) → IsWithin q n a → IsIn hs a
+IsFit hs n q = (a : ℕ) → Spans q n a → IsIn hs a
 
 -- p is the least place at which n addresses are all in the ranges
 abbrev pub IsLeastFit : List (ℕ × ℕ) → ℕ → ℕ → Type 0
@@ -25,7 +25,7 @@ IsLeastFit hs n p = IsFit hs n p × ((q : ℕ) → IsFit hs n q → p ≤ q)
 
 -- the n addresses from q on are all in the ranges hs, and none is in the ranges ts
 abbrev pub IsFitBeside : List (ℕ × ℕ) → List (ℕ × ℕ) → ℕ → ℕ → Type 0
-IsFitBeside hs ts n q = (a : ℕ) → IsWithin q n a → IsIn hs a × ¬ IsIn ts a
+IsFitBeside hs ts n q = (a : ℕ) → Spans q n a → IsIn hs a × ¬ IsIn ts a
 
 -- p is the least such place
 abbrev pub IsLeastFitBeside : List (ℕ × ℕ) → List (ℕ × ℕ) → ℕ → ℕ → Type 0
@@ -52,7 +52,7 @@ IsAligned h = (h.0 % 16 ≡ 0) × (h.1 % 16 ≡ 0)
 -- no two of the ranges share an address
 abbrev pub IsDisjoint : List (ℕ × ℕ) → Type 0
 IsDisjoint [] = Unit {0}
-IsDisjoint (h ∷ t) = ((a : ℕ) → IsWithin h.0 h.1 a → IsIn t a → ⊥) × IsDisjoint t
+IsDisjoint (h ∷ t) = ((a : ℕ) → Spans h.0 h.1 a → IsIn t a → ⊥) × IsDisjoint t
 
 -- the sum of the sizes
 abbrev pub total : List (ℕ × ℕ) → ℕ

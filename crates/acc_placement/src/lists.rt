@@ -1,7 +1,7 @@
 //! Lists of holes by rising place: the search for one, and how ranges are taken from them and come back.
 
 ghost use Rattle.std.specs.Prelude.{◌≡◌, ℕ, ◌+◌, ◌%◌, ◌^◌, ◌<◌, ◌≤◌, length, take, drop, slice_index_or, All, vec_capacity, IfSome, IfNone};
-ghost use Rattle.acc_placement.specs.Ranges.{IsRising, IsAligned, IsIn, IsWithin};
+ghost use Rattle.acc_placement.specs.Ranges.{IsRising, IsAligned, IsIn, Spans};
 ghost use Rattle.acc_placement.specs.Changes.{IsCut, IsFilled, FitsFirst, IsAbsorbed, NeedsAtMost};
 
 /// The index of the first hole that has `size` bytes.
@@ -35,7 +35,7 @@ pub fn fill(holes: &mut Vec<(u64, u64)>, place: u64, size: u64)
     requires rising { IsRising 0 holes.old.items (2 ^ 41) }
     requires limit { place + size ≤ 2 ^ 41 }
     requires not_empty { 0 < size }
-    requires not_free { (a : ℕ) → IsWithin place size a → IsIn holes.old.items a → ⊥ }
+    requires not_free { (a : ℕ) → Spans place size a → IsIn holes.old.items a → ⊥ }
     requires room { NeedsAtMost holes.old.items place size (vec_capacity holes.old) }
     ensures filled { (low high : ℕ) → IsRising low holes.old.items high → low ≤ place → place + size ≤ high → IsFilled low high holes.old.items holes.new.items place size }
     ensures aligned { All IsAligned holes.old.items → place % 16 ≡ 0 → size % 16 ≡ 0 → All IsAligned holes.new.items }

@@ -1,9 +1,9 @@
-//! The holes of a region of device memory.
+//! The holes of a space of device addresses.
 
-ghost use Rattle.std.specs.Prelude.{◌≡◌, ℕ, List, ◌+◌, ◌%◌, ◌^◌, ◌≤◌, ◌⊎◌, ◌↔◌, [], ◌∷◌, ◌++◌, All, IfOk, IfErr, IfSome, IfNone, Err, OnErr, OnOk};
+ghost use Rattle.std.specs.Prelude.{◌≡◌, ℕ, List, ◌+◌, ◌%◌, ◌^◌, ◌<◌, ◌≤◌, ◌⊎◌, ◌↔◌, [], ◌∷◌, ◌++◌, All, IfOk, IfErr, IfSome, IfNone, Err, OnErr, OnOk};
 ghost use Rattle.acc_base.specs.Limits.{IsSize, IsFromOne};
 ghost use Rattle.acc_placement.specs.Ranges.{rounded as rounded_of, all_rounded, IsFit, IsLeastFit, IsFitBeside, IsLeastFitBeside, IsTakeBelow, total};
-ghost use Rattle.acc_placement.specs.Region.{IsCanonical, IsFresh, IsUnchanged, IsPartition, IsTaken, IsTakenFrom, IsGivenBack};
+ghost use Rattle.acc_placement.specs.Space.{IsCanonical, IsFresh, IsUnchanged, IsPartition, IsTaken, IsTakenFrom, IsGivenBack};
 
 use crate::beside::past;
 use crate::lists::{cut, fill, first_fit};
@@ -12,12 +12,12 @@ use acc_base::Fault;
 use std::alloc::Global;
 use std::marker::Model;
 
-/// A region of device memory: some ranges of its addresses are taken, and the others are its holes.
+/// A space of device addresses: some ranges of it are taken, and the others are its holes.
 ///
 /// Places are device addresses and sizes are bytes. Each range has the size of its length rounded up to a multiple of
-/// 16, and each place is a multiple of 16. Contracts see the region as its base, its size, its holes by rising place,
+/// 16, and each place is a multiple of 16. Contracts see the space as its base, its size, its holes by rising place,
 /// the number of ranges that are taken, and the number that can still be taken without memory. Which ranges are taken
-/// is for the caller to know: its list of them, in any order, and the holes are the region.
+/// is for the caller to know: its list of them, in any order, and the holes are the space.
 #[derive(Drop)]
 pub struct Holes {
     base: u64,
@@ -30,19 +30,19 @@ pub struct Holes {
 }
 
 impl Model for Holes {
-    ghost use Rattle.acc_placement.specs.Region.{Region};
+    ghost use Rattle.acc_placement.specs.Space.{Space};
 
-    ghost Value = { Region };
+    ghost Value = { Space };
 
-    ghost use Rattle.acc_placement.specs.Holes.{region_of, IsSound};
+    ghost use Rattle.acc_placement.specs.Holes.{space_of, IsSound};
 
-    ghost view = { region_of };
+    ghost view = { space_of };
 
     ghost invariant = { IsSound };
 }
 
 impl Holes {
-    /// A region of `size` bytes from the device address `base` on, of which nothing is taken. The base is a multiple of
+    /// A space of `size` bytes from the device address `base` on, of which nothing is taken. The base is a multiple of
     /// 16, at most 2^40; the size is a multiple of 16, from 16 to 67,108,864.
     ///
     /// # Errors
@@ -74,7 +74,7 @@ impl Holes {
     /// # Errors
     ///
     /// [`Fault::DeviceFull`] with item 0 and the rounded need, exactly where no hole is large enough; else only
-    /// [`Fault::Memory`]. The region is then as before, but for its spare room.
+    /// [`Fault::Memory`], where there was no spare room. The space is then as before, but for its spare room.
     pub fn take(&mut self, need: u64) -> Result<u64, Fault>
         requires need { IsFromOne 67108864 need }
         ensures place { IfOk result (IsLeastFit self.old.holes (rounded_of need)) }
@@ -86,6 +86,7 @@ impl Holes {
         ensures full { (result ≡ Err (Fault.DeviceFull 0 (rounded_of need))) ↔ ((q : ℕ) → IsFit self.old.holes (rounded_of need) q → ⊥) }
         ensures only { IfErr result (λ fault. (fault ≡ Fault.Memory) ⊎ (fault ≡ Fault.DeviceFull 0 (rounded_of need))) }
         ensures unchanged { OnErr result (IsUnchanged self.old self.new) }
+        ensures memory { result ≡ Err Fault.Memory → self.old.spare ≡ 0 }
         ensures spare { self.old.spare ≤ self.new.spare + 1 }
     {
         let Some(_) = self.fit(need) else {
@@ -114,7 +115,8 @@ impl Holes {
     ///
     /// # Errors
     ///
-    /// [`Fault::Memory`] alone. The region is as before, but for its spare room, which never shrinks here.
+    /// [`Fault::Memory`] alone, where the room was missing. The space is as before, but for its spare room, which never
+    /// shrinks here.
     pub fn reserve(&mut self, count: u64) -> Result<(), Fault>
         requires limit { count ≤ 2 ^ 32 }
         ensures ok { OnOk result (count ≤ self.new.spare) }
@@ -122,6 +124,7 @@ impl Holes {
         ensures canonical { IsCanonical self.new }
         ensures spare { self.old.spare ≤ self.new.spare }
         ensures only { IfErr result (λ fault. fault ≡ Fault.Memory) }
+        ensures memory { OnErr result (self.old.spare < count) }
     {
         let room = self.taken as usize + 1 + count as usize;
         self.holes.reserve(room.saturating_sub(self.holes.len()))?;
@@ -153,7 +156,7 @@ impl Holes {
     /// which the rounded need is free and in none of the listed ranges. `None` exactly where there is none. It needs no
     /// memory.
     ///
-    /// Each listed length is from 1 to 67,108,864, and each listed range ends within the region.
+    /// Each listed length is from 1 to 67,108,864, and each listed range ends within the space.
     pub fn would_take(&self, listed: &[(u64, u64)], need: u64) -> Option<u64>
         requires need { IsFromOne 67108864 need }
         requires listed { All (IsTakeBelow (self.now.base + self.now.size)) listed.now }
@@ -204,7 +207,7 @@ impl Holes {
         &self.holes
     }
 
-    /// The bounds of the region, and that its holes are multiples of 16, rise and do not touch. Nothing is done.
+    /// The bounds of the space, and that its holes are multiples of 16, rise and do not touch. Nothing is done.
     pub fn laws(&self)
         ensures { IsCanonical self.now }
     {

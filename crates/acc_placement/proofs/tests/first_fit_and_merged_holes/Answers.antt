@@ -1,5 +1,5 @@
 use Rattle.std.proofs.Common.{[], ◌∷◌}
-use Rattle.acc_placement.specs.Region.{IsPartition}
+use Rattle.acc_placement.specs.Space.{IsPartition}
 use Rattle.acc_placement.proofs.Partitions.{partition_unchanged}
 use Rattle.acc_placement.proofs.tests.first_fit_and_merged_holes.Goals as goal
 

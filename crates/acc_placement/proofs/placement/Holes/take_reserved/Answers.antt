@@ -1,9 +1,9 @@
 use Rattle.std.proofs.Common.{refl, ◌≡◌, ◌+◌, ◌^◌, ◌<◌, ◌%◌, arith, subst}
-use Rattle.acc_placement.specs.Region.{Region, IsCanonical}
+use Rattle.acc_placement.specs.Space.{Space, IsCanonical}
 use Rattle.acc_placement.proofs.Rising.{rising_from, rising_to}
 use Rattle.acc_placement.proofs.AtIndex.{first_is_least, no_fit}
 use Rattle.acc_placement.proofs.Giving.{taken_partition, free_within}
-use Rattle.acc_placement.specs.Holes.{region_of}
+use Rattle.acc_placement.specs.Holes.{space_of}
 use Rattle.acc_placement.proofs.placement.Holes.take_reserved.Goals as goal
 
 pub unreachable-requires : goal.unreachable-requires
@@ -51,7 +51,7 @@ returns-clause-taken c =
       taken = refl;
       used = k.used;
       aligned = rw c.cut-place.ensures.place place_aligned;
-      within = free_within (region_of c.self.inside) c.cut-place.result c.rounded-size.result pos c.self.invariant.canonical k.was_free;
+      within = free_within (space_of c.self.inside) c.cut-place.result c.rounded-size.result pos c.self.invariant.canonical k.was_free;
       kept = k.kept;
       free = k.free;
       was_free = k.was_free;
@@ -59,5 +59,5 @@ returns-clause-taken c =
 
 pub returns-clause-partition : goal.returns-clause-partition
 returns-clause-partition c = λ ts part.
-    let s : IsCanonical c.args.self.now = subst (λ (r : Region). IsCanonical r) c.self.view_is c.self.invariant.canonical in
+    let s : IsCanonical c.args.self.now = subst (λ (r : Space). IsCanonical r) c.self.view_is c.self.invariant.canonical in
     taken_partition c.args.self.now _ ts c.cut-place.result _ (rw (← c.rounded-size.ensures.value) c.rounded-size.ensures.multiple) s (returns-clause-taken c) part

@@ -1,0 +1,110 @@
+//! How long the calls of `acc_placement` take.
+
+ghost use Rattle.std.specs.Prelude.{◌≡◌, ◌+◌, ◌^◌, ◌<◌, ◌≤◌, length, IfOk};
+ghost use Rattle.acc_bench.specs.Held.{IsHeld};
+
+use acc_base::Fault;
+use acc_placement::Holes;
+use anyhow::Result;
+use std::alloc::Global;
+use std::rt::Clock;
+use std::time::Instant;
+
+/// How often a call is made in one measurement.
+const ROUNDS: u32 = 1_000;
+
+/// The device address at which the space begins.
+const BASE: u64 = 0x1_0000_0000;
+
+/// A space with a hole of 16 bytes behind each of its taken ranges of 16 bytes, and a larger hole at its end.
+#[derive(Drop)]
+struct Sieve {
+    holes: Holes,
+    // The place and the size of each taken range.
+    held: Vec<(u64, u64)>,
+}
+
+/// Prints, for growing numbers of holes, how long a take with its give back, and a `would_take`, last where the search
+/// passes all holes and finds the last.
+pub fn run<R: Print + Clock + AllocGlobal>(rt: &R) -> Result<()> {
+    for count in [100, 1_000, 10_000] {
+        let mut sieve = make_sieve(rt.alloc(), count)?;
+        let start = Instant::now(rt)?;
+        take_and_give_back(&mut sieve)?;
+        let taken = start.elapsed(rt)?;
+        let start = Instant::now(rt)?;
+        let found = would_take(&sieve);
+        let looked = start.elapsed(rt)?;
+        println!(rt;
+            "placement with {count} holes: take and give back {:?}, would_take {:?}, {found} found",
+            taken / ROUNDS,
+            looked / ROUNDS
+        )?;
+    }
+    Ok(())
+}
+
+/// Takes 32 bytes, which only the last hole has, and gives them back.
+fn take_and_give_back(sieve: &mut Sieve) -> Result<(), Fault>
+    requires { IsHeld sieve.old }
+{
+    for _ in 0..ROUNDS {
+        let place = sieve.holes.take(32)?;
+        sieve.holes.give_back(place, 32);
+    }
+    Ok(())
+}
+
+/// How often 32 bytes would be placed.
+fn would_take(sieve: &Sieve) -> u32 {
+    let mut found = 0;
+    // Each need follows from the place before, so that no look can be left out.
+    let mut need = 32;
+    for _ in 0..ROUNDS {
+        if let Some(place) = sieve.holes.would_take(&[], need) {
+            found += 1;
+            need = 32 - place % 16;
+        }
+    }
+    found
+}
+
+/// A sieve with so many holes of 16 bytes.
+fn make_sieve(alloc: Global, count: u64) -> Result<Sieve, Fault>
+    requires { count ≤ 2 ^ 20 }
+    ensures { IfOk result IsHeld }
+{
+    let mut sieve = Sieve {
+        holes: Holes::new(alloc, BASE, 32 * count + 64)?,
+        held: Vec::new(alloc),
+    };
+    for _ in 0..2 * count {
+        take_one(&mut sieve)?;
+    }
+    for at in 0..count {
+        give_one_back(&mut sieve, at as usize);
+    }
+    Ok(sieve)
+}
+
+/// Takes one more range of 16 bytes.
+fn take_one(sieve: &mut Sieve) -> Result<(), Fault>
+    requires { IsHeld sieve.old }
+    ensures held { IfOk result (λ _. IsHeld sieve.new) }
+    ensures more { IfOk result (λ _. length sieve.new.held.items ≡ length sieve.old.held.items + 1) }
+{
+    let place = sieve.holes.take(16)?;
+    sieve.held.push((place, 16))?;
+    Ok(())
+}
+
+/// Gives back the taken range at an index of the list.
+fn give_one_back(sieve: &mut Sieve, at: usize)
+    requires held { IsHeld sieve.old }
+    requires in_bounds { at < length sieve.old.held.items }
+    ensures held { IsHeld sieve.new }
+    ensures less { length sieve.new.held.items + 1 ≡ length sieve.old.held.items }
+{
+    let (place, size) = sieve.held.remove(at);
+    sieve.holes.give_back(place, size);
+}

@@ -1,0 +1,50 @@
+-- Host memory: bytes at the addresses from 0x1000 on. Addresses are whole numbers without an upper bound.
+use Rattle.std.specs.Prelude.{ℕ, ◌≡◌, ◌+◌, ◌-◌, ◌<◌, ◌≤◌, List, ◌++◌, length, take, drop, slice_index}
+use Rattle.acc_base.specs.declared.items.Section.{Section}
+
+-- the first address of host memory
+abbrev pub host_base : ℕ
+host_base = 0x1000
+
+-- the address is one of the section's
+abbrev pub Covers : Section → ℕ → Type 0
+Covers s a = (s.start ≤ a) × (a < s.start + s.len)
+
+-- the address is one of host memory's
+abbrev pub IsHost : List ℕ → ℕ → Type 0
+IsHost host a = (host_base ≤ a) × (a < host_base + length host)
+
+-- each address of the section is one of host memory's
+abbrev pub IsInHost : List ℕ → Section → Type 0
+IsInHost host s = (a : ℕ) → Covers s a → IsHost host a
+
+-- some address of the section is not one of host memory's
+pub record IsOutOfHost (host : List ℕ) (s : Section) : Type 0 where
+  pub address : ℕ
+  pub covered : Covers s address
+  pub outside : ¬ IsHost host address
+
+-- the byte at an address of host memory
+abbrev pub host_byte : List ℕ → ℕ → ℕ
+host_byte host a = slice_index host (a - host_base)
+
+-- these are the bytes of the section, which lies in host memory
+pub record IsRead (host : List ℕ) (s : Section) (bytes : List ℕ) : Type 0 where
+  pub in_host : IsInHost host s
+  pub length_is : length bytes ≡ s.len
+  pub each : (a : ℕ) → Covers s a → slice_index bytes (a - s.start) ≡ host_byte host a
+
+-- the section, which lies in host memory, has these bytes, and each other address keeps its own
+pub record IsWritten (old new : List ℕ) (s : Section) (bytes : List ℕ) : Type 0 where
+  pub in_host : IsInHost old s
+  pub length_is : length new ≡ length old
+  pub written : (a : ℕ) → Covers s a → host_byte new a ≡ slice_index bytes (a - s.start)
+  pub kept : (a : ℕ) → IsHost old a → ¬ Covers s a → host_byte new a ≡ host_byte old a
+
+-- the part of the list that a section in host memory is
+abbrev pub bytes_in : List ℕ → Section → List ℕ
+bytes_in host s = take s.len (drop (s.start - host_base) host)
+
+-- the list with that part replaced
+abbrev pub with_bytes : List ℕ → Section → List ℕ → List ℕ
+with_bytes host s bytes = take (s.start - host_base) host ++ bytes ++ drop (s.start - host_base + s.len) host

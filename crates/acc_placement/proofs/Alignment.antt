@@ -1,0 +1,34 @@
+-- A fact of each range of a list, where the list changes at an index.
+use Rattle.std.proofs.Common.{◌≡◌, ℕ, zero, suc, ◌+◌, ◌<◌, ◌%◌, List, [], ◌∷◌, ◌++◌, arith, subst, sym, length, take, drop, get_or}
+use Rattle.std.specs.Prelude.{All, Any}
+use Rattle.std.specs.List.{remove}
+use Rattle.std.proofs.lemmas.List.Elements.{All-append, All-take, All-drop}
+use Rattle.acc_placement.specs.Ranges.{rounded}
+
+pub all_front : (P : ℕ × ℕ → Type 0) (l r : List (ℕ × ℕ)) → All P (l ++ r) → All P l
+all_front P [] r a k d lt = absurd (omega arith)
+all_front P (h ∷ l) r a zero d lt = a zero d (omega arith)
+all_front P (h ∷ l) r a (suc k) d lt = all_front P l r (λ j e u. a (suc j) e (omega arith)) k d (omega arith)
+
+pub all_rest : (P : ℕ × ℕ → Type 0) (l r : List (ℕ × ℕ)) → All P (l ++ r) → All P r
+all_rest P [] r a = a
+all_rest P (h ∷ l) r a = all_rest P l r (λ j e u. a (suc j) e (omega arith))
+
+pub all_middle : (P : ℕ × ℕ → Type 0) (l : List (ℕ × ℕ)) (x : ℕ × ℕ) (r : List (ℕ × ℕ)) → All P (l ++ x ∷ r) → P x
+all_middle P l x r a = all_rest P l (x ∷ r) a 0 x (omega arith)
+
+pub all_back : (P : ℕ × ℕ → Type 0) (l : List (ℕ × ℕ)) (x : ℕ × ℕ) (r : List (ℕ × ℕ)) → All P (l ++ x ∷ r) → All P r
+all_back P l x r a k d lt = all_rest P l (x ∷ r) a (suc k) d (omega arith)
+
+pub All-remove : (P : ℕ × ℕ → Type 0) (xs : List (ℕ × ℕ)) (i : ℕ) → All P xs → All P (remove xs i)
+All-remove P xs i a = All-append P (take i xs) (drop (suc i) xs) (All-take P i xs a) (All-drop P (suc i) xs a)
+
+-- the range that an index reads
+pub all_at : (P : ℕ × ℕ → Type 0) (xs : List (ℕ × ℕ)) (i : ℕ) (x : ℕ × ℕ) → x ≡ get_or xs i x → i < length xs → All P xs → P x
+all_at P xs i x is lt a = subst P (sym is) (a i x lt)
+
+-- the end of a taken range is a multiple of 16 where its place is
+pub end_aligned : (ts : List (ℕ × ℕ)) (size at end : ℕ) → Any (λ t. (end ≡ t.0 + rounded t.1) × (t.0 < at + size) × (at < end)) ts → All (λ t. t.0 % 16 ≡ 0) ts → end % 16 ≡ 0
+end_aligned ts size at end (k, t, lt, is, p) a =
+    let z : t.0 % 16 ≡ 0 = subst (λ (x : ℕ × ℕ). x.0 % 16 ≡ 0) is (a k t lt) in
+    omega (arith, p.0)

@@ -1,0 +1,97 @@
+-- Taking the front of a hole, and giving a range back.
+use Rattle.std.proofs.Common.{◌≡◌, ℕ, ◌+◌, ◌-◌, ◌<◌, ◌≤◌, List, [], ◌∷◌, ◌++◌, inl, inr, arith}
+use Rattle.std.proofs.lemmas.Bool.{cases_lt}
+use Rattle.acc_placement.specs.Ranges.{IsRising}
+use Rattle.acc_placement.specs.Changes.{IsCut, IsFilled}
+use Rattle.acc_placement.proofs.Rising.{after, in_bounds, before_after, rising_from, rising_front, rising_back, rising_join, in_join_left, in_join_right, in_parts, total-append}
+
+-- what is known where a list of holes is parted round one of them
+record Parts (low : ℕ) (l : List (ℕ × ℕ)) (x : ℕ × ℕ) (r : List (ℕ × ℕ)) (high : ℕ) : Type 0 where
+  front : IsRising low l high
+  below : after low l ≤ x.0
+  not_empty : 0 < x.1
+  fits : x.0 + x.1 ≤ high
+  back : IsRising (x.0 + x.1 + 1) r high
+
+parts : (low : ℕ) (l : List (ℕ × ℕ)) (x : ℕ × ℕ) (r : List (ℕ × ℕ)) (high : ℕ) → IsRising low (l ++ x ∷ r) high → Parts low l x r high
+parts low l x r high s =
+    let b = rising_back low l (x ∷ r) high s in
+    record { front = rising_front low l (x ∷ r) high s; below = b.0; not_empty = b.1; fits = b.2; back = b.3 }
+
+pub cut_whole : (low : ℕ) (l : List (ℕ × ℕ)) (x : ℕ × ℕ) (r : List (ℕ × ℕ)) (high n : ℕ) → x.1 ≡ n → IsRising low (l ++ x ∷ r) high → IsCut low high (l ++ x ∷ r) (l ++ r) x.0 n
+cut_whole low l x r high n e s =
+    let p = parts low l x r high s in
+    record {
+      rising = rising_join low l r high p.front (rising_from (x.0 + x.1 + 1) (after low l) r high (omega (arith, p.below)) p.back);
+      used = omega (arith, total-append l r, total-append l (x ∷ r));
+      kept = λ a i. elim (in_parts l r a i) [
+        | inl j ↦ let b = before_after low l high a p.front j in (in_join_left l (x ∷ r) a j, λ w. absurd (omega (arith, p.below)))
+        | inr j ↦ let b : (x.0 + x.1 + 1 ≤ a) × (a < high) = in_bounds (x.0 + x.1 + 1) r high a p.back j in (in_join_right l (x ∷ r) a (inr j), λ w. absurd (omega arith))
+      ];
+      free = λ a i w. elim (in_parts l (x ∷ r) a i) [
+        | inl j ↦ in_join_left l r a j
+        | inr (inl j) ↦ absurd (w (omega arith, omega arith))
+        | inr (inr j) ↦ in_join_right l r a j
+      ];
+      was_free = λ a w. in_join_right l (x ∷ r) a (inl (omega arith, omega arith));
+    }
+
+pub cut_front : (low : ℕ) (l : List (ℕ × ℕ)) (x : ℕ × ℕ) (r : List (ℕ × ℕ)) (high n : ℕ) → n < x.1 → IsRising low (l ++ x ∷ r) high → IsCut low high (l ++ x ∷ r) (l ++ (x.0 + n, x.1 - n) ∷ r) x.0 n
+cut_front low l x r high n less s =
+    let p = parts low l x r high s in
+    let new : List (ℕ × ℕ) = (x.0 + n, x.1 - n) ∷ r in
+    record {
+      rising = rising_join low l new high p.front (omega (arith, p.below), omega arith, omega (arith, p.fits), rising_from (x.0 + x.1 + 1) (x.0 + n + (x.1 - n) + 1) r high (omega arith) p.back);
+      used = omega (arith, total-append l new, total-append l (x ∷ r));
+      kept = λ a i. elim (in_parts l new a i) [
+        | inl j ↦ let b = before_after low l high a p.front j in (in_join_left l (x ∷ r) a j, λ w. absurd (omega (arith, p.below)))
+        | inr (inl j) ↦ (in_join_right l (x ∷ r) a (inl (omega arith, omega arith)), λ w. absurd (omega arith))
+        | inr (inr j) ↦ let b : (x.0 + x.1 + 1 ≤ a) × (a < high) = in_bounds (x.0 + x.1 + 1) r high a p.back j in (in_join_right l (x ∷ r) a (inr j), λ w. absurd (omega arith))
+      ];
+      free = λ a i w. elim (in_parts l (x ∷ r) a i) [
+        | inl j ↦ in_join_left l new a j
+        | inr (inl j) ↦ elim (cases_lt a (x.0 + n)) [ inl q ↦ absurd (w (j.0, q)) | inr q ↦ in_join_right l new a (inl (q, omega arith)) ]
+        | inr (inr j) ↦ in_join_right l new a (inr j)
+      ];
+      was_free = λ a w. in_join_right l (x ∷ r) a (inl (omega arith, omega arith));
+    }
+
+-- putting a range that touches neither the ranges before nor those after
+pub fill_between : (low : ℕ) (l r : List (ℕ × ℕ)) (high p n : ℕ) → IsRising low l high → after low l ≤ p → 0 < n → p + n ≤ high → IsRising (p + n + 1) r high → IsFilled low high (l ++ r) (l ++ (p, n) ∷ r) p n
+fill_between low l r high p n s below pos fits t =
+    record {
+      rising = rising_join low l ((p, n) ∷ r) high s (below, pos, fits, t);
+      used = omega (arith, total-append l r, total-append l ((p, n) ∷ r));
+      free = λ a i. elim (in_parts l ((p, n) ∷ r) a i) [
+        | inl j ↦ inl (in_join_left l r a j)
+        | inr (inl j) ↦ inr j
+        | inr (inr j) ↦ inl (in_join_right l r a j)
+      ];
+      kept = λ a u. elim u [
+        | inl i ↦ elim (in_parts l r a i) [ inl j ↦ in_join_left l ((p, n) ∷ r) a j | inr j ↦ in_join_right l ((p, n) ∷ r) a (inr j) ]
+        | inr w ↦ in_join_right l ((p, n) ∷ r) a (inl w)
+      ];
+    }
+
+-- the same where the last of the ranges before ends at the place
+pub fill_onto : (low : ℕ) (l : List (ℕ × ℕ)) (x : ℕ × ℕ) (r : List (ℕ × ℕ)) (high p n : ℕ) → IsRising low (l ++ x ∷ []) high → x.0 + x.1 ≡ p → 0 < n → p + n ≤ high → IsRising (p + n + 1) r high → IsFilled low high (l ++ x ∷ r) (l ++ (x.0, x.1 + n) ∷ r) p n
+fill_onto low l x r high p n s touch pos fits t =
+    let q = parts low l x [] high s in
+    let new : List (ℕ × ℕ) = (x.0, x.1 + n) ∷ r in
+    record {
+      rising = rising_join low l new high q.front (q.below, omega arith, omega arith, rising_from (p + n + 1) (x.0 + (x.1 + n) + 1) r high (omega arith) t);
+      used = omega (arith, total-append l (x ∷ r), total-append l new);
+      free = λ a i. elim (in_parts l new a i) [
+        | inl j ↦ inl (in_join_left l (x ∷ r) a j)
+        | inr (inl j) ↦ elim (cases_lt a p) [ inl lt ↦ inl (in_join_right l (x ∷ r) a (inl (j.0, omega arith))) | inr le ↦ inr (le, omega arith) ]
+        | inr (inr j) ↦ inl (in_join_right l (x ∷ r) a (inr j))
+      ];
+      kept = λ a u. elim u [
+        | inl i ↦ elim (in_parts l (x ∷ r) a i) [
+          | inl j ↦ in_join_left l new a j
+          | inr (inl j) ↦ in_join_right l new a (inl (j.0, omega arith))
+          | inr (inr j) ↦ in_join_right l new a (inr j)
+        ]
+        | inr w ↦ in_join_right l new a (inl (omega arith, omega arith))
+      ];
+    }

@@ -1,0 +1,78 @@
+-- What a caller that keeps a list of its taken ranges does with it.
+use Rattle.std.proofs.Common.{◌≡◌, ℕ, suc, ◌+◌, ◌<◌, List, [], ◌∷◌, ◌++◌, inl, inr, arith, sym, subst, ap, ◌∙◌, length, take, drop, get_or, length-append}
+use Rattle.std.specs.List.{remove}
+use Rattle.std.proofs.lemmas.List.{append-nil}
+use Rattle.std.proofs.lemmas.List.Elements.{All-append, All-cons}
+use Rattle.acc_placement.specs.Ranges.{Spans, IsIn, IsFit, IsAligned, IsDisjoint}
+use Rattle.acc_placement.specs.Space.{Space, IsCanonical, IsPartition, IsTaken, IsUnchanged}
+use Rattle.acc_placement.proofs.Rising.{in_bounds, in_join_left, in_join_right, in_parts, total-append}
+use Rattle.acc_placement.proofs.Alignment.{all_front, all_rest, all_middle, all_back}
+use Rattle.acc_placement.proofs.AtIndex.{split_at}
+
+-- the taken ranges of an unchanged space
+pub partition_unchanged : (old new : Space) (ts : List (ℕ × ℕ)) → IsUnchanged old new → IsPartition old ts → IsPartition new ts
+partition_unchanged old new ts u p =
+    record {
+      count = p.count ∙ sym u.taken;
+      sizes = rw (u.holes, u.size) p.sizes;
+      aligned = p.aligned;
+      disjoint = p.disjoint;
+      within = λ a i. rw (u.base, u.size) (p.within a i);
+      not_free = λ a i h. p.not_free a i (rw u.holes at h);
+      covered = λ a w. rw u.holes (p.covered a (rw (u.base, u.size) at w));
+    }
+
+-- a range that stands elsewhere in the list
+in_moved : (l r : List (ℕ × ℕ)) (x : ℕ × ℕ) (a : ℕ) → IsIn (x ∷ (l ++ r)) a → IsIn (l ++ x ∷ r) a
+in_moved l r x a (inl w) = in_join_right l (x ∷ r) a (inl w)
+in_moved l r x a (inr i) = elim (in_parts l r a i) [ inl j ↦ in_join_left l (x ∷ r) a j | inr j ↦ in_join_right l (x ∷ r) a (inr j) ]
+
+in_front : (l r : List (ℕ × ℕ)) (x : ℕ × ℕ) (a : ℕ) → IsIn (l ++ x ∷ r) a → IsIn (x ∷ (l ++ r)) a
+in_front l r x a i = elim (in_parts l (x ∷ r) a i) [ inl j ↦ inr (in_join_left l r a j) | inr (inl w) ↦ inl w | inr (inr j) ↦ inr (in_join_right l r a j) ]
+
+disjoint_moved : (l r : List (ℕ × ℕ)) (x : ℕ × ℕ) → IsDisjoint (x ∷ (l ++ r)) → IsDisjoint (l ++ x ∷ r)
+disjoint_moved [] r x d = d
+disjoint_moved (h ∷ l) r x d = (
+  λ a w i. elim (in_front l r x a i) [ inl v ↦ d.0 a v (inl w) | inr j ↦ d.1.0 a w j ],
+  disjoint_moved l r x (λ a w i. d.0 a w (inr i), d.1.1),
+)
+
+-- the order of the list is free: the newest range may be put anywhere
+pub partition_moved : (r : Space) (before after : List (ℕ × ℕ)) (x : ℕ × ℕ) → IsPartition r (x ∷ (before ++ after)) → IsPartition r (before ++ x ∷ after)
+partition_moved r before after x p =
+    record {
+      count = omega (arith, p.count, length-append before (x ∷ after), length-append before after);
+      sizes = omega (arith, p.sizes, total-append before (x ∷ after), total-append before after);
+      aligned = All-append IsAligned before (x ∷ after) (all_front IsAligned before after (all_back IsAligned [] x (before ++ after) p.aligned)) (All-cons IsAligned x after (all_middle IsAligned [] x (before ++ after) p.aligned) (all_rest IsAligned before after (all_back IsAligned [] x (before ++ after) p.aligned)));
+      disjoint = disjoint_moved before after x p.disjoint;
+      within = λ a i. p.within a (in_front before after x a i);
+      not_free = λ a i h. p.not_free a (in_front before after x a i) h;
+      covered = λ a w. elim (p.covered a w) [ inl h ↦ inl h | inr i ↦ inr (in_moved before after x a i) ];
+    }
+
+split : (ts : List (ℕ × ℕ)) (i : ℕ) (x : ℕ × ℕ) → x ≡ get_or ts i x → i < length ts → ts ≡ take i ts ++ x ∷ drop (suc i) ts
+split ts i x is lt = split_at ts i x lt ∙ ap (λ (y : ℕ × ℕ). take i ts ++ y ∷ drop (suc i) ts) (sym is)
+
+-- the newest range, put at the end
+pub partition_last : (r : Space) (ts : List (ℕ × ℕ)) (x : ℕ × ℕ) → IsPartition r (x ∷ ts) → IsPartition r (ts ++ x ∷ [])
+partition_last r ts x p = partition_moved r ts [] x (rw append-nil p)
+
+-- the range at an index of the list is taken
+pub taken_at : (r : Space) (ts : List (ℕ × ℕ)) (i : ℕ) (x : ℕ × ℕ) (n : ℕ) → x ≡ get_or ts i x → n ≡ x.1 → i < length ts → IsPartition r ts → IsTaken r x.0 n
+taken_at r ts i x n is size lt p =
+    record {
+      before = take i ts;
+      after = drop (suc i) ts;
+      partition = rw size (subst (λ (l : List (ℕ × ℕ)). IsPartition r l) (split ts i x is lt) p);
+    }
+
+-- the list without the range at an index, which was given back
+pub partition_without : (old new : Space) (ts : List (ℕ × ℕ)) (i : ℕ) (x : ℕ × ℕ) (n : ℕ) → x ≡ get_or ts i x → n ≡ x.1 → i < length ts → IsPartition old ts → ((before after : List (ℕ × ℕ)) → IsPartition old (before ++ (x.0, n) ∷ after) → IsPartition new (before ++ after)) → IsPartition new (remove ts i)
+partition_without old new ts i x n is size lt p back = back (take i ts) (drop (suc i) ts) (rw size (subst (λ (l : List (ℕ × ℕ)). IsPartition old l) (split ts i x is lt) p))
+
+-- addresses of the space that are in no taken range are free, and free addresses are such
+pub fit_where_clear : (r : Space) (ts : List (ℕ × ℕ)) (n q : ℕ) → IsPartition r ts → ((a : ℕ) → Spans q n a → Spans r.base r.size a × ¬ IsIn ts a) → IsFit r.holes n q
+fit_where_clear r ts n q p clear a w = let c = clear a w in elim (p.covered a c.0) [ inl h ↦ h | inr i ↦ absurd (c.1 i) ]
+
+pub clear_where_fit : (r : Space) (ts : List (ℕ × ℕ)) (n q : ℕ) → IsCanonical r → IsPartition r ts → IsFit r.holes n q → (a : ℕ) → Spans q n a → Spans r.base r.size a × ¬ IsIn ts a
+clear_where_fit r ts n q s p fit a w = (in_bounds r.base r.holes (r.base + r.size) a s.rising (fit a w), λ i. p.not_free a i (fit a w))

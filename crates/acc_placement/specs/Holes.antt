@@ -1,0 +1,19 @@
+-- What the fields of `Holes` stand for, and what holds of them.
+use Rattle.std.specs.Prelude.{◌≡◌, ◌+◌, ◌-◌, ◌≤◌, vec_capacity}
+use Rattle.acc_placement.specs.Ranges.{total}
+use Rattle.acc_placement.specs.Space.{Space, IsCanonical}
+use Rattle.acc_placement.specs.declared.placement.Holes.TheInside.{Inside}
+
+abbrev pub space_of : Inside → Space
+space_of h = record {
+  base = h.base;
+  size = h.size;
+  holes = h.holes.items;
+  taken = h.taken;
+  spare = vec_capacity h.holes - (h.taken + 1);
+}
+
+pub record IsSound (h : Inside) : Type 0 where
+  pub canonical : IsCanonical (space_of h)
+  pub used : h.used + total h.holes.items ≡ h.size
+  pub room : h.taken + 1 ≤ vec_capacity h.holes

@@ -1,0 +1,4 @@
+pub mod Ranges
+pub mod Space
+pub mod Holes
+pub mod Changes

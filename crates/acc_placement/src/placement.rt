@@ -1,0 +1,216 @@
+//! The holes of a space of device addresses.
+
+ghost use Rattle.std.specs.Prelude.{◌≡◌, ℕ, List, ◌+◌, ◌%◌, ◌^◌, ◌<◌, ◌≤◌, ◌⊎◌, ◌↔◌, [], ◌∷◌, ◌++◌, All, IfOk, IfErr, IfSome, IfNone, Err, OnErr, OnOk};
+ghost use Rattle.acc_base.specs.Limits.{IsSize, IsFromOne};
+ghost use Rattle.acc_placement.specs.Ranges.{rounded as rounded_of, all_rounded, IsFit, IsLeastFit, IsFitBeside, IsLeastFitBeside, IsTakeBelow, total};
+ghost use Rattle.acc_placement.specs.Space.{IsCanonical, IsFresh, IsUnchanged, IsPartition, IsTaken, IsTakenFrom, IsGivenBack};
+
+use crate::beside::past;
+use crate::lists::{cut, fill, first_fit};
+use crate::rounding::rounded;
+use acc_base::Fault;
+use std::alloc::Global;
+use std::marker::Model;
+
+/// A space of device addresses: some ranges of it are taken, and the others are its holes.
+///
+/// Places are device addresses and sizes are bytes. Each range has the size of its length rounded up to a multiple of
+/// 16, and each place is a multiple of 16. Contracts see the space as its base, its size, its holes by rising place,
+/// the number of ranges that are taken, and the number that can still be taken without memory. Which ranges are taken
+/// is for the caller to know: its list of them, in any order, and the holes are the space.
+#[derive(Drop)]
+pub struct Holes {
+    base: u64,
+    size: u64,
+    // Place and size of each, by rising place. There is room for one more than there are taken ranges, so that
+    // `give_back` needs no memory.
+    holes: Vec<(u64, u64)>,
+    taken: u64,
+    used: u64,
+}
+
+impl Model for Holes {
+    ghost use Rattle.acc_placement.specs.Space.{Space};
+
+    ghost Value = { Space };
+
+    ghost use Rattle.acc_placement.specs.Holes.{space_of, IsSound};
+
+    ghost view = { space_of };
+
+    ghost invariant = { IsSound };
+}
+
+impl Holes {
+    /// A space of `size` bytes from the device address `base` on, of which nothing is taken. The base is a multiple of
+    /// 16, at most 2^40; the size is a multiple of 16, from 16 to 67,108,864.
+    ///
+    /// # Errors
+    ///
+    /// [`Fault::Memory`] alone.
+    pub fn new(alloc: Global, base: u64, size: u64) -> Result<Holes, Fault>
+        requires base_limit { base ≤ 2 ^ 40 }
+        requires base_aligned { base % 16 ≡ 0 }
+        requires size { IsSize size }
+        ensures ok { IfOk result (λ holes. IsFresh holes base size) }
+        ensures canonical { IfOk result IsCanonical }
+        ensures partition { IfOk result (λ holes. IsPartition holes []) }
+        ensures only { IfErr result (λ fault. fault ≡ Fault.Memory) }
+    {
+        let mut holes = Vec::with_capacity(alloc, 1)?;
+        holes.push_reserved((base, size));
+        Ok(Holes {
+            base,
+            size,
+            holes,
+            taken: 0,
+            used: 0,
+        })
+    }
+
+    /// Takes the least place at which `need` bytes, rounded up to a multiple of 16, are free. The need is from 1 to
+    /// 67,108,864.
+    ///
+    /// # Errors
+    ///
+    /// [`Fault::DeviceFull`] with item 0 and the rounded need, exactly where no hole is large enough; else only
+    /// [`Fault::Memory`], where there was no spare room. The space is then as before, but for its spare room.
+    pub fn take(&mut self, need: u64) -> Result<u64, Fault>
+        requires need { IsFromOne 67108864 need }
+        ensures place { IfOk result (IsLeastFit self.old.holes (rounded_of need)) }
+        ensures taken { IfOk result (λ place. IsTakenFrom self.old self.new place (rounded_of need)) }
+        ensures canonical { IsCanonical self.new }
+        ensures partition { IfOk result (λ place. (ts : List (ℕ × ℕ)) → IsPartition self.old ts → IsPartition self.new ((place, rounded_of need) ∷ ts)) }
+
+        // Each error, and what it leaves.
+        ensures full { (result ≡ Err (Fault.DeviceFull 0 (rounded_of need))) ↔ ((q : ℕ) → IsFit self.old.holes (rounded_of need) q → ⊥) }
+        ensures only { IfErr result (λ fault. (fault ≡ Fault.Memory) ⊎ (fault ≡ Fault.DeviceFull 0 (rounded_of need))) }
+        ensures unchanged { OnErr result (IsUnchanged self.old self.new) }
+        ensures memory { result ≡ Err Fault.Memory → self.old.spare ≡ 0 }
+        ensures spare { self.old.spare ≤ self.new.spare + 1 }
+    {
+        let Some(_) = self.fit(need) else {
+            return Err(Fault::DeviceFull {
+                item: 0,
+                need: rounded(need),
+            });
+        };
+        self.reserve(1)?;
+        Ok(self.take_reserved(need))
+    }
+
+    /// The place that `take` would choose.
+    fn fit(&self, need: u64) -> Option<u64>
+        requires need { IsFromOne 67108864 need }
+        ensures place { IfSome result (IsLeastFit self.now.holes (rounded_of need)) }
+        ensures none { IfNone result ((q : ℕ) → IsFit self.now.holes (rounded_of need) q → ⊥) }
+        ensures canonical { IsCanonical self.now }
+    {
+        let at = first_fit(&self.holes, rounded(need))?;
+        Some(self.holes[at].0)
+    }
+
+    /// Makes room for `count` more taken ranges, at most 2^32, so that so many calls of [`Holes::take_reserved`] need no
+    /// memory.
+    ///
+    /// # Errors
+    ///
+    /// [`Fault::Memory`] alone, where the room was missing. The space is as before, but for its spare room, which never
+    /// shrinks here.
+    pub fn reserve(&mut self, count: u64) -> Result<(), Fault>
+        requires limit { count ≤ 2 ^ 32 }
+        ensures ok { OnOk result (count ≤ self.new.spare) }
+        ensures unchanged { IsUnchanged self.old self.new }
+        ensures canonical { IsCanonical self.new }
+        ensures spare { self.old.spare ≤ self.new.spare }
+        ensures only { IfErr result (λ fault. fault ≡ Fault.Memory) }
+        ensures memory { OnErr result (self.old.spare < count) }
+    {
+        let room = self.taken as usize + 1 + count as usize;
+        self.holes.reserve(room.saturating_sub(self.holes.len()))?;
+        Ok(())
+    }
+
+    /// Takes as [`Holes::take`] does, where a hole is large enough and there is room. It needs no memory.
+    pub fn take_reserved(&mut self, need: u64) -> u64
+        requires need { IsFromOne 67108864 need }
+        requires room { 1 ≤ self.old.spare }
+        requires fits { (q : ℕ) × IsFit self.old.holes (rounded_of need) q }
+        ensures place { IsLeastFit self.old.holes (rounded_of need) result }
+        ensures taken { IsTakenFrom self.old self.new result (rounded_of need) }
+        ensures canonical { IsCanonical self.new }
+        ensures partition { (ts : List (ℕ × ℕ)) → IsPartition self.old ts → IsPartition self.new ((result, rounded_of need) ∷ ts) }
+        ensures spare { self.old.spare ≤ self.new.spare + 1 }
+    {
+        let size = rounded(need);
+        let Some(at) = first_fit(&self.holes, size) else {
+            unreachable!()
+        };
+        let place = cut(&mut self.holes, at, size);
+        self.taken += 1;
+        self.used += size;
+        place
+    }
+
+    /// Where [`Holes::take`] would place `need` bytes after takes of the listed places and lengths: the least place at
+    /// which the rounded need is free and in none of the listed ranges. `None` exactly where there is none. It needs no
+    /// memory.
+    ///
+    /// Each listed length is from 1 to 67,108,864, and each listed range ends within the space.
+    pub fn would_take(&self, listed: &[(u64, u64)], need: u64) -> Option<u64>
+        requires need { IsFromOne 67108864 need }
+        requires listed { All (IsTakeBelow (self.now.base + self.now.size)) listed.now }
+        ensures place { IfSome result (IsLeastFitBeside self.now.holes (all_rounded listed.now) (rounded_of need)) }
+        ensures none { IfNone result ((q : ℕ) → IsFitBeside self.now.holes (all_rounded listed.now) (rounded_of need) q → ⊥) }
+        ensures aligned { All (λ t. t.0 % 16 ≡ 0) listed.now → IfSome result (λ place. place % 16 ≡ 0) }
+    {
+        let size = rounded(need);
+        let top = self.base + self.size;
+        for &(start, room) in &self.holes {
+            let place = past(listed, start, size, top);
+            if place + size <= start + room {
+                return Some(place);
+            }
+        }
+        None
+    }
+
+    /// Gives back a range that was taken at `place` with this need and not given back since. The new hole is merged with
+    /// those that it touches. It needs no memory and is never refused.
+    pub fn give_back(&mut self, place: u64, need: u64)
+        requires need { IsFromOne 67108864 need }
+        requires taken { IsTaken self.old place (rounded_of need) }
+        ensures given_back { IsGivenBack self.old self.new place (rounded_of need) }
+        ensures canonical { IsCanonical self.new }
+        ensures partition { (before after : List (ℕ × ℕ)) → IsPartition self.old (before ++ (place, rounded_of need) ∷ after) → IsPartition self.new (before ++ after) }
+        ensures spare { self.old.spare ≤ self.new.spare }
+    {
+        let size = rounded(need);
+        fill(&mut self.holes, place, size);
+        self.taken -= 1;
+        self.used -= size;
+    }
+
+    /// How many bytes are taken: the sum of the sizes of the taken ranges.
+    pub fn used(&self) -> u64
+        ensures rest { result + total self.now.holes ≡ self.now.size }
+        ensures sum { (ts : List (ℕ × ℕ)) → IsPartition self.now ts → result ≡ total ts }
+    {
+        self.used
+    }
+
+    /// The holes by rising place, each with its place and its size in bytes.
+    pub fn holes(&self) -> &[(u64, u64)]
+        ensures value { result.now ≡ self.now.holes }
+        ensures canonical { IsCanonical self.now }
+    {
+        &self.holes
+    }
+
+    /// The bounds of the space, and that its holes are multiples of 16, rise and do not touch. Nothing is done.
+    pub fn laws(&self)
+        ensures { IsCanonical self.now }
+    {
+        let _ = &self.base;
+    }
+}

@@ -4,3 +4,5 @@ pub mod Stored
 pub mod Planned
 pub mod Kept
 pub mod Calls
+pub mod Queries
+pub mod Turns

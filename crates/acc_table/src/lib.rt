@@ -8,7 +8,9 @@ mod blocks;
 mod calls;
 mod memories;
 mod plans;
+mod queries;
 mod ranges;
+mod runs;
 mod stores;
 mod tables;
 

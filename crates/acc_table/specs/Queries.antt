@@ -1,0 +1,45 @@
+-- What the queries of a table answer.
+use Rattle.std.specs.Prelude.{ℕ, ◌+◌, ◌<◌, Bool, true, false, List, Option, Some, None, option_map, Contains}
+use Rattle.acc_base.specs.declared.items.Section.{Section}
+use Rattle.acc_base.specs.declared.mappings.Range.{Range}
+use Rattle.acc_base.specs.declared.mappings.Block.{Block}
+use Rattle.acc_base.specs.declared.mappings.Counters.{Counters}
+use Rattle.acc_base.specs.declared.mappings.Found.{Found}
+use Rattle.acc_base.specs.declared.mappings.Found.TheVariants.{Inside}
+use Rattle.acc_base.specs.Section.{IsWithin, only}
+use Rattle.acc_base.specs.Ranges.{where_is, range_from, dynamic_of, structured_of}
+use Rattle.acc_base.specs.Blocks.{place_of}
+use Rattle.acc_base.specs.Records.{Records}
+use Rattle.acc_table.specs.declared.calls.Mapped.{Mapped}
+
+abbrev pub is_inside : Found → Bool
+is_inside (Inside block offset) = true
+is_inside _ = false
+
+-- the section is not empty, and each of its addresses is in one mapped range
+abbrev pub IsInsideOne : Section → List Range → Type 0
+IsInsideOne s ranges = (0 < s.len) × ((r : Range) × Contains ranges r × IsWithin s r.section)
+
+-- the counters of the range that a section is inside
+abbrev pub counters_in : Found → List Range → Option Counters
+counters_in (Inside block offset) ranges = Some (record { structured = structured_of block ranges; dynamic = dynamic_of block ranges })
+counters_in _ ranges = None
+
+abbrev pub counters_at : Section → Records → Option Counters
+counters_at s w = counters_in (where_is s w.ranges) w.ranges
+
+-- the block's device address, and the offset
+abbrev pub address_in : Found → List Block → Option ℕ
+address_in (Inside block offset) blocks = Some (place_of block blocks + offset)
+address_in _ blocks = None
+
+-- the device address that a host address is mapped to
+abbrev pub device_address_of : ℕ → Records → Option ℕ
+device_address_of address w = address_in (where_is (only address) w.ranges) w.blocks
+
+abbrev pub mapped_as : List Block → Range → Mapped
+mapped_as blocks r = record { start = r.section.start; len = r.section.len; place = place_of r.block blocks; structured = r.structured; dynamic = r.dynamic }
+
+-- the mapped range of least start at or above an address
+abbrev pub mapped_from : ℕ → Records → Option Mapped
+mapped_from address w = option_map (mapped_as w.blocks) (range_from address w.ranges)

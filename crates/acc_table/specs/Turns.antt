@@ -1,0 +1,40 @@
+-- A list of turns, one after the other, with its answers.
+use Rattle.std.specs.Prelude.{◌≡◌, ◌⊎◌, List, [], ◌∷◌, Result, Ok, Err}
+use Rattle.acc_base.specs.declared.events.Event.{Event}
+use Rattle.acc_base.specs.declared.faults.Fault.{Fault}
+use Rattle.acc_base.specs.declared.faults.Fault.TheVariants.{Memory}
+use Rattle.acc_base.specs.Calls.{World, Request, Do, judge, world_after}
+use Rattle.acc_table.specs.declared.calls.Turn.{Turn}
+use Rattle.acc_table.specs.declared.calls.Turn.TheVariants as turns
+use Rattle.acc_table.specs.declared.calls.Answer.{Answer}
+use Rattle.acc_table.specs.declared.calls.Answer.TheVariants.{Replied, Refused}
+
+-- what the turn asks for
+abbrev pub asked_by : Turn → Request
+asked_by (turns.Do directive) = Do directive
+
+-- the answer to a turn that made this event
+abbrev pub answer_of : Event → Answer
+answer_of e = Replied 0 0
+
+-- the turn was refused, and the world stayed
+pub record StaysRefused (w : World) (fault : Fault) (answer : Answer) (next : World) : Type 0 where
+  pub answer_is : answer ≡ Refused fault
+  pub same : next ≡ w
+
+-- the turn made this event
+pub record IsMade (w : World) (e : Event) (answer : Answer) (next : World) : Type 0 where
+  pub answer_is : answer ≡ answer_of e
+  pub next_is : next ≡ world_after e w
+
+-- the refusal is the answer; where there is none, want of memory may be
+abbrev pub MayAnswer : World → Result Event Fault → Answer → World → Type 0
+MayAnswer w (Err fault) answer next = StaysRefused w fault answer next
+MayAnswer w (Ok e) answer next = StaysRefused w Memory answer next ⊎ IsMade w e answer next
+
+-- the turns lead from one world to another, one after the other, with these answers
+abbrev pub IsRun : World → List Turn → List Answer → World → Type 0
+IsRun w [] [] next = next ≡ w
+IsRun w (turn ∷ turns) (answer ∷ answers) next = (mid : World) × MayAnswer w (judge w (asked_by turn)) answer mid × IsRun mid turns answers next
+IsRun w [] (answer ∷ answers) next = ⊥
+IsRun w (turn ∷ turns) [] next = ⊥

@@ -1,0 +1,125 @@
+//! What a table tells of itself. No query takes memory or is refused.
+
+ghost use Rattle.std.specs.Prelude.{◌≡◌, ◌-◌, ◌↔◌, IsTrue};
+ghost use Rattle.acc_base.specs.Blocks.{used_bytes};
+ghost use Rattle.acc_base.specs.Calls.{event_count};
+ghost use Rattle.acc_base.specs.Ranges.{where_is};
+ghost use Rattle.acc_table.specs.Queries.{is_inside, IsInsideOne, counters_at, device_address_of, mapped_from};
+
+use crate::calls::Mapped;
+use crate::tables::Table;
+use crate::{blocks, ranges};
+use acc_base::{Config, Counters, Event, Found, Section};
+
+/// The section is inside one range.
+fn is_inside(found: Found) -> bool
+    ensures { result ≡ is_inside found }
+{
+    matches!(found, Found::Inside { .. })
+}
+
+impl Table {
+    /// Each address of the section, which is not empty, is in one mapped range.
+    pub fn is_present(&self, section: Section) -> bool
+        ensures value { result ≡ is_inside (where_is section self.now.state.records.ranges) }
+        ensures addresses { IsTrue result ↔ IsInsideOne section self.now.state.records.ranges }
+    {
+        is_inside(ranges::locate(&self.store.ranges, section))
+    }
+
+    /// The device address that a host address is mapped to, if it is.
+    pub fn device_address(&self, address: u64) -> Option<u64>
+        ensures { result ≡ device_address_of address self.now.state.records }
+    {
+        let only = Section {
+            start: address,
+            len: 1,
+        };
+        match ranges::locate(&self.store.ranges, only) {
+            Found::Inside { block, offset } => {
+                Some(blocks::place_at(&self.store.blocks, block) + offset)
+            }
+            Found::Empty | Found::Partly | Found::Absent => None,
+        }
+    }
+
+    /// The reference counters of the mapped range that the section is inside (OpenACC 3.3, section 2.6.7), if it is
+    /// inside one.
+    pub fn counters(&self, section: Section) -> Option<Counters>
+        ensures { result ≡ counters_at section self.now.state.records }
+    {
+        let ranges = &self.store.ranges;
+        match ranges::locate(ranges, section) {
+            Found::Inside { block, .. } => Some(Counters {
+                structured: ranges::structured_at(ranges, block),
+                dynamic: ranges::dynamic_at(ranges, block),
+            }),
+            Found::Empty | Found::Partly | Found::Absent => None,
+        }
+    }
+
+    /// The mapped range of least start at or above a host address, if there is one.
+    pub fn mapped(&self, from: u64) -> Option<Mapped>
+        ensures { result ≡ mapped_from from self.now.state.records }
+    {
+        match ranges::first_from(&self.store.ranges, from) {
+            Some(range) => Some(Mapped {
+                start: range.section.start,
+                len: range.section.len,
+                place: blocks::place_at(&self.store.blocks, range.block),
+                structured: range.structured,
+                dynamic: range.dynamic,
+            }),
+            None => None,
+        }
+    }
+
+    /// The bytes of device memory that all blocks take, each rounded up to a multiple of 16.
+    pub fn used(&self) -> u64
+        ensures { result ≡ used_bytes self.now.state.records.blocks }
+    {
+        blocks::used_of(&self.store.blocks)
+    }
+
+    /// How many data regions are open: none yet, since no directive opens one.
+    pub fn regions(&self) -> u64
+        ensures { result ≡ 0 }
+    {
+        0
+    }
+
+    /// How many more data regions may be opened.
+    pub fn region_book(&self) -> u64
+        ensures { result ≡ self.now.limits.regions }
+    {
+        self.config.regions()
+    }
+
+    /// How many events there were in all.
+    pub fn events(&self) -> u64
+        ensures { result ≡ event_count self.now.history }
+    {
+        self.trace.len() as u64
+    }
+
+    /// How many more events there may be.
+    pub fn ticket_book(&self) -> u64
+        ensures { result ≡ self.now.limits.tickets - event_count self.now.history }
+    {
+        self.config.tickets() - self.events()
+    }
+
+    /// The stored events, in the order in which they came.
+    pub fn trace(&self) -> &[Event]
+        ensures { result.now ≡ self.now.history.trace }
+    {
+        &self.trace
+    }
+
+    /// The limits.
+    pub fn config(&self) -> &Config
+        ensures { result.now ≡ self.now.limits }
+    {
+        &self.config
+    }
+}

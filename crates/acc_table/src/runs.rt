@@ -1,0 +1,43 @@
+//! A list of turns on a table.
+
+ghost use Rattle.std.specs.Prelude.{◌≡◌, IfOk, IfErr};
+ghost use Rattle.acc_base.specs.declared.faults.Fault.TheVariants.{Memory};
+ghost use Rattle.acc_base.specs.Calls.{judge};
+ghost use Rattle.acc_table.specs.Turns.{asked_by, MayAnswer, IsRun};
+
+use crate::calls::{Answer, Call, Turn};
+use crate::tables::Table;
+use acc_base::Fault;
+
+impl Table {
+    /// Takes the turns one after the other, and answers each: refused turns change nothing, and the next one follows.
+    ///
+    /// # Errors
+    ///
+    /// [`Fault::Memory`] alone, before the first turn: nothing was run.
+    pub fn run(&mut self, turns: Vec<Turn>) -> Result<Vec<Answer>, Fault>
+        ensures ran { IfOk result (λ answers. IsRun self.old turns.items answers.items self.new) }
+        ensures err { IfErr result (λ fault. (fault ≡ Memory) × (self.new ≡ self.old)) }
+    {
+        let mut answers = Vec::with_capacity(*self.trace.allocator(), turns.len())?;
+        for turn in turns {
+            let answer = self.take_turn(turn);
+            answers.push_reserved(answer);
+        }
+        Ok(answers)
+    }
+
+    /// Takes one turn.
+    fn take_turn(&mut self, turn: Turn) -> Answer
+        ensures { MayAnswer self.old (judge self.old (asked_by turn)) result self.new }
+    {
+        let Turn::Do(directive) = turn;
+        match self.apply(Call::Do(directive)) {
+            Ok(_) => Answer::Replied {
+                number: 0,
+                count: 0,
+            },
+            Err((_, fault)) => Answer::Refused(fault),
+        }
+    }
+}

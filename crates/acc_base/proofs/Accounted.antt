@@ -18,7 +18,7 @@ use Rattle.acc_base.specs.Judge.{◌>>◌, few_items, directive_event, enter_dat
 use Rattle.acc_base.specs.Calls.{History, World, Request, Do, judge, ticket, trace_room, world_after, new_world, event_count}
 use Rattle.acc_base.specs.History.{IsLegal, AreLegal, dynamic_in}
 use Rattle.acc_base.specs.Accounts.{IsTraced, IsHistoryLegal, IsAccounted}
-use Rattle.acc_base.proofs.Tests.{bind_ok, then_ok, ok_same, refused_not}
+use Rattle.acc_base.proofs.Results.{bind_ok, then_ok, ok_same, refused_not}
 use Rattle.acc_base.proofs.Elements.{AllByRecursion-both}
 use Rattle.acc_base.proofs.Lookups.{at-own}
 use Rattle.acc_base.proofs.Walked.{records-after}

@@ -4,7 +4,7 @@ use Rattle.std.specs.Prelude.{◌==◌, unwrap_or, option_map, not, nat_lt, IsSo
 use Rattle.std.proofs.lemmas.Bool.Decides.{nat_tests}
 use Rattle.acc_base.specs.declared.mappings.Range.{Range}
 use Rattle.acc_base.specs.Ranges.{range_of, changed_at, with_range, without_range}
-use Rattle.acc_base.proofs.Tests.{equal, equal_self}
+use Rattle.acc_base.proofs.Results.{equal, equal_self}
 
 -- a number that is read of the range of a block, and zero where there is none
 abbrev pub read_of : (Range → ℕ) → ℕ → List Range → ℕ

@@ -3,7 +3,7 @@ use Rattle.std.proofs.Common.{suc, ◌≡◌, refl, Bool, true, false, cond, Lis
 use Rattle.std.specs.Prelude.{map, find, filter, Contains, IfSome}
 use Rattle.std.specs.List.{list_all, AllByRecursion}
 use Rattle.acc_base.specs.Accounts.{AreApart}
-use Rattle.acc_base.proofs.Tests.{and_true}
+use Rattle.acc_base.proofs.Results.{and_true}
 
 -- ---- each element
 

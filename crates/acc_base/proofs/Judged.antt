@@ -20,7 +20,7 @@ use Rattle.acc_base.specs.Records.{Records}
 use Rattle.acc_base.specs.Ranges.{where_is, range_of, dynamic_of}
 use Rattle.acc_base.specs.Blocks.{rounded, place_for}
 use Rattle.acc_base.specs.Judge.{◌>>◌, refuse_if, section_checked, born_at, enter_data_at, exit_data_at, ends_after_drop, enter_data_item, exit_data_item}
-use Rattle.acc_base.proofs.Tests.{chosen, then_ok, ok_same, refused_not, not_false, equal_self}
+use Rattle.acc_base.proofs.Results.{chosen, then_ok, ok_same, refused_not, not_false, equal_self}
 use Rattle.acc_base.proofs.Elements.{find_passes, find_none}
 use Rattle.acc_base.proofs.Where.{IsInside, inside_says}
 

@@ -1,4 +1,4 @@
-pub mod Tests
+pub mod Results
 pub mod Elements
 pub mod Lookups
 pub mod Where

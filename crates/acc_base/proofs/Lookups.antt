@@ -4,7 +4,7 @@ use Rattle.std.specs.Prelude.{◌==◌, map, find, filter, not, option_map}
 use Rattle.std.specs.List.{AllByRecursion}
 use Rattle.std.proofs.lemmas.Bool.Decides.{nat_tests}
 use Rattle.acc_base.specs.Accounts.{AreApart}
-use Rattle.acc_base.proofs.Tests.{equal, equal_self}
+use Rattle.acc_base.proofs.Results.{equal, equal_self}
 use Rattle.acc_base.proofs.Elements.{AllByRecursion-both}
 
 module _ {X : Type 0} (number : X → ℕ) where

@@ -23,7 +23,7 @@ use Rattle.acc_base.specs.Accounts.{IsMemoryOf, AreMemoriesSized}
 use Rattle.std.specs.List.{AllZip}
 use Rattle.std.proofs.lemmas.List.{length-replicate}
 use Rattle.acc_base.specs.Section.{covers}
-use Rattle.acc_base.proofs.Tests.{equal_self}
+use Rattle.acc_base.proofs.Results.{equal_self}
 use Rattle.acc_base.proofs.Elements.{AllByRecursion-weaker}
 
 -- ---- memories of blocks that are there

@@ -7,7 +7,7 @@ use Rattle.std.proofs.lemmas.Bool.Decides.{nat_tests}
 use Rattle.acc_base.specs.declared.mappings.Block.{Block}
 use Rattle.acc_base.specs.Section.{device_base}
 use Rattle.acc_base.specs.Blocks.{place_for, fits_at, is_clear_of, least, least_of, block_end, size_of, rounded, Fits, IsFree, IsPlaceFor}
-use Rattle.acc_base.proofs.Tests.{and_true, tested}
+use Rattle.acc_base.proofs.Results.{and_true, tested}
 use Rattle.acc_base.proofs.Elements.{AllByRecursion-both, AllByRecursion-filter, AllByRecursion-weaker, list_all-from, list_all-to}
 
 -- ---- the test of one place, by addresses

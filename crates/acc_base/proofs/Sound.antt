@@ -15,7 +15,7 @@ use Rattle.acc_base.specs.Ranges.{range_of, dynamic_of, structured_of, with_rang
 use Rattle.acc_base.specs.Blocks.{rounded, fits_at, is_clear_of, block_end, block_at, without_block}
 use Rattle.acc_base.specs.Walk.{records_after_birth, records_after_end, with_range_changed, after_entered, after_exited}
 use Rattle.acc_base.specs.Accounts.{AreApart, IsInHost, IsBelow, AreRangesApart, IsOnDevice, IsClearOf, AreBlocksApart, IsMapped, HasOneBlockEach}
-use Rattle.acc_base.proofs.Tests.{and_true, equal}
+use Rattle.acc_base.proofs.Results.{and_true, equal}
 use Rattle.acc_base.proofs.Elements.{AllByRecursion-weaker, AllByRecursion-both, AllByRecursion-filter, AllByRecursion-passed, AllByRecursion-map, AllByRecursion-append, AreApart-filter, AreApart-push, AreApart-map, list_all-from, found_has}
 use Rattle.acc_base.proofs.Lookups.{change_at, number-change, at-changed, at-without_other, at-push_there, at-push_new, at-own, at-none}
 use Rattle.acc_base.proofs.Counting.{with_there, with_new}

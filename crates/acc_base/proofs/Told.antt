@@ -20,7 +20,7 @@ use Rattle.acc_base.specs.Ranges.{dynamic_of, structured_of, new_range, raised, 
 use Rattle.acc_base.specs.Walk.{records_after_birth, records_after_end, with_range_changed, after_entered, after_exited, after_all_entered, after_all_exited, walk, walk_all}
 use Rattle.acc_base.specs.Judge.{◌>>=◌, did_of, enter_data_item, exit_data_item, enter_data_items, exit_data_items}
 use Rattle.acc_base.specs.History.{counts, dynamic_dropped, dynamic_after, IsLegal, AreLegal}
-use Rattle.acc_base.proofs.Tests.{bind_ok, ok_same}
+use Rattle.acc_base.proofs.Results.{bind_ok, ok_same}
 use Rattle.acc_base.proofs.Counting.{changed_read, with_read, without_read}
 use Rattle.acc_base.proofs.Judged.{IsEntered, IsExited, entered_says, exited_says}
 use Rattle.acc_base.proofs.Sound.{IsSound, entered_sound, exited_sound, new_sound, fresh}

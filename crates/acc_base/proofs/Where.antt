@@ -9,7 +9,7 @@ use Rattle.acc_base.specs.declared.mappings.Range.{Range}
 use Rattle.acc_base.specs.declared.mappings.Found.TheVariants.{Empty, Inside, Partly, Absent}
 use Rattle.acc_base.specs.Section.{is_empty, is_within, is_apart, IsWithin, IsApart, Covers}
 use Rattle.acc_base.specs.Ranges.{where_is, range_around, found_in, IsPlacedAt, IsClear, IsInNone}
-use Rattle.acc_base.proofs.Tests.{and_false}
+use Rattle.acc_base.proofs.Results.{and_false}
 use Rattle.acc_base.proofs.Elements.{AllByRecursion-weaker, find_passes, find_none, list_all-from}
 
 -- ---- two sections

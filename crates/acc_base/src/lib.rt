@@ -20,3 +20,6 @@ pub use faults::{Fault, ScriptFault};
 pub use items::{EnterClause, ExitClause, Item, Section};
 pub use lists::List;
 pub use mappings::{Block, Counters, Found, Range};
+
+#[cfg(test)]
+mod tests;

@@ -25,7 +25,7 @@ use Rattle.acc_base.specs.Bytes.{after}
 use Rattle.acc_base.specs.Judge.{◌>>=◌, ◌>>◌, did_of, item_count, few_items, directive_event, enter_data_item, enter_data_items}
 use Rattle.acc_base.specs.Calls.{World, Do, judge, ticket, trace_room, world_after, new_world}
 use Rattle.acc_base.specs.Accounts.{IsInHost, IsOnDevice, IsTraced}
-use Rattle.acc_base.proofs.Tests.{bind_ok, then_ok, ok_same, refused_not}
+use Rattle.acc_base.proofs.Results.{bind_ok, then_ok, ok_same, refused_not}
 use Rattle.acc_base.proofs.Elements.{AllByRecursion-weaker, AllByRecursion-both}
 use Rattle.acc_base.proofs.Judged.{IsEntered, entered_says}
 use Rattle.acc_base.proofs.Walked.{records-after}

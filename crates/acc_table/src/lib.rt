@@ -16,3 +16,6 @@ mod tables;
 
 pub use calls::{Answer, Call, Mapped, Reply, Turn};
 pub use tables::Table;
+
+#[cfg(test)]
+mod tests;

@@ -1,0 +1,4 @@
+pub mod Gives
+pub mod Takes
+pub mod Rejoins
+pub mod Fronts

@@ -1,0 +1,15 @@
+//! The script language of the data environment: a script is read as bytes, run line by line on a table, and answered
+//! in bytes.
+//!
+//! `specs/` says what a script means, apart from any code: its lines, what a line says, and what it prints.
+#![tactic(auto)]
+
+mod ends;
+mod memory;
+mod reading;
+mod streams;
+mod writing;
+
+pub use ends::{Sink, Source};
+pub use memory::{MemorySink, MemorySource};
+pub use streams::{FromRead, ToWrite};

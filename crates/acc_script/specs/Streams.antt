@@ -1,6 +1,6 @@
 -- What a source in memory has still to give, and what the wrappers of std's readers and writers tell.
-use Rattle.std.specs.Prelude.{ℕ, ◌-◌, Bool, List, ◌++◌, length, take, Option, Some, None}
-use Rattle.acc_script.specs.Told.{Given, Taken}
+use Rattle.std.specs.Prelude.{ℕ, ◌-◌, Bool, List, ◌++◌, length, take, Option, Some, None, option_map}
+use Rattle.acc_script.specs.Told.{Given, Taken, nothing_given}
 
 -- what a source in memory gave, and what it has left
 pub record Offered : Type 0 where
@@ -12,6 +12,10 @@ abbrev pub given_of : Option (List ℕ) → Option (List ℕ) → Bool → ℕ �
 given_of None left ended failures = None
 given_of (Some all) None ended failures = None
 given_of (Some all) (Some left) ended failures = Some (record { bytes = take (length all - length left) all; ended = ended; failures = failures })
+
+-- before the first read nothing was given
+abbrev pub given_at_first : Option (List ℕ) → Option Given
+given_at_first all = option_map (λ _. nothing_given) all
 
 -- what was given, and then what is left
 abbrev pub rejoined : Option (List ℕ) → Option (List ℕ) → Option (List ℕ)

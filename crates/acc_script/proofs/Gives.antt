@@ -1,9 +1,8 @@
 -- What a source gives over several reads.
-use Rattle.std.proofs.Common.{◌≡◌, ℕ, zero, suc, ◌+◌, ◌<◌, ◌≤◌, Bool, true, false, List, [], ◌∷◌, ◌++◌, length, take, drop, Option, Some, None, refl, sym, ap, ◌∙◌, append_assoc, arith, length-append}
-use Rattle.std.specs.Prelude.{IfSome}
+use Rattle.std.proofs.Common.{◌≡◌, ℕ, ◌+◌, ◌≤◌, List, ◌++◌, length, take, drop, Option, Some, None, refl, sym, ap, ◌∙◌, append_assoc}
 use Rattle.std.proofs.lemmas.List.{take_at, take-append-le, take-append-drop, drop-drop}
 use Rattle.std.proofs.Math.Seq.{take-add}
-use Rattle.acc_script.specs.Told.{Given, Gave, GaveAll, FailedOrPassed, Becomes, after_read}
+use Rattle.acc_script.specs.Told.{Given, Gave, GaveAll, Becomes, after_read}
 
 -- the bytes up to a place, and as many again
 pub given_further : (at n : ℕ) (bytes given rest : List ℕ) → given ≡ take n (drop at bytes) → length given ≡ n → take (at + n) bytes ≡ take at bytes ++ take n (given ++ rest)

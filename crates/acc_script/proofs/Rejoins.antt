@@ -1,9 +1,9 @@
 -- A reader of std gives what it had at first, less what is left.
-use Rattle.std.proofs.Common.{◌≡◌, ℕ, ◌+◌, ◌-◌, ◌<◌, ◌≤◌, Bool, List, [], ◌∷◌, ◌++◌, length, take, drop, Option, Some, None, refl, sym, ap, ◌∙◌, append_assoc, arith, length-append}
+use Rattle.std.proofs.Common.{◌≡◌, ℕ, ◌-◌, Bool, List, ◌++◌, length, take, Option, Some, None, refl, sym, ap, ◌∙◌, append_assoc, arith, length-append}
 use Rattle.std.proofs.lemmas.List.{take_at}
 use Rattle.std.specs.Io.KnownBytes.{Consumes, Keeps}
 use Rattle.acc_script.specs.Streams.{given_of, rejoined}
-use Rattle.acc_script.specs.Told.{Given, Becomes, after_read, one_more}
+use Rattle.acc_script.specs.Told.{Given, Becomes, one_more}
 
 abbrev some_list : List ℕ → Option (List ℕ)
 some_list x = Some x

@@ -4,10 +4,16 @@
 //! `specs/` says what a script means, apart from any code: its lines, what a line says, and what it prints.
 #![tactic(auto)]
 
+mod arrays;
+mod clauses;
 mod ends;
+mod lines;
 mod memory;
 mod reading;
+mod statements;
 mod streams;
+mod tokens;
+mod troubles;
 mod writing;
 
 pub use ends::{Sink, Source};

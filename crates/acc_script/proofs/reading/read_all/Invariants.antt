@@ -1,5 +1,5 @@
-use Rattle.std.proofs.Common.{◌≡◌, ◌++◌, ◌-◌, ◌≤◌, length, vec_len}
-use Rattle.acc_script.specs.Told.{Given, Gave}
+use Rattle.std.proofs.Common.{◌≡◌, ◌-◌, length, vec_len}
+use Rattle.acc_script.specs.Told.{Gave}
 use Rattle.acc_script.proofs.reading.read_all.Given as goal
 
 abbrev pub invariant-loop-piece : goal.invariant-loop-piece

@@ -1,5 +1,3 @@
-use Rattle.std.proofs.Common.{rules, get_or}
-use Rattle.acc_script.specs.Told.{TookFront}
 use Rattle.acc_script.proofs.Fronts.{front_of_pieces}
 use Rattle.acc_script.proofs.writing.write_pieces.Goals as goal
 

@@ -1,10 +1,11 @@
 -- A sink that failed in one of several pieces took a front of all of them.
-use Rattle.std.proofs.Common.{◌≡◌, ℕ, suc, ◌<◌, List, [], ◌++◌, length, get_or, take, drop, Option, Some, None, refl, sym, ap, ◌∙◌, append_assoc}
+use Rattle.std.proofs.Common.{Bool, true, false, ◌≡◌, ℕ, suc, ◌<◌, List, [], ◌++◌, length, get_or, take, drop, Option, Some, None, refl, sym, ap, ◌∙◌, append_assoc}
 use Rattle.std.specs.List.{flat_map}
 use Rattle.std.proofs.lemmas.List.{take-append-drop, append-nil}
 use Rattle.std.proofs.lemmas.List.Concat.{flat_map-append, flat_map-cons}
 use Rattle.std.proofs.Math.Seq.{drop-cons}
 use Rattle.acc_script.specs.Told.{Taken, Took, TookFront, one_more}
+use Rattle.acc_script.specs.Ends.{Wrote}
 
 pub Took-then_front : (a b c : Option Taken) (xs ys more : List ℕ) → Took a b xs → TookFront b c ys → TookFront a c (xs ++ (ys ++ more))
 Took-then_front None b c xs ys more p q = tt
@@ -47,6 +48,11 @@ front_then (Some a) (Some b) (Some c) xs ys p q = (
   q.3 ∙ ap (λ (x : List ℕ). x ++ q.0) p.0 ∙ append_assoc a.bytes xs q.0,
   q.4 ∙ ap one_more p.1,
 )
+
+-- a text that was written, and what was then written of another
+pub wrote_then : (a b c : Option Taken) (xs ys : List ℕ) (done : Bool) → Took a b xs → Wrote b c ys done → Wrote a c (xs ++ ys) done
+wrote_then a b c xs ys true p q = Took_then a b c xs ys p q
+wrote_then a b c xs ys false p q = front_then a b c xs ys p q
 
 pub took_nothing : (a : Option Taken) → Took a a []
 took_nothing None = tt

@@ -6,3 +6,5 @@ pub mod Numbers
 pub mod Pieces
 pub mod Turns
 pub mod NameEntries
+pub mod Digits
+pub mod Parts

@@ -10,3 +10,4 @@ pub mod Naming
 pub mod Clauses
 pub mod Statements
 pub mod Meanings
+pub mod Texts

@@ -4,12 +4,15 @@
 //! `specs/` says what a script means, apart from any code: its lines, what a line says, and what it prints.
 #![tactic(auto)]
 
+mod addresses;
 mod arrays;
 mod clauses;
 mod ends;
 mod lines;
+mod mappings;
 mod memory;
 mod reading;
+mod refusals;
 mod statements;
 mod streams;
 mod tokens;

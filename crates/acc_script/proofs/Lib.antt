@@ -8,3 +8,5 @@ pub mod Turns
 pub mod NameEntries
 pub mod Digits
 pub mod Parts
+pub mod LineByLine
+pub mod RisingRanges

@@ -11,3 +11,6 @@ pub mod Clauses
 pub mod Statements
 pub mod Meanings
 pub mod Texts
+pub mod Scripts
+pub mod Runs
+pub mod Sessions

@@ -3,11 +3,11 @@ use Rattle.std.specs.Prelude.{ℕ, false, List, ◌++◌, codes}
 use Rattle.std.specs.Fmt.{decimal, digits}
 use Rattle.std.specs.List.{flat_map}
 use Rattle.acc_base.specs.declared.faults.Fault.{Fault}
-use Rattle.acc_base.specs.declared.mappings.Range.{Range}
-use Rattle.acc_base.specs.declared.mappings.Block.{Block}
 use Rattle.acc_base.specs.Faults.{number_of, name_of, fault_text}
-use Rattle.acc_base.specs.Blocks.{place_of, used_bytes}
+use Rattle.acc_base.specs.Blocks.{used_bytes}
 use Rattle.acc_base.specs.Calls.{World, event_count}
+use Rattle.acc_table.specs.declared.calls.Mapped.{Mapped}
+use Rattle.acc_table.specs.Queries.{mapped_as}
 
 abbrev pub address : ℕ → List ℕ
 address n = codes "0x" ++ digits 16 false n
@@ -38,8 +38,9 @@ mapping_text start len place = codes "map " ++ (address start ++ (codes " " ++ (
 abbrev pub counters_text : ℕ → ℕ → List ℕ
 counters_text structured dynamic = codes " structured " ++ (decimal structured ++ (codes " dynamic " ++ (decimal dynamic ++ codes "\n")))
 
-unfoldable pub range_text : List Block → Range → List ℕ
-range_text blocks r = mapping_text r.section.start r.section.len (place_of r.block blocks) ++ counters_text r.structured r.dynamic
+-- a mapped range
+unfoldable pub mapped_text : Mapped → List ℕ
+mapped_text m = mapping_text m.start m.len m.place ++ counters_text m.structured m.dynamic
 
 -- how many regions are open, and how many events there were
 abbrev pub totals_text : ℕ → ℕ → List ℕ
@@ -49,5 +50,5 @@ totals_text regions events = codes "regions " ++ (decimal regions ++ (codes " ev
 unfoldable pub report_text : World → List ℕ
 report_text w =
     sizes_text w.limits.host w.limits.device (used_bytes w.state.records.blocks)
-    ++ flat_map (range_text w.state.records.blocks) w.state.records.ranges
+    ++ flat_map (λ r. mapped_text (mapped_as w.state.records.blocks r)) w.state.records.ranges
     ++ totals_text 0 (event_count w.history)

@@ -7,13 +7,18 @@
 mod addresses;
 mod arrays;
 mod clauses;
+mod effects;
 mod ends;
 mod lines;
 mod mappings;
 mod memory;
 mod reading;
 mod refusals;
+mod reports;
+mod runs;
+mod sessions;
 mod statements;
+mod statuses;
 mod streams;
 mod tokens;
 mod troubles;
@@ -21,4 +26,10 @@ mod writing;
 
 pub use ends::{Sink, Source};
 pub use memory::{MemorySink, MemorySource};
+pub use reports::report;
+pub use runs::run;
+pub use statuses::Status;
 pub use streams::{FromRead, ToWrite};
+
+#[cfg(test)]
+mod tests;

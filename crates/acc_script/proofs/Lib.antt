@@ -1,0 +1,12 @@
+pub mod Gives
+pub mod Takes
+pub mod Rejoins
+pub mod Fronts
+pub mod Numbers
+pub mod Pieces
+pub mod Turns
+pub mod NameEntries
+pub mod Digits
+pub mod Parts
+pub mod LineByLine
+pub mod RisingRanges

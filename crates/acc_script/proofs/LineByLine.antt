@@ -1,0 +1,108 @@
+-- One more line of a script.
+use Rattle.std.proofs.Common.{◌≡◌, ℕ, ◌+◌, Bool, List, [], ◌∷◌, ◌++◌, length, take, drop, Option, Result, Ok, Err, refl, sym, ap, subst, ◌∙◌}
+use Rattle.std.specs.Prelude.{◌||◌}
+use Rattle.std.specs.List.{concat}
+use Rattle.std.proofs.lemmas.List.{append-nil, take-append-drop, drop-drop, nil_from_length}
+use Rattle.std.proofs.lemmas.List.Folds.{concat-append}
+use Rattle.std.proofs.Math.Seq.{take-add}
+use Rattle.acc_base.specs.declared.faults.Fault.{Fault}
+use Rattle.acc_base.specs.declared.faults.Fault.TheVariants.{Memory, Script, Write}
+use Rattle.acc_base.specs.declared.faults.ScriptFault.{ScriptFault}
+use Rattle.acc_script.specs.declared.effects.Effect.{Effect}
+use Rattle.acc_script.specs.Told.{Taken, Took, TookFront}
+use Rattle.acc_script.specs.Lines.{lines_of}
+use Rattle.acc_script.specs.Statements.{Meaning, line_at}
+use Rattle.acc_script.specs.Scripts.{State, Turned, turned, is_refused, line_turned, line_text, Transcript, Ended, Faulty, noted, transcript_from}
+use Rattle.acc_script.specs.Runs.{RanLine, LostLine, LineRuns, Played}
+use Rattle.acc_script.proofs.Fronts.{Took_then, Took-then_front}
+
+-- ---- a line
+
+abbrev some_turn : Turned → Result Turned ScriptFault
+some_turn turn = Ok turn
+
+turn_is : (s : State) (line : List ℕ) (meaning : Meaning) (turn : Turned) → line_at s.layout line ≡ Ok meaning → turned s meaning ≡ turn → line_turned s line ≡ Ok turn
+unfolding line_turned
+turn_is s line meaning turn said is = rw said (ap some_turn is)
+
+-- a line that says something was run
+pub line_ran : (number : ℕ) (s after : State) (line : List ℕ) (old new : Option Taken) (meaning : Meaning) (effect : Effect) (refused : Bool)
+    → line_at s.layout line ≡ Ok meaning → turned s meaning ≡ record { state = after; effect = effect } → refused ≡ is_refused effect → Took old new (line_text number (record { state = after; effect = effect }))
+    → RanLine number s line old new after refused
+line_ran number s after line old new meaning effect refused said is refused_is wrote =
+    record { turn = record { state = after; effect = effect }; is = turn_is s line meaning _ said is; state = refl; refused_is = refused_is; wrote = wrote }
+
+pub line_lost : (number : ℕ) (s after : State) (line : List ℕ) (old new : Option Taken) (meaning : Meaning) (effect : Effect)
+    → line_at s.layout line ≡ Ok meaning → turned s meaning ≡ record { state = after; effect = effect } → TookFront old new (line_text number (record { state = after; effect = effect }))
+    → LostLine number s line old new
+line_lost number s after line old new meaning effect said is wrote = record { turn = record { state = after; effect = effect }; is = turn_is s line meaning _ said is; wrote = wrote }
+
+-- ---- all lines
+
+-- the transcript without the text of the first lines
+abbrev pub rest_of : ℕ → Transcript → Transcript
+rest_of done all = record { texts = drop done all.texts; ending = all.ending }
+
+all_texts : (done : ℕ) (all : Transcript) → drop done all.texts ≡ [] → take done all.texts ≡ all.texts
+all_texts done all none = sym (append-nil (take done all.texts)) ∙ ap (λ (texts : List (List ℕ)). take done all.texts ++ texts) (sym none) ∙ take-append-drop done all.texts
+
+module _ (done : ℕ) (s : State) (refused : Bool) (lines : List (List ℕ)) (all : Transcript) (left : transcript_from (done + 1) s refused lines ≡ rest_of done all) where
+  -- no line is left
+  pub ends_well : (a b : Option Taken) → lines ≡ [] → Took a b (concat (take done all.texts)) → (all.ending ≡ Ended refused) × Took a b (concat all.texts)
+  ends_well a b none wrote =
+      let P : List (List ℕ) → Type 0 = λ ls. transcript_from (done + 1) s refused ls ≡ rest_of done all in
+      let now : record { texts = []; ending = Ended refused } ≡ rest_of done all = subst P none left in
+      (sym (ap (λ (t : Transcript). t.ending) now), subst (λ (texts : List (List ℕ)). Took a b (concat texts)) (all_texts done all (sym (ap (λ (t : Transcript). t.texts) now))) wrote)
+
+  module _ (line : List ℕ) (others : List (List ℕ)) (first : lines ≡ line ∷ others) where
+    -- what a line leaves of the transcript
+    abbrev after_line : Turned → Transcript
+    after_line turn = transcript_from (done + 1 + 1) turn.state (refused || is_refused turn.effect) others
+
+    left_is : (r : Result Turned ScriptFault) → line_turned s line ≡ r → noted (done + 1) r after_line ≡ rest_of done all
+    left_is r is =
+        let P : Result Turned ScriptFault → Type 0 = λ r. noted (done + 1) r after_line ≡ rest_of done all in
+        let Q : List (List ℕ) → Type 0 = λ ls. transcript_from (done + 1) s refused ls ≡ rest_of done all in
+        subst P is (subst Q first left)
+
+    pub left_more : (turn : Turned) → line_turned s line ≡ Ok turn → after_line turn ≡ rest_of (done + 1) all
+    left_more turn is =
+        ap (λ (t : Transcript). rest_of 1 t) (left_is (Ok turn) is) ∙ ap (λ (texts : List (List ℕ)). record { texts = texts; ending = all.ending }) (drop-drop 1 done all.texts)
+
+    texts_more : (turn : Turned) → line_turned s line ≡ Ok turn → take (done + 1) all.texts ≡ take done all.texts ++ line_text (done + 1) turn ∷ []
+    texts_more turn is = take-add done 1 all.texts ∙ ap (λ (t : Transcript). take done all.texts ++ take 1 t.texts) (sym (left_is (Ok turn) is))
+
+    pub took_line : (a b c : Option Taken) (turn : Turned) → line_turned s line ≡ Ok turn → Took a b (concat (take done all.texts)) → Took b c (line_text (done + 1) turn) → Took a c (concat (take (done + 1) all.texts))
+    took_line a b c turn is p q =
+        let text = line_text (done + 1) turn in
+        let joined : concat (take (done + 1) all.texts) ≡ concat (take done all.texts) ++ text =
+        ap concat (texts_more turn is) ∙ concat-append (take done all.texts) (text ∷ []) ∙ ap (λ (x : List ℕ). concat (take done all.texts) ++ x) (append-nil text) in
+        rw joined (Took_then a b c (concat (take done all.texts)) text p q)
+
+    -- the sink failed in the text of the line
+    lost_text : (a b c : Option Taken) (turn : Turned) → line_turned s line ≡ Ok turn → Took a b (concat (take done all.texts)) → TookFront b c (line_text (done + 1) turn) → TookFront a c (concat all.texts)
+    lost_text a b c turn is p q =
+        let text = line_text (done + 1) turn in
+        let next = after_line turn in
+        let whole : concat all.texts ≡ concat (take done all.texts) ++ (text ++ concat next.texts) =
+        ap concat (sym (take-append-drop done all.texts)) ∙ concat-append (take done all.texts) (drop done all.texts) ∙ ap (λ (t : Transcript). concat (take done all.texts) ++ concat t.texts) (sym (left_is (Ok turn) is)) in
+        rw whole (Took-then_front a b c (concat (take done all.texts)) text (concat next.texts) p q)
+
+    -- the line is at fault
+    ends_faulty : (a b : Option Taken) (kind : ScriptFault) → line_turned s line ≡ Err kind → Took a b (concat (take done all.texts)) → (all.ending ≡ Faulty (done + 1) kind) × Took a b (concat all.texts)
+    ends_faulty a b kind is wrote =
+        let now : record { texts = []; ending = Faulty (done + 1) kind } ≡ rest_of done all = left_is (Err kind) is in
+        (sym (ap (λ (t : Transcript). t.ending) now), subst (λ (texts : List (List ℕ)). Took a b (concat texts)) (all_texts done all (sym (ap (λ (t : Transcript). t.texts) now))) wrote)
+
+    -- a line that ends the run
+    pub line_fails : (a b c : Option Taken) (after : State) (e : Fault) → Took a b (concat (take done all.texts)) → LineRuns (done + 1) s line b c after (Err e) → Played all a c (Err e)
+    line_fails a b c after Memory p f = (done, subst (λ (x : Option Taken). Took a x (concat (take done all.texts))) (sym f) p)
+    line_fails a b c after (Script at kind) p f =
+        let ended = ends_faulty a b kind f.1 p in
+        (rw f.0 ended.0, subst (λ (x : Option Taken). Took a x (concat all.texts)) (sym f.2) ended.1)
+    line_fails a b c after Write p f = lost_text a b c f.turn f.is p f.wrote
+    line_fails a b c after _ p f = absurd f
+
+pub lines_none : (rest : List ℕ) → length rest ≡ 0 → lines_of rest ≡ []
+unfolding lines_of
+lines_none rest e = ap lines_of (nil_from_length rest e)

@@ -1,0 +1,33 @@
+-- Texts as the parts that are written one after the other.
+use Rattle.std.proofs.Common.{◌≡◌, ℕ, List, ◌++◌, refl, sym, append_assoc}
+use Rattle.std.specs.Prelude.{codes}
+use Rattle.std.specs.Fmt.{decimal}
+use Rattle.acc_base.specs.declared.faults.Fault.{Fault}
+use Rattle.acc_base.specs.Faults.{number_of, name_of, fields_text}
+use Rattle.std.specs.List.{flat_map}
+use Rattle.acc_base.specs.Blocks.{used_bytes}
+use Rattle.acc_base.specs.Calls.{World, event_count}
+use Rattle.acc_table.specs.Queries.{mapped_as}
+use Rattle.acc_script.specs.Texts.{refusal_start, refusal_text, sizes_text, mapped_text, totals_text, report_text}
+
+regrouped : (line number name fields : List ℕ) → ((codes "line " ++ (line ++ (codes ": refused " ++ (number ++ (codes " " ++ name))))) ++ fields) ++ codes "\n" ≡ codes "line " ++ (line ++ (codes ": refused " ++ ((number ++ codes " " ++ name ++ fields) ++ codes "\n")))
+regrouped line number name fields = simp append_assoc
+
+pub refusal_parts : (line : ℕ) (fault : Fault) → refusal_text line fault ≡ (refusal_start line fault ++ fields_text fault) ++ codes "\n"
+unfolding refusal_text
+refusal_parts line fault = sym (regrouped (decimal line) (decimal (number_of fault)) (name_of fault) (fields_text fault))
+
+-- ---- the report
+
+abbrev pub sizes_of : World → List ℕ
+sizes_of w = sizes_text w.limits.host w.limits.device (used_bytes w.state.records.blocks)
+
+abbrev pub ranges_of : World → List ℕ
+ranges_of w = flat_map (λ r. mapped_text (mapped_as w.state.records.blocks r)) w.state.records.ranges
+
+abbrev pub totals_of : World → List ℕ
+totals_of w = totals_text 0 (event_count w.history)
+
+pub report_parts : (w : World) → report_text w ≡ (sizes_of w ++ ranges_of w) ++ totals_of w
+unfolding report_text
+report_parts w = refl

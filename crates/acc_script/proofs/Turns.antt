@@ -1,0 +1,74 @@
+-- One more turn of a loop over the text of a line.
+use Rattle.std.proofs.Common.{◌≡◌, ℕ, suc, ◌-◌, ◌+◌, ◌≤◌, ◌<◌, true, false, List, [], ◌∷◌, ◌++◌, Option, Result, Ok, Err, refl, ◌∙◌, arith}
+use Rattle.std.specs.Prelude.{if◌then◌else◌}
+use Rattle.acc_base.specs.declared.faults.ScriptFault.{ScriptFault}
+use Rattle.acc_base.specs.declared.faults.ScriptFault.TheVariants.{Syntax}
+use Rattle.acc_base.specs.declared.items.Section.{Section}
+use Rattle.acc_base.specs.declared.items.Item.{Item}
+use Rattle.acc_script.specs.declared.troubles.Trouble.{Trouble}
+use Rattle.acc_script.specs.declared.troubles.Trouble.TheVariants as trouble
+use Rattle.acc_script.specs.Reading.{◌>>=◌, Fails}
+use Rattle.acc_script.specs.Tokens.{is_mark_next, is_at_end, skip_comma, comma}
+use Rattle.acc_script.specs.Layout.{Layout}
+use Rattle.acc_script.specs.Clauses.{section_at, item_of, items_at, clause_at, clauses_at}
+
+-- a step that failed ends the reading
+bind_fails : {A B : Type 0} (e : Trouble) (read : Result A ScriptFault) (f : A → Result B ScriptFault) → Fails e read → Fails e (read >>= f)
+bind_fails trouble.Memory read f h = tt
+bind_fails (trouble.Line kind) read f h = rw h refl
+
+module _ {C : Type 0} where
+  -- ---- items
+
+  -- what follows a section
+  abbrev after_section : ℕ → C → Layout → List (Item C) → Section × List ℕ → Result (List (Item C) × List ℕ) ScriptFault
+  after_section fuel clause layout before section =
+      if is_mark_next comma section.1
+      then items_at fuel clause layout (before ++ item_of clause section.0 ∷ []) (skip_comma section.1)
+      else Ok (before ++ item_of clause section.0 ∷ [], section.1)
+
+  items_turn : (n i : ℕ) (clause : C) (layout : Layout) (before : List (Item C)) (text : List ℕ) → i < n
+      → items_at (n - i) clause layout before text ≡ (section_at layout text >>= after_section (n - (i + 1)) clause layout before)
+  unfolding items_at
+  items_turn n i clause layout before text lt = let k : n - i ≡ suc (n - (i + 1)) = omega arith in rw k refl
+
+  pub items_none : (n i : ℕ) (clause : C) (layout : Layout) (before : List (Item C)) (text : List ℕ) → n ≤ i → items_at (n - i) clause layout before text ≡ Err Syntax
+  unfolding items_at
+  items_none n i clause layout before text le = let k : n - i ≡ 0 = omega arith in rw k refl
+
+  pub items_fail : (e : Trouble) (n i : ℕ) (clause : C) (layout : Layout) (before : List (Item C)) (text : List ℕ) → i < n → Fails e (section_at layout text) → Fails e (items_at (n - i) clause layout before text)
+  items_fail e n i clause layout before text lt h = rw (items_turn n i clause layout before text lt) (bind_fails e (section_at layout text) (after_section (n - (i + 1)) clause layout before) h)
+
+  pub items_done : (n i : ℕ) (clause : C) (layout : Layout) (before : List (Item C)) (text : List ℕ) (section : Section) (after : List ℕ) → i < n → section_at layout text ≡ Ok (section, after) → is_mark_next comma after ≡ false
+      → items_at (n - i) clause layout before text ≡ Ok (before ++ item_of clause section ∷ [], after)
+  items_done n i clause layout before text section after lt h m = items_turn n i clause layout before text lt ∙ rw (h, m) refl
+
+  pub items_go_on : (n i : ℕ) (clause : C) (layout : Layout) (before : List (Item C)) (text : List ℕ) (section : Section) (after : List ℕ) → i < n → section_at layout text ≡ Ok (section, after) → is_mark_next comma after ≡ true
+      → items_at (n - i) clause layout before text ≡ items_at (n - (i + 1)) clause layout (before ++ item_of clause section ∷ []) (skip_comma after)
+  items_go_on n i clause layout before text section after lt h m = items_turn n i clause layout before text lt ∙ rw (h, m) refl
+
+  -- ---- clauses
+
+  -- what follows a clause
+  abbrev after_clause : ℕ → (List ℕ → Option C) → Layout → List (Item C) × List ℕ → Result (List (Item C)) ScriptFault
+  after_clause fuel clause_of layout items = if is_at_end items.1 then Ok items.0 else clauses_at fuel clause_of layout items.0 (skip_comma items.1)
+
+  clauses_turn : (n i : ℕ) (clause_of : List ℕ → Option C) (layout : Layout) (before : List (Item C)) (text : List ℕ) → i < n
+      → clauses_at (n - i) clause_of layout before text ≡ (clause_at clause_of layout before text >>= after_clause (n - (i + 1)) clause_of layout)
+  unfolding clauses_at
+  clauses_turn n i clause_of layout before text lt = let k : n - i ≡ suc (n - (i + 1)) = omega arith in rw k refl
+
+  pub clauses_none : (n i : ℕ) (clause_of : List ℕ → Option C) (layout : Layout) (before : List (Item C)) (text : List ℕ) → n ≤ i → clauses_at (n - i) clause_of layout before text ≡ Err Syntax
+  unfolding clauses_at
+  clauses_none n i clause_of layout before text le = let k : n - i ≡ 0 = omega arith in rw k refl
+
+  pub clauses_fail : (e : Trouble) (n i : ℕ) (clause_of : List ℕ → Option C) (layout : Layout) (before : List (Item C)) (text : List ℕ) → i < n → Fails e (clause_at clause_of layout before text) → Fails e (clauses_at (n - i) clause_of layout before text)
+  clauses_fail e n i clause_of layout before text lt h = rw (clauses_turn n i clause_of layout before text lt) (bind_fails e (clause_at clause_of layout before text) (after_clause (n - (i + 1)) clause_of layout) h)
+
+  pub clauses_done : (n i : ℕ) (clause_of : List ℕ → Option C) (layout : Layout) (before items : List (Item C)) (text rest : List ℕ) → i < n → clause_at clause_of layout before text ≡ Ok (items, rest) → is_at_end rest ≡ true
+      → clauses_at (n - i) clause_of layout before text ≡ Ok items
+  clauses_done n i clause_of layout before items text rest lt h m = clauses_turn n i clause_of layout before text lt ∙ rw (h, m) refl
+
+  pub clauses_go_on : (n i : ℕ) (clause_of : List ℕ → Option C) (layout : Layout) (before items : List (Item C)) (text rest : List ℕ) → i < n → clause_at clause_of layout before text ≡ Ok (items, rest) → is_at_end rest ≡ false
+      → clauses_at (n - i) clause_of layout before text ≡ clauses_at (n - (i + 1)) clause_of layout items (skip_comma rest)
+  clauses_go_on n i clause_of layout before items text rest lt h m = clauses_turn n i clause_of layout before text lt ∙ rw (h, m) refl

@@ -1,0 +1,40 @@
+use Rattle.std.proofs.Common.{sym, ◌∙◌, arith}
+use Rattle.std.proofs.lemmas.Result.{err_from_is_err_and}
+use Rattle.std.proofs.lemmas.Bool.{eqb-true}
+use Rattle.acc_script.specs.Lines.{lines_of}
+use Rattle.acc_script.specs.Sessions.{state_of}
+use Rattle.acc_script.specs.Scripts.{transcript}
+use Rattle.acc_script.proofs.LineByLine.{line_fails, left_more, took_line, ends_well, lines_none}
+use Rattle.acc_script.proofs.runs.play.Goals as goal
+
+pub returns-in_err-is_refused : goal.returns-in_err-is_refused
+returns-in_err-is_refused g c =
+    let told = g.W.Sink.told in
+    let p = err_from_is_err_and c.from_residual-in_err-is_refused.result c.from_residual-in_err-is_refused.ensures.1 in
+    rw (p.1, p.2)
+    (line_fails c.lines.done (state_of c.lines.session) c.lines.refused (lines_of c.lines.rest.now) (transcript c.args.config c.args.input.now) c.lines.invariant.left c.next_line.result.0.now (lines_of c.next_line.result.1.now) c.next_line.ensures.line
+    (told c.args.writer.now) (told c.lines.writer) (told c.run_line.new.writer) (state_of c.run_line.new.session) c.in_err-is_refused.field-0.0 c.lines.invariant.wrote c.in_err-is_refused.ensures)
+
+pub lines-preserved : goal.lines-preserved
+lines-preserved g c =
+    let told = g.W.Sink.told in
+    let ran = c.in_ok-is_refused.ensures in
+    let all = transcript c.args.config c.args.input.now in
+    let s = state_of c.lines.session in
+    let lines = lines_of c.lines.rest.now in
+    let line = c.next_line.result.0.now in
+    let others = lines_of c.next_line.result.1.now in
+    let left = left_more c.lines.done s c.lines.refused lines all c.lines.invariant.left line others c.next_line.ensures.line ran.turn ran.is in
+    let wrote = took_line c.lines.done s c.lines.refused lines all c.lines.invariant.left line others c.next_line.ensures.line (told c.args.writer.now) (told c.lines.writer) (told c.run_line.new.writer) ran.turn ran.is c.lines.invariant.wrote ran.wrote in
+    record {
+      wrote = wrote;
+      left = rw (ran.state, ran.refused_is) left;
+      count = omega (arith, c.lines.invariant.count, c.next_line.ensures.shorter);
+    }
+
+pub returns : goal.returns
+returns g c =
+    let told = g.W.Sink.told in
+    let empty = lines_none c.lines.rest.now (eqb-true _ _ (sym c.is_empty.ensures ∙ c.lines-test.false)) in
+    let ended = ends_well c.lines.done (state_of c.lines.session) c.lines.refused (lines_of c.lines.rest.now) (transcript c.args.config c.args.input.now) c.lines.invariant.left (told c.args.writer.now) (told c.lines.writer) empty c.lines.invariant.wrote in
+    (c.lines.refused, ended.0, c.status_of.ensures, ended.1)

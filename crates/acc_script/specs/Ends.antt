@@ -1,0 +1,17 @@
+-- What reading to the end, and writing all of some bytes, comes to.
+use Rattle.std.specs.Prelude.{ℕ, Bool, ◌≤◌, ⊤, List, length, Option, Result, Ok, Err, MatchBool}
+use Rattle.std.specs.Global.{Vec}
+use Rattle.acc_base.specs.declared.faults.Fault.{Fault}
+use Rattle.acc_base.specs.declared.faults.Fault.TheVariants.{Memory, Read}
+use Rattle.acc_script.specs.Told.{Given, Taken, GaveAll, FailedOrPassed, Took, TookFront}
+
+-- all that the source gave up to its end, where that is no more than the limit
+abbrev pub ReadAll : ℕ → Option Given → Option Given → Result (Vec ℕ) Fault → Type 0
+ReadAll limit old new (Ok all) = GaveAll old new all.items × (length all.items ≤ limit)
+ReadAll limit old new (Err Memory) = ⊤
+ReadAll limit old new (Err Read) = FailedOrPassed limit old new
+ReadAll limit old new (Err _) = ⊥
+
+-- the sink took all of the bytes, or failed and took a front of them
+abbrev pub Wrote : Option Taken → Option Taken → List ℕ → Bool → Type 0
+Wrote old new bytes done = MatchBool done (Took old new bytes) (TookFront old new bytes)

@@ -1,0 +1,16 @@
+pub mod Told
+pub mod Streams
+pub mod Ends
+pub mod Reading
+pub mod Lines
+pub mod Tokens
+pub mod Layout
+pub mod Coding
+pub mod Naming
+pub mod Clauses
+pub mod Statements
+pub mod Meanings
+pub mod Texts
+pub mod Scripts
+pub mod Runs
+pub mod Sessions

@@ -1,0 +1,63 @@
+-- What a run of a script reads, writes and answers.
+use Rattle.std.specs.Prelude.{◌≡◌, ◌⊎◌, ℕ, Bool, List, take, Option, Result, Ok, Err, ⊤}
+use Rattle.std.specs.List.{concat}
+use Rattle.acc_base.specs.declared.faults.Fault.{Fault}
+use Rattle.acc_base.specs.declared.faults.Fault.TheVariants.{Memory, Script, Read, Write}
+use Rattle.acc_base.specs.Limits.{Limits}
+use Rattle.acc_script.specs.declared.statuses.Status.{Status}
+use Rattle.acc_script.specs.Told.{Given, Taken, GaveAll, FailedOrPassed, Took, TookFront}
+use Rattle.acc_script.specs.Scripts.{State, Turned, is_refused, line_turned, line_text, Transcript, Ended, Faulty, transcript, status_of}
+
+-- a text was written, or the sink failed and took a front of it
+abbrev pub Printed : Option Taken → Option Taken → List ℕ → Result ⊤ Fault → Type 0
+Printed old new text (Ok done) = Took old new text
+Printed old new text (Err Write) = TookFront old new text
+Printed old new text (Err _) = ⊥
+
+-- ---- a line
+
+-- a line was run, and what it printed was written
+pub record RanLine (number : ℕ) (s : State) (line : List ℕ) (old new : Option Taken) (after : State) (refused : Bool) : Type 0 where
+  pub turn : Turned
+  pub is : line_turned s line ≡ Ok turn
+  pub state : after ≡ turn.state
+  pub refused_is : refused ≡ is_refused turn.effect
+  pub wrote : Took old new (line_text number turn)
+
+-- a line was run, and what it printed could not be written
+pub record LostLine (number : ℕ) (s : State) (line : List ℕ) (old new : Option Taken) : Type 0 where
+  pub turn : Turned
+  pub is : line_turned s line ≡ Ok turn
+  pub wrote : TookFront old new (line_text number turn)
+
+abbrev pub LineRuns : ℕ → State → List ℕ → Option Taken → Option Taken → State → Result Bool Fault → Type 0
+LineRuns number s line old new after (Ok refused) = RanLine number s line old new after refused
+LineRuns number s line old new after (Err Memory) = new ≡ old
+LineRuns number s line old new after (Err (Script at kind)) = (at ≡ number) × (line_turned s line ≡ Err kind) × (new ≡ old)
+LineRuns number s line old new after (Err Write) = LostLine number s line old new
+LineRuns number s line old new after (Err _) = ⊥
+
+-- ---- a script
+
+-- what was written is what the transcript says: all of it, the lines before one at fault, the first lines where there
+-- was no memory for more, or a front of it where the sink failed
+abbrev pub Played : Transcript → Option Taken → Option Taken → Result Status Fault → Type 0
+Played t old new (Ok status) = (refused : Bool) × (t.ending ≡ Ended refused) × (status ≡ status_of refused) × Took old new (concat t.texts)
+Played t old new (Err (Script number kind)) = (t.ending ≡ Faulty number kind) × Took old new (concat t.texts)
+Played t old new (Err Memory) = (lines : ℕ) × Took old new (concat (take lines t.texts))
+Played t old new (Err Write) = TookFront old new (concat t.texts)
+Played t old new (Err _) = ⊥
+
+-- ---- a run
+
+-- the source told its end and did not fail, and what it gave in this call was run as a script
+abbrev pub RanAll : Limits → Option Given → Option Given → Option Taken → Option Taken → Result Status Fault → Type 0
+RanAll limits given gave taken took result = (input : List ℕ) × GaveAll given gave input × Played (transcript limits input) taken took result
+
+abbrev pub Ran : Limits → Option Given → Option Given → Option Taken → Option Taken → Result Status Fault → Type 0
+Ran limits given gave taken took (Ok status) = RanAll limits given gave taken took (Ok status)
+Ran limits given gave taken took (Err (Script number kind)) = RanAll limits given gave taken took (Err (Script number kind))
+Ran limits given gave taken took (Err Memory) = RanAll limits given gave taken took (Err Memory) ⊎ (took ≡ taken)
+Ran limits given gave taken took (Err Read) = FailedOrPassed 16777216 given gave × (took ≡ taken)
+Ran limits given gave taken took (Err Write) = RanAll limits given gave taken took (Err Write)
+Ran limits given gave taken took (Err _) = ⊥

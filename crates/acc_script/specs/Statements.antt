@@ -1,0 +1,87 @@
+-- What a line says, or its first fault.
+use Rattle.std.specs.Prelude.{ℕ, ◌||◌, Bool, not, ◌&&◌, List, [], length, Option, Some, None, Result, Ok, Err, is_some, ◌==◌, nat_lt, nat_le, if◌then◌else◌, codes}
+use Rattle.std.specs.List.{list_all, before_first}
+use Rattle.std.specs.Str.{bytes_eq}
+use Rattle.acc_base.specs.declared.faults.ScriptFault.{ScriptFault}
+use Rattle.acc_base.specs.declared.faults.ScriptFault.TheVariants.{TooLong, NotText, Syntax, Number, NameTaken, HostFull}
+use Rattle.acc_base.specs.declared.directives.Directive.{Directive}
+use Rattle.acc_base.specs.declared.directives.Directive.TheVariants.{EnterData, ExitData}
+use Rattle.acc_script.specs.declared.arrays.Array.{Array}
+use Rattle.acc_script.specs.Reading.{◌>>=◌}
+use Rattle.acc_script.specs.Tokens.{word_at, keyword_at, name_at, number_at, number_limit, is_at_end, tab}
+use Rattle.acc_script.specs.Layout.{Layout, array_of, next_array}
+use Rattle.acc_script.specs.Clauses.{clauses_at, enter_clause_of, exit_clause_of}
+
+-- what a line asks for
+pub data Meaning : Type 0 where
+  Blank : Meaning
+  Declare : (name : List ℕ) (array : Array) → Meaning
+  Direct : (directive : Directive) → Meaning
+  Report : Meaning
+
+abbrev pub declared : List ℕ → Option Array → Result Meaning ScriptFault
+declared name None = Err HostFull
+declared name (Some array) = Ok (Declare name array)
+
+-- the length of a new array
+unfoldable pub length_at : List ℕ → Layout → List ℕ → Result Meaning ScriptFault
+length_at name layout text = do
+  len ← number_at number_limit text
+  if len.0 == 0 then Err Number
+      else if not (is_at_end len.1) then Err Syntax
+      else declared name (next_array len.0 layout)
+
+-- `array NAME N`
+unfoldable pub array_at : Layout → List ℕ → Result Meaning ScriptFault
+array_at layout text = do
+  name ← name_at text
+  if is_some (array_of name.0 layout) then Err NameTaken else length_at name.0 layout name.1
+
+-- `enter data CLAUSES` (OpenACC 3.3, the enter data directive)
+unfoldable pub enter_at : Layout → List ℕ → Result Meaning ScriptFault
+enter_at layout text = do
+  rest ← keyword_at (codes "data") text
+  items ← clauses_at (length rest) enter_clause_of layout [] rest
+  Ok (Direct (EnterData items))
+
+-- `exit data CLAUSES` (OpenACC 3.3, the exit data directive)
+unfoldable pub exit_at : Layout → List ℕ → Result Meaning ScriptFault
+exit_at layout text = do
+  rest ← keyword_at (codes "data") text
+  items ← clauses_at (length rest) exit_clause_of layout [] rest
+  Ok (Direct (ExitData items))
+
+-- this, if the line ends here
+abbrev pub at_end : Meaning → List ℕ → Result Meaning ScriptFault
+at_end meaning rest = if is_at_end rest then Ok meaning else Err Syntax
+
+-- a statement, by its first word
+unfoldable pub statement_at : Layout → List ℕ → Result Meaning ScriptFault
+statement_at layout text = do
+  word ← word_at text
+  if bytes_eq word.0 (codes "array") then array_at layout word.1
+      else if bytes_eq word.0 (codes "enter") then enter_at layout word.1
+      else if bytes_eq word.0 (codes "exit") then exit_at layout word.1
+      else if bytes_eq word.0 (codes "report") then at_end Report word.1
+      else Err Syntax
+
+-- a tab, or from a space to a tilde
+abbrev pub is_text_byte : ℕ → Bool
+is_text_byte b = (b == tab) || (nat_le 32 b && nat_le b 126)
+
+abbrev pub hash : ℕ
+hash = 35
+
+-- what stands before a comment
+abbrev pub before_comment : List ℕ → List ℕ
+before_comment line = before_first (λ b. b == hash) line
+
+-- how many bytes a line may have
+abbrev pub line_limit : ℕ
+line_limit = 4096
+
+unfoldable pub line_at : Layout → List ℕ → Result Meaning ScriptFault
+line_at layout line = if nat_lt line_limit (length line) then Err TooLong
+    else if not (list_all is_text_byte (before_comment line)) then Err NotText
+    else if is_at_end (before_comment line) then Ok Blank
+    else statement_at layout (before_comment line)

@@ -1,0 +1,54 @@
+-- What a script prints.
+use Rattle.std.specs.Prelude.{ℕ, false, List, ◌++◌, codes}
+use Rattle.std.specs.Fmt.{decimal, digits}
+use Rattle.std.specs.List.{flat_map}
+use Rattle.acc_base.specs.declared.faults.Fault.{Fault}
+use Rattle.acc_base.specs.Faults.{number_of, name_of, fault_text}
+use Rattle.acc_base.specs.Blocks.{used_bytes}
+use Rattle.acc_base.specs.Calls.{World, event_count}
+use Rattle.acc_table.specs.declared.calls.Mapped.{Mapped}
+use Rattle.acc_table.specs.Queries.{mapped_as}
+
+abbrev pub address : ℕ → List ℕ
+address n = codes "0x" ++ digits 16 false n
+
+-- ---- refusals
+
+abbrev pub field_text : List ℕ → ℕ → List ℕ
+field_text name value = name ++ decimal value
+
+-- up to the fields of the fault
+abbrev pub refusal_start : ℕ → Fault → List ℕ
+refusal_start line fault = codes "line " ++ (decimal line ++ (codes ": refused " ++ (decimal (number_of fault) ++ (codes " " ++ name_of fault))))
+
+-- a line that was refused
+unfoldable pub refusal_text : ℕ → Fault → List ℕ
+refusal_text line fault = codes "line " ++ (decimal line ++ (codes ": refused " ++ (fault_text fault ++ codes "\n")))
+
+-- ---- the report
+
+-- the sizes of the two memories, and what blocks take of the device
+abbrev pub sizes_text : ℕ → ℕ → ℕ → List ℕ
+sizes_text host device used = codes "host " ++ (decimal host ++ (codes " device " ++ (decimal device ++ (codes " used " ++ (decimal used ++ codes "\n")))))
+
+-- where a range is mapped to, and its counters
+abbrev pub mapping_text : ℕ → ℕ → ℕ → List ℕ
+mapping_text start len place = codes "map " ++ (address start ++ (codes " " ++ (decimal len ++ (codes " at " ++ address place))))
+
+abbrev pub counters_text : ℕ → ℕ → List ℕ
+counters_text structured dynamic = codes " structured " ++ (decimal structured ++ (codes " dynamic " ++ (decimal dynamic ++ codes "\n")))
+
+-- a mapped range
+unfoldable pub mapped_text : Mapped → List ℕ
+mapped_text m = mapping_text m.start m.len m.place ++ counters_text m.structured m.dynamic
+
+-- how many regions are open, and how many events there were
+abbrev pub totals_text : ℕ → ℕ → List ℕ
+totals_text regions events = codes "regions " ++ (decimal regions ++ (codes " events " ++ (decimal events ++ codes "\n")))
+
+-- each mapped range by rising start; no region is open
+unfoldable pub report_text : World → List ℕ
+report_text w =
+    sizes_text w.limits.host w.limits.device (used_bytes w.state.records.blocks)
+    ++ flat_map (λ r. mapped_text (mapped_as w.state.records.blocks r)) w.state.records.ranges
+    ++ totals_text 0 (event_count w.history)

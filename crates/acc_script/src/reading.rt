@@ -1,0 +1,47 @@
+//! Reads a whole input.
+
+ghost use Rattle.std.specs.Prelude.{◌≡◌, ◌<◌, ◌≤◌, [], Some, take, length, IfSome, IfNone};
+ghost use Rattle.acc_script.specs.Told.{Gave, GaveAll, Failed};
+ghost use Rattle.acc_script.specs.Ends.{ReadAll};
+
+use crate::Source;
+use acc_base::Fault;
+use std::alloc::Global;
+
+/// How many bytes an input may have.
+const LIMIT: usize = 16_777_216;
+
+/// One read of at most `room` bytes.
+#[tactic(auto, using(crate::proofs::Gives::gave_part))]
+fn read_piece<R: Source>(reader: &mut R, piece: &mut [u8], room: usize) -> Option<usize>
+    requires some { 0 < room }
+    requires fits { room ≤ length piece.old }
+    ensures bound { IfSome result (λ n. n ≤ room) }
+    ensures gave { IfSome result (λ n. Gave (R.told reader.old) (R.told reader.new) (take n piece.new)) }
+    ensures ended { result ≡ Some 0 → GaveAll (R.told reader.old) (R.told reader.new) [] }
+    ensures failed { IfNone result (Failed (R.told reader.old) (R.told reader.new)) }
+{
+    reader.read(&mut piece[..room])
+}
+
+/// All that a source gives up to its end.
+///
+/// # Errors
+///
+/// [`Fault::Memory`]; [`Fault::Read`] where the source fails or gives more than 16,777,216 bytes. No more than one
+/// byte past these is read.
+pub fn read_all<R: Source>(alloc: Global, reader: &mut R) -> Result<Vec<u8>, Fault>
+    ensures { ReadAll 16777216 (R.told reader.old) (R.told reader.new) result }
+{
+    let mut all = Vec::new(alloc);
+    let mut piece = [0u8; 4096];
+    while all.len() <= LIMIT {
+        let room = (LIMIT + 1 - all.len()).min(piece.len());
+        match read_piece(reader, &mut piece, room) {
+            None => return Err(Fault::Read),
+            Some(0) => return Ok(all),
+            Some(count) => all.extend_from_slice(&piece[..count])?,
+        }
+    }
+    Err(Fault::Read)
+}

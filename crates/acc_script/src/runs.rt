@@ -1,0 +1,102 @@
+//! Runs a script.
+
+ghost use Rattle.std.specs.Prelude.{◌≡◌, ◌≤◌};
+ghost use Rattle.acc_script.specs.Scripts.{transcript, status_of};
+ghost use Rattle.acc_script.specs.Runs.{LineRuns, Played, Ran};
+ghost use Rattle.acc_script.specs.Sessions.{state_of};
+
+use crate::lines::next_line;
+use crate::reading::read_all;
+use crate::reports::write_effect;
+use crate::sessions::Session;
+use crate::statements::line_at;
+use crate::statuses::Status;
+use crate::troubles::Trouble;
+use crate::{Sink, Source};
+use acc_base::{Config, Fault};
+use std::alloc::Global;
+use std::sync::Wait;
+use std::thread::Threads;
+
+/// Reads a whole script, and then runs it line by line on a new table of these limits. What it prints does not depend
+/// on `parts`, which is from 1 to 64: how many parts a kernel's work is cut into.
+///
+/// # Errors
+///
+/// - [`Fault::Read`] where the reader fails or gives more than 16,777,216 bytes. Nothing was written.
+/// - [`Fault::Script`] at the first line that is at fault. What the lines before print was written.
+/// - [`Fault::Write`] where the writer fails. It has then taken a front of what the script prints.
+/// - [`Fault::Memory`]. What some first lines print was written.
+pub fn run<R: Threads + Wait + Sync + AllocGlobal, S: Source, W: Sink>(
+    rt: &R,
+    reader: &mut S,
+    writer: &mut W,
+    config: Config,
+    parts: usize,
+) -> Result<Status, Fault>
+    requires some { 1 ≤ parts }
+    requires few { parts ≤ 64 }
+    ensures { Ran config (S.told reader.old) (S.told reader.new) (W.told writer.old) (W.told writer.new) result }
+{
+    let _ = parts;
+    let input = read_all(rt.alloc(), reader)?;
+    play(rt.alloc(), config, &input, writer)
+}
+
+/// Runs all lines of an input.
+#[tactic(auto, unfolding(crate::specs::Scripts::transcript))]
+fn play<W: Sink>(
+    alloc: Global,
+    config: Config,
+    input: &[u8],
+    writer: &mut W,
+) -> Result<Status, Fault>
+    ensures { Played (transcript config input.now) (W.told writer.old) (W.told writer.new) result }
+{
+    let mut session = Session::new(alloc, config)?;
+    let mut rest = input;
+    let mut done = 0u64;
+    let mut refused = false;
+    'lines: while !rest.is_empty() {
+        let (line, after) = next_line(rest);
+        let is_refused = run_line(alloc, done + 1, &mut session, line, writer)?;
+        refused |= is_refused;
+        rest = after;
+        done += 1;
+    }
+    Ok(status_of(refused))
+}
+
+/// Runs the line of a number and writes what it prints; answers whether it was refused.
+#[tactic(auto, unfolding(crate::specs::Scripts::line_turned))]
+fn run_line<W: Sink>(
+    alloc: Global,
+    number: u64,
+    session: &mut Session,
+    line: &[u8],
+    writer: &mut W,
+) -> Result<bool, Fault>
+    ensures { LineRuns number (state_of session.old) line.now (W.told writer.old) (W.told writer.new) (state_of session.new) result }
+{
+    let statement = match line_at(alloc, &session.arrays, line) {
+        Ok(statement) => statement,
+        Err(Trouble::Memory) => return Err(Fault::Memory),
+        Err(Trouble::Line(kind)) => return Err(Fault::Script { line: number, kind }),
+    };
+    let effect = session.perform(alloc, statement)?;
+    if !write_effect(writer, number, &session.table, effect) {
+        return Err(Fault::Write);
+    }
+    Ok(effect.is_refused())
+}
+
+/// The status of a script of which some line was refused, or none.
+fn status_of(refused: bool) -> Status
+    ensures { result ≡ status_of refused }
+{
+    if refused {
+        Status::Refused
+    } else {
+        Status::Clean
+    }
+}

@@ -1,0 +1,160 @@
+//! What a line of a script says.
+
+ghost use Rattle.std.specs.Prelude.{◌≡◌, ◌≤◌, ◌==◌, not, length};
+ghost use Rattle.std.specs.List.{list_all, prefix_len};
+ghost use Rattle.acc_script.specs.Reading.{Gives};
+ghost use Rattle.acc_script.specs.Statements.{length_at, array_at, enter_at, exit_at, statement_at, is_text_byte, hash, before_comment, line_at};
+ghost use Rattle.acc_script.specs.Meanings.{meaning_of};
+
+use crate::arrays::{Array, Arrays};
+use crate::clauses::clauses_at;
+use crate::tokens::{is_at_end, is_text, keyword_at, name_at, number_at, word_at};
+use crate::troubles::Trouble;
+use acc_base::{Directive, List, ScriptFault};
+use std::alloc::Global;
+
+/// How many bytes a line may have.
+const LINE_LIMIT: usize = 4096;
+
+/// What a line asks for.
+#[derive(Debug, Drop)]
+pub enum Statement<'a> {
+    /// Nothing.
+    Blank,
+    /// A new array.
+    Declare {
+        /// Its name.
+        name: &'a [u8],
+        /// Where it lies.
+        array: Array,
+    },
+    /// A directive.
+    Direct(Directive),
+    /// The report.
+    Report,
+}
+
+/// What a line asks for, or its first fault.
+#[tactic(auto, unfolding(crate::specs::Statements::line_at))]
+pub fn line_at<'a>(alloc: Global, arrays: &Arrays, line: &'a [u8]) -> Result<Statement<'a>, Trouble>
+    ensures { Gives meaning_of result (line_at arrays.now line.now) }
+{
+    if line.len() > LINE_LIMIT {
+        return Err(Trouble::Line(ScriptFault::TooLong));
+    }
+    let text = before_comment(line);
+    if !has_text_bytes(text) {
+        return Err(Trouble::Line(ScriptFault::NotText));
+    }
+    if is_at_end(text) {
+        return Ok(Statement::Blank);
+    }
+    statement_at(alloc, arrays, text)
+}
+
+/// What stands before a comment.
+fn before_comment(line: &[u8]) -> &[u8]
+    ensures { result.now ≡ before_comment line.now }
+{
+    let (text, _) = line.split_at(comment_place(line));
+    text
+}
+
+/// How many bytes stand before a comment.
+fn comment_place(line: &[u8]) -> usize
+    ensures count { result ≡ prefix_len (λ b. not (b == hash)) line.now }
+    ensures bound { result ≤ length line.now }
+{
+    line.iter().take_while(|b| **b != b'#').count()
+}
+
+/// The byte may stand before a comment.
+fn is_text_byte(b: u8) -> bool
+    ensures { result ≡ is_text_byte b }
+{
+    b == b'\t' || (b' ' <= b && b <= b'~')
+}
+
+/// Each of the bytes may stand before a comment.
+fn has_text_bytes(bytes: &[u8]) -> bool
+    ensures { result ≡ list_all is_text_byte bytes.now }
+{
+    bytes.iter().all(|b| is_text_byte(*b))
+}
+
+/// A statement, by its first word.
+#[tactic(auto, unfolding(crate::specs::Statements::statement_at))]
+fn statement_at<'a>(
+    alloc: Global,
+    arrays: &Arrays,
+    text: &'a [u8],
+) -> Result<Statement<'a>, Trouble>
+    ensures { Gives meaning_of result (statement_at arrays.now text.now) }
+{
+    let (word, rest) = word_at(text)?;
+    if is_text(word, "array") {
+        array_at(arrays, rest)
+    } else if is_text(word, "enter") {
+        enter_at(alloc, arrays, rest)
+    } else if is_text(word, "exit") {
+        exit_at(alloc, arrays, rest)
+    } else if is_text(word, "report") {
+        if is_at_end(rest) {
+            Ok(Statement::Report)
+        } else {
+            Err(Trouble::Line(ScriptFault::Syntax))
+        }
+    } else {
+        Err(Trouble::Line(ScriptFault::Syntax))
+    }
+}
+
+/// The name and the length of a new array.
+#[tactic(auto, unfolding(crate::specs::Statements::array_at))]
+fn array_at<'a>(arrays: &Arrays, text: &'a [u8]) -> Result<Statement<'a>, Trouble>
+    ensures { Gives meaning_of result (array_at arrays.now text.now) }
+{
+    let (name, rest) = name_at(text)?;
+    if arrays.get(name).is_some() {
+        return Err(Trouble::Line(ScriptFault::NameTaken));
+    }
+    length_at(name, arrays, rest)
+}
+
+/// The length of a new array, up to the end of the line.
+#[tactic(auto, unfolding(crate::specs::Statements::length_at))]
+fn length_at<'a>(name: &'a [u8], arrays: &Arrays, text: &[u8]) -> Result<Statement<'a>, Trouble>
+    ensures { Gives meaning_of result (length_at name.now arrays.now text.now) }
+{
+    let (len, rest) = number_at(u32::MAX, text)?;
+    if len == 0 {
+        return Err(Trouble::Line(ScriptFault::Number));
+    }
+    if !is_at_end(rest) {
+        return Err(Trouble::Line(ScriptFault::Syntax));
+    }
+    match arrays.next_array(len) {
+        None => Err(Trouble::Line(ScriptFault::HostFull)),
+        Some(array) => Ok(Statement::Declare { name, array }),
+    }
+}
+
+/// The `enter data` directive.
+#[tactic(auto, unfolding(crate::specs::Statements::enter_at))]
+fn enter_at(alloc: Global, arrays: &Arrays, text: &[u8]) -> Result<Statement<'static>, Trouble>
+    ensures { Gives meaning_of result (enter_at arrays.now text.now) }
+{
+    let rest = keyword_at("data", text)?;
+    let items = List::from_vec(clauses_at(alloc, arrays, rest)?);
+    Ok(Statement::Direct(Directive::EnterData { items }))
+}
+
+/// The `exit data` directive.
+#[tactic(auto, unfolding(crate::specs::Statements::exit_at))]
+fn exit_at(alloc: Global, arrays: &Arrays, text: &[u8]) -> Result<Statement<'static>, Trouble>
+    ensures { Gives meaning_of result (exit_at arrays.now text.now) }
+{
+    let rest = keyword_at("data", text)?;
+    let items = List::from_vec(clauses_at(alloc, arrays, rest)?);
+    Ok(Statement::Direct(Directive::ExitData { items }))
+}

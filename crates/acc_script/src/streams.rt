@@ -1,0 +1,118 @@
+//! Readers and writers of std as sources and sinks.
+
+ghost use Rattle.std.specs.Prelude.{◌≡◌};
+ghost use Rattle.acc_script.specs.Streams.{given_at_first, taken_of};
+
+use crate::{Sink, Source};
+use std::io::{Read, Write};
+use std::marker::Model;
+use std::snapshot::Snapshot;
+
+/// A reader of std as a source. Every error is a failure, an interruption too.
+///
+/// It tells what it gave where contracts see what the reader has left, as for a slice or a `Cursor`.
+#[derive(Drop)]
+pub struct FromRead<R: Read + Drop> {
+    start: Snapshot<R>,
+    inner: R,
+    ended: bool,
+    failures: u64,
+}
+
+impl<R: Read + Drop> Model for FromRead<R> {
+    ghost use Rattle.std.specs.Prelude.{◌≡◌, Option};
+    ghost use Rattle.acc_script.specs.Told.{Given};
+    ghost use Rattle.acc_script.specs.Streams.{given_of, rejoined};
+
+    ghost Value = { Option Given };
+
+    ghost view = { λ s. given_of (R.remaining s.start.value) (R.remaining s.inner) s.ended s.failures };
+
+    ghost invariant = { λ s. rejoined (R.remaining s.start.value) (R.remaining s.inner) ≡ R.remaining s.start.value };
+}
+
+impl<R: Read + Drop> FromRead<R> {
+    /// A source that gives what the reader has left.
+    pub fn new(inner: R) -> FromRead<R>
+        ensures { result ≡ given_at_first (R.remaining inner) }
+    {
+        FromRead {
+            start: Snapshot::of(&inner),
+            inner,
+            ended: false,
+            failures: 0,
+        }
+    }
+}
+
+impl<R: Read + Drop> Source for FromRead<R> {
+    ghost told = { λ s. s };
+
+    #[tactic(auto, using(crate::proofs::Rejoins::follows_read, crate::proofs::Rejoins::follows_kept, crate::proofs::Rejoins::gives_read, crate::proofs::Rejoins::gives_nothing))]
+    fn read(&mut self, piece: &mut [u8]) -> Option<usize> {
+        match self.inner.read(piece) {
+            Ok(count) => {
+                if !piece.is_empty() {
+                    self.ended = count == 0;
+                }
+                Some(count)
+            }
+            Err(_) => {
+                self.failures = self.failures.wrapping_add(1);
+                None
+            }
+        }
+    }
+}
+
+/// A writer of std as a sink. Every error is a failure, an interruption too.
+///
+/// It tells what it took where contracts see what the writer holds, as for a `Vec`.
+#[derive(Drop)]
+pub struct ToWrite<W: Write + Drop> {
+    inner: W,
+    failures: u64,
+}
+
+impl<W: Write + Drop> Model for ToWrite<W> {
+    ghost use Rattle.std.specs.Prelude.{Option};
+    ghost use Rattle.acc_script.specs.Told.{Taken};
+    ghost use Rattle.acc_script.specs.Streams.{taken_of};
+
+    ghost Value = { Option Taken };
+
+    ghost view = { λ s. taken_of (W.contents s.inner) s.failures };
+}
+
+impl<W: Write + Drop> ToWrite<W> {
+    /// A sink that hands bytes to the writer.
+    pub fn new(inner: W) -> ToWrite<W>
+        ensures { result ≡ taken_of (W.contents inner) 0 }
+    {
+        ToWrite { inner, failures: 0 }
+    }
+
+    /// Hands on what the writer kept back; true where that was done.
+    pub fn flush(&mut self) -> bool {
+        self.inner.flush().is_ok()
+    }
+}
+
+impl<W: Write + Drop> Sink for ToWrite<W> {
+    ghost told = { λ s. s };
+
+    fn write(&mut self, piece: &[u8]) -> Option<usize> {
+        match self.inner.write(piece) {
+            Ok(count) => {
+                if count == 0 && !piece.is_empty() {
+                    self.failures = self.failures.wrapping_add(1);
+                }
+                Some(count)
+            }
+            Err(_) => {
+                self.failures = self.failures.wrapping_add(1);
+                None
+            }
+        }
+    }
+}

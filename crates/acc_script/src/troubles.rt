@@ -1,0 +1,32 @@
+//! Why a line gave no statement.
+
+ghost use Rattle.std.specs.Prelude.{◌≡◌};
+ghost use Rattle.acc_script.specs.declared.troubles.Trouble.TheVariants.{Memory};
+
+use acc_base::ScriptFault;
+use std::alloc::{AllocError, AllocFailed};
+
+/// Why a line gave no statement.
+#[derive(Clone, Copy, Debug, PartialEq, Eq)]
+pub enum Trouble {
+    /// No memory could be had for it.
+    Memory,
+    /// The line is at fault.
+    Line(ScriptFault),
+}
+
+impl From<AllocError> for Trouble {
+    ghost from_gives = { λ _ trouble. trouble ≡ Memory };
+
+    fn from(_error: AllocError) -> Trouble {
+        Trouble::Memory
+    }
+}
+
+impl<T: Drop> From<AllocFailed<T>> for Trouble {
+    ghost from_gives = { λ _ trouble. trouble ≡ Memory };
+
+    fn from(_error: AllocFailed<T>) -> Trouble {
+        Trouble::Memory
+    }
+}

@@ -30,6 +30,7 @@ pub use reports::report;
 pub use runs::run;
 pub use statuses::Status;
 pub use streams::{FromRead, ToWrite};
+pub use writing::write_all;
 
 #[cfg(test)]
 mod tests;

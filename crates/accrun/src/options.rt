@@ -1,0 +1,69 @@
+//! The command line.
+
+use clap::{Arg, ArgAction, Command, Error, value_parser};
+use std::alloc::Global;
+
+/// The size of each memory in bytes, where no option gives another.
+const DEFAULT_SIZE: u64 = 65_536;
+
+/// What the command line says.
+#[derive(Clone, Copy, Debug, PartialEq, Eq)]
+pub struct Options {
+    /// The size of host memory in bytes.
+    pub host: u64,
+    /// The size of device memory in bytes.
+    pub device: u64,
+}
+
+/// An option that takes the size of a memory.
+fn size_option<'a>(alloc: Global, name: &'a str, help: &'a str) -> Arg<'a> {
+    Arg::new(alloc, name)
+        .long(name)
+        .value_name("BYTES")
+        .help(help)
+        .action(ArgAction::Set)
+        .value_parser(value_parser!(u64).range(16..=67_108_864))
+        .default_value("65536")
+}
+
+/// Reads the command line. The first word is the program's name.
+///
+/// # Errors
+///
+/// `clap`'s own, whose text is for the user: also where help was asked for, and for want of memory.
+pub fn parsed_options(alloc: Global, words: &[String]) -> Result<Options, Error> {
+    let command = Command::new(alloc, "accrun")
+        .about(
+            "Runs a script of OpenACC data directives, read on standard input, on a simulated device",
+        )
+        .after_help(EXAMPLE)
+        .arg(size_option(
+            alloc,
+            "host",
+            "Size of host memory, 16 to 67108864, a multiple of 16",
+        ))?
+        .arg(size_option(
+            alloc,
+            "device",
+            "Size of device memory, 16 to 67108864, a multiple of 16",
+        ))?;
+    let matches = command.try_get_matches_from(words)?;
+    Ok(Options {
+        host: matches.get_one::<u64>("host").unwrap_or(DEFAULT_SIZE),
+        device: matches.get_one::<u64>("device").unwrap_or(DEFAULT_SIZE),
+    })
+}
+
+/// What the help ends with.
+const EXAMPLE: &str = "Statements, one to a line, with comments after '#':
+  array NAME BYTES             an array in host memory
+  enter data copyin(REF)       map it, with its bytes, or count it once more
+  exit data delete(REF)        count it once less; at zero the mapping ends
+  report                       the mapped ranges with their counters
+REF is NAME, or NAME[START:LENGTH] in bytes.
+
+Example:
+  printf 'array a 32\\nenter data copyin(a)\\nreport\\n' | accrun --device 4096
+
+Status: 0; 1 where a directive was refused; 2 for a fault, with one line on standard error.
+";

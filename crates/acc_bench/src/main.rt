@@ -1,7 +1,9 @@
-//! Measures the crates of the runtime: `acc_bench placement` prints how long the calls of the placement take.
+//! Measures the crates of the runtime: `acc_bench placement` prints how long the calls of the placement take, and
+//! `acc_bench script` how long scripts take.
 #![tactic(auto)]
 
 mod placement;
+mod script;
 
 use anyhow::Result;
 use std::env;
@@ -9,8 +11,9 @@ use std::env;
 fn main(rt: HostRuntime) -> Result<()> {
     match env::args(&rt)?.nth(1) {
         Some(name) if name.as_str() == "placement" => placement::run(&rt),
+        Some(name) if name.as_str() == "script" => script::run(&rt),
         _ => {
-            println!(rt; "usage: acc_bench placement")?;
+            println!(rt; "usage: acc_bench placement|script")?;
             Ok(())
         }
     }

@@ -5,12 +5,16 @@ use Rattle.acc_base.specs.declared.faults.Fault.{Fault}
 use Rattle.acc_base.specs.declared.faults.Fault.TheVariants.{Memory, Read}
 use Rattle.acc_script.specs.Told.{Given, Taken, GaveAll, FailedOrPassed, Took, TookFront}
 
+-- how many bytes an input may have
+abbrev pub input_limit : ℕ
+input_limit = 16777216
+
 -- all that the source gave up to its end, where that is no more than the limit
-abbrev pub ReadAll : ℕ → Option Given → Option Given → Result (Vec ℕ) Fault → Type 0
-ReadAll limit old new (Ok all) = GaveAll old new all.items × (length all.items ≤ limit)
-ReadAll limit old new (Err Memory) = ⊤
-ReadAll limit old new (Err Read) = FailedOrPassed limit old new
-ReadAll limit old new (Err _) = ⊥
+abbrev pub ReadAll : Option Given → Option Given → Result (Vec ℕ) Fault → Type 0
+ReadAll old new (Ok all) = GaveAll old new all.items × (length all.items ≤ input_limit)
+ReadAll old new (Err Memory) = ⊤
+ReadAll old new (Err Read) = FailedOrPassed input_limit old new
+ReadAll old new (Err _) = ⊥
 
 -- the sink took all of the bytes, or failed and took a front of them
 abbrev pub Wrote : Option Taken → Option Taken → List ℕ → Bool → Type 0

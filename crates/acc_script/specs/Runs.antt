@@ -6,6 +6,7 @@ use Rattle.acc_base.specs.declared.faults.Fault.TheVariants.{Memory, Script, Rea
 use Rattle.acc_base.specs.Limits.{Limits}
 use Rattle.acc_script.specs.declared.statuses.Status.{Status}
 use Rattle.acc_script.specs.Told.{Given, Taken, GaveAll, FailedOrPassed, Took, TookFront}
+use Rattle.acc_script.specs.Ends.{input_limit}
 use Rattle.acc_script.specs.Scripts.{State, Turned, is_refused, line_turned, line_text, Transcript, Ended, Faulty, transcript, status_of}
 
 -- a text was written, or the sink failed and took a front of it
@@ -58,6 +59,6 @@ abbrev pub Ran : Limits → Option Given → Option Given → Option Taken → O
 Ran limits given gave taken took (Ok status) = RanAll limits given gave taken took (Ok status)
 Ran limits given gave taken took (Err (Script number kind)) = RanAll limits given gave taken took (Err (Script number kind))
 Ran limits given gave taken took (Err Memory) = RanAll limits given gave taken took (Err Memory) ⊎ (took ≡ taken)
-Ran limits given gave taken took (Err Read) = FailedOrPassed 16777216 given gave × (took ≡ taken)
+Ran limits given gave taken took (Err Read) = FailedOrPassed input_limit given gave × (took ≡ taken)
 Ran limits given gave taken took (Err Write) = RanAll limits given gave taken took (Err Write)
 Ran limits given gave taken took (Err _) = ⊥

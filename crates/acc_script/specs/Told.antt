@@ -1,5 +1,5 @@
 -- What sources gave, what sinks took, and how often they failed.
-use Rattle.std.specs.Prelude.{◌≡◌, ℕ, ◌+◌, ◌%◌, ◌^◌, ◌<◌, ◌⊎◌, Bool, true, false, List, [], ◌++◌, length, take, ⊤, Option, Some, None, ◌==◌, if◌then◌else◌}
+use Rattle.std.specs.Prelude.{◌≡◌, ℕ, ◌+◌, ◌%◌, ◌^◌, ◌⊎◌, Bool, true, false, List, [], ◌++◌, length, take, ⊤, Option, Some, None, ◌==◌, if◌then◌else◌}
 
 -- what a source has given, whether its last read into a piece with room told the end, and its failures, modulo 2^64
 pub record Given : Type 0 where
@@ -56,11 +56,11 @@ Failed None new = ⊤
 Failed (Some a) None = ⊥
 Failed (Some a) (Some b) = b.failures ≡ one_more a.failures
 
--- a source failed once, or gave more bytes than the limit
+-- a source failed once, or gave one byte more than the limit
 abbrev pub FailedOrPassed : ℕ → Option Given → Option Given → Type 0
 FailedOrPassed limit None new = ⊤
 FailedOrPassed limit (Some a) None = ⊥
-FailedOrPassed limit (Some a) (Some b) = (b.failures ≡ one_more a.failures) ⊎ (length a.bytes + limit < length b.bytes)
+FailedOrPassed limit (Some a) (Some b) = (b.failures ≡ one_more a.failures) ⊎ ((length b.bytes ≡ length a.bytes + limit + 1) × (b.failures ≡ a.failures))
 
 -- a sink took these bytes and did not fail, where it tells
 abbrev pub Took : Option Taken → Option Taken → List ℕ → Type 0

@@ -31,7 +31,7 @@ fn read_piece<R: Source>(reader: &mut R, piece: &mut [u8], room: usize) -> Optio
 /// [`Fault::Memory`]; [`Fault::Read`] where the source fails or gives more than 16,777,216 bytes. No more than one
 /// byte past these is read.
 pub fn read_all<R: Source>(alloc: Global, reader: &mut R) -> Result<Vec<u8>, Fault>
-    ensures { ReadAll 16777216 (R.told reader.old) (R.told reader.new) result }
+    ensures { ReadAll (R.told reader.old) (R.told reader.new) result }
 {
     let mut all = Vec::new(alloc);
     let mut piece = [0u8; 4096];

@@ -18,8 +18,10 @@ use std::alloc::Global;
 use std::sync::Wait;
 use std::thread::Threads;
 
-/// Reads a whole script, and then runs it line by line on a new table of these limits. What it prints does not depend
-/// on `parts`, which is from 1 to 64: how many parts a kernel's work is cut into.
+/// Reads a whole script, and then runs it line by line on a new table of these limits.
+///
+/// `parts`, from 1 to 64, is how many parts the work of a kernel is cut into. What is printed does not depend on it,
+/// and no statement runs a kernel yet.
 ///
 /// # Errors
 ///

@@ -1,6 +1,7 @@
 //! Readers and writers of std as sources and sinks.
 
-ghost use Rattle.std.specs.Prelude.{◌≡◌};
+ghost use Rattle.std.specs.Prelude.{◌≡◌, []};
+ghost use Rattle.acc_script.specs.Told.{Took};
 ghost use Rattle.acc_script.specs.Streams.{given_at_first, taken_of};
 
 use crate::{Sink, Source};
@@ -92,8 +93,11 @@ impl<W: Write + Drop> ToWrite<W> {
         ToWrite { inner, failures: 0 }
     }
 
-    /// Hands on what the writer kept back; true where that was done.
-    pub fn flush(&mut self) -> bool {
+    /// Hands on what the writer kept back; true where that was done. It is no write: what was taken stays, and so does
+    /// the number of failures.
+    pub fn flush(&mut self) -> bool
+        ensures { Took self.old self.new [] }
+    {
         self.inner.flush().is_ok()
     }
 }

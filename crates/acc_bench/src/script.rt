@@ -1,0 +1,78 @@
+//! How long scripts take.
+
+use acc_base::Config;
+use acc_script::{MemorySink, MemorySource, run as run_script};
+use anyhow::Result;
+use std::alloc::{AllocError, Global};
+use std::rt::Clock;
+use std::sync::Wait;
+use std::thread::Threads;
+use std::time::Instant;
+
+/// A comment of 64 bytes with its line feed.
+const COMMENT: &[u8; 64] = b"# nothing is asked for in this line, and nothing is to be done.\n";
+
+/// Prints how long a script of 16 MiB of comments takes, one of 100,000 directives on one array, and growing ones that
+/// declare arrays and use each once.
+pub fn run<R: Print + Clock + Threads + Wait + Sync + AllocGlobal>(rt: &R) -> Result<()> {
+    measure(rt, "comments", &comments(rt.alloc())?)?;
+    measure(rt, "100000 directives", &directives(rt.alloc())?)?;
+    measure(rt, "20000 arrays", arrays(rt.alloc(), 20_000)?.as_bytes())?;
+    measure(rt, "80000 arrays", arrays(rt.alloc(), 80_000)?.as_bytes())?;
+    measure(rt, "240000 arrays", arrays(rt.alloc(), 240_000)?.as_bytes())
+}
+
+/// Runs a script, and prints how long that took.
+fn measure<R: Print + Clock + Threads + Wait + Sync + AllocGlobal>(
+    rt: &R,
+    name: &str,
+    script: &[u8],
+) -> Result<()> {
+    let config = Config::new(
+        67_108_864,
+        67_108_864,
+        64,
+        1_048_576,
+        4_294_967_295,
+        256,
+        262_144,
+    )?;
+    let mut reader = MemorySource::new(script);
+    let mut writer = MemorySink::new(rt.alloc());
+    let start = Instant::now(rt)?;
+    let status = run_script(rt, &mut reader, &mut writer, config, 1)?;
+    let taken = start.elapsed(rt)?;
+    let size = script.len();
+    println!(rt; "script of {name}: {size} bytes, {status:?} in {taken:?}")?;
+    Ok(())
+}
+
+/// 16 MiB of comment lines.
+fn comments(alloc: Global) -> Result<Vec<u8>, AllocError> {
+    let mut script = Vec::new(alloc);
+    for _ in 0..262_144 {
+        script.extend_from_slice(COMMENT)?;
+    }
+    Ok(script)
+}
+
+/// One array that is mapped and unmapped 50,000 times.
+fn directives(alloc: Global) -> Result<Vec<u8>, AllocError> {
+    let mut script = Vec::from_slice(alloc, b"array a 16\n")?;
+    for _ in 0..50_000 {
+        script.extend_from_slice(b"enter data copyin(a)\nexit data delete(a)\n")?;
+    }
+    Ok(script)
+}
+
+/// So many arrays, and an empty section of each in a directive.
+fn arrays(alloc: Global, count: u32) -> Result<String, AllocError> {
+    let mut script = String::new(alloc);
+    for number in 0..count {
+        write!(
+            script,
+            "array a{number} 1\nenter data copyin(a{number}[0:0])\n"
+        )?;
+    }
+    Ok(script)
+}

@@ -22,12 +22,12 @@ use Rattle.acc_base.specs.Blocks.{rounded, place_for}
 use Rattle.acc_base.specs.Judge.{◌>>◌, refuse_if, section_checked, born_at, enter_data_at, exit_data_at, ends_after_drop, enter_data_item, exit_data_item}
 use Rattle.acc_base.proofs.Results.{chosen, then_ok, ok_same, refused_not, not_false, equal_self}
 use Rattle.acc_base.proofs.Elements.{find_passes, find_none}
-use Rattle.acc_base.proofs.Where.{IsInside, inside_says}
+use Rattle.acc_base.proofs.Where.{IsInsideOf, inside_says}
 
 -- the block of a section that is inside a range is mapped
 inside_mapped : (s : Section) (ranges : List Range) (k o : ℕ) → where_is s ranges ≡ Inside k o → range_of k ranges ≡ None → ⊥
 inside_mapped s ranges k o e none =
-    let found : (r : Range) × IsInside s ranges k o r = inside_says s ranges k o e in
+    let found : (r : Range) × IsInsideOf s ranges k o r = inside_says s ranges k o e in
     let passes : Contains ranges found.0 × (is_within s found.0.section ≡ true) = subst (λ x. IfSome x (λ t. Contains ranges t × (is_within s t.section ≡ true))) found.1.around (find_passes (λ r. is_within s r.section) ranges) in
     let other : (found.0.block == k) ≡ false = All-contains (λ (r : Range). (r.block == k) ≡ false) ranges found.0 (All-from_recursion (λ (r : Range). (r.block == k) ≡ false) ranges (find_none (λ r. r.block == k) ranges none)) passes.0 in
     let same : (found.0.block == k) ≡ true = rw found.1.block_is (equal_self k) in

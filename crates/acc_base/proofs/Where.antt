@@ -1,6 +1,8 @@
 -- The test of where a section lies is right: a section lies where its addresses say.
 use Rattle.std.proofs.Common.{ℕ, ◌≡◌, ◌+◌, ◌-◌, ◌<◌, ◌≤◌, refl, sym, subst, Bool, true, false, cond, List, [], ◌∷◌, Option, Some, None, arith, max, ⊎_elim}
-use Rattle.std.specs.Prelude.{Contains, IfSome}
+use Rattle.std.specs.Prelude.{◌↔◌, Contains, IfSome, ⊤}
+use Rattle.std.proofs.lemmas.List.Elements.{All-contains, All-from_recursion}
+use Rattle.acc_base.specs.declared.mappings.Found.{Found}
 use Rattle.std.specs.List.{list_all, AllByRecursion}
 use Rattle.std.proofs.lemmas.Bool.{false≢true}
 use Rattle.std.proofs.lemmas.Bool.Decides.{nat_tests}
@@ -69,16 +71,16 @@ where_is-placed s ranges q = go (is_empty s) refl
 -- ---- what the answer says of the ranges
 
 -- the range around a section that is inside one
-pub record IsInside (s : Section) (ranges : List Range) (block offset : ℕ) (r : Range) : Type 0 where
+pub record IsInsideOf (s : Section) (ranges : List Range) (block offset : ℕ) (r : Range) : Type 0 where
   pub around : range_around s ranges ≡ Some r
   pub block_is : r.block ≡ block
   pub offset_is : offset ≡ s.start - r.section.start
   pub some : is_empty s ≡ false
 
-pub inside_says : (s : Section) (ranges : List Range) (block offset : ℕ) → where_is s ranges ≡ Inside block offset → (r : Range) × IsInside s ranges block offset r
+pub inside_says : (s : Section) (ranges : List Range) (block offset : ℕ) → where_is s ranges ≡ Inside block offset → (r : Range) × IsInsideOf s ranges block offset r
 inside_says s ranges block offset e = go (is_empty s) refl (range_around s ranges) refl (list_all (λ r. is_apart s r.section) ranges) e
   where
-    go : (x : Bool) → is_empty s ≡ x → (found : Option Range) → range_around s ranges ≡ found → (y : Bool) → cond x Empty (found_in s found (cond y Absent Partly)) ≡ Inside block offset → (r : Range) × IsInside s ranges block offset r
+    go : (x : Bool) → is_empty s ≡ x → (found : Option Range) → range_around s ranges ≡ found → (y : Bool) → cond x Empty (found_in s found (cond y Absent Partly)) ≡ Inside block offset → (r : Range) × IsInsideOf s ranges block offset r
     go true t found f y h = cc
     go false t (Some r) f y h = (r, record { around = f; block_is = cc; offset_is = cc; some = t })
     go false t None f true h = cc
@@ -92,3 +94,45 @@ absent_says s ranges e = go (is_empty s) refl (range_around s ranges) (list_all 
     go false t (Some r) y f h = cc
     go false t None true f h = (f, t)
     go false t None false f h = cc
+
+-- ---- exactly when
+
+within_not_apart : (s : Section) (r : Range) → 0 < s.len → IsWithin s r.section → IsApart s r.section → ⊥
+within_not_apart s r some within apart = let first : Covers s s.start = (omega arith, omega arith) in apart s.start first (within s.start first)
+
+within_not_clear : (s : Section) (ranges : List Range) (r : Range) → 0 < s.len → Contains ranges r → IsWithin s r.section → IsClear s ranges → ⊥
+within_not_clear s ranges r some mapped within clear = within_not_apart s r some within (All-contains (λ (t : Range). IsApart s t.section) ranges r (All-from_recursion (λ (t : Range). IsApart s t.section) ranges clear) mapped)
+
+-- one mapped range has each address of the section, which is not empty
+abbrev pub IsInOne : Section → List Range → Type 0
+IsInOne s ranges = (0 < s.len) × ((r : Range) × Contains ranges r × IsWithin s r.section)
+
+abbrev pub IsInside : Found → Type 0
+IsInside (Inside block offset) = ⊤
+IsInside _ = ⊥
+
+inside_when : (s : Section) (ranges : List Range) (found : Found) → IsPlacedAt s ranges found → IsInOne s ranges → IsInside found
+inside_when s ranges Empty placed h = let some : 0 < s.len = h.0 in absurd (omega arith)
+inside_when s ranges (Inside block offset) placed h = tt
+inside_when s ranges Absent placed h = absurd (within_not_clear s ranges h.1.0 h.0 h.1.1 h.1.2 placed.1)
+inside_when s ranges Partly placed h = absurd (All-contains (λ (r : Range). ¬ IsWithin s r.section) ranges h.1.0 (All-from_recursion (λ (r : Range). ¬ IsWithin s r.section) ranges placed.1) h.1.1 h.1.2)
+
+in_one : (s : Section) (ranges : List Range) (found : Found) → IsPlacedAt s ranges found → IsInside found → IsInOne s ranges
+in_one s ranges Empty placed h = absurd h
+in_one s ranges (Inside block offset) placed h = (placed.0, (placed.1.0, placed.1.1.mapped, placed.1.1.within))
+in_one s ranges Absent placed h = absurd h
+in_one s ranges Partly placed h = absurd h
+
+-- a section is inside a range exactly where each of its addresses is in that one range
+pub inside_exactly : (s : Section) (ranges : List Range) → AllByRecursion (λ (r : Range). 0 < r.section.len) ranges → IsInside (where_is s ranges) ↔ IsInOne s ranges
+inside_exactly s ranges q = (in_one s ranges (where_is s ranges) (where_is-placed s ranges q), inside_when s ranges (where_is s ranges) (where_is-placed s ranges q))
+
+absent_when : (s : Section) (ranges : List Range) (found : Found) → IsPlacedAt s ranges found → (0 < s.len) × IsClear s ranges → found ≡ Absent
+absent_when s ranges Empty placed h = let some : 0 < s.len = h.0 in absurd (omega arith)
+absent_when s ranges (Inside block offset) placed h = absurd (within_not_clear s ranges placed.1.0 h.0 placed.1.1.mapped placed.1.1.within h.1)
+absent_when s ranges Absent placed h = refl
+absent_when s ranges Partly placed h = absurd (placed.2 h.1)
+
+-- and absent exactly where none of them is in any range
+pub absent_exactly : (s : Section) (ranges : List Range) → AllByRecursion (λ (r : Range). 0 < r.section.len) ranges → (where_is s ranges ≡ Absent) ↔ ((0 < s.len) × IsClear s ranges)
+absent_exactly s ranges q = ((λ e. subst (IsPlacedAt s ranges) e (where_is-placed s ranges q)), absent_when s ranges (where_is s ranges) (where_is-placed s ranges q))

@@ -2,49 +2,47 @@
 use Rattle.std.proofs.Common.{ℕ, ◌≡◌, ◌<◌, ◌≤◌, ◌^◌, refl, true, false, List, Option, Some, None, arith}
 use Rattle.std.specs.Prelude.{◌↔◌, ◌==◌, IsTrue, All, unwrap_or, option_map}
 use Rattle.std.proofs.lemmas.Bool.Decides.{nat_tests}
-use Rattle.std.proofs.lemmas.List.Elements.{All-contains, All-from_recursion, recursion_from_All}
+use Rattle.std.proofs.lemmas.List.Elements.{recursion_from_All}
 use Rattle.acc_base.specs.declared.items.Section.{Section}
 use Rattle.acc_base.specs.declared.mappings.Range.{Range}
 use Rattle.acc_base.specs.declared.mappings.Block.{Block}
 use Rattle.acc_base.specs.declared.mappings.Found.{Found}
 use Rattle.acc_base.specs.declared.mappings.Found.TheVariants.{Empty, Inside, Partly, Absent}
-use Rattle.acc_base.specs.Section.{is_within, end_of, Covers, IsWithin, IsApart}
-use Rattle.acc_base.specs.Ranges.{where_is, IsPlacedAt}
+use Rattle.acc_base.specs.Section.{is_within, end_of}
+use Rattle.acc_base.specs.Ranges.{where_is}
 use Rattle.acc_base.specs.Blocks.{block_at, place_of}
 use Rattle.acc_base.specs.Calls.{World}
 use Rattle.acc_base.specs.Accounts.{IsInHost}
+use Rattle.std.specs.List.{AllByRecursion}
 use Rattle.acc_base.proofs.Elements.{AllByRecursion-weaker, found_has}
-use Rattle.acc_base.proofs.Where.{where_is-placed, IsInside, inside_says}
+use Rattle.acc_base.proofs.Where.{IsInside, inside_exactly, IsInsideOf, inside_says}
 use Rattle.acc_table.specs.Bounds.{IsShort, IsLow}
 use Rattle.acc_table.specs.Kept.{IsKept}
 use Rattle.acc_table.specs.Queries.{is_inside, IsInsideOne}
 
 -- ---- presence
 
-is_true : IsTrue true
-is_true = refl
-
 never : {P : Type 0} → IsTrue false → P
 never h = cc
 
-not_clear : (s : Section) (r : Range) → 0 < s.len → IsWithin s r.section → IsApart s r.section → ⊥
-not_clear s r some within apart = let first : Covers s s.start = (omega arith, omega arith) in apart s.start first (within s.start first)
-
-inside_as : (s : Section) (ranges : List Range) (found : Found) → IsPlacedAt s ranges found → IsTrue (is_inside found) ↔ IsInsideOne s ranges
-inside_as s ranges Empty placed = (never, (λ h. let some : 0 < s.len = h.0 in absurd (omega arith)))
-inside_as s ranges (Inside block offset) placed = ((λ h. (placed.0, (placed.1.0, placed.1.1.mapped, placed.1.1.within))), (λ h. is_true))
-inside_as s ranges Absent placed = (never, (λ h. absurd (not_clear s h.1.0 h.0 h.1.2 (All-contains (λ (r : Range). IsApart s r.section) ranges h.1.0 (All-from_recursion (λ (r : Range). IsApart s r.section) ranges placed.1) h.1.1))))
-inside_as s ranges Partly placed = (never, (λ h. absurd (All-contains (λ (r : Range). ¬ IsWithin s r.section) ranges h.1.0 (All-from_recursion (λ (r : Range). ¬ IsWithin s r.section) ranges placed.1) h.1.1 h.1.2)))
+as_test : (found : Found) → IsTrue (is_inside found) ↔ IsInside found
+as_test Empty = (never, (λ h. absurd h))
+as_test (Inside block offset) = ((λ h. tt), (λ h. refl))
+as_test Partly = (never, (λ h. absurd h))
+as_test Absent = (never, (λ h. absurd h))
 
 pub present : (w : World) (s : Section) → IsKept w → IsTrue (is_inside (where_is s w.state.records.ranges)) ↔ IsInsideOne s w.state.records.ranges
-present w s k = inside_as s w.state.records.ranges (where_is s w.state.records.ranges)
-    (where_is-placed s w.state.records.ranges (AllByRecursion-weaker (λ r. IsInHost w.limits r.section) (λ r. 0 < r.section.len) w.state.records.ranges (λ r i. i.some) k.accounted.ranges_apart.in_host))
+present w s k =
+    let filled : AllByRecursion (λ (r : Range). 0 < r.section.len) w.state.records.ranges = AllByRecursion-weaker (λ r. IsInHost w.limits r.section) (λ r. 0 < r.section.len) w.state.records.ranges (λ r i. i.some) k.accounted.ranges_apart.in_host in
+    let test = as_test (where_is s w.state.records.ranges) in
+    let exact = inside_exactly s w.state.records.ranges filled in
+    ((λ t. exact.0 (test.0 t)), (λ h. test.1 (exact.1 h)))
 
 -- ---- device addresses
 
 pub offset_low : (s : Section) (ranges : List Range) (block offset : ℕ) → 0 < s.len → All IsShort ranges → where_is s ranges ≡ Inside block offset → offset < 2 ^ 40
 offset_low s ranges block offset some short e =
-    let found : (r : Range) × IsInside s ranges block offset r = inside_says s ranges block offset e in
+    let found : (r : Range) × IsInsideOf s ranges block offset r = inside_says s ranges block offset e in
     let has : IsShort found.0 × (is_within s found.0.section ≡ true) = found_has IsShort (λ r. is_within s r.section) ranges found.0 (recursion_from_All IsShort ranges short) found.1.around in
     let end_low : end_of found.0.section < 2 ^ 40 = has.0.0 in
     let within : end_of s ≤ end_of found.0.section = (let t : is_within s found.0.section ≡ true = has.1 in grind (arith, nat_tests)) in

@@ -1,0 +1,7 @@
+//! Device memory: blocks with a number, a place and bytes each.
+#![tactic(auto)]
+
+mod devices;
+mod entries;
+
+pub use devices::Device;

@@ -19,7 +19,7 @@ use Rattle.acc_placement.specs.Ranges.{IsLeastFit, IsFitBeside, IsLeastFitBeside
 use Rattle.acc_placement.specs.Space.{Space, IsCanonical, IsPartition, IsTaken}
 use Rattle.acc_placement.proofs.Partitions.{partition_last, partition_without, taken_at}
 use Rattle.acc_dev.specs.declared.entries.Stored.{Stored}
-use Rattle.acc_dev.specs.Device.{DeviceState, HasBlocksApart, IsBornAt, IsRetired, IsWritten, birth_place, fill_of, overwritten}
+use Rattle.acc_dev.specs.Device.{DeviceState, HasBlocksApart, IsBorn, IsRetired, IsWritten, birth_place, fill_of, overwritten}
 use Rattle.acc_dev.specs.Kept.{stored_place, stored_bytes, block_from, memory_from, slot_of, blocks_in, memories_in, range_of, AreRising, IsKept, IsCounted, IsEntry}
 use Rattle.acc_dev.proofs.Rising.{start, all_at, all-remove, apart-remove, map-remove, filter-map, remove-filter}
 use Rattle.acc_dev.proofs.Slots.{AreSame, KeepsOthers, same_from, vacant_off, others_off, made-born, made-removed, block_at-entry, bytes_of-entry, block_at-none, in_step, IsRewritten, all_filled, blocks_in-rewritten, memories_in-rewritten}
@@ -163,16 +163,19 @@ pub born_of : (old new : Space) (s s' t : List (Option Stored)) (xs xs' ys : Lis
     → IsLeastFit old.holes (rounded (length bytes)) place
     → blocks_in t ys ≡ blocks_in s' xs' ++ record { number = births + 1; place = place; len = length bytes } ∷ []
     → memories_in t ys ≡ memories_in s' xs' ++ record { block = births + 1; bytes = bytes } ∷ []
-    → IsSomeAnd (birth_place (device_of old s xs births) len) (IsBornAt (device_of old s xs births) (device_of new t ys (births + 1)) len clear)
+    → IsBorn (device_of old s xs births) (device_of new t ys (births + 1)) len clear (births + 1)
 born_of old new s s' t xs xs' ys births len place clear bytes k some slots index size filled least blocks memories =
     let long : length bytes ≡ len = ap length filled ∙ length-replicate len (fill_of clear) in
     let at : birth_place (device_of old s xs births) len ≡ Some place = birth_at old (blocks_in s xs) (rounded len) place (omega arith) k.lens (shared old s xs k) (rw long at least) in
-    rw at (record {
+    record {
+      place = place;
+      place_is = at;
+      block_is = refl;
       size = size;
-      births = refl;
       blocks = rw (long, slots, index) at blocks;
       memories = memories ∙ rw (slots, index) (ap (λ (b : List ℕ). memories_in s xs ++ record { block = births + 1; bytes = b } ∷ []) filled);
-    })
+      births = refl;
+    }
 
 pub born_counted : (xs ys : List (ℕ × ℕ)) (births slot : ℕ) → IsCounted xs births → births < 2 ^ 48 → ys ≡ xs ++ (births + 1, slot) ∷ [] → IsCounted ys (births + 1)
 born_counted xs ys births slot c few is = record {

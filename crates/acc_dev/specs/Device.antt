@@ -1,12 +1,11 @@
 -- What a device holds, and what its calls make of it.
-use Rattle.std.specs.Prelude.{ℕ, suc, ◌≡◌, ◌+◌, Bool, if◌then◌else◌, ◌==◌, List, [], ◌∷◌, ◌++◌, length, replicate, map, take, drop, Option, IsSome}
+use Rattle.std.specs.Prelude.{ℕ, suc, ◌≡◌, ◌+◌, Bool, if◌then◌else◌, ◌==◌, List, [], ◌∷◌, ◌++◌, length, replicate, map, take, drop, Option, Some, IsSome}
 use Rattle.acc_base.specs.declared.mappings.Range.{Range}
 use Rattle.acc_base.specs.declared.mappings.Block.{Block}
 use Rattle.acc_base.specs.Limits.{Limits}
 use Rattle.acc_base.specs.Records.{Memory}
-use Rattle.acc_base.specs.Blocks.{rounded, place_for, block_at}
+use Rattle.acc_base.specs.Blocks.{rounded, place_for, block_at, without_block}
 use Rattle.acc_base.specs.Bytes.{fill_byte, memories_kept}
-use Rattle.acc_base.specs.Blocks.{without_block}
 use Rattle.acc_base.specs.Accounts.{AreBlocksApart}
 
 -- the size of device memory in bytes, the blocks by rising number, the bytes of each in step with them, and how many blocks were ever born
@@ -44,12 +43,15 @@ birth_place d len = place_for d.size d.blocks (rounded len)
 abbrev pub fill_of : Bool → ℕ
 fill_of zero = if zero then 0 else fill_byte
 
--- the new device is the old one with a block more: its number is one more than that of the block born before it, and it is filled
-pub record IsBornAt (old new : DeviceState) (len : ℕ) (zero : Bool) (place : ℕ) : Type 0 where
+-- the new device is the old one with a block more: it has the next number, lies at the least place, and is filled
+pub record IsBorn (old new : DeviceState) (len : ℕ) (zero : Bool) (block : ℕ) : Type 0 where
+  pub place : ℕ
+  pub place_is : birth_place old len ≡ Some place
+  pub block_is : block ≡ old.births + 1
   pub size : new.size ≡ old.size
-  pub births : new.births ≡ old.births + 1
-  pub blocks : new.blocks ≡ old.blocks ++ record { number = old.births + 1; place = place; len = len } ∷ []
-  pub memories : new.memories ≡ old.memories ++ record { block = old.births + 1; bytes = replicate len (fill_of zero) } ∷ []
+  pub blocks : new.blocks ≡ old.blocks ++ record { number = block; place = place; len = len } ∷ []
+  pub memories : new.memories ≡ old.memories ++ record { block = block; bytes = replicate len (fill_of zero) } ∷ []
+  pub births : new.births ≡ block
 
 -- blocks that are yet to be born, at these places and of these lengths, from this number on
 abbrev pub planned_blocks : ℕ → List (ℕ × ℕ) → List Block

@@ -8,7 +8,7 @@ ghost use Rattle.acc_base.specs.Blocks.{rounded as rounded_of, place_for, block_
 ghost use Rattle.acc_base.specs.Bytes.{bytes_of};
 ghost use Rattle.acc_base.specs.Accounts.{IsMemoryOf};
 ghost use Rattle.acc_placement.specs.Ranges.{IsTakeBelow};
-ghost use Rattle.acc_dev.specs.Device.{HasBlock, IsNew, IsUnchanged, IsBornAt, IsWritten, IsRetired, HasBlocksApart, birth_place, planned_blocks, fill_of};
+ghost use Rattle.acc_dev.specs.Device.{HasBlock, IsNew, IsUnchanged, IsBorn, IsWritten, IsRetired, HasBlocksApart, birth_place, planned_blocks, fill_of};
 
 use crate::entries::{Stored, make_room, position_of, put, take_out, write_at};
 use acc_base::Fault;
@@ -92,8 +92,7 @@ impl Device {
     pub fn born(&mut self, len: u64, zero: bool) -> Result<u64, Fault>
         requires len { IsFromOne 67108864 len }
         requires births { self.old.births < 2 ^ 48 }
-        ensures number { IfOk result (λ number. number ≡ self.old.births + 1) }
-        ensures born { OnOk result (IsSomeAnd (birth_place self.old len) (IsBornAt self.old self.new len zero)) }
+        ensures born { IfOk result (IsBorn self.old self.new len zero) }
 
         // The place is the least of all device addresses at which the rounded length fits.
         ensures least { IsPlaceFor self.old.size self.old.blocks (rounded_of len) (birth_place self.old len) }

@@ -7,6 +7,8 @@ ghost use Rattle.acc_base.specs.Limits.{IsFromOne};
 ghost use Rattle.acc_base.specs.Blocks.{rounded as rounded_of};
 ghost use Rattle.acc_placement.specs.Ranges.{IsFit, IsLeastFit};
 ghost use Rattle.acc_placement.specs.Space.{IsUnchanged};
+ghost use Rattle.acc_dev.specs.Device.{overwritten};
+ghost use Rattle.acc_dev.specs.Kept.{stored_place, stored_bytes, blocks_in, memories_in, AreRising, IsEntry, IsKept};
 
 use acc_base::Fault;
 use acc_placement::Holes;
@@ -20,9 +22,6 @@ pub struct Stored {
     /// The bytes.
     pub bytes: Vec<u8>,
 }
-
-ghost use Rattle.acc_dev.specs.Device.{overwritten};
-ghost use Rattle.acc_dev.specs.Kept.{stored_place, stored_bytes, block_from, memory_from, blocks_in, memories_in, AreRising, IsEntry, IsKept};
 
 /// The place in the index of a block's entry.
 pub fn position_of(index: &[(u64, usize)], block: u64) -> Option<usize>

@@ -3,5 +3,7 @@
 
 mod devices;
 mod entries;
+#[cfg(test)]
+mod tests;
 
 pub use devices::Device;

@@ -4,7 +4,7 @@ use Rattle.acc_base.specs.declared.faults.Fault.{Fault}
 use Rattle.acc_base.specs.declared.faults.Fault.TheVariants.{Memory, DeviceFull}
 use Rattle.acc_base.specs.Blocks.{rounded, IsPlaceFor}
 use Rattle.acc_placement.specs.Ranges.{IsLeastFit}
-use Rattle.acc_dev.specs.Device.{DeviceState, IsBornAt, birth_place}
+use Rattle.acc_dev.specs.Device.{DeviceState, IsBorn, birth_place}
 use Rattle.acc_dev.specs.Kept.{IsKept, IsCounted}
 use Rattle.acc_dev.specs.declared.devices.Device.TheInside.{Inside}
 use Rattle.acc_dev.proofs.Keeping.{device_of, birth_found, birth_least, refused_full, born_of, born_counted, above_all}
@@ -65,6 +65,6 @@ returns-clause-born c =
     let d = c.self.inside in
     let room = c.in_ok-make_room.ensures in
     let fits = rw room.holes.holes at c.put.ensures.place in
-    subst (λ (x : DeviceState). IsSomeAnd (birth_place x c.args.len) (IsBornAt x (device_of c.put.new.holes c.put.new.slab.slots c.put.new.index.items (d.births + 1)) c.args.len c.args.zero)) c.self.view_is
+    subst (λ (x : DeviceState). IsBorn x (device_of c.put.new.holes c.put.new.slab.slots c.put.new.index.items (d.births + 1)) c.args.len c.args.zero (d.births + 1)) c.self.view_is
     (born_of d.holes c.put.new.holes d.slab.slots c.make_room.new.slab.slots c.put.new.slab.slots d.index.items c.make_room.new.index.items c.put.new.index.items d.births c.args.len c.put.result c.args.zero c.in_ok-bytes.bytes.items
     c.self.invariant.0 c.requires.len.0 room.slots room.index (c.put.ensures.size ∙ room.holes.size) c.in_ok-bytes.ensures.ok fits c.put.ensures.blocks c.put.ensures.memories)

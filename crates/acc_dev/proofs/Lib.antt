@@ -2,3 +2,4 @@ pub mod Rising
 pub mod Slots
 pub mod Placing
 pub mod Keeping
+pub mod Calls

@@ -1,7 +1,8 @@
-//! Measures the crates of the runtime: `acc_bench placement` prints how long the calls of the placement take, and
-//! `acc_bench script` how long scripts take.
+//! Measures the crates of the runtime: `acc_bench placement` prints how long the calls of the placement take,
+//! `acc_bench device` those of device memory, and `acc_bench script` how long scripts take.
 #![tactic(auto)]
 
+mod device;
 mod placement;
 mod script;
 
@@ -11,9 +12,10 @@ use std::env;
 fn main(rt: HostRuntime) -> Result<()> {
     match env::args(&rt)?.nth(1) {
         Some(name) if name.as_str() == "placement" => placement::run(&rt),
+        Some(name) if name.as_str() == "device" => device::run(&rt),
         Some(name) if name.as_str() == "script" => script::run(&rt),
         _ => {
-            println!(rt; "usage: acc_bench placement|script")?;
+            println!(rt; "usage: acc_bench placement|device|script")?;
             Ok(())
         }
     }

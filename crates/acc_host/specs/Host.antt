@@ -1,14 +1,8 @@
 -- Host memory: bytes at the addresses from 0x1000 on. Addresses are whole numbers without an upper bound.
 use Rattle.std.specs.Prelude.{ℕ, ◌≡◌, ◌+◌, ◌-◌, ◌<◌, ◌≤◌, List, ◌++◌, length, take, drop, slice_index}
 use Rattle.acc_base.specs.declared.items.Section.{Section}
-
--- the first address of host memory
-abbrev pub host_base : ℕ
-host_base = 0x1000
-
--- the address is one of the section's
-abbrev pub Covers : Section → ℕ → Type 0
-Covers s a = (s.start ≤ a) × (a < s.start + s.len)
+use Rattle.acc_base.specs.Section.{Covers, host_base}
+use Rattle.acc_base.specs.Bytes.{host_byte}
 
 -- the address is one of host memory's
 abbrev pub IsHost : List ℕ → ℕ → Type 0
@@ -23,10 +17,6 @@ pub record IsOutOfHost (host : List ℕ) (s : Section) : Type 0 where
   pub address : ℕ
   pub covered : Covers s address
   pub outside : ¬ IsHost host address
-
--- the byte at an address of host memory
-abbrev pub host_byte : List ℕ → ℕ → ℕ
-host_byte host a = slice_index host (a - host_base)
 
 -- these are the bytes of the section, which lies in host memory
 pub record IsRead (host : List ℕ) (s : Section) (bytes : List ℕ) : Type 0 where

@@ -3,7 +3,7 @@ use Rattle.std.proofs.Common.{◌≡◌, ℕ, zero, suc, ◌+◌, ◌<◌, ◌%�
 use Rattle.std.specs.Prelude.{All, Any}
 use Rattle.std.specs.List.{remove}
 use Rattle.std.proofs.lemmas.List.Elements.{All-append, All-take, All-drop}
-use Rattle.acc_placement.specs.Ranges.{rounded}
+use Rattle.acc_base.specs.Blocks.{rounded}
 
 pub all_front : (P : ℕ × ℕ → Type 0) (l r : List (ℕ × ℕ)) → All P (l ++ r) → All P l
 all_front P [] r a k d lt = absurd (omega arith)

@@ -2,7 +2,8 @@
 use Rattle.std.proofs.Common.{◌≡◌, ℕ, suc, ◌+◌, ◌<◌, ◌≤◌, ◌⊎◌, List, [], ◌∷◌, ◌++◌, inl, inr, arith, subst, sym, ap, ◌∙◌, length, take, drop, get_or}
 use Rattle.std.specs.Prelude.{All, Any}
 use Rattle.std.proofs.lemmas.Bool.{cases_lt}
-use Rattle.acc_placement.specs.Ranges.{Spans, IsIn, IsFit, IsFitBeside, IsLeastFitBeside, IsRising, IsTakeBelow, rounded, all_rounded}
+use Rattle.acc_base.specs.Blocks.{rounded}
+use Rattle.acc_placement.specs.Ranges.{Spans, IsIn, IsFit, IsFitBeside, IsLeastFitBeside, IsRising, IsTakeBelow, all_rounded}
 use Rattle.std.proofs.lemmas.List.{drop_all}
 use Rattle.std.proofs.Math.Seq.{drop-cons}
 use Rattle.std.proofs.Common.{zero, add-one}

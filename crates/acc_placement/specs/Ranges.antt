@@ -1,10 +1,7 @@
 -- Ranges of addresses, each its place and its size in bytes, and lists of them.
-use Rattle.std.specs.Prelude.{ℕ, ◌≡◌, ◌+◌, ◌*◌, ◌/◌, ◌%◌, ◌<◌, ◌≤◌, ◌⊎◌, List, [], ◌∷◌}
+use Rattle.std.specs.Prelude.{ℕ, ◌≡◌, ◌+◌, ◌%◌, ◌<◌, ◌≤◌, ◌⊎◌, List, [], ◌∷◌}
 use Rattle.acc_base.specs.Limits.{IsFromOne}
-
--- the least multiple of 16 that is at least n
-abbrev pub rounded : ℕ → ℕ
-rounded n = 16 * ((n + 15) / 16)
+use Rattle.acc_base.specs.Blocks.{rounded}
 
 -- a is one of the n addresses from p on
 abbrev pub Spans : ℕ → ℕ → ℕ → Type 0

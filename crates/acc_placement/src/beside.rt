@@ -2,7 +2,8 @@
 
 ghost use Rattle.std.specs.Prelude.{◌≡◌, ℕ, ◌+◌, ◌%◌, ◌^◌, ◌<◌, ◌≤◌, All, Any, IfSome, IfNone};
 ghost use Rattle.acc_base.specs.Limits.{IsFromOne};
-ghost use Rattle.acc_placement.specs.Ranges.{rounded as rounded_of, IsTakeBelow};
+ghost use Rattle.acc_base.specs.Blocks.{rounded as rounded_of};
+ghost use Rattle.acc_placement.specs.Ranges.{IsTakeBelow};
 ghost use Rattle.acc_placement.specs.Changes.{IsBeside};
 
 use crate::rounding::rounded;

@@ -2,7 +2,8 @@
 
 ghost use Rattle.std.specs.Prelude.{◌≡◌, ℕ, List, ◌+◌, ◌%◌, ◌^◌, ◌<◌, ◌≤◌, ◌⊎◌, ◌↔◌, [], ◌∷◌, ◌++◌, All, IfOk, IfErr, IfSome, IfNone, Err, OnErr, OnOk};
 ghost use Rattle.acc_base.specs.Limits.{IsSize, IsFromOne};
-ghost use Rattle.acc_placement.specs.Ranges.{rounded as rounded_of, all_rounded, IsFit, IsLeastFit, IsFitBeside, IsLeastFitBeside, IsTakeBelow, total};
+ghost use Rattle.acc_base.specs.Blocks.{rounded as rounded_of};
+ghost use Rattle.acc_placement.specs.Ranges.{all_rounded, IsFit, IsLeastFit, IsFitBeside, IsLeastFitBeside, IsTakeBelow, total};
 ghost use Rattle.acc_placement.specs.Space.{IsCanonical, IsFresh, IsUnchanged, IsPartition, IsTaken, IsTakenFrom, IsGivenBack};
 
 use crate::beside::past;

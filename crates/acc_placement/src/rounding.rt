@@ -1,7 +1,7 @@
 //! Rounding lengths up to the unit of placement.
 
 ghost use Rattle.std.specs.Prelude.{◌≡◌, ℕ, ◌%◌, ◌^◌, ◌<◌, ◌≤◌};
-ghost use Rattle.acc_placement.specs.Ranges.{rounded as rounded_of};
+ghost use Rattle.acc_base.specs.Blocks.{rounded as rounded_of};
 
 /// The least multiple of 16 that is at least `length`: how many bytes of device memory a block of that length takes.
 pub fn rounded(length: u64) -> u64

@@ -1,7 +1,7 @@
 use Rattle.std.proofs.Common.{subst, List, ◌⊎◌, ℕ, ◌+◌, ◌≤◌}
 use Rattle.std.specs.Prelude.{All}
 use Rattle.std.proofs.lemmas.List.{take_all}
-use Rattle.acc_placement.specs.Ranges.{rounded}
+use Rattle.acc_base.specs.Blocks.{rounded}
 use Rattle.acc_placement.proofs.Outside.{beside_all}
 use Rattle.acc_placement.proofs.beside.end_of_overlap.Goals as goal
 

@@ -1,5 +1,5 @@
 use Rattle.std.proofs.Common.{ℕ, ◌+◌, ◌≤◌, ◌⊎◌, take, All}
-use Rattle.acc_placement.specs.Ranges.{rounded}
+use Rattle.acc_base.specs.Blocks.{rounded}
 use Rattle.acc_placement.proofs.beside.end_of_overlap.Given as goal
 
 abbrev pub invariant-loop-start : goal.invariant-loop-start

@@ -1,0 +1,5 @@
+pub mod Rising
+pub mod Slots
+pub mod Placing
+pub mod Keeping
+pub mod Calls

@@ -1,0 +1,70 @@
+use Rattle.std.proofs.Common.{◌≡◌, ◌+◌, ◌≤◌, ℕ, Option, Some, None, Err, List, length, ap, ◌∙◌, sym, subst, rules, arith, get_or}
+use Rattle.std.specs.Prelude.{IsSomeAnd, IsErrAnd}
+use Rattle.acc_base.specs.declared.faults.Fault.{Fault}
+use Rattle.acc_base.specs.declared.faults.Fault.TheVariants.{Memory, DeviceFull}
+use Rattle.acc_base.specs.Blocks.{rounded, IsPlaceFor}
+use Rattle.acc_placement.specs.Ranges.{IsLeastFit}
+use Rattle.acc_dev.specs.Device.{DeviceState, IsBorn, birth_place}
+use Rattle.acc_dev.specs.Kept.{IsKept, IsCounted}
+use Rattle.acc_dev.specs.declared.devices.Device.TheInside.{Inside}
+use Rattle.acc_dev.proofs.Keeping.{device_of, birth_found, birth_least, refused_full, born_of, born_counted, above_all}
+use Rattle.acc_dev.proofs.devices.Device.born.Goals as goal
+
+-- the place of a birth is the least, as contracts see the device
+least : (d : Inside) (now : DeviceState) (len : ℕ) → device_of d.holes d.slab.slots d.index.items d.births ≡ now → IsKept d.holes d.slab.slots d.index.items → 1 ≤ len → IsPlaceFor now.size now.blocks (rounded len) (birth_place now len)
+least d now len is k some = subst (λ (x : DeviceState). IsPlaceFor x.size x.blocks (rounded len) (birth_place x len)) is (birth_least d.holes d.slab.slots d.index.items d.births len k some)
+
+pub returns-in_default-clause-least : goal.returns-in_default-clause-least
+returns-in_default-clause-least c = least c.self.inside c.args.self.now c.args.len c.self.view_is c.self.invariant.0 c.requires.len.0
+
+pub returns-in_err-bytes-clause-least : goal.returns-in_err-bytes-clause-least
+returns-in_err-bytes-clause-least c = least c.self.inside c.args.self.now c.args.len c.self.view_is c.self.invariant.0 c.requires.len.0
+
+pub returns-in_err-make_room-clause-least : goal.returns-in_err-make_room-clause-least
+returns-in_err-make_room-clause-least c = least c.self.inside c.args.self.now c.args.len c.self.view_is c.self.invariant.0 c.requires.len.0
+
+pub returns-clause-least : goal.returns-clause-least
+returns-clause-least c = least c.self.inside c.args.self.now c.args.len c.self.view_is c.self.invariant.0 c.requires.len.0
+
+pub returns-in_default-clause-full : goal.returns-in_default-clause-full
+returns-in_default-clause-full c =
+    let d = c.self.inside in
+    let place : c.would_take.result ≡ birth_place c.args.self.now c.args.len = subst (λ (x : DeviceState). c.would_take.result ≡ birth_place x c.args.len) c.self.view_is (birth_found d.holes d.slab.slots d.index.items d.births c.args.len c.would_take.result c.self.invariant.0 c.requires.len.0 c.would_take.ensures.place c.would_take.ensures.none) in
+    (λ full. sym place ∙ c.in_default.is, λ none. ap (λ (n : ℕ). Err (DeviceFull 0 n)) c.rounded.ensures.value)
+
+pub returns-in_err-bytes-clause-full : goal.returns-in_err-bytes-clause-full
+returns-in_err-bytes-clause-full c =
+    let d = c.self.inside in
+    let place : c.would_take.result ≡ birth_place c.args.self.now c.args.len = subst (λ (x : DeviceState). c.would_take.result ≡ birth_place x c.args.len) c.self.view_is (birth_found d.holes d.slab.slots d.index.items d.births c.args.len c.would_take.result c.self.invariant.0 c.requires.len.0 c.would_take.ensures.place c.would_take.ensures.none) in
+    refused_full c.from_residual.result (birth_place c.args.self.now c.args.len) c.in-Some.field-0 (rounded c.args.len) (search rules) (sym place ∙ c.in-Some.is)
+
+pub returns-in_err-make_room-clause-full : goal.returns-in_err-make_room-clause-full
+returns-in_err-make_room-clause-full c =
+    let d = c.self.inside in
+    let place : c.would_take.result ≡ birth_place c.args.self.now c.args.len = subst (λ (x : DeviceState). c.would_take.result ≡ birth_place x c.args.len) c.self.view_is (birth_found d.holes d.slab.slots d.index.items d.births c.args.len c.would_take.result c.self.invariant.0 c.requires.len.0 c.would_take.ensures.place c.would_take.ensures.none) in
+    refused_full c.from_residual-in_err-make_room.result (birth_place c.args.self.now c.args.len) c.in-Some.field-0 (rounded c.args.len) (search rules) (sym place ∙ c.in-Some.is)
+
+pub returns-clause-full : goal.returns-clause-full
+returns-clause-full c =
+    let d = c.self.inside in
+    let place : c.would_take.result ≡ birth_place c.args.self.now c.args.len = subst (λ (x : DeviceState). c.would_take.result ≡ birth_place x c.args.len) c.self.view_is (birth_found d.holes d.slab.slots d.index.items d.births c.args.len c.would_take.result c.self.invariant.0 c.requires.len.0 c.would_take.ensures.place c.would_take.ensures.none) in
+    let found = sym place ∙ c.in-Some.is in
+    (λ full. cc, λ none. let bad : ⊥ = cc in absurd bad)
+
+pub put-requires-clause-above : goal.put-requires-clause-above
+put-requires-clause-above c = above_all c.self.inside.index.items c.make_room.new.index.items c.self.inside.births c.self.invariant.1 c.in_ok-make_room.ensures.index
+
+pub invariant_of-self-2 : goal.invariant_of-self-2
+invariant_of-self-2 c =
+    let births = rw (← c.self.view_is) at c.requires.births in
+    let entry = rw c.in_ok-make_room.ensures.index at c.put.ensures.index in
+    (c.put.ensures.kept, born_counted c.self.inside.index.items c.put.new.index.items c.self.inside.births entry.0 c.self.invariant.1 births entry.1)
+
+pub returns-clause-born : goal.returns-clause-born
+returns-clause-born c =
+    let d = c.self.inside in
+    let room = c.in_ok-make_room.ensures in
+    let fits = rw room.holes.holes at c.put.ensures.place in
+    subst (λ (x : DeviceState). IsBorn x (device_of c.put.new.holes c.put.new.slab.slots c.put.new.index.items (d.births + 1)) c.args.len c.args.zero (d.births + 1)) c.self.view_is
+    (born_of d.holes c.put.new.holes d.slab.slots c.make_room.new.slab.slots c.put.new.slab.slots d.index.items c.make_room.new.index.items c.put.new.index.items d.births c.args.len c.put.result c.args.zero c.in_ok-bytes.bytes.items
+    c.self.invariant.0 c.requires.len.0 room.slots room.index (c.put.ensures.size ∙ room.holes.size) c.in_ok-bytes.ensures.ok fits c.put.ensures.blocks c.put.ensures.memories)

@@ -1,0 +1,17 @@
+use Rattle.std.proofs.Common.{◌≤◌, subst}
+use Rattle.std.specs.List.{AllZip}
+use Rattle.acc_base.specs.Blocks.{used_bytes}
+use Rattle.acc_base.specs.Accounts.{IsMemoryOf}
+use Rattle.acc_dev.specs.Device.{DeviceState, HasBlocksApart}
+use Rattle.acc_dev.proofs.Slots.{in_step}
+use Rattle.acc_dev.proofs.Keeping.{apart_of, used_within}
+use Rattle.acc_dev.proofs.devices.Device.laws.Goals as goal
+
+pub returns-clause-blocks_apart : goal.returns-clause-blocks_apart
+returns-clause-blocks_apart c = subst HasBlocksApart c.self.view_is (apart_of c.self.inside.holes c.self.inside.slab.slots c.self.inside.index.items c.self.inside.births c.self.invariant.0 c.self.invariant.1)
+
+pub returns-clause-memories : goal.returns-clause-memories
+returns-clause-memories c = subst (λ (d : DeviceState). AllZip IsMemoryOf d.memories d.blocks) c.self.view_is (in_step c.self.inside.slab.slots c.self.inside.index.items)
+
+pub returns-clause-bytes_accounted : goal.returns-clause-bytes_accounted
+returns-clause-bytes_accounted c = subst (λ (d : DeviceState). used_bytes d.blocks ≤ d.size) c.self.view_is (used_within c.self.inside.holes c.self.inside.slab.slots c.self.inside.index.items c.self.invariant.0)

@@ -1,0 +1,17 @@
+use Rattle.std.proofs.Common.{sym, subst}
+use Rattle.acc_dev.specs.Device.{DeviceState, HasBlock, IsRetired}
+use Rattle.acc_dev.proofs.Keeping.{device_of, not_missed, retired_of, counted_left}
+use Rattle.acc_dev.proofs.devices.Device.retire.Goals as goal
+
+pub unreachable-requires : goal.unreachable-requires
+unreachable-requires c =
+    let s = c.self.inside in
+    let none = rw c.deref.ensures.value at c.in_default.ensures.none in
+    not_missed s.slab.slots s.index.items c.args.block none (subst (λ (d : DeviceState). HasBlock d c.args.block) (sym c.self.view_is) c.requires)
+
+pub returns : goal.returns
+returns c =
+    let s = c.self.inside in
+    let found = rw c.deref.ensures.value at c.in-Some.ensures.found in
+    subst (λ (d : DeviceState). IsRetired d (device_of c.take_out.new.holes c.take_out.new.slab.slots c.take_out.new.index.items s.births) c.args.block) c.self.view_is
+    (retired_of s.holes c.take_out.new.holes s.slab.slots c.take_out.new.slab.slots s.index.items c.take_out.new.index.items s.births c.in-Some.at c.args.block c.self.invariant.0 found c.take_out.ensures.size c.take_out.ensures.blocks c.take_out.ensures.memories)

@@ -1,0 +1,89 @@
+-- What a device holds, and what its calls make of it.
+use Rattle.std.specs.Prelude.{ℕ, suc, ◌≡◌, ◌+◌, Bool, if◌then◌else◌, ◌==◌, List, [], ◌∷◌, ◌++◌, length, replicate, map, take, drop, Option, Some, IsSome}
+use Rattle.acc_base.specs.declared.mappings.Range.{Range}
+use Rattle.acc_base.specs.declared.mappings.Block.{Block}
+use Rattle.acc_base.specs.Limits.{Limits}
+use Rattle.acc_base.specs.Records.{Memory}
+use Rattle.acc_base.specs.Blocks.{rounded, place_for, block_at, without_block}
+use Rattle.acc_base.specs.Bytes.{fill_byte, memories_kept}
+use Rattle.acc_base.specs.Accounts.{AreBlocksApart}
+
+-- the size of device memory in bytes, the blocks by rising number, the bytes of each in step with them, and how many blocks were ever born
+pub record DeviceState : Type 0 where
+  pub size : ℕ
+  pub blocks : List Block
+  pub memories : List Memory
+  pub births : ℕ
+
+-- the block is one of the device's
+abbrev pub HasBlock : DeviceState → ℕ → Type 0
+HasBlock d block = IsSome (block_at block d.blocks)
+
+-- no block was born on the device
+pub record IsNew (size : ℕ) (d : DeviceState) : Type 0 where
+  pub size_is : d.size ≡ size
+  pub blocks_are : d.blocks ≡ []
+  pub memories_are : d.memories ≡ []
+  pub births_are : d.births ≡ 0
+
+-- the same device, but for its spare room
+pub record IsUnchanged (old new : DeviceState) : Type 0 where
+  pub size : new.size ≡ old.size
+  pub blocks : new.blocks ≡ old.blocks
+  pub memories : new.memories ≡ old.memories
+  pub births : new.births ≡ old.births
+
+-- ---- births
+
+-- where a new block of this length lies: at the least device address at which its rounded length fits
+abbrev pub birth_place : DeviceState → ℕ → Option ℕ
+birth_place d len = place_for d.size d.blocks (rounded len)
+
+-- the byte that fills a new block
+abbrev pub fill_of : Bool → ℕ
+fill_of zero = if zero then 0 else fill_byte
+
+-- the new device is the old one with a block more: it has the next number, lies at the least place, and is filled
+pub record IsBorn (old new : DeviceState) (len : ℕ) (zero : Bool) (block : ℕ) : Type 0 where
+  pub place : ℕ
+  pub place_is : birth_place old len ≡ Some place
+  pub block_is : block ≡ old.births + 1
+  pub size : new.size ≡ old.size
+  pub blocks : new.blocks ≡ old.blocks ++ record { number = block; place = place; len = len } ∷ []
+  pub memories : new.memories ≡ old.memories ++ record { block = block; bytes = replicate len (fill_of zero) } ∷ []
+  pub births : new.births ≡ block
+
+-- blocks that are yet to be born, at these places and of these lengths, from this number on
+abbrev pub planned_blocks : ℕ → List (ℕ × ℕ) → List Block
+planned_blocks number [] = []
+planned_blocks number (t ∷ ts) = record { number = number; place = t.0; len = t.1 } ∷ planned_blocks (suc number) ts
+
+-- ---- writes and ends
+
+-- the bytes with others in place of those from an offset on
+abbrev pub overwritten : ℕ → List ℕ → List ℕ → List ℕ
+overwritten offset bytes old = take offset old ++ bytes ++ drop (offset + length bytes) old
+
+-- the memory, with a change of its bytes where it is the block's
+abbrev pub memory_changed : ℕ → (List ℕ → List ℕ) → Memory → Memory
+memory_changed block change m = if m.block == block then record m { bytes = change m.bytes } else m
+
+-- the new device is the old one with bytes from an offset of a block on
+pub record IsWritten (old new : DeviceState) (block offset : ℕ) (bytes : List ℕ) : Type 0 where
+  pub size : new.size ≡ old.size
+  pub blocks : new.blocks ≡ old.blocks
+  pub memories : new.memories ≡ map (memory_changed block (overwritten offset bytes)) old.memories
+  pub births : new.births ≡ old.births
+
+-- the new device is the old one without a block and its bytes
+pub record IsRetired (old new : DeviceState) (block : ℕ) : Type 0 where
+  pub size : new.size ≡ old.size
+  pub blocks : new.blocks ≡ without_block block old.blocks
+  pub memories : new.memories ≡ memories_kept new.blocks old.memories
+  pub births : new.births ≡ old.births
+
+-- ---- what holds of every device
+
+-- its blocks lie on it and apart, in the order of their births, whatever the other limits and the mapped ranges are
+abbrev pub HasBlocksApart : DeviceState → Type 0
+HasBlocksApart d = (l : Limits) (ranges : List Range) → l.device ≡ d.size → AreBlocksApart l (record { ranges = ranges; blocks = d.blocks; births = d.births })

@@ -1,0 +1,237 @@
+//! Device memory as one value.
+
+ghost use Rattle.std.specs.Prelude.{◌≡◌, ◌+◌, ◌^◌, ◌<◌, ◌≤◌, ◌⊎◌, ◌↔◌, ◌++◌, length, replicate, All, IfOk, IfErr, OnOk, OnErr, IsSomeAnd, IfSome, IsTrue, Err, None, Some};
+ghost use Rattle.std.specs.List.{AllZip, AllByRecursion};
+ghost use Rattle.acc_base.specs.Limits.{IsSize, IsFromOne};
+ghost use Rattle.acc_base.specs.Section.{device_base};
+ghost use Rattle.acc_base.specs.Blocks.{rounded as rounded_of, place_for, block_at, size_of, used_bytes, IsPlaceFor};
+ghost use Rattle.acc_base.specs.Bytes.{bytes_of};
+ghost use Rattle.acc_base.specs.Accounts.{IsMemoryOf};
+ghost use Rattle.acc_placement.specs.Ranges.{IsTakeBelow};
+ghost use Rattle.acc_dev.specs.Device.{HasBlock, IsNew, IsUnchanged, IsBorn, IsWritten, IsRetired, HasBlocksApart, birth_place, planned_blocks, fill_of};
+
+use crate::entries::{Stored, make_room, position_of, put, take_out, write_at};
+use acc_base::Fault;
+use acc_placement::{Holes, rounded};
+use slab::Slab;
+use std::alloc::Global;
+use std::marker::Model;
+
+/// The device address at which device memory begins.
+const DEVICE_BASE: u64 = 0x1_0000_0000;
+
+/// The byte of a new block that is not set to zero.
+const FILL_BYTE: u8 = 0xa5;
+
+/// Device memory: blocks, each with a number, a place and bytes (OpenACC 3.3, section 2.6, data environment).
+///
+/// Blocks are numbered from 1 in the order of their births, and no number is used twice. Contracts see the size of the
+/// memory in bytes, the blocks by rising number, the bytes of each, and how many were ever born.
+///
+/// A number finds its block in as many steps as the number of blocks has binary digits. [`Device::born`] and
+/// [`Device::retire`] do that, or add at the end, and search the list of holes of the placement once or twice;
+/// [`Device::retire`] also moves the 16 bytes of the index of each later block by one place. No other work grows with
+/// the number of blocks.
+#[derive(Drop)]
+pub struct Device {
+    alloc: Global,
+    holes: Holes,
+    slab: Slab<Stored>,
+    // The number and the slot of each block, by rising number.
+    index: Vec<(u64, usize)>,
+    births: u64,
+}
+
+impl Model for Device {
+    ghost use Rattle.acc_dev.specs.Device.{DeviceState};
+    ghost use Rattle.acc_dev.specs.Kept.{blocks_in, memories_in, IsKept, IsCounted};
+
+    ghost Value = { DeviceState };
+
+    ghost view = { λ d. record {
+      size = d.holes.size;
+      blocks = blocks_in d.slab.slots d.index.items;
+      memories = memories_in d.slab.slots d.index.items;
+      births = d.births;
+    } };
+
+    ghost invariant = { λ d. IsKept d.holes d.slab.slots d.index.items × IsCounted d.index.items d.births };
+}
+
+impl Device {
+    /// A device of `size` bytes without a block: a multiple of 16, from 16 to 67,108,864. Device addresses begin at
+    /// 0x100000000.
+    ///
+    /// # Errors
+    ///
+    /// [`Fault::Memory`] alone.
+    pub fn new(alloc: Global, size: u64) -> Result<Device, Fault>
+        requires { IsSize size }
+        ensures ok { IfOk result (IsNew size) }
+        ensures only { IfErr result (λ fault. fault ≡ Fault.Memory) }
+    {
+        Ok(Device {
+            alloc,
+            holes: Holes::new(alloc, DEVICE_BASE, size)?,
+            slab: Slab::new(alloc),
+            index: Vec::new(alloc),
+            births: 0,
+        })
+    }
+
+    /// A new block of `len` bytes, from 1 to 67,108,864: its number, which is one more than that of the block born
+    /// before it. It lies at the least device address at which its length, rounded up to a multiple of 16, fits. Each of
+    /// its bytes is 0xA5, or 0 with `zero` (OpenACC 3.3, the create clause).
+    ///
+    /// Fewer than 2^48 blocks may have been born before.
+    ///
+    /// # Errors
+    ///
+    /// [`Fault::DeviceFull`] with item 0 and the rounded length, exactly where it fits nowhere; else only
+    /// [`Fault::Memory`]. The device is then as before, but for its spare room.
+    pub fn born(&mut self, len: u64, zero: bool) -> Result<u64, Fault>
+        requires len { IsFromOne 67108864 len }
+        requires births { self.old.births < 2 ^ 48 }
+        ensures born { IfOk result (IsBorn self.old self.new len zero) }
+
+        // The place is the least of all device addresses at which the rounded length fits.
+        ensures least { IsPlaceFor self.old.size self.old.blocks (rounded_of len) (birth_place self.old len) }
+
+        // Each error, and what it leaves.
+        ensures full { (result ≡ Err (Fault.DeviceFull 0 (rounded_of len))) ↔ (birth_place self.old len ≡ None) }
+        ensures only { IfErr result (λ fault. (fault ≡ Fault.Memory) ⊎ (fault ≡ Fault.DeviceFull 0 (rounded_of len))) }
+        ensures unchanged { OnErr result (IsUnchanged self.old self.new) }
+    {
+        let Some(_) = self.holes.would_take(&[], len) else {
+            return Err(Fault::DeviceFull {
+                item: 0,
+                need: rounded(len),
+            });
+        };
+        let bytes = filled(self.alloc, len, zero)?;
+        make_room(&mut self.holes, &mut self.slab, &mut self.index)?;
+        let number = self.births + 1;
+        put(
+            &mut self.holes,
+            &mut self.slab,
+            &mut self.index,
+            number,
+            bytes,
+        );
+        self.births = number;
+        Ok(number)
+    }
+
+    /// Where [`Device::born`] would place a block of `len` bytes after births at the listed places and of the listed
+    /// lengths: the least device address at which the rounded length fits beside them all. `None` exactly where there is
+    /// none. It needs no memory.
+    ///
+    /// Each listed length is from 1 to 67,108,864, and each listed block ends on the device.
+    pub fn would_take(&self, listed: &[(u64, u64)], len: u64) -> Option<u64>
+        requires len { IsFromOne 67108864 len }
+        requires listed { All (IsTakeBelow (device_base + self.now.size)) listed.now }
+        ensures { result ≡ place_for self.now.size (self.now.blocks ++ planned_blocks (self.now.births + 1) listed.now) (rounded_of len) }
+    {
+        self.holes.would_take(listed, len)
+    }
+
+    /// The number that the next block gets.
+    pub fn next_block(&self) -> u64
+        ensures { result ≡ self.now.births + 1 }
+    {
+        self.births + 1
+    }
+
+    /// Whether there is a block of this number: it was born, and not given back since.
+    pub fn has(&self, block: u64) -> bool
+        ensures { IsTrue result ↔ HasBlock self.now block }
+    {
+        position_of(&self.index, block).is_some()
+    }
+
+    /// Where a block of the device lies: the device address of its first byte, and how many bytes of device memory it
+    /// takes, which is its length rounded up to a multiple of 16.
+    pub fn place(&self, block: u64) -> (u64, u64)
+        requires { HasBlock self.now block }
+        ensures { IsSomeAnd (block_at block self.now.blocks) (λ b. (result.0 ≡ b.place) × (result.1 ≡ size_of b)) }
+    {
+        match self.stored(block) {
+            Some(stored) => (stored.place, rounded(stored.bytes.len() as u64)),
+            None => unreachable!(),
+        }
+    }
+
+    /// What the slot of a block has.
+    fn stored(&self, block: u64) -> Option<&Stored>
+        requires { HasBlock self.now block }
+        ensures block { IsSomeAnd result (λ stored. block_at block self.now.blocks ≡ Some (record { number = block; place = stored.now.place; len = length stored.now.bytes.items })) }
+        ensures bytes { IfSome result (λ stored. stored.now.bytes.items ≡ bytes_of block self.now.memories) }
+        ensures len { IfSome result (λ stored. IsFromOne 67108864 (length stored.now.bytes.items)) }
+    {
+        let at = position_of(&self.index, block)?;
+        self.slab.get(self.index[at].1)
+    }
+
+    /// The bytes of a block of the device, as many as it is long. They are always there: `None` is for blocks that are
+    /// out on loan, which no block is yet.
+    pub fn bytes(&self, block: u64) -> Option<&[u8]>
+        requires { HasBlock self.now block }
+        ensures { IsSomeAnd result (λ bytes. bytes.now ≡ bytes_of block self.now.memories) }
+    {
+        Some(&self.stored(block)?.bytes)
+    }
+
+    /// Writes bytes into a block of the device, from an offset in bytes on. They end within the block.
+    pub fn write(&mut self, block: u64, offset: u64, bytes: &[u8])
+        requires there { HasBlock self.old block }
+        requires in_range { offset + length bytes.now ≤ length (bytes_of block self.old.memories) }
+        ensures { IsWritten self.old self.new block offset bytes.now }
+    {
+        let Some(at) = position_of(&self.index, block) else {
+            unreachable!()
+        };
+        let slot = self.index[at].1;
+        write_at(&mut self.slab, slot, offset as usize, bytes);
+    }
+
+    /// Gives a block of the device back: its addresses are free again, and its bytes are gone. It needs no memory and is
+    /// never refused.
+    pub fn retire(&mut self, block: u64)
+        requires { HasBlock self.old block }
+        ensures { IsRetired self.old self.new block }
+    {
+        let Some(at) = position_of(&self.index, block) else {
+            unreachable!()
+        };
+        take_out(&mut self.holes, &mut self.slab, &mut self.index, at);
+    }
+
+    /// How many bytes of device memory the blocks take: the sum of their lengths, each rounded up to a multiple of 16.
+    pub fn used(&self) -> u64
+        ensures { result ≡ used_bytes self.now.blocks }
+    {
+        self.holes.used()
+    }
+
+    /// What holds of every device: its blocks lie on it and apart, by rising number; each has a memory of its length,
+    /// from 1 to 67,108,864 bytes; and they take no more bytes than there are. Nothing is done.
+    pub fn laws(&self)
+        ensures size { IsSize self.now.size }
+        ensures blocks_apart { HasBlocksApart self.now }
+        ensures memories { AllZip IsMemoryOf self.now.memories self.now.blocks }
+        ensures lens { AllByRecursion (λ b. IsFromOne 67108864 b.len) self.now.blocks }
+        ensures bytes_accounted { used_bytes self.now.blocks ≤ self.now.size }
+        ensures births { self.now.births ≤ 2 ^ 48 }
+    {
+        let _ = &self.births;
+    }
+}
+
+/// The bytes of a new block.
+fn filled(alloc: Global, len: u64, zero: bool) -> Result<Vec<u8>, Fault>
+    ensures ok { IfOk result (λ bytes. bytes.items ≡ replicate len (fill_of zero)) }
+    ensures only { IfErr result (λ fault. fault ≡ Fault.Memory) }
+{
+    let fill = if zero { 0 } else { FILL_BYTE };
+    Ok(vec![in alloc; fill; len as usize]?)
+}

@@ -1,0 +1,124 @@
+//! The slots of blocks, and the index by which a number finds its slot.
+
+ghost use Rattle.std.specs.Prelude.{◌≡◌, ℕ, ◌+◌, ◌^◌, ◌<◌, ◌≤◌, ◌≢◌, List, [], ◌∷◌, ◌++◌, length, IfSome, IfNone, IfErr, OnOk, IsSome, Some, vec_len, vec_capacity};
+ghost use Rattle.std.specs.List.{AllByRecursion, remove};
+ghost use Rattle.slab.specs.Slab.{get, HasRoomFor};
+ghost use Rattle.acc_base.specs.Limits.{IsFromOne};
+ghost use Rattle.acc_base.specs.Blocks.{rounded as rounded_of};
+ghost use Rattle.acc_placement.specs.Ranges.{IsFit, IsLeastFit};
+ghost use Rattle.acc_placement.specs.Space.{IsUnchanged};
+ghost use Rattle.acc_dev.specs.Device.{overwritten};
+ghost use Rattle.acc_dev.specs.Kept.{stored_place, stored_bytes, blocks_in, memories_in, AreRising, IsEntry, IsKept};
+
+use acc_base::Fault;
+use acc_placement::Holes;
+use slab::Slab;
+
+/// What a block has, in a slot of its own.
+#[derive(Drop)]
+pub struct Stored {
+    /// The device address of the first byte.
+    pub place: u64,
+    /// The bytes.
+    pub bytes: Vec<u8>,
+}
+
+/// The place in the index of a block's entry.
+pub fn position_of(index: &[(u64, usize)], block: u64) -> Option<usize>
+    requires { AreRising index.now }
+    ensures found { IfSome result (IsEntry index.now block) }
+    ensures none { IfNone result (AllByRecursion (λ e. e.0 ≡ block → ⊥) index.now) }
+{
+    index.binary_search_by_key(&block, |entry| entry.0).ok()
+}
+
+/// Makes room for one block more, so that [`put`] needs no memory. Where that is refused, only room has grown.
+pub fn make_room(
+    holes: &mut Holes,
+    slab: &mut Slab<Stored>,
+    index: &mut Vec<(u64, usize)>,
+) -> Result<(), Fault>
+    ensures kept { IsKept holes.old slab.old.slots index.old.items → IsKept holes.new slab.new.slots index.new.items }
+    ensures holes { IsUnchanged holes.old holes.new }
+    ensures slots { slab.new.slots ≡ slab.old.slots }
+    ensures index { index.new.items ≡ index.old.items }
+    ensures room_taken { OnOk result (1 ≤ holes.new.spare) }
+    ensures room_slot { OnOk result (HasRoomFor slab.new 1) }
+    ensures room_entry { OnOk result (vec_len index.new < vec_capacity index.new) }
+    ensures only { IfErr result (λ fault. fault ≡ Fault.Memory) }
+{
+    holes.reserve(1)?;
+    slab.reserve(1)?;
+    index.reserve(1)?;
+    Ok(())
+}
+
+/// Puts a new block with these bytes where it fits first, and answers its place.
+pub fn put(
+    holes: &mut Holes,
+    slab: &mut Slab<Stored>,
+    index: &mut Vec<(u64, usize)>,
+    number: u64,
+    bytes: Vec<u8>,
+) -> u64
+    requires kept { IsKept holes.old slab.old.slots index.old.items }
+    requires above { AllByRecursion (λ e. e.0 < number) index.old.items }
+    requires len { IsFromOne 67108864 (length bytes.items) }
+    requires room_taken { 1 ≤ holes.old.spare }
+    requires room_slot { HasRoomFor slab.old 1 }
+    requires room_entry { vec_len index.old < vec_capacity index.old }
+    requires fits { (q : ℕ) × IsFit holes.old.holes (rounded_of (length bytes.items)) q }
+    ensures place { IsLeastFit holes.old.holes (rounded_of (length bytes.items)) result }
+    ensures size { holes.new.size ≡ holes.old.size }
+    ensures kept { IsKept holes.new slab.new.slots index.new.items }
+    ensures index { (slot : ℕ) × (index.new.items ≡ index.old.items ++ (number, slot) ∷ []) }
+    ensures blocks { blocks_in slab.new.slots index.new.items ≡ blocks_in slab.old.slots index.old.items ++ record { number = number; place = result; len = length bytes.items } ∷ [] }
+    ensures memories { memories_in slab.new.slots index.new.items ≡ memories_in slab.old.slots index.old.items ++ record { block = number; bytes = bytes.items } ∷ [] }
+{
+    let place = holes.take_reserved(bytes.len() as u64);
+    let slot = slab.insert_reserved(Stored { place, bytes });
+    index.push_reserved((number, slot));
+    place
+}
+
+/// Takes out the block whose entry is at a place of the index, and gives its addresses back.
+pub fn take_out(
+    holes: &mut Holes,
+    slab: &mut Slab<Stored>,
+    index: &mut Vec<(u64, usize)>,
+    at: usize,
+)
+    requires kept { IsKept holes.old slab.old.slots index.old.items }
+    requires in_bounds { at < length index.old.items }
+    ensures size { holes.new.size ≡ holes.old.size }
+    ensures kept { IsKept holes.new slab.new.slots index.new.items }
+    ensures index { index.new.items ≡ remove index.old.items at }
+    ensures blocks { blocks_in slab.new.slots index.new.items ≡ remove (blocks_in slab.old.slots index.old.items) at }
+    ensures memories { memories_in slab.new.slots index.new.items ≡ remove (memories_in slab.old.slots index.old.items) at }
+{
+    let (_, slot) = index.remove(at);
+    let Stored { place, bytes } = slab.remove(slot);
+    holes.give_back(place, bytes.len() as u64);
+}
+
+/// Writes bytes into those of a slot, from an offset on.
+pub fn write_at(slab: &mut Slab<Stored>, slot: usize, offset: usize, bytes: &[u8])
+    requires filled { IsSome (get slab.old slot) }
+    requires in_range { offset + length bytes.now ≤ length (stored_bytes (get slab.old slot)) }
+    ensures filled { IsSome (get slab.new slot) }
+    ensures place { stored_place (get slab.new slot) ≡ stored_place (get slab.old slot) }
+    ensures bytes { stored_bytes (get slab.new slot) ≡ overwritten offset bytes.now (stored_bytes (get slab.old slot)) }
+    ensures others { (other : ℕ) → other ≢ slot → get slab.new other ≡ get slab.old other }
+{
+    if let Some(stored) = slab.get_mut(slot) {
+        overwrite(&mut stored.bytes, offset, bytes);
+    }
+}
+
+/// Writes bytes in place of those from an offset on.
+fn overwrite(old: &mut Vec<u8>, offset: usize, bytes: &[u8])
+    requires { offset + length bytes.now ≤ length old.old.items }
+    ensures { old.new.items ≡ overwritten offset bytes.now old.old.items }
+{
+    old[offset..offset + bytes.len()].copy_from_slice(bytes);
+}

@@ -10,3 +10,4 @@ pub mod Digits
 pub mod Parts
 pub mod LineByLine
 pub mod RisingRanges
+pub mod Enough

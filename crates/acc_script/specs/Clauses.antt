@@ -47,7 +47,8 @@ section_at layout text = do
 abbrev pub item_of : {C : Type 0} → C → Section → Item C
 item_of clause section = record { clause = clause; section = section }
 
--- one section or more, separated by commas, behind the items before; fuel is at least the number of sections
+-- one section or more, separated by commas, behind the items before; fuel bounds their number, and as much as the text
+-- has bytes is enough (`items_enough`)
 unfoldable pub items_at : {C : Type 0} → (fuel : ℕ) → C → Layout → List (Item C) → List ℕ → Result (List (Item C) × List ℕ) ScriptFault
 items_at zero clause layout before text = Err Syntax
 items_at (suc fuel) clause layout before text = do
@@ -87,8 +88,8 @@ clause_at clause_of layout before text = do
   word ← word_at text
   listed (clause_of word.0) layout before word.1
 
--- one clause or more up to the end of the line, with or without a comma between two of them; fuel is at least their
--- number
+-- one clause or more up to the end of the line, with or without a comma between two of them; fuel bounds their number,
+-- and as much as the text has bytes is enough (`clauses_enough`)
 unfoldable pub clauses_at : {C : Type 0} → (fuel : ℕ) → (List ℕ → Option C) → Layout → List (Item C) → List ℕ → Result (List (Item C)) ScriptFault
 clauses_at zero clause_of layout before text = Err Syntax
 clauses_at (suc fuel) clause_of layout before text = do

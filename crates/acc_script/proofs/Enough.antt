@@ -1,0 +1,228 @@
+-- The fuel of a repetition is enough: each turn takes a byte at least, so more fuel changes nothing.
+use Rattle.std.proofs.Common.{◌≡◌, ℕ, zero, suc, ◌+◌, ◌<◌, ◌≤◌, Bool, true, false, cond, List, [], ◌∷◌, ◌++◌, length, take, drop, length-drop, Option, Some, None, Result, Ok, Err, refl, sym, ap, subst, ◌∙◌, arith}
+use Rattle.std.specs.Prelude.{if◌then◌else◌, ◌==◌}
+use Rattle.std.specs.List.{prefix_len}
+use Rattle.std.proofs.lemmas.Bool.{eqb-false}
+use Rattle.std.proofs.lemmas.List.{nil_from_length}
+use Rattle.std.proofs.lemmas.List.Sums.{prefix_len-le-length}
+use Rattle.acc_base.specs.declared.faults.ScriptFault.{ScriptFault}
+use Rattle.acc_base.specs.declared.faults.ScriptFault.TheVariants.{Syntax}
+use Rattle.acc_base.specs.declared.items.Section.{Section}
+use Rattle.acc_base.specs.declared.items.Item.{Item}
+use Rattle.acc_script.specs.declared.arrays.Array.{Array}
+use Rattle.acc_script.specs.Reading.{◌>>=◌}
+use Rattle.acc_script.specs.Tokens.{is_word_byte, is_blank, word_len, skip_blanks, word_at, is_name, name_at, number_of, number_at, number_limit, is_mark_next, mark_at, skip_comma, is_word_before, is_at_end, comma, colon, left_bracket, right_bracket, left_parenthesis, right_parenthesis}
+use Rattle.acc_script.specs.Layout.{Layout, array_of, whole, part_of}
+use Rattle.acc_script.specs.Clauses.{known, known_at, part_at, section_at, item_of, items_at, plain_items_at, group_at, listed, clause_at, clauses_at}
+
+-- ---- a reading that went well, as its steps
+
+bind_is : {A B : Type 0} (read : Result A ScriptFault) (f : A → Result B ScriptFault) (y : B) → (read >>= f) ≡ Ok y → (x : A) × (read ≡ Ok x) × (f x ≡ Ok y)
+bind_is (Ok x) f y e = (x, refl, e)
+bind_is (Err kind) f y e = absurd cc
+
+then_ok : {A : Type 0} (b : Bool) (kind : ScriptFault) (x y : A) → cond b (Err kind) (Ok x) ≡ Ok y → (b ≡ false) × (x ≡ y)
+then_ok true kind x y e = absurd cc
+then_ok false kind x y e = (refl, cc)
+
+else_ok : {A : Type 0} (b : Bool) (kind : ScriptFault) (x y : A) → cond b (Ok x) (Err kind) ≡ Ok y → x ≡ y
+else_ok true kind x y e = cc
+else_ok false kind x y e = absurd cc
+
+abbrev read_ok : {A : Type 0} → A → List ℕ → Result (A × List ℕ) ScriptFault
+read_ok x rest = Ok (x, rest)
+
+rest_len : {A : Type 0} (x : A) (rest : List ℕ) (y : A × List ℕ) → read_ok x rest ≡ Ok y → length rest ≡ length y.1
+rest_len {A} x rest y e = let same : (x, rest) ≡ y = cc in ap (λ (z : A × List ℕ). length z.1) same
+
+-- ---- how much of the text each reading leaves
+
+skipped_le : (text : List ℕ) → length (skip_blanks text) ≤ length text
+skipped_le text = omega (arith, length-drop (prefix_len is_blank text) text)
+
+word_shorter : (text : List ℕ) (word : List ℕ × List ℕ) → word_at text ≡ Ok word → length word.1 < length text
+unfolding word_at
+word_shorter text word e =
+    let token : List ℕ = skip_blanks text in
+    let parts = then_ok (word_len token == 0) Syntax (take (word_len token) token, drop (word_len token) token) word e in
+    let some = eqb-false (word_len token) 0 parts.0 in
+    let rest : drop (word_len token) token ≡ word.1 = ap (λ (w : List ℕ × List ℕ). w.1) parts.1 in
+    subst (λ (xs : List ℕ). length xs < length text) rest (omega (arith, some, length-drop (word_len token) token, skipped_le text, prefix_len-le-length is_word_byte token))
+
+name_shorter : (text : List ℕ) (name : List ℕ × List ℕ) → name_at text ≡ Ok name → length name.1 < length text
+unfolding name_at
+name_shorter text name e =
+    let steps = bind_is (word_at text) (λ word. if is_name word.0 then Ok word else Err Syntax) name e in
+    let same : steps.0 ≡ name = else_ok (is_name steps.0.0) Syntax steps.0 name steps.2 in
+    subst (λ (w : List ℕ × List ℕ). length w.1 < length text) same (word_shorter text steps.0 steps.1)
+
+number_shorter : (limit : ℕ) (text : List ℕ) (number : ℕ × List ℕ) → number_at limit text ≡ Ok number → length number.1 < length text
+unfolding number_at
+number_shorter limit text number e =
+    let word = bind_is (word_at text) (λ word. number_of limit word.0 >>= (λ n. Ok (n, word.1))) number e in
+    let value = bind_is (number_of limit word.0.0) (λ n. Ok (n, word.0.1)) number word.2 in
+    let same : (value.0, word.0.1) ≡ number = cc in
+    subst (λ (n : ℕ × List ℕ). length n.1 < length text) same (word_shorter text word.0 word.1)
+
+mark_shorter : (mark : ℕ) (text rest : List ℕ) → mark_at mark text ≡ Ok rest → length rest ≤ length text
+unfolding mark_at
+mark_shorter mark text rest e =
+    let same : drop 1 (skip_blanks text) ≡ rest = else_ok (is_mark_next mark text) Syntax (drop 1 (skip_blanks text)) rest e in
+    subst (λ (xs : List ℕ). length xs ≤ length text) same (omega (arith, length-drop 1 (skip_blanks text), skipped_le text))
+
+comma_le : (text : List ℕ) → length (skip_comma text) ≤ length text
+comma_le text = by (is_mark_next comma text)
+  where
+    by : (b : Bool) → length (cond b (drop 1 (skip_blanks text)) text) ≤ length text
+    by true = omega (arith, length-drop 1 (skip_blanks text), skipped_le text)
+    by false = omega arith
+
+known_is : (o : Option Array) (rest : List ℕ) (array : Array × List ℕ) → known o rest ≡ Ok array → rest ≡ array.1
+known_is None rest array e = absurd cc
+known_is (Some a) rest array e = let same : (a, rest) ≡ array = cc in ap (λ (x : Array × List ℕ). x.1) same
+
+known_shorter : (layout : Layout) (text : List ℕ) (array : Array × List ℕ) → known_at layout text ≡ Ok array → length array.1 < length text
+unfolding known_at
+known_shorter layout text array e =
+    let name = bind_is (name_at text) (λ name. known (array_of name.0 layout) name.1) array e in
+    subst (λ (xs : List ℕ). length xs < length text) (known_is (array_of name.0.0 layout) name.0.1 array name.2) (name_shorter text name.0 name.1)
+
+part_shorter : (array : Array) (text : List ℕ) (part : Section × List ℕ) → part_at array text ≡ Ok part → length part.1 ≤ length text
+unfolding part_at
+part_shorter array text part e =
+    let bracket = bind_is (mark_at left_bracket text) (λ bracket. number_at number_limit bracket >>= (λ from. mark_at colon from.1 >>= (λ between. number_at number_limit between >>= (λ len. mark_at right_bracket len.1 >>= (λ close. Ok (part_of array from.0 len.0, close)))))) part e in
+    let from = bind_is (number_at number_limit bracket.0) (λ from. mark_at colon from.1 >>= (λ between. number_at number_limit between >>= (λ len. mark_at right_bracket len.1 >>= (λ close. Ok (part_of array from.0 len.0, close))))) part bracket.2 in
+    let between = bind_is (mark_at colon from.0.1) (λ between. number_at number_limit between >>= (λ len. mark_at right_bracket len.1 >>= (λ close. Ok (part_of array from.0.0 len.0, close)))) part from.2 in
+    let len = bind_is (number_at number_limit between.0) (λ len. mark_at right_bracket len.1 >>= (λ close. Ok (part_of array from.0.0 len.0, close))) part between.2 in
+    let close = bind_is (mark_at right_bracket len.0.1) (λ close. Ok (part_of array from.0.0 len.0.0, close)) part len.2 in
+    omega (arith, rest_len (part_of array from.0.0 len.0.0) close.0 part close.2, mark_shorter left_bracket text bracket.0 bracket.1, number_shorter number_limit bracket.0 from.0 from.1, mark_shorter colon from.0.1 between.0 between.1, number_shorter number_limit between.0 len.0 len.1, mark_shorter right_bracket len.0.1 close.0 close.1)
+
+section_shorter : (layout : Layout) (text : List ℕ) (section : Section × List ℕ) → section_at layout text ≡ Ok section → length section.1 < length text
+unfolding section_at
+section_shorter layout text section e =
+    let array = bind_is (known_at layout text) (λ array. if is_mark_next left_bracket array.1 then part_at array.0 array.1 else Ok (whole array.0, array.1)) section e in
+    let less = known_shorter layout text array.0 array.1 in
+    by array.0.0 array.0.1 (is_mark_next left_bracket array.0.1) array.2 less
+  where
+    by : (array : Array) (rest : List ℕ) (b : Bool) → cond b (part_at array rest) (Ok (whole array, rest)) ≡ Ok section → length rest < length text → length section.1 < length text
+    by array rest true h less = omega (arith, part_shorter array rest section h)
+    by array rest false h less = let same : (whole array, rest) ≡ section = cc in subst (λ (x : Section × List ℕ). length x.1 < length text) same less
+
+-- ---- the items of a clause
+
+-- no section stands in an empty text
+no_section : (layout : Layout) → section_at layout [] ≡ Err Syntax
+unfolding section_at known_at name_at word_at
+no_section layout = refl
+
+module _ {C : Type 0} where
+  -- what follows a section
+  abbrev after_section : ℕ → C → Layout → List (Item C) → Section × List ℕ → Result (List (Item C) × List ℕ) ScriptFault
+  after_section fuel clause layout before section =
+      if is_mark_next comma section.1
+      then items_at fuel clause layout (before ++ item_of clause section.0 ∷ []) (skip_comma section.1)
+      else Ok (before ++ item_of clause section.0 ∷ [], section.1)
+
+  -- one turn more changes nothing
+  abbrev ItemsAgree : ℕ → C → Layout → Type 0
+  ItemsAgree n clause layout = (before : List (Item C)) (text : List ℕ) → length text ≤ n → items_at n clause layout before text ≡ items_at (suc n) clause layout before text
+
+  items_one_more : (n : ℕ) (clause : C) (layout : Layout) → ItemsAgree n clause layout
+  unfolding items_at
+  items_one_more zero clause layout before text le =
+      let none : text ≡ [] = nil_from_length text (omega arith) in
+      subst (λ (xs : List ℕ). items_at 0 clause layout before xs ≡ items_at 1 clause layout before xs) (sym none) (rw (no_section layout) refl)
+  items_one_more (suc n) clause layout before text le = by (items_one_more n clause layout) (section_at layout text) refl
+    where
+      next : ItemsAgree n clause layout → (section : Section × List ℕ) (b : Bool) → length section.1 < length text
+          → cond b (items_at n clause layout (before ++ item_of clause section.0 ∷ []) (skip_comma section.1)) (Ok (before ++ item_of clause section.0 ∷ [], section.1))
+          ≡ cond b (items_at (suc n) clause layout (before ++ item_of clause section.0 ∷ []) (skip_comma section.1)) (Ok (before ++ item_of clause section.0 ∷ [], section.1))
+      next shorter section true less = shorter (before ++ item_of clause section.0 ∷ []) (skip_comma section.1) (omega (arith, comma_le section.1))
+      next shorter section false less = refl
+
+      by : ItemsAgree n clause layout → (r : Result (Section × List ℕ) ScriptFault) → section_at layout text ≡ r → (r >>= after_section n clause layout before) ≡ (r >>= after_section (suc n) clause layout before)
+      by shorter (Ok section) e = next shorter section (is_mark_next comma section.1) (section_shorter layout text section e)
+      by shorter (Err kind) e = refl
+
+  -- as much fuel as the text has bytes is enough
+  pub items_enough : (more : ℕ) (clause : C) (layout : Layout) (before : List (Item C)) (text : List ℕ) → items_at (length text + more) clause layout before text ≡ items_at (length text) clause layout before text
+  items_enough zero clause layout before text = let e : length text + 0 ≡ length text = omega arith in rw e refl
+  items_enough (suc more) clause layout before text =
+      let e : length text + suc more ≡ suc (length text + more) = omega arith in
+      rw e (sym (items_one_more (length text + more) clause layout before text (omega arith)) ∙ items_enough more clause layout before text)
+
+  items_le : (n : ℕ) (clause : C) (layout : Layout) (before : List (Item C)) (text : List ℕ) (items : List (Item C) × List ℕ) → items_at n clause layout before text ≡ Ok items → length items.1 ≤ length text
+  unfolding items_at
+  items_le zero clause layout before text items e = absurd cc
+  items_le (suc n) clause layout before text items e =
+      let section = bind_is (section_at layout text) (after_section n clause layout before) items e in
+      by (λ before' rest h. items_le n clause layout before' rest items h) section.0 (is_mark_next comma section.0.1) (section_shorter layout text section.0 section.1) section.2
+    where
+      by : ((before' : List (Item C)) (rest : List ℕ) → items_at n clause layout before' rest ≡ Ok items → length items.1 ≤ length rest) → (section : Section × List ℕ) (b : Bool) → length section.1 < length text
+          → cond b (items_at n clause layout (before ++ item_of clause section.0 ∷ []) (skip_comma section.1)) (Ok (before ++ item_of clause section.0 ∷ [], section.1)) ≡ Ok items → length items.1 ≤ length text
+      by shorter section true less h = omega (arith, comma_le section.1, shorter (before ++ item_of clause section.0 ∷ []) (skip_comma section.1) h)
+      by shorter section false less h = let rest : section.1 ≡ items.1 = cc in rw (← rest) (omega arith)
+
+  -- ---- clauses
+
+  plain_le : (clause : C) (layout : Layout) (before : List (Item C)) (text : List ℕ) (items : List (Item C) × List ℕ) → plain_items_at clause layout before text ≡ Ok items → length items.1 ≤ length text
+  unfolding plain_items_at
+  plain_le clause layout before text items e = by (is_word_before colon text) e
+    where
+      by : (b : Bool) → cond b (Err Syntax) (items_at (length text) clause layout before text) ≡ Ok items → length items.1 ≤ length text
+      by true h = absurd cc
+      by false h = items_le (length text) clause layout before text items h
+
+  group_le : (clause : C) (layout : Layout) (before : List (Item C)) (text : List ℕ) (items : List (Item C) × List ℕ) → group_at clause layout before text ≡ Ok items → length items.1 ≤ length text
+  unfolding group_at
+  group_le clause layout before text items e =
+      let inside = bind_is (mark_at left_parenthesis text) (λ inside. plain_items_at clause layout before inside >>= (λ items. mark_at right_parenthesis items.1 >>= (λ close. Ok (items.0, close)))) items e in
+      let group = bind_is (plain_items_at clause layout before inside.0) (λ items. mark_at right_parenthesis items.1 >>= (λ close. Ok (items.0, close))) items inside.2 in
+      let close = bind_is (mark_at right_parenthesis group.0.1) (λ close. Ok (group.0.0, close)) items group.2 in
+      omega (arith, rest_len group.0.0 close.0 items close.2, mark_shorter left_parenthesis text inside.0 inside.1, plain_le clause layout before inside.0 group.0 group.1, mark_shorter right_parenthesis group.0.1 close.0 close.1)
+
+  clause_shorter : (clause_of : List ℕ → Option C) (layout : Layout) (before : List (Item C)) (text : List ℕ) (items : List (Item C) × List ℕ) → clause_at clause_of layout before text ≡ Ok items → length items.1 < length text
+  unfolding clause_at
+  clause_shorter clause_of layout before text items e =
+      let word = bind_is (word_at text) (λ word. listed (clause_of word.0) layout before word.1) items e in
+      let less = word_shorter text word.0 word.1 in
+      by (clause_of word.0.0) word.0.1 less word.2
+    where
+      by : (o : Option C) (rest : List ℕ) → length rest < length text → listed o layout before rest ≡ Ok items → length items.1 < length text
+      by None rest less h = absurd cc
+      by (Some clause) rest less h = omega (arith, group_le clause layout before rest items h)
+
+  -- no clause stands in an empty text
+  no_clause : (clause_of : List ℕ → Option C) (layout : Layout) (before : List (Item C)) → clause_at clause_of layout before [] ≡ Err Syntax
+  unfolding clause_at word_at
+  no_clause clause_of layout before = refl
+
+  -- what follows a clause
+  abbrev after_clause : ℕ → (List ℕ → Option C) → Layout → List (Item C) × List ℕ → Result (List (Item C)) ScriptFault
+  after_clause fuel clause_of layout items = if is_at_end items.1 then Ok items.0 else clauses_at fuel clause_of layout items.0 (skip_comma items.1)
+
+  abbrev ClausesAgree : ℕ → (List ℕ → Option C) → Layout → Type 0
+  ClausesAgree n clause_of layout = (before : List (Item C)) (text : List ℕ) → length text ≤ n → clauses_at n clause_of layout before text ≡ clauses_at (suc n) clause_of layout before text
+
+  clauses_one_more : (n : ℕ) (clause_of : List ℕ → Option C) (layout : Layout) → ClausesAgree n clause_of layout
+  unfolding clauses_at
+  clauses_one_more zero clause_of layout before text le =
+      let none : text ≡ [] = nil_from_length text (omega arith) in
+      subst (λ (xs : List ℕ). clauses_at 0 clause_of layout before xs ≡ clauses_at 1 clause_of layout before xs) (sym none) (rw (no_clause clause_of layout before) refl)
+  clauses_one_more (suc n) clause_of layout before text le = by (clauses_one_more n clause_of layout) (clause_at clause_of layout before text) refl
+    where
+      next : ClausesAgree n clause_of layout → (items : List (Item C) × List ℕ) (b : Bool) → length items.1 < length text
+          → cond b (Ok items.0) (clauses_at n clause_of layout items.0 (skip_comma items.1)) ≡ cond b (Ok items.0) (clauses_at (suc n) clause_of layout items.0 (skip_comma items.1))
+      next shorter items true less = refl
+      next shorter items false less = shorter items.0 (skip_comma items.1) (omega (arith, comma_le items.1))
+
+      by : ClausesAgree n clause_of layout → (r : Result (List (Item C) × List ℕ) ScriptFault) → clause_at clause_of layout before text ≡ r → (r >>= after_clause n clause_of layout) ≡ (r >>= after_clause (suc n) clause_of layout)
+      by shorter (Ok items) e = next shorter items (is_at_end items.1) (clause_shorter clause_of layout before text items e)
+      by shorter (Err kind) e = refl
+
+  -- as much fuel as the text has bytes is enough
+  pub clauses_enough : (more : ℕ) (clause_of : List ℕ → Option C) (layout : Layout) (before : List (Item C)) (text : List ℕ) → clauses_at (length text + more) clause_of layout before text ≡ clauses_at (length text) clause_of layout before text
+  clauses_enough zero clause_of layout before text = let e : length text + 0 ≡ length text = omega arith in rw e refl
+  clauses_enough (suc more) clause_of layout before text =
+      let e : length text + suc more ≡ suc (length text + more) = omega arith in
+      rw e (sym (clauses_one_more (length text + more) clause_of layout before text (omega arith)) ∙ clauses_enough more clause_of layout before text)

@@ -4,11 +4,9 @@ use Rattle.std.specs.Prelude.{codes}
 use Rattle.std.specs.Fmt.{decimal}
 use Rattle.acc_base.specs.declared.faults.Fault.{Fault}
 use Rattle.acc_base.specs.Faults.{number_of, name_of, fields_text}
-use Rattle.std.specs.List.{flat_map}
 use Rattle.acc_base.specs.Blocks.{used_bytes}
 use Rattle.acc_base.specs.Calls.{World, event_count}
-use Rattle.acc_table.specs.Queries.{mapped_as}
-use Rattle.acc_script.specs.Texts.{refusal_start, refusal_text, sizes_text, mapped_text, totals_text, report_text}
+use Rattle.acc_script.specs.Texts.{refusal_start, refusal_text, sizes_text, ranges_text, totals_text, report_text}
 
 regrouped : (line number name fields : List ℕ) → ((codes "line " ++ (line ++ (codes ": refused " ++ (number ++ (codes " " ++ name))))) ++ fields) ++ codes "\n" ≡ codes "line " ++ (line ++ (codes ": refused " ++ ((number ++ codes " " ++ name ++ fields) ++ codes "\n")))
 regrouped line number name fields = simp append_assoc
@@ -23,7 +21,7 @@ abbrev pub sizes_of : World → List ℕ
 sizes_of w = sizes_text w.limits.host w.limits.device (used_bytes w.state.records.blocks)
 
 abbrev pub ranges_of : World → List ℕ
-ranges_of w = flat_map (λ r. mapped_text (mapped_as w.state.records.blocks r)) w.state.records.ranges
+ranges_of w = ranges_text w.state.records
 
 abbrev pub totals_of : World → List ℕ
 totals_of w = totals_text 0 (event_count w.history)

@@ -5,6 +5,7 @@ use Rattle.std.specs.List.{flat_map}
 use Rattle.acc_base.specs.declared.faults.Fault.{Fault}
 use Rattle.acc_base.specs.Faults.{number_of, name_of, fault_text}
 use Rattle.acc_base.specs.Blocks.{used_bytes}
+use Rattle.acc_base.specs.Records.{Records}
 use Rattle.acc_base.specs.Calls.{World, event_count}
 use Rattle.acc_table.specs.declared.calls.Mapped.{Mapped}
 use Rattle.acc_table.specs.Queries.{mapped_as}
@@ -46,9 +47,13 @@ mapped_text m = mapping_text m.start m.len m.place ++ counters_text m.structured
 abbrev pub totals_text : ℕ → ℕ → List ℕ
 totals_text regions events = codes "regions " ++ (decimal regions ++ (codes " events " ++ (decimal events ++ codes "\n")))
 
--- each mapped range by rising start; no region is open
+-- each mapped range by rising start
+abbrev pub ranges_text : Records → List ℕ
+ranges_text w = flat_map (λ r. mapped_text (mapped_as w.blocks r)) w.ranges
+
+-- no region is open
 unfoldable pub report_text : World → List ℕ
 report_text w =
     sizes_text w.limits.host w.limits.device (used_bytes w.state.records.blocks)
-    ++ flat_map (λ r. mapped_text (mapped_as w.state.records.blocks r)) w.state.records.ranges
+    ++ ranges_text w.state.records
     ++ totals_text 0 (event_count w.history)

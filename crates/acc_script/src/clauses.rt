@@ -59,7 +59,8 @@ fn items_at<'a, C: Copy>(
     items: &mut Vec<Item<C>>,
     text: &'a [u8],
 ) -> Result<&'a [u8], Trouble>
-    ensures { Gives (λ x. (items.new.items, x.now)) result (items_at (length text.now) clause arrays.now items.old.items text.now) }
+    ensures { Gives (λ x. (items.new.items, x.now)) result
+        (items_at (length text.now) clause arrays.now items.old.items text.now) }
 {
     let mut rest = text;
     for _ in 0..text.len() {

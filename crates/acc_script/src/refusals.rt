@@ -82,7 +82,8 @@ fn write_field<W: Sink>(writer: &mut W, name: &[u8], value: u64) -> bool
 
 /// The fields of a device that is full.
 fn write_need<W: Sink>(writer: &mut W, item: u64, need: u64) -> bool
-    ensures { Wrote (W.told writer.old) (W.told writer.new) (codes " item " ++ decimal item ++ codes " need " ++ decimal need) result }
+    ensures { Wrote (W.told writer.old) (W.told writer.new)
+        (codes " item " ++ decimal item ++ codes " need " ++ decimal need) result }
 {
     let mut item_buffer = Buffer::new();
     let mut need_buffer = Buffer::new();
@@ -101,7 +102,8 @@ fn write_need<W: Sink>(writer: &mut W, item: u64, need: u64) -> bool
 
 /// The fields of a line at fault.
 fn write_kind<W: Sink>(writer: &mut W, line: u64, kind: ScriptFault) -> bool
-    ensures { Wrote (W.told writer.old) (W.told writer.new) (codes " line " ++ decimal line ++ codes " kind " ++ kind_name_of kind) result }
+    ensures { Wrote (W.told writer.old) (W.told writer.new)
+        (codes " line " ++ decimal line ++ codes " kind " ++ kind_name_of kind) result }
 {
     let mut buffer = Buffer::new();
     let line = buffer.format(line);

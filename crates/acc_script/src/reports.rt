@@ -1,9 +1,7 @@
 //! The report of a table, written without memory.
 
-ghost use Rattle.std.specs.List.{flat_map};
-ghost use Rattle.acc_table.specs.Queries.{mapped_as};
 ghost use Rattle.acc_script.specs.Ends.{Wrote};
-ghost use Rattle.acc_script.specs.Texts.{mapped_text, report_text};
+ghost use Rattle.acc_script.specs.Texts.{mapped_text, ranges_text, report_text};
 ghost use Rattle.acc_script.specs.Scripts.{effect_text};
 ghost use Rattle.acc_script.specs.Runs.{Printed};
 
@@ -58,7 +56,7 @@ fn write_report<W: Sink>(table: &Table, writer: &mut W) -> bool
 
 /// A line for each mapped range; false where the sink failed.
 fn write_ranges<W: Sink>(table: &Table, writer: &mut W) -> bool
-    ensures { Wrote (W.told writer.old) (W.told writer.new) (flat_map (λ r. mapped_text (mapped_as table.now.state.records.blocks r)) table.now.state.records.ranges) result }
+    ensures { Wrote (W.told writer.old) (W.told writer.new) (ranges_text table.now.state.records) result }
 {
     table.laws();
     let mut from = 0u64;

@@ -2,4 +2,6 @@ pub mod Rising
 pub mod Slots
 pub mod Placing
 pub mod Keeping
-pub mod Calls
+pub mod Births
+pub mod Ends
+pub mod Writes

@@ -1,11 +1,10 @@
 -- The place of a birth, where the holes and the blocks are the device.
-use Rattle.std.proofs.Common.{ℕ, zero, suc, ◌≡◌, ◌+◌, ◌*◌, ◌/◌, ◌%◌, ◌<◌, ◌≤◌, ◌-◌, refl, sym, ap, ◌∙◌, subst, List, [], ◌∷◌, ◌++◌, length, Option, Some, None, arith, inl, inr, max}
-use Rattle.std.specs.Prelude.{◌⊎◌, map, All, sum_by, IfSome, IfNone}
+use Rattle.std.proofs.Common.{ℕ, suc, ◌≡◌, ◌+◌, ◌<◌, ◌≤◌, ◌-◌, refl, sym, ap, subst, List, [], ◌∷◌, ◌++◌, Option, Some, None, arith, inl, inr, max}
+use Rattle.std.specs.Prelude.{map, All, IfSome, IfNone}
 use Rattle.std.specs.List.{AllByRecursion}
 use Rattle.std.proofs.lemmas.Bool.{cases_lt}
 use Rattle.std.proofs.lemmas.List.{map-append}
 use Rattle.std.proofs.lemmas.List.Sums.{sum_by-cons}
-use Rattle.acc_base.specs.declared.mappings.Range.{Range}
 use Rattle.acc_base.specs.declared.mappings.Block.{Block}
 use Rattle.acc_base.specs.Limits.{Limits, IsFromOne}
 use Rattle.acc_base.specs.Section.{device_base}
@@ -13,7 +12,7 @@ use Rattle.acc_base.specs.Blocks.{rounded, size_of, block_end, used_bytes, IsFre
 use Rattle.acc_base.specs.Accounts.{AreApart, IsOnDevice, IsClearOf}
 use Rattle.acc_base.proofs.Elements.{AllByRecursion-weaker, AllByRecursion-append}
 use Rattle.acc_base.proofs.Places.{place_for-least}
-use Rattle.acc_placement.specs.Ranges.{Spans, IsIn, IsFit, IsLeastFit, IsFitBeside, IsLeastFitBeside, IsTakeBelow, IsDisjoint, IsAligned, all_rounded, total}
+use Rattle.acc_placement.specs.Ranges.{Spans, IsIn, IsLeastFit, IsFitBeside, IsLeastFitBeside, IsTakeBelow, IsDisjoint, IsAligned, all_rounded, total}
 use Rattle.acc_placement.specs.Space.{Space, IsCanonical, IsPartition}
 use Rattle.acc_placement.proofs.Rising.{in_bounds}
 use Rattle.acc_dev.specs.Device.{planned_blocks}
@@ -30,6 +29,7 @@ out_free : (bs : List Block) (a : ℕ) → (IsIn (map range_of bs) a → ⊥) �
 out_free [] a out = tt
 out_free (b ∷ bs) a out = (λ low high. out (inl (low, high)), out_free bs a (λ i. out (inr i)))
 
+-- the blocks take what is used
 pub total-used : (bs : List Block) → total (map range_of bs) ≡ used_bytes bs
 total-used [] = refl
 total-used (b ∷ bs) = omega (arith, total-used bs, sum_by-cons size_of b bs)
@@ -110,11 +110,6 @@ birth_at s bs n p pos lens k least =
     let same : bs ++ [] ≡ bs = Rattle.std.proofs.lemmas.List.append-nil bs in
     subst (λ (xs : List Block). place_for s.size xs n ≡ Some p) same (beside_place s bs [] n p pos (AllByRecursion-append (λ b. 0 < size_of b) bs [] (some_bytes bs lens) tt) k (λ a w. (least.0 a w, λ i. i), λ q fit. least.1 q (λ a w. (fit a w).0)))
 
-pub birth_none : (s : Space) (bs : List Block) (n : ℕ) → 0 < n → AllByRecursion (λ b. IsFromOne 67108864 b.len) bs → IsShared s bs → ((q : ℕ) → IsFit s.holes n q → ⊥) → place_for s.size bs n ≡ None
-birth_none s bs n pos lens k none =
-    let same : bs ++ [] ≡ bs = Rattle.std.proofs.lemmas.List.append-nil bs in
-    subst (λ (xs : List Block). place_for s.size xs n ≡ None) same (beside_none s bs [] n pos (AllByRecursion-append (λ b. 0 < size_of b) bs [] (some_bytes bs lens) tt) k (λ q fit. none q (λ a w. (fit a w).0)))
-
 -- ---- blocks lie apart
 
 beside_from : (b : Block) (bs : List Block) → 0 < size_of b → AllByRecursion (λ c. 0 < size_of c) bs → AllByRecursion (λ c. b.number < c.number) bs → ((a : ℕ) → Spans b.place (size_of b) a → IsIn (map range_of bs) a → ⊥) → AllByRecursion (IsClearOf b) bs
@@ -133,6 +128,7 @@ beside_from b (c ∷ cs) pos some rise off = (
   beside_from b cs pos some.1 rise.1 (λ a w i. off a w (inr i)),
 )
 
+-- blocks whose addresses are apart, in the order of their births
 pub clear_of : (bs : List Block) → AllByRecursion (λ b. 0 < size_of b) bs → AreApart (λ b c. b.number < c.number) bs → IsDisjoint (map range_of bs) → AreApart IsClearOf bs
 clear_of [] some rise off = tt
 clear_of (b ∷ bs) some rise off = (beside_from b bs some.0 some.1 rise.0 off.0, clear_of bs some.1 rise.1 off.1)

@@ -1,5 +1,5 @@
 -- An index whose numbers rise: searches in it, and the lists that run in step with it.
-use Rattle.std.proofs.Common.{ℕ, zero, suc, ◌≡◌, ◌+◌, ◌<◌, ◌≤◌, refl, sym, ap, ◌∙◌, Bool, true, false, cond, List, [], ◌∷◌, ◌++◌, length, take, drop, get_or, Option, Some, None, Result, Ok, Err, arith, inl, inr}
+use Rattle.std.proofs.Common.{ℕ, zero, suc, ◌≡◌, ◌<◌, ◌≤◌, refl, sym, ap, ◌∙◌, Bool, true, false, cond, List, [], ◌∷◌, length, get_or, Some, Result, Ok, Err, arith, inl, inr}
 use Rattle.std.specs.Prelude.{◌==◌, not, map, find, filter, option_map, IfSome, IfNone}
 use Rattle.std.specs.List.{AllByRecursion, remove}
 use Rattle.std.specs.List.Sorted.{IsSearchInRange, IsBinarySearchResult, IsNonDecreasingBy}

@@ -1,11 +1,10 @@
 -- The blocks of an index, as the slots change.
-use Rattle.std.proofs.Common.{ℕ, zero, suc, ◌≡◌, ◌≢◌, ◌+◌, ◌<◌, ◌≤◌, refl, sym, ap, ◌∙◌, subst, Bool, true, false, cond, List, [], ◌∷◌, ◌++◌, length, get_or, Option, Some, None, arith, inl, inr}
+use Rattle.std.proofs.Common.{ℕ, zero, suc, ◌≡◌, ◌≢◌, ◌<◌, refl, sym, ap, ◌∙◌, subst, true, false, List, [], ◌∷◌, ◌++◌, length, get_or, Option, Some, None, arith, inl, inr}
 use Rattle.std.specs.Prelude.{◌==◌, ◌⊎◌, map, find, option_map, unwrap_or, IsSome}
 use Rattle.std.specs.List.{AllByRecursion, AllZip, remove}
 use Rattle.std.proofs.lemmas.Bool.{cases_eq, false≢true}
 use Rattle.std.proofs.lemmas.Bool.Decides.{nat_tests}
 use Rattle.std.proofs.lemmas.List.{map-append}
-use Rattle.acc_base.specs.declared.mappings.Block.{Block}
 use Rattle.acc_base.specs.Records.{Memory}
 use Rattle.acc_base.specs.Blocks.{block_at}
 use Rattle.acc_base.specs.Bytes.{bytes_of}
@@ -14,7 +13,7 @@ use Rattle.acc_base.proofs.Elements.{AllByRecursion-weaker}
 use Rattle.acc_dev.specs.declared.entries.Stored.{Stored}
 use Rattle.acc_dev.specs.Device.{overwritten, memory_changed}
 use Rattle.acc_dev.specs.Kept.{stored_place, stored_bytes, block_from, memory_from, slot_of, blocks_in, memories_in, AreRising, IsEntry}
-use Rattle.acc_dev.proofs.Rising.{start, all_at, find_at, find-map, all-remove, map-remove}
+use Rattle.acc_dev.proofs.Rising.{start, all_at, find_at, find-map, map-remove}
 
 -- the slots of these entries are as they were
 abbrev pub AreSame : List (Option Stored) → List (Option Stored) → List (ℕ × ℕ) → Type 0
@@ -24,6 +23,7 @@ AreSame s t xs = AllByRecursion (λ e. slot_of t e ≡ slot_of s e) xs
 abbrev pub KeepsOthers : List (Option Stored) → List (Option Stored) → ℕ → Type 0
 KeepsOthers s t k = (j : ℕ) → j ≢ k → get_or t j None ≡ get_or s j None
 
+-- entries of other slots stay
 pub same_from : (s t : List (Option Stored)) (k : ℕ) (xs : List (ℕ × ℕ)) → KeepsOthers s t k → AllByRecursion (λ e. e.1 ≡ k → ⊥) xs → AreSame s t xs
 same_from s t k xs others off = AllByRecursion-weaker (λ (e : ℕ × ℕ). e.1 ≡ k → ⊥) (λ e. slot_of t e ≡ slot_of s e) xs (λ e differs. others e.1 differs) off
 
@@ -44,6 +44,7 @@ others_off (x ∷ xs) (suc i) h lt = (all_at (λ (e : ℕ × ℕ). x.1 ≡ e.1 �
 
 -- ---- a birth
 
+-- what is made of the slots, with an entry more
 pub made-born : {Y : Type 0} (f : ℕ → Option Stored → Y) (s t : List (Option Stored)) (xs : List (ℕ × ℕ)) (number k : ℕ) (x : Stored) → AreSame s t xs → get_or t k None ≡ Some x
     → map (λ e. f e.0 (slot_of t e)) (xs ++ (number, k) ∷ []) ≡ map (λ e. f e.0 (slot_of s e)) xs ++ f number (Some x) ∷ []
 made-born f s t xs number k x same new =
@@ -51,16 +52,19 @@ made-born f s t xs number k x same new =
 
 -- ---- an end
 
+-- and with one less
 pub made-removed : {Y : Type 0} (f : ℕ → Option Stored → Y) (s t : List (Option Stored)) (xs : List (ℕ × ℕ)) (i : ℕ) → AreSame s t (remove xs i)
     → map (λ e. f e.0 (slot_of t e)) (remove xs i) ≡ remove (map (λ e. f e.0 (slot_of s e)) xs) i
 made-removed f s t xs i same = map-same f s t (remove xs i) same ∙ map-remove (λ (e : ℕ × ℕ). f e.0 (slot_of s e)) xs i
 
 -- ---- look-ups
 
+-- the block of a number is what the slot of its entry has
 pub block_at-entry : (s : List (Option Stored)) (xs : List (ℕ × ℕ)) (i n : ℕ) → AreRising xs → IsEntry xs n i → block_at n (blocks_in s xs) ≡ Some (block_from (get_or xs i start).0 (slot_of s (get_or xs i start)))
 block_at-entry s xs i n rise entry =
     find-map (λ (e : ℕ × ℕ). block_from e.0 (slot_of s e)) (λ e. e.0 == n) (λ b. b.number == n) xs (λ e. refl) ∙ ap (option_map (λ (e : ℕ × ℕ). block_from e.0 (slot_of s e))) (find_at xs i n rise entry.in_bounds entry.number)
 
+-- and its bytes are those of the slot
 pub bytes_of-entry : (s : List (Option Stored)) (xs : List (ℕ × ℕ)) (i n : ℕ) → AreRising xs → IsEntry xs n i → bytes_of n (memories_in s xs) ≡ stored_bytes (slot_of s (get_or xs i start))
 bytes_of-entry s xs i n rise entry =
     ap (λ o. unwrap_or (option_map (λ (m : Memory). m.bytes) o) [])
@@ -72,6 +76,7 @@ find_none (x ∷ xs) n h =
     let t : (x.0 == n) ≡ false = grind (arith, nat_tests, h.0) in
     rw t (find_none xs n h.1)
 
+-- a number without an entry has no block
 pub block_at-none : (s : List (Option Stored)) (xs : List (ℕ × ℕ)) (n : ℕ) → AllByRecursion (λ e. e.0 ≡ n → ⊥) xs → block_at n (blocks_in s xs) ≡ None
 block_at-none s xs n h =
     find-map (λ (e : ℕ × ℕ). block_from e.0 (slot_of s e)) (λ e. e.0 == n) (λ b. b.number == n) xs (λ e. refl) ∙ ap (option_map (λ (e : ℕ × ℕ). block_from e.0 (slot_of s e))) (find_none xs n h)

@@ -17,21 +17,22 @@ use slab::Slab;
 use std::alloc::Global;
 use std::marker::Model;
 
-/// The device address at which device memory begins.
-const DEVICE_BASE: u64 = 0x1_0000_0000;
+/// The first address of device memory.
+pub const DEVICE_BASE: u64 = 0x1_0000_0000;
 
 /// The byte of a new block that is not set to zero.
 const FILL_BYTE: u8 = 0xa5;
 
 /// Device memory: blocks, each with a number, a place and bytes (OpenACC 3.3, section 2.6, data environment).
 ///
-/// Blocks are numbered from 1 in the order of their births, and no number is used twice. Contracts see the size of the
-/// memory in bytes, the blocks by rising number, the bytes of each, and how many were ever born.
+/// Blocks are numbered from 1 in the order of their births, and no number is used twice. Places are device addresses
+/// from [`DEVICE_BASE`] on. Contracts see the size of the memory in bytes, the blocks by rising number, the bytes of
+/// each, and how many blocks were ever born.
 ///
-/// A number finds its block in as many steps as the number of blocks has binary digits. [`Device::born`] and
-/// [`Device::retire`] do that, or add at the end, and search the list of holes of the placement once or twice;
-/// [`Device::retire`] also moves the 16 bytes of the index of each later block by one place. No other work grows with
-/// the number of blocks.
+/// A number finds its block by a binary search. [`Device::born`] adds a block at the end of the index, and
+/// [`Device::retire`] moves the entries behind that of its block, of 16 bytes each, by one place. Beside that they cost
+/// what the placement costs for its list of holes, and a birth the writing of its bytes; where there is no room for one
+/// block more, it also moves the lists that grow.
 #[derive(Drop)]
 pub struct Device {
     alloc: Global,
@@ -59,8 +60,7 @@ impl Model for Device {
 }
 
 impl Device {
-    /// A device of `size` bytes without a block: a multiple of 16, from 16 to 67,108,864. Device addresses begin at
-    /// 0x100000000.
+    /// A device of `size` bytes, a multiple of 16 from 16 to 67,108,864, on which no block was born.
     ///
     /// # Errors
     ///
@@ -79,11 +79,11 @@ impl Device {
         })
     }
 
-    /// A new block of `len` bytes, from 1 to 67,108,864: its number, which is one more than that of the block born
-    /// before it. It lies at the least device address at which its length, rounded up to a multiple of 16, fits. Each of
-    /// its bytes is 0xA5, or 0 with `zero` (OpenACC 3.3, the create clause).
+    /// Makes a block of `len` bytes, from 1 to 67,108,864, and answers its number: one more than that of the block born
+    /// before it. The block lies at the least device address at which its length, rounded up to a multiple of 16, fits.
+    /// Each of its bytes is 0xA5, or 0 with `zero` (OpenACC 3.3, the create clause).
     ///
-    /// Fewer than 2^48 blocks may have been born before.
+    /// Fewer than 2^48 blocks were born before.
     ///
     /// # Errors
     ///
@@ -93,6 +93,8 @@ impl Device {
         requires len { IsFromOne 67108864 len }
         requires births { self.old.births < 2 ^ 48 }
         ensures born { IfOk result (IsBorn self.old self.new len zero) }
+        ensures there { IfOk result (HasBlock self.new) }
+        ensures filled { IfOk result (λ block. bytes_of block self.new.memories ≡ replicate len (fill_of zero)) }
 
         // The place is the least of all device addresses at which the rounded length fits.
         ensures least { IsPlaceFor self.old.size self.old.blocks (rounded_of len) (birth_place self.old len) }
@@ -155,28 +157,18 @@ impl Device {
         requires { HasBlock self.now block }
         ensures { IsSomeAnd (block_at block self.now.blocks) (λ b. (result.0 ≡ b.place) × (result.1 ≡ size_of b)) }
     {
-        match self.stored(block) {
-            Some(stored) => (stored.place, rounded(stored.bytes.len() as u64)),
-            None => unreachable!(),
-        }
-    }
-
-    /// What the slot of a block has.
-    fn stored(&self, block: u64) -> Option<&Stored>
-        requires { HasBlock self.now block }
-        ensures block { IsSomeAnd result (λ stored. block_at block self.now.blocks ≡ Some (record { number = block; place = stored.now.place; len = length stored.now.bytes.items })) }
-        ensures bytes { IfSome result (λ stored. stored.now.bytes.items ≡ bytes_of block self.now.memories) }
-        ensures len { IfSome result (λ stored. IsFromOne 67108864 (length stored.now.bytes.items)) }
-    {
-        let at = position_of(&self.index, block)?;
-        self.slab.get(self.index[at].1)
+        let Some(stored) = self.stored(block) else {
+            unreachable!()
+        };
+        (stored.place, rounded(stored.bytes.len() as u64))
     }
 
     /// The bytes of a block of the device, as many as it is long. They are always there: `None` is for blocks that are
     /// out on loan, which no block is yet.
     pub fn bytes(&self, block: u64) -> Option<&[u8]>
         requires { HasBlock self.now block }
-        ensures { IsSomeAnd result (λ bytes. bytes.now ≡ bytes_of block self.now.memories) }
+        ensures bytes { IsSomeAnd result (λ bytes. bytes.now ≡ bytes_of block self.now.memories) }
+        ensures len { IfSome result (λ bytes. IsSomeAnd (block_at block self.now.blocks) (λ b. length bytes.now ≡ b.len)) }
     {
         Some(&self.stored(block)?.bytes)
     }
@@ -224,6 +216,17 @@ impl Device {
         ensures births { self.now.births ≤ 2 ^ 48 }
     {
         let _ = &self.births;
+    }
+
+    /// What the slot of a block of the device has: there is always something.
+    fn stored(&self, block: u64) -> Option<&Stored>
+        requires { HasBlock self.now block }
+        ensures block { IsSomeAnd result (λ stored. block_at block self.now.blocks ≡ Some (record { number = block; place = stored.now.place; len = length stored.now.bytes.items })) }
+        ensures bytes { IfSome result (λ stored. stored.now.bytes.items ≡ bytes_of block self.now.memories) }
+        ensures len { IfSome result (λ stored. IsFromOne 67108864 (length stored.now.bytes.items)) }
+    {
+        let at = position_of(&self.index, block)?;
+        self.slab.get(self.index[at].1)
     }
 }
 

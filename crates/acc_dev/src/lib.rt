@@ -6,4 +6,4 @@ mod entries;
 #[cfg(test)]
 mod tests;
 
-pub use devices::Device;
+pub use devices::{DEVICE_BASE, Device};

@@ -6,9 +6,9 @@ use Rattle.acc_dev.proofs.entries.position_of.Goals as goal
 pub returns-clause-found : goal.returns-clause-found
 returns-clause-found c =
     let facts = c.binary_search_by_key.ensures in
-    rw c.ok.ensures.value (searched c.args.index.now c.args.block _ c.requires facts.bound (facts.position (λ e. e.0) (answers_always _ _ _ (λ f a r g called. search rules)))).0
+    rw c.ok.ensures.value (searched c.args.index.now c.args.block c.binary_search_by_key.result c.requires facts.bound (facts.position (λ e. e.0) (answers_always _ _ _ (λ f a r g called. search rules)))).0
 
 pub returns-clause-none : goal.returns-clause-none
 returns-clause-none c =
     let facts = c.binary_search_by_key.ensures in
-    rw c.ok.ensures.value (searched c.args.index.now c.args.block _ c.requires facts.bound (facts.position (λ e. e.0) (answers_always _ _ _ (λ f a r g called. search rules)))).1
+    rw c.ok.ensures.value (searched c.args.index.now c.args.block c.binary_search_by_key.result c.requires facts.bound (facts.position (λ e. e.0) (answers_always _ _ _ (λ f a r g called. search rules)))).1

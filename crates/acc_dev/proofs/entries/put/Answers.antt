@@ -1,5 +1,5 @@
 use Rattle.std.proofs.Common.{◌≡◌, length, rules}
-use Rattle.acc_dev.proofs.Keeping.{blocks-born, memories-born, born_kept}
+use Rattle.acc_dev.proofs.Births.{blocks-born, memories-born, born_kept}
 use Rattle.acc_dev.proofs.entries.put.Goals as goal
 
 pub returns-clause-kept : goal.returns-clause-kept

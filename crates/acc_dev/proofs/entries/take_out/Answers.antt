@@ -1,9 +1,9 @@
-use Rattle.std.proofs.Common.{◌≡◌, ℕ, Some, get_or, length, rules}
-use Rattle.acc_base.specs.Limits.{IsFromOne}
+use Rattle.std.proofs.Common.{◌≡◌, Some, get_or, length, rules}
 use Rattle.acc_dev.specs.Kept.{block_from, memory_from, slot_of}
 use Rattle.acc_dev.proofs.Rising.{start}
 use Rattle.acc_dev.proofs.Slots.{AreSame, KeepsOthers, made-removed}
-use Rattle.acc_dev.proofs.Keeping.{entry_read, len_stored, taken_stored, same_left, left_kept}
+use Rattle.acc_dev.proofs.Keeping.{entry_read, len_stored}
+use Rattle.acc_dev.proofs.Ends.{taken_stored, same_left, left_kept}
 use Rattle.std.specs.List.{remove}
 use Rattle.acc_dev.proofs.entries.take_out.Goals as goal
 

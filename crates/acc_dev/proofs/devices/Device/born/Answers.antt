@@ -1,13 +1,11 @@
-use Rattle.std.proofs.Common.{◌≡◌, ◌+◌, ◌≤◌, ℕ, Option, Some, None, Err, List, length, ap, ◌∙◌, sym, subst, rules, arith, get_or}
-use Rattle.std.specs.Prelude.{IsSomeAnd, IsErrAnd}
-use Rattle.acc_base.specs.declared.faults.Fault.{Fault}
-use Rattle.acc_base.specs.declared.faults.Fault.TheVariants.{Memory, DeviceFull}
+use Rattle.std.proofs.Common.{◌≡◌, ◌+◌, ◌≤◌, ℕ, Err, ap, ◌∙◌, sym, subst, rules}
+use Rattle.acc_base.specs.declared.faults.Fault.TheVariants.{DeviceFull}
 use Rattle.acc_base.specs.Blocks.{rounded, IsPlaceFor}
-use Rattle.acc_placement.specs.Ranges.{IsLeastFit}
 use Rattle.acc_dev.specs.Device.{DeviceState, IsBorn, birth_place}
-use Rattle.acc_dev.specs.Kept.{IsKept, IsCounted}
+use Rattle.acc_dev.specs.Kept.{IsKept}
 use Rattle.acc_dev.specs.declared.devices.Device.TheInside.{Inside}
-use Rattle.acc_dev.proofs.Keeping.{device_of, birth_found, birth_least, refused_full, born_of, born_counted, above_all}
+use Rattle.acc_dev.proofs.Keeping.{device_of}
+use Rattle.acc_dev.proofs.Births.{birth_found, birth_least, refused_full, born_of, born_counted, above_all, there_after_birth, filled_after_birth}
 use Rattle.acc_dev.proofs.devices.Device.born.Goals as goal
 
 -- the place of a birth is the least, as contracts see the device
@@ -60,11 +58,21 @@ invariant_of-self-2 c =
     let entry = rw c.in_ok-make_room.ensures.index at c.put.ensures.index in
     (c.put.ensures.kept, born_counted c.self.inside.index.items c.put.new.index.items c.self.inside.births entry.0 c.self.invariant.1 births entry.1)
 
-pub returns-clause-born : goal.returns-clause-born
-returns-clause-born c =
+born : (c : goal.After-self-1) → IsBorn (device_of c.self.inside.holes c.self.inside.slab.slots c.self.inside.index.items c.self.inside.births) (device_of c.put.new.holes c.put.new.slab.slots c.put.new.index.items (c.self.inside.births + 1)) c.args.len c.args.zero (c.self.inside.births + 1)
+born c =
     let d = c.self.inside in
     let room = c.in_ok-make_room.ensures in
     let fits = rw room.holes.holes at c.put.ensures.place in
-    subst (λ (x : DeviceState). IsBorn x (device_of c.put.new.holes c.put.new.slab.slots c.put.new.index.items (d.births + 1)) c.args.len c.args.zero (d.births + 1)) c.self.view_is
-    (born_of d.holes c.put.new.holes d.slab.slots c.make_room.new.slab.slots c.put.new.slab.slots d.index.items c.make_room.new.index.items c.put.new.index.items d.births c.args.len c.put.result c.args.zero c.in_ok-bytes.bytes.items
-    c.self.invariant.0 c.requires.len.0 room.slots room.index (c.put.ensures.size ∙ room.holes.size) c.in_ok-bytes.ensures.ok fits c.put.ensures.blocks c.put.ensures.memories)
+    born_of d.holes c.put.new.holes d.slab.slots c.make_room.new.slab.slots c.put.new.slab.slots d.index.items c.make_room.new.index.items c.put.new.index.items d.births c.args.len c.put.result c.args.zero c.in_ok-bytes.bytes.items
+    c.self.invariant.0 c.requires.len.0 room.slots room.index (c.put.ensures.size ∙ room.holes.size) c.in_ok-bytes.ensures.ok fits c.put.ensures.blocks c.put.ensures.memories
+
+pub returns-clause-born : goal.returns-clause-born
+returns-clause-born c =
+    let d = c.self.inside in
+    subst (λ (x : DeviceState). IsBorn x (device_of c.put.new.holes c.put.new.slab.slots c.put.new.index.items (d.births + 1)) c.args.len c.args.zero (d.births + 1)) c.self.view_is (born c)
+
+pub returns-clause-there : goal.returns-clause-there
+returns-clause-there c = there_after_birth _ _ c.args.len c.args.zero (c.self.inside.births + 1) (born c)
+
+pub returns-clause-filled : goal.returns-clause-filled
+returns-clause-filled c = filled_after_birth c.self.inside.holes c.self.inside.slab.slots c.self.inside.index.items c.self.inside.births c.args.len c.args.zero _ c.self.invariant.1 (born c)

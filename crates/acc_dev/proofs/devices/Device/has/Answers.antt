@@ -1,8 +1,7 @@
-use Rattle.std.proofs.Common.{◌↔◌, subst, List, ℕ}
+use Rattle.std.proofs.Common.{◌↔◌, subst}
 use Rattle.std.specs.Prelude.{IfSome, IfNone, IsTrue}
 use Rattle.std.specs.List.{AllByRecursion}
 use Rattle.acc_dev.specs.Device.{DeviceState, HasBlock}
-use Rattle.acc_dev.specs.Kept.{IsEntry}
 use Rattle.acc_dev.proofs.Keeping.{found_there}
 use Rattle.acc_dev.proofs.devices.Device.has.Goals as goal
 

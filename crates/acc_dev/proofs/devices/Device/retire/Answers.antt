@@ -1,6 +1,7 @@
 use Rattle.std.proofs.Common.{sym, subst}
 use Rattle.acc_dev.specs.Device.{DeviceState, HasBlock, IsRetired}
-use Rattle.acc_dev.proofs.Keeping.{device_of, not_missed, retired_of, counted_left}
+use Rattle.acc_dev.proofs.Keeping.{device_of, not_missed}
+use Rattle.acc_dev.proofs.Ends.{retired_of}
 use Rattle.acc_dev.proofs.devices.Device.retire.Goals as goal
 
 pub unreachable-requires : goal.unreachable-requires

@@ -3,7 +3,8 @@ use Rattle.acc_base.specs.Bytes.{bytes_of}
 use Rattle.acc_dev.specs.Device.{DeviceState, HasBlock, IsWritten}
 use Rattle.acc_dev.specs.Kept.{memories_in, stored_bytes}
 use Rattle.acc_dev.proofs.Slots.{IsRewritten}
-use Rattle.acc_dev.proofs.Keeping.{device_of, not_missed, bytes_at, filled_entry, rewritten_from, written_kept, written_of}
+use Rattle.acc_dev.proofs.Keeping.{device_of, not_missed}
+use Rattle.acc_dev.proofs.Writes.{bytes_at, rewritten_from, written_kept, written_of}
 use Rattle.acc_dev.proofs.devices.Device.write.Goals as goal
 
 pub unreachable-requires : goal.unreachable-requires

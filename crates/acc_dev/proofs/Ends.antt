@@ -1,0 +1,85 @@
+-- What the end of a block leaves.
+use Rattle.std.proofs.Common.{ℕ, zero, suc, ◌≡◌, ◌<◌, refl, sym, ap, ◌∙◌, subst, List, [], ◌∷◌, ◌++◌, length, get_or, Option, Some, arith}
+use Rattle.std.specs.Prelude.{◌==◌, not, map, IsSome}
+use Rattle.std.specs.List.{remove}
+use Rattle.acc_base.specs.declared.mappings.Block.{Block}
+use Rattle.acc_base.specs.Limits.{IsFromOne}
+use Rattle.acc_base.specs.Blocks.{rounded, without_block}
+use Rattle.acc_base.specs.Bytes.{memories_kept}
+use Rattle.acc_base.specs.Accounts.{AreApart}
+use Rattle.acc_base.proofs.Elements.{AllByRecursion-both}
+use Rattle.acc_base.proofs.Memories.{memories_kept-without}
+use Rattle.acc_placement.specs.Space.{Space, IsCanonical, IsPartition, IsTaken}
+use Rattle.acc_placement.proofs.Partitions.{partition_without, taken_at}
+use Rattle.acc_dev.specs.declared.entries.Stored.{Stored}
+use Rattle.acc_dev.specs.Device.{IsRetired}
+use Rattle.acc_dev.specs.Kept.{block_from, memory_from, slot_of, blocks_in, memories_in, range_of, AreRising, IsKept, IsEntry}
+use Rattle.acc_dev.proofs.Rising.{start, all-remove, apart-remove, map-remove, filter-map, remove-filter}
+use Rattle.acc_dev.proofs.Slots.{AreSame, KeepsOthers, same_from, others_off, made-removed, in_step}
+use Rattle.acc_dev.proofs.Keeping.{device_of}
+
+-- the addresses that a slot takes
+abbrev pub range_stored : Stored → ℕ × ℕ
+range_stored x = (x.place, rounded (length x.bytes.items))
+
+-- they stand at the place of its entry
+range_at : (s : List (Option Stored)) (xs : List (ℕ × ℕ)) (i : ℕ) (x : Stored) (d : ℕ × ℕ) → i < length xs → slot_of s (get_or xs i start) ≡ Some x → range_stored x ≡ get_or (map range_of (blocks_in s xs)) i d
+range_at s [] i x d lt is = absurd (omega arith)
+range_at s (y ∷ ys) zero x d lt is = sym (ap (λ (o : Option Stored). range_of (block_from y.0 o)) is)
+range_at s (y ∷ ys) (suc i) x d lt is = range_at s ys i x d (omega arith) is
+
+length_ranges : (s : List (Option Stored)) (xs : List (ℕ × ℕ)) → length (map range_of (blocks_in s xs)) ≡ length xs
+length_ranges s [] = refl
+length_ranges s (x ∷ xs) = ap suc (length_ranges s xs)
+
+-- so they are taken, and can be given back
+pub taken_stored : (h : Space) (s : List (Option Stored)) (xs : List (ℕ × ℕ)) (i : ℕ) (x : Stored) → IsKept h s xs → i < length xs → slot_of s (get_or xs i start) ≡ Some x → IsTaken h x.place (rounded (length x.bytes.items))
+taken_stored h s xs i x k lt is =
+    taken_at h (map range_of (blocks_in s xs)) i (range_stored x) _ (range_at s xs i x (range_stored x) lt is) refl (omega (arith, length_ranges s xs)) k.partition
+
+-- the slots of the other entries are as they were
+pub same_left : (s t : List (Option Stored)) (xs : List (ℕ × ℕ)) (i : ℕ) → AreApart (λ d e. d.1 ≡ e.1 → ⊥) xs → i < length xs → KeepsOthers s t (get_or xs i start).1 → AreSame s t (remove xs i)
+same_left s t xs i distinct lt others = same_from s t (get_or xs i start).1 (remove xs i) others (others_off xs i distinct lt)
+
+-- without the entry and its slot the device keeps what it keeps
+pub left_kept : (old new : Space) (s t : List (Option Stored)) (xs : List (ℕ × ℕ)) (i : ℕ) (x : Stored) → IsKept old s xs → i < length xs → slot_of s (get_or xs i start) ≡ Some x → KeepsOthers s t (get_or xs i start).1
+    → new.base ≡ old.base → IsCanonical new → ((before after : List (ℕ × ℕ)) → IsPartition old (before ++ range_stored x ∷ after) → IsPartition new (before ++ after)) → IsKept new t (remove xs i)
+left_kept old new s t xs i x kept lt is others base canonical part =
+    let same : AreSame s t (remove xs i) = same_left s t xs i kept.distinct lt others in
+    let blocks : blocks_in t (remove xs i) ≡ remove (blocks_in s xs) i = made-removed block_from s t xs i same in
+    record {
+      base = base ∙ kept.base;
+      canonical = canonical;
+      rising = apart-remove (λ (d : ℕ × ℕ) (e : ℕ × ℕ). d.0 < e.0) xs i kept.rising;
+      distinct = apart-remove (λ (d : ℕ × ℕ) (e : ℕ × ℕ). d.1 ≡ e.1 → ⊥) xs i kept.distinct;
+      filled = AllByRecursion-both (λ (e : ℕ × ℕ). slot_of t e ≡ slot_of s e) (λ e. IsSome (slot_of s e)) (λ e. IsSome (slot_of t e)) (remove xs i) (λ e q some. subst IsSome (sym q) some) same (all-remove (λ (e : ℕ × ℕ). IsSome (slot_of s e)) xs i kept.filled);
+      lens = rw blocks (all-remove (λ (b : Block). IsFromOne 67108864 b.len) (blocks_in s xs) i kept.lens);
+      partition = rw (blocks, map-remove range_of (blocks_in s xs) i) (partition_without old new (map range_of (blocks_in s xs)) i (range_stored x) _ (range_at s xs i x (range_stored x) lt is) refl (omega (arith, length_ranges s xs)) kept.partition part);
+    }
+
+-- the blocks without that of an entry
+pub without-removed : (s : List (Option Stored)) (xs : List (ℕ × ℕ)) (i n : ℕ) → AreRising xs → IsEntry xs n i → without_block n (blocks_in s xs) ≡ remove (blocks_in s xs) i
+without-removed s xs i n rise entry =
+    filter-map (λ (e : ℕ × ℕ). block_from e.0 (slot_of s e)) (λ e. not (e.0 == n)) (λ b. not (b.number == n)) xs (λ e. refl)
+    ∙ ap (map (λ (e : ℕ × ℕ). block_from e.0 (slot_of s e))) (remove-filter xs i n rise entry.in_bounds entry.number)
+    ∙ map-remove (λ (e : ℕ × ℕ). block_from e.0 (slot_of s e)) xs i
+
+-- and their bytes
+pub kept-removed : (s : List (Option Stored)) (xs : List (ℕ × ℕ)) (i n : ℕ) → AreRising xs → IsEntry xs n i → memories_kept (remove (blocks_in s xs) i) (memories_in s xs) ≡ remove (memories_in s xs) i
+kept-removed s xs i n rise entry =
+    ap (λ bs. memories_kept bs (memories_in s xs)) (sym (without-removed s xs i n rise entry))
+    ∙ memories_kept-without n (memories_in s xs) (blocks_in s xs) (in_step s xs)
+    ∙ filter-map (λ (e : ℕ × ℕ). memory_from e.0 (slot_of s e)) (λ e. not (e.0 == n)) (λ m. not (m.block == n)) xs (λ e. refl)
+    ∙ ap (map (λ (e : ℕ × ℕ). memory_from e.0 (slot_of s e))) (remove-filter xs i n rise entry.in_bounds entry.number)
+    ∙ map-remove (λ (e : ℕ × ℕ). memory_from e.0 (slot_of s e)) xs i
+
+-- what an end leaves, as contracts see it
+pub retired_of : (old new : Space) (s t : List (Option Stored)) (xs ys : List (ℕ × ℕ)) (births i n : ℕ) → IsKept old s xs → IsEntry xs n i → new.size ≡ old.size → blocks_in t ys ≡ remove (blocks_in s xs) i → memories_in t ys ≡ remove (memories_in s xs) i
+    → IsRetired (device_of old s xs births) (device_of new t ys births) n
+retired_of old new s t xs ys births i n k entry size blocks memories =
+    record {
+      size = size;
+      blocks = blocks ∙ sym (without-removed s xs i n k.rising entry);
+      memories = memories ∙ sym (kept-removed s xs i n k.rising entry) ∙ ap (λ bs. memories_kept bs (memories_in s xs)) (sym blocks);
+      births = refl;
+    }

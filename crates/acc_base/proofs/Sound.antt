@@ -1,4 +1,4 @@
--- Each legal event keeps the records sound: ranges and blocks stay apart, each range has a block of its own, and no counter is zero.
+-- Each legal event keeps the records sound: ranges and blocks stay apart, each range has a block of its own, and no dynamic counter is zero.
 use Rattle.std.proofs.Common.{ℕ, ◌≡◌, ◌+◌, ◌-◌, ◌%◌, ◌<◌, ◌≤◌, refl, sym, ◌∙◌, ap, subst, Bool, true, false, cond, List, [], ◌∷◌, ◌++◌, Option, Some, None, arith}
 use Rattle.std.specs.Prelude.{◌⊎◌, ◌==◌, ◌&&◌, ◌||◌, not, nat_lt, nat_le, unwrap_or, option_map, IsSome, IfSome}
 use Rattle.std.specs.List.{AllByRecursion, list_all}
@@ -195,10 +195,10 @@ birth_blocks l section k p w some birth h =
     let found : IsFoundPlace (fits_at l.device w.blocks (rounded section.len)) (Some p) = subst (IsFoundPlace (fits_at l.device w.blocks (rounded section.len))) birth.place_is (place_for-found l.device w.blocks (rounded section.len)) in
     let parts : ((nat_le device_base p && nat_le (p + rounded section.len) (device_base + l.device)) ≡ true) × (list_all (is_clear_of p (rounded section.len)) w.blocks ≡ true) = and_true _ _ found.0 in
     let bounds : (device_base ≤ p) × (p + rounded section.len ≤ device_base + l.device) = grind (arith, nat_tests) in
-    let even : IfSome (Some p) (λ q. q % 16 ≡ 0) = subst (λ o. IfSome o (λ q. q % 16 ≡ 0)) birth.place_is (place_for-even l.device w.blocks (rounded section.len) (AllByRecursion-weaker (IsOnDevice l) (λ b. b.place % 16 ≡ 0) w.blocks (λ b o. o.even) h.on_device)) in
+    let even : IfSome (Some p) (λ q. q % 16 ≡ 0) = subst (λ o. IfSome o (λ q. q % 16 ≡ 0)) birth.place_is (place_for-even l.device w.blocks (rounded section.len) (AllByRecursion-weaker (IsOnDevice l) (λ b. b.place % 16 ≡ 0) w.blocks (λ b o. o.aligned) h.on_device)) in
     let clear : AllByRecursion (λ b. is_clear_of p (rounded section.len) b ≡ true) w.blocks = list_all-from (is_clear_of p (rounded section.len)) w.blocks parts.1 in
     record {
-      on_device = AllByRecursion-append (IsOnDevice l) w.blocks (born_block k p section.len ∷ []) h.on_device (record { some = some; first = bounds.0; last = bounds.1; even = even }, tt);
+      on_device = AllByRecursion-append (IsOnDevice l) w.blocks (born_block k p section.len ∷ []) h.on_device (record { some = some; first = bounds.0; last = bounds.1; aligned = even }, tt);
       apart = AreApart-push IsClearOf w.blocks (born_block k p section.len)
           (AllByRecursion-both (λ b. is_clear_of p (rounded section.len) b ≡ true) (λ b. b.number ≤ w.births) (λ b. IsClearOf b (born_block k p section.len)) w.blocks
           (λ b c n. let first : k ≡ w.births + 1 = birth.number in record { addresses = sides b.place (block_end b) p (rounded section.len) c; numbers = omega arith }) clear h.born)

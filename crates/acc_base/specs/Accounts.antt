@@ -41,7 +41,7 @@ pub record IsOnDevice (l : Limits) (b : Block) : Type 0 where
   pub some : 0 < b.len
   pub first : device_base ≤ b.place
   pub last : block_end b ≤ device_base + l.device
-  pub even : b.place % 16 ≡ 0
+  pub aligned : b.place % 16 ≡ 0
 
 -- no address is in both, and the one was born before the other
 pub record IsClearOf (b c : Block) : Type 0 where

@@ -5,12 +5,12 @@ use crate::{EnterClause, ExitClause, Item, List};
 /// A directive, with the items of its data clauses in written order. They act in that order.
 #[derive(Debug, Drop)]
 pub enum Directive {
-    /// The `enter data` directive.
+    /// The `enter data` directive (OpenACC 3.3, section 2.6.6).
     EnterData {
         /// The items of its clauses.
         items: List<Item<EnterClause>>,
     },
-    /// The `exit data` directive.
+    /// The `exit data` directive (OpenACC 3.3, section 2.6.6).
     ExitData {
         /// The items of its clauses.
         items: List<Item<ExitClause>>,

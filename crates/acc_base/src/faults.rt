@@ -6,7 +6,9 @@ use std::alloc::{AllocError, AllocFailed};
 use std::error::Error;
 use std::fmt;
 
-/// Why a call was refused. A refused call changes nothing.
+/// Why a call was refused, or why the run of a script ended early.
+///
+/// A refused call on a table changes nothing; what the run of a script wrote before its fault stands.
 ///
 /// An `item` is the item's place in the directive's written list, counted from 0. `Display` writes the number, the
 /// name, and each field with its value, as `14 DeviceFull item 0 need 32`.

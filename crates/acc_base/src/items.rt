@@ -20,16 +20,18 @@ pub struct Item<C> {
     pub section: Section,
 }
 
-/// The clauses of the `enter data` directive.
+/// The clauses of the `enter data` directive (OpenACC 3.3, sections 2.6.6 and 2.7).
 #[derive(Clone, Copy, Debug, PartialEq, Eq)]
 pub enum EnterClause {
-    /// The `copyin` clause: where the section is absent, a new block gets its bytes.
+    /// The `copyin` clause: where the section is inside a mapped range, its dynamic counter rises; where it is absent,
+    /// it is mapped to a new block, which gets its bytes.
     Copyin,
 }
 
-/// The clauses of the `exit data` directive.
+/// The clauses of the `exit data` directive (OpenACC 3.3, sections 2.6.6 and 2.7).
 #[derive(Clone, Copy, Debug, PartialEq, Eq)]
 pub enum ExitClause {
-    /// The `delete` clause: the dynamic counter falls, and at the end of the mapping nothing is copied.
+    /// The `delete` clause: where the section is inside a mapped range, its dynamic counter falls, if it is above zero;
+    /// at the end of the mapping nothing is copied.
     Delete,
 }

@@ -16,7 +16,7 @@ const ROUNDS: u32 = 1_000;
 /// The device address at which the space begins.
 const BASE: u64 = 0x1_0000_0000;
 
-/// A space with a hole of 16 bytes behind each of its taken ranges of 16 bytes, and a larger hole at its end.
+/// A space with a hole of 16 bytes in front of each of its taken ranges of 16 bytes, and a larger hole at its end.
 #[derive(Drop)]
 struct Sieve {
     holes: Holes,
@@ -36,7 +36,7 @@ pub fn run<R: Print + Clock + AllocGlobal>(rt: &R) -> Result<()> {
         let found = would_take(&sieve);
         let looked = start.elapsed(rt)?;
         println!(rt;
-            "placement with {count} holes: take and give back {:?}, would_take {:?}, {found} found",
+            "placement with {count} small holes: take and give back {:?}, would_take {:?}, {found} found",
             taken / ROUNDS,
             looked / ROUNDS
         )?;

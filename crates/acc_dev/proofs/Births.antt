@@ -13,13 +13,13 @@ use Rattle.acc_base.specs.Blocks.{rounded, block_at, place_for, IsPlaceFor}
 use Rattle.acc_base.specs.Bytes.{bytes_of}
 use Rattle.acc_base.proofs.Elements.{AllByRecursion-weaker, AllByRecursion-both, AllByRecursion-append, AllByRecursion-map, AreApart-push}
 use Rattle.acc_base.proofs.Places.{place_for-least}
-use Rattle.acc_base.proofs.Tests.{equal_self}
+use Rattle.acc_base.proofs.Results.{equal_self}
 use Rattle.acc_placement.specs.Ranges.{IsLeastFit, IsFitBeside, IsLeastFitBeside}
 use Rattle.acc_placement.specs.Space.{Space, IsCanonical, IsPartition}
 use Rattle.acc_placement.proofs.Partitions.{partition_last}
 use Rattle.acc_dev.specs.declared.entries.Stored.{Stored}
 use Rattle.acc_dev.specs.Device.{DeviceState, HasBlock, IsBorn, birth_place, fill_of}
-use Rattle.acc_dev.specs.Kept.{block_from, memory_from, slot_of, blocks_in, memories_in, range_of, IsKept, IsCounted}
+use Rattle.acc_dev.specs.Kept.{block_from, memory_from, slot_of, blocks_in, memories_in, taken_range, IsKept, IsCounted}
 use Rattle.acc_dev.proofs.Slots.{AreSame, KeepsOthers, same_from, vacant_off, made-born}
 use Rattle.acc_dev.proofs.Placing.{some_bytes, planned_place, birth_at}
 use Rattle.acc_dev.proofs.Keeping.{device_of, shared}
@@ -44,7 +44,7 @@ born_kept old new s t xs number k x kept above vacant is others len base canonic
     let off = vacant_off s k xs kept.filled vacant in
     let same : AreSame s t xs = same_from s t k xs others off in
     let blocks : blocks_in t (xs ++ (number, k) ∷ []) ≡ blocks_in s xs ++ born_block number x ∷ [] = blocks-born s t xs number k x kept.filled vacant is others in
-    let ranges : map range_of (blocks_in s xs ++ born_block number x ∷ []) ≡ map range_of (blocks_in s xs) ++ range_of (born_block number x) ∷ [] = map-append range_of (blocks_in s xs) (born_block number x ∷ []) in
+    let ranges : map taken_range (blocks_in s xs ++ born_block number x ∷ []) ≡ map taken_range (blocks_in s xs) ++ taken_range (born_block number x) ∷ [] = map-append taken_range (blocks_in s xs) (born_block number x ∷ []) in
     record {
       base = base ∙ kept.base;
       canonical = canonical;
@@ -54,7 +54,7 @@ born_kept old new s t xs number k x kept above vacant is others len base canonic
           (AllByRecursion-both (λ (e : ℕ × ℕ). slot_of t e ≡ slot_of s e) (λ e. IsSome (slot_of s e)) (λ e. IsSome (slot_of t e)) xs (λ e q some. subst IsSome (sym q) some) same kept.filled)
           (subst IsSome (sym is) refl, tt);
       lens = rw blocks (AllByRecursion-append (λ (b : Block). IsFromOne 67108864 b.len) (blocks_in s xs) (born_block number x ∷ []) kept.lens (len, tt));
-      partition = rw (blocks, ranges) (partition_last new (map range_of (blocks_in s xs)) (range_of (born_block number x)) (part (map range_of (blocks_in s xs)) kept.partition));
+      partition = rw (blocks, ranges) (partition_last new (map taken_range (blocks_in s xs)) (taken_range (born_block number x)) (part (map taken_range (blocks_in s xs)) kept.partition));
     }
 
 -- the place that a look ahead finds is that of a birth

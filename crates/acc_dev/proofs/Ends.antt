@@ -13,7 +13,7 @@ use Rattle.acc_placement.specs.Space.{Space, IsCanonical, IsPartition, IsTaken}
 use Rattle.acc_placement.proofs.Partitions.{partition_without, taken_at}
 use Rattle.acc_dev.specs.declared.entries.Stored.{Stored}
 use Rattle.acc_dev.specs.Device.{IsRetired}
-use Rattle.acc_dev.specs.Kept.{block_from, memory_from, slot_of, blocks_in, memories_in, range_of, AreRising, IsKept, IsEntry}
+use Rattle.acc_dev.specs.Kept.{block_from, memory_from, slot_of, blocks_in, memories_in, taken_range, AreRising, IsKept, IsEntry}
 use Rattle.acc_dev.proofs.Rising.{start, all-remove, apart-remove, map-remove, filter-map, remove-filter}
 use Rattle.acc_dev.proofs.Slots.{AreSame, KeepsOthers, same_from, others_off, made-removed, in_step}
 use Rattle.acc_dev.proofs.Keeping.{device_of}
@@ -23,19 +23,19 @@ abbrev pub range_stored : Stored → ℕ × ℕ
 range_stored x = (x.place, rounded (length x.bytes.items))
 
 -- they stand at the place of its entry
-range_at : (s : List (Option Stored)) (xs : List (ℕ × ℕ)) (i : ℕ) (x : Stored) (d : ℕ × ℕ) → i < length xs → slot_of s (get_or xs i start) ≡ Some x → range_stored x ≡ get_or (map range_of (blocks_in s xs)) i d
+range_at : (s : List (Option Stored)) (xs : List (ℕ × ℕ)) (i : ℕ) (x : Stored) (d : ℕ × ℕ) → i < length xs → slot_of s (get_or xs i start) ≡ Some x → range_stored x ≡ get_or (map taken_range (blocks_in s xs)) i d
 range_at s [] i x d lt is = absurd (omega arith)
-range_at s (y ∷ ys) zero x d lt is = sym (ap (λ (o : Option Stored). range_of (block_from y.0 o)) is)
+range_at s (y ∷ ys) zero x d lt is = sym (ap (λ (o : Option Stored). taken_range (block_from y.0 o)) is)
 range_at s (y ∷ ys) (suc i) x d lt is = range_at s ys i x d (omega arith) is
 
-length_ranges : (s : List (Option Stored)) (xs : List (ℕ × ℕ)) → length (map range_of (blocks_in s xs)) ≡ length xs
+length_ranges : (s : List (Option Stored)) (xs : List (ℕ × ℕ)) → length (map taken_range (blocks_in s xs)) ≡ length xs
 length_ranges s [] = refl
 length_ranges s (x ∷ xs) = ap suc (length_ranges s xs)
 
 -- so they are taken, and can be given back
 pub taken_stored : (h : Space) (s : List (Option Stored)) (xs : List (ℕ × ℕ)) (i : ℕ) (x : Stored) → IsKept h s xs → i < length xs → slot_of s (get_or xs i start) ≡ Some x → IsTaken h x.place (rounded (length x.bytes.items))
 taken_stored h s xs i x k lt is =
-    taken_at h (map range_of (blocks_in s xs)) i (range_stored x) _ (range_at s xs i x (range_stored x) lt is) refl (omega (arith, length_ranges s xs)) k.partition
+    taken_at h (map taken_range (blocks_in s xs)) i (range_stored x) _ (range_at s xs i x (range_stored x) lt is) refl (omega (arith, length_ranges s xs)) k.partition
 
 -- the slots of the other entries are as they were
 pub same_left : (s t : List (Option Stored)) (xs : List (ℕ × ℕ)) (i : ℕ) → AreApart (λ d e. d.1 ≡ e.1 → ⊥) xs → i < length xs → KeepsOthers s t (get_or xs i start).1 → AreSame s t (remove xs i)
@@ -54,7 +54,7 @@ left_kept old new s t xs i x kept lt is others base canonical part =
       distinct = apart-remove (λ (d : ℕ × ℕ) (e : ℕ × ℕ). d.1 ≡ e.1 → ⊥) xs i kept.distinct;
       filled = AllByRecursion-both (λ (e : ℕ × ℕ). slot_of t e ≡ slot_of s e) (λ e. IsSome (slot_of s e)) (λ e. IsSome (slot_of t e)) (remove xs i) (λ e q some. subst IsSome (sym q) some) same (all-remove (λ (e : ℕ × ℕ). IsSome (slot_of s e)) xs i kept.filled);
       lens = rw blocks (all-remove (λ (b : Block). IsFromOne 67108864 b.len) (blocks_in s xs) i kept.lens);
-      partition = rw (blocks, map-remove range_of (blocks_in s xs) i) (partition_without old new (map range_of (blocks_in s xs)) i (range_stored x) _ (range_at s xs i x (range_stored x) lt is) refl (omega (arith, length_ranges s xs)) kept.partition part);
+      partition = rw (blocks, map-remove taken_range (blocks_in s xs) i) (partition_without old new (map taken_range (blocks_in s xs)) i (range_stored x) _ (range_at s xs i x (range_stored x) lt is) refl (omega (arith, length_ranges s xs)) kept.partition part);
     }
 
 -- the blocks without that of an entry

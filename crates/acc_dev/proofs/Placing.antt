@@ -16,27 +16,27 @@ use Rattle.acc_placement.specs.Ranges.{Spans, IsIn, IsLeastFit, IsFitBeside, IsL
 use Rattle.acc_placement.specs.Space.{Space, IsCanonical, IsPartition}
 use Rattle.acc_placement.proofs.Rising.{in_bounds}
 use Rattle.acc_dev.specs.Device.{planned_blocks}
-use Rattle.acc_dev.specs.Kept.{range_of}
+use Rattle.acc_dev.specs.Kept.{taken_range}
 
 -- ---- addresses in blocks
 
-free_out : (bs : List Block) (a : ℕ) → IsFree bs a → IsIn (map range_of bs) a → ⊥
+free_out : (bs : List Block) (a : ℕ) → IsFree bs a → IsIn (map taken_range bs) a → ⊥
 free_out [] a free i = i
 free_out (b ∷ bs) a free (inl w) = free.0 w.0 w.1
 free_out (b ∷ bs) a free (inr i) = free_out bs a free.1 i
 
-out_free : (bs : List Block) (a : ℕ) → (IsIn (map range_of bs) a → ⊥) → IsFree bs a
+out_free : (bs : List Block) (a : ℕ) → (IsIn (map taken_range bs) a → ⊥) → IsFree bs a
 out_free [] a out = tt
 out_free (b ∷ bs) a out = (λ low high. out (inl (low, high)), out_free bs a (λ i. out (inr i)))
 
 -- the blocks take what is used
-pub total-used : (bs : List Block) → total (map range_of bs) ≡ used_bytes bs
+pub total-used : (bs : List Block) → total (map taken_range bs) ≡ used_bytes bs
 total-used [] = refl
 total-used (b ∷ bs) = omega (arith, total-used bs, sum_by-cons size_of b bs)
 
 -- ---- blocks that are yet to be born
 
-planned_ranges : (n : ℕ) (ts : List (ℕ × ℕ)) → map range_of (planned_blocks n ts) ≡ all_rounded ts
+planned_ranges : (n : ℕ) (ts : List (ℕ × ℕ)) → map taken_range (planned_blocks n ts) ≡ all_rounded ts
 planned_ranges n [] = refl
 planned_ranges n (t ∷ ts) = ap (λ rs. (t.0, rounded t.1) ∷ rs) (planned_ranges (suc n) ts)
 
@@ -54,9 +54,9 @@ some_bytes bs h = AllByRecursion-weaker (λ b. IsFromOne 67108864 b.len) (λ b. 
 pub record IsShared (s : Space) (bs : List Block) : Type 0 where
   pub base : s.base ≡ device_base
   pub canonical : IsCanonical s
-  pub partition : IsPartition s (map range_of bs)
+  pub partition : IsPartition s (map taken_range bs)
 
-fits_from : (s : Space) (bs cs : List Block) (n q : ℕ) → IsShared s bs → IsFitBeside s.holes (map range_of cs) n q → Fits s.size (bs ++ cs) n q
+fits_from : (s : Space) (bs cs : List Block) (n q : ℕ) → IsShared s bs → IsFitBeside s.holes (map taken_range cs) n q → Fits s.size (bs ++ cs) n q
 fits_from s bs cs n q k fit a low high =
     let f = fit a (low, high) in
     let b : (s.base ≤ a) × (a < s.base + s.size) = in_bounds s.base s.holes (s.base + s.size) a k.canonical.rising f.0 in
@@ -70,7 +70,7 @@ free_parts : (bs cs : List Block) (a : ℕ) → IsFree (bs ++ cs) a → IsFree b
 free_parts [] cs a free = (tt, free)
 free_parts (b ∷ bs) cs a free = let rest = free_parts bs cs a free.1 in ((free.0, rest.0), rest.1)
 
-fit_from : (s : Space) (bs cs : List Block) (n q : ℕ) → IsShared s bs → Fits s.size (bs ++ cs) n q → IsFitBeside s.holes (map range_of cs) n q
+fit_from : (s : Space) (bs cs : List Block) (n q : ℕ) → IsShared s bs → Fits s.size (bs ++ cs) n q → IsFitBeside s.holes (map taken_range cs) n q
 fit_from s bs cs n q k fits a w =
     let f = fits a w.0 w.1 in
     let base = k.base in
@@ -88,11 +88,11 @@ no_place : (device size : ℕ) (bs : List Block) (o : Option ℕ) → IsPlaceFor
 no_place device size bs None none is = refl
 no_place device size bs (Some q) found is = absurd (is q found.0)
 
-beside_place : (s : Space) (bs cs : List Block) (n p : ℕ) → 0 < n → AllByRecursion (λ b. 0 < size_of b) (bs ++ cs) → IsShared s bs → IsLeastFitBeside s.holes (map range_of cs) n p → place_for s.size (bs ++ cs) n ≡ Some p
+beside_place : (s : Space) (bs cs : List Block) (n p : ℕ) → 0 < n → AllByRecursion (λ b. 0 < size_of b) (bs ++ cs) → IsShared s bs → IsLeastFitBeside s.holes (map taken_range cs) n p → place_for s.size (bs ++ cs) n ≡ Some p
 beside_place s bs cs n p pos some k least =
     same_place s.size n p (bs ++ cs) _ (place_for-least s.size (bs ++ cs) n pos some) (fits_from s bs cs n p k least.0, λ q fits. least.1 q (fit_from s bs cs n q k fits))
 
-beside_none : (s : Space) (bs cs : List Block) (n : ℕ) → 0 < n → AllByRecursion (λ b. 0 < size_of b) (bs ++ cs) → IsShared s bs → ((q : ℕ) → IsFitBeside s.holes (map range_of cs) n q → ⊥) → place_for s.size (bs ++ cs) n ≡ None
+beside_none : (s : Space) (bs cs : List Block) (n : ℕ) → 0 < n → AllByRecursion (λ b. 0 < size_of b) (bs ++ cs) → IsShared s bs → ((q : ℕ) → IsFitBeside s.holes (map taken_range cs) n q → ⊥) → place_for s.size (bs ++ cs) n ≡ None
 beside_none s bs cs n pos some k none =
     no_place s.size n (bs ++ cs) _ (place_for-least s.size (bs ++ cs) n pos some) (λ q fits. none q (fit_from s bs cs n q k fits))
 
@@ -112,7 +112,7 @@ birth_at s bs n p pos lens k least =
 
 -- ---- blocks lie apart
 
-beside_from : (b : Block) (bs : List Block) → 0 < size_of b → AllByRecursion (λ c. 0 < size_of c) bs → AllByRecursion (λ c. b.number < c.number) bs → ((a : ℕ) → Spans b.place (size_of b) a → IsIn (map range_of bs) a → ⊥) → AllByRecursion (IsClearOf b) bs
+beside_from : (b : Block) (bs : List Block) → 0 < size_of b → AllByRecursion (λ c. 0 < size_of c) bs → AllByRecursion (λ c. b.number < c.number) bs → ((a : ℕ) → Spans b.place (size_of b) a → IsIn (map taken_range bs) a → ⊥) → AllByRecursion (IsClearOf b) bs
 beside_from b [] pos some rise off = tt
 beside_from b (c ∷ cs) pos some rise off = (
   record {
@@ -129,17 +129,17 @@ beside_from b (c ∷ cs) pos some rise off = (
 )
 
 -- blocks whose addresses are apart, in the order of their births
-pub clear_of : (bs : List Block) → AllByRecursion (λ b. 0 < size_of b) bs → AreApart (λ b c. b.number < c.number) bs → IsDisjoint (map range_of bs) → AreApart IsClearOf bs
+pub clear_of : (bs : List Block) → AllByRecursion (λ b. 0 < size_of b) bs → AreApart (λ b c. b.number < c.number) bs → IsDisjoint (map taken_range bs) → AreApart IsClearOf bs
 clear_of [] some rise off = tt
 clear_of (b ∷ bs) some rise off = (beside_from b bs some.0 some.1 rise.0 off.0, clear_of bs some.1 rise.1 off.1)
 
 -- each block lies on the device
-pub on_device : (l : Limits) (s : Space) (bs : List Block) → l.device ≡ s.size → s.base ≡ device_base → AllByRecursion (λ b. IsFromOne 67108864 b.len) bs → ((a : ℕ) → IsIn (map range_of bs) a → Spans s.base s.size a) → All IsAligned (map range_of bs) → AllByRecursion (IsOnDevice l) bs
+pub on_device : (l : Limits) (s : Space) (bs : List Block) → l.device ≡ s.size → s.base ≡ device_base → AllByRecursion (λ b. IsFromOne 67108864 b.len) bs → ((a : ℕ) → IsIn (map taken_range bs) a → Spans s.base s.size a) → All IsAligned (map taken_range bs) → AllByRecursion (IsOnDevice l) bs
 on_device l s [] size base lens within aligned = tt
 on_device l s (b ∷ bs) size base lens within aligned =
     let one : 1 ≤ b.len = lens.0.0 in
     let first : (s.base ≤ b.place) × (b.place < s.base + s.size) = within b.place (inl (omega arith, omega arith)) in
     let last : (s.base ≤ block_end b - 1) × (block_end b - 1 < s.base + s.size) = within (block_end b - 1) (inl (omega arith, omega arith)) in (
-      record { some = omega arith; first = omega arith; last = omega arith; even = (aligned 0 (range_of b) (omega arith)).0 },
+      record { some = omega arith; first = omega arith; last = omega arith; aligned = (aligned 0 (taken_range b) (omega arith)).0 },
       on_device l s bs size base lens.1 (λ a i. within a (inr i)) (λ k d lt. aligned (suc k) d (omega arith)),
     )

@@ -38,8 +38,8 @@ abbrev pub memories_in : List (Option Stored) → List (ℕ × ℕ) → List Mem
 memories_in slots index = map (λ e. memory_from e.0 (slot_of slots e)) index
 
 -- the addresses that a block takes, as the placement has them
-abbrev pub range_of : Block → ℕ × ℕ
-range_of b = (b.place, size_of b)
+abbrev pub taken_range : Block → ℕ × ℕ
+taken_range b = (b.place, size_of b)
 
 -- the numbers of an index rise
 abbrev pub AreRising : List (ℕ × ℕ) → Type 0
@@ -53,7 +53,7 @@ pub record IsKept (holes : Space) (slots : List (Option Stored)) (index : List (
   pub distinct : AreApart (λ d e. d.1 ≡ e.1 → ⊥) index
   pub filled : AllByRecursion (λ e. IsSome (slot_of slots e)) index
   pub lens : AllByRecursion (λ b. IsFromOne 67108864 b.len) (blocks_in slots index)
-  pub partition : IsPartition holes (map range_of (blocks_in slots index))
+  pub partition : IsPartition holes (map taken_range (blocks_in slots index))
 
 -- no number is above the births, of which there are not too many
 pub record IsCounted (index : List (ℕ × ℕ)) (births : ℕ) : Type 0 where

@@ -75,7 +75,8 @@ impl Holes {
     /// # Errors
     ///
     /// [`Fault::DeviceFull`] with item 0 and the rounded need, exactly where no hole is large enough; else only
-    /// [`Fault::Memory`], where there was no spare room. The space is then as before, but for its spare room.
+    /// [`Fault::Memory`], where there was no spare room. The space is then as before, but for its spare room, which did
+    /// not shrink.
     pub fn take(&mut self, need: u64) -> Result<u64, Fault>
         requires need { IsFromOne 67108864 need }
         ensures place { IfOk result (IsLeastFit self.old.holes (rounded_of need)) }
@@ -89,6 +90,7 @@ impl Holes {
         ensures unchanged { OnErr result (IsUnchanged self.old self.new) }
         ensures memory { result ≡ Err Fault.Memory → self.old.spare ≡ 0 }
         ensures spare { self.old.spare ≤ self.new.spare + 1 }
+        ensures spare_kept { OnErr result (self.old.spare ≤ self.new.spare) }
     {
         let Some(_) = self.fit(need) else {
             return Err(Fault::DeviceFull {
@@ -177,14 +179,14 @@ impl Holes {
     }
 
     /// Gives back a range that was taken at `place` with this need and not given back since. The new hole is merged with
-    /// those that it touches. It needs no memory and is never refused.
+    /// those that it touches. It needs no memory, is never refused, and leaves room for one take more.
     pub fn give_back(&mut self, place: u64, need: u64)
         requires need { IsFromOne 67108864 need }
         requires taken { IsTaken self.old place (rounded_of need) }
         ensures given_back { IsGivenBack self.old self.new place (rounded_of need) }
         ensures canonical { IsCanonical self.new }
         ensures partition { (before after : List (ℕ × ℕ)) → IsPartition self.old (before ++ (place, rounded_of need) ∷ after) → IsPartition self.new (before ++ after) }
-        ensures spare { self.old.spare ≤ self.new.spare }
+        ensures spare { self.old.spare + 1 ≤ self.new.spare }
     {
         let size = rounded(need);
         fill(&mut self.holes, place, size);

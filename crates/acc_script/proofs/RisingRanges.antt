@@ -5,6 +5,7 @@ use Rattle.std.specs.List.{AllByRecursion, flat_map}
 use Rattle.std.proofs.lemmas.Bool.{leb-true, leb-false, le-leb, lt-leb, and_parts}
 use Rattle.std.proofs.lemmas.List.{append-nil}
 use Rattle.std.proofs.lemmas.List.Concat.{flat_map-append, flat_map-cons}
+use Rattle.acc_base.proofs.Elements.{found_has}
 use Rattle.acc_base.specs.declared.mappings.Range.{Range}
 use Rattle.acc_base.specs.Limits.{Limits, IsWithinBounds}
 use Rattle.acc_base.specs.Section.{host_memory, host_base, end_of}
@@ -26,15 +27,6 @@ Precedes r t = IsBelow r.section t.section
 
 abbrev LiesInHost : Limits → Range → Type 0
 LiesInHost l r = IsInHost l r.section
-
--- what holds of each range holds of one that is found
-found_has : (P : Range → Type 0) (p : Range → Bool) (r : Range) (ranges : List Range) → AllByRecursion P ranges → find p ranges ≡ Some r → P r × (p r ≡ true)
-found_has P p r [] all found = absurd cc
-found_has P p r (t ∷ ts) all found =
-    elim (p t) as (λ b. p t ≡ b → cond b (Some t) (find p ts) ≡ Some r → P r × (p r ≡ true)) [
-      | true ↦ λ is e. let same : t ≡ r = cc in subst (λ (x : Range). P x × (p x ≡ true)) same (all.0, is)
-      | false ↦ λ is e. found_has P p r ts all.1 e
-    ] refl found
 
 -- no range behind one starts below its end
 none_below : (from : ℕ) (t : Range) (ts : List Range) → AllByRecursion (Precedes t) ts → from ≤ t.section.start + t.section.len → below from ts ≡ []
@@ -67,7 +59,7 @@ module _ (l : Limits) (from : ℕ) (r : Range) where
             let Q : Range → Type 0 = λ x. below (x.section.start + 1) (t ∷ ts) ≡ below from ts ++ x ∷ [] in
             subst Q same (rw (lt-leb (t.section.start + 1) t.section.start (omega arith), none_below (t.section.start + 1) t ts rising.0 (omega (arith, in_host.0.some)), none_below from t ts rising.0 (omega arith)) refl)
         | false ↦ λ is e.
-            let found_at : from ≤ r.section.start = leb-true from r.section.start (found_has (LiesInHost l) (starts_from from) r ts in_host.1 e).1 in
+            let found_at : from ≤ r.section.start = leb-true from r.section.start (found_has (LiesInHost l) (starts_from from) ts r in_host.1 e).1 in
             let above : t.section.start < from = leb-false from t.section.start is in
             rw (lt-leb (r.section.start + 1) t.section.start (omega arith)) (ap (λ (rs : List Range). t ∷ rs) (next_below ts in_host.1 rising.1 e))
       ] refl found
@@ -87,7 +79,7 @@ module _ (l : Limits) (from : ℕ) (r : Range) where
   -- it starts where the search began or behind, and well below the last address
   pub found_start : (ranges : List Range) → IsWithinBounds l → AllByRecursion (LiesInHost l) ranges → range_from from ranges ≡ Some r → (from ≤ r.section.start) × (r.section.start < 2 ^ 32)
   found_start ranges bounds in_host found =
-      let lies = found_has (LiesInHost l) (starts_from from) r ranges in_host found in
+      let lies = found_has (LiesInHost l) (starts_from from) ranges r in_host found in
       let ends : end_of r.section ≤ host_base + l.host = leb-true (end_of r.section) (end_of (host_memory l.host)) (and_parts (nat_le host_base r.section.start) (nat_le (end_of r.section) (end_of (host_memory l.host))) lies.0.within).1 in
       (leb-true from r.section.start lies.1, omega (arith, ends, bounds.host))
 

@@ -80,6 +80,7 @@ before_comment line = before_first (λ b. b == hash) line
 abbrev pub line_limit : ℕ
 line_limit = 4096
 
+-- what a line asks for; a line that is too long is told first, then a byte that is no text
 unfoldable pub line_at : Layout → List ℕ → Result Meaning ScriptFault
 line_at layout line = if nat_lt line_limit (length line) then Err TooLong
     else if not (list_all is_text_byte (before_comment line)) then Err NotText

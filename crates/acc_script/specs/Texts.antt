@@ -51,7 +51,7 @@ totals_text regions events = codes "regions " ++ (decimal regions ++ (codes " ev
 abbrev pub ranges_text : Records → List ℕ
 ranges_text w = flat_map (λ r. mapped_text (mapped_as w.blocks r)) w.ranges
 
--- no region is open
+-- the report of a table; no directive opens a region yet, so none is open
 unfoldable pub report_text : World → List ℕ
 report_text w =
     sizes_text w.limits.host w.limits.device (used_bytes w.state.records.blocks)

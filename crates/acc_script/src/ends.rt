@@ -5,7 +5,8 @@ ghost use Rattle.acc_script.specs.Told.{Given, Taken, after_read, after_write, B
 
 /// Gives bytes.
 ///
-/// Contracts see what it has given so far, whether it told its end, and how often it failed, where it tells.
+/// Contracts see, where it tells, what it has given so far, whether its last read into a piece that was not empty told
+/// the end, and how often it failed, modulo 2^64.
 pub trait Source {
     /// What it has given so far, where it tells.
     ghost told: { Self → Option Given } = { λ _. None };
@@ -19,7 +20,7 @@ pub trait Source {
 
 /// Takes bytes.
 ///
-/// Contracts see what it has taken so far, and how often it failed, where it tells.
+/// Contracts see, where it tells, what it has taken so far, and how often it failed, modulo 2^64.
 pub trait Sink {
     /// What it has taken so far, where it tells.
     ghost told: { Self → Option Taken } = { λ _. None };

@@ -1,4 +1,5 @@
-//! The line of a refusal, written without memory.
+//! The line of a refusal, written piece by piece. `Display` of `Fault` writes the same text, but says nothing of how
+//! much was written where the sink fails.
 
 ghost use Rattle.std.specs.Prelude.{◌++◌, codes};
 ghost use Rattle.acc_base.specs.Faults.{fields_text, kind_name_of};

@@ -13,7 +13,8 @@ use acc_base::Fault;
 use acc_table::{Mapped, Table};
 
 /// Writes the report of a table: the sizes of its memories, its mapped ranges by rising start with their counters,
-/// and the numbers of open regions and of events. Takes no memory.
+/// and the numbers of open regions and of events. Takes no memory. What was written is proved where the sink tells its
+/// bytes.
 ///
 /// # Errors
 ///

@@ -23,12 +23,15 @@ use std::thread::Threads;
 /// `parts`, from 1 to 64, is how many parts the work of a kernel is cut into. What is printed does not depend on it,
 /// and no statement runs a kernel yet.
 ///
+/// What is said here of bytes read and written is proved where the source and the sink tell theirs ([`Source`],
+/// [`Sink`]).
+///
 /// # Errors
 ///
 /// - [`Fault::Read`] where the reader fails or gives more than 16,777,216 bytes. Nothing was written.
 /// - [`Fault::Script`] at the first line that is at fault. What the lines before print was written.
 /// - [`Fault::Write`] where the writer fails. It has then taken a front of what the script prints.
-/// - [`Fault::Memory`]. What some first lines print was written.
+/// - [`Fault::Memory`]. What some first lines print was written, and nothing where the reader had not told its end.
 pub fn run<R: Threads + Wait + Sync + AllocGlobal, S: Source, W: Sink>(
     rt: &R,
     reader: &mut S,

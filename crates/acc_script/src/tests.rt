@@ -4,6 +4,7 @@
 use crate::{FromRead, MemorySink, MemorySource, Sink, Source, Status, ToWrite, report, run};
 use acc_base::{Config, Fault, ScriptFault};
 use acc_table::Table;
+use std::io::{self, ErrorKind, Write};
 use std::process::Abort;
 use std::sync::Wait;
 use std::test::Fail;
@@ -328,6 +329,28 @@ fn reads_so_many_bytes_and_no_more(rt: HostRuntime) -> Result<(), Fail> {
         assert_eq!(rt; reader.left, left, "at {count}");
         assert_eq!(rt; writer.as_slice(), b"".as_slice(), "at {count}");
     }
+    Ok(())
+}
+
+/// A writer that takes all bytes and cannot hand them on.
+#[derive(Drop)]
+struct Unflushed;
+
+impl Write for Unflushed {
+    fn write(&mut self, bytes: &[u8]) -> io::Result<usize> {
+        Ok(bytes.len())
+    }
+
+    fn flush(&mut self) -> io::Result<()> {
+        Err(ErrorKind::Other.into())
+    }
+}
+
+#[test]
+fn a_failed_flush_is_told(rt: HostRuntime) -> Result<(), Fail> {
+    let mut writer = ToWrite::new(Unflushed);
+    assert_eq!(rt; writer.write(b"all".as_slice()), Some(3));
+    assert!(rt; !writer.flush());
     Ok(())
 }
 

@@ -4,7 +4,7 @@ use Rattle.acc_base.specs.Limits.{IsWithinBounds}
 use Rattle.acc_base.specs.Calls.{World, event_count}
 use Rattle.acc_base.specs.Accounts.{IsAccounted}
 
--- the limits are within their bounds, the world is accounted for, and no event brought more than one birth
+-- the limits are within their bounds, the world is accounted for, and there were no more births than events
 pub record IsKept (w : World) : Type 0 where
   pub bounds : IsWithinBounds w.limits
   pub accounted : IsAccounted w

@@ -10,11 +10,12 @@ use crate::tables::Table;
 use acc_base::Fault;
 
 impl Table {
-    /// Takes the turns one after the other, and answers each: refused turns change nothing, and the next one follows.
+    /// Takes the turns one after the other, and answers each. A refused turn changes nothing, and the next one follows;
+    /// a turn for which memory cannot be had is answered `Refused(Memory)`.
     ///
     /// # Errors
     ///
-    /// [`Fault::Memory`] alone, before the first turn: nothing was run.
+    /// [`Fault::Memory`] alone, where there is no memory for the answers: nothing was run, and the turns are dropped.
     pub fn run(&mut self, turns: Vec<Turn>) -> Result<Vec<Answer>, Fault>
         ensures ran { IfOk result (λ answers. IsRun self.old turns.items answers.items self.new) }
         ensures err { IfErr result (λ fault. (fault ≡ Memory) × (self.new ≡ self.old)) }

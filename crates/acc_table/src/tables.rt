@@ -69,7 +69,8 @@ impl Table {
     }
 
     /// What holds of every table: mapped ranges and blocks are apart and account for every used byte, each range has
-    /// a block of its own, and every counter is what the history gives. Nothing is done.
+    /// a block of its own, no range has both counters zero, every counter is what the history gives and within its
+    /// limit, each memory has its size, the history is legal, and the limits are within their bounds. Nothing is done.
     pub fn laws(&self)
         ensures accounted { IsAccounted self.now }
         ensures bounds { IsWithinBounds self.now.limits }
@@ -77,14 +78,20 @@ impl Table {
         let _ = &self.config;
     }
 
-    /// Makes one call.
+    /// Makes one call: an event, or no change (OpenACC 3.3, section 2.6.6, enter data and exit data directives).
     ///
     /// # Errors
     ///
-    /// The call comes back, and nothing changed. The refusals, in the order in which they are told:
-    /// [`Fault::NoTickets`] where there are as many events as tickets; [`Fault::TooManyItems`]; [`Fault::TraceFull`];
-    /// then for the item [`Fault::OutOfHost`], [`Fault::PartlyPresent`], [`Fault::CounterFull`] and
-    /// [`Fault::DeviceFull`]; last [`Fault::Memory`].
+    /// The call comes back, and nothing changed. The first of these that holds is told:
+    ///
+    /// - [`Fault::NoTickets`] where there are as many events as tickets;
+    /// - [`Fault::TooManyItems`] where the directive has more than one item;
+    /// - [`Fault::TraceFull`] where the stored trace has as many events as it may;
+    /// - then, for an item whose section is not empty, [`Fault::OutOfHost`] where the section is not in host memory,
+    ///   [`Fault::PartlyPresent`] where some of its addresses are mapped but no one range has them all,
+    ///   [`Fault::CounterFull`] where `copyin` would raise a counter above the limit, and [`Fault::DeviceFull`] where
+    ///   `copyin` needs a new block that fits nowhere;
+    /// - last [`Fault::Memory`], where there is no other refusal and memory cannot be had.
     pub fn apply(&mut self, call: Call) -> Result<Reply, (Call, Fault)>
         ensures done { OnOk result (IsDone self.old (request_of call) self.new) }
         ensures refused { IfErr result (λ back. IsRefusal self.old (request_of call) back.1) }

@@ -1,4 +1,4 @@
-//! Runs a script of OpenACC data directives, read on standard input, and writes its report on standard output.
+//! Runs a script of OpenACC data directives, read on standard input, and writes what it prints on standard output.
 #![tactic(auto)]
 
 mod options;

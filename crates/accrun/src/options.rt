@@ -3,7 +3,8 @@
 use clap::{Arg, ArgAction, Command, Error, value_parser};
 use std::alloc::Global;
 
-/// The size of each memory in bytes, where no option gives another.
+/// The default of both sizes in bytes. `size_option` names it again as text, for `clap`; it is used here only if `clap`
+/// finds no value.
 const DEFAULT_SIZE: u64 = 65_536;
 
 /// What the command line says.
@@ -36,7 +37,7 @@ pub fn parsed_options(alloc: Global, words: &[String]) -> Result<Options, Error>
         .about(
             "Runs a script of OpenACC data directives, read on standard input, on a simulated device",
         )
-        .after_help(EXAMPLE)
+        .after_help(AFTER_HELP)
         .arg(size_option(
             alloc,
             "host",
@@ -54,16 +55,20 @@ pub fn parsed_options(alloc: Global, words: &[String]) -> Result<Options, Error>
     })
 }
 
-/// What the help ends with.
-const EXAMPLE: &str = "Statements, one to a line, with comments after '#':
+/// What the help says after the options: the statements, an example, the status.
+const AFTER_HELP: &str = "Statements, one to a line, with comments after '#':
   array NAME BYTES             an array in host memory
   enter data copyin(REF)       map it, with its bytes, or count it once more
   exit data delete(REF)        count it once less; at zero the mapping ends
-  report                       the mapped ranges with their counters
-REF is NAME, or NAME[START:LENGTH] in bytes.
+  report                       the sizes, the mapped ranges with their counters, the numbers of regions and events
+NAME is a lower-case letter, then lower-case letters, digits and '_', 32 at most.
+REF is NAME, or NAME[OFFSET:LENGTH], in bytes from the start of the array.
+
+A directive that is refused changes nothing and prints 'line L: refused ..'; the script goes on.
+A line that is at fault ends the script.
 
 Example:
   printf 'array a 32\\nenter data copyin(a)\\nreport\\n' | accrun --device 4096
 
-Status: 0; 1 where a directive was refused; 2 for a fault, with one line on standard error.
+Status: 0; 1 where a directive was refused; 2 for a fault, which standard error names.
 ";

@@ -161,7 +161,7 @@ fn command_lines_are_read(rt: HostRuntime) -> Result<(), Fail> {
         command_line(&rt, &["--host", "16", "--device", "67108864"])?,
         (0, false, false)
     );
-    assert_eq!(rt; command_line(&rt, &["--help"])?, (0, true, false));
+    assert_eq!(rt; command_line(&rt, &["--help"])?, (0, false, true));
     for options in [
         ["--host", "15"].as_slice(),
         &["--device", "67108865"],

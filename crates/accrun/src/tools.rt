@@ -33,11 +33,11 @@ const QUEUE_CAP: u64 = 256;
 /// How many events the trace may have.
 const TRACE_CAP: u64 = 262_144;
 
-/// Text that is written to a sink, without memory.
+/// A sink that takes formatted text. It needs no memory.
 #[derive(Drop)]
-struct Text<'a, W: Sink>(&'a mut W);
+struct TextSink<'a, W: Sink>(&'a mut W);
 
-impl<W: Sink> fmt::Write for Text<'_, W> {
+impl<W: Sink> fmt::Write for TextSink<'_, W> {
     fn write_str(&mut self, text: &str) -> fmt::Result {
         if write_all(self.0, text.as_bytes()) {
             Ok(())
@@ -51,19 +51,22 @@ impl<W: Sink> fmt::Write for Text<'_, W> {
 pub fn tell<E: Sink>(err: &mut E, fault: Fault) {
     let _ = match fault {
         Fault::Script { line, kind } => tell_line(err, line, kind),
-        _ => writeln!(Text(err), "accrun: {fault}"),
+        _ => writeln!(TextSink(err), "accrun: {fault}"),
     };
 }
 
 /// Writes the line of a script's fault.
 fn tell_line<E: Sink>(err: &mut E, line: u64, kind: ScriptFault) -> fmt::Result {
-    writeln!(Text(err), "accrun: line {line}: {kind}")
+    writeln!(TextSink(err), "accrun: line {line}: {kind}")
 }
 
-/// Does all that the program does, and answers its status: 0, 1 where a directive was refused, 2 for a fault.
+/// Parses the command line, runs the script and answers the status: 0, 1 where a directive was refused, 2 for a fault.
+/// What `out` keeps back is not flushed; that is for the caller.
 ///
-/// `words` begins with the program's name. The script is read from `reader`, its output goes to `out`, and a fault is
-/// told on `err` in one line. The command line's faults come first, then [`Fault::BadConfig`], then the run's.
+/// `words` begins with the program's name. The script is read from `reader` and its output goes to `out`. A fault of
+/// the command line is told on `err` in the parser's words, and then nothing is read; each other fault in one line,
+/// [`Fault::BadConfig`] before those of the run. Help that is asked for goes to `err` too, with status 0. A failure of
+/// `err` changes nothing.
 pub fn tool<R: Threads + Wait + Sync + AllocGlobal, S: Source, O: Sink, E: Sink>(
     rt: &R,
     words: Vec<String>,
@@ -73,7 +76,7 @@ pub fn tool<R: Threads + Wait + Sync + AllocGlobal, S: Source, O: Sink, E: Sink>
 ) -> u8 {
     let options = match parsed_options(rt.alloc(), &words) {
         Ok(options) => options,
-        Err(error) => return tell_usage(rt, out, err, &error),
+        Err(error) => return tell_usage(rt, err, &error),
     };
     match run_script(rt, options, reader, out) {
         Ok(Status::Clean) => CLEAN,
@@ -104,13 +107,8 @@ fn run_script<R: Threads + Wait + Sync + AllocGlobal, S: Source, O: Sink>(
     run(rt, reader, out, config, 1)
 }
 
-/// Writes what the command line's reader has to say: help goes to `out`, a fault of the command line to `err`.
-fn tell_usage<R: AllocGlobal, O: Sink, E: Sink>(
-    rt: &R,
-    out: &mut O,
-    err: &mut E,
-    error: &Error,
-) -> u8 {
+/// Writes what the command line's parser has to say: a fault of the command line, or help.
+fn tell_usage<R: AllocGlobal, E: Sink>(rt: &R, err: &mut E, error: &Error) -> u8 {
     if error.kind() == ErrorKind::OutOfMemory {
         tell(err, Fault::Memory);
         return FAULTED;
@@ -119,13 +117,6 @@ fn tell_usage<R: AllocGlobal, O: Sink, E: Sink>(
         tell(err, Fault::Memory);
         return FAULTED;
     };
-    if error.use_stderr() {
-        let _ = write_all(err, text.as_bytes());
-        return FAULTED;
-    }
-    if !write_all(out, text.as_bytes()) {
-        tell(err, Fault::Write);
-        return FAULTED;
-    }
-    CLEAN
+    let _ = write_all(err, text.as_bytes());
+    if error.use_stderr() { FAULTED } else { CLEAN }
 }

@@ -2,7 +2,7 @@
 use Rattle.std.proofs.Common.{suc, ◌≡◌, refl, Bool, true, false, cond, List, [], ◌∷◌, ◌++◌, Option, Some, None, arith}
 use Rattle.std.specs.Prelude.{map, find, filter, Contains, IfSome}
 use Rattle.std.specs.List.{list_all, AllByRecursion}
-use Rattle.acc_base.specs.Accounts.{AreApart}
+use Rattle.acc_base.specs.Accounts.{EachPair}
 use Rattle.acc_base.proofs.Results.{and_true}
 
 -- ---- each element
@@ -46,21 +46,21 @@ list_all-to p (x ∷ xs) h = rw h.0 (list_all-to p xs h.1)
 
 -- ---- each pair
 
-pub AreApart-filter : {X : Type 0} (R : X → X → Type 0) (p : X → Bool) (xs : List X) → AreApart R xs → AreApart R (filter p xs)
-AreApart-filter R p [] h = tt
-AreApart-filter {X} R p (x ∷ xs) h = elim (p x) as (λ b. AreApart R (cond b (x ∷ filter p xs) (filter p xs))) [ true ↦ (AllByRecursion-filter (R x) p xs h.0, AreApart-filter R p xs h.1) | false ↦ AreApart-filter R p xs h.1 ]
+pub EachPair-filter : {X : Type 0} (R : X → X → Type 0) (p : X → Bool) (xs : List X) → EachPair R xs → EachPair R (filter p xs)
+EachPair-filter R p [] h = tt
+EachPair-filter {X} R p (x ∷ xs) h = elim (p x) as (λ b. EachPair R (cond b (x ∷ filter p xs) (filter p xs))) [ true ↦ (AllByRecursion-filter (R x) p xs h.0, EachPair-filter R p xs h.1) | false ↦ EachPair-filter R p xs h.1 ]
 
-pub AreApart-push : {X : Type 0} (R : X → X → Type 0) (xs : List X) (y : X) → AllByRecursion (λ x. R x y) xs → AreApart R xs → AreApart R (xs ++ y ∷ [])
-AreApart-push R [] y a h = (tt, tt)
-AreApart-push R (x ∷ xs) y a h = (AllByRecursion-append (R x) xs (y ∷ []) h.0 (a.0, tt), AreApart-push R xs y a.1 h.1)
+pub EachPair-push : {X : Type 0} (R : X → X → Type 0) (xs : List X) (y : X) → AllByRecursion (λ x. R x y) xs → EachPair R xs → EachPair R (xs ++ y ∷ [])
+EachPair-push R [] y a h = (tt, tt)
+EachPair-push R (x ∷ xs) y a h = (AllByRecursion-append (R x) xs (y ∷ []) h.0 (a.0, tt), EachPair-push R xs y a.1 h.1)
 
-pub AreApart-map : {X : Type 0} (R : X → X → Type 0) (f : X → X) (xs : List X) → ((x y : X) → R x y → R (f x) (f y)) → AreApart R xs → AreApart R (map f xs)
-AreApart-map R f [] k h = tt
-AreApart-map {X} R f (x ∷ xs) k h = (AllByRecursion-map (R (f x)) f xs (AllByRecursion-weaker (R x) (λ y. R (f x) (f y)) xs (k x) h.0), AreApart-map R f xs k h.1)
+pub EachPair-map : {X : Type 0} (R : X → X → Type 0) (f : X → X) (xs : List X) → ((x y : X) → R x y → R (f x) (f y)) → EachPair R xs → EachPair R (map f xs)
+EachPair-map R f [] k h = tt
+EachPair-map {X} R f (x ∷ xs) k h = (AllByRecursion-map (R (f x)) f xs (AllByRecursion-weaker (R x) (λ y. R (f x) (f y)) xs (k x) h.0), EachPair-map R f xs k h.1)
 
-pub AreApart-weaker : {X : Type 0} (R S : X → X → Type 0) (xs : List X) → ((x y : X) → R x y → S x y) → AreApart R xs → AreApart S xs
-AreApart-weaker R S [] f h = tt
-AreApart-weaker R S (x ∷ xs) f h = (AllByRecursion-weaker (R x) (S x) xs (f x) h.0, AreApart-weaker R S xs f h.1)
+pub EachPair-weaker : {X : Type 0} (R S : X → X → Type 0) (xs : List X) → ((x y : X) → R x y → S x y) → EachPair R xs → EachPair S xs
+EachPair-weaker R S [] f h = tt
+EachPair-weaker R S (x ∷ xs) f h = (AllByRecursion-weaker (R x) (S x) xs (f x) h.0, EachPair-weaker R S xs f h.1)
 
 -- ---- searches
 

@@ -3,7 +3,7 @@ use Rattle.std.proofs.Common.{ℕ, ◌≡◌, refl, ◌∙◌, ap, Bool, true, f
 use Rattle.std.specs.Prelude.{◌==◌, map, find, filter, not, option_map}
 use Rattle.std.specs.List.{AllByRecursion}
 use Rattle.std.proofs.lemmas.Bool.Decides.{nat_tests}
-use Rattle.acc_base.specs.Accounts.{AreApart}
+use Rattle.acc_base.specs.Accounts.{EachPair}
 use Rattle.acc_base.proofs.Results.{equal, equal_self}
 use Rattle.acc_base.proofs.Elements.{AllByRecursion-both}
 
@@ -75,7 +75,7 @@ module _ {X : Type 0} (number : X → ℕ) where
   -- ---- numbers that differ
 
   abbrev pub AreDistinct : List X → Type 0
-  AreDistinct xs = AreApart (λ x y. number x ≡ number y → ⊥) xs
+  AreDistinct xs = EachPair (λ x y. number x ≡ number y → ⊥) xs
 
   -- each element is the one of its number
   pub at-own : (xs : List X) → AreDistinct xs → AllByRecursion (λ x. at (number x) xs ≡ Some x) xs

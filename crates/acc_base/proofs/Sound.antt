@@ -14,9 +14,9 @@ use Rattle.acc_base.specs.Records.{Records, new_records}
 use Rattle.acc_base.specs.Ranges.{range_of, dynamic_of, structured_of, with_range, without_range, changed_at, new_range, raised, lowered}
 use Rattle.acc_base.specs.Blocks.{rounded, fits_at, is_clear_of, block_end, block_at, without_block}
 use Rattle.acc_base.specs.Walk.{records_after_birth, records_after_end, with_range_changed, after_entered, after_exited}
-use Rattle.acc_base.specs.Accounts.{AreApart, IsInHost, IsBelow, AreRangesApart, IsOnDevice, IsClearOf, AreBlocksApart, IsMapped, HasOneBlockEach}
+use Rattle.acc_base.specs.Accounts.{EachPair, IsInHost, IsBelow, AreRangesApart, IsOnDevice, IsClearOf, AreBlocksApart, IsMapped, HasOneBlockEach}
 use Rattle.acc_base.proofs.Results.{and_true, equal}
-use Rattle.acc_base.proofs.Elements.{AllByRecursion-weaker, AllByRecursion-both, AllByRecursion-filter, AllByRecursion-passed, AllByRecursion-map, AllByRecursion-append, AreApart-filter, AreApart-push, AreApart-map, list_all-from, found_has}
+use Rattle.acc_base.proofs.Elements.{AllByRecursion-weaker, AllByRecursion-both, AllByRecursion-filter, AllByRecursion-passed, AllByRecursion-map, AllByRecursion-append, EachPair-filter, EachPair-push, EachPair-map, list_all-from, found_has}
 use Rattle.acc_base.proofs.Lookups.{change_at, number-change, at-changed, at-without_other, at-push_there, at-push_new, at-own, at-none}
 use Rattle.acc_base.proofs.Counting.{with_there, with_new}
 use Rattle.acc_base.proofs.Where.{absent_says}
@@ -58,7 +58,7 @@ block-change k f keeps r = number-change block_of k f keeps.block r
 changed_ranges : (l : Limits) (k : ℕ) (f : Range → Range) (rs : List Range) → KeepsPlace f → AreRangesApart l rs → AreRangesApart l (changed_at k f rs)
 changed_ranges l k f rs keeps h = record {
   in_host = AllByRecursion-map (λ r. IsInHost l r.section) (change_at block_of k f) rs (AllByRecursion-weaker (λ r. IsInHost l r.section) (λ r. IsInHost l (change_at block_of k f r).section) rs (λ r p. subst (IsInHost l) (sym (section-change k f keeps r)) p) h.in_host);
-  rising = AreApart-map (λ r t. IsBelow r.section t.section) (change_at block_of k f) rs (λ r t p. subst (λ s. IsBelow s (change_at block_of k f t).section) (sym (section-change k f keeps r)) (subst (λ s. IsBelow r.section s) (sym (section-change k f keeps t)) p)) h.rising;
+  rising = EachPair-map (λ r t. IsBelow r.section t.section) (change_at block_of k f) rs (λ r t p. subst (λ s. IsBelow s (change_at block_of k f t).section) (sym (section-change k f keeps r)) (subst (λ s. IsBelow r.section s) (sym (section-change k f keeps t)) p)) h.rising;
 }
 
 option_map_some : {X Y : Type 0} (f : X → Y) (o : Option X) → IsSome o → IsSome (option_map f o)
@@ -68,7 +68,7 @@ option_map_some f (Some x) p = refl
 changed_each : (k : ℕ) (f : Range → Range) (w : Records) → KeepsPlace f → HasOneBlockEach w → HasOneBlockEach (record w { ranges = changed_at k f w.ranges })
 changed_each k f w keeps h = record {
   mapped = AllByRecursion-map (IsMapped w.blocks) (change_at block_of k f) w.ranges (AllByRecursion-weaker (IsMapped w.blocks) (λ r. IsMapped w.blocks (change_at block_of k f r)) w.ranges same h.mapped);
-  distinct = AreApart-map (λ r t. r.block ≡ t.block → ⊥) (change_at block_of k f) w.ranges (λ r t p e. p (sym (block-change k f keeps r) ∙ (e ∙ block-change k f keeps t))) h.distinct;
+  distinct = EachPair-map (λ r t. r.block ≡ t.block → ⊥) (change_at block_of k f) w.ranges (λ r t p e. p (sym (block-change k f keeps r) ∙ (e ∙ block-change k f keeps t))) h.distinct;
   in_use = AllByRecursion-weaker (λ b. IsSome (range_of b.number w.ranges)) (λ b. IsSome (range_of b.number (changed_at k f w.ranges))) w.blocks (λ b p. rw (at-changed block_of k b.number f w.ranges keeps.block) (option_map_some (change_at block_of k f) (range_of b.number w.ranges) p)) h.in_use;
 }
   where
@@ -134,16 +134,16 @@ unfolding records_after_end number_of_block
 ended_sound l k w h = record {
   ranges = record {
     in_host = AllByRecursion-filter (λ r. IsInHost l r.section) (λ r. not (r.block == k)) w.ranges h.ranges.in_host;
-    rising = AreApart-filter (λ r t. IsBelow r.section t.section) (λ r. not (r.block == k)) w.ranges h.ranges.rising;
+    rising = EachPair-filter (λ r t. IsBelow r.section t.section) (λ r. not (r.block == k)) w.ranges h.ranges.rising;
   };
   blocks = record {
     on_device = AllByRecursion-filter (IsOnDevice l) (λ b. not (b.number == k)) w.blocks h.blocks.on_device;
-    apart = AreApart-filter IsClearOf (λ b. not (b.number == k)) w.blocks h.blocks.apart;
+    apart = EachPair-filter IsClearOf (λ b. not (b.number == k)) w.blocks h.blocks.apart;
     born = AllByRecursion-filter (λ b. b.number ≤ w.births) (λ b. not (b.number == k)) w.blocks h.blocks.born;
   };
   each = record {
     mapped = AllByRecursion-passed (IsMapped w.blocks) (IsMapped (without_block k w.blocks)) (λ r. not (r.block == k)) w.ranges (λ r e m. (m.0, at-without_other number_of_block k r.block w.blocks (differs _ _ e) ∙ m.1, m.2)) h.each.mapped;
-    distinct = AreApart-filter (λ r t. r.block ≡ t.block → ⊥) (λ r. not (r.block == k)) w.ranges h.each.distinct;
+    distinct = EachPair-filter (λ r t. r.block ≡ t.block → ⊥) (λ r. not (r.block == k)) w.ranges h.each.distinct;
     in_use = AllByRecursion-passed (λ b. IsSome (range_of b.number w.ranges)) (λ b. IsSome (range_of b.number (without_range k w.ranges))) (λ b. not (b.number == k)) w.blocks (λ b e p. rw (at-without_other block_of k b.number w.ranges (differs _ _ e)) p) h.each.in_use;
   };
   counted = AllByRecursion-filter (IsCounted l) (λ r. not (r.block == k)) w.ranges h.counted;
@@ -155,9 +155,9 @@ pub all_with : (P : Range → Type 0) (new : Range) (rs : List Range) → P new 
 all_with P new [] n h = (n, tt)
 all_with P new (r ∷ rs) n h = elim (nat_lt new.section.start r.section.start) as (λ b. AllByRecursion P (cond b (new ∷ r ∷ rs) (r ∷ with_range new rs))) [ true ↦ (n, (h.0, h.1)) | false ↦ (h.0, all_with P new rs n h.1) ]
 
-apart_with : (R : Range → Range → Type 0) (new : Range) (rs : List Range) → AllByRecursion (λ r. R new r × R r new) rs → AreApart R rs → AreApart R (with_range new rs)
+apart_with : (R : Range → Range → Type 0) (new : Range) (rs : List Range) → AllByRecursion (λ r. R new r × R r new) rs → EachPair R rs → EachPair R (with_range new rs)
 apart_with R new [] a h = (tt, tt)
-apart_with R new (r ∷ rs) a h = elim (nat_lt new.section.start r.section.start) as (λ b. AreApart R (cond b (new ∷ r ∷ rs) (r ∷ with_range new rs))) [
+apart_with R new (r ∷ rs) a h = elim (nat_lt new.section.start r.section.start) as (λ b. EachPair R (cond b (new ∷ r ∷ rs) (r ∷ with_range new rs))) [
   | true ↦ ((a.0.0, AllByRecursion-weaker (λ t. R new t × R t new) (R new) rs (λ t p. p.0) a.1), h)
   | false ↦ (all_with (R r) new rs a.0.1 h.0, apart_with R new rs a.1 h.1)
 ]
@@ -167,7 +167,7 @@ below_apart s t e = grind (arith, nat_tests)
 
 -- a section apart from all goes where it rises
 rising_with : (new : Range) (rs : List Range) → 0 < new.section.len → AllByRecursion (λ (r : Range). 0 < r.section.len) rs → AllByRecursion (λ r. is_apart new.section r.section ≡ true) rs
-    → AreApart (λ (r : Range) (t : Range). IsBelow r.section t.section) rs → AreApart (λ (r : Range) (t : Range). IsBelow r.section t.section) (with_range new rs)
+    → EachPair (λ (r : Range) (t : Range). IsBelow r.section t.section) rs → EachPair (λ (r : Range) (t : Range). IsBelow r.section t.section) (with_range new rs)
 rising_with new [] some filled a h = (tt, tt)
 rising_with new (r ∷ rs) some filled a h = go (rising_with new rs some filled.1 a.1 h.1) (nat_lt new.section.start r.section.start) refl
   where
@@ -177,8 +177,8 @@ rising_with new (r ∷ rs) some filled a h = go (rising_with new rs some filled.
     over : nat_lt new.section.start r.section.start ≡ false → IsBelow r.section new.section
     over e = let sides : (end_of new.section ≤ r.section.start) ⊎ (end_of r.section ≤ new.section.start) = below_apart new.section r.section a.0 in grind (arith, nat_tests)
 
-    go : AreApart (λ (x : Range) (y : Range). IsBelow x.section y.section) (with_range new rs) → (b : Bool) → nat_lt new.section.start r.section.start ≡ b
-        → AreApart (λ (x : Range) (y : Range). IsBelow x.section y.section) (cond b (new ∷ r ∷ rs) (r ∷ with_range new rs))
+    go : EachPair (λ (x : Range) (y : Range). IsBelow x.section y.section) (with_range new rs) → (b : Bool) → nat_lt new.section.start r.section.start ≡ b
+        → EachPair (λ (x : Range) (y : Range). IsBelow x.section y.section) (cond b (new ∷ r ∷ rs) (r ∷ with_range new rs))
     go later true e = ((under e, AllByRecursion-weaker (λ t. IsBelow r.section t.section) (λ t. IsBelow new.section t.section) rs (λ t p. let u : IsBelow new.section r.section = under e in omega arith) h.0), h)
     go later false e = (all_with (λ t. IsBelow r.section t.section) new rs (over e) h.0, later)
 
@@ -199,7 +199,7 @@ birth_blocks l section k p w some birth h =
     let clear : AllByRecursion (λ b. is_clear_of p (rounded section.len) b ≡ true) w.blocks = list_all-from (is_clear_of p (rounded section.len)) w.blocks parts.1 in
     record {
       on_device = AllByRecursion-append (IsOnDevice l) w.blocks (born_block k p section.len ∷ []) h.on_device (record { some = some; first = bounds.0; last = bounds.1; aligned = even }, tt);
-      apart = AreApart-push IsClearOf w.blocks (born_block k p section.len)
+      apart = EachPair-push IsClearOf w.blocks (born_block k p section.len)
           (AllByRecursion-both (λ b. is_clear_of p (rounded section.len) b ≡ true) (λ b. b.number ≤ w.births) (λ b. IsClearOf b (born_block k p section.len)) w.blocks
           (λ b c n. let first : k ≡ w.births + 1 = birth.number in record { addresses = sides b.place (block_end b) p (rounded section.len) c; numbers = omega arith }) clear h.born)
           h.apart;

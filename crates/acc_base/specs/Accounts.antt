@@ -14,9 +14,9 @@ use Rattle.acc_base.specs.Calls.{History, World, event_count}
 use Rattle.acc_base.specs.History.{dynamic_in, AreLegal}
 
 -- each one is related to each later one
-abbrev pub AreApart : {X : Type 0} → (X → X → Type 0) → List X → Type 0
-AreApart apart [] = ⊤
-AreApart apart (x ∷ xs) = AllByRecursion (apart x) xs × AreApart apart xs
+abbrev pub EachPair : {X : Type 0} → (X → X → Type 0) → List X → Type 0
+EachPair related [] = ⊤
+EachPair related (x ∷ xs) = AllByRecursion (related x) xs × EachPair related xs
 
 -- ---- mapped ranges
 
@@ -32,7 +32,7 @@ IsBelow s t = end_of s ≤ t.start
 -- mapped ranges are not empty, lie in host memory, and rise without overlap
 pub record AreRangesApart (l : Limits) (ranges : List Range) : Type 0 where
   pub in_host : AllByRecursion (λ r. IsInHost l r.section) ranges
-  pub rising : AreApart (λ (r : Range) (t : Range). IsBelow r.section t.section) ranges
+  pub rising : EachPair (λ (r : Range) (t : Range). IsBelow r.section t.section) ranges
 
 -- ---- device blocks
 
@@ -51,7 +51,7 @@ pub record IsClearOf (b c : Block) : Type 0 where
 -- blocks lie on the device, do not overlap, and stand in the order of their births
 pub record AreBlocksApart (l : Limits) (w : Records) : Type 0 where
   pub on_device : AllByRecursion (IsOnDevice l) w.blocks
-  pub apart : AreApart IsClearOf w.blocks
+  pub apart : EachPair IsClearOf w.blocks
   pub born : AllByRecursion (λ b. b.number ≤ w.births) w.blocks
 
 -- ---- ranges and blocks
@@ -63,7 +63,7 @@ IsMapped blocks r = (b : Block) × (block_at r.block blocks ≡ Some b) × (b.le
 -- each range has a block of its own, and each block is some range's
 pub record HasOneBlockEach (w : Records) : Type 0 where
   pub mapped : AllByRecursion (IsMapped w.blocks) w.ranges
-  pub distinct : AreApart (λ (r : Range) (t : Range). r.block ≡ t.block → ⊥) w.ranges
+  pub distinct : EachPair (λ (r : Range) (t : Range). r.block ≡ t.block → ⊥) w.ranges
   pub in_use : AllByRecursion (λ b. IsSome (range_of b.number w.ranges)) w.blocks
 
 -- ---- counters

@@ -11,7 +11,7 @@ use Rattle.acc_base.specs.Limits.{IsFromOne}
 use Rattle.acc_base.specs.Records.{Memory}
 use Rattle.acc_base.specs.Blocks.{rounded, block_at, place_for, IsPlaceFor}
 use Rattle.acc_base.specs.Bytes.{bytes_of}
-use Rattle.acc_base.proofs.Elements.{AllByRecursion-weaker, AllByRecursion-both, AllByRecursion-append, AllByRecursion-map, AreApart-push}
+use Rattle.acc_base.proofs.Elements.{AllByRecursion-weaker, AllByRecursion-both, AllByRecursion-append, AllByRecursion-map, EachPair-push}
 use Rattle.acc_base.proofs.Places.{place_for-least}
 use Rattle.acc_base.proofs.Results.{equal_self}
 use Rattle.acc_placement.specs.Ranges.{IsLeastFit, IsFitBeside, IsLeastFitBeside}
@@ -48,8 +48,8 @@ born_kept old new s t xs number k x kept above vacant is others len base canonic
     record {
       base = base ∙ kept.base;
       canonical = canonical;
-      rising = AreApart-push (λ (d : ℕ × ℕ) (e : ℕ × ℕ). d.0 < e.0) xs (number, k) above kept.rising;
-      distinct = AreApart-push (λ (d : ℕ × ℕ) (e : ℕ × ℕ). d.1 ≡ e.1 → ⊥) xs (number, k) off kept.distinct;
+      rising = EachPair-push (λ (d : ℕ × ℕ) (e : ℕ × ℕ). d.0 < e.0) xs (number, k) above kept.rising;
+      distinct = EachPair-push (λ (d : ℕ × ℕ) (e : ℕ × ℕ). d.1 ≡ e.1 → ⊥) xs (number, k) off kept.distinct;
       filled = AllByRecursion-append (λ (e : ℕ × ℕ). IsSome (slot_of t e)) xs ((number, k) ∷ [])
           (AllByRecursion-both (λ (e : ℕ × ℕ). slot_of t e ≡ slot_of s e) (λ e. IsSome (slot_of s e)) (λ e. IsSome (slot_of t e)) xs (λ e q some. subst IsSome (sym q) some) same kept.filled)
           (subst IsSome (sym is) refl, tt);

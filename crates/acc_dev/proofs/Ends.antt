@@ -6,7 +6,7 @@ use Rattle.acc_base.specs.declared.mappings.Block.{Block}
 use Rattle.acc_base.specs.Limits.{IsFromOne}
 use Rattle.acc_base.specs.Blocks.{rounded, without_block}
 use Rattle.acc_base.specs.Bytes.{memories_kept}
-use Rattle.acc_base.specs.Accounts.{AreApart}
+use Rattle.acc_base.specs.Accounts.{EachPair}
 use Rattle.acc_base.proofs.Elements.{AllByRecursion-both}
 use Rattle.acc_base.proofs.Memories.{memories_kept-without}
 use Rattle.acc_placement.specs.Space.{Space, IsCanonical, IsPartition, IsTaken}
@@ -38,7 +38,7 @@ taken_stored h s xs i x k lt is =
     taken_at h (map taken_range (blocks_in s xs)) i (range_stored x) _ (range_at s xs i x (range_stored x) lt is) refl (omega (arith, length_ranges s xs)) k.partition
 
 -- the slots of the other entries are as they were
-pub same_left : (s t : List (Option Stored)) (xs : List (ℕ × ℕ)) (i : ℕ) → AreApart (λ d e. d.1 ≡ e.1 → ⊥) xs → i < length xs → KeepsOthers s t (get_or xs i start).1 → AreSame s t (remove xs i)
+pub same_left : (s t : List (Option Stored)) (xs : List (ℕ × ℕ)) (i : ℕ) → EachPair (λ d e. d.1 ≡ e.1 → ⊥) xs → i < length xs → KeepsOthers s t (get_or xs i start).1 → AreSame s t (remove xs i)
 same_left s t xs i distinct lt others = same_from s t (get_or xs i start).1 (remove xs i) others (others_off xs i distinct lt)
 
 -- without the entry and its slot the device keeps what it keeps

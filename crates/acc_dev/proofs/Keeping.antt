@@ -8,7 +8,7 @@ use Rattle.acc_base.specs.declared.mappings.Block.{Block}
 use Rattle.acc_base.specs.Limits.{IsFromOne}
 use Rattle.acc_base.specs.Blocks.{block_at, used_bytes}
 use Rattle.acc_base.specs.Bytes.{bytes_of}
-use Rattle.acc_base.specs.Accounts.{AreApart}
+use Rattle.acc_base.specs.Accounts.{EachPair}
 use Rattle.acc_base.proofs.Elements.{AllByRecursion-map}
 use Rattle.acc_placement.specs.Space.{Space}
 use Rattle.acc_dev.specs.declared.entries.Stored.{Stored}
@@ -25,7 +25,7 @@ device_of h s xs births = record { size = h.size; blocks = blocks_in s xs; memor
 -- ---- what holds of every device
 
 -- the blocks stand in the order of their births
-rising_blocks : (s : List (Option Stored)) (xs : List (ℕ × ℕ)) → AreRising xs → AreApart (λ (b : Block) (c : Block). b.number < c.number) (blocks_in s xs)
+rising_blocks : (s : List (Option Stored)) (xs : List (ℕ × ℕ)) → AreRising xs → EachPair (λ (b : Block) (c : Block). b.number < c.number) (blocks_in s xs)
 rising_blocks s [] h = tt
 rising_blocks s (x ∷ xs) h = (AllByRecursion-map (λ (b : Block). x.0 < b.number) (λ (e : ℕ × ℕ). block_from e.0 (slot_of s e)) xs h.0, rising_blocks s xs h.1)
 

@@ -9,7 +9,7 @@ use Rattle.acc_base.specs.declared.mappings.Block.{Block}
 use Rattle.acc_base.specs.Limits.{Limits, IsFromOne}
 use Rattle.acc_base.specs.Section.{device_base}
 use Rattle.acc_base.specs.Blocks.{rounded, size_of, block_end, used_bytes, IsFree, Fits, IsPlaceFor, place_for}
-use Rattle.acc_base.specs.Accounts.{AreApart, IsOnDevice, IsClearOf}
+use Rattle.acc_base.specs.Accounts.{EachPair, IsOnDevice, IsClearOf}
 use Rattle.acc_base.proofs.Elements.{AllByRecursion-weaker, AllByRecursion-append}
 use Rattle.acc_base.proofs.Places.{place_for-least}
 use Rattle.acc_placement.specs.Ranges.{Spans, IsIn, IsLeastFit, IsFitBeside, IsLeastFitBeside, IsTakeBelow, IsDisjoint, IsAligned, all_rounded, total}
@@ -129,7 +129,7 @@ beside_from b (c ∷ cs) pos some rise off = (
 )
 
 -- blocks whose addresses are apart, in the order of their births
-pub clear_of : (bs : List Block) → AllByRecursion (λ b. 0 < size_of b) bs → AreApart (λ b c. b.number < c.number) bs → IsDisjoint (map taken_range bs) → AreApart IsClearOf bs
+pub clear_of : (bs : List Block) → AllByRecursion (λ b. 0 < size_of b) bs → EachPair (λ b c. b.number < c.number) bs → IsDisjoint (map taken_range bs) → EachPair IsClearOf bs
 clear_of [] some rise off = tt
 clear_of (b ∷ bs) some rise off = (beside_from b bs some.0 some.1 rise.0 off.0, clear_of bs some.1 rise.1 off.1)
 

@@ -9,7 +9,7 @@ use Rattle.std.proofs.lemmas.Bool.{cases_lt, cases_eq}
 use Rattle.std.proofs.lemmas.Bool.Decides.{nat_tests}
 use Rattle.std.proofs.lemmas.Cmp.{ranked}
 use Rattle.std.proofs.lemmas.List.Sorted.{IsNonDecreasingBy-from_default}
-use Rattle.acc_base.specs.Accounts.{AreApart}
+use Rattle.acc_base.specs.Accounts.{EachPair}
 use Rattle.acc_dev.specs.Kept.{AreRising, IsEntry}
 
 -- ---- each element
@@ -29,7 +29,7 @@ all-remove P [] (suc i) h = tt
 all-remove P (x ∷ xs) zero h = h.1
 all-remove P (x ∷ xs) (suc i) h = (h.0, all-remove P xs i h.1)
 
-pub apart-remove : {X : Type 0} (R : X → X → Type 0) (xs : List X) (i : ℕ) → AreApart R xs → AreApart R (remove xs i)
+pub apart-remove : {X : Type 0} (R : X → X → Type 0) (xs : List X) (i : ℕ) → EachPair R xs → EachPair R (remove xs i)
 apart-remove R [] zero h = tt
 apart-remove R [] (suc i) h = tt
 apart-remove R (x ∷ xs) zero h = h.1

@@ -8,7 +8,7 @@ use Rattle.std.proofs.lemmas.List.{map-append}
 use Rattle.acc_base.specs.Records.{Memory}
 use Rattle.acc_base.specs.Blocks.{block_at}
 use Rattle.acc_base.specs.Bytes.{bytes_of}
-use Rattle.acc_base.specs.Accounts.{AreApart, IsMemoryOf}
+use Rattle.acc_base.specs.Accounts.{EachPair, IsMemoryOf}
 use Rattle.acc_base.proofs.Elements.{AllByRecursion-weaker}
 use Rattle.acc_dev.specs.declared.entries.Stored.{Stored}
 use Rattle.acc_dev.specs.Device.{overwritten, memory_changed}
@@ -37,7 +37,7 @@ pub vacant_off : (s : List (Option Stored)) (k : ℕ) (xs : List (ℕ × ℕ)) �
 vacant_off s k xs filled vacant = AllByRecursion-weaker (λ (e : ℕ × ℕ). IsSome (slot_of s e)) (λ e. e.1 ≡ k → ⊥) xs (λ e some same. false≢true (subst IsSome (ap (λ j. get_or s j None) same ∙ vacant) some)) filled
 
 -- the slot of one entry is no other's
-pub others_off : (xs : List (ℕ × ℕ)) (i : ℕ) → AreApart (λ d e. d.1 ≡ e.1 → ⊥) xs → i < length xs → AllByRecursion (λ e. e.1 ≡ (get_or xs i start).1 → ⊥) (remove xs i)
+pub others_off : (xs : List (ℕ × ℕ)) (i : ℕ) → EachPair (λ d e. d.1 ≡ e.1 → ⊥) xs → i < length xs → AllByRecursion (λ e. e.1 ≡ (get_or xs i start).1 → ⊥) (remove xs i)
 others_off [] i h lt = absurd (omega arith)
 others_off (x ∷ xs) zero h lt = AllByRecursion-weaker (λ (e : ℕ × ℕ). x.1 ≡ e.1 → ⊥) (λ e. e.1 ≡ x.1 → ⊥) xs (λ e differs same. differs (sym same)) h.0
 others_off (x ∷ xs) (suc i) h lt = (all_at (λ (e : ℕ × ℕ). x.1 ≡ e.1 → ⊥) xs i start (omega arith) h.0, others_off xs i h.1 (omega arith))
@@ -123,7 +123,7 @@ blocks_in-rewritten s t k offset bytes (x ∷ xs) w = rw (same_block s t k offse
 abbrev AreTold : List (ℕ × ℕ) → ℕ → ℕ → Type 0
 AreTold xs n k = AllByRecursion (λ e. ((e.0 ≡ n) × (e.1 ≡ k)) ⊎ ((e.0 ≡ n → ⊥) × (e.1 ≡ k → ⊥))) xs
 
-told : (xs : List (ℕ × ℕ)) (i : ℕ) → AreRising xs → AreApart (λ d e. d.1 ≡ e.1 → ⊥) xs → i < length xs → AreTold xs (get_or xs i start).0 (get_or xs i start).1
+told : (xs : List (ℕ × ℕ)) (i : ℕ) → AreRising xs → EachPair (λ d e. d.1 ≡ e.1 → ⊥) xs → i < length xs → AreTold xs (get_or xs i start).0 (get_or xs i start).1
 told [] i rise distinct lt = absurd (omega arith)
 told (x ∷ xs) zero rise distinct lt = (inl (refl, refl), off xs rise.0 distinct.0)
   where
@@ -154,7 +154,7 @@ rewritten s t n k offset bytes (x ∷ xs) w told_of =
     ap (λ (m : Memory). m ∷ memories_in t xs) here ∙ ap (λ ms. memory_changed n (overwritten offset bytes) (memory_from x.0 (slot_of s x)) ∷ ms) rest
 
 -- and one memory changes
-pub memories_in-rewritten : (s t : List (Option Stored)) (xs : List (ℕ × ℕ)) (i n offset : ℕ) (bytes : List ℕ) → AreRising xs → AreApart (λ d e. d.1 ≡ e.1 → ⊥) xs → IsEntry xs n i → IsRewritten s t (get_or xs i start).1 offset bytes
+pub memories_in-rewritten : (s t : List (Option Stored)) (xs : List (ℕ × ℕ)) (i n offset : ℕ) (bytes : List ℕ) → AreRising xs → EachPair (λ d e. d.1 ≡ e.1 → ⊥) xs → IsEntry xs n i → IsRewritten s t (get_or xs i start).1 offset bytes
     → memories_in t xs ≡ map (memory_changed n (overwritten offset bytes)) (memories_in s xs)
 memories_in-rewritten s t xs i n offset bytes rise distinct entry w =
     let told_of : AreTold xs n (get_or xs i start).1 = subst (λ (m : ℕ). AreTold xs m (get_or xs i start).1) entry.number (told xs i rise distinct entry.in_bounds) in

@@ -6,7 +6,7 @@ use Rattle.acc_base.specs.Limits.{IsFromOne}
 use Rattle.acc_base.specs.Section.{device_base}
 use Rattle.acc_base.specs.Records.{Memory}
 use Rattle.acc_base.specs.Blocks.{size_of}
-use Rattle.acc_base.specs.Accounts.{AreApart}
+use Rattle.acc_base.specs.Accounts.{EachPair}
 use Rattle.acc_placement.specs.Space.{Space, IsCanonical, IsPartition}
 use Rattle.acc_dev.specs.declared.entries.Stored.{Stored}
 
@@ -43,14 +43,14 @@ taken_range b = (b.place, size_of b)
 
 -- the numbers of an index rise
 abbrev pub AreRising : List (ℕ × ℕ) → Type 0
-AreRising index = AreApart (λ d e. d.0 < e.0) index
+AreRising index = EachPair (λ d e. d.0 < e.0) index
 
 -- each block has a slot of its own, and the blocks are what is taken of the device
 pub record IsKept (holes : Space) (slots : List (Option Stored)) (index : List (ℕ × ℕ)) : Type 0 where
   pub base : holes.base ≡ device_base
   pub canonical : IsCanonical holes
   pub rising : AreRising index
-  pub distinct : AreApart (λ d e. d.1 ≡ e.1 → ⊥) index
+  pub distinct : EachPair (λ d e. d.1 ≡ e.1 → ⊥) index
   pub filled : AllByRecursion (λ e. IsSome (slot_of slots e)) index
   pub lens : AllByRecursion (λ b. IsFromOne 67108864 b.len) (blocks_in slots index)
   pub partition : IsPartition holes (map taken_range (blocks_in slots index))

@@ -14,6 +14,7 @@ use Rattle.acc_script.specs.Reading.{◌>>=◌}
 use Rattle.acc_script.specs.Tokens.{is_word_byte, is_blank, word_len, skip_blanks, word_at, is_name, name_at, number_of, number_at, number_limit, is_mark_next, mark_at, skip_comma, is_word_before, is_at_end, comma, colon, left_bracket, right_bracket, left_parenthesis, right_parenthesis}
 use Rattle.acc_script.specs.Layout.{Layout, array_of, whole, part_of}
 use Rattle.acc_script.specs.Clauses.{known, known_at, part_at, section_at, item_of, items_at, plain_items_at, group_at, listed, clause_at, clauses_at}
+use Rattle.acc_script.proofs.Turns.{after_section, after_clause}
 
 -- ---- a reading that went well, as its steps
 
@@ -116,13 +117,6 @@ unfolding section_at known_at name_at word_at
 no_section layout = refl
 
 module _ {C : Type 0} where
-  -- what follows a section
-  abbrev after_section : ℕ → C → Layout → List (Item C) → Section × List ℕ → Result (List (Item C) × List ℕ) ScriptFault
-  after_section fuel clause layout before section =
-      if is_mark_next comma section.1
-      then items_at fuel clause layout (before ++ item_of clause section.0 ∷ []) (skip_comma section.1)
-      else Ok (before ++ item_of clause section.0 ∷ [], section.1)
-
   -- one turn more changes nothing
   abbrev ItemsAgree : ℕ → C → Layout → Type 0
   ItemsAgree n clause layout = (before : List (Item C)) (text : List ℕ) → length text ≤ n → items_at n clause layout before text ≡ items_at (suc n) clause layout before text
@@ -196,10 +190,6 @@ module _ {C : Type 0} where
   no_clause : (clause_of : List ℕ → Option C) (layout : Layout) (before : List (Item C)) → clause_at clause_of layout before [] ≡ Err Syntax
   unfolding clause_at word_at
   no_clause clause_of layout before = refl
-
-  -- what follows a clause
-  abbrev after_clause : ℕ → (List ℕ → Option C) → Layout → List (Item C) × List ℕ → Result (List (Item C)) ScriptFault
-  after_clause fuel clause_of layout items = if is_at_end items.1 then Ok items.0 else clauses_at fuel clause_of layout items.0 (skip_comma items.1)
 
   abbrev ClausesAgree : ℕ → (List ℕ → Option C) → Layout → Type 0
   ClausesAgree n clause_of layout = (before : List (Item C)) (text : List ℕ) → length text ≤ n → clauses_at n clause_of layout before text ≡ clauses_at (suc n) clause_of layout before text

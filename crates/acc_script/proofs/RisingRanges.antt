@@ -1,6 +1,6 @@
 -- Mapped ranges by rising start, found one after the other by their starts.
 use Rattle.std.proofs.Common.{◌≡◌, ℕ, ◌+◌, ◌<◌, ◌≤◌, ◌^◌, Bool, true, false, cond, List, [], ◌∷◌, ◌++◌, Option, Some, None, refl, ap, subst, ◌∙◌, arith}
-use Rattle.std.specs.Prelude.{not, nat_le, filter, find, option_map}
+use Rattle.std.specs.Prelude.{not, nat_le, filter, option_map}
 use Rattle.std.specs.List.{AllByRecursion, flat_map}
 use Rattle.std.proofs.lemmas.Bool.{leb-true, leb-false, le-leb, lt-leb, and_parts}
 use Rattle.std.proofs.lemmas.List.{append-nil}
@@ -10,7 +10,7 @@ use Rattle.acc_base.specs.declared.mappings.Range.{Range}
 use Rattle.acc_base.specs.Limits.{Limits, IsWithinBounds}
 use Rattle.acc_base.specs.Section.{host_memory, host_base, end_of}
 use Rattle.acc_base.specs.Ranges.{range_from}
-use Rattle.acc_base.specs.Accounts.{IsInHost, IsBelow, AreApart}
+use Rattle.acc_base.specs.Accounts.{IsInHost, IsBelow, EachPair}
 use Rattle.acc_script.specs.Told.{Taken, Took, TookFront}
 use Rattle.acc_script.proofs.Fronts.{Took_then, Took-then_front}
 
@@ -49,7 +49,7 @@ all_below from (t ∷ ts) none =
 
 module _ (l : Limits) (from : ℕ) (r : Range) where
   -- one more range
-  pub next_below : (ranges : List Range) → AllByRecursion (LiesInHost l) ranges → AreApart Precedes ranges → range_from from ranges ≡ Some r → below (r.section.start + 1) ranges ≡ below from ranges ++ r ∷ []
+  pub next_below : (ranges : List Range) → AllByRecursion (LiesInHost l) ranges → EachPair Precedes ranges → range_from from ranges ≡ Some r → below (r.section.start + 1) ranges ≡ below from ranges ++ r ∷ []
   next_below [] in_host rising found = absurd cc
   next_below (t ∷ ts) in_host rising found =
       elim (starts_from from t) as (λ b. starts_from from t ≡ b → cond b (Some t) (range_from from ts) ≡ Some r → below (r.section.start + 1) (t ∷ ts) ≡ cond (not b) (t ∷ below from ts) (below from ts) ++ r ∷ []) [
@@ -65,7 +65,7 @@ module _ (l : Limits) (from : ℕ) (r : Range) where
       ] refl found
 
   -- the ranges before it, and those behind
-  found_splits : (ranges : List Range) → AreApart Precedes ranges → range_from from ranges ≡ Some r → (rest : List Range) × (ranges ≡ below from ranges ++ r ∷ rest)
+  found_splits : (ranges : List Range) → EachPair Precedes ranges → range_from from ranges ≡ Some r → (rest : List Range) × (ranges ≡ below from ranges ++ r ∷ rest)
   found_splits [] rising found = absurd cc
   found_splits (t ∷ ts) rising found =
       elim (starts_from from t) as (λ b. starts_from from t ≡ b → cond b (Some t) (range_from from ts) ≡ Some r → (rest : List Range) × (t ∷ ts ≡ cond (not b) (t ∷ below from ts) (below from ts) ++ r ∷ rest)) [
@@ -85,14 +85,14 @@ module _ (l : Limits) (from : ℕ) (r : Range) where
 
   module _ (text : Range → List ℕ) (ranges : List Range) (a b c : Option Taken) where
     -- its text after those of the ranges before it
-    pub took_found : AllByRecursion (LiesInHost l) ranges → AreApart Precedes ranges → range_from from ranges ≡ Some r → Took a b (flat_map text (below from ranges)) → Took b c (text r) → Took a c (flat_map text (below (r.section.start + 1) ranges))
+    pub took_found : AllByRecursion (LiesInHost l) ranges → EachPair Precedes ranges → range_from from ranges ≡ Some r → Took a b (flat_map text (below from ranges)) → Took b c (text r) → Took a c (flat_map text (below (r.section.start + 1) ranges))
     took_found in_host rising found p q =
         let joined : flat_map text (below (r.section.start + 1) ranges) ≡ flat_map text (below from ranges) ++ text r =
         ap (flat_map text) (next_below ranges in_host rising found) ∙ flat_map-append text (below from ranges) (r ∷ []) ∙ ap (λ (x : List ℕ). flat_map text (below from ranges) ++ x) (flat_map-cons text r [] ∙ append-nil (text r)) in
         rw joined (Took_then a b c (flat_map text (below from ranges)) (text r) p q)
 
     -- the sink failed in its text
-    pub lost_found : AreApart Precedes ranges → range_from from ranges ≡ Some r → Took a b (flat_map text (below from ranges)) → TookFront b c (text r) → TookFront a c (flat_map text ranges)
+    pub lost_found : EachPair Precedes ranges → range_from from ranges ≡ Some r → Took a b (flat_map text (below from ranges)) → TookFront b c (text r) → TookFront a c (flat_map text ranges)
     lost_found rising found p q =
         let split = found_splits ranges rising found in
         let whole : flat_map text ranges ≡ flat_map text (below from ranges) ++ (text r ++ flat_map text split.0) =

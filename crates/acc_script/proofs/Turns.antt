@@ -21,7 +21,7 @@ module _ {C : Type 0} where
   -- ---- items
 
   -- what follows a section
-  abbrev after_section : ℕ → C → Layout → List (Item C) → Section × List ℕ → Result (List (Item C) × List ℕ) ScriptFault
+  abbrev pub after_section : ℕ → C → Layout → List (Item C) → Section × List ℕ → Result (List (Item C) × List ℕ) ScriptFault
   after_section fuel clause layout before section =
       if is_mark_next comma section.1
       then items_at fuel clause layout (before ++ item_of clause section.0 ∷ []) (skip_comma section.1)
@@ -50,7 +50,7 @@ module _ {C : Type 0} where
   -- ---- clauses
 
   -- what follows a clause
-  abbrev after_clause : ℕ → (List ℕ → Option C) → Layout → List (Item C) × List ℕ → Result (List (Item C)) ScriptFault
+  abbrev pub after_clause : ℕ → (List ℕ → Option C) → Layout → List (Item C) × List ℕ → Result (List (Item C)) ScriptFault
   after_clause fuel clause_of layout items = if is_at_end items.1 then Ok items.0 else clauses_at fuel clause_of layout items.0 (skip_comma items.1)
 
   clauses_turn : (n i : ℕ) (clause_of : List ℕ → Option C) (layout : Layout) (before : List (Item C)) (text : List ℕ) → i < n

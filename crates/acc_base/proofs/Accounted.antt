@@ -5,17 +5,17 @@ use Rattle.std.specs.List.{AllByRecursion}
 use Rattle.std.proofs.lemmas.Bool.Decides.{nat_tests}
 use Rattle.acc_base.specs.declared.mappings.Range.{Range}
 use Rattle.acc_base.specs.declared.directives.Directive.{Directive}
-use Rattle.acc_base.specs.declared.directives.Directive.TheVariants.{EnterData, ExitData}
+use Rattle.acc_base.specs.declared.directives.Directive.TheVariants.{EnterData, ExitData, Update}
 use Rattle.acc_base.specs.declared.events.Event.{Event}
-use Rattle.acc_base.specs.declared.events.Event.TheVariants.{EnteredData, ExitedData}
+use Rattle.acc_base.specs.declared.events.Event.TheVariants.{EnteredData, ExitedData, Updated, HostWritten}
 use Rattle.acc_base.specs.declared.events.Did.{Did}
 use Rattle.acc_base.specs.Limits.{Limits, IsWithinBounds}
-use Rattle.acc_base.specs.Records.{Records, new_records}
+use Rattle.acc_base.specs.Records.{Records, State, new_records}
 use Rattle.acc_base.specs.Ranges.{range_of, dynamic_of}
 use Rattle.acc_base.specs.Walk.{walk, walk_all}
 use Rattle.acc_base.specs.Bytes.{after}
-use Rattle.acc_base.specs.Judge.{◌>>◌, few_items, directive_event, enter_data_items, exit_data_items}
-use Rattle.acc_base.specs.Calls.{History, World, Request, Do, judge, ticket, trace_room, world_after, new_world, event_count}
+use Rattle.acc_base.specs.Judge.{◌>>◌, few_items, directive_event, enter_data_items, exit_data_items, update_items, write_checked, host_write_event}
+use Rattle.acc_base.specs.Calls.{History, World, Request, Do, HostWrite, judge, ticket, trace_room, world_after, new_world, bytes_brought, event_count}
 use Rattle.acc_base.specs.History.{IsLegal, AreLegal, dynamic_in}
 use Rattle.acc_base.specs.Accounts.{IsTraced, IsHistoryLegal, IsAccounted}
 use Rattle.acc_base.proofs.Results.{bind_ok, then_ok, ok_same, refused_not}
@@ -49,6 +49,15 @@ directive_legal l (EnterData items) w e h =
 directive_legal l (ExitData items) w e h =
     let found : (dids : List Did) × (exit_data_items l 0 items w ≡ Ok dids) × (Ok (ExitedData items dids) ≡ Ok e) = bind_ok (exit_data_items l 0 items w) (λ dids. Ok (ExitedData items dids)) e h in
     subst (λ x. IsLegal l x w) (ok_same _ _ found.2) found.1
+directive_legal l (Update items if_present) w e h =
+    let found : (dids : List Did) × (update_items l if_present 0 items w ≡ Ok dids) × (Ok (Updated items if_present dids) ≡ Ok e) = bind_ok (update_items l if_present 0 items w) (λ dids. Ok (Updated items if_present dids)) e h in
+    subst (λ x. IsLegal l x w) (ok_same _ _ found.2) found.1
+
+host_write_legal : (l : Limits) (addr len : ℕ) (w : Records) (e : Event) → host_write_event l addr len ≡ Ok e → IsLegal l e w
+unfolding host_write_event
+host_write_legal l addr len w e h =
+    let both : (write_checked l (record { start = addr; len = len }) ≡ Ok tt) × (Ok (HostWritten addr len) ≡ Ok e) = then_ok (write_checked l (record { start = addr; len = len })) (Ok (HostWritten addr len)) e h in
+    subst (λ x. IsLegal l x w) (ok_same _ _ both.1) both.0
 
 pub record IsAccepted (w : World) (e : Event) : Type 0 where
   pub tickets : event_count w.history < w.limits.tickets
@@ -64,6 +73,12 @@ accepted w (Do d) e h =
     let tickets : nat_le w.limits.tickets (event_count w.history) ≡ false = refused_not _ _ first.0 in
     let trace : nat_le w.limits.trace_cap (length w.history.trace) ≡ false = refused_not _ _ third.0 in
     record { tickets = grind (arith, nat_tests); trace = grind (arith, nat_tests); legal = directive_legal w.limits d w.state.records e third.1 }
+accepted w (HostWrite addr bytes) e h =
+    let first : (ticket w ≡ Ok tt) × ((trace_room w >> host_write_event w.limits addr (length bytes)) ≡ Ok e) = then_ok (ticket w) (trace_room w >> host_write_event w.limits addr (length bytes)) e h in
+    let second : (trace_room w ≡ Ok tt) × (host_write_event w.limits addr (length bytes) ≡ Ok e) = then_ok (trace_room w) (host_write_event w.limits addr (length bytes)) e first.1 in
+    let tickets : nat_le w.limits.tickets (event_count w.history) ≡ false = refused_not _ _ first.0 in
+    let trace : nat_le w.limits.trace_cap (length w.history.trace) ≡ false = refused_not _ _ second.0 in
+    record { tickets = grind (arith, nat_tests); trace = grind (arith, nat_tests); legal = host_write_legal w.limits addr (length bytes) w.state.records e second.1 }
 
 -- ---- what a legal history says
 
@@ -95,19 +110,20 @@ history_after l h e w v legal now is = record {
 }
 
 -- the world after an accepted call is accounted for
-pub accounted_after : (w : World) (e : Event) → IsWithinBounds w.limits → IsAccepted w e → IsAccounted w → IsAccounted (world_after e w)
+pub accounted_after : (w : World) (request : Request) (e : Event) → IsWithinBounds w.limits → IsAccepted w e → IsAccounted w → IsAccounted (world_after request e w)
 unfolding world_after
-accounted_after w e bounds ok h =
-    let history : IsHistoryLegal w.limits (record { trace = w.history.trace ++ e ∷ [] }) (after e w.state).records = history_after w.limits w.history e w.state.records (after e w.state).records h.history_legal ok.legal (records-after e w.state) in
-    let now : IsTold w.limits (record { trace = w.history.trace ++ e ∷ [] }) (after e w.state).records = legal_told w.limits (record { trace = w.history.trace ++ e ∷ [] }) (after e w.state).records bounds history in
+accounted_after w request e bounds ok h =
+    let next : State = after e (bytes_brought request) w.state in
+    let history : IsHistoryLegal w.limits (record { trace = w.history.trace ++ e ∷ [] }) next.records = history_after w.limits w.history e w.state.records next.records h.history_legal ok.legal (records-after e (bytes_brought request) w.state) in
+    let now : IsTold w.limits (record { trace = w.history.trace ++ e ∷ [] }) next.records = legal_told w.limits (record { trace = w.history.trace ++ e ∷ [] }) next.records bounds history in
     let more : length (w.history.trace ++ e ∷ []) ≡ length w.history.trace + 1 = length-append w.history.trace (e ∷ []) in
     record {
       ranges_apart = now.sound.ranges;
       blocks_apart = now.sound.blocks;
-      bytes_accounted = used_le w.limits (after e w.state).records now.sound.blocks;
+      bytes_accounted = used_le w.limits next.records now.sound.blocks;
       one_block_each = now.sound.each;
-      counters_traced = traced w.limits (record { trace = w.history.trace ++ e ∷ [] }) (after e w.state).records now.sound now.dynamic;
-      memories_sized = event_sized w.limits e w.state h.memories_sized;
+      counters_traced = traced w.limits (record { trace = w.history.trace ++ e ∷ [] }) next.records now.sound now.dynamic;
+      memories_sized = event_sized w.limits e (bytes_brought request) w.state h.memories_sized;
       history_legal = history;
       books_counted = record { tickets = omega (arith, ok.tickets); trace = omega (arith, ok.trace) };
     }

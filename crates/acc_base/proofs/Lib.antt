@@ -11,5 +11,4 @@ pub mod Told
 pub mod Used
 pub mod Memories
 pub mod Accounted
-pub mod Copied
 mod Examples

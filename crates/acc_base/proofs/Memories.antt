@@ -1,28 +1,33 @@
--- Each block, in order, has a memory of its length, after every event.
+-- After every event host memory has its size, and each block, in order, a memory of its length.
 use Rattle.std.proofs.Common.{ℕ, suc, ◌≡◌, refl, sym, ◌∙◌, ap, subst, Bool, true, false, cond, List, [], ◌∷◌, ◌++◌, length, replicate, arith, ◌&&◌, ◌||◌}
-use Rattle.std.specs.Prelude.{◌==◌, filter, not}
+use Rattle.std.specs.Prelude.{◌==◌, ◌-◌, filter, map, not, slice_index}
 use Rattle.std.specs.List.{AllByRecursion, list_any}
 use Rattle.std.proofs.lemmas.Bool.Decides.{nat_tests}
 use Rattle.acc_base.specs.declared.items.Section.{Section}
 use Rattle.acc_base.specs.declared.items.Item.{Item}
 use Rattle.acc_base.specs.declared.items.EnterClause.{EnterClause}
 use Rattle.acc_base.specs.declared.items.EnterClause.TheVariants as enter
+use Rattle.acc_base.specs.declared.items.ExitClause.{ExitClause}
+use Rattle.acc_base.specs.declared.items.ExitClause.TheVariants as exit
+use Rattle.acc_base.specs.declared.items.UpdateClause.{UpdateClause}
+use Rattle.acc_base.specs.declared.items.UpdateClause.TheVariants.{ToSelf, ToDevice}
 use Rattle.acc_base.specs.declared.mappings.Block.{Block}
 use Rattle.acc_base.specs.declared.events.Step.{Step}
-use Rattle.acc_base.specs.declared.events.Step.TheVariants.{Nothing, Counted, Born, Dropped}
+use Rattle.acc_base.specs.declared.events.Step.TheVariants.{Nothing, Counted, Born, Dropped, Moved}
 use Rattle.acc_base.specs.declared.events.Did.{Did}
 use Rattle.acc_base.specs.declared.events.Event.{Event}
-use Rattle.acc_base.specs.declared.events.Event.TheVariants.{EnteredData, ExitedData}
+use Rattle.acc_base.specs.declared.events.Event.TheVariants.{EnteredData, ExitedData, Updated, HostWritten}
 use Rattle.acc_base.specs.Limits.{Limits}
 use Rattle.acc_base.specs.Records.{Memory, State, new_state}
+use Rattle.acc_base.specs.Ranges.{start_of}
 use Rattle.acc_base.specs.Blocks.{without_block}
 use Rattle.acc_base.specs.Walk.{records_after_birth, records_after_end, with_range_changed, after_entered, after_exited}
 use Rattle.acc_base.specs.Judge.{did_of}
-use Rattle.acc_base.specs.Bytes.{host_byte, fill_byte, written_bytes, bytes_born, memories_kept, state_after_entered, state_after_exited, state_after_all_entered, state_after_all_exited, after}
+use Rattle.acc_base.specs.Bytes.{host_byte, bytes_of, fill_byte, written_bytes, bytes_born, bytes_moved_in, bytes_moved_out, memory_changed, memories_kept, host_moved_out, host_after_exited, host_after_write, state_after_entered, state_after_exited, state_after_move, state_after_updated, state_after_all_entered, state_after_all_exited, state_after_all_updated, after}
 use Rattle.acc_base.specs.Accounts.{IsMemoryOf, AreMemoriesSized}
 use Rattle.std.specs.List.{AllZip}
 use Rattle.std.proofs.lemmas.List.{length-replicate}
-use Rattle.acc_base.specs.Section.{covers}
+use Rattle.acc_base.specs.Section.{covers, host_base}
 use Rattle.acc_base.proofs.Results.{equal_self}
 use Rattle.acc_base.proofs.Elements.{AllByRecursion-weaker}
 
@@ -96,11 +101,25 @@ without_sized k (m ∷ ms) (b ∷ bs) h = subst (λ n. AllZip IsMemoryOf (cond (
     go rest true = rest
     go rest false = (h.0, rest)
 
--- ---- the memory of a new block
+-- ---- copies keep lengths
 
-length-written_bytes : (taken : ℕ → Bool) (source : ℕ → ℕ) (address : ℕ) (bytes : List ℕ) → length (written_bytes taken source address bytes) ≡ length bytes
+pub length-written_bytes : (taken : ℕ → Bool) (source : ℕ → ℕ) (address : ℕ) (bytes : List ℕ) → length (written_bytes taken source address bytes) ≡ length bytes
 length-written_bytes taken source address [] = refl
 length-written_bytes taken source address (byte ∷ bytes) = ap suc (length-written_bytes taken source (suc address) bytes)
+
+pub length-moved_in : (section : Section) (host : List ℕ) (start : ℕ) (bytes : List ℕ) → length (bytes_moved_in section host start bytes) ≡ length bytes
+length-moved_in section host start bytes = length-written_bytes (covers section) (host_byte host) start bytes
+
+pub length-moved_out : (section : Section) (bytes : List ℕ) (start : ℕ) (host : List ℕ) → length (bytes_moved_out section bytes start host) ≡ length host
+length-moved_out section bytes start host = length-written_bytes (covers section) (λ a. slice_index bytes (a - start)) host_base host
+
+pub length-host_moved_out : (section : Section) (block : ℕ) (s : State) → length (host_moved_out section block s) ≡ length s.host
+length-host_moved_out section block s = length-moved_out section (bytes_of block s.memories) (start_of block s.records.ranges) s.host
+
+pub length-host_after_write : (addr len : ℕ) (bytes host : List ℕ) → length (host_after_write addr len bytes host) ≡ length host
+length-host_after_write addr len bytes host = length-written_bytes (covers (record { start = addr; len = len })) (λ a. slice_index bytes (a - addr)) host_base host
+
+-- ---- the memory of a new block
 
 sized-push : (ms : List Memory) (bs : List Block) (m : Memory) (b : Block) → AllZip IsMemoryOf ms bs → IsMemoryOf m b → AllZip IsMemoryOf (ms ++ m ∷ []) (bs ++ b ∷ [])
 sized-push [] [] m b h k = (k, tt)
@@ -109,7 +128,23 @@ sized-push (x ∷ ms) [] m b h k = absurd h
 sized-push (x ∷ ms) (c ∷ bs) m b h k = (h.0, sized-push ms bs m b h.1 k)
 
 pub length-bytes_born : (clause : EnterClause) (section : Section) (host : List ℕ) → length (bytes_born clause section host) ≡ section.len
-length-bytes_born enter.Copyin section host = length-written_bytes (covers section) (host_byte host) section.start (replicate section.len fill_byte) ∙ length-replicate section.len _
+length-bytes_born enter.Copyin section host = length-moved_in section host section.start (replicate section.len (fill_byte false)) ∙ length-replicate section.len _
+length-bytes_born (enter.Create zero) section host = length-replicate section.len _
+
+-- ---- the memory of one block changed
+
+memory_changed_sized : (k : ℕ) (change : List ℕ → List ℕ) (m : Memory) (b : Block) → ((bytes : List ℕ) → length (change bytes) ≡ length bytes) → IsMemoryOf m b → IsMemoryOf (memory_changed k change m) b
+memory_changed_sized k change m b keeps h = go (m.block == k)
+  where
+    go : (t : Bool) → IsMemoryOf (cond t (record m { bytes = change m.bytes }) m) b
+    go true = record { block = h.block; len = keeps m.bytes ∙ h.len }
+    go false = h
+
+pub changed_sized : (k : ℕ) (change : List ℕ → List ℕ) (ms : List Memory) (bs : List Block) → ((bytes : List ℕ) → length (change bytes) ≡ length bytes) → AllZip IsMemoryOf ms bs → AllZip IsMemoryOf (map (memory_changed k change) ms) bs
+changed_sized k change [] [] keeps h = tt
+changed_sized k change [] (b ∷ bs) keeps h = absurd h
+changed_sized k change (m ∷ ms) [] keeps h = absurd h
+changed_sized k change (m ∷ ms) (b ∷ bs) keeps h = (memory_changed_sized k change m b keeps h.0, changed_sized k change ms bs keeps h.1)
 
 -- ---- items and events
 
@@ -119,18 +154,44 @@ entered_sized l item Nothing s h = record { host = h.host; blocks = h.blocks }
 entered_sized l item (Counted k) s h = record { host = h.host; blocks = h.blocks }
 entered_sized l item (Born k p) s h = record { host = h.host; blocks = sized-push s.memories s.records.blocks _ _ h.blocks (record { block = refl; len = length-bytes_born item.clause item.section s.host }) }
 entered_sized l item (Dropped k ended) s h = record { host = h.host; blocks = h.blocks }
+entered_sized l item (Moved k) s h = record { host = h.host; blocks = h.blocks }
 
 -- the memories of the same blocks
 same_sized : (l : Limits) (s : State) (bs : List Block) → bs ≡ s.records.blocks → AreMemoriesSized l s → AllZip IsMemoryOf (memories_kept bs s.memories) bs
 same_sized l s bs e h = subst (λ cs. AllZip IsMemoryOf (memories_kept cs s.memories) cs) (sym e) (rw (memories_kept-same s.memories s.records.blocks h.blocks) h.blocks)
 
-exited_sized : (l : Limits) (step : Step) (s : State) → AreMemoriesSized l s → AreMemoriesSized l (state_after_exited (did_of step) s)
+-- at the end of a mapping the host keeps its size, copied to or not
+length-host_ended : (clause : ExitClause) (section : Section) (k : ℕ) (s : State) → length (host_after_exited (record { clause = clause; section = section }) (Dropped k true) s) ≡ length s.host
+length-host_ended exit.Copyout section k s = length-host_moved_out section k s
+length-host_ended exit.Delete section k s = refl
+
+exited_sized : (l : Limits) (item : Item ExitClause) (step : Step) (s : State) → AreMemoriesSized l s → AreMemoriesSized l (state_after_exited item (did_of step) s)
 unfolding state_after_exited after_exited records_after_end with_range_changed
-exited_sized l Nothing s h = record { host = h.host; blocks = same_sized l s s.records.blocks refl h }
-exited_sized l (Counted k) s h = record { host = h.host; blocks = same_sized l s s.records.blocks refl h }
-exited_sized l (Born k p) s h = record { host = h.host; blocks = same_sized l s s.records.blocks refl h }
-exited_sized l (Dropped k false) s h = record { host = h.host; blocks = same_sized l s s.records.blocks refl h }
-exited_sized l (Dropped k true) s h = record { host = h.host; blocks = rw (memories_kept-without k s.memories s.records.blocks h.blocks) (without_sized k s.memories s.records.blocks h.blocks) }
+exited_sized l item Nothing s h = record { host = h.host; blocks = same_sized l s s.records.blocks refl h }
+exited_sized l item (Counted k) s h = record { host = h.host; blocks = same_sized l s s.records.blocks refl h }
+exited_sized l item (Born k p) s h = record { host = h.host; blocks = same_sized l s s.records.blocks refl h }
+exited_sized l item (Dropped k false) s h = record { host = h.host; blocks = same_sized l s s.records.blocks refl h }
+exited_sized l item (Dropped k true) s h = record {
+  host = length-host_ended item.clause item.section k s ∙ h.host;
+  blocks = rw (memories_kept-without k s.memories s.records.blocks h.blocks) (without_sized k s.memories s.records.blocks h.blocks);
+}
+exited_sized l item (Moved k) s h = record { host = h.host; blocks = same_sized l s s.records.blocks refl h }
+
+moved_sized : (l : Limits) (clause : UpdateClause) (section : Section) (k : ℕ) (s : State) → AreMemoriesSized l s → AreMemoriesSized l (state_after_move (record { clause = clause; section = section }) k s)
+unfolding state_after_move
+moved_sized l ToSelf section k s h = record { host = length-host_moved_out section k s ∙ h.host; blocks = h.blocks }
+moved_sized l ToDevice section k s h = record {
+  host = h.host;
+  blocks = changed_sized k (bytes_moved_in section s.host (start_of k s.records.ranges)) s.memories s.records.blocks (length-moved_in section s.host (start_of k s.records.ranges)) h.blocks;
+}
+
+updated_sized : (l : Limits) (item : Item UpdateClause) (step : Step) (s : State) → AreMemoriesSized l s → AreMemoriesSized l (state_after_updated item (did_of step) s)
+unfolding state_after_updated
+updated_sized l item Nothing s h = h
+updated_sized l item (Counted k) s h = h
+updated_sized l item (Born k p) s h = h
+updated_sized l item (Dropped k ended) s h = h
+updated_sized l item (Moved k) s h = moved_sized l item.clause item.section k s h
 
 all_entered_sized : (l : Limits) (items : List (Item EnterClause)) (dids : List Did) (s : State) → AreMemoriesSized l s → AreMemoriesSized l (state_after_all_entered items dids s)
 unfolding state_after_all_entered
@@ -139,15 +200,26 @@ all_entered_sized l [] (d ∷ ds) s h = h
 all_entered_sized l (i ∷ is) [] s h = h
 all_entered_sized l (i ∷ is) (d ∷ ds) s h = all_entered_sized l is ds (state_after_entered i d s) (entered_sized l i d.step s h)
 
-all_exited_sized : (l : Limits) (dids : List Did) (s : State) → AreMemoriesSized l s → AreMemoriesSized l (state_after_all_exited dids s)
+all_exited_sized : (l : Limits) (items : List (Item ExitClause)) (dids : List Did) (s : State) → AreMemoriesSized l s → AreMemoriesSized l (state_after_all_exited items dids s)
 unfolding state_after_all_exited
-all_exited_sized l [] s h = h
-all_exited_sized l (d ∷ ds) s h = all_exited_sized l ds (state_after_exited d s) (exited_sized l d.step s h)
+all_exited_sized l [] [] s h = h
+all_exited_sized l [] (d ∷ ds) s h = h
+all_exited_sized l (i ∷ is) [] s h = h
+all_exited_sized l (i ∷ is) (d ∷ ds) s h = all_exited_sized l is ds (state_after_exited i d s) (exited_sized l i d.step s h)
 
-pub event_sized : (l : Limits) (e : Event) (s : State) → AreMemoriesSized l s → AreMemoriesSized l (after e s)
+all_updated_sized : (l : Limits) (items : List (Item UpdateClause)) (dids : List Did) (s : State) → AreMemoriesSized l s → AreMemoriesSized l (state_after_all_updated items dids s)
+unfolding state_after_all_updated
+all_updated_sized l [] [] s h = h
+all_updated_sized l [] (d ∷ ds) s h = h
+all_updated_sized l (i ∷ is) [] s h = h
+all_updated_sized l (i ∷ is) (d ∷ ds) s h = all_updated_sized l is ds (state_after_updated i d s) (updated_sized l i d.step s h)
+
+pub event_sized : (l : Limits) (e : Event) (brought : List ℕ) (s : State) → AreMemoriesSized l s → AreMemoriesSized l (after e brought s)
 unfolding after
-event_sized l (EnteredData items did) s h = all_entered_sized l items did s h
-event_sized l (ExitedData items did) s h = all_exited_sized l did s h
+event_sized l (EnteredData items did) brought s h = all_entered_sized l items did s h
+event_sized l (ExitedData items did) brought s h = all_exited_sized l items did s h
+event_sized l (Updated items if_present did) brought s h = all_updated_sized l items did s h
+event_sized l (HostWritten addr len) brought s h = record { host = length-host_after_write addr len brought s.host ∙ h.host; blocks = h.blocks }
 
 pub new_sized : (l : Limits) → AreMemoriesSized l (new_state l.host)
 new_sized l = record { host = length-replicate l.host 0; blocks = tt }

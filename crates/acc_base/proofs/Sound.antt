@@ -7,7 +7,7 @@ use Rattle.acc_base.specs.declared.items.Section.{Section}
 use Rattle.acc_base.specs.declared.mappings.Range.{Range}
 use Rattle.acc_base.specs.declared.mappings.Block.{Block}
 use Rattle.acc_base.specs.declared.events.Step.{Step}
-use Rattle.acc_base.specs.declared.events.Step.TheVariants.{Nothing, Counted, Born, Dropped}
+use Rattle.acc_base.specs.declared.events.Step.TheVariants.{Nothing, Counted, Born, Dropped, Moved}
 use Rattle.acc_base.specs.Limits.{Limits, IsWithinBounds}
 use Rattle.acc_base.specs.Section.{is_empty, is_apart, end_of, device_base}
 use Rattle.acc_base.specs.Records.{Records, new_records}
@@ -109,9 +109,9 @@ counted_sound l k w h says = record {
 not_ended : (s d : ℕ) → s ≡ 0 → false ≡ ((s == 0) && (d == 1)) → 0 < d → 0 < d - 1
 not_ended s d z e p = grind (arith, nat_tests)
 
-dropped_sound : (l : Limits) (k : ℕ) (w : Records) → IsSound l w → IsDrop k false w → IsSound l (with_range_changed k lowered w)
+dropped_sound : (l : Limits) (section : Section) (k : ℕ) (w : Records) → IsSound l w → IsDrop l section k false w → IsSound l (with_range_changed k lowered w)
 unfolding with_range_changed
-dropped_sound l k w h says = record {
+dropped_sound l section k w h says = record {
   ranges = changed_ranges l k lowered w.ranges lowered_keeps h.ranges;
   blocks = record { on_device = h.blocks.on_device; apart = h.blocks.apart; born = h.blocks.born };
   each = changed_each k lowered w lowered_keeps h.each;
@@ -256,14 +256,16 @@ entered_sound l section Nothing w bounds h says = h
 entered_sound l section (Counted k) w bounds h says = counted_sound l k w h says
 entered_sound l section (Born k p) w bounds h says = birth_sound l section k p w bounds says h
 entered_sound l section (Dropped k ended) w bounds h says = absurd says
+entered_sound l section (Moved k) w bounds h says = absurd says
 
-pub exited_sound : (l : Limits) (step : Step) (w : Records) → IsSound l w → IsExited step w → IsSound l (after_exited step w)
+pub exited_sound : (l : Limits) (section : Section) (step : Step) (w : Records) → IsSound l w → IsExited l section step w → IsSound l (after_exited step w)
 unfolding after_exited
-exited_sound l Nothing w h says = h
-exited_sound l (Counted k) w h says = absurd says
-exited_sound l (Born k p) w h says = absurd says
-exited_sound l (Dropped k true) w h says = ended_sound l k w h
-exited_sound l (Dropped k false) w h says = dropped_sound l k w h says
+exited_sound l section Nothing w h says = h
+exited_sound l section (Counted k) w h says = absurd says
+exited_sound l section (Born k p) w h says = absurd says
+exited_sound l section (Dropped k true) w h says = ended_sound l k w h
+exited_sound l section (Dropped k false) w h says = dropped_sound l section k w h says
+exited_sound l section (Moved k) w h says = absurd says
 
 -- ---- the start
 

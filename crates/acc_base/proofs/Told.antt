@@ -9,10 +9,10 @@ use Rattle.acc_base.specs.declared.items.EnterClause.{EnterClause}
 use Rattle.acc_base.specs.declared.items.ExitClause.{ExitClause}
 use Rattle.acc_base.specs.declared.mappings.Range.{Range}
 use Rattle.acc_base.specs.declared.events.Step.{Step}
-use Rattle.acc_base.specs.declared.events.Step.TheVariants.{Nothing, Counted, Born, Dropped}
+use Rattle.acc_base.specs.declared.events.Step.TheVariants.{Nothing, Counted, Born, Dropped, Moved}
 use Rattle.acc_base.specs.declared.events.Did.{Did}
 use Rattle.acc_base.specs.declared.events.Event.{Event}
-use Rattle.acc_base.specs.declared.events.Event.TheVariants.{EnteredData, ExitedData}
+use Rattle.acc_base.specs.declared.events.Event.TheVariants.{EnteredData, ExitedData, Updated, HostWritten}
 use Rattle.acc_base.specs.declared.faults.Fault.{Fault}
 use Rattle.acc_base.specs.Limits.{Limits, IsWithinBounds}
 use Rattle.acc_base.specs.Records.{Records, new_records}
@@ -44,16 +44,17 @@ entered_dynamic l section Nothing w b h says = omega arith
 entered_dynamic l section (Counted k) w b h says = changed_read dynamic raised (λ n. n + 1) (λ r. refl) (λ r. refl) k b w.ranges (λ none. absurd (says.mapped none)) ∙ one_more (k == b) _
 entered_dynamic l section (Born k p) w b h says = with_read dynamic (new_range section k) b w.ranges (fresh l w k h says.number)
 entered_dynamic l section (Dropped k ended) w b h says = absurd says
+entered_dynamic l section (Moved k) w b h says = absurd says
 
 last_one : (k b n s : ℕ) → true ≡ ((s == 0) && (n == 1)) → n - 1 ≡ 0
 last_one k b n s e = grind (arith, nat_tests)
 
-pub exited_dynamic : (step : Step) (w : Records) (b : ℕ) → IsExited step w → dynamic_of b (after_exited step w).ranges ≡ dynamic_dropped b (dynamic_of b w.ranges) (did_of step)
+pub exited_dynamic : (l : Limits) (section : Section) (step : Step) (w : Records) (b : ℕ) → IsExited l section step w → dynamic_of b (after_exited step w).ranges ≡ dynamic_dropped b (dynamic_of b w.ranges) (did_of step)
 unfolding after_exited with_range_changed records_after_end dynamic
-exited_dynamic Nothing w b says = refl
-exited_dynamic (Counted k) w b says = absurd says
-exited_dynamic (Born k p) w b says = absurd says
-exited_dynamic (Dropped k true) w b says = without_read dynamic k b w.ranges ∙ go (k == b) refl
+exited_dynamic l section Nothing w b says = refl
+exited_dynamic l section (Counted k) w b says = absurd says
+exited_dynamic l section (Born k p) w b says = absurd says
+exited_dynamic l section (Dropped k true) w b says = without_read dynamic k b w.ranges ∙ go (k == b) refl
   where
     go : (t : Bool) → (k == b) ≡ t → cond t 0 (dynamic_of b w.ranges) ≡ cond t (dynamic_of b w.ranges - 1) (dynamic_of b w.ranges)
     go true e =
@@ -61,7 +62,8 @@ exited_dynamic (Dropped k true) w b says = without_read dynamic k b w.ranges ∙
         let last : dynamic_of k w.ranges - 1 ≡ 0 = last_one k b (dynamic_of k w.ranges) (structured_of k w.ranges) says.ended_is in
         sym (subst (λ n. dynamic_of n w.ranges - 1 ≡ 0) same last)
     go false e = refl
-exited_dynamic (Dropped k false) w b says = changed_read dynamic lowered (λ n. n - 1) (λ r. refl) (λ r. refl) k b w.ranges (λ none. refl)
+exited_dynamic l section (Dropped k false) w b says = changed_read dynamic lowered (λ n. n - 1) (λ r. refl) (λ r. refl) k b w.ranges (λ none. refl)
+exited_dynamic l section (Moved k) w b says = absurd says
 
 -- ---- all items of a directive
 
@@ -117,19 +119,19 @@ all_entered_left l n (item ∷ items) dids w bounds h e =
 abbrev dropped : List Did → ℕ → ℕ → ℕ
 dropped dids b n = fold (dynamic_dropped b) n dids
 
-all_exited_left : (l : Limits) (n : ℕ) (items : List (Item ExitClause)) (dids : List Did) (w : Records) → IsSound l w → exit_data_items l n items w ≡ Ok dids → IsLeft l w (after_all_exited dids w) (dropped dids)
+all_exited_left : (l : Limits) (n : ℕ) (items : List (Item ExitClause)) (dids : List Did) (w : Records) → IsSound l w → exit_data_items l n items w ≡ Ok dids → IsLeft l w (after_all_exited items dids w) (dropped dids)
 unfolding after_all_exited exit_data_items
-all_exited_left l n [] dids w h e = subst (λ ds. IsLeft l w (after_all_exited ds w) (dropped ds)) (no_dids dids e) (record { sound = h; dynamic_is = λ b. refl })
+all_exited_left l n [] dids w h e = subst (λ ds. IsLeft l w (after_all_exited [] ds w) (dropped ds)) (no_dids dids e) (record { sound = h; dynamic_is = λ b. refl })
 all_exited_left l n (item ∷ items) dids w h e =
     let parts = exit_parts l n item items dids w e in
     let step : Step = parts.0 in
     let rest : List Did = parts.1 in
-    let says : IsExited step w = exited_says l n item w step parts.2.item in
+    let says : IsExited l item.section step w = exited_says l n item w step parts.2.item in
     let v : Records = after_exited step w in
-    let later : IsLeft l v (after_all_exited rest v) (dropped rest) = all_exited_left l (suc n) items rest v (exited_sound l step w h says) parts.2.items in
-    subst (λ ds. IsLeft l w (after_all_exited ds w) (dropped ds)) parts.2.dids_are (record {
+    let later : IsLeft l v (after_all_exited items rest v) (dropped rest) = all_exited_left l (suc n) items rest v (exited_sound l item.section step w h says) parts.2.items in
+    subst (λ ds. IsLeft l w (after_all_exited (item ∷ items) ds w) (dropped ds)) parts.2.dids_are (record {
       sound = later.sound;
-      dynamic_is = λ b. later.dynamic_is b ∙ ap (λ m. dropped rest b m) (exited_dynamic step w b says);
+      dynamic_is = λ b. later.dynamic_is b ∙ ap (λ m. dropped rest b m) (exited_dynamic l item.section step w b says);
     })
 
 -- ---- events
@@ -143,8 +145,10 @@ event_left l (EnteredData items did) w bounds h legal =
     let left : IsLeft l w (after_all_entered items did w) (added did) = all_entered_left l 0 items did w bounds h legal in
     record { sound = left.sound; dynamic_is = left.dynamic_is }
 event_left l (ExitedData items did) w bounds h legal =
-    let left : IsLeft l w (after_all_exited did w) (dropped did) = all_exited_left l 0 items did w h legal in
+    let left : IsLeft l w (after_all_exited items did w) (dropped did) = all_exited_left l 0 items did w h legal in
     record { sound = left.sound; dynamic_is = left.dynamic_is }
+event_left l (Updated items if_present did) w bounds h legal = record { sound = h; dynamic_is = λ b. refl }
+event_left l (HostWritten addr len) w bounds h legal = record { sound = h; dynamic_is = λ b. refl }
 
 abbrev pub after_events : List Event → ℕ → ℕ → ℕ
 after_events events b n = fold (dynamic_after b) n events

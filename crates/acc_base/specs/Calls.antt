@@ -7,7 +7,7 @@ use Rattle.acc_base.specs.declared.faults.Fault.TheVariants.{NoTickets, TraceFul
 use Rattle.acc_base.specs.Limits.{Limits}
 use Rattle.acc_base.specs.Records.{State, new_state}
 use Rattle.acc_base.specs.Bytes.{after}
-use Rattle.acc_base.specs.Judge.{◌>>◌, refuse_if, few_items, directive_event}
+use Rattle.acc_base.specs.Judge.{◌>>◌, refuse_if, few_items, directive_event, host_write_event}
 
 -- the events since a table was new
 pub record History : Type 0 where
@@ -29,6 +29,8 @@ event_count h = length h.trace
 -- what a call asks for
 pub data Request : Type 0 where
   Do : Directive → Request
+  -- write these bytes into host memory, from this address on
+  HostWrite : ℕ → List ℕ → Request
 
 -- there is a ticket for one more event
 abbrev pub ticket : World → Result ⊤ Fault
@@ -45,11 +47,20 @@ judge w (Do directive) = do
   few_items directive
   trace_room w
   directive_event w.limits directive w.state.records
+judge w (HostWrite addr bytes) = do
+  ticket w
+  trace_room w
+  host_write_event w.limits addr (length bytes)
 
--- the world after an event
-unfoldable pub world_after : Event → World → World
-world_after e w = record {
+-- the bytes that a call brings
+abbrev pub bytes_brought : Request → List ℕ
+bytes_brought (Do directive) = []
+bytes_brought (HostWrite addr bytes) = bytes
+
+-- the world after an event of a call
+unfoldable pub world_after : Request → Event → World → World
+world_after request e w = record {
   limits = w.limits;
   history = record { trace = w.history.trace ++ e ∷ [] };
-  state = after e w.state;
+  state = after e (bytes_brought request) w.state;
 }

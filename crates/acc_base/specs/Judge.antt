@@ -4,15 +4,16 @@ use Rattle.acc_base.specs.declared.items.Section.{Section}
 use Rattle.acc_base.specs.declared.items.Item.{Item}
 use Rattle.acc_base.specs.declared.items.EnterClause.{EnterClause}
 use Rattle.acc_base.specs.declared.items.ExitClause.{ExitClause}
+use Rattle.acc_base.specs.declared.items.UpdateClause.{UpdateClause}
 use Rattle.acc_base.specs.declared.directives.Directive.{Directive}
-use Rattle.acc_base.specs.declared.directives.Directive.TheVariants.{EnterData, ExitData}
+use Rattle.acc_base.specs.declared.directives.Directive.TheVariants.{EnterData, ExitData, Update}
 use Rattle.acc_base.specs.declared.events.Step.{Step}
-use Rattle.acc_base.specs.declared.events.Step.TheVariants.{Nothing, Counted, Born, Dropped}
+use Rattle.acc_base.specs.declared.events.Step.TheVariants.{Nothing, Counted, Born, Dropped, Moved}
 use Rattle.acc_base.specs.declared.events.Did.{Did}
 use Rattle.acc_base.specs.declared.events.Event.{Event}
 use Rattle.acc_base.specs.declared.events.Event.TheVariants as events
 use Rattle.acc_base.specs.declared.faults.Fault.{Fault}
-use Rattle.acc_base.specs.declared.faults.Fault.TheVariants.{TooManyItems, OutOfHost, PartlyPresent, CounterFull, DeviceFull}
+use Rattle.acc_base.specs.declared.faults.Fault.TheVariants.{TooManyItems, OutOfHost, PartlyPresent, NotPresent, CounterFull, DeviceFull}
 use Rattle.acc_base.specs.declared.mappings.Found.{Found}
 use Rattle.acc_base.specs.declared.mappings.Found.TheVariants.{Empty, Inside, Partly, Absent}
 use Rattle.acc_base.specs.Limits.{Limits}
@@ -42,7 +43,7 @@ abbrev pub born_at : Option ℕ → ℕ → Section → Records → Result Step 
 born_at None n section w = Err (DeviceFull n (rounded section.len))
 born_at (Some place) n section w = Ok (Born (w.births + 1) place)
 
--- the rows of `copyin` on `enter data`
+-- the rows of `copyin` and `create` on `enter data`
 abbrev pub enter_data_at : Found → Limits → ℕ → Section → Records → Result Step Fault
 enter_data_at Empty l n section w = Ok Nothing
 enter_data_at (Inside block offset) l n section w = refuse_if (nat_le l.counter_max (dynamic_of block w.ranges)) (CounterFull n) >> Ok (Counted block)
@@ -53,12 +54,19 @@ enter_data_at Partly l n section w = Err (PartlyPresent n)
 abbrev pub ends_after_drop : ℕ → Records → Bool
 ends_after_drop block w = (structured_of block w.ranges == 0) && (dynamic_of block w.ranges == 1)
 
--- the rows of `delete` on `exit data`
+-- the rows of `delete` and `copyout` on `exit data`
 abbrev pub exit_data_at : Found → ℕ → Records → Result Step Fault
 exit_data_at Empty n w = Ok Nothing
 exit_data_at (Inside block offset) n w = if dynamic_of block w.ranges == 0 then Ok Nothing else Ok (Dropped block (ends_after_drop block w))
 exit_data_at Absent n w = Ok Nothing
 exit_data_at Partly n w = Err (PartlyPresent n)
+
+-- the rows of `update`; with `if_present` it passes over what is absent, and not over what is partly present
+abbrev pub update_at : Found → Bool → ℕ → Result Step Fault
+update_at Empty if_present n = Ok Nothing
+update_at (Inside block offset) if_present n = Ok (Moved block)
+update_at Absent if_present n = if if_present then Ok Nothing else Err (NotPresent n)
+update_at Partly if_present n = Err (PartlyPresent n)
 
 -- ---- one item, with its refusals in order: nothing of an empty section is checked
 
@@ -80,6 +88,13 @@ exit_data_item l n item w =
     then Ok Nothing
     else section_checked l n item.section >> exit_data_at (where_is item.section w.ranges) n w
 
+-- the item at place n of the written list (OpenACC 3.3, the update directive)
+unfoldable pub update_item : Limits → Bool → ℕ → Item UpdateClause → Records → Result Step Fault
+update_item l if_present n item w =
+    if is_empty item.section
+    then Ok Nothing
+    else section_checked l n item.section >> update_at (where_is item.section w.ranges) if_present n
+
 -- ---- all items: each is judged in what the items before it left
 
 abbrev pub did_of : Step → Did
@@ -99,6 +114,14 @@ exit_data_items l n (item ∷ items) w = do
   dids ← exit_data_items l (suc n) items (after_exited step w)
   Ok (did_of step ∷ dids)
 
+-- an item of `update` leaves the records as they are
+unfoldable pub update_items : Limits → Bool → ℕ → List (Item UpdateClause) → Records → Result (List Did) Fault
+update_items l if_present n [] w = Ok []
+update_items l if_present n (item ∷ items) w = do
+  step ← update_item l if_present n item w
+  dids ← update_items l if_present (suc n) items w
+  Ok (did_of step ∷ dids)
+
 -- ---- a directive
 
 -- how many items a directive may have
@@ -108,6 +131,7 @@ item_limit = 1
 abbrev pub item_count : Directive → ℕ
 item_count (EnterData items) = length items
 item_count (ExitData items) = length items
+item_count (Update items if_present) = length items
 
 abbrev pub few_items : Directive → Result ⊤ Fault
 few_items d = refuse_if (nat_lt item_limit (item_count d)) (TooManyItems (item_count d))
@@ -120,3 +144,18 @@ directive_event l (EnterData items) w = do
 directive_event l (ExitData items) w = do
   dids ← exit_data_items l 0 items w
   Ok (events.ExitedData items dids)
+directive_event l (Update items if_present) w = do
+  dids ← update_items l if_present 0 items w
+  Ok (events.Updated items if_present dids)
+
+-- ---- a write of the host
+
+-- nothing of an empty section is checked
+abbrev pub write_checked : Limits → Section → Result ⊤ Fault
+write_checked l section = if is_empty section then Ok tt else section_checked l 0 section
+
+-- the event of a write of so many bytes from a host address on
+unfoldable pub host_write_event : Limits → ℕ → ℕ → Result Event Fault
+host_write_event l addr len = do
+  write_checked l (record { start = addr; len = len })
+  Ok (events.HostWritten addr len)

@@ -62,6 +62,10 @@ dynamic_of block ranges = unwrap_or (option_map (λ r. r.dynamic) (range_of bloc
 abbrev pub structured_of : ℕ → List Range → ℕ
 structured_of block ranges = unwrap_or (option_map (λ r. r.structured) (range_of block ranges)) 0
 
+-- the host address at which that range begins
+abbrev pub start_of : ℕ → List Range → ℕ
+start_of block ranges = unwrap_or (option_map (λ r. r.section.start) (range_of block ranges)) 0
+
 -- the range of least start at or above an address
 abbrev pub range_from : ℕ → List Range → Option Range
 range_from address ranges = find (λ r. nat_le address r.section.start) ranges

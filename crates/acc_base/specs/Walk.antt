@@ -3,12 +3,13 @@ use Rattle.std.specs.Prelude.{ℕ, ◌+◌, List, [], ◌∷◌, ◌++◌, if◌
 use Rattle.acc_base.specs.declared.items.Section.{Section}
 use Rattle.acc_base.specs.declared.items.Item.{Item}
 use Rattle.acc_base.specs.declared.items.EnterClause.{EnterClause}
+use Rattle.acc_base.specs.declared.items.ExitClause.{ExitClause}
 use Rattle.acc_base.specs.declared.mappings.Range.{Range}
 use Rattle.acc_base.specs.declared.events.Step.{Step}
 use Rattle.acc_base.specs.declared.events.Step.TheVariants.{Counted, Born, Dropped}
 use Rattle.acc_base.specs.declared.events.Did.{Did}
 use Rattle.acc_base.specs.declared.events.Event.{Event}
-use Rattle.acc_base.specs.declared.events.Event.TheVariants.{EnteredData, ExitedData}
+use Rattle.acc_base.specs.declared.events.Event.TheVariants.{EnteredData, ExitedData, Updated, HostWritten}
 use Rattle.acc_base.specs.Records.{Records}
 use Rattle.acc_base.specs.Ranges.{with_range, without_range, changed_at, new_range, raised, lowered}
 use Rattle.acc_base.specs.Blocks.{without_block}
@@ -45,14 +46,16 @@ unfoldable pub after_all_entered : List (Item EnterClause) → List Did → Reco
 after_all_entered (item ∷ items) (did ∷ dids) w = after_all_entered items dids (after_entered item.section did.step w)
 after_all_entered _ _ w = w
 
-unfoldable pub after_all_exited : List Did → Records → Records
-after_all_exited [] w = w
-after_all_exited (did ∷ dids) w = after_all_exited dids (after_exited did.step w)
+unfoldable pub after_all_exited : List (Item ExitClause) → List Did → Records → Records
+after_all_exited (item ∷ items) (did ∷ dids) w = after_all_exited items dids (after_exited did.step w)
+after_all_exited _ _ w = w
 
--- the records after an event
+-- the records after an event; copies and writes leave them
 unfoldable pub walk : Event → Records → Records
 walk (EnteredData items did) w = after_all_entered items did w
-walk (ExitedData items did) w = after_all_exited did w
+walk (ExitedData items did) w = after_all_exited items did w
+walk (Updated items if_present did) w = w
+walk (HostWritten addr len) w = w
 
 -- and after a list of events
 unfoldable pub walk_all : List Event → Records → Records

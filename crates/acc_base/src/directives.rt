@@ -1,6 +1,6 @@
 //! What a program asks of the data environment.
 
-use crate::{EnterClause, ExitClause, Item, List};
+use crate::{EnterClause, ExitClause, Item, List, UpdateClause};
 
 /// A directive, with the items of its data clauses in written order. They act in that order.
 #[derive(Debug, Drop)]
@@ -14,5 +14,12 @@ pub enum Directive {
     ExitData {
         /// The items of its clauses.
         items: List<Item<ExitClause>>,
+    },
+    /// The `update` directive (OpenACC 3.3, the update directive).
+    Update {
+        /// The items of its clauses.
+        items: List<Item<UpdateClause>>,
+        /// The `if_present` clause: a section that is absent is passed over, and not refused.
+        if_present: bool,
     },
 }

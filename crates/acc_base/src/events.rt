@@ -1,8 +1,8 @@
 //! What an accepted call did, as it is kept in the trace of a table.
 
-use crate::{EnterClause, ExitClause, Item, List};
+use crate::{EnterClause, ExitClause, Item, List, UpdateClause};
 
-/// What an item of a data clause did to mappings and counters.
+/// What an item of a data clause did to mappings, counters and bytes.
 #[derive(Clone, Copy, Debug, PartialEq, Eq)]
 pub enum Step {
     /// No action.
@@ -26,12 +26,17 @@ pub enum Step {
         /// Both counters are zero now, and the mapping has ended.
         ended: bool,
     },
+    /// An `update` copied the bytes of the section.
+    Moved {
+        /// The number of the block from which or to which it copied.
+        block: u64,
+    },
 }
 
 /// What an item of a data clause did.
 #[derive(Clone, Copy, Debug, PartialEq, Eq)]
 pub struct Did {
-    /// What it did to mappings and counters.
+    /// What it did to mappings, counters and bytes.
     pub step: Step,
 }
 
@@ -51,5 +56,21 @@ pub enum Event {
         items: List<Item<ExitClause>>,
         /// What each of them did.
         did: List<Did>,
+    },
+    /// An `update` directive.
+    Updated {
+        /// The items that it named.
+        items: List<Item<UpdateClause>>,
+        /// Whether it had the `if_present` clause.
+        if_present: bool,
+        /// What each of them did.
+        did: List<Did>,
+    },
+    /// The host wrote into its memory. The bytes are not stored here.
+    HostWritten {
+        /// The first host address that was written.
+        addr: u64,
+        /// How many bytes were written.
+        len: u64,
     },
 }

@@ -26,6 +26,11 @@ pub enum EnterClause {
     /// The `copyin` clause: where the section is inside a mapped range, its dynamic counter rises; where it is absent,
     /// it is mapped to a new block, which gets its bytes.
     Copyin,
+    /// The `create` clause: as `copyin`, but no byte is copied. Each byte of a new block is 0xA5.
+    Create {
+        /// The `zero` modifier: each byte of a new block is 0.
+        zero: bool,
+    },
 }
 
 /// The clauses of the `exit data` directive (OpenACC 3.3, sections 2.6.6 and 2.7).
@@ -34,4 +39,16 @@ pub enum ExitClause {
     /// The `delete` clause: where the section is inside a mapped range, its dynamic counter falls, if it is above zero;
     /// at the end of the mapping nothing is copied.
     Delete,
+    /// The `copyout` clause: as `delete`, but where the mapping ends, the bytes of the section are first copied to host
+    /// memory.
+    Copyout,
+}
+
+/// The clauses of the `update` directive (OpenACC 3.3, the update directive).
+#[derive(Clone, Copy, Debug, PartialEq, Eq)]
+pub enum UpdateClause {
+    /// The `self` clause, also written `host`: the bytes of the section are copied from the device to host memory.
+    ToSelf,
+    /// The `device` clause: the bytes of the section are copied from host memory to the device.
+    ToDevice,
 }

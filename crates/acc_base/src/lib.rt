@@ -17,7 +17,7 @@ pub use configs::Config;
 pub use directives::Directive;
 pub use events::{Did, Event, Step};
 pub use faults::{Fault, ScriptFault};
-pub use items::{EnterClause, ExitClause, Item, Section};
+pub use items::{EnterClause, ExitClause, Item, Section, UpdateClause};
 pub use lists::List;
 pub use mappings::{Block, Counters, Found, Range};
 

@@ -10,7 +10,7 @@ use Rattle.acc_base.specs.declared.faults.Fault.TheVariants.{Memory as NoMemory,
 use Rattle.acc_base.specs.Limits.{IsFromOne}
 use Rattle.acc_base.specs.Records.{Memory}
 use Rattle.acc_base.specs.Blocks.{rounded, block_at, place_for, IsPlaceFor}
-use Rattle.acc_base.specs.Bytes.{bytes_of}
+use Rattle.acc_base.specs.Bytes.{bytes_of, fill_byte}
 use Rattle.acc_base.proofs.Elements.{AllByRecursion-weaker, AllByRecursion-both, AllByRecursion-append, AllByRecursion-map, EachPair-push}
 use Rattle.acc_base.proofs.Places.{place_for-least}
 use Rattle.acc_base.proofs.Results.{equal_self}
@@ -18,7 +18,7 @@ use Rattle.acc_placement.specs.Ranges.{IsLeastFit, IsFitBeside, IsLeastFitBeside
 use Rattle.acc_placement.specs.Space.{Space, IsCanonical, IsPartition}
 use Rattle.acc_placement.proofs.Partitions.{partition_last}
 use Rattle.acc_dev.specs.declared.entries.Stored.{Stored}
-use Rattle.acc_dev.specs.Device.{DeviceState, HasBlock, IsBorn, birth_place, fill_of}
+use Rattle.acc_dev.specs.Device.{DeviceState, HasBlock, IsBorn, birth_place}
 use Rattle.acc_dev.specs.Kept.{block_from, memory_from, slot_of, blocks_in, memories_in, taken_range, IsKept, IsCounted}
 use Rattle.acc_dev.proofs.Slots.{AreSame, KeepsOthers, same_from, vacant_off, made-born}
 use Rattle.acc_dev.proofs.Placing.{some_bytes, planned_place, birth_at}
@@ -74,13 +74,13 @@ pub birth_least : (h : Space) (s : List (Option Stored)) (xs : List (ℕ × ℕ)
 birth_least h s xs births len k some = place_for-least h.size (blocks_in s xs) (rounded len) (omega arith) (some_bytes (blocks_in s xs) k.lens)
 
 -- what a birth leaves, as contracts see it
-pub born_of : (old new : Space) (s s' t : List (Option Stored)) (xs xs' ys : List (ℕ × ℕ)) (births len place : ℕ) (clear : Bool) (bytes : List ℕ) → IsKept old s xs → 1 ≤ len → s' ≡ s → xs' ≡ xs → new.size ≡ old.size → bytes ≡ replicate len (fill_of clear)
+pub born_of : (old new : Space) (s s' t : List (Option Stored)) (xs xs' ys : List (ℕ × ℕ)) (births len place : ℕ) (clear : Bool) (bytes : List ℕ) → IsKept old s xs → 1 ≤ len → s' ≡ s → xs' ≡ xs → new.size ≡ old.size → bytes ≡ replicate len (fill_byte clear)
     → IsLeastFit old.holes (rounded (length bytes)) place
     → blocks_in t ys ≡ blocks_in s' xs' ++ record { number = births + 1; place = place; len = length bytes } ∷ []
     → memories_in t ys ≡ memories_in s' xs' ++ record { block = births + 1; bytes = bytes } ∷ []
     → IsBorn (device_of old s xs births) (device_of new t ys (births + 1)) len clear (births + 1)
 born_of old new s s' t xs xs' ys births len place clear bytes k some slots index size filled least blocks memories =
-    let long : length bytes ≡ len = ap length filled ∙ length-replicate len (fill_of clear) in
+    let long : length bytes ≡ len = ap length filled ∙ length-replicate len (fill_byte clear) in
     let at : birth_place (device_of old s xs births) len ≡ Some place = birth_at old (blocks_in s xs) (rounded len) place (omega arith) k.lens (shared old s xs k) (rw long at least) in
     record {
       place = place;
@@ -111,10 +111,10 @@ bytes_last (m ∷ ms) n bytes h =
     let t : (m.block == n) ≡ false = grind (arith, nat_tests, h.0) in
     rw t (bytes_last ms n bytes h.1)
 
-pub filled_after_birth : (old : Space) (s : List (Option Stored)) (xs : List (ℕ × ℕ)) (births len : ℕ) (clear : Bool) (new : DeviceState) → IsCounted xs births → IsBorn (device_of old s xs births) new len clear (births + 1) → bytes_of (births + 1) new.memories ≡ replicate len (fill_of clear)
+pub filled_after_birth : (old : Space) (s : List (Option Stored)) (xs : List (ℕ × ℕ)) (births len : ℕ) (clear : Bool) (new : DeviceState) → IsCounted xs births → IsBorn (device_of old s xs births) new len clear (births + 1) → bytes_of (births + 1) new.memories ≡ replicate len (fill_byte clear)
 filled_after_birth old s xs births len clear new c born =
     ap (bytes_of (births + 1)) born.memories
-    ∙ bytes_last (memories_in s xs) (births + 1) (replicate len (fill_of clear))
+    ∙ bytes_last (memories_in s xs) (births + 1) (replicate len (fill_byte clear))
     (AllByRecursion-map (λ (m : Memory). m.block ≡ births + 1 → ⊥) (λ (e : ℕ × ℕ). memory_from e.0 (slot_of s e)) xs (AllByRecursion-weaker (λ (e : ℕ × ℕ). e.0 ≤ births) (λ e. e.0 ≡ births + 1 → ⊥) xs (λ e le same. omega arith) c.below))
 
 -- the numbers stay at most the births

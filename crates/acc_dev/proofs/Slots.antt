@@ -7,11 +7,11 @@ use Rattle.std.proofs.lemmas.Bool.Decides.{nat_tests}
 use Rattle.std.proofs.lemmas.List.{map-append}
 use Rattle.acc_base.specs.Records.{Memory}
 use Rattle.acc_base.specs.Blocks.{block_at}
-use Rattle.acc_base.specs.Bytes.{bytes_of}
+use Rattle.acc_base.specs.Bytes.{bytes_of, memory_changed}
 use Rattle.acc_base.specs.Accounts.{EachPair, IsMemoryOf}
 use Rattle.acc_base.proofs.Elements.{AllByRecursion-weaker}
 use Rattle.acc_dev.specs.declared.entries.Stored.{Stored}
-use Rattle.acc_dev.specs.Device.{overwritten, memory_changed}
+use Rattle.acc_dev.specs.Device.{overwritten}
 use Rattle.acc_dev.specs.Kept.{stored_place, stored_bytes, block_from, memory_from, slot_of, blocks_in, memories_in, AreRising, IsEntry}
 use Rattle.acc_dev.proofs.Rising.{start, all_at, find_at, find-map, map-remove}
 

@@ -1,11 +1,11 @@
 -- What a device holds, and what its calls make of it.
-use Rattle.std.specs.Prelude.{ℕ, suc, ◌≡◌, ◌+◌, Bool, if◌then◌else◌, ◌==◌, List, [], ◌∷◌, ◌++◌, length, replicate, map, take, drop, Option, Some, IsSome}
+use Rattle.std.specs.Prelude.{ℕ, suc, ◌≡◌, ◌+◌, Bool, List, [], ◌∷◌, ◌++◌, length, replicate, map, take, drop, Option, Some, IsSome}
 use Rattle.acc_base.specs.declared.mappings.Range.{Range}
 use Rattle.acc_base.specs.declared.mappings.Block.{Block}
 use Rattle.acc_base.specs.Limits.{Limits}
 use Rattle.acc_base.specs.Records.{Memory}
 use Rattle.acc_base.specs.Blocks.{rounded, place_for, block_at, without_block}
-use Rattle.acc_base.specs.Bytes.{fill_byte, memories_kept}
+use Rattle.acc_base.specs.Bytes.{fill_byte, memory_changed, memories_kept}
 use Rattle.acc_base.specs.Accounts.{AreBlocksApart}
 
 -- the size of device memory in bytes, the blocks by rising number, the bytes of each in step with them, and how many blocks were ever born
@@ -39,10 +39,6 @@ pub record IsUnchanged (old new : DeviceState) : Type 0 where
 abbrev pub birth_place : DeviceState → ℕ → Option ℕ
 birth_place d len = place_for d.size d.blocks (rounded len)
 
--- the byte that fills a new block
-abbrev pub fill_of : Bool → ℕ
-fill_of zero = if zero then 0 else fill_byte
-
 -- the new device is the old one with a block more: it has the next number, lies at the least place, and is filled
 pub record IsBorn (old new : DeviceState) (len : ℕ) (zero : Bool) (block : ℕ) : Type 0 where
   pub place : ℕ
@@ -50,7 +46,7 @@ pub record IsBorn (old new : DeviceState) (len : ℕ) (zero : Bool) (block : ℕ
   pub block_is : block ≡ old.births + 1
   pub size : new.size ≡ old.size
   pub blocks : new.blocks ≡ old.blocks ++ record { number = block; place = place; len = len } ∷ []
-  pub memories : new.memories ≡ old.memories ++ record { block = block; bytes = replicate len (fill_of zero) } ∷ []
+  pub memories : new.memories ≡ old.memories ++ record { block = block; bytes = replicate len (fill_byte zero) } ∷ []
   pub births : new.births ≡ block
 
 -- blocks that are yet to be born, at these places and of these lengths, from this number on
@@ -63,10 +59,6 @@ planned_blocks number (t ∷ ts) = record { number = number; place = t.0; len = 
 -- the bytes with others in place of those from an offset on
 abbrev pub overwritten : ℕ → List ℕ → List ℕ → List ℕ
 overwritten offset bytes old = take offset old ++ bytes ++ drop (offset + length bytes) old
-
--- the memory, with a change of its bytes where it is the block's
-abbrev pub memory_changed : ℕ → (List ℕ → List ℕ) → Memory → Memory
-memory_changed block change m = if m.block == block then record m { bytes = change m.bytes } else m
 
 -- the new device is the old one with bytes from an offset of a block on
 pub record IsWritten (old new : DeviceState) (block offset : ℕ) (bytes : List ℕ) : Type 0 where

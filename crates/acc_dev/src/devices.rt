@@ -5,10 +5,10 @@ ghost use Rattle.std.specs.List.{AllZip, AllByRecursion};
 ghost use Rattle.acc_base.specs.Limits.{IsSize, IsFromOne};
 ghost use Rattle.acc_base.specs.Section.{device_base};
 ghost use Rattle.acc_base.specs.Blocks.{rounded as rounded_of, place_for, block_at, size_of, used_bytes, IsPlaceFor};
-ghost use Rattle.acc_base.specs.Bytes.{bytes_of};
+ghost use Rattle.acc_base.specs.Bytes.{bytes_of, fill_byte};
 ghost use Rattle.acc_base.specs.Accounts.{IsMemoryOf};
 ghost use Rattle.acc_placement.specs.Ranges.{IsTakeBelow};
-ghost use Rattle.acc_dev.specs.Device.{HasBlock, IsNew, IsUnchanged, IsBorn, IsWritten, IsRetired, HasBlocksApart, birth_place, planned_blocks, fill_of};
+ghost use Rattle.acc_dev.specs.Device.{HasBlock, IsNew, IsUnchanged, IsBorn, IsWritten, IsRetired, HasBlocksApart, birth_place, planned_blocks};
 
 use crate::entries::{Stored, make_room, position_of, put, take_out, write_at};
 use acc_base::Fault;
@@ -94,7 +94,7 @@ impl Device {
         requires births { self.old.births < 2 ^ 48 }
         ensures born { IfOk result (IsBorn self.old self.new len zero) }
         ensures there { IfOk result (HasBlock self.new) }
-        ensures filled { IfOk result (λ block. bytes_of block self.new.memories ≡ replicate len (fill_of zero)) }
+        ensures filled { IfOk result (λ block. bytes_of block self.new.memories ≡ replicate len (fill_byte zero)) }
 
         // The place is the least of all device addresses at which the rounded length fits.
         ensures least { IsPlaceFor self.old.size self.old.blocks (rounded_of len) (birth_place self.old len) }
@@ -232,7 +232,7 @@ impl Device {
 
 /// The bytes of a new block.
 fn filled(alloc: Global, len: u64, zero: bool) -> Result<Vec<u8>, Fault>
-    ensures ok { IfOk result (λ bytes. bytes.items ≡ replicate len (fill_of zero)) }
+    ensures ok { IfOk result (λ bytes. bytes.items ≡ replicate len (fill_byte zero)) }
     ensures only { IfErr result (λ fault. fault ≡ Fault.Memory) }
 {
     let fill = if zero { 0 } else { FILL_BYTE };

@@ -1,6 +1,7 @@
 -- What the queries answer, by sets of addresses and within the machine's numbers.
 use Rattle.std.proofs.Common.{ℕ, ◌≡◌, ◌<◌, ◌≤◌, ◌^◌, refl, true, false, List, Option, Some, None, arith}
 use Rattle.std.specs.Prelude.{◌↔◌, ◌==◌, IsTrue, All, unwrap_or, option_map}
+use Rattle.std.specs.List.{AllByRecursion}
 use Rattle.std.proofs.lemmas.Bool.Decides.{nat_tests}
 use Rattle.std.proofs.lemmas.List.Elements.{recursion_from_All}
 use Rattle.acc_base.specs.declared.items.Section.{Section}
@@ -12,12 +13,10 @@ use Rattle.acc_base.specs.Section.{is_within, end_of}
 use Rattle.acc_base.specs.Ranges.{where_is}
 use Rattle.acc_base.specs.Blocks.{block_at, place_of}
 use Rattle.acc_base.specs.Calls.{World}
-use Rattle.acc_base.specs.Accounts.{IsInHost}
-use Rattle.std.specs.List.{AllByRecursion}
+use Rattle.acc_base.specs.Accounts.{IsInHost, IsAccounted}
 use Rattle.acc_base.proofs.Elements.{AllByRecursion-weaker, found_has}
 use Rattle.acc_base.proofs.Where.{IsInside, inside_exactly, IsInsideOf, inside_says}
 use Rattle.acc_table.specs.Bounds.{IsShort, IsLow}
-use Rattle.acc_table.specs.Kept.{IsKept}
 use Rattle.acc_table.specs.Queries.{is_inside, IsInsideOne}
 
 -- ---- presence
@@ -31,9 +30,9 @@ as_test (Inside block offset) = ((λ h. tt), (λ h. refl))
 as_test Partly = (never, (λ h. absurd h))
 as_test Absent = (never, (λ h. absurd h))
 
-pub present : (w : World) (s : Section) → IsKept w → IsTrue (is_inside (where_is s w.state.records.ranges)) ↔ IsInsideOne s w.state.records.ranges
-present w s k =
-    let filled : AllByRecursion (λ (r : Range). 0 < r.section.len) w.state.records.ranges = AllByRecursion-weaker (λ r. IsInHost w.limits r.section) (λ r. 0 < r.section.len) w.state.records.ranges (λ r i. i.some) k.accounted.ranges_apart.in_host in
+pub present : (w : World) (s : Section) → IsAccounted w → IsTrue (is_inside (where_is s w.state.records.ranges)) ↔ IsInsideOne s w.state.records.ranges
+present w s a =
+    let filled : AllByRecursion (λ (r : Range). 0 < r.section.len) w.state.records.ranges = AllByRecursion-weaker (λ r. IsInHost w.limits r.section) (λ r. 0 < r.section.len) w.state.records.ranges (λ r i. i.some) a.ranges_apart.in_host in
     let test = as_test (where_is s w.state.records.ranges) in
     let exact = inside_exactly s w.state.records.ranges filled in
     ((λ t. exact.0 (test.0 t)), (λ h. test.1 (exact.1 h)))

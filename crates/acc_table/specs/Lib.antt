@@ -1,5 +1,4 @@
 pub mod Bounds
-pub mod Memories
 pub mod Stored
 pub mod Planned
 pub mod Kept

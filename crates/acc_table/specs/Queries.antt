@@ -1,15 +1,16 @@
 -- What the queries of a table answer.
-use Rattle.std.specs.Prelude.{ℕ, ◌+◌, ◌<◌, Bool, true, false, List, Option, Some, None, option_map, Contains}
+use Rattle.std.specs.Prelude.{ℕ, ◌+◌, ◌-◌, ◌<◌, Bool, true, false, ◌||◌, if◌then◌else◌, List, length, take, drop, Option, Some, None, option_map, Contains}
 use Rattle.acc_base.specs.declared.items.Section.{Section}
 use Rattle.acc_base.specs.declared.mappings.Range.{Range}
 use Rattle.acc_base.specs.declared.mappings.Block.{Block}
 use Rattle.acc_base.specs.declared.mappings.Counters.{Counters}
 use Rattle.acc_base.specs.declared.mappings.Found.{Found}
 use Rattle.acc_base.specs.declared.mappings.Found.TheVariants.{Inside}
-use Rattle.acc_base.specs.Section.{IsWithin, only}
+use Rattle.acc_base.specs.Section.{IsWithin, is_empty, is_within, host_memory, host_base, only}
 use Rattle.acc_base.specs.Ranges.{where_is, range_from, dynamic_of, structured_of}
 use Rattle.acc_base.specs.Blocks.{place_of}
-use Rattle.acc_base.specs.Records.{Records}
+use Rattle.acc_base.specs.Records.{Records, Memory, State}
+use Rattle.acc_base.specs.Bytes.{bytes_of}
 use Rattle.acc_table.specs.declared.calls.Mapped.{Mapped}
 
 abbrev pub is_inside : Found → Bool
@@ -43,3 +44,16 @@ mapped_as blocks r = record { start = r.section.start; len = r.section.len; plac
 -- the mapped range of least start at or above an address
 abbrev pub mapped_from : ℕ → Records → Option Mapped
 mapped_from address w = option_map (mapped_as w.blocks) (range_from address w.ranges)
+
+-- the bytes of a section of host memory; an empty one has none, wherever it starts
+abbrev pub host_read_of : Section → List ℕ → Option (List ℕ)
+host_read_of s host = if is_empty s || is_within s (host_memory (length host)) then Some (take s.len (drop (s.start - host_base) host)) else None
+
+-- the bytes of a block from an offset on
+abbrev pub device_read_in : Found → ℕ → List Memory → Option (List ℕ)
+device_read_in (Inside block offset) len memories = Some (take len (drop offset (bytes_of block memories)))
+device_read_in _ len memories = None
+
+-- the bytes on the device of a section that is inside a mapped range
+abbrev pub device_read_of : Section → State → Option (List ℕ)
+device_read_of s state = device_read_in (where_is s state.records.ranges) s.len state.memories

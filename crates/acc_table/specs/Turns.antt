@@ -3,7 +3,7 @@ use Rattle.std.specs.Prelude.{◌≡◌, ◌⊎◌, List, [], ◌∷◌, Result,
 use Rattle.acc_base.specs.declared.events.Event.{Event}
 use Rattle.acc_base.specs.declared.faults.Fault.{Fault}
 use Rattle.acc_base.specs.declared.faults.Fault.TheVariants.{Memory}
-use Rattle.acc_base.specs.Calls.{World, Request, Do, judge, world_after}
+use Rattle.acc_base.specs.Calls.{World, Request, Do, HostWrite, judge, world_after}
 use Rattle.acc_table.specs.declared.calls.Turn.{Turn}
 use Rattle.acc_table.specs.declared.calls.Turn.TheVariants as turns
 use Rattle.acc_table.specs.declared.calls.Answer.{Answer}
@@ -12,8 +12,9 @@ use Rattle.acc_table.specs.declared.calls.Answer.TheVariants.{Replied, Refused}
 -- what the turn asks for
 abbrev pub asked_by : Turn → Request
 asked_by (turns.Do directive) = Do directive
+asked_by (turns.HostWrite addr bytes) = HostWrite addr bytes
 
--- the answer to a turn that made this event
+-- the answer to a turn that made this event: none opens a region yet, and none waits for transfers
 abbrev pub answer_of : Event → Answer
 answer_of e = Replied 0 0
 
@@ -23,18 +24,18 @@ pub record StaysRefused (w : World) (fault : Fault) (answer : Answer) (next : Wo
   pub same : next ≡ w
 
 -- the turn made this event
-pub record IsMade (w : World) (e : Event) (answer : Answer) (next : World) : Type 0 where
+pub record IsMade (w : World) (request : Request) (e : Event) (answer : Answer) (next : World) : Type 0 where
   pub answer_is : answer ≡ answer_of e
-  pub next_is : next ≡ world_after e w
+  pub next_is : next ≡ world_after request e w
 
 -- the refusal is the answer; where there is none, want of memory may be
-abbrev pub MayAnswer : World → Result Event Fault → Answer → World → Type 0
-MayAnswer w (Err fault) answer next = StaysRefused w fault answer next
-MayAnswer w (Ok e) answer next = StaysRefused w Memory answer next ⊎ IsMade w e answer next
+abbrev pub MayAnswer : World → Request → Result Event Fault → Answer → World → Type 0
+MayAnswer w request (Err fault) answer next = StaysRefused w fault answer next
+MayAnswer w request (Ok e) answer next = StaysRefused w Memory answer next ⊎ IsMade w request e answer next
 
 -- the turns lead from one world to another, one after the other, with these answers
 abbrev pub IsRun : World → List Turn → List Answer → World → Type 0
 IsRun w [] [] next = next ≡ w
-IsRun w (turn ∷ turns) (answer ∷ answers) next = (mid : World) × MayAnswer w (judge w (asked_by turn)) answer mid × IsRun mid turns answers next
+IsRun w (turn ∷ turns) (answer ∷ answers) next = (mid : World) × MayAnswer w (asked_by turn) (judge w (asked_by turn)) answer mid × IsRun mid turns answers next
 IsRun w [] (answer ∷ answers) next = ⊥
 IsRun w (turn ∷ turns) [] next = ⊥

@@ -1,12 +1,19 @@
 //! What a table is asked, and what it answers.
 
-use acc_base::{Directive, Fault};
+use acc_base::{Directive, Fault, List};
 
 /// A call on a table.
 #[derive(Debug, Drop)]
 pub enum Call {
     /// Carry out a directive.
     Do(Directive),
+    /// Write into host memory, as the host does. No bytes are accepted at every address.
+    HostWrite {
+        /// The first host address.
+        addr: u64,
+        /// The bytes.
+        bytes: List<u8>,
+    },
 }
 
 /// What an accepted call answers.
@@ -21,6 +28,13 @@ pub enum Reply {
 pub enum Turn {
     /// Carry out a directive.
     Do(Directive),
+    /// Write into host memory.
+    HostWrite {
+        /// The first host address.
+        addr: u64,
+        /// The bytes.
+        bytes: List<u8>,
+    },
 }
 
 /// What came of a turn.

@@ -4,9 +4,8 @@
 //! device blocks, and the trace of all events. Its contracts say what `acc_base` defines.
 #![tactic(auto)]
 
-mod blocks;
 mod calls;
-mod memories;
+mod decisions;
 mod plans;
 mod queries;
 mod ranges;

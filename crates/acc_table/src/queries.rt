@@ -1,14 +1,14 @@
 //! What a table tells of itself. No query takes memory or is refused.
 
-ghost use Rattle.std.specs.Prelude.{◌≡◌, ◌-◌, ◌↔◌, IsTrue};
+ghost use Rattle.std.specs.Prelude.{◌≡◌, ◌-◌, ◌↔◌, IsTrue, option_map};
 ghost use Rattle.acc_base.specs.Blocks.{used_bytes};
 ghost use Rattle.acc_base.specs.Calls.{event_count};
 ghost use Rattle.acc_base.specs.Ranges.{where_is};
-ghost use Rattle.acc_table.specs.Queries.{is_inside, IsInsideOne, counters_at, device_address_of, mapped_from};
+ghost use Rattle.acc_table.specs.Queries.{is_inside, IsInsideOne, counters_at, device_address_of, mapped_from, host_read_of, device_read_of};
 
 use crate::calls::Mapped;
+use crate::ranges;
 use crate::tables::Table;
-use crate::{blocks, ranges};
 use acc_base::{Config, Counters, Event, Found, Section};
 
 /// The section is inside one range.
@@ -19,7 +19,7 @@ fn is_inside(found: Found) -> bool
 }
 
 impl Table {
-    /// Each address of the section, which is not empty, is in one mapped range.
+    /// Whether the section is not empty and each of its addresses is in one mapped range.
     pub fn is_present(&self, section: Section) -> bool
         ensures value { result ≡ is_inside (where_is section self.now.state.records.ranges) }
         ensures addresses { IsTrue result ↔ IsInsideOne section self.now.state.records.ranges }
@@ -36,9 +36,7 @@ impl Table {
             len: 1,
         };
         match ranges::locate(&self.store.ranges, only) {
-            Found::Inside { block, offset } => {
-                Some(blocks::place_at(&self.store.blocks, block) + offset)
-            }
+            Found::Inside { block, offset } => { Some(self.store.place_at(block) + offset) }
             Found::Empty | Found::Partly | Found::Absent => None,
         }
     }
@@ -66,7 +64,7 @@ impl Table {
             Some(range) => Some(Mapped {
                 start: range.section.start,
                 len: range.section.len,
-                place: blocks::place_at(&self.store.blocks, range.block),
+                place: self.store.place_at(range.block),
                 structured: range.structured,
                 dynamic: range.dynamic,
             }),
@@ -74,11 +72,34 @@ impl Table {
         }
     }
 
+    /// The bytes of a section of host memory, as many as it is long; an empty one has none, wherever it starts. `None`
+    /// where some address of the section is not in host memory.
+    pub fn host_read(&self, section: Section) -> Option<&[u8]>
+        ensures { option_map (λ bytes. bytes.now) result ≡ host_read_of section self.now.state.host }
+    {
+        self.store.host.read(section)
+    }
+
+    /// The bytes that the device has of a section, as many as it is long. `None` where the section is not inside one
+    /// mapped range; an empty one never is.
+    pub fn device_read(&self, section: Section) -> Option<&[u8]>
+        ensures { option_map (λ bytes. bytes.now) result ≡ device_read_of section self.now.state }
+    {
+        match ranges::locate(&self.store.ranges, section) {
+            Found::Inside { block, offset } => {
+                let bytes = self.store.device.bytes(block)?;
+                let from = offset as usize;
+                Some(&bytes[from..from + section.len as usize])
+            }
+            Found::Empty | Found::Partly | Found::Absent => None,
+        }
+    }
+
     /// The bytes of device memory that all blocks take, each rounded up to a multiple of 16.
     pub fn used(&self) -> u64
         ensures { result ≡ used_bytes self.now.state.records.blocks }
     {
-        blocks::used_of(&self.store.blocks)
+        self.store.device.used()
     }
 
     /// How many data regions are open: none yet, since no directive opens one.

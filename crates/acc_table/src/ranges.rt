@@ -1,10 +1,10 @@
 //! The mapped ranges, by rising start.
 
-ghost use Rattle.std.specs.Prelude.{◌≡◌, ◌<◌, ◌≤◌, ◌+◌, ◌^◌, All, nat_lt, nat_le, length, vec_len, vec_capacity, IfSome, if◌then◌else◌, ◌==◌, not, filter};
+ghost use Rattle.std.specs.Prelude.{◌≡◌, ◌<◌, ◌≤◌, ◌+◌, ◌^◌, All, nat_lt, length, vec_len, vec_capacity, IfSome, if◌then◌else◌, ◌==◌};
 ghost use Rattle.std.specs.List.{list_all, position_or_len, position};
 ghost use Rattle.std.specs.Bool.{OnTrue};
 ghost use Rattle.acc_base.specs.Section.{is_within, is_apart, end_of};
-ghost use Rattle.acc_base.specs.Ranges.{where_is, range_around, range_of, range_from, dynamic_of, structured_of, with_range, without_range, changed_at, raised, lowered};
+ghost use Rattle.acc_base.specs.Ranges.{where_is, range_around, range_of, range_from, dynamic_of, structured_of, start_of, with_range, without_range, changed_at, raised, lowered};
 ghost use Rattle.acc_table.specs.Bounds.{IsShort};
 
 use acc_base::{Found, Range, Section};
@@ -66,7 +66,7 @@ pub fn locate(ranges: &[Range], section: Section) -> Found
 }
 
 /// The range that is mapped to a block.
-pub fn range_at(ranges: &[Range], block: u64) -> Option<Range>
+fn range_at(ranges: &[Range], block: u64) -> Option<Range>
     ensures { result ≡ range_of block ranges.now }
 {
     ranges.iter().copied().find(|r| r.block == block)
@@ -88,6 +88,16 @@ pub fn structured_at(ranges: &[Range], block: u64) -> u64
 {
     match range_at(ranges, block) {
         Some(r) => r.structured,
+        None => 0,
+    }
+}
+
+/// The host address at which the range that is mapped to a block begins.
+pub fn start_at(ranges: &[Range], block: u64) -> u64
+    ensures { result ≡ start_of block ranges.now }
+{
+    match range_at(ranges, block) {
+        Some(r) => r.section.start,
         None => 0,
     }
 }

@@ -30,10 +30,13 @@ impl Table {
 
     /// Takes one turn.
     fn take_turn(&mut self, turn: Turn) -> Answer
-        ensures { MayAnswer self.old (judge self.old (asked_by turn)) result self.new }
+        ensures { MayAnswer self.old (asked_by turn) (judge self.old (asked_by turn)) result self.new }
     {
-        let Turn::Do(directive) = turn;
-        match self.apply(Call::Do(directive)) {
+        let call = match turn {
+            Turn::Do(directive) => Call::Do(directive),
+            Turn::HostWrite { addr, bytes } => Call::HostWrite { addr, bytes },
+        };
+        match self.apply(call) {
             Ok(_) => Answer::Replied {
                 number: 0,
                 count: 0,

@@ -1,18 +1,18 @@
 //! A table, and one call on it.
 
-ghost use Rattle.std.specs.Prelude.{◌≡◌, ◌≤◌, Ok, Err, MatchResult, IfOk, IfErr, OnOk};
+ghost use Rattle.std.specs.Prelude.{◌≡◌, ◌≤◌, Ok, Err, MatchResult, IfOk, IfErr, OnOk, OnErr};
 ghost use Rattle.acc_base.specs.declared.faults.Fault.TheVariants.{Memory};
 ghost use Rattle.acc_base.specs.Limits.{IsWithinBounds};
 ghost use Rattle.acc_base.specs.Judge.{item_count, directive_event};
-ghost use Rattle.acc_base.specs.Calls.{Do, judge, new_world, world_after};
+ghost use Rattle.acc_base.specs.Calls.{Do, HostWrite, judge, ticket, trace_room, new_world, world_after};
 ghost use Rattle.acc_base.specs.Accounts.{IsAccounted};
 ghost use Rattle.acc_table.specs.Calls.{request_of, IsDone, IsRefusal};
-ghost use Rattle.acc_table.specs.Planned.{admitted, event_of};
+ghost use Rattle.acc_table.specs.Planned.{admitted, write_admitted, event_of};
 
 use crate::calls::{Call, Reply};
-use crate::plans;
 use crate::stores::Store;
-use acc_base::{Config, Directive, Event, Fault, Step};
+use crate::{decisions, plans};
+use acc_base::{Config, Directive, Event, Fault, Section, Step};
 use std::alloc::Global;
 use std::marker::Model;
 
@@ -39,13 +39,13 @@ impl Model for Table {
     ghost view = { λ t. record {
       limits = t.config;
       history = record { trace = t.trace.items };
-      state = t.store;
+      state = t.store.state;
     } };
 
-    ghost invariant = { λ t. IsKept (record {
+    ghost invariant = { λ t. IsKept t.store.size (record {
       limits = t.config;
       history = record { trace = t.trace.items };
-      state = t.store;
+      state = t.store.state;
     }) };
 }
 
@@ -60,7 +60,7 @@ impl Table {
         ensures err { IfErr result (λ fault. fault ≡ Memory) }
     {
         config.laws();
-        let store = Store::new(alloc, config.host())?;
+        let store = Store::new(alloc, &config)?;
         Ok(Table {
             config,
             store,
@@ -78,55 +78,94 @@ impl Table {
         let _ = &self.config;
     }
 
-    /// Makes one call: an event, or no change (OpenACC 3.3, section 2.6.6, enter data and exit data directives).
+    /// Makes one call: an event, or no change (OpenACC 3.3, section 2.6.6, enter data and exit data directives, and the
+    /// update directive).
     ///
     /// # Errors
     ///
     /// The call comes back, and nothing changed. The first of these that holds is told:
     ///
     /// - [`Fault::NoTickets`] where there are as many events as tickets;
-    /// - [`Fault::TooManyItems`] where the directive has more than one item;
+    /// - [`Fault::TooManyItems`] where a directive has more than one item;
     /// - [`Fault::TraceFull`] where the stored trace has as many events as it may;
     /// - then, for an item whose section is not empty, [`Fault::OutOfHost`] where the section is not in host memory,
     ///   [`Fault::PartlyPresent`] where some of its addresses are mapped but no one range has them all,
-    ///   [`Fault::CounterFull`] where `copyin` would raise a counter above the limit, and [`Fault::DeviceFull`] where
-    ///   `copyin` needs a new block that fits nowhere;
+    ///   [`Fault::NotPresent`] where `update` without `if_present` names a section that is absent,
+    ///   [`Fault::CounterFull`] where `copyin` or `create` would raise a counter above the limit, and
+    ///   [`Fault::DeviceFull`] where they need a new block that fits nowhere;
+    /// - for a host write of some bytes, [`Fault::OutOfHost`] with item 0 where one of the addresses is not in host
+    ///   memory;
     /// - last [`Fault::Memory`], where there is no other refusal and memory cannot be had.
     pub fn apply(&mut self, call: Call) -> Result<Reply, (Call, Fault)>
         ensures done { OnOk result (IsDone self.old (request_of call) self.new) }
         ensures refused { IfErr result (λ back. IsRefusal self.old (request_of call) back.1) }
         ensures same { IfErr result (λ back. (back.0 ≡ call) × (self.new ≡ self.old)) }
     {
-        let Call::Do(directive) = call;
-        match self.plan(&directive) {
-            Ok(step) => match self.commit(directive, step) {
+        match call {
+            Call::Do(directive) => match self.carry_out(directive) {
                 Ok(()) => Ok(Reply::Done),
-                Err(directive) => Err((Call::Do(directive), Fault::Memory)),
+                Err((directive, fault)) => Err((Call::Do(directive), fault)),
             },
-            Err(fault) => Err((Call::Do(directive), fault)),
+            Call::HostWrite { addr, bytes } => match self.write_host(addr, bytes.as_slice()) {
+                Ok(()) => Ok(Reply::Done),
+                Err(fault) => Err((Call::HostWrite { addr, bytes }, fault)),
+            },
         }
     }
 
-    /// The refusals that come before those of the items.
+    /// Carries out a directive.
+    fn carry_out(&mut self, directive: Directive) -> Result<(), (Directive, Fault)>
+        ensures done { OnOk result (IsDone self.old (Do directive) self.new) }
+        ensures refused { IfErr result (λ back. IsRefusal self.old (Do directive) back.1) }
+        ensures same { IfErr result (λ back. (back.0 ≡ directive) × (self.new ≡ self.old)) }
+    {
+        match self.plan(&directive) {
+            Ok(step) => match self.commit(directive, step) {
+                Ok(()) => Ok(()),
+                Err(directive) => Err((directive, Fault::Memory)),
+            },
+            Err(fault) => Err((directive, fault)),
+        }
+    }
+
+    /// There is a ticket for one more event.
+    fn admit_ticket(&self) -> Result<(), Fault>
+        ensures { result ≡ ticket self.now }
+    {
+        if self.config.tickets() <= self.trace.len() as u64 {
+            Err(Fault::NoTickets { left: 0 })
+        } else {
+            Ok(())
+        }
+    }
+
+    /// There is room in the trace for one more event.
+    fn admit_event(&self) -> Result<(), Fault>
+        ensures { result ≡ trace_room self.now }
+    {
+        let events = self.trace.len() as u64;
+        if self.config.trace_cap() <= events {
+            Err(Fault::TraceFull { len: events })
+        } else {
+            Ok(())
+        }
+    }
+
+    /// The refusals of a directive that come before those of the items.
     #[tactic(auto, unfolding(crate::specs::Planned::admitted))]
     fn admit(&self, directive: &Directive) -> Result<(), Fault>
         ensures { result ≡ admitted self.now directive.now }
     {
-        let events = self.trace.len() as u64;
-        if self.config.tickets() <= events {
-            return Err(Fault::NoTickets { left: 0 });
-        }
+        self.admit_ticket()?;
         let count = match directive {
             Directive::EnterData { items } => items.as_slice().len(),
             Directive::ExitData { items } => items.as_slice().len(),
+            Directive::Update { items, .. } => items.as_slice().len(),
         };
         if count > ITEM_LIMIT {
             return Err(Fault::TooManyItems { n: count as u64 });
         }
-        if self.config.trace_cap() <= events {
-            return Err(Fault::TraceFull { len: events });
-        }
-        Ok(())
+        self.admit_event()
     }
 
     /// What the one item does, if there is one, or its refusal.
@@ -144,6 +183,9 @@ impl Table {
             Directive::ExitData { items } => {
                 plans::exit_step(&self.store, &self.config, items.as_slice())
             }
+            Directive::Update { items, if_present } => {
+                plans::update_step(&self.store, &self.config, *if_present, items.as_slice())
+            }
         }
     }
 
@@ -158,12 +200,11 @@ impl Table {
         self.first_step(directive)
     }
 
-    /// Makes the planned event, or hands the directive back where memory is refused. All growths come before the
-    /// first change.
+    /// Makes the planned event, or hands the directive back where memory is refused.
     #[tactic(auto, unfolding(acc_base::specs::Calls::world_after, acc_base::specs::Bytes::after))]
     fn commit(&mut self, directive: Directive, step: Option<Step>) -> Result<(), Directive>
         requires { judge self.old (Do directive) ≡ Ok (event_of directive step) }
-        ensures ok { OnOk result (self.new ≡ world_after (event_of directive step) self.old) }
+        ensures ok { OnOk result (self.new ≡ world_after (Do directive) (event_of directive step) self.old) }
         ensures err { IfErr result (λ back. (back ≡ directive) × (self.new ≡ self.old)) }
     {
         match directive {
@@ -179,6 +220,37 @@ impl Table {
                     Err(items) => Err(Directive::ExitData { items }),
                 }
             }
+            Directive::Update { items, if_present } => {
+                match plans::update(&mut self.store, &mut self.trace, items, if_present, step) {
+                    Ok(()) => Ok(()),
+                    Err(items) => Err(Directive::Update { items, if_present }),
+                }
+            }
         }
+    }
+
+    /// What a write of the host is refused for.
+    #[tactic(auto, unfolding(crate::specs::Planned::write_admitted))]
+    fn admit_write(&self, section: Section) -> Result<(), Fault>
+        ensures { result ≡ write_admitted self.now section }
+    {
+        self.admit_ticket()?;
+        self.admit_event()?;
+        decisions::check_write(&self.config, section)
+    }
+
+    /// Writes into host memory.
+    #[tactic(auto, unfolding(acc_base::specs::Calls::world_after, acc_base::specs::Bytes::after), using(crate::proofs::Keeping::judge_write))]
+    fn write_host(&mut self, addr: u64, bytes: &[u8]) -> Result<(), Fault>
+        ensures done { OnOk result (IsDone self.old (HostWrite addr bytes.now) self.new) }
+        ensures refused { IfErr result (IsRefusal self.old (HostWrite addr bytes.now)) }
+        ensures same { OnErr result (self.new ≡ self.old) }
+    {
+        self.admit_write(Section {
+            start: addr,
+            len: bytes.len() as u64,
+        })?;
+        plans::host_write(&mut self.store, &mut self.trace, addr, bytes)?;
+        Ok(())
     }
 }

@@ -1,6 +1,7 @@
 use crate::{Answer, Call, Mapped, Reply, Table, Turn};
 use acc_base::{
     Config, Counters, Directive, EnterClause, Event, ExitClause, Fault, Item, List, Section, Step,
+    UpdateClause,
 };
 use std::alloc::{AllocError, Global};
 use std::process::Abort;
@@ -14,9 +15,14 @@ fn section(start: u64, len: u64) -> Section {
     Section { start, len }
 }
 
-fn copyin(alloc: Global, start: u64, len: u64) -> Result<Directive, AllocError> {
+fn enter(
+    alloc: Global,
+    clause: EnterClause,
+    start: u64,
+    len: u64,
+) -> Result<Directive, AllocError> {
     let item = Item {
-        clause: EnterClause::Copyin,
+        clause,
         section: Section { start, len },
     };
     Ok(Directive::EnterData {
@@ -24,13 +30,45 @@ fn copyin(alloc: Global, start: u64, len: u64) -> Result<Directive, AllocError> 
     })
 }
 
-fn delete(alloc: Global, start: u64, len: u64) -> Result<Directive, AllocError> {
+fn exit(alloc: Global, clause: ExitClause, start: u64, len: u64) -> Result<Directive, AllocError> {
     let item = Item {
-        clause: ExitClause::Delete,
+        clause,
         section: Section { start, len },
     };
     Ok(Directive::ExitData {
         items: List::from_vec(vec![in alloc; item]?),
+    })
+}
+
+fn update(
+    alloc: Global,
+    clause: UpdateClause,
+    if_present: bool,
+    start: u64,
+    len: u64,
+) -> Result<Directive, AllocError> {
+    let item = Item {
+        clause,
+        section: Section { start, len },
+    };
+    Ok(Directive::Update {
+        items: List::from_vec(vec![in alloc; item]?),
+        if_present,
+    })
+}
+
+fn copyin(alloc: Global, start: u64, len: u64) -> Result<Directive, AllocError> {
+    enter(alloc, EnterClause::Copyin, start, len)
+}
+
+fn delete(alloc: Global, start: u64, len: u64) -> Result<Directive, AllocError> {
+    exit(alloc, ExitClause::Delete, start, len)
+}
+
+fn write(alloc: Global, addr: u64, bytes: &[u8]) -> Result<Call, AllocError> {
+    Ok(Call::HostWrite {
+        addr,
+        bytes: List::from_vec(Vec::from_slice(alloc, bytes)?),
     })
 }
 
@@ -185,6 +223,10 @@ fn turns_run_one_after_the_other(rt: HostRuntime) -> Result<(), Fail> {
         Turn::Do(copyin(rt.alloc(), A + 48, 16)?),
         Turn::Do(copyin(rt.alloc(), 0x0fff, 1)?),
         Turn::Do(delete(rt.alloc(), A, 33)?),
+        Turn::HostWrite {
+            addr: A + 15,
+            bytes: List::from_vec(vec![in rt.alloc(); 7]?),
+        },
         Turn::Do(copyin(rt.alloc(), A, 16)?),
     ]?;
     let answers = table.run(turns)?;
@@ -195,10 +237,14 @@ fn turns_run_one_after_the_other(rt: HostRuntime) -> Result<(), Fail> {
     let outside = Answer::Refused(Fault::OutOfHost { item: 0 });
     assert_eq!(rt;
         answers.as_slice(),
-        [done, done, outside, done, done].as_slice()
+        [done, done, outside, done, done, done].as_slice()
     );
     assert_eq!(rt; table.device_address(A), Some(DEVICE));
     assert_eq!(rt; table.device_address(A + 48), Some(DEVICE + 48));
+    assert_eq!(rt;
+        table.device_read(section(A + 14, 2)),
+        Some([0, 7].as_slice())
+    );
     Ok(())
 }
 
@@ -218,12 +264,109 @@ fn a_block_that_does_not_fit_is_refused_with_its_rounded_size(rt: HostRuntime) -
     Ok(())
 }
 
+#[test]
+fn an_update_brings_back_what_the_device_has(rt: HostRuntime) -> Result<(), Fail> {
+    let mut table = small(rt.alloc(), 100, 100, 100)?;
+    assert!(rt; table.apply(write(rt.alloc(), A, &[1, 2, 3, 4])?).is_ok());
+    accept(&rt, &mut table, copyin(rt.alloc(), A, 4)?);
+    assert!(rt; table.apply(write(rt.alloc(), A, &[0xff; 4])?).is_ok());
+    assert_eq!(rt;
+        table.device_read(section(A, 4)),
+        Some([1, 2, 3, 4].as_slice())
+    );
+    let middle = update(rt.alloc(), UpdateClause::ToSelf, false, A + 1, 2)?;
+    accept(&rt, &mut table, middle);
+    assert_eq!(rt;
+        table.host_read(section(A, 4)),
+        Some([0xff, 2, 3, 0xff].as_slice())
+    );
+    let first = update(rt.alloc(), UpdateClause::ToDevice, false, A, 1)?;
+    accept(&rt, &mut table, first);
+    assert_eq!(rt;
+        table.device_read(section(A, 4)),
+        Some([0xff, 2, 3, 4].as_slice())
+    );
+    Ok(())
+}
+
+#[test]
+fn an_update_has_to_find_its_section(rt: HostRuntime) -> Result<(), Fail> {
+    let mut table = small(rt.alloc(), 100, 100, 100)?;
+    accept(&rt, &mut table, copyin(rt.alloc(), A, 16)?);
+    let absent = update(rt.alloc(), UpdateClause::ToSelf, false, A + 16, 16)?;
+    refuse(&rt, &mut table, absent, Fault::NotPresent { item: 0 });
+    let passed = update(rt.alloc(), UpdateClause::ToSelf, true, A + 16, 16)?;
+    accept(&rt, &mut table, passed);
+    let partly = update(rt.alloc(), UpdateClause::ToDevice, true, A + 8, 16)?;
+    refuse(&rt, &mut table, partly, Fault::PartlyPresent { item: 0 });
+    Ok(())
+}
+
+#[test]
+fn a_created_array_is_filled_and_not_copied(rt: HostRuntime) -> Result<(), Fail> {
+    let mut table = small(rt.alloc(), 100, 100, 100)?;
+    assert!(rt; table.apply(write(rt.alloc(), A, &[1; 4])?).is_ok());
+    let filled = enter(rt.alloc(), EnterClause::Create { zero: false }, A, 2)?;
+    accept(&rt, &mut table, filled);
+    let zeroed = enter(rt.alloc(), EnterClause::Create { zero: true }, A + 2, 2)?;
+    accept(&rt, &mut table, zeroed);
+    assert_eq!(rt;
+        table.device_read(section(A, 2)),
+        Some([0xa5, 0xa5].as_slice())
+    );
+    assert_eq!(rt;
+        table.device_read(section(A + 2, 2)),
+        Some([0, 0].as_slice())
+    );
+    assert_eq!(rt; table.device_read(section(A, 4)), None);
+    assert_eq!(rt; table.device_read(section(A, 0)), None);
+    Ok(())
+}
+
+#[test]
+fn a_copyout_copies_its_section_and_ends_the_whole_mapping(rt: HostRuntime) -> Result<(), Fail> {
+    let mut table = small(rt.alloc(), 100, 100, 100)?;
+    let created = enter(rt.alloc(), EnterClause::Create { zero: false }, A, 8)?;
+    accept(&rt, &mut table, created);
+    accept(&rt, &mut table, copyin(rt.alloc(), A, 8)?);
+    let counted = exit(rt.alloc(), ExitClause::Copyout, A, 8)?;
+    accept(&rt, &mut table, counted);
+    assert_eq!(rt; table.host_read(section(A, 8)), Some([0; 8].as_slice()));
+    let last = exit(rt.alloc(), ExitClause::Copyout, A + 3, 2)?;
+    accept(&rt, &mut table, last);
+    let copied = [0, 0, 0, 0xa5, 0xa5, 0, 0, 0];
+    assert_eq!(rt; table.host_read(section(A, 8)), Some(copied.as_slice()));
+    assert_eq!(rt; table.used(), 0);
+    let absent = exit(rt.alloc(), ExitClause::Copyout, A, 8)?;
+    accept(&rt, &mut table, absent);
+    assert_eq!(rt; table.events(), 5);
+    Ok(())
+}
+
+#[test]
+fn a_write_of_the_host_stays_in_its_memory(rt: HostRuntime) -> Result<(), Fail> {
+    let mut table = small(rt.alloc(), 100, 100, 100)?;
+    match table.apply(write(rt.alloc(), A + 61, &[1, 2, 3, 4])?) {
+        Ok(_) => panic!(rt; "accepted"),
+        Err((_, fault)) => assert_eq!(rt; fault, Fault::OutOfHost { item: 0 }),
+    }
+    assert_eq!(rt;
+        table.host_read(section(A + 60, 4)),
+        Some([0; 4].as_slice())
+    );
+    assert!(rt; table.apply(write(rt.alloc(), 0, &[])?).is_ok());
+    assert_eq!(rt; table.events(), 1);
+    assert!(rt; table.host_read(section(0, 0)).is_some());
+    assert_eq!(rt; table.host_read(section(A + 61, 4)), None);
+    Ok(())
+}
+
 /// Makes a call, and once more where memory is refused: then nothing may have changed before.
-fn apply_twice(rt: &(impl Abort + AllocGlobal), table: &mut Table, directive: Directive) {
+fn apply_twice(rt: &(impl Abort + AllocGlobal), table: &mut Table, call: Call) {
     let events = table.events();
     let used = table.used();
     let mapped = table.mapped(0);
-    if let Err((call, fault)) = table.apply(Call::Do(directive)) {
+    if let Err((call, fault)) = table.apply(call) {
         assert_eq!(rt; fault, Fault::Memory);
         assert_eq!(rt; table.events(), events);
         assert_eq!(rt; table.used(), used);
@@ -233,6 +376,18 @@ fn apply_twice(rt: &(impl Abort + AllocGlobal), table: &mut Table, directive: Di
     assert_eq!(rt; table.events(), events.wrapping_add(1));
 }
 
+/// The calls of a whole life of an array, and of a second one.
+fn call_of(alloc: Global, number: u64) -> Result<Call, AllocError> {
+    Ok(match number {
+        0 => write(alloc, A, &[1, 2])?,
+        1 => Call::Do(copyin(alloc, A, 16)?),
+        2 => Call::Do(enter(alloc, EnterClause::Create { zero: true }, A + 16, 16)?),
+        3 => Call::Do(update(alloc, UpdateClause::ToSelf, false, A + 16, 2)?),
+        4 => Call::Do(exit(alloc, ExitClause::Copyout, A + 16, 16)?),
+        _ => Call::Do(delete(alloc, A, 16)?),
+    })
+}
+
 /// To be run with each allocation failing in turn: what is made here is made a second time where the first failed.
 #[test]
 fn a_refused_growth_changes_nothing(rt: HostRuntime) -> Result<(), Fail> {
@@ -240,19 +395,12 @@ fn a_refused_growth_changes_nothing(rt: HostRuntime) -> Result<(), Fail> {
         Ok(table) => table,
         Err(_) => small(rt.alloc(), 100, 100, 100)?,
     };
-    for start in [A, A + 16, A] {
-        let directive = match copyin(rt.alloc(), start, 16) {
-            Ok(directive) => directive,
-            Err(_) => copyin(rt.alloc(), start, 16)?,
+    for number in 0..6 {
+        let call = match call_of(rt.alloc(), number) {
+            Ok(call) => call,
+            Err(_) => call_of(rt.alloc(), number)?,
         };
-        apply_twice(&rt, &mut table, directive);
-    }
-    for start in [A, A, A + 16] {
-        let directive = match delete(rt.alloc(), start, 16) {
-            Ok(directive) => directive,
-            Err(_) => delete(rt.alloc(), start, 16)?,
-        };
-        apply_twice(&rt, &mut table, directive);
+        apply_twice(&rt, &mut table, call);
     }
     assert_eq!(rt; table.used(), 0);
     Ok(())

@@ -1,0 +1,16 @@
+use Rattle.std.proofs.Common.{◌≡◌, ◌∙◌, sym, ap, subst}
+use Rattle.acc_base.specs.Ranges.{start_of}
+use Rattle.acc_base.specs.Bytes.{memories_moved_in}
+use Rattle.acc_table.specs.contracts.stores.Store.{the_view}
+use Rattle.acc_table.specs.Stored.{Contents, with_memories, CanMove}
+use Rattle.acc_table.proofs.Storing.{copied_in, store_written}
+use Rattle.acc_table.proofs.stores.Store.move_in.Goals as goal
+
+pub returns : goal.returns
+returns c =
+    let v : Contents = the_view c.self.inside in
+    let can : CanMove c.args.section c.args.block v.state = subst (λ (x : Contents). CanMove c.args.section c.args.block x.state) (sym c.self.view_is) c.requires in
+    let start : c.start_at.result ≡ start_of c.args.block v.state.records.ranges = c.start_at.ensures ∙ ap (start_of c.args.block) c.deref.ensures.value in
+    subst (λ (x : Contents). the_view (record { ranges = c.self.inside.ranges; device = c.write.new.self; host = c.self.inside.host }) ≡ with_memories (memories_moved_in c.args.section c.args.block x.state) x) c.self.view_is
+    (store_written c.self.inside.ranges.items c.self.inside.device c.write.new.self c.self.inside.host c.args.block _ _ c.write.ensures
+    ∙ ap (λ ms. with_memories ms v) (copied_in c.args.section c.args.block v.state can c.start_at.result c.in-Some.bytes.now start c.in-Some.ensures.part))

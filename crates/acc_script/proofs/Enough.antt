@@ -1,6 +1,7 @@
 -- The fuel of a repetition is enough: each turn takes a byte at least, so more fuel changes nothing.
 use Rattle.std.proofs.Common.{◌≡◌, ℕ, zero, suc, ◌+◌, ◌<◌, ◌≤◌, Bool, true, false, cond, List, [], ◌∷◌, ◌++◌, length, take, drop, length-drop, Option, Some, None, Result, Ok, Err, refl, sym, ap, subst, ◌∙◌, arith}
-use Rattle.std.specs.Prelude.{if◌then◌else◌, ◌==◌}
+use Rattle.std.specs.Prelude.{◌&&◌, if◌then◌else◌, ◌==◌, codes}
+use Rattle.std.specs.Str.{bytes_eq}
 use Rattle.std.specs.List.{prefix_len}
 use Rattle.std.proofs.lemmas.Bool.{eqb-false}
 use Rattle.std.proofs.lemmas.List.{nil_from_length}
@@ -13,7 +14,9 @@ use Rattle.acc_script.specs.declared.arrays.Array.{Array}
 use Rattle.acc_script.specs.Reading.{◌>>=◌}
 use Rattle.acc_script.specs.Tokens.{is_word_byte, is_blank, word_len, skip_blanks, word_at, is_name, name_at, number_of, number_at, number_limit, is_mark_next, mark_at, skip_comma, is_word_before, is_at_end, comma, colon, left_bracket, right_bracket, left_parenthesis, right_parenthesis}
 use Rattle.acc_script.specs.Layout.{Layout, array_of, whole, part_of}
-use Rattle.acc_script.specs.Clauses.{known, known_at, part_at, section_at, item_of, items_at, plain_items_at, group_at, listed, clause_at, clauses_at}
+use Rattle.acc_script.specs.Places.{known, known_at, part_at, section_at}
+use Rattle.acc_script.specs.Grammar.{Grammar}
+use Rattle.acc_script.specs.Clauses.{item_of, items_at, some_clause, modifier_at, modified_at, group_at, ClausesRead, listed, passed_over, clause_at, with_clause, clauses_at}
 use Rattle.acc_script.proofs.Turns.{after_section, after_clause}
 
 -- ---- a reading that went well, as its steps
@@ -159,60 +162,84 @@ module _ {C : Type 0} where
 
   -- ---- clauses
 
-  plain_le : (clause : C) (layout : Layout) (before : List (Item C)) (text : List ℕ) (items : List (Item C) × List ℕ) → plain_items_at clause layout before text ≡ Ok items → length items.1 ≤ length text
-  unfolding plain_items_at
-  plain_le clause layout before text items e = by (is_word_before colon text) e
-    where
-      by : (b : Bool) → cond b (Err Syntax) (items_at (length text) clause layout before text) ≡ Ok items → length items.1 ≤ length text
-      by true h = absurd cc
-      by false h = items_le (length text) clause layout before text items h
+  some_clause_is : (o : Option C) (rest : List ℕ) (clause : C × List ℕ) → some_clause o rest ≡ Ok clause → rest ≡ clause.1
+  some_clause_is None rest clause e = absurd cc
+  some_clause_is (Some c) rest clause e = let same : (c, rest) ≡ clause = cc in ap (λ (x : C × List ℕ). x.1) same
 
-  group_le : (clause : C) (layout : Layout) (before : List (Item C)) (text : List ℕ) (items : List (Item C) × List ℕ) → group_at clause layout before text ≡ Ok items → length items.1 ≤ length text
+  modifier_le : (grammar : Grammar C) (clause : C) (text : List ℕ) (modified : C × List ℕ) → modifier_at grammar clause text ≡ Ok modified → length modified.1 ≤ length text
+  unfolding modifier_at
+  modifier_le grammar clause text modified e =
+      let word = bind_is (word_at text) (λ word. mark_at colon word.1 >>= (λ between. some_clause (grammar.modified clause word.0) between)) modified e in
+      let between = bind_is (mark_at colon word.0.1) (λ between. some_clause (grammar.modified clause word.0.0) between) modified word.2 in
+      let same = some_clause_is (grammar.modified clause word.0.0) between.0 modified between.2 in
+      subst (λ (xs : List ℕ). length xs ≤ length text) same (omega (arith, word_shorter text word.0 word.1, mark_shorter colon word.0.1 between.0 between.1))
+
+  modified_le : (grammar : Grammar C) (clause : C) (text : List ℕ) (modified : C × List ℕ) → modified_at grammar clause text ≡ Ok modified → length modified.1 ≤ length text
+  unfolding modified_at
+  modified_le grammar clause text modified e = by (is_word_before colon text) e
+    where
+      by : (b : Bool) → cond b (modifier_at grammar clause text) (Ok (clause, text)) ≡ Ok modified → length modified.1 ≤ length text
+      by true h = modifier_le grammar clause text modified h
+      by false h = let same : (clause, text) ≡ modified = cc in subst (λ (x : C × List ℕ). length x.1 ≤ length text) same (omega arith)
+
+  group_le : (grammar : Grammar C) (clause : C) (layout : Layout) (before : List (Item C)) (text : List ℕ) (items : List (Item C) × List ℕ) → group_at grammar clause layout before text ≡ Ok items → length items.1 ≤ length text
   unfolding group_at
-  group_le clause layout before text items e =
-      let inside = bind_is (mark_at left_parenthesis text) (λ inside. plain_items_at clause layout before inside >>= (λ items. mark_at right_parenthesis items.1 >>= (λ close. Ok (items.0, close)))) items e in
-      let group = bind_is (plain_items_at clause layout before inside.0) (λ items. mark_at right_parenthesis items.1 >>= (λ close. Ok (items.0, close))) items inside.2 in
+  group_le grammar clause layout before text items e =
+      let inside = bind_is (mark_at left_parenthesis text) (λ inside. modified_at grammar clause inside >>= (λ modified. items_at (length modified.1) modified.0 layout before modified.1 >>= (λ items. mark_at right_parenthesis items.1 >>= (λ close. Ok (items.0, close))))) items e in
+      let modified = bind_is (modified_at grammar clause inside.0) (λ modified. items_at (length modified.1) modified.0 layout before modified.1 >>= (λ items. mark_at right_parenthesis items.1 >>= (λ close. Ok (items.0, close)))) items inside.2 in
+      let group = bind_is (items_at (length modified.0.1) modified.0.0 layout before modified.0.1) (λ items. mark_at right_parenthesis items.1 >>= (λ close. Ok (items.0, close))) items modified.2 in
       let close = bind_is (mark_at right_parenthesis group.0.1) (λ close. Ok (group.0.0, close)) items group.2 in
-      omega (arith, rest_len group.0.0 close.0 items close.2, mark_shorter left_parenthesis text inside.0 inside.1, plain_le clause layout before inside.0 group.0 group.1, mark_shorter right_parenthesis group.0.1 close.0 close.1)
+      omega (arith, rest_len group.0.0 close.0 items close.2, mark_shorter left_parenthesis text inside.0 inside.1, modified_le grammar clause inside.0 modified.0 modified.1, items_le (length modified.0.1) modified.0.0 layout before modified.0.1 group.0 group.1, mark_shorter right_parenthesis group.0.1 close.0 close.1)
 
-  clause_shorter : (clause_of : List ℕ → Option C) (layout : Layout) (before : List (Item C)) (text : List ℕ) (items : List (Item C) × List ℕ) → clause_at clause_of layout before text ≡ Ok items → length items.1 < length text
+  listed_le : (o : Option C) (grammar : Grammar C) (layout : Layout) (before : ClausesRead C) (text : List ℕ) (read : ClausesRead C × List ℕ) → listed o grammar layout before text ≡ Ok read → length read.1 ≤ length text
+  listed_le None grammar layout before text read e = absurd cc
+  listed_le (Some clause) grammar layout before text read e =
+      let items = bind_is (group_at grammar clause layout before.items text) (λ items. Ok (record { items = items.0; if_present = before.if_present }, items.1)) read e in
+      let same : (record { items = items.0.0; if_present = before.if_present }, items.0.1) ≡ read = cc in
+      subst (λ (x : ClausesRead C × List ℕ). length x.1 ≤ length text) same (group_le grammar clause layout before.items text items.0 items.1)
+
+  passed_le : (before : ClausesRead C) (text : List ℕ) (read : ClausesRead C × List ℕ) → passed_over before text ≡ Ok read → length read.1 ≤ length text
+  passed_le before text read e =
+      let parts = then_ok before.if_present Syntax (record { items = before.items; if_present = true }, text) read e in
+      subst (λ (x : ClausesRead C × List ℕ). length x.1 ≤ length text) parts.1 (omega arith)
+
+  clause_shorter : (grammar : Grammar C) (layout : Layout) (before : ClausesRead C) (text : List ℕ) (read : ClausesRead C × List ℕ) → clause_at grammar layout before text ≡ Ok read → length read.1 < length text
   unfolding clause_at
-  clause_shorter clause_of layout before text items e =
-      let word = bind_is (word_at text) (λ word. listed (clause_of word.0) layout before word.1) items e in
-      let less = word_shorter text word.0 word.1 in
-      by (clause_of word.0.0) word.0.1 less word.2
+  clause_shorter grammar layout before text read e =
+      let word = bind_is (word_at text) (λ word. if grammar.has_if_present && bytes_eq word.0 (codes "if_present") then passed_over before word.1 else listed (grammar.clause_of word.0) grammar layout before word.1) read e in
+      by (grammar.has_if_present && bytes_eq word.0.0 (codes "if_present")) (grammar.clause_of word.0.0) word.0.1 (word_shorter text word.0 word.1) word.2
     where
-      by : (o : Option C) (rest : List ℕ) → length rest < length text → listed o layout before rest ≡ Ok items → length items.1 < length text
-      by None rest less h = absurd cc
-      by (Some clause) rest less h = omega (arith, group_le clause layout before rest items h)
+      by : (b : Bool) (o : Option C) (rest : List ℕ) → length rest < length text → cond b (passed_over before rest) (listed o grammar layout before rest) ≡ Ok read → length read.1 < length text
+      by true o rest less h = omega (arith, passed_le before rest read h)
+      by false o rest less h = omega (arith, listed_le o grammar layout before rest read h)
 
   -- no clause stands in an empty text
-  no_clause : (clause_of : List ℕ → Option C) (layout : Layout) (before : List (Item C)) → clause_at clause_of layout before [] ≡ Err Syntax
+  no_clause : (grammar : Grammar C) (layout : Layout) (before : ClausesRead C) → clause_at grammar layout before [] ≡ Err Syntax
   unfolding clause_at word_at
-  no_clause clause_of layout before = refl
+  no_clause grammar layout before = refl
 
-  abbrev ClausesAgree : ℕ → (List ℕ → Option C) → Layout → Type 0
-  ClausesAgree n clause_of layout = (before : List (Item C)) (text : List ℕ) → length text ≤ n → clauses_at n clause_of layout before text ≡ clauses_at (suc n) clause_of layout before text
+  abbrev ClausesAgree : ℕ → Grammar C → Layout → Type 0
+  ClausesAgree n grammar layout = (before : ClausesRead C) (text : List ℕ) → length text ≤ n → clauses_at n grammar layout before text ≡ clauses_at (suc n) grammar layout before text
 
-  clauses_one_more : (n : ℕ) (clause_of : List ℕ → Option C) (layout : Layout) → ClausesAgree n clause_of layout
+  clauses_one_more : (n : ℕ) (grammar : Grammar C) (layout : Layout) → ClausesAgree n grammar layout
   unfolding clauses_at
-  clauses_one_more zero clause_of layout before text le =
+  clauses_one_more zero grammar layout before text le =
       let none : text ≡ [] = nil_from_length text (omega arith) in
-      subst (λ (xs : List ℕ). clauses_at 0 clause_of layout before xs ≡ clauses_at 1 clause_of layout before xs) (sym none) (rw (no_clause clause_of layout before) refl)
-  clauses_one_more (suc n) clause_of layout before text le = by (clauses_one_more n clause_of layout) (clause_at clause_of layout before text) refl
+      subst (λ (xs : List ℕ). clauses_at 0 grammar layout before xs ≡ clauses_at 1 grammar layout before xs) (sym none) (rw (no_clause grammar layout before) refl)
+  clauses_one_more (suc n) grammar layout before text le = by (clauses_one_more n grammar layout) (clause_at grammar layout before text) refl
     where
-      next : ClausesAgree n clause_of layout → (items : List (Item C) × List ℕ) (b : Bool) → length items.1 < length text
-          → cond b (Ok items.0) (clauses_at n clause_of layout items.0 (skip_comma items.1)) ≡ cond b (Ok items.0) (clauses_at (suc n) clause_of layout items.0 (skip_comma items.1))
-      next shorter items true less = refl
-      next shorter items false less = shorter items.0 (skip_comma items.1) (omega (arith, comma_le items.1))
+      next : ClausesAgree n grammar layout → (read : ClausesRead C × List ℕ) (b : Bool) → length read.1 < length text
+          → cond b (with_clause read.0) (clauses_at n grammar layout read.0 (skip_comma read.1)) ≡ cond b (with_clause read.0) (clauses_at (suc n) grammar layout read.0 (skip_comma read.1))
+      next shorter read true less = refl
+      next shorter read false less = shorter read.0 (skip_comma read.1) (omega (arith, comma_le read.1))
 
-      by : ClausesAgree n clause_of layout → (r : Result (List (Item C) × List ℕ) ScriptFault) → clause_at clause_of layout before text ≡ r → (r >>= after_clause n clause_of layout) ≡ (r >>= after_clause (suc n) clause_of layout)
-      by shorter (Ok items) e = next shorter items (is_at_end items.1) (clause_shorter clause_of layout before text items e)
+      by : ClausesAgree n grammar layout → (r : Result (ClausesRead C × List ℕ) ScriptFault) → clause_at grammar layout before text ≡ r → (r >>= after_clause n grammar layout) ≡ (r >>= after_clause (suc n) grammar layout)
+      by shorter (Ok read) e = next shorter read (is_at_end read.1) (clause_shorter grammar layout before text read e)
       by shorter (Err kind) e = refl
 
   -- as much fuel as the text has bytes is enough
-  pub clauses_enough : (more : ℕ) (clause_of : List ℕ → Option C) (layout : Layout) (before : List (Item C)) (text : List ℕ) → clauses_at (length text + more) clause_of layout before text ≡ clauses_at (length text) clause_of layout before text
-  clauses_enough zero clause_of layout before text = let e : length text + 0 ≡ length text = omega arith in rw e refl
-  clauses_enough (suc more) clause_of layout before text =
+  pub clauses_enough : (more : ℕ) (grammar : Grammar C) (layout : Layout) (before : ClausesRead C) (text : List ℕ) → clauses_at (length text + more) grammar layout before text ≡ clauses_at (length text) grammar layout before text
+  clauses_enough zero grammar layout before text = let e : length text + 0 ≡ length text = omega arith in rw e refl
+  clauses_enough (suc more) grammar layout before text =
       let e : length text + suc more ≡ suc (length text + more) = omega arith in
-      rw e (sym (clauses_one_more (length text + more) clause_of layout before text (omega arith)) ∙ clauses_enough more clause_of layout before text)
+      rw e (sym (clauses_one_more (length text + more) grammar layout before text (omega arith)) ∙ clauses_enough more grammar layout before text)

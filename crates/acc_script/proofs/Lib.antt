@@ -10,4 +10,5 @@ pub mod Digits
 pub mod Parts
 pub mod LineByLine
 pub mod RisingRanges
+pub mod Encoded
 pub mod Enough

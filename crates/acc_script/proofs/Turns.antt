@@ -1,5 +1,5 @@
 -- One more turn of a loop over the text of a line.
-use Rattle.std.proofs.Common.{◌≡◌, ℕ, suc, ◌-◌, ◌+◌, ◌≤◌, ◌<◌, true, false, List, [], ◌∷◌, ◌++◌, Option, Result, Ok, Err, refl, ◌∙◌, arith}
+use Rattle.std.proofs.Common.{◌≡◌, ℕ, suc, ◌-◌, ◌+◌, ◌≤◌, ◌<◌, true, false, List, [], ◌∷◌, ◌++◌, Result, Ok, Err, refl, ◌∙◌, arith}
 use Rattle.std.specs.Prelude.{if◌then◌else◌}
 use Rattle.acc_base.specs.declared.faults.ScriptFault.{ScriptFault}
 use Rattle.acc_base.specs.declared.faults.ScriptFault.TheVariants.{Syntax}
@@ -10,7 +10,9 @@ use Rattle.acc_script.specs.declared.troubles.Trouble.TheVariants as trouble
 use Rattle.acc_script.specs.Reading.{◌>>=◌, Fails}
 use Rattle.acc_script.specs.Tokens.{is_mark_next, is_at_end, skip_comma, comma}
 use Rattle.acc_script.specs.Layout.{Layout}
-use Rattle.acc_script.specs.Clauses.{section_at, item_of, items_at, clause_at, clauses_at}
+use Rattle.acc_script.specs.Places.{section_at}
+use Rattle.acc_script.specs.Grammar.{Grammar}
+use Rattle.acc_script.specs.Clauses.{item_of, items_at, ClausesRead, clause_at, with_clause, clauses_at}
 
 -- a step that failed ends the reading
 bind_fails : {A B : Type 0} (e : Trouble) (read : Result A ScriptFault) (f : A → Result B ScriptFault) → Fails e read → Fails e (read >>= f)
@@ -50,25 +52,25 @@ module _ {C : Type 0} where
   -- ---- clauses
 
   -- what follows a clause
-  abbrev pub after_clause : ℕ → (List ℕ → Option C) → Layout → List (Item C) × List ℕ → Result (List (Item C)) ScriptFault
-  after_clause fuel clause_of layout items = if is_at_end items.1 then Ok items.0 else clauses_at fuel clause_of layout items.0 (skip_comma items.1)
+  abbrev pub after_clause : ℕ → Grammar C → Layout → ClausesRead C × List ℕ → Result (ClausesRead C) ScriptFault
+  after_clause fuel grammar layout read = if is_at_end read.1 then with_clause read.0 else clauses_at fuel grammar layout read.0 (skip_comma read.1)
 
-  clauses_turn : (n i : ℕ) (clause_of : List ℕ → Option C) (layout : Layout) (before : List (Item C)) (text : List ℕ) → i < n
-      → clauses_at (n - i) clause_of layout before text ≡ (clause_at clause_of layout before text >>= after_clause (n - (i + 1)) clause_of layout)
+  clauses_turn : (n i : ℕ) (grammar : Grammar C) (layout : Layout) (before : ClausesRead C) (text : List ℕ) → i < n
+      → clauses_at (n - i) grammar layout before text ≡ (clause_at grammar layout before text >>= after_clause (n - (i + 1)) grammar layout)
   unfolding clauses_at
-  clauses_turn n i clause_of layout before text lt = let k : n - i ≡ suc (n - (i + 1)) = omega arith in rw k refl
+  clauses_turn n i grammar layout before text lt = let k : n - i ≡ suc (n - (i + 1)) = omega arith in rw k refl
 
-  pub clauses_none : (n i : ℕ) (clause_of : List ℕ → Option C) (layout : Layout) (before : List (Item C)) (text : List ℕ) → n ≤ i → clauses_at (n - i) clause_of layout before text ≡ Err Syntax
+  pub clauses_none : (n i : ℕ) (grammar : Grammar C) (layout : Layout) (before : ClausesRead C) (text : List ℕ) → n ≤ i → clauses_at (n - i) grammar layout before text ≡ Err Syntax
   unfolding clauses_at
-  clauses_none n i clause_of layout before text le = let k : n - i ≡ 0 = omega arith in rw k refl
+  clauses_none n i grammar layout before text le = let k : n - i ≡ 0 = omega arith in rw k refl
 
-  pub clauses_fail : (e : Trouble) (n i : ℕ) (clause_of : List ℕ → Option C) (layout : Layout) (before : List (Item C)) (text : List ℕ) → i < n → Fails e (clause_at clause_of layout before text) → Fails e (clauses_at (n - i) clause_of layout before text)
-  clauses_fail e n i clause_of layout before text lt h = rw (clauses_turn n i clause_of layout before text lt) (bind_fails e (clause_at clause_of layout before text) (after_clause (n - (i + 1)) clause_of layout) h)
+  pub clauses_fail : (e : Trouble) (n i : ℕ) (grammar : Grammar C) (layout : Layout) (before : ClausesRead C) (text : List ℕ) → i < n → Fails e (clause_at grammar layout before text) → Fails e (clauses_at (n - i) grammar layout before text)
+  clauses_fail e n i grammar layout before text lt h = rw (clauses_turn n i grammar layout before text lt) (bind_fails e (clause_at grammar layout before text) (after_clause (n - (i + 1)) grammar layout) h)
 
-  pub clauses_done : (n i : ℕ) (clause_of : List ℕ → Option C) (layout : Layout) (before items : List (Item C)) (text rest : List ℕ) → i < n → clause_at clause_of layout before text ≡ Ok (items, rest) → is_at_end rest ≡ true
-      → clauses_at (n - i) clause_of layout before text ≡ Ok items
-  clauses_done n i clause_of layout before items text rest lt h m = clauses_turn n i clause_of layout before text lt ∙ rw (h, m) refl
+  pub clauses_done : (n i : ℕ) (grammar : Grammar C) (layout : Layout) (before read : ClausesRead C) (text rest : List ℕ) → i < n → clause_at grammar layout before text ≡ Ok (read, rest) → is_at_end rest ≡ true
+      → clauses_at (n - i) grammar layout before text ≡ with_clause read
+  clauses_done n i grammar layout before read text rest lt h m = clauses_turn n i grammar layout before text lt ∙ rw (h, m) refl
 
-  pub clauses_go_on : (n i : ℕ) (clause_of : List ℕ → Option C) (layout : Layout) (before items : List (Item C)) (text rest : List ℕ) → i < n → clause_at clause_of layout before text ≡ Ok (items, rest) → is_at_end rest ≡ false
-      → clauses_at (n - i) clause_of layout before text ≡ clauses_at (n - (i + 1)) clause_of layout items (skip_comma rest)
-  clauses_go_on n i clause_of layout before items text rest lt h m = clauses_turn n i clause_of layout before text lt ∙ rw (h, m) refl
+  pub clauses_go_on : (n i : ℕ) (grammar : Grammar C) (layout : Layout) (before read : ClausesRead C) (text rest : List ℕ) → i < n → clause_at grammar layout before text ≡ Ok (read, rest) → is_at_end rest ≡ false
+      → clauses_at (n - i) grammar layout before text ≡ clauses_at (n - (i + 1)) grammar layout read (skip_comma rest)
+  clauses_go_on n i grammar layout before read text rest lt h m = clauses_turn n i grammar layout before text lt ∙ rw (h, m) refl

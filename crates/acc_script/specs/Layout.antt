@@ -41,3 +41,7 @@ whole array = record { start = array.start; len = array.end - array.start }
 -- a part of an array, or past it
 abbrev pub part_of : Array → ℕ → ℕ → Section
 part_of array from len = record { start = array.start + from; len = len }
+
+-- the address of a byte of an array, or past it
+abbrev pub byte_of : Array → ℕ → ℕ
+byte_of array from = array.start + from

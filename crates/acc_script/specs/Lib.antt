@@ -7,10 +7,15 @@ pub mod Tokens
 pub mod Layout
 pub mod Coding
 pub mod Naming
+pub mod Places
+pub mod Bytes
+pub mod Grammar
 pub mod Clauses
+pub mod ClausesRead
 pub mod Statements
 pub mod Meanings
 pub mod Texts
+pub mod Shown
 pub mod Scripts
 pub mod Runs
 pub mod Sessions

@@ -1,19 +1,24 @@
 -- What a script does and prints, line by line, and how it ends.
-use Rattle.std.specs.Prelude.{ℕ, ◌+◌, Bool, true, false, ◌||◌, List, [], ◌∷◌, Result, Ok, Err}
+use Rattle.std.specs.Prelude.{ℕ, ◌+◌, Bool, true, false, ◌||◌, List, [], ◌∷◌, Option, Some, None, Result, Ok, Err}
 use Rattle.acc_base.specs.declared.events.Event.{Event}
 use Rattle.acc_base.specs.declared.faults.Fault.{Fault}
+use Rattle.acc_base.specs.declared.faults.Fault.TheVariants.{OutOfHost}
 use Rattle.acc_base.specs.declared.faults.ScriptFault.{ScriptFault}
+use Rattle.acc_base.specs.declared.items.Section.{Section}
 use Rattle.acc_base.specs.Limits.{Limits}
-use Rattle.acc_base.specs.Calls.{World, new_world, Do, judge, world_after}
+use Rattle.acc_base.specs.Calls.{World, new_world, Request, Do, HostWrite, judge, world_after}
+use Rattle.acc_base.specs.Ranges.{where_is}
+use Rattle.acc_table.specs.Queries.{is_inside, device_address_of, host_read_of, device_read_of}
 use Rattle.acc_script.specs.declared.effects.Effect.{Effect}
-use Rattle.acc_script.specs.declared.effects.Effect.TheVariants.{Nothing, Refused, Reported}
+use Rattle.acc_script.specs.declared.effects.Effect.TheVariants.{Nothing, Refused, HostBytes, DeviceBytes, Presence, Place, Reported}
 use Rattle.acc_script.specs.declared.statuses.Status.{Status}
 use Rattle.acc_script.specs.declared.statuses.Status.TheVariants as statuses
 use Rattle.acc_script.specs.Reading.{◌>>=◌}
 use Rattle.acc_script.specs.Lines.{lines_of}
 use Rattle.acc_script.specs.Layout.{Layout, new_layout, with_array}
-use Rattle.acc_script.specs.Statements.{Meaning, Blank, Declare, Direct, Report, line_at}
+use Rattle.acc_script.specs.Statements.{Meaning, Blank, Declare, Direct, Write, Show, Peek, Present, Address, Report, line_at}
 use Rattle.acc_script.specs.Texts.{refusal_text, report_text}
+use Rattle.acc_script.specs.Shown.{read_text, presence_text, place_text}
 
 -- a table's world, and the arrays of the script
 pub record State : Type 0 where
@@ -31,27 +36,44 @@ pub record Turned : Type 0 where
   pub state : State
   pub effect : Effect
 
--- a directive changes the world where the table accepts it
-abbrev pub directed : State → Result Event Fault → Turned
-directed s (Ok event) = record { state = record { world = world_after event s.world; layout = s.layout }; effect = Nothing }
-directed s (Err fault) = record { state = s; effect = Refused fault }
+-- a call changes the world where the table accepts it
+abbrev pub called : State → Request → Result Event Fault → Turned
+called s request (Ok event) = record { state = record { world = world_after request event s.world; layout = s.layout }; effect = Nothing }
+called s request (Err fault) = record { state = s; effect = Refused fault }
+
+-- the host's bytes of a section can be shown where host memory has them
+abbrev pub shown : Section → Option (List ℕ) → Effect
+shown section None = Refused (OutOfHost 0)
+shown section (Some bytes) = HostBytes section
+
+-- what a question prints, in a state that stays
+abbrev pub answered : State → Effect → Turned
+answered s effect = record { state = s; effect = effect }
 
 abbrev pub turned : State → Meaning → Turned
-turned s Blank = record { state = s; effect = Nothing }
+turned s Blank = answered s Nothing
 turned s (Declare name array) = record { state = record { world = s.world; layout = with_array name array s.layout }; effect = Nothing }
-turned s (Direct directive) = directed s (judge s.world (Do directive))
-turned s Report = record { state = s; effect = Reported }
+turned s (Direct directive) = called s (Do directive) (judge s.world (Do directive))
+turned s (Write addr bytes) = called s (HostWrite addr bytes) (judge s.world (HostWrite addr bytes))
+turned s (Show section) = answered s (shown section (host_read_of section s.world.state.host))
+turned s (Peek section) = answered s (DeviceBytes section)
+turned s (Present section) = answered s (Presence (is_inside (where_is section s.world.state.records.ranges)))
+turned s (Address addr) = answered s (Place (device_address_of addr s.world.state.records))
+turned s Report = answered s Reported
 
 -- what the line of a number prints
 abbrev pub effect_text : ℕ → World → Effect → List ℕ
 effect_text number w Nothing = []
 effect_text number w (Refused fault) = refusal_text number fault
+effect_text number w (HostBytes section) = read_text (host_read_of section w.state.host)
+effect_text number w (DeviceBytes section) = read_text (device_read_of section w.state)
+effect_text number w (Presence present) = presence_text present
+effect_text number w (Place place) = place_text place
 effect_text number w Reported = report_text w
 
 abbrev pub is_refused : Effect → Bool
-is_refused Nothing = false
 is_refused (Refused fault) = true
-is_refused Reported = false
+is_refused _ = false
 
 -- ---- a line
 

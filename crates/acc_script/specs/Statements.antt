@@ -1,22 +1,31 @@
 -- What a line says, or its first fault.
-use Rattle.std.specs.Prelude.{ℕ, ◌||◌, Bool, not, ◌&&◌, List, [], length, Option, Some, None, Result, Ok, Err, is_some, ◌==◌, nat_lt, nat_le, if◌then◌else◌, codes}
+use Rattle.std.specs.Prelude.{ℕ, ◌||◌, Bool, not, ◌&&◌, List, length, Option, Some, None, Result, Ok, Err, is_some, ◌==◌, nat_lt, nat_le, if◌then◌else◌, codes}
 use Rattle.std.specs.List.{list_all, before_first}
 use Rattle.std.specs.Str.{bytes_eq}
 use Rattle.acc_base.specs.declared.faults.ScriptFault.{ScriptFault}
 use Rattle.acc_base.specs.declared.faults.ScriptFault.TheVariants.{TooLong, NotText, Syntax, Number, NameTaken, HostFull}
 use Rattle.acc_base.specs.declared.directives.Directive.{Directive}
-use Rattle.acc_base.specs.declared.directives.Directive.TheVariants.{EnterData, ExitData}
+use Rattle.acc_base.specs.declared.directives.Directive.TheVariants.{EnterData, ExitData, Update}
+use Rattle.acc_base.specs.declared.items.Section.{Section}
 use Rattle.acc_script.specs.declared.arrays.Array.{Array}
 use Rattle.acc_script.specs.Reading.{◌>>=◌}
 use Rattle.acc_script.specs.Tokens.{word_at, keyword_at, name_at, number_at, number_limit, is_at_end, tab}
 use Rattle.acc_script.specs.Layout.{Layout, array_of, next_array}
-use Rattle.acc_script.specs.Clauses.{clauses_at, enter_clause_of, exit_clause_of}
+use Rattle.acc_script.specs.Places.{address_at, section_at}
+use Rattle.acc_script.specs.Bytes.{bytes_at}
+use Rattle.acc_script.specs.Grammar.{enter_grammar, exit_grammar, update_grammar}
+use Rattle.acc_script.specs.Clauses.{nothing_read, clauses_at}
 
 -- what a line asks for
 pub data Meaning : Type 0 where
   Blank : Meaning
   Declare : (name : List ℕ) (array : Array) → Meaning
   Direct : (directive : Directive) → Meaning
+  Write : (addr : ℕ) (bytes : List ℕ) → Meaning
+  Show : (section : Section) → Meaning
+  Peek : (section : Section) → Meaning
+  Present : (section : Section) → Meaning
+  Address : (addr : ℕ) → Meaning
   Report : Meaning
 
 abbrev pub declared : List ℕ → Option Array → Result Meaning ScriptFault
@@ -37,23 +46,64 @@ array_at layout text = do
   name ← name_at text
   if is_some (array_of name.0 layout) then Err NameTaken else length_at name.0 layout name.1
 
+-- ---- directives
+
 -- `enter data CLAUSES` (OpenACC 3.3, the enter data directive)
 unfoldable pub enter_at : Layout → List ℕ → Result Meaning ScriptFault
 enter_at layout text = do
   rest ← keyword_at (codes "data") text
-  items ← clauses_at (length rest) enter_clause_of layout [] rest
-  Ok (Direct (EnterData items))
+  read ← clauses_at (length rest) enter_grammar layout nothing_read rest
+  Ok (Direct (EnterData read.items))
 
 -- `exit data CLAUSES` (OpenACC 3.3, the exit data directive)
 unfoldable pub exit_at : Layout → List ℕ → Result Meaning ScriptFault
 exit_at layout text = do
   rest ← keyword_at (codes "data") text
-  items ← clauses_at (length rest) exit_clause_of layout [] rest
-  Ok (Direct (ExitData items))
+  read ← clauses_at (length rest) exit_grammar layout nothing_read rest
+  Ok (Direct (ExitData read.items))
+
+-- `update CLAUSES` (OpenACC 3.3, the update directive)
+unfoldable pub update_at : Layout → List ℕ → Result Meaning ScriptFault
+update_at layout text = do
+  read ← clauses_at (length text) update_grammar layout nothing_read text
+  Ok (Direct (Update read.items read.if_present))
+
+-- ---- bytes, sections and addresses up to the end of the line
 
 -- this, if the line ends here
 abbrev pub at_end : Meaning → List ℕ → Result Meaning ScriptFault
 at_end meaning rest = if is_at_end rest then Ok meaning else Err Syntax
+
+-- `write NAME[N] HEX`
+unfoldable pub write_at : Layout → List ℕ → Result Meaning ScriptFault
+write_at layout text = do
+  addr ← address_at layout text
+  bytes ← bytes_at addr.1
+  at_end (Write addr.0 bytes.0) bytes.1
+
+-- what a word asks of a section
+unfoldable pub asked_at : (Section → Meaning) → Layout → List ℕ → Result Meaning ScriptFault
+asked_at ask layout text = do
+  section ← section_at layout text
+  at_end (ask section.0) section.1
+
+-- `address NAME[N]`
+unfoldable pub place_at : Layout → List ℕ → Result Meaning ScriptFault
+place_at layout text = do
+  addr ← address_at layout text
+  at_end (Address addr.0) addr.1
+
+-- ---- a statement
+
+-- a question, by its word
+unfoldable pub question_at : List ℕ → Layout → List ℕ → Result Meaning ScriptFault
+question_at word layout text =
+    if bytes_eq word (codes "show") then asked_at Show layout text
+    else if bytes_eq word (codes "peek") then asked_at Peek layout text
+    else if bytes_eq word (codes "present") then asked_at Present layout text
+    else if bytes_eq word (codes "address") then place_at layout text
+    else if bytes_eq word (codes "report") then at_end Report text
+    else Err Syntax
 
 -- a statement, by its first word
 unfoldable pub statement_at : Layout → List ℕ → Result Meaning ScriptFault
@@ -62,8 +112,11 @@ statement_at layout text = do
   if bytes_eq word.0 (codes "array") then array_at layout word.1
       else if bytes_eq word.0 (codes "enter") then enter_at layout word.1
       else if bytes_eq word.0 (codes "exit") then exit_at layout word.1
-      else if bytes_eq word.0 (codes "report") then at_end Report word.1
-      else Err Syntax
+      else if bytes_eq word.0 (codes "update") then update_at layout word.1
+      else if bytes_eq word.0 (codes "write") then write_at layout word.1
+      else question_at word.0 layout word.1
+
+-- ---- a line
 
 -- a tab, or from a space to a tilde
 abbrev pub is_text_byte : ℕ → Bool

@@ -1,7 +1,7 @@
 //! The arrays of a script, and where they lie in host memory.
 
 ghost use Rattle.std.specs.Prelude.{◌≡◌, ◌+◌, ◌≤◌, OnOk, OnErr};
-ghost use Rattle.acc_script.specs.Layout.{new_layout, array_of, next_array, with_array, whole, part_of};
+ghost use Rattle.acc_script.specs.Layout.{new_layout, array_of, next_array, with_array, whole, part_of, byte_of};
 
 use acc_base::Section;
 use std::alloc::{AllocError, Global};
@@ -29,6 +29,13 @@ impl Array {
             start: u64::from(self.start),
             len: u64::from(self.end.saturating_sub(self.start)),
         }
+    }
+
+    /// The address of the byte at an offset. It may lie past the array.
+    pub fn byte(self, from: u32) -> u64
+        ensures { result ≡ byte_of self from }
+    {
+        u64::from(self.start) + u64::from(from)
     }
 
     /// So many bytes from an offset on. They may lie past the array.

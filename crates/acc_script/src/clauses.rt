@@ -1,54 +1,27 @@
-//! The sections and clauses of a directive.
+//! The clauses and options of a directive.
 
-ghost use Rattle.std.specs.Prelude.{◌≡◌, [], length, List, ℕ, Option};
+ghost use Rattle.std.specs.Prelude.{length};
 ghost use Rattle.acc_script.specs.Reading.{Gives};
-ghost use Rattle.acc_script.specs.Clauses.{known_at, part_at, section_at, items_at, plain_items_at, group_at, clause_at, clauses_at, enter_clause_of, exit_clause_of};
+ghost use Rattle.acc_script.specs.Clauses.{items_at, modifier_at, modified_at, group_at, nothing_read, clause_at, with_clause, clauses_at};
+ghost use Rattle.acc_script.specs.ClausesRead.{read_of};
 
-use crate::arrays::{Array, Arrays};
+use crate::arrays::Arrays;
+use crate::grammar::Clause;
+use crate::places::section_at;
 use crate::tokens::{
-    is_at_end, is_mark_next, is_text, is_word_before, mark_at, name_at, number_at, skip_comma,
-    word_at,
+    is_at_end, is_mark_next, is_text, is_word_before, mark_at, skip_comma, word_at,
 };
 use crate::troubles::Trouble;
-use acc_base::{EnterClause, ExitClause, Item, ScriptFault, Section};
+use acc_base::{Item, ScriptFault};
 use std::alloc::Global;
 
-/// The next word, which is the name of an array, and the text after it.
-#[tactic(auto, unfolding(crate::specs::Clauses::known_at))]
-fn known_at<'a>(arrays: &Arrays, text: &'a [u8]) -> Result<(Array, &'a [u8]), Trouble>
-    ensures { Gives (λ x. (x.0, x.1.now)) result (known_at arrays.now text.now) }
-{
-    let (name, rest) = name_at(text)?;
-    match arrays.get(name) {
-        None => Err(Trouble::Line(ScriptFault::UnknownName)),
-        Some(array) => Ok((array, rest)),
-    }
-}
-
-/// A part of an array in brackets, and the text after it.
-#[tactic(auto, unfolding(crate::specs::Clauses::part_at))]
-fn part_at(array: Array, text: &[u8]) -> Result<(Section, &[u8]), Trouble>
-    ensures { Gives (λ x. (x.0, x.1.now)) result (part_at array text.now) }
-{
-    let rest = mark_at(b'[', text)?;
-    let (from, rest) = number_at(u32::MAX, rest)?;
-    let rest = mark_at(b':', rest)?;
-    let (len, rest) = number_at(u32::MAX, rest)?;
-    let rest = mark_at(b']', rest)?;
-    Ok((array.part(from, len), rest))
-}
-
-/// A section, which is an array or a part of one, and the text after it.
-#[tactic(auto, unfolding(crate::specs::Clauses::section_at))]
-fn section_at<'a>(arrays: &Arrays, text: &'a [u8]) -> Result<(Section, &'a [u8]), Trouble>
-    ensures { Gives (λ x. (x.0, x.1.now)) result (section_at arrays.now text.now) }
-{
-    let (array, rest) = known_at(arrays, text)?;
-    if is_mark_next(b'[', rest) {
-        part_at(array, rest)
-    } else {
-        Ok((array.whole(), rest))
-    }
+/// What the clauses and options of a directive say.
+#[derive(Drop)]
+pub struct Clauses<C> {
+    /// The items, in written order.
+    pub items: Vec<Item<C>>,
+    /// The option `if_present` stands among them.
+    pub if_present: bool,
 }
 
 /// One section or more, separated by commas, behind the items before; the text after them.
@@ -74,102 +47,99 @@ fn items_at<'a, C: Copy>(
     Err(Trouble::Line(ScriptFault::Syntax))
 }
 
-/// The same without a modifier, which is a first word with a colon after it.
-#[tactic(auto, unfolding(crate::specs::Clauses::plain_items_at))]
-fn plain_items_at<'a, C: Copy>(
-    clause: C,
-    arrays: &Arrays,
-    items: &mut Vec<Item<C>>,
-    text: &'a [u8],
-) -> Result<&'a [u8], Trouble>
-    ensures { Gives (λ x. (items.new.items, x.now)) result (plain_items_at clause arrays.now items.old.items text.now) }
+/// A clause with the modifier that stands next, before a colon; the text after the colon.
+#[tactic(auto, unfolding(crate::specs::Clauses::modifier_at))]
+fn modifier_at<C: Clause>(clause: C, text: &[u8]) -> Result<(C, &[u8]), Trouble>
+    ensures { Gives (λ x. (x.0, x.1.now)) result (modifier_at C.grammar clause text.now) }
 {
-    if is_word_before(b':', text) {
-        return Err(Trouble::Line(ScriptFault::Syntax));
+    let (word, rest) = word_at(text)?;
+    let rest = mark_at(b':', rest)?;
+    match clause.with_modifier(word) {
+        None => Err(Trouble::Line(ScriptFault::Syntax)),
+        Some(modified) => Ok((modified, rest)),
     }
-    items_at(clause, arrays, items, text)
 }
 
-/// The same in parentheses.
+/// A clause with the modifier that stands next, if one does; the text after it. The first word is a modifier exactly
+/// where a colon follows it.
+#[tactic(auto, unfolding(crate::specs::Clauses::modified_at))]
+fn modified_at<C: Clause>(clause: C, text: &[u8]) -> Result<(C, &[u8]), Trouble>
+    ensures { Gives (λ x. (x.0, x.1.now)) result (modified_at C.grammar clause text.now) }
+{
+    if is_word_before(b':', text) {
+        modifier_at(clause, text)
+    } else {
+        Ok((clause, text))
+    }
+}
+
+/// The items of a clause, in parentheses, behind the items before; the text after them.
 #[tactic(auto, unfolding(crate::specs::Clauses::group_at))]
-fn group_at<'a, C: Copy>(
+fn group_at<'a, C: Clause>(
     clause: C,
     arrays: &Arrays,
     items: &mut Vec<Item<C>>,
     text: &'a [u8],
 ) -> Result<&'a [u8], Trouble>
-    ensures { Gives (λ x. (items.new.items, x.now)) result (group_at clause arrays.now items.old.items text.now) }
+    ensures { Gives (λ x. (items.new.items, x.now)) result (group_at C.grammar clause arrays.now items.old.items text.now) }
 {
     let inside = mark_at(b'(', text)?;
-    let rest = plain_items_at(clause, arrays, items, inside)?;
+    let (modified, inside) = modified_at(clause, inside)?;
+    let rest = items_at(modified, arrays, items, inside)?;
     mark_at(b')', rest)
 }
 
-/// The clauses of a directive, by their words.
-pub trait Clause: Copy {
-    /// The clause of a word.
-    ghost clause_of: { List ℕ → Option Self };
-
-    /// The clause of a word, where the directive has one.
-    fn from_word(word: &[u8]) -> Option<Self>
-        ensures { result ≡ clause_of word.now };
-}
-
-impl Clause for EnterClause {
-    ghost clause_of = { enter_clause_of };
-
-    fn from_word(word: &[u8]) -> Option<EnterClause> {
-        if is_text(word, "copyin") {
-            Some(EnterClause::Copyin)
-        } else {
-            None
-        }
-    }
-}
-
-impl Clause for ExitClause {
-    ghost clause_of = { exit_clause_of };
-
-    fn from_word(word: &[u8]) -> Option<ExitClause> {
-        if is_text(word, "delete") {
-            Some(ExitClause::Delete)
-        } else {
-            None
-        }
-    }
-}
-
-/// A clause, with its items behind those before; the text after it.
+/// A clause or an option, behind those before; the text after it.
 #[tactic(auto, unfolding(crate::specs::Clauses::clause_at))]
 fn clause_at<'a, C: Clause>(
     arrays: &Arrays,
-    items: &mut Vec<Item<C>>,
+    clauses: &mut Clauses<C>,
     text: &'a [u8],
 ) -> Result<&'a [u8], Trouble>
-    ensures { Gives (λ x. (items.new.items, x.now)) result (clause_at C.clause_of arrays.now items.old.items text.now) }
+    ensures { Gives (λ x. (read_of clauses.new, x.now)) result (clause_at C.grammar arrays.now (read_of clauses.old) text.now) }
 {
     let (word, rest) = word_at(text)?;
+    if C::has_if_present() && is_text(word, "if_present") {
+        if clauses.if_present {
+            return Err(Trouble::Line(ScriptFault::Syntax));
+        }
+        clauses.if_present = true;
+        return Ok(rest);
+    }
     match C::from_word(word) {
         None => Err(Trouble::Line(ScriptFault::Syntax)),
-        Some(clause) => group_at(clause, arrays, items, rest),
+        Some(clause) => group_at(clause, arrays, &mut clauses.items, rest),
     }
 }
 
-/// The items of one clause or more, up to the end of the line.
+/// What was read, if a clause was among it.
+fn with_clause<C: Copy>(clauses: Clauses<C>) -> Result<Clauses<C>, Trouble>
+    ensures { Gives read_of result (with_clause (read_of clauses)) }
+{
+    if clauses.items.is_empty() {
+        return Err(Trouble::Line(ScriptFault::Syntax));
+    }
+    Ok(clauses)
+}
+
+/// The clauses and options up to the end of the line, at least one clause.
 #[tactic(auto, using(crate::proofs::Turns::clauses_fail, crate::proofs::Turns::clauses_done, crate::proofs::Turns::clauses_go_on, crate::proofs::Turns::clauses_none))]
 pub fn clauses_at<C: Clause>(
     alloc: Global,
     arrays: &Arrays,
     text: &[u8],
-) -> Result<Vec<Item<C>>, Trouble>
-    ensures { Gives (λ x. x.items) result (clauses_at (length text.now) C.clause_of arrays.now [] text.now) }
+) -> Result<Clauses<C>, Trouble>
+    ensures { Gives read_of result (clauses_at (length text.now) C.grammar arrays.now nothing_read text.now) }
 {
-    let mut items = Vec::new(alloc);
+    let mut clauses = Clauses {
+        items: Vec::new(alloc),
+        if_present: false,
+    };
     let mut rest = text;
     for _ in 0..text.len() {
-        rest = clause_at(arrays, &mut items, rest)?;
+        rest = clause_at(arrays, &mut clauses, rest)?;
         if is_at_end(rest) {
-            return Ok(items);
+            return with_clause(clauses);
         }
         rest = skip_comma(rest);
     }

@@ -3,7 +3,7 @@
 ghost use Rattle.std.specs.Prelude.{◌≡◌};
 ghost use Rattle.acc_script.specs.Scripts.{is_refused};
 
-use acc_base::Fault;
+use acc_base::{Fault, Section};
 
 /// What a statement has to print.
 #[derive(Clone, Copy, Debug, PartialEq, Eq)]
@@ -12,6 +12,14 @@ pub enum Effect {
     Nothing,
     /// That its line was refused.
     Refused(Fault),
+    /// The bytes of a section of host memory.
+    HostBytes(Section),
+    /// The bytes that the device has of a section, if it is present.
+    DeviceBytes(Section),
+    /// Whether a section is present.
+    Presence(bool),
+    /// A device address, if there is one.
+    Place(Option<u64>),
     /// The report.
     Reported,
 }
@@ -21,9 +29,6 @@ impl Effect {
     pub fn is_refused(self) -> bool
         ensures { result ≡ is_refused self }
     {
-        match self {
-            Effect::Refused(_) => true,
-            Effect::Nothing | Effect::Reported => false,
-        }
+        matches!(self, Effect::Refused(_))
     }
 }

@@ -6,17 +6,22 @@
 
 mod addresses;
 mod arrays;
+mod bytes;
 mod clauses;
+mod directives;
 mod effects;
 mod ends;
+mod grammar;
 mod lines;
 mod mappings;
 mod memory;
+mod places;
 mod reading;
 mod refusals;
 mod reports;
 mod runs;
 mod sessions;
+mod showing;
 mod statements;
 mod statuses;
 mod streams;

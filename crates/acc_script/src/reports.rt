@@ -9,6 +9,7 @@ use crate::Sink;
 use crate::effects::Effect;
 use crate::mappings::{write_counters, write_mapping, write_sizes, write_totals};
 use crate::refusals::write_refusal;
+use crate::showing::{write_place, write_presence, write_read};
 use acc_base::Fault;
 use acc_table::{Mapped, Table};
 
@@ -37,6 +38,10 @@ pub fn write_effect<W: Sink>(writer: &mut W, number: u64, table: &Table, effect:
     match effect {
         Effect::Nothing => true,
         Effect::Refused(fault) => write_refusal(writer, number, fault),
+        Effect::HostBytes(section) => write_read(writer, table.host_read(section)),
+        Effect::DeviceBytes(section) => write_read(writer, table.device_read(section)),
+        Effect::Presence(present) => write_presence(writer, present),
+        Effect::Place(place) => write_place(writer, place),
         Effect::Reported => write_report(table, writer),
     }
 }

@@ -1,13 +1,16 @@
 //! A table and the arrays of a script, and what statements do to them.
 
+ghost use Rattle.std.specs.Prelude.{◌≡◌};
 ghost use Rattle.acc_script.specs.Meanings.{meaning_of};
-ghost use Rattle.acc_script.specs.Statements.{Direct};
-ghost use Rattle.acc_script.specs.Sessions.{state_of, Opens, Performs};
+ghost use Rattle.acc_script.specs.Sessions.{state_of, Opens, Performs, CallsFor};
+ghost use Rattle.acc_script.specs.Scripts.{shown};
+ghost use Rattle.acc_table.specs.Calls.{request_of};
+ghost use Rattle.acc_table.specs.Queries.{host_read_of};
 
 use crate::arrays::Arrays;
 use crate::effects::Effect;
 use crate::statements::Statement;
-use acc_base::{Config, Directive, Fault};
+use acc_base::{Config, Fault, Section};
 use acc_table::{Call, Table};
 use std::alloc::Global;
 
@@ -49,19 +52,34 @@ impl Session {
                 self.arrays.insert(alloc, name, array)?;
                 Ok(Effect::Nothing)
             }
-            Statement::Direct(directive) => self.direct(directive),
+            Statement::Direct(directive) => self.call(Call::Do(directive)),
+            Statement::Write { addr, bytes } => self.call(Call::HostWrite { addr, bytes }),
+            Statement::Show(section) => Ok(self.show(section)),
+            Statement::Peek(section) => Ok(Effect::DeviceBytes(section)),
+            Statement::Present(section) => Ok(Effect::Presence(self.table.is_present(section))),
+            Statement::Address(addr) => Ok(Effect::Place(self.table.device_address(addr))),
             Statement::Report => Ok(Effect::Reported),
         }
     }
 
-    /// Runs a directive.
-    fn direct(&mut self, directive: Directive) -> Result<Effect, Fault>
-        ensures { Performs (state_of self.old) (Direct directive) (state_of self.new) result }
+    /// Makes a call on the table.
+    fn call(&mut self, call: Call) -> Result<Effect, Fault>
+        ensures { CallsFor (state_of self.old) (request_of call) (state_of self.new) result }
     {
-        match self.table.apply(Call::Do(directive)) {
+        match self.table.apply(call) {
             Ok(_) => Ok(Effect::Nothing),
             Err((_, Fault::Memory)) => Err(Fault::Memory),
             Err((_, fault)) => Ok(Effect::Refused(fault)),
+        }
+    }
+
+    /// The host's bytes of a section are to be shown, where host memory has them.
+    fn show(&self, section: Section) -> Effect
+        ensures { result ≡ shown section (host_read_of section (state_of self.now).world.state.host) }
+    {
+        match self.table.host_read(section) {
+            None => Effect::Refused(Fault::OutOfHost { item: 0 }),
+            Some(_) => Effect::HostBytes(section),
         }
     }
 }

@@ -3,14 +3,16 @@
 ghost use Rattle.std.specs.Prelude.{◌≡◌, ◌≤◌, ◌==◌, not, length};
 ghost use Rattle.std.specs.List.{list_all, prefix_len};
 ghost use Rattle.acc_script.specs.Reading.{Gives};
-ghost use Rattle.acc_script.specs.Statements.{length_at, array_at, enter_at, exit_at, statement_at, is_text_byte, hash, before_comment, line_at};
+ghost use Rattle.acc_script.specs.Statements.{length_at, array_at, write_at, asked_at, place_at, question_at, statement_at, at_end, is_text_byte, hash, before_comment, line_at, Show, Peek, Present};
 ghost use Rattle.acc_script.specs.Meanings.{meaning_of};
 
 use crate::arrays::{Array, Arrays};
-use crate::clauses::clauses_at;
-use crate::tokens::{is_at_end, is_text, keyword_at, name_at, number_at, word_at};
+use crate::bytes::bytes_at;
+use crate::directives::{enter_at, exit_at, update_at};
+use crate::places::{address_at, section_at};
+use crate::tokens::{is_at_end, is_text, name_at, number_at, word_at};
 use crate::troubles::Trouble;
-use acc_base::{Directive, List, ScriptFault};
+use acc_base::{Directive, List, ScriptFault, Section};
 use std::alloc::Global;
 
 /// How many bytes a line may have.
@@ -30,6 +32,21 @@ pub enum Statement<'a> {
     },
     /// A directive.
     Direct(Directive),
+    /// A write into host memory, as the host does it.
+    Write {
+        /// The first host address.
+        addr: u64,
+        /// The bytes.
+        bytes: List<u8>,
+    },
+    /// The bytes of a section of host memory.
+    Show(Section),
+    /// The bytes that the device has of a section.
+    Peek(Section),
+    /// Whether a section is present.
+    Present(Section),
+    /// The device address of a host address.
+    Address(u64),
     /// The report.
     Report,
 }
@@ -98,12 +115,41 @@ fn statement_at<'a>(
         enter_at(alloc, arrays, rest)
     } else if is_text(word, "exit") {
         exit_at(alloc, arrays, rest)
+    } else if is_text(word, "update") {
+        update_at(alloc, arrays, rest)
+    } else if is_text(word, "write") {
+        write_at(alloc, arrays, rest)
+    } else {
+        question_at(word, arrays, rest)
+    }
+}
+
+/// A question, by its word.
+#[tactic(auto, unfolding(crate::specs::Statements::question_at))]
+fn question_at(word: &[u8], arrays: &Arrays, text: &[u8]) -> Result<Statement<'static>, Trouble>
+    ensures { Gives meaning_of result (question_at word.now arrays.now text.now) }
+{
+    if is_text(word, "show") {
+        show_at(arrays, text)
+    } else if is_text(word, "peek") {
+        peek_at(arrays, text)
+    } else if is_text(word, "present") {
+        present_at(arrays, text)
+    } else if is_text(word, "address") {
+        place_at(arrays, text)
     } else if is_text(word, "report") {
-        if is_at_end(rest) {
-            Ok(Statement::Report)
-        } else {
-            Err(Trouble::Line(ScriptFault::Syntax))
-        }
+        at_end(Statement::Report, text)
+    } else {
+        Err(Trouble::Line(ScriptFault::Syntax))
+    }
+}
+
+/// The statement, if the line ends here.
+fn at_end<'a>(statement: Statement<'a>, rest: &[u8]) -> Result<Statement<'a>, Trouble>
+    ensures { Gives meaning_of result (at_end (meaning_of statement.entry) rest.now) }
+{
+    if is_at_end(rest) {
+        Ok(statement)
     } else {
         Err(Trouble::Line(ScriptFault::Syntax))
     }
@@ -139,22 +185,48 @@ fn length_at<'a>(name: &'a [u8], arrays: &Arrays, text: &[u8]) -> Result<Stateme
     }
 }
 
-/// The `enter data` directive.
-#[tactic(auto, unfolding(crate::specs::Statements::enter_at))]
-fn enter_at(alloc: Global, arrays: &Arrays, text: &[u8]) -> Result<Statement<'static>, Trouble>
-    ensures { Gives meaning_of result (enter_at arrays.now text.now) }
+/// The address and the bytes of a write.
+#[tactic(auto, unfolding(crate::specs::Statements::write_at))]
+fn write_at(alloc: Global, arrays: &Arrays, text: &[u8]) -> Result<Statement<'static>, Trouble>
+    ensures { Gives meaning_of result (write_at arrays.now text.now) }
 {
-    let rest = keyword_at("data", text)?;
-    let items = List::from_vec(clauses_at(alloc, arrays, rest)?);
-    Ok(Statement::Direct(Directive::EnterData { items }))
+    let (addr, rest) = address_at(arrays, text)?;
+    let (bytes, rest) = bytes_at(alloc, rest)?;
+    at_end(Statement::Write { addr, bytes }, rest)
 }
 
-/// The `exit data` directive.
-#[tactic(auto, unfolding(crate::specs::Statements::exit_at))]
-fn exit_at(alloc: Global, arrays: &Arrays, text: &[u8]) -> Result<Statement<'static>, Trouble>
-    ensures { Gives meaning_of result (exit_at arrays.now text.now) }
+/// The section that is shown of host memory.
+#[tactic(auto, unfolding(crate::specs::Statements::asked_at))]
+fn show_at(arrays: &Arrays, text: &[u8]) -> Result<Statement<'static>, Trouble>
+    ensures { Gives meaning_of result (asked_at Show arrays.now text.now) }
 {
-    let rest = keyword_at("data", text)?;
-    let items = List::from_vec(clauses_at(alloc, arrays, rest)?);
-    Ok(Statement::Direct(Directive::ExitData { items }))
+    let (section, rest) = section_at(arrays, text)?;
+    at_end(Statement::Show(section), rest)
+}
+
+/// The section that is shown of device memory.
+#[tactic(auto, unfolding(crate::specs::Statements::asked_at))]
+fn peek_at(arrays: &Arrays, text: &[u8]) -> Result<Statement<'static>, Trouble>
+    ensures { Gives meaning_of result (asked_at Peek arrays.now text.now) }
+{
+    let (section, rest) = section_at(arrays, text)?;
+    at_end(Statement::Peek(section), rest)
+}
+
+/// The section that may be present.
+#[tactic(auto, unfolding(crate::specs::Statements::asked_at))]
+fn present_at(arrays: &Arrays, text: &[u8]) -> Result<Statement<'static>, Trouble>
+    ensures { Gives meaning_of result (asked_at Present arrays.now text.now) }
+{
+    let (section, rest) = section_at(arrays, text)?;
+    at_end(Statement::Present(section), rest)
+}
+
+/// The host address that may have a device address.
+#[tactic(auto, unfolding(crate::specs::Statements::place_at))]
+fn place_at(arrays: &Arrays, text: &[u8]) -> Result<Statement<'static>, Trouble>
+    ensures { Gives meaning_of result (place_at arrays.now text.now) }
+{
+    let (addr, rest) = address_at(arrays, text)?;
+    at_end(Statement::Address(addr), rest)
 }

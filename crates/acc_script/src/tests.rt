@@ -23,14 +23,21 @@ fn expect_run<R: Abort + Threads + Wait + Sync + AllocGlobal>(
     printed: &str,
     outcome: Result<Status, Fault>,
 ) {
+    expect_bytes(rt, config, input, printed.as_bytes(), outcome);
+}
+
+/// The same for output as bytes.
+fn expect_bytes<R: Abort + Threads + Wait + Sync + AllocGlobal>(
+    rt: &R,
+    config: Config,
+    input: &[u8],
+    printed: &[u8],
+    outcome: Result<Status, Fault>,
+) {
     let mut reader = MemorySource::new(input);
     let mut writer = MemorySink::new(rt.alloc());
     let got = run(rt, &mut reader, &mut writer, config, 1);
-    assert_eq!(rt;
-        writer.as_slice(),
-        printed.as_bytes(),
-        "printed by {input:?}"
-    );
+    assert_eq!(rt; writer.as_slice(), printed, "printed by {input:?}");
     assert_eq!(rt; got, outcome, "answered to {input:?}");
 }
 
@@ -125,6 +132,143 @@ fn prints_refusals_of_small_tables(rt: HostRuntime) -> Result<(), Fail> {
 }
 
 #[test]
+fn copies_between_the_memories(rt: HostRuntime) -> Result<(), Fail> {
+    for (script, printed) in [
+        // What the host wrote after the copy comes back over by `update`.
+        (
+            "array a 4\nwrite a[0] 01020304\nenter data copyin(a)\nwrite a[0] ffffffff\npeek a\nupdate self(a)\nshow a\n",
+            "01020304\n01020304\n",
+        ),
+        // A block made by `create` is filled; `zero` fills it with zero.
+        (
+            "array a 16\nexit data delete(a)\nenter data create(zero: a)\npeek a[14:2]\nexit data delete(a)\nexit data delete(a)\nreport\n",
+            "0000\nhost 65536 device 65536 used 0\nregions 0 events 4\n",
+        ),
+        (
+            "array a 2\nwrite a[0] 0102\nenter data create(a)\npeek a\nshow a\n",
+            "a5a5\n0102\n",
+        ),
+        // `update` copies its section alone, one way or the other.
+        (
+            "array a 3\nenter data copyin(readonly: a)\nwrite a[0] 010203\nupdate device(a[1:1])\npeek a\nwrite a[0] ffffff\nupdate host(a[1:2])\nshow a\n",
+            "000200\nff0200\n",
+        ),
+        // `copyout` copies its section alone, and only where the mapping ends.
+        (
+            "array a 4\nwrite a[0] 01020304\nenter data copyin(a)\nwrite a[0] ffffffff\nexit data copyout(a[1:2])\nshow a\npeek a\n",
+            "ff0203ff\nnone\n",
+        ),
+        (
+            "array a 1\nenter data create(a)\nenter data create(zero: a)\nexit data copyout(a)\nshow a\nexit data copyout(a)\nshow a\n",
+            "00\na5\n",
+        ),
+        (
+            "array a 1\nenter data create(a)\nexit data delete(a)\nshow a\n",
+            "00\n",
+        ),
+    ] {
+        expect_run(&rt, wide()?, script.as_bytes(), printed, Ok(Status::Clean));
+    }
+    Ok(())
+}
+
+#[test]
+fn answers_questions(rt: HostRuntime) -> Result<(), Fail> {
+    // The 16 bytes from the offset 8 on are mapped.
+    for (question, answer) in [
+        ("present a[8:16]", "yes"),
+        ("present a[9:1]", "yes"),
+        ("present a[8:17]", "no"),
+        ("present a", "no"),
+        ("present a[24:8]", "no"),
+        ("present a[9:0]", "no"),
+        ("address a[8]", "0x100000000"),
+        ("address a[23]", "0x10000000f"),
+        ("address a[24]", "none"),
+        ("address a[7]", "none"),
+        ("address a[4294967295]", "none"),
+        ("peek a[22:2]", "0708"),
+        ("peek a[22:3]", "none"),
+        ("peek a[0:1]", "none"),
+        ("peek a[9:0]", "none"),
+        ("show a[21:4]", "00070809"),
+        ("show a[9:0]", "-"),
+        ("show a[4294967295:0]", "-"),
+        ("show a[65534:2]", "0000"),
+    ] {
+        let mut input = Vec::from_slice(
+            rt.alloc(),
+            b"array a 32\nwrite a[22] 070809\nenter data copyin(a[8:16])\n",
+        )?;
+        input.extend_from_slice(question.as_bytes())?;
+        let printed = format!(in rt.alloc(); "{answer}\n")?;
+        expect_run(&rt, wide()?, &input, printed.as_str(), Ok(Status::Clean));
+    }
+    Ok(())
+}
+
+#[test]
+fn refuses_writes_shows_and_updates(rt: HostRuntime) -> Result<(), Fail> {
+    expect_run(
+        &rt,
+        wide()?,
+        b"array s 16\nupdate self(s)\nupdate self(s) if_present\nwrite s[65536] 01\nshow s[65535:2]\nshow s[65536:1]\n\
+          enter data create(s[0:8])\nupdate if_present device(s)\nupdate self(s[0:1]) device(s[0:1])\nexit data copyout(s)\nenter data create(zero: s)\nreport\n",
+        "line 2: refused 11 NotPresent item 0\n\
+         line 4: refused 7 OutOfHost item 0\n\
+         line 5: refused 7 OutOfHost item 0\n\
+         line 6: refused 7 OutOfHost item 0\n\
+         line 8: refused 10 PartlyPresent item 0\n\
+         line 9: refused 5 TooManyItems n 2\n\
+         line 10: refused 10 PartlyPresent item 0\n\
+         line 11: refused 10 PartlyPresent item 0\n\
+         host 65536 device 65536 used 16\n\
+         map 0x1000 8 at 0x100000000 structured 0 dynamic 1\n\
+         regions 0 events 2\n",
+        Ok(Status::Refused),
+    );
+    // What stood before a line that ends in the middle of a clause is printed.
+    expect_run(
+        &rt,
+        wide()?,
+        b"array a 16\nshow a[0:2]\nenter data copyin(a[0:",
+        "0000\n",
+        Err(Fault::Script {
+            line: 3,
+            kind: ScriptFault::Syntax,
+        }),
+    );
+    Ok(())
+}
+
+#[test]
+fn writes_and_shows_many_bytes(rt: HostRuntime) -> Result<(), Fail> {
+    // The digits of 130 bytes are written in three pieces; the bytes 63 and 64 are at the end of one.
+    let mut printed = [b'0'; 261];
+    printed[127] = b'a';
+    printed[128] = b'f';
+    printed[129] = b'f';
+    printed[260] = b'\n';
+    expect_bytes(
+        &rt,
+        wide()?,
+        b"array a 130\nwrite a[63] 0aFf\nshow a\n",
+        &printed,
+        Ok(Status::Clean),
+    );
+    // A word of 128 digits, and one of 130.
+    let digits = [b'9'; 129];
+    let mut input = Vec::from_slice(rt.alloc(), b"array a 64\nwrite a[0]")?;
+    input.extend_from_slice(&digits[..128])?;
+    let mut longer = input.clone()?;
+    input.extend_from_slice(b"\nshow a[62:2]\n")?;
+    expect_run(&rt, wide()?, &input, "9999\n", Ok(Status::Clean));
+    longer.extend_from_slice(b"99")?;
+    expect_fault(&rt, &longer, 2, ScriptFault::Number)?;
+    Ok(())
+}
+
+#[test]
 fn tells_each_kind_of_fault(rt: HostRuntime) -> Result<(), Fail> {
     expect_fault(&rt, b"\xc3\xa4\n", 1, ScriptFault::NotText)?;
     expect_fault(
@@ -138,6 +282,7 @@ fn tells_each_kind_of_fault(rt: HostRuntime) -> Result<(), Fail> {
     expect_fault(&rt, b"array a 4294967295\n", 1, ScriptFault::HostFull)?;
     expect_fault(&rt, b"array a 65536\narray b 1\n", 2, ScriptFault::HostFull)?;
     expect_fault(&rt, b"enter data copyin(b)\n", 1, ScriptFault::UnknownName)?;
+    expect_fault(&rt, b"show b\n", 1, ScriptFault::UnknownName)?;
     expect_fault(
         &rt,
         b"array a 16\n\nenter data copyin(a[0:",
@@ -165,6 +310,23 @@ fn tells_the_first_fault_from_the_left(rt: HostRuntime) -> Result<(), Fail> {
             ScriptFault::UnknownName,
         ),
         ("enter data copyin(a) delete(b)", ScriptFault::Syntax),
+        ("write a[0] 012", ScriptFault::Number),
+        ("write a[0] 0", ScriptFault::Number),
+        ("write a[0] 01g", ScriptFault::Syntax),
+        ("write a[4294967296] 01g", ScriptFault::Number),
+        ("write b[0] 012", ScriptFault::UnknownName),
+        ("show b[0:1", ScriptFault::UnknownName),
+        ("peek b a", ScriptFault::UnknownName),
+        ("address b !", ScriptFault::UnknownName),
+        ("enter data create(zero b)", ScriptFault::UnknownName),
+        ("enter data create(zero: zero: a)", ScriptFault::UnknownName),
+        ("enter data create(b: c)", ScriptFault::Syntax),
+        ("exit data copyout(zero: b)", ScriptFault::Syntax),
+        (
+            "update self(b) if_present if_present",
+            ScriptFault::UnknownName,
+        ),
+        ("update if_present if_present self(b)", ScriptFault::Syntax),
     ] {
         let mut input = Vec::from_slice(rt.alloc(), b"array a 16\n")?;
         input.extend_from_slice(line.as_bytes())?;
@@ -201,15 +363,45 @@ fn refuses_what_is_no_statement(rt: HostRuntime) -> Result<(), Fail> {
         "enter data copyin(a[0])",
         "enter data copyin(a[0:])",
         "enter data copyin(a[b:1])",
-        "enter data copyin(readonly: a)",
         "enter data copyin(unknown: a)",
+        "enter data copyin(: a)",
+        "enter data copyin(readonly:)",
+        "enter data copyin(zero: a)",
+        "enter data create(readonly: a)",
+        "enter data copyin(a) if_present",
+        "enter data copyout(a)",
         "enter data copyin(a) async",
         "enter data delete(a)",
         "exit data copyin(a)",
+        "exit data create(a)",
+        "exit data copyout(zero: a)",
+        "exit data delete(readonly: a)",
         "exit data delete(a) finalize",
+        "exit data delete(a) if_present",
+        "update",
+        "update a",
+        "update if_present",
+        "update if_present self(a) if_present",
+        "update copyin(a)",
+        "update self(zero: a)",
+        "update self(a) async",
+        "update data self(a)",
+        "write a 01",
+        "write a[0:1] 01",
+        "write a[0]",
+        "write a[0] 01 02",
+        "write a[0] 0x01",
+        "show",
+        "show a a",
+        "show a[0]",
+        "peek a[0:1",
+        "present(a)",
+        "address a",
+        "address a[0:1]",
+        "point a[0] to a[8]",
         "data copy(a)",
         "end data",
-        "show a",
+        "wait",
     ] {
         let mut input = Vec::from_slice(rt.alloc(), b"array a 16\n")?;
         input.extend_from_slice(line.as_bytes())?;
@@ -240,6 +432,15 @@ fn reads_each_spelling(rt: HostRuntime) -> Result<(), Fail> {
         b"array a 16\nenter data copyin(a)copyin(a)\nexit data delete(a) , delete(a, a)\n",
         "line 2: refused 5 TooManyItems n 2\nline 3: refused 5 TooManyItems n 3\n",
         Ok(Status::Refused),
+    );
+    // A modifier is one where a colon follows it; options stand before and behind clauses; digits are of either case.
+    expect_run(
+        &rt,
+        wide()?,
+        b"array zero 2\narray readonly 2\narray if_present 1\nenter data create ( zero : zero )\nenter data copyin(readonly:readonly)\nenter data create(if_present)\n\
+          write zero [ 0 ] aBCd\nupdate if_present,device(zero)\npeek zero\nupdate self(if_present) , if_present\nshow if_present\nwrite readonly[1]7F#f\nupdate device(readonly)if_present\npeek readonly\n",
+        "abcd\na5\n007f\n",
+        Ok(Status::Clean),
     );
     Ok(())
 }
@@ -409,13 +610,13 @@ impl Sink for Narrow {
     }
 }
 
-/// A script that takes memory for its input, its names, its items and its events.
-const SCRIPT: &[u8; 97] =
-    b"array a 16\narray b 16\nenter data copyin(b)\nreport\nenter data copyin(b[8:16])\nexit data delete(b)\n";
+/// A script that takes memory for its input, its names, its bytes, its items and its events.
+const SCRIPT: &[u8; 125] =
+    b"array a 16\narray b 16\nwrite a[0] 0102\nshow a[0:2]\nenter data copyin(b)\nreport\nenter data copyin(b[8:16])\nexit data delete(b)\n";
 
-/// What it prints, and a zero: 103 bytes for the report, and 40 for the refusal.
-const PRINTED: &[u8; 144] =
-    b"host 65536 device 65536 used 16\nmap 0x1010 16 at 0x100000000 structured 0 dynamic 1\nregions 0 events 1\nline 5: refused 10 PartlyPresent item 0\n\0";
+/// What it prints, and a zero: 5 bytes for those shown, 103 for the report, and 40 for the refusal.
+const PRINTED: &[u8; 149] =
+    b"0102\nhost 65536 device 65536 used 16\nmap 0x1010 16 at 0x100000000 structured 0 dynamic 1\nregions 0 events 2\nline 7: refused 10 PartlyPresent item 0\n\0";
 
 #[test]
 fn ends_may_be_slow_or_fail(rt: HostRuntime) -> Result<(), Fail> {
@@ -429,12 +630,12 @@ fn ends_may_be_slow_or_fail(rt: HostRuntime) -> Result<(), Fail> {
         let (want, len) = if fails {
             (Err(Fault::Read), 0)
         } else {
-            (Ok(Status::Refused), 143)
+            (Ok(Status::Refused), 148)
         };
         assert_eq!(rt; got, want);
         assert_eq!(rt; writer.len, len);
     }
-    for room in 0..143usize {
+    for room in 0..148usize {
         for fails in [false, true] {
             let mut reader = MemorySource::new(SCRIPT);
             let mut writer = Narrow::new(room, fails);
@@ -455,11 +656,11 @@ fn each_growth_may_be_refused(rt: HostRuntime) -> Result<(), Fail> {
     let got = run(&rt, &mut reader, &mut writer, wide()?, 1);
     let len = writer.len;
     match got {
-        Ok(Status::Refused) => assert_eq!(rt; len, 143),
-        Err(Fault::Memory) => assert!(rt; [0, 103, 143].contains(&len), "at {len}"),
+        Ok(Status::Refused) => assert_eq!(rt; len, 148),
+        Err(Fault::Memory) => assert!(rt; [0, 5, 108, 148].contains(&len), "at {len}"),
         _ => panic!(rt; "{got:?}"),
     }
-    assert!(rt; len <= 144);
+    assert!(rt; len <= 149);
     assert_eq!(rt; &writer.bytes[..len], &PRINTED[..len]);
     Ok(())
 }

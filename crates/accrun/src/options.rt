@@ -58,17 +58,28 @@ pub fn parsed_options(alloc: Global, words: &[String]) -> Result<Options, Error>
 /// What the help says after the options: the statements, an example, the status.
 const AFTER_HELP: &str = "Statements, one to a line, with comments after '#':
   array NAME BYTES             an array in host memory
+  write PLACE DIGITS           write bytes to host memory, two hexadecimal digits each
   enter data copyin(REF)       map it, with its bytes, or count it once more
+  enter data create(REF)       the same without its bytes; with create(zero: REF) a new block is zero
   exit data delete(REF)        count it once less; at zero the mapping ends
+  exit data copyout(REF)       the same, and its bytes are copied to host memory before the mapping ends
+  update self(REF)             copy its bytes from the device to host memory; host(REF) says the same
+  update device(REF)           copy its bytes from host memory to the device
+  show REF                     its bytes in host memory
+  peek REF                     its bytes on the device, or none
+  present REF                  whether all of it lies in one mapped range: yes or no
+  address PLACE                its device address, or none
   report                       the sizes, the mapped ranges with their counters, the numbers of regions and events
 NAME is a lower-case letter, then lower-case letters, digits and '_', 32 at most.
-REF is NAME, or NAME[OFFSET:LENGTH], in bytes from the start of the array.
+REF is NAME, or NAME[OFFSET:LENGTH], in bytes from the start of the array; a directive has one. PLACE is NAME[OFFSET].
+An update with the option if_present passes over what is absent, and not over what is partly mapped.
+copyin(readonly: REF) is copyin(REF).
 
-A directive that is refused changes nothing and prints 'line L: refused ..'; the script goes on.
+A statement that is refused changes nothing and prints 'line L: refused ..'; the script goes on.
 A line that is at fault ends the script.
 
 Example:
   printf 'array a 32\\nenter data copyin(a)\\nreport\\n' | accrun --device 4096
 
-Status: 0; 1 where a directive was refused; 2 for a fault, which standard error names.
+Status: 0; 1 where a statement was refused; 2 for a fault, which standard error names.
 ";

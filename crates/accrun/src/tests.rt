@@ -93,6 +93,40 @@ fn scripts_of_the_first_path(rt: HostRuntime) -> Result<(), Fail> {
 }
 
 #[test]
+fn scripts_that_copy_bytes(rt: HostRuntime) -> Result<(), Fail> {
+    // An update brings the bytes of the device back.
+    check(
+        &rt,
+        &[],
+        "array a 4\nwrite a[0] 01020304\nenter data copyin(a)\nwrite a[0] ffffffff\npeek a\nupdate self(a)\nshow a\n",
+        ("01020304\n01020304\n", "", 0),
+    )?;
+    // A zeroed block; what is absent is deleted without an action.
+    check(
+        &rt,
+        &[],
+        "array a 16\nexit data delete(a)\nenter data create(zero: a)\npeek a[14:2]\nexit data delete(a)\nexit data delete(a)\nreport\n",
+        (
+            "0000\nhost 65536 device 65536 used 0\nregions 0 events 4\n",
+            "",
+            0,
+        ),
+    )?;
+    // An update of what is absent, and a write behind host memory.
+    check(
+        &rt,
+        &[],
+        "array s 16\nupdate self(s)\nupdate self(s) if_present\nwrite s[65536] 01\npresent s\naddress s[0]\n",
+        (
+            "line 2: refused 11 NotPresent item 0\nline 4: refused 7 OutOfHost item 0\nno\nnone\n",
+            "",
+            1,
+        ),
+    )?;
+    Ok(())
+}
+
+#[test]
 fn faulty_lines_end_the_script(rt: HostRuntime) -> Result<(), Fail> {
     let rows = [
         ("array a 0", "line 1: Number"),
@@ -101,6 +135,8 @@ fn faulty_lines_end_the_script(rt: HostRuntime) -> Result<(), Fail> {
         ("array a 65536\narray b 1\n", "line 2: HostFull"),
         ("array a 16\narray a 16\n", "line 2: NameTaken"),
         ("enter data copyin(b)\n", "line 1: UnknownName"),
+        ("show b\n", "line 1: UnknownName"),
+        ("array a 16\nwrite a[0] 012\n", "line 2: Number"),
         ("array a 16\nenter data copyin(a[0:", "line 2: Syntax"),
         ("end data\n", "line 1: Syntax"),
         ("\n\n\x7f", "line 3: NotText"),
@@ -123,6 +159,13 @@ fn what_came_before_a_fault_is_written(rt: HostRuntime) -> Result<(), Fail> {
             "accrun: line 2: UnknownName\n",
             2,
         ),
+    )?;
+    // The last line ends in the middle of a clause.
+    check(
+        &rt,
+        &[],
+        "array a 16\nshow a[0:2]\nenter data copyin(a[0:",
+        ("0000\n", "accrun: line 3: Syntax\n", 2),
     )?;
     Ok(())
 }
@@ -172,6 +215,34 @@ fn command_lines_are_read(rt: HostRuntime) -> Result<(), Fail> {
         &["--host"],
     ] {
         assert_eq!(rt; command_line(&rt, options)?, (2, false, true));
+    }
+    Ok(())
+}
+
+#[test]
+fn the_help_names_each_statement(rt: HostRuntime) -> Result<(), Fail> {
+    let mut reader = MemorySource::new(b"");
+    let mut out = MemorySink::new(rt.alloc());
+    let mut err = MemorySink::new(rt.alloc());
+    let words = words(rt.alloc(), &["--help"])?;
+    assert_eq!(rt; tool(&rt, words, &mut reader, &mut out, &mut err), 0);
+    let text = str::from_utf8(err.as_slice())?;
+    for statement in [
+        "array NAME",
+        "write PLACE",
+        "enter data copyin(REF)",
+        "enter data create(REF)",
+        "exit data delete(REF)",
+        "exit data copyout(REF)",
+        "update self(REF)",
+        "update device(REF)",
+        "show REF",
+        "peek REF",
+        "present REF",
+        "address PLACE",
+        "report",
+    ] {
+        assert!(rt; text.contains(statement), "{statement}");
     }
     Ok(())
 }

@@ -9,10 +9,10 @@ use std::fmt::{self, Write};
 use std::sync::Wait;
 use std::thread::Threads;
 
-/// The status of a script that ran to its end, with no directive refused.
+/// The status of a script that ran to its end, with no statement refused.
 pub const CLEAN: u8 = 0;
 
-/// The status of a script that ran to its end, with some directive refused.
+/// The status of a script that ran to its end, with some statement refused.
 pub const REFUSED: u8 = 1;
 
 /// The status of a fault.
@@ -60,7 +60,7 @@ fn tell_line<E: Sink>(err: &mut E, line: u64, kind: ScriptFault) -> fmt::Result 
     writeln!(TextSink(err), "accrun: line {line}: {kind}")
 }
 
-/// Parses the command line, runs the script and answers the status: 0, 1 where a directive was refused, 2 for a fault.
+/// Parses the command line, runs the script and answers the status: 0, 1 where a statement was refused, 2 for a fault.
 /// What `out` keeps back is not flushed; that is for the caller.
 ///
 /// `words` begins with the program's name. The script is read from `reader` and its output goes to `out`. A fault of

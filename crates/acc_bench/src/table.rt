@@ -1,5 +1,7 @@
 //! How long the calls of `acc_table` take.
 
+ghost use Rattle.std.specs.Prelude.{◌<◌};
+
 use acc_base::{
     Config, Directive, EnterClause, ExitClause, Fault, Item, List, Section, UpdateClause,
 };
@@ -27,16 +29,30 @@ pub fn run<R: Print + Clock + AllocGlobal>(rt: &R) -> Result<()> {
 }
 
 /// Prints how long `update device` and `update self` of so many bytes take, and a plain copy of them.
-fn measure_updates<R: Print + Clock + AllocGlobal>(rt: &R, len: u64, rounds: u32) -> Result<()> {
+fn measure_updates<R: Print + Clock + AllocGlobal>(rt: &R, len: u64, rounds: u32) -> Result<()>
+    requires { 0 < rounds }
+{
     let mut table = new_table(rt.alloc())?;
     let section = Section { start: HOST, len };
     let create = EnterClause::Create { zero: true };
     apply(&mut table, enter(rt.alloc(), create, section)?)?;
     let start = Instant::now(rt)?;
-    make_updates(&mut table, rt.alloc(), UpdateClause::ToDevice, section, rounds)?;
+    make_updates(
+        &mut table,
+        rt.alloc(),
+        UpdateClause::ToDevice,
+        section,
+        rounds,
+    )?;
     let to_device = start.elapsed(rt)?;
     let start = Instant::now(rt)?;
-    make_updates(&mut table, rt.alloc(), UpdateClause::ToSelf, section, rounds)?;
+    make_updates(
+        &mut table,
+        rt.alloc(),
+        UpdateClause::ToSelf,
+        section,
+        rounds,
+    )?;
     let to_self = start.elapsed(rt)?;
     let mut source = vec![in rt.alloc(); 1; len as usize]?;
     let mut target = vec![in rt.alloc(); 2; len as usize]?;
@@ -112,7 +128,15 @@ fn measure_mappings<R: Print + Clock + AllocGlobal>(rt: &R, count: u32) -> Resul
 
 /// A table with as much memory as there may be.
 fn new_table(alloc: Global) -> Result<Table, Fault> {
-    let config = Config::new(67_108_864, 67_108_864, 64, 1_048_576, 4_294_967_295, 256, 262_144)?;
+    let config = Config::new(
+        67_108_864,
+        67_108_864,
+        64,
+        1_048_576,
+        4_294_967_295,
+        256,
+        262_144,
+    )?;
     Table::new(alloc, config)
 }
 

@@ -1,5 +1,6 @@
 -- The limits of a table, and the bounds that each of them keeps.
 use Rattle.std.specs.Prelude.{ℕ, ◌≡◌, ◌≤◌, ◌%◌, ◌^◌}
+use Rattle.acc_base.specs.declared.addresses.TheConstants.{MEMORY_MAX}
 
 pub record Limits : Type 0 where
   pub host : ℕ
@@ -23,7 +24,7 @@ limits_of host device regions tickets counter_max queue_cap trace_cap = record {
 
 -- the number of bytes may be the size of a memory
 abbrev pub IsSize : ℕ → Type 0
-IsSize bytes = (16 ≤ bytes) × (bytes ≤ 67108864) × (bytes % 16 ≡ 0)
+IsSize bytes = (16 ≤ bytes) × (bytes ≤ MEMORY_MAX) × (bytes % 16 ≡ 0)
 
 -- the number is from 1 to a greatest one
 abbrev pub IsFromOne : ℕ → ℕ → Type 0

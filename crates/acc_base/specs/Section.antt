@@ -1,6 +1,7 @@
 -- A section is the set of its addresses, as whole numbers without an upper bound (OpenACC 3.3, section 2.6).
 use Rattle.std.specs.Prelude.{ℕ, ◌+◌, ◌<◌, ◌≤◌, Bool, ◌&&◌, ◌||◌, nat_le, nat_lt, ◌==◌}
 use Rattle.acc_base.specs.declared.items.Section.{Section}
+use Rattle.acc_base.specs.declared.addresses.TheConstants.{HOST_BASE, DEVICE_BASE}
 
 -- the address is one of the section's
 abbrev pub Covers : Section → ℕ → Type 0
@@ -38,10 +39,10 @@ is_apart s t = nat_le (end_of s) t.start || nat_le (end_of t) s.start
 
 -- where host memory begins, and where device memory begins
 abbrev pub host_base : ℕ
-host_base = 0x1000
+host_base = HOST_BASE
 
 abbrev pub device_base : ℕ
-device_base = 0x1_0000_0000
+device_base = DEVICE_BASE
 
 -- the host memory of a size in bytes
 abbrev pub host_memory : ℕ → Section

@@ -3,7 +3,7 @@
 ghost use Rattle.std.specs.Prelude.{◌≡◌, ◌^◌, ◌↔◌, IsTrue, MatchResult};
 ghost use Rattle.acc_base.specs.Limits.{limits_of, IsWithinBounds, IsSize, IsFromOne};
 
-use crate::Fault;
+use crate::{Fault, MEMORY_MAX};
 use std::marker::Model;
 
 /// The limits of a table: the sizes of its two memories, and how much it may hold.
@@ -173,7 +173,7 @@ impl Config {
 fn is_size(bytes: u64) -> bool
     ensures { IsTrue result ↔ IsSize bytes }
 {
-    16 <= bytes && bytes <= 67_108_864 && bytes % 16 == 0
+    16 <= bytes && bytes <= MEMORY_MAX && bytes % 16 == 0
 }
 
 /// The number is from 1 to a greatest one.

@@ -5,6 +5,7 @@
 //! prose.
 #![tactic(auto)]
 
+mod addresses;
 mod configs;
 mod directives;
 mod events;
@@ -13,6 +14,7 @@ mod items;
 mod lists;
 mod mappings;
 
+pub use addresses::{DEVICE_BASE, HOST_BASE, MEMORY_MAX};
 pub use configs::Config;
 pub use directives::Directive;
 pub use events::{Did, Event, Step};

@@ -4,6 +4,7 @@ pub mod Section
 pub mod Ranges
 pub mod Blocks
 pub mod Records
+pub mod Register
 pub mod Walk
 pub mod Bytes
 pub mod Judge

@@ -1,8 +1,10 @@
 -- The mapped ranges, and where a section lies among them (OpenACC 3.3, section 2.6).
 use Rattle.std.specs.Prelude.{ℕ, ◌+◌, ◌-◌, ◌≡◌, ◌<◌, not, if◌then◌else◌, nat_le, nat_lt, ◌==◌, List, [], ◌∷◌, map, Option, Some, None, find, filter, unwrap_or, option_map}
-use Rattle.std.specs.List.{list_all, Contains, AllByRecursion}
+use Rattle.std.specs.List.{list_all, list_any, Contains, AllByRecursion}
 use Rattle.acc_base.specs.declared.items.Section.{Section}
 use Rattle.acc_base.specs.declared.mappings.Range.{Range}
+use Rattle.acc_base.specs.declared.mappings.Counter.{Counter}
+use Rattle.acc_base.specs.declared.mappings.Counter.TheVariants.{Structured, Dynamic}
 use Rattle.acc_base.specs.declared.mappings.Found.{Found}
 use Rattle.acc_base.specs.declared.mappings.Found.TheVariants.{Empty, Inside, Partly, Absent}
 use Rattle.acc_base.specs.Section.{is_empty, is_within, is_apart, IsWithin, IsApart}
@@ -48,6 +50,14 @@ where_is s ranges =
     then Empty
     else found_in s (range_around s ranges) (if list_all (λ r. is_apart s r.section) ranges then Absent else Partly)
 
+-- the ranges but for those that are mapped to these blocks
+abbrev pub without_ranges : List ℕ → List Range → List Range
+without_ranges blocks ranges = filter (λ r. not (list_any (λ b. b == r.block) blocks)) ranges
+
+-- where a section lies once the mappings to these blocks have ended
+abbrev pub where_is_apart : Section → List ℕ → List Range → Found
+where_is_apart s blocks ranges = where_is s (without_ranges blocks ranges)
+
 -- ---- what the ranges say of a block
 
 -- the range that is mapped to a block
@@ -61,6 +71,15 @@ dynamic_of block ranges = unwrap_or (option_map (λ r. r.dynamic) (range_of bloc
 -- and its structured one
 abbrev pub structured_of : ℕ → List Range → ℕ
 structured_of block ranges = unwrap_or (option_map (λ r. r.structured) (range_of block ranges)) 0
+
+-- one of a range's two reference counters
+abbrev pub counter_in : Counter → Range → ℕ
+counter_in Structured r = r.structured
+counter_in Dynamic r = r.dynamic
+
+-- one of the two reference counters of the range that is mapped to a block
+abbrev pub counter_of : Counter → ℕ → List Range → ℕ
+counter_of counter block ranges = unwrap_or (option_map (counter_in counter) (range_of block ranges)) 0
 
 -- the host address at which that range begins
 abbrev pub start_of : ℕ → List Range → ℕ
@@ -96,3 +115,21 @@ raised r = record r { dynamic = r.dynamic + 1 }
 -- and one lower; zero stays zero
 abbrev pub lowered : Range → Range
 lowered r = record r { dynamic = r.dynamic - 1 }
+
+-- a new range that nothing has counted
+abbrev pub bare_range : Section → ℕ → Range
+bare_range s block = record { section = s; block = block; structured = 0; dynamic = 0 }
+
+-- the range with one of its counters one higher
+abbrev pub risen : Counter → Range → Range
+risen Structured r = record r { structured = r.structured + 1 }
+risen Dynamic r = record r { dynamic = r.dynamic + 1 }
+
+-- the range with one of its counters one lower; zero stays zero
+abbrev pub fallen : Counter → Range → Range
+fallen Structured r = record r { structured = r.structured - 1 }
+fallen Dynamic r = record r { dynamic = r.dynamic - 1 }
+
+-- the range with its dynamic counter at zero
+abbrev pub cleared : Range → Range
+cleared r = record r { dynamic = 0 }

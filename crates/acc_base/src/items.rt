@@ -20,6 +20,30 @@ pub struct Item<C> {
     pub section: Section,
 }
 
+/// The data clauses of a structured region: those of the `data` construct (OpenACC 3.3, sections 2.6.5 and 2.7).
+#[derive(Clone, Copy, Debug, PartialEq, Eq)]
+pub enum RegionClause {
+    /// The `copy` clause: as `copyin` on entry, and as `copyout` on exit.
+    Copy,
+    /// The `copyin` clause: where the section is absent on entry, it is mapped to a new block, which gets its bytes.
+    Copyin,
+    /// The `copyout` clause: where the section is absent on entry, it is mapped to a new block; where the mapping ends
+    /// on exit, the bytes of the section are first copied to host memory.
+    Copyout {
+        /// The `zero` modifier: each byte of a new block is 0, and not 0xA5.
+        zero: bool,
+    },
+    /// The `create` clause: as `copyout`, but no byte is copied.
+    Create {
+        /// The `zero` modifier: each byte of a new block is 0, and not 0xA5.
+        zero: bool,
+    },
+    /// The `no_create` clause: a section that is absent on entry is passed over.
+    NoCreate,
+    /// The `present` clause: a section that is absent on entry is refused.
+    Present,
+}
+
 /// The clauses of the `enter data` directive (OpenACC 3.3, sections 2.6.6 and 2.7).
 #[derive(Clone, Copy, Debug, PartialEq, Eq)]
 pub enum EnterClause {

@@ -13,15 +13,17 @@ mod faults;
 mod items;
 mod lists;
 mod mappings;
+mod regions;
 
 pub use addresses::{DEVICE_BASE, HOST_BASE, MEMORY_MAX};
 pub use configs::Config;
 pub use directives::Directive;
 pub use events::{Did, Event, Step};
 pub use faults::{Fault, ScriptFault};
-pub use items::{EnterClause, ExitClause, Item, Section, UpdateClause};
+pub use items::{EnterClause, ExitClause, Item, RegionClause, Section, UpdateClause};
 pub use lists::List;
-pub use mappings::{Block, Counters, Found, Range};
+pub use mappings::{Block, Counter, Counters, Found, Range};
+pub use regions::Holding;
 
 #[cfg(test)]
 mod tests;

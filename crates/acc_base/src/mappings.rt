@@ -27,10 +27,19 @@ pub struct Block {
     pub len: u64,
 }
 
+/// One of the two reference counters of a mapped range (OpenACC 3.3, section 2.6.7).
+#[derive(Clone, Copy, Debug, PartialEq, Eq)]
+pub enum Counter {
+    /// The structured reference counter: raised on entry to a data region and lowered on its exit.
+    Structured,
+    /// The dynamic reference counter: raised by `enter data` and lowered by `exit data`.
+    Dynamic,
+}
+
 /// The two reference counters of a mapped range (OpenACC 3.3, section 2.6.7).
 #[derive(Clone, Copy, Debug, PartialEq, Eq)]
 pub struct Counters {
-    /// The structured reference counter: raised by data regions.
+    /// The structured reference counter: raised on entry to a data region and lowered on its exit.
     pub structured: u64,
     /// The dynamic reference counter: raised by `enter data` and lowered by `exit data`.
     pub dynamic: u64,

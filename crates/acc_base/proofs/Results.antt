@@ -3,7 +3,7 @@ use Rattle.std.proofs.Common.{ℕ, ◌≡◌, refl, Bool, true, false, cond, Res
 use Rattle.std.specs.Prelude.{◌⊎◌, ◌==◌, not, ⊤}
 use Rattle.std.proofs.lemmas.Bool.Decides.{nat_tests}
 use Rattle.acc_base.specs.declared.faults.Fault.{Fault}
-use Rattle.acc_base.specs.Judge.{◌>>=◌, ◌>>◌, refuse_if}
+use Rattle.acc_base.specs.Results.{◌>>=◌, ◌>>◌, refuse_if}
 
 pub and_true : (a b : Bool) → (a && b) ≡ true → (a ≡ true) × (b ≡ true)
 and_true true true e = (refl, refl)

@@ -1,17 +1,18 @@
 -- What holds of every world that accepted calls lead to: ranges and blocks are apart and account for every used byte, and every counter is what the history gives.
-use Rattle.std.specs.Prelude.{◌+◌, ◌%◌, ◌≡◌, ◌<◌, ◌≤◌, ◌⊎◌, true, List, [], ◌∷◌, length, Some, IsSome, ⊤}
+use Rattle.std.specs.Prelude.{ℕ, ◌+◌, ◌%◌, ◌≡◌, ◌<◌, ◌≤◌, ◌⊎◌, true, List, [], ◌∷◌, length, Some, IsSome, ⊤}
 use Rattle.std.specs.List.{AllByRecursion, AllZip}
+use Rattle.acc_base.specs.declared.items.Section.{Section}
 use Rattle.acc_base.specs.declared.mappings.Range.{Range}
 use Rattle.acc_base.specs.declared.mappings.Block.{Block}
 use Rattle.acc_base.specs.Limits.{Limits}
 use Rattle.acc_base.specs.Section.{end_of, is_within, host_memory, device_base}
-use Rattle.acc_base.specs.declared.items.Section.{Section}
-use Rattle.acc_base.specs.Records.{Records, Memory, State, new_records}
-use Rattle.acc_base.specs.Ranges.{range_of}
+use Rattle.acc_base.specs.Ranges.{range_of, structured_of}
 use Rattle.acc_base.specs.Blocks.{block_at, block_end, used_bytes}
+use Rattle.acc_base.specs.Register.{Region, Register, held_in}
+use Rattle.acc_base.specs.Records.{Records, Memory, Layout, State, new_layout, layout_of}
 use Rattle.acc_base.specs.Walk.{walk_all}
-use Rattle.acc_base.specs.Calls.{History, World, event_count}
-use Rattle.acc_base.specs.History.{dynamic_in, AreLegal}
+use Rattle.acc_base.specs.Calls.{History, World, event_count, open_regions}
+use Rattle.acc_base.specs.History.{structured_in, dynamic_in, AreLegal}
 
 -- each one is related to each later one
 abbrev pub EachPair : {X : Type 0} → (X → X → Type 0) → List X → Type 0
@@ -66,14 +67,24 @@ pub record HasOneBlockEach (w : Records) : Type 0 where
   pub distinct : EachPair (λ (r : Range) (t : Range). r.block ≡ t.block → ⊥) w.ranges
   pub in_use : AllByRecursion (λ b. IsSome (range_of b.number w.ranges)) w.blocks
 
--- ---- counters
+-- ---- counters and the register
 
--- both counters are those of the history, at most the limit, and not both zero; nothing raises a structured counter until data regions come
-pub record IsTraced (l : Limits) (h : History) (r : Range) : Type 0 where
-  pub structured : r.structured ≡ 0
-  pub dynamic : r.dynamic ≡ dynamic_in r.block h
+-- the counters of a range are at most the limit, and not both zero
+pub record IsCounted (l : Limits) (r : Range) : Type 0 where
   pub some : 0 < r.structured + r.dynamic
-  pub few : r.dynamic ≤ l.counter_max
+  pub structured : r.structured ≤ l.counter_max
+  pub dynamic : r.dynamic ≤ l.counter_max
+
+-- open regions stand by rising number, below the next one, and hold what at most 64 items counted
+pub record IsRegisterSound (g : Register) : Type 0 where
+  pub first : 1 ≤ g.next
+  pub rising : EachPair (λ (r : Region) (t : Region). r.number < t.number) g.regions
+  pub known : AllByRecursion (λ (r : Region). r.number < g.next) g.regions
+  pub few : AllByRecursion (λ (r : Region). length r.holdings ≤ 64) g.regions
+
+-- the structured counter of each block's range is how often open regions hold it; a block that is held is mapped
+abbrev pub AreHeld : Layout → Type 0
+AreHeld lay = (block : ℕ) → structured_of block lay.records.ranges ≡ held_in block lay.register.regions
 
 -- ---- memories
 
@@ -87,24 +98,46 @@ pub record AreMemoriesSized (l : Limits) (s : State) : Type 0 where
   pub host : length s.host ≡ l.host
   pub blocks : AllZip IsMemoryOf s.memories s.records.blocks
 
+-- ---- what holds of a state, whatever led to it
+
+-- the records alone, which a directive keeps from item to item
+pub record AreRecordsSound (l : Limits) (w : Records) : Type 0 where
+  pub ranges_apart : AreRangesApart l w.ranges
+  pub blocks_apart : AreBlocksApart l w
+  pub one_block_each : HasOneBlockEach w
+  pub counted : AllByRecursion (IsCounted l) w.ranges
+
+-- records and register together, which a directive keeps as a whole
+pub record IsLayoutSound (l : Limits) (lay : Layout) : Type 0 where
+  pub records : AreRecordsSound l lay.records
+  pub register : IsRegisterSound lay.register
+  pub held : AreHeld lay
+
+pub record IsSound (l : Limits) (s : State) : Type 0 where
+  pub layout : IsLayoutSound l (layout_of s)
+  pub bytes_accounted : used_bytes s.records.blocks ≤ l.device
+  pub memories_sized : AreMemoriesSized l s
+
 -- ---- the history
 
--- the history is legal and leads to the records
-pub record IsHistoryLegal (l : Limits) (h : History) (w : Records) : Type 0 where
-  pub legal : AreLegal l h.trace new_records
-  pub leads : walk_all h.trace new_records ≡ w
+-- both counters of a range are those of the history
+pub record IsTraced (h : History) (r : Range) : Type 0 where
+  pub structured : r.structured ≡ structured_in r.block h
+  pub dynamic : r.dynamic ≡ dynamic_in r.block h
 
--- there are no more events than tickets and places in the trace
-pub record AreBooksCounted (l : Limits) (h : History) : Type 0 where
-  pub tickets : event_count h ≤ l.tickets
-  pub trace : length h.trace ≤ l.trace_cap
+-- the history is legal and leads to the layout
+pub record IsHistoryLegal (l : Limits) (h : History) (lay : Layout) : Type 0 where
+  pub legal : AreLegal l h.trace new_layout
+  pub leads : walk_all h.trace new_layout ≡ lay
+
+-- there are no more events than tickets and places in the trace, and no more open regions than the limit says
+pub record AreBooksCounted (w : World) : Type 0 where
+  pub tickets : event_count w.history ≤ w.limits.tickets
+  pub trace : length w.history.trace ≤ w.limits.trace_cap
+  pub regions : open_regions w.state ≤ w.limits.regions
 
 pub record IsAccounted (w : World) : Type 0 where
-  pub ranges_apart : AreRangesApart w.limits w.state.records.ranges
-  pub blocks_apart : AreBlocksApart w.limits w.state.records
-  pub bytes_accounted : used_bytes w.state.records.blocks ≤ w.limits.device
-  pub one_block_each : HasOneBlockEach w.state.records
-  pub counters_traced : AllByRecursion (IsTraced w.limits w.history) w.state.records.ranges
-  pub memories_sized : AreMemoriesSized w.limits w.state
-  pub history_legal : IsHistoryLegal w.limits w.history w.state.records
-  pub books_counted : AreBooksCounted w.limits w.history
+  pub sound : IsSound w.limits w.state
+  pub counters_traced : AllByRecursion (IsTraced w.history) w.state.records.ranges
+  pub history_legal : IsHistoryLegal w.limits w.history (layout_of w.state)
+  pub books_counted : AreBooksCounted w

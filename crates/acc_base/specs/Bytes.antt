@@ -1,24 +1,23 @@
 -- What an event leaves of the bytes: the host's, and those of the blocks.
-use Rattle.std.specs.Prelude.{ℕ, suc, ◌-◌, Bool, true, false, if◌then◌else◌, ◌==◌, List, [], ◌∷◌, ◌++◌, map, replicate, filter, find, unwrap_or, option_map, slice_index}
+use Rattle.std.specs.Prelude.{ℕ, suc, ◌-◌, Bool, true, false, not, if◌then◌else◌, ◌==◌, List, [], ◌∷◌, ◌++◌, map, replicate, filter, find, Option, Some, None, unwrap_or, option_map, slice_index}
 use Rattle.std.specs.List.{list_any}
 use Rattle.acc_base.specs.declared.items.Section.{Section}
-use Rattle.acc_base.specs.declared.items.Item.{Item}
-use Rattle.acc_base.specs.declared.items.EnterClause.{EnterClause}
-use Rattle.acc_base.specs.declared.items.EnterClause.TheVariants as enter
-use Rattle.acc_base.specs.declared.items.ExitClause.{ExitClause}
-use Rattle.acc_base.specs.declared.items.ExitClause.TheVariants as exit
-use Rattle.acc_base.specs.declared.items.UpdateClause.{UpdateClause}
-use Rattle.acc_base.specs.declared.items.UpdateClause.TheVariants.{ToSelf, ToDevice}
+use Rattle.acc_base.specs.declared.mappings.Range.{Range}
 use Rattle.acc_base.specs.declared.mappings.Block.{Block}
+use Rattle.acc_base.specs.declared.tasks.Task.{Task}
+use Rattle.acc_base.specs.declared.tasks.Task.TheVariants.{Enter, Leave, Exit, Move}
+use Rattle.acc_base.specs.declared.tasks.Transfer.{Transfer}
 use Rattle.acc_base.specs.declared.events.Step.{Step}
-use Rattle.acc_base.specs.declared.events.Step.TheVariants.{Born, Dropped, Moved}
+use Rattle.acc_base.specs.declared.events.Step.TheVariants.{Nothing, Counted, Born, Dropped, Moved}
 use Rattle.acc_base.specs.declared.events.Did.{Did}
 use Rattle.acc_base.specs.declared.events.Event.{Event}
-use Rattle.acc_base.specs.declared.events.Event.TheVariants.{EnteredData, ExitedData, Updated, HostWritten}
+use Rattle.acc_base.specs.declared.events.Event.TheVariants.{Entered, Left, EnteredData, ExitedData, Updated, HostWritten}
 use Rattle.acc_base.specs.Section.{covers, host_base}
 use Rattle.acc_base.specs.Ranges.{start_of}
 use Rattle.acc_base.specs.Records.{Memory, State}
-use Rattle.acc_base.specs.Walk.{after_entered, after_exited}
+use Rattle.acc_base.specs.Clauses.{copies_in, copies_out, is_copyout, is_to_self, is_zeroed}
+use Rattle.acc_base.specs.Tasks.{section_of, act}
+use Rattle.acc_base.specs.Walk.{asked_in, done_in, register_after}
 
 -- the bytes from an address on, where those at some addresses come from a source
 abbrev pub written_bytes : (ℕ → Bool) → (ℕ → ℕ) → ℕ → List ℕ → List ℕ
@@ -36,11 +35,19 @@ bytes_of block memories = unwrap_or (option_map (λ m. m.bytes) (find (λ m. m.b
 abbrev pub memory_changed : ℕ → (List ℕ → List ℕ) → Memory → Memory
 memory_changed block change m = if m.block == block then record m { bytes = change m.bytes } else m
 
--- only blocks have memories
+-- the memories of these blocks
 abbrev pub memories_kept : List Block → List Memory → List Memory
 memories_kept blocks memories = filter (λ m. list_any (λ b. b.number == m.block) blocks) memories
 
--- ---- copies: they move the section only, and every other byte stays
+-- the memories without that of a block
+abbrev pub without_memory : ℕ → List Memory → List Memory
+without_memory block memories = filter (λ m. not (m.block == block)) memories
+
+-- ---- transfers: they copy the section only, and every other byte stays
+
+-- the host address of the block's first byte
+abbrev pub first_address : Transfer → ℕ
+first_address t = t.section.start - t.offset
 
 -- the bytes of a block that is mapped from an address on, where those of a section come from the host
 abbrev pub bytes_moved_in : Section → List ℕ → ℕ → List ℕ → List ℕ
@@ -50,74 +57,99 @@ bytes_moved_in section host start bytes = written_bytes (covers section) (host_b
 abbrev pub bytes_moved_out : Section → List ℕ → ℕ → List ℕ → List ℕ
 bytes_moved_out section bytes start host = written_bytes (covers section) (λ a. slice_index bytes (a - start)) host_base host
 
--- the memories after a copy from the host to a block
-abbrev pub memories_moved_in : Section → ℕ → State → List Memory
-memories_moved_in section block s = map (memory_changed block (bytes_moved_in section s.host (start_of block s.records.ranges))) s.memories
+-- the host's bytes after a transfer, if there is one
+abbrev pub host_made : Option Transfer → List Memory → List ℕ → List ℕ
+host_made None memories host = host
+host_made (Some t) memories host = if t.out then bytes_moved_out t.section (bytes_of t.block memories) (first_address t) host else host
 
--- the host after a copy from a block
-abbrev pub host_moved_out : Section → ℕ → State → List ℕ
-host_moved_out section block s = bytes_moved_out section (bytes_of block s.memories) (start_of block s.records.ranges) s.host
+-- the blocks' bytes after a transfer, if there is one
+abbrev pub memories_made : Option Transfer → List ℕ → List Memory → List Memory
+memories_made None host memories = memories
+memories_made (Some t) host memories = if t.out then memories else map (memory_changed t.block (bytes_moved_in t.section host (first_address t))) memories
 
--- ---- births
+-- ---- the transfer of one item (OpenACC 3.3, section 2.7 and the update directive)
+
+-- a birth by this task copies the section to the new block
+abbrev pub gets_bytes : Task → Bool
+gets_bytes (Enter counter item) = copies_in item.clause
+gets_bytes (Leave holding) = false
+gets_bytes (Exit finalize item) = false
+gets_bytes (Move if_present item) = false
+
+-- the end of a mapping by this task copies the section to the host
+abbrev pub gives_bytes : Task → Bool
+gives_bytes (Enter counter item) = false
+gives_bytes (Leave holding) = copies_out holding.item.clause
+gives_bytes (Exit finalize item) = is_copyout item.clause
+gives_bytes (Move if_present item) = false
+
+-- a copy by this task goes to the host
+abbrev pub goes_out : Task → Bool
+goes_out (Enter counter item) = false
+goes_out (Leave holding) = true
+goes_out (Exit finalize item) = true
+goes_out (Move if_present item) = is_to_self item.clause
+
+-- the copy of a section of a mapped range
+abbrev pub transfer_at : Task → ℕ → List Range → Transfer
+transfer_at task block ranges = record { block = block; offset = (section_of task).start - start_of block ranges; section = section_of task; out = goes_out task }
+
+abbrev pub transfer_of : Task → Step → List Range → Option Transfer
+transfer_of task Nothing ranges = None
+transfer_of task (Counted block) ranges = None
+transfer_of task (Born block place) ranges = if gets_bytes task then Some (record { block = block; offset = 0; section = section_of task; out = false }) else None
+transfer_of task (Dropped block true) ranges = if gives_bytes task then Some (transfer_at task block ranges) else None
+transfer_of task (Dropped block false) ranges = None
+transfer_of task (Moved block) ranges = Some (transfer_at task block ranges)
+
+-- ---- one item: a new block is filled, then the copy is made, then the memory of an ended block is gone
 
 -- the byte that fills a new block, which the modifier `zero` changes
 abbrev pub fill_byte : Bool → ℕ
-fill_byte zero = if zero then 0 else 0xa5
+fill_byte zeroed = if zeroed then 0 else 0xa5
 
--- the bytes of a new block: it is filled, and with `copyin` its section is then copied from the host (OpenACC 3.3, the copyin and create clauses)
-abbrev pub bytes_born : EnterClause → Section → List ℕ → List ℕ
-bytes_born enter.Copyin section host = bytes_moved_in section host section.start (replicate section.len (fill_byte false))
-bytes_born (enter.Create zero) section host = replicate section.len (fill_byte zero)
+-- what fills a block that is born by this task
+abbrev pub fill_of : Task → ℕ
+fill_of (Enter counter item) = fill_byte (is_zeroed item.clause)
+fill_of (Leave holding) = fill_byte false
+fill_of (Exit finalize item) = fill_byte false
+fill_of (Move if_present item) = fill_byte false
 
--- ---- one item
+abbrev pub memories_begun : Task → Step → List Memory → List Memory
+memories_begun task Nothing memories = memories
+memories_begun task (Counted block) memories = memories
+memories_begun task (Born block place) memories = memories ++ record { block = block; bytes = replicate (section_of task).len (fill_of task) } ∷ []
+memories_begun task (Dropped block ended) memories = memories
+memories_begun task (Moved block) memories = memories
 
--- after an item of `enter data`
-abbrev pub memories_after_entered : Item EnterClause → Step → State → List Memory
-memories_after_entered item (Born block place) s = s.memories ++ record { block = block; bytes = bytes_born item.clause item.section s.host } ∷ []
-memories_after_entered item _ s = s.memories
+abbrev pub memories_ended : Step → List Memory → List Memory
+memories_ended Nothing memories = memories
+memories_ended (Counted block) memories = memories
+memories_ended (Born block place) memories = memories
+memories_ended (Dropped block true) memories = without_memory block memories
+memories_ended (Dropped block false) memories = memories
+memories_ended (Moved block) memories = memories
 
-unfoldable pub state_after_entered : Item EnterClause → Did → State → State
-state_after_entered item did s = record {
-  records = after_entered item.section did.step s.records;
-  host = s.host;
-  memories = memories_after_entered item did.step s;
+-- the host's bytes after a task
+abbrev pub host_acted : Task → Step → State → List ℕ
+host_acted task step s = host_made (transfer_of task step s.records.ranges) s.memories s.host
+
+-- the blocks' bytes after a task
+abbrev pub memories_acted : Task → Step → State → List Memory
+memories_acted task step s = memories_ended step (memories_made (transfer_of task step s.records.ranges) s.host (memories_begun task step s.memories))
+
+unfoldable pub act_state : Task → Step → State → State
+act_state task step s = record {
+  records = act task step s.records;
+  register = s.register;
+  host = host_acted task step s;
+  memories = memories_acted task step s;
 }
 
--- `copyout` copies the section before the mapping ends, and only there (OpenACC 3.3, the copyout clause)
-abbrev pub host_after_exited : Item ExitClause → Step → State → List ℕ
-host_after_exited item (Dropped block true) s = elim item.clause [ exit.Copyout ↦ host_moved_out item.section block s | exit.Delete ↦ s.host ]
-host_after_exited item _ s = s.host
-
--- after an item of `exit data`
-unfoldable pub state_after_exited : Item ExitClause → Did → State → State
-state_after_exited item did s =
-    let records = after_exited did.step s.records in
-    record { records = records; host = host_after_exited item did.step s; memories = memories_kept records.blocks s.memories }
-
--- after the copy of an `update` (OpenACC 3.3, the update directive)
-unfoldable pub state_after_move : Item UpdateClause → ℕ → State → State
-state_after_move item block s = elim item.clause [
-  | ToSelf ↦ record s { host = host_moved_out item.section block s }
-  | ToDevice ↦ record s { memories = memories_moved_in item.section block s }
-]
-
--- after an item of `update`
-unfoldable pub state_after_updated : Item UpdateClause → Did → State → State
-state_after_updated item did s = elim did.step [ Moved block ↦ state_after_move item block s | _ ↦ s ]
-
--- ---- all items, one after the other
-
-unfoldable pub state_after_all_entered : List (Item EnterClause) → List Did → State → State
-state_after_all_entered (item ∷ items) (did ∷ dids) s = state_after_all_entered items dids (state_after_entered item did s)
-state_after_all_entered _ _ s = s
-
-unfoldable pub state_after_all_exited : List (Item ExitClause) → List Did → State → State
-state_after_all_exited (item ∷ items) (did ∷ dids) s = state_after_all_exited items dids (state_after_exited item did s)
-state_after_all_exited _ _ s = s
-
-unfoldable pub state_after_all_updated : List (Item UpdateClause) → List Did → State → State
-state_after_all_updated (item ∷ items) (did ∷ dids) s = state_after_all_updated items dids (state_after_updated item did s)
-state_after_all_updated _ _ s = s
+-- after all tasks of a directive, one after the other
+unfoldable pub act_all_state : List Task → List Did → State → State
+act_all_state (task ∷ tasks) (did ∷ dids) s = act_all_state tasks dids (act_state task did.step s)
+act_all_state _ _ s = s
 
 -- ---- an event
 
@@ -125,9 +157,17 @@ state_after_all_updated _ _ s = s
 abbrev pub host_after_write : ℕ → ℕ → List ℕ → List ℕ → List ℕ
 host_after_write addr len bytes host = written_bytes (covers (record { start = addr; len = len })) (λ a. slice_index bytes (a - addr)) host_base host
 
+-- what an event writes into host memory beside its items' transfers, from the bytes that its call brought
+abbrev pub host_after : Event → List ℕ → List ℕ → List ℕ
+host_after (Entered number items did) brought host = host
+host_after (Left number did) brought host = host
+host_after (EnteredData items did) brought host = host
+host_after (ExitedData items finalize did) brought host = host
+host_after (Updated items if_present did) brought host = host
+host_after (HostWritten addr len) brought host = host_after_write addr len brought host
+
 -- the state after an event, and with the bytes that its call brought
 unfoldable pub after : Event → List ℕ → State → State
-after (EnteredData items did) brought s = state_after_all_entered items did s
-after (ExitedData items did) brought s = state_after_all_exited items did s
-after (Updated items if_present did) brought s = state_after_all_updated items did s
-after (HostWritten addr len) brought s = record s { host = host_after_write addr len brought s.host }
+after e brought s =
+    let acted : State = act_all_state (asked_in e s.register) (done_in e) s in
+    record { records = acted.records; register = register_after e s.register; host = host_after e brought acted.host; memories = acted.memories }

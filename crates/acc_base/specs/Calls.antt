@@ -1,13 +1,17 @@
 -- A call on a table: its refusal, or its event with the world after it. A world is a history and the state that it led to.
-use Rattle.std.specs.Prelude.{ℕ, nat_le, List, [], ◌∷◌, ◌++◌, length, Result, ⊤}
+use Rattle.std.specs.Prelude.{ℕ, nat_le, List, [], ◌∷◌, ◌++◌, length, Result, Ok, ⊤}
 use Rattle.acc_base.specs.declared.directives.Directive.{Directive}
+use Rattle.acc_base.specs.declared.directives.Directive.TheVariants.{Enter, Exit, EnterData, ExitData, Update}
+use Rattle.acc_base.specs.declared.calls.Call.{Call}
+use Rattle.acc_base.specs.declared.calls.Call.TheVariants.{Do, HostWrite}
 use Rattle.acc_base.specs.declared.events.Event.{Event}
 use Rattle.acc_base.specs.declared.faults.Fault.{Fault}
-use Rattle.acc_base.specs.declared.faults.Fault.TheVariants.{NoTickets, TraceFull}
+use Rattle.acc_base.specs.declared.faults.Fault.TheVariants.{NoTickets, NoAllowance, TraceFull}
+use Rattle.acc_base.specs.Results.{◌>>=◌, ◌>>◌, refuse_if}
 use Rattle.acc_base.specs.Limits.{Limits}
-use Rattle.acc_base.specs.Records.{State, new_state}
+use Rattle.acc_base.specs.Records.{State, layout_of, new_state}
 use Rattle.acc_base.specs.Bytes.{after}
-use Rattle.acc_base.specs.Judge.{◌>>◌, refuse_if, few_items, directive_event, host_write_event}
+use Rattle.acc_base.specs.Judge.{few_items, directive_event, host_write_event}
 
 -- the events since a table was new
 pub record History : Type 0 where
@@ -26,41 +30,55 @@ new_world l = record { limits = l; history = record { trace = [] }; state = new_
 abbrev pub event_count : History → ℕ
 event_count h = length h.trace
 
--- what a call asks for
-pub data Request : Type 0 where
-  Do : Directive → Request
-  -- write these bytes into host memory, from this address on
-  HostWrite : ℕ → List ℕ → Request
+-- how many data regions are open
+abbrev pub open_regions : State → ℕ
+open_regions s = length s.register.regions
 
 -- there is a ticket for one more event
 abbrev pub ticket : World → Result ⊤ Fault
 ticket w = refuse_if (nat_le w.limits.tickets (event_count w.history)) (NoTickets 0)
 
+-- entry to a region: there are fewer open regions than the limit says
+abbrev pub allowance : World → Directive → Result ⊤ Fault
+allowance w (Enter items) = refuse_if (nat_le w.limits.regions (open_regions w.state)) (NoAllowance 0)
+allowance w (Exit number) = Ok tt
+allowance w (EnterData items) = Ok tt
+allowance w (ExitData items finalize) = Ok tt
+allowance w (Update items if_present) = Ok tt
+
 -- there is room in the trace for one more event
 abbrev pub trace_room : World → Result ⊤ Fault
 trace_room w = refuse_if (nat_le w.limits.trace_cap (length w.history.trace)) (TraceFull (length w.history.trace))
 
--- the first refusal of a call in the order of refusals, or the event that it makes
-unfoldable pub judge : World → Request → Result Event Fault
+-- what an accepted call comes to: an event, or nothing to do
+pub data Verdict : Type 0 where
+  Makes : Event → Verdict
+  Idle : Verdict
+
+-- the first refusal of a call in the order of refusals, or what it comes to
+unfoldable pub judge : World → Call → Result Verdict Fault
 judge w (Do directive) = do
   ticket w
+  allowance w directive
   few_items directive
   trace_room w
-  directive_event w.limits directive w.state.records
+  e ← directive_event w.limits directive (layout_of w.state)
+  Ok (Makes e)
 judge w (HostWrite addr bytes) = do
   ticket w
   trace_room w
-  host_write_event w.limits addr (length bytes)
+  e ← host_write_event w.limits addr (length bytes)
+  Ok (Makes e)
 
 -- the bytes that a call brings
-abbrev pub bytes_brought : Request → List ℕ
+abbrev pub bytes_brought : Call → List ℕ
 bytes_brought (Do directive) = []
 bytes_brought (HostWrite addr bytes) = bytes
 
 -- the world after an event of a call
-unfoldable pub world_after : Request → Event → World → World
-world_after request e w = record {
+unfoldable pub world_after : Call → Event → World → World
+world_after call e w = record {
   limits = w.limits;
   history = record { trace = w.history.trace ++ e ∷ [] };
-  state = after e (bytes_brought request) w.state;
+  state = after e (bytes_brought call) w.state;
 }

@@ -1,54 +1,107 @@
--- The dynamic counters as a fold over the events, and which lists of events are legal.
-use Rattle.std.specs.Prelude.{ℕ, ◌+◌, ◌-◌, ◌≡◌, Bool, false, if◌then◌else◌, ◌==◌, List, [], ◌∷◌, Ok, count_by, fold, ⊤}
+-- The reference counters as counts over the events, and which lists of events are legal.
+use Rattle.std.specs.Prelude.{ℕ, suc, ◌+◌, ◌-◌, ◌≡◌, Bool, false, if◌then◌else◌, ◌==◌, List, [], ◌∷◌, Ok, count_by, sum_by, fold, IsSome, ⊤}
 use Rattle.acc_base.specs.declared.events.Step.{Step}
-use Rattle.acc_base.specs.declared.events.Step.TheVariants.{Counted, Born, Dropped}
+use Rattle.acc_base.specs.declared.events.Step.TheVariants.{Nothing, Counted, Born, Dropped, Moved}
 use Rattle.acc_base.specs.declared.events.Did.{Did}
 use Rattle.acc_base.specs.declared.events.Event.{Event}
-use Rattle.acc_base.specs.declared.events.Event.TheVariants.{EnteredData, ExitedData, Updated, HostWritten}
+use Rattle.acc_base.specs.declared.events.Event.TheVariants.{Entered, Left, EnteredData, ExitedData, Updated, HostWritten}
+use Rattle.acc_base.specs.declared.tasks.Task.{Task}
 use Rattle.acc_base.specs.Limits.{Limits}
-use Rattle.acc_base.specs.Records.{Records}
-use Rattle.acc_base.specs.Judge.{enter_data_items, exit_data_items, update_items, write_checked}
-use Rattle.acc_base.specs.Walk.{walk}
+use Rattle.acc_base.specs.Records.{Records, Layout}
+use Rattle.acc_base.specs.Register.{holdings_at}
+use Rattle.acc_base.specs.Clauses.{in_host}
+use Rattle.acc_base.specs.Tasks.{judge_task, act}
+use Rattle.acc_base.specs.Walk.{asked_in, done_in, walk}
 use Rattle.acc_base.specs.Calls.{History}
 
--- ---- the dynamic counter (OpenACC 3.3, section 2.6.7)
-
--- an item counted the block
+-- a step counted the block
 abbrev pub counts : ℕ → Step → Bool
+counts block Nothing = false
 counts block (Counted b) = b == block
 counts block (Born b place) = b == block
-counts block _ = false
+counts block (Dropped b ended) = false
+counts block (Moved b) = false
 
--- an item took one from the block's counter
+-- a step took from a counter of the block
 abbrev pub drops : ℕ → Step → Bool
+drops block Nothing = false
+drops block (Counted b) = false
+drops block (Born b place) = false
 drops block (Dropped b ended) = b == block
-drops block _ = false
+drops block (Moved b) = false
 
--- the counter of a block after an item of `exit data`
-abbrev pub dynamic_dropped : ℕ → ℕ → Did → ℕ
-dynamic_dropped block n did = if drops block did.step then n - 1 else n
+-- how many of these items counted the block
+abbrev pub count_counted : ℕ → List Did → ℕ
+count_counted block did = count_by (λ d. counts block d.step) did
 
--- and after an event
+-- how many of these items took from a counter of the block
+abbrev pub count_dropped : ℕ → List Did → ℕ
+count_dropped block did = count_by (λ d. drops block d.step) did
+
+-- ---- the structured counter (OpenACC 3.3, section 2.6.7): entries to regions less exits
+
+-- how often an event's entry to a region counted the block
+abbrev pub entries_of : ℕ → Event → ℕ
+entries_of block (Entered number items did) = count_counted block did
+entries_of block (Left number did) = 0
+entries_of block (EnteredData items did) = 0
+entries_of block (ExitedData items finalize did) = 0
+entries_of block (Updated items if_present did) = 0
+entries_of block (HostWritten addr len) = 0
+
+-- how often an event's exit from a region dropped it
+abbrev pub exits_of : ℕ → Event → ℕ
+exits_of block (Entered number items did) = 0
+exits_of block (Left number did) = count_dropped block did
+exits_of block (EnteredData items did) = 0
+exits_of block (ExitedData items finalize did) = 0
+exits_of block (Updated items if_present did) = 0
+exits_of block (HostWritten addr len) = 0
+
+abbrev pub structured_in : ℕ → History → ℕ
+structured_in block h = sum_by (entries_of block) h.trace - sum_by (exits_of block) h.trace
+
+-- ---- the dynamic counter (OpenACC 3.3, section 2.6.7): `enter data` adds, `exit data` takes away, `finalize` gives zero
+
+-- after an item of `exit data`
+abbrev pub dynamic_dropped : Bool → ℕ → ℕ → Did → ℕ
+dynamic_dropped finalize block n did = if drops block did.step then (if finalize then 0 else n - 1) else n
+
+-- after an event
 abbrev pub dynamic_after : ℕ → ℕ → Event → ℕ
-dynamic_after block n (EnteredData items did) = n + count_by (λ d. counts block d.step) did
-dynamic_after block n (ExitedData items did) = fold (dynamic_dropped block) n did
+dynamic_after block n (Entered number items did) = n
+dynamic_after block n (Left number did) = n
+dynamic_after block n (EnteredData items did) = n + count_counted block did
+dynamic_after block n (ExitedData items finalize did) = fold (dynamic_dropped finalize block) n did
 dynamic_after block n (Updated items if_present did) = n
 dynamic_after block n (HostWritten addr len) = n
 
--- `enter data` adds, and `exit data` takes away
 abbrev pub dynamic_in : ℕ → History → ℕ
 dynamic_in block h = fold (dynamic_after block) 0 h.trace
 
 -- ---- legal events
 
--- the event is what its call makes of these records
-abbrev pub IsLegal : Limits → Event → Records → Type 0
-IsLegal l (EnteredData items did) w = enter_data_items l 0 items w ≡ Ok did
-IsLegal l (ExitedData items did) w = exit_data_items l 0 items w ≡ Ok did
-IsLegal l (Updated items if_present did) w = update_items l if_present 0 items w ≡ Ok did
-IsLegal l (HostWritten addr len) w = write_checked l (record { start = addr; len = len }) ≡ Ok tt
+-- each task did what it is judged to do in what the tasks before it left
+abbrev pub AreJudged : Limits → ℕ → List Task → List Did → Records → Type 0
+AreJudged l n [] [] w = ⊤
+AreJudged l n [] (did ∷ dids) w = ⊥
+AreJudged l n (task ∷ tasks) [] w = ⊥
+AreJudged l n (task ∷ tasks) (did ∷ dids) w = (judge_task l n task w ≡ Ok did.step) × AreJudged l (suc n) tasks dids (act task did.step w)
 
--- each event in the records that the events before it left
-abbrev pub AreLegal : Limits → List Event → Records → Type 0
-AreLegal l [] w = ⊤
-AreLegal l (e ∷ events) w = IsLegal l e w × AreLegal l events (walk e w)
+-- what an event names is so: a new region has the next number, a region that is left is open, and a write lies in host memory
+abbrev pub NamesRight : Limits → Event → Layout → Type 0
+NamesRight l (Entered number items did) lay = number ≡ lay.register.next
+NamesRight l (Left number did) lay = IsSome (holdings_at number lay.register.regions)
+NamesRight l (EnteredData items did) lay = ⊤
+NamesRight l (ExitedData items finalize did) lay = ⊤
+NamesRight l (Updated items if_present did) lay = ⊤
+NamesRight l (HostWritten addr len) lay = in_host l 0 (record { start = addr; len = len }) ≡ Ok tt
+
+pub record IsLegal (l : Limits) (e : Event) (lay : Layout) : Type 0 where
+  pub names : NamesRight l e lay
+  pub judged : AreJudged l 0 (asked_in e lay.register) (done_in e) lay.records
+
+-- each event in what the events before it left
+abbrev pub AreLegal : Limits → List Event → Layout → Type 0
+AreLegal l [] lay = ⊤
+AreLegal l (e ∷ events) lay = IsLegal l e lay × AreLegal l events (walk e lay)

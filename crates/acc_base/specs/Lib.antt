@@ -1,10 +1,13 @@
 pub mod Limits
 pub mod Faults
+pub mod Results
 pub mod Section
 pub mod Ranges
 pub mod Blocks
-pub mod Records
 pub mod Register
+pub mod Records
+pub mod Clauses
+pub mod Tasks
 pub mod Walk
 pub mod Bytes
 pub mod Judge

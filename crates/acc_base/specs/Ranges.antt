@@ -1,5 +1,5 @@
 -- The mapped ranges, and where a section lies among them (OpenACC 3.3, section 2.6).
-use Rattle.std.specs.Prelude.{ℕ, ◌+◌, ◌-◌, ◌≡◌, ◌<◌, not, if◌then◌else◌, nat_le, nat_lt, ◌==◌, List, [], ◌∷◌, map, Option, Some, None, find, filter, unwrap_or, option_map}
+use Rattle.std.specs.Prelude.{ℕ, ◌+◌, ◌-◌, ◌≡◌, ◌<◌, Bool, not, ◌&&◌, false, if◌then◌else◌, nat_le, nat_lt, ◌==◌, List, [], ◌∷◌, map, Option, Some, None, find, filter, unwrap_or, option_map}
 use Rattle.std.specs.List.{list_all, list_any, Contains, AllByRecursion}
 use Rattle.acc_base.specs.declared.items.Section.{Section}
 use Rattle.acc_base.specs.declared.mappings.Range.{Range}
@@ -89,6 +89,14 @@ start_of block ranges = unwrap_or (option_map (λ r. r.section.start) (range_of 
 abbrev pub range_from : ℕ → List Range → Option Range
 range_from address ranges = find (λ r. nat_le address r.section.start) ranges
 
+-- neither counter of the range is above zero
+abbrev pub is_unused : Range → Bool
+is_unused r = (r.structured == 0) && (r.dynamic == 0)
+
+-- the change leaves the range of a block without a counter above zero
+abbrev pub ends_by : (Range → Range) → ℕ → List Range → Bool
+ends_by change block ranges = unwrap_or (option_map (λ r. is_unused (change r)) (range_of block ranges)) false
+
 -- ---- changes
 
 -- the ranges with one more, by rising start
@@ -103,18 +111,6 @@ without_range block ranges = filter (λ r. not (r.block == block)) ranges
 -- the ranges with a change to that of a block
 abbrev pub changed_at : ℕ → (Range → Range) → List Range → List Range
 changed_at block change ranges = map (λ r. if r.block == block then change r else r) ranges
-
--- a new range, counted once by `enter data`
-abbrev pub new_range : Section → ℕ → Range
-new_range s block = record { section = s; block = block; structured = 0; dynamic = 1 }
-
--- the dynamic counter one higher
-abbrev pub raised : Range → Range
-raised r = record r { dynamic = r.dynamic + 1 }
-
--- and one lower; zero stays zero
-abbrev pub lowered : Range → Range
-lowered r = record r { dynamic = r.dynamic - 1 }
 
 -- a new range that nothing has counted
 abbrev pub bare_range : Section → ℕ → Range

@@ -1,7 +1,8 @@
--- What a data environment holds at one moment: its records, and the bytes of its memories.
+-- What a data environment holds at one moment: its records, its register, and the bytes of its memories.
 use Rattle.std.specs.Prelude.{ℕ, List, [], replicate}
 use Rattle.acc_base.specs.declared.mappings.Range.{Range}
 use Rattle.acc_base.specs.declared.mappings.Block.{Block}
+use Rattle.acc_base.specs.Register.{Register, new_register}
 
 -- everything of a device but bytes: the mapped ranges by rising start, the blocks by rising number, and how many blocks were ever born
 pub record Records : Type 0 where
@@ -14,16 +15,30 @@ pub record Memory : Type 0 where
   pub block : ℕ
   pub bytes : List ℕ
 
--- the records, the bytes of host memory, and those of each block
+-- everything but bytes: what the device has, and what there is once whatever the device
+pub record Layout : Type 0 where
+  pub records : Records
+  pub register : Register
+
+-- the records, the register, the bytes of host memory, and those of each block
 pub record State : Type 0 where
   pub records : Records
+  pub register : Register
   pub host : List ℕ
   pub memories : List Memory
+
+-- a state without its bytes
+abbrev pub layout_of : State → Layout
+layout_of s = record { records = s.records; register = s.register }
 
 -- nothing is mapped, and no block was born
 abbrev pub new_records : Records
 new_records = record { ranges = []; blocks = []; births = 0 }
 
--- and the bytes of host memory are zero
+-- nothing is mapped, and no region is open
+abbrev pub new_layout : Layout
+new_layout = record { records = new_records; register = new_register }
+
+-- nothing is mapped, no region is open, and so many bytes of host memory are zero
 abbrev pub new_state : ℕ → State
-new_state host = record { records = new_records; host = replicate host 0; memories = [] }
+new_state host = record { records = new_records; register = new_register; host = replicate host 0; memories = [] }

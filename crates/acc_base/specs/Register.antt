@@ -1,11 +1,20 @@
 -- The open data regions, each with what its own entry counted (OpenACC 3.3, sections 2.6.5 and 2.6.7).
-use Rattle.std.specs.Prelude.{ℕ, not, if◌then◌else◌, nat_lt, ◌==◌, List, [], ◌∷◌, Option, find, filter, option_map}
+use Rattle.std.specs.Prelude.{ℕ, ◌+◌, Bool, false, not, if◌then◌else◌, nat_lt, ◌==◌, List, [], ◌∷◌, Option, Some, None, find, filter, option_map, sum_by, count_by}
 use Rattle.acc_base.specs.declared.regions.Holding.{Holding}
 
 -- an open region: its number, and what each item of its entry counted, in written order
 pub record Region : Type 0 where
   pub number : ℕ
   pub holdings : List Holding
+
+-- the open regions by rising number, and the number of the next one
+pub record Register : Type 0 where
+  pub regions : List Region
+  pub next : ℕ
+
+-- no region was opened; the first one has the number 1
+abbrev pub new_register : Register
+new_register = record { regions = []; next = 1 }
 
 -- the open region of a number
 abbrev pub region_at : ℕ → List Region → Option Region
@@ -23,3 +32,26 @@ with_region new (r ∷ rs) = if nat_lt new.number r.number then new ∷ r ∷ rs
 -- the regions without that of a number
 abbrev pub without_region : ℕ → List Region → List Region
 without_region number regions = filter (λ r. not (r.number == number)) regions
+
+-- a region of the next number is open
+abbrev pub opened : List Holding → Register → Register
+opened holdings g = record { regions = with_region (record { number = g.next; holdings = holdings }) g.regions; next = g.next + 1 }
+
+-- the region of a number is open no longer
+abbrev pub closed : ℕ → Register → Register
+closed number g = record { regions = without_region number g.regions; next = g.next }
+
+-- ---- how often a block is held
+
+-- the block is the one that was counted
+abbrev pub is_counted_block : ℕ → Option ℕ → Bool
+is_counted_block block None = false
+is_counted_block block (Some counted) = counted == block
+
+-- how many of these holdings counted a block
+abbrev pub count_held : ℕ → List Holding → ℕ
+count_held block holdings = count_by (λ h. is_counted_block block h.block) holdings
+
+-- how many holdings of open regions counted a block
+abbrev pub held_in : ℕ → List Region → ℕ
+held_in block regions = sum_by (λ r. count_held block r.holdings) regions

@@ -1,63 +1,84 @@
--- What an event leaves of the records. It reads the event alone, and no bytes.
-use Rattle.std.specs.Prelude.{ℕ, ◌+◌, List, [], ◌∷◌, ◌++◌, if◌then◌else◌}
-use Rattle.acc_base.specs.declared.items.Section.{Section}
+-- What an event asked and did, and what it leaves of the records and the register. It reads the event alone, and no bytes.
+use Rattle.std.specs.Prelude.{ℕ, List, [], ◌∷◌, map, reverse, Option, Some, None, unwrap_or}
 use Rattle.acc_base.specs.declared.items.Item.{Item}
+use Rattle.acc_base.specs.declared.items.RegionClause.{RegionClause}
 use Rattle.acc_base.specs.declared.items.EnterClause.{EnterClause}
 use Rattle.acc_base.specs.declared.items.ExitClause.{ExitClause}
-use Rattle.acc_base.specs.declared.mappings.Range.{Range}
+use Rattle.acc_base.specs.declared.mappings.Counter.TheVariants.{Structured, Dynamic}
+use Rattle.acc_base.specs.declared.regions.Holding.{Holding}
+use Rattle.acc_base.specs.declared.tasks.Task.{Task}
+use Rattle.acc_base.specs.declared.tasks.Task.TheVariants.{Enter, Leave, Exit, Move}
 use Rattle.acc_base.specs.declared.events.Step.{Step}
-use Rattle.acc_base.specs.declared.events.Step.TheVariants.{Counted, Born, Dropped}
+use Rattle.acc_base.specs.declared.events.Step.TheVariants.{Nothing, Counted, Born, Dropped, Moved}
 use Rattle.acc_base.specs.declared.events.Did.{Did}
 use Rattle.acc_base.specs.declared.events.Event.{Event}
-use Rattle.acc_base.specs.declared.events.Event.TheVariants.{EnteredData, ExitedData, Updated, HostWritten}
-use Rattle.acc_base.specs.Records.{Records}
-use Rattle.acc_base.specs.Ranges.{with_range, without_range, changed_at, new_range, raised, lowered}
-use Rattle.acc_base.specs.Blocks.{without_block}
+use Rattle.acc_base.specs.declared.events.Event.TheVariants.{Entered, Left, EnteredData, ExitedData, Updated, HostWritten}
+use Rattle.acc_base.specs.Records.{Records, Layout}
+use Rattle.acc_base.specs.Register.{Register, holdings_at, opened, closed}
+use Rattle.acc_base.specs.Clauses.{as_region}
+use Rattle.acc_base.specs.Tasks.{act_all}
 
--- a section is mapped to a new block of its length
-unfoldable pub records_after_birth : Section → ℕ → ℕ → Records → Records
-records_after_birth section block place w = record {
-  ranges = with_range (new_range section block) w.ranges;
-  blocks = w.blocks ++ record { number = block; place = place; len = section.len } ∷ [];
-  births = w.births + 1;
-}
+-- ---- what an event asked, in the order in which it acted
 
--- the mapping to a block ends, and the block is given back
-unfoldable pub records_after_end : ℕ → Records → Records
-records_after_end block w = record w { ranges = without_range block w.ranges; blocks = without_block block w.blocks }
+-- an item of a region's entry
+abbrev pub enter_task : Item RegionClause → Task
+enter_task item = Enter Structured item
 
--- the counters of a range change
-unfoldable pub with_range_changed : ℕ → (Range → Range) → Records → Records
-with_range_changed block change w = record w { ranges = changed_at block change w.ranges }
+-- an item of `enter data`
+abbrev pub enter_data_task : Item EnterClause → Task
+enter_data_task item = Enter Dynamic (record { clause = as_region item.clause; section = item.section })
 
--- after an item of `enter data` (OpenACC 3.3, the enter data directive)
-unfoldable pub after_entered : Section → Step → Records → Records
-after_entered section (Counted block) w = with_range_changed block raised w
-after_entered section (Born block place) w = records_after_birth section block place w
-after_entered section _ w = w
+-- what a region holds is undone from the last item to the first
+abbrev pub leave_tasks : List Holding → List Task
+leave_tasks holdings = map Leave (reverse holdings)
 
--- after an item of `exit data` (OpenACC 3.3, the exit data directive)
-unfoldable pub after_exited : Step → Records → Records
-after_exited (Dropped block ended) w = if ended then records_after_end block w else with_range_changed block lowered w
-after_exited _ w = w
+abbrev pub asked_in : Event → Register → List Task
+asked_in (Entered number items did) g = map enter_task items
+asked_in (Left number did) g = leave_tasks (unwrap_or (holdings_at number g.regions) [])
+asked_in (EnteredData items did) g = map enter_data_task items
+asked_in (ExitedData items finalize did) g = map (Exit finalize) items
+asked_in (Updated items if_present did) g = map (Move if_present) items
+asked_in (HostWritten addr len) g = []
 
--- after a list of items, one after the other
-unfoldable pub after_all_entered : List (Item EnterClause) → List Did → Records → Records
-after_all_entered (item ∷ items) (did ∷ dids) w = after_all_entered items dids (after_entered item.section did.step w)
-after_all_entered _ _ w = w
+-- what was done, in the same order
+abbrev pub done_in : Event → List Did
+done_in (Entered number items did) = did
+done_in (Left number did) = reverse did
+done_in (EnteredData items did) = did
+done_in (ExitedData items finalize did) = did
+done_in (Updated items if_present did) = did
+done_in (HostWritten addr len) = []
 
-unfoldable pub after_all_exited : List (Item ExitClause) → List Did → Records → Records
-after_all_exited (item ∷ items) (did ∷ dids) w = after_all_exited items dids (after_exited did.step w)
-after_all_exited _ _ w = w
+-- ---- what it leaves of the register
 
--- the records after an event; copies and writes leave them
-unfoldable pub walk : Event → Records → Records
-walk (EnteredData items did) w = after_all_entered items did w
-walk (ExitedData items did) w = after_all_exited items did w
-walk (Updated items if_present did) w = w
-walk (HostWritten addr len) w = w
+-- the block that a step counted
+abbrev pub block_counted : Step → Option ℕ
+block_counted Nothing = None
+block_counted (Counted block) = Some block
+block_counted (Born block place) = Some block
+block_counted (Dropped block ended) = None
+block_counted (Moved block) = None
+
+-- what each item of an entry holds
+abbrev pub holdings_of : List (Item RegionClause) → List Did → List Holding
+holdings_of (item ∷ items) (did ∷ dids) = record { item = item; block = block_counted did.step } ∷ holdings_of items dids
+holdings_of _ _ = []
+
+-- entry and exit of a region alone change the register
+abbrev pub register_after : Event → Register → Register
+register_after (Entered number items did) g = opened (holdings_of items did) g
+register_after (Left number did) g = closed number g
+register_after (EnteredData items did) g = g
+register_after (ExitedData items finalize did) g = g
+register_after (Updated items if_present did) g = g
+register_after (HostWritten addr len) g = g
+
+-- ---- the layout after an event
+
+unfoldable pub walk : Event → Layout → Layout
+walk e lay = record { records = act_all (asked_in e lay.register) (done_in e) lay.records; register = register_after e lay.register }
 
 -- and after a list of events
-unfoldable pub walk_all : List Event → Records → Records
-walk_all [] w = w
-walk_all (e ∷ events) w = walk_all events (walk e w)
+unfoldable pub walk_all : List Event → Layout → Layout
+walk_all [] lay = lay
+walk_all (e ∷ events) lay = walk_all events (walk e lay)

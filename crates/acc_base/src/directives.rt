@@ -1,10 +1,21 @@
 //! What a program asks of the data environment.
 
-use crate::{EnterClause, ExitClause, Item, List, UpdateClause};
+use crate::{EnterClause, ExitClause, Item, List, RegionClause, UpdateClause};
 
-/// A directive, with the items of its data clauses in written order. They act in that order.
+/// A directive, with the items of its data clauses in written order. They act in that order; on a region's exit they act
+/// in reverse.
 #[derive(Debug, Drop)]
 pub enum Directive {
+    /// Entry to a structured data region: the start of a `data` construct (OpenACC 3.3, section 2.6.5).
+    Enter {
+        /// The items of its clauses.
+        items: List<Item<RegionClause>>,
+    },
+    /// Exit from an open data region: the end of its `data` construct (OpenACC 3.3, section 2.6.5).
+    Exit {
+        /// The number that the region's entry was answered.
+        number: u64,
+    },
     /// The `enter data` directive (OpenACC 3.3, section 2.6.6).
     EnterData {
         /// The items of its clauses.
@@ -14,6 +25,9 @@ pub enum Directive {
     ExitData {
         /// The items of its clauses.
         items: List<Item<ExitClause>>,
+        /// The `finalize` clause: the dynamic counter of each range that an item names becomes zero, and does not fall
+        /// by one.
+        finalize: bool,
     },
     /// The `update` directive (OpenACC 3.3, the update directive).
     Update {

@@ -1,6 +1,6 @@
 //! What an accepted call did, as it is kept in the trace of a table.
 
-use crate::{EnterClause, ExitClause, Item, List, UpdateClause};
+use crate::{EnterClause, ExitClause, Item, List, RegionClause, UpdateClause};
 
 /// What an item of a data clause did to mappings, counters and bytes.
 #[derive(Clone, Copy, Debug, PartialEq, Eq)]
@@ -19,7 +19,7 @@ pub enum Step {
         /// The device address of its first byte.
         place: u64,
     },
-    /// A reference counter of the range that is mapped to a block fell by one.
+    /// A reference counter of the range that is mapped to a block fell by one, or was set to zero by `finalize`.
     Dropped {
         /// The number of the block.
         block: u64,
@@ -43,6 +43,22 @@ pub struct Did {
 /// One accepted call: what the call named, and what each of its items did, in written order.
 #[derive(Debug, Drop)]
 pub enum Event {
+    /// Entry to a data region.
+    Entered {
+        /// The number of the region.
+        number: u64,
+        /// The items that it named.
+        items: List<Item<RegionClause>>,
+        /// What each of them did.
+        did: List<Did>,
+    },
+    /// Exit from a data region.
+    Left {
+        /// The number of the region.
+        number: u64,
+        /// What undoing each item of the entry did. The last one acted first.
+        did: List<Did>,
+    },
     /// An `enter data` directive.
     EnteredData {
         /// The items that it named.
@@ -54,6 +70,8 @@ pub enum Event {
     ExitedData {
         /// The items that it named.
         items: List<Item<ExitClause>>,
+        /// Whether it had the `finalize` clause.
+        finalize: bool,
         /// What each of them did.
         did: List<Did>,
     },

@@ -6,6 +6,7 @@
 #![tactic(auto)]
 
 mod addresses;
+mod calls;
 mod configs;
 mod directives;
 mod events;
@@ -14,8 +15,10 @@ mod items;
 mod lists;
 mod mappings;
 mod regions;
+mod tasks;
 
 pub use addresses::{DEVICE_BASE, HOST_BASE, MEMORY_MAX};
+pub use calls::Call;
 pub use configs::Config;
 pub use directives::Directive;
 pub use events::{Did, Event, Step};
@@ -24,6 +27,7 @@ pub use items::{EnterClause, ExitClause, Item, RegionClause, Section, UpdateClau
 pub use lists::List;
 pub use mappings::{Block, Counter, Counters, Found, Range};
 pub use regions::Holding;
+pub use tasks::{Task, Transfer};
 
 #[cfg(test)]
 mod tests;

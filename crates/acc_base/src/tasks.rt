@@ -1,0 +1,47 @@
+//! What one item asks, whatever directive it stands in.
+
+use crate::{Counter, ExitClause, Holding, Item, RegionClause, UpdateClause};
+
+/// What one item of a directive asks of the data environment. Each row of the clause tables is a task.
+#[derive(Clone, Copy, Debug, PartialEq, Eq)]
+pub enum Task {
+    /// Entry: an item of a `data` construct, on the structured counter, or of `enter data`, on the dynamic one.
+    Enter {
+        /// The counter that is raised.
+        counter: Counter,
+        /// The item. A clause of `enter data` stands as the clause of a region that does the same.
+        item: Item<RegionClause>,
+    },
+    /// Exit from a region: what an item's entry counted is undone.
+    Leave {
+        /// What the entry counted.
+        holding: Holding,
+    },
+    /// An item of `exit data`.
+    Exit {
+        /// The `finalize` clause.
+        finalize: bool,
+        /// The item.
+        item: Item<ExitClause>,
+    },
+    /// An item of `update`.
+    Move {
+        /// The `if_present` clause.
+        if_present: bool,
+        /// The item.
+        item: Item<UpdateClause>,
+    },
+}
+
+/// A copy of the bytes of a section between host memory and a block.
+#[derive(Clone, Copy, Debug, PartialEq, Eq)]
+pub struct Transfer {
+    /// The number of the block.
+    pub block: u64,
+    /// How far behind the start of the block the section begins, in bytes.
+    pub offset: u64,
+    /// The section of host memory.
+    pub section: crate::Section,
+    /// From the block to host memory, and not the other way.
+    pub out: bool,
+}

@@ -5,3 +5,4 @@ pub mod Where
 pub mod Places
 pub mod Counting
 pub mod Judged
+pub mod Sound

@@ -42,7 +42,7 @@ module _ (g : Range → ℕ) (f : Range → Range) (h : ℕ → ℕ) (keeps : (r
 
 -- ---- one range more
 
-with_same : (g : Range → ℕ) (new : Range) (ranges : List Range) → range_of new.block ranges ≡ None → read_of g new.block (with_range new ranges) ≡ g new
+pub with_same : (g : Range → ℕ) (new : Range) (ranges : List Range) → range_of new.block ranges ≡ None → read_of g new.block (with_range new ranges) ≡ g new
 with_same g new [] p = rw equal_self
 with_same g new (r ∷ rs) p = go (with_same g new rs) (nat_lt new.section.start r.section.start) (r.block == new.block) refl p
   where
@@ -52,7 +52,7 @@ with_same g new (r ∷ rs) p = go (with_same g new rs) (nat_lt new.section.start
     go rest true false e q = rw equal_self
     go rest false false e q = rw e (rest q)
 
-with_other : (g : Range → ℕ) (new : Range) (b : ℕ) (ranges : List Range) → (new.block == b) ≡ false → read_of g b (with_range new ranges) ≡ read_of g b ranges
+pub with_other : (g : Range → ℕ) (new : Range) (b : ℕ) (ranges : List Range) → (new.block == b) ≡ false → read_of g b (with_range new ranges) ≡ read_of g b ranges
 with_other g new b [] n = rw n
 with_other g new b (r ∷ rs) n = go (with_other g new b rs n) (nat_lt new.section.start r.section.start) (r.block == b) refl
   where

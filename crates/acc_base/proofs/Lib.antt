@@ -6,3 +6,4 @@ pub mod Places
 pub mod Counting
 pub mod Judged
 pub mod Sound
+pub mod Recounted

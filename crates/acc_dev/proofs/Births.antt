@@ -37,6 +37,11 @@ pub memories-born : (s t : List (Option Stored)) (xs : List (ℕ × ℕ)) (numbe
     → memories_in t (xs ++ (number, k) ∷ []) ≡ memories_in s xs ++ record { block = number; bytes = x.bytes.items } ∷ []
 memories-born s t xs number k x filled vacant new others = made-born memory_from s t xs number k x (same_from s t k xs others (vacant_off s k xs filled vacant)) new
 
+-- a slot that is no entry's of a longer index
+off_parts : (xs : List (ℕ × ℕ)) (x : ℕ × ℕ) (j : ℕ) → AllByRecursion (λ e. e.1 ≡ j → ⊥) (xs ++ x ∷ []) → AllByRecursion (λ e. e.1 ≡ j → ⊥) xs × (x.1 ≡ j → ⊥)
+off_parts [] x j h = (tt, h.0)
+off_parts (y ∷ ys) x j h = let rest = off_parts ys x j h.1 in ((h.0, rest.0), rest.1)
+
 -- a device keeps what it keeps
 pub born_kept : (old new : Space) (s t : List (Option Stored)) (xs : List (ℕ × ℕ)) (number k : ℕ) (x : Stored) → IsKept old s xs → AllByRecursion (λ e. e.0 < number) xs → get_or s k None ≡ None → get_or t k None ≡ Some x → KeepsOthers s t k
     → IsFromOne 67108864 (length x.bytes.items) → new.base ≡ old.base → IsCanonical new → ((ts : List (ℕ × ℕ)) → IsPartition old ts → IsPartition new ((x.place, rounded (length x.bytes.items)) ∷ ts)) → IsKept new t (xs ++ (number, k) ∷ [])
@@ -53,6 +58,7 @@ born_kept old new s t xs number k x kept above vacant is others len base canonic
       filled = AllByRecursion-append (λ (e : ℕ × ℕ). IsSome (slot_of t e)) xs ((number, k) ∷ [])
           (AllByRecursion-both (λ (e : ℕ × ℕ). slot_of t e ≡ slot_of s e) (λ e. IsSome (slot_of s e)) (λ e. IsSome (slot_of t e)) xs (λ e q some. subst IsSome (sym q) some) same kept.filled)
           (subst IsSome (sym is) refl, tt);
+      others_empty = λ j off_all. let parts = off_parts xs (number, k) j off_all in others j (λ same. parts.1 (sym same)) ∙ kept.others_empty j parts.0;
       lens = rw blocks (AllByRecursion-append (λ (b : Block). IsFromOne 67108864 b.len) (blocks_in s xs) (born_block number x ∷ []) kept.lens (len, tt));
       partition = rw (blocks, ranges) (partition_last new (map taken_range (blocks_in s xs)) (taken_range (born_block number x)) (part (map taken_range (blocks_in s xs)) kept.partition));
     }

@@ -91,6 +91,10 @@ stored_at h s xs i n x k entry is =
 pub filled_at : (h : Space) (s : List (Option Stored)) (xs : List (ℕ × ℕ)) (i : ℕ) → IsKept h s xs → i < length xs → IsSome (slot_of s (get_or xs i start))
 filled_at h s xs i k lt = all_at (λ (e : ℕ × ℕ). IsSome (slot_of s e)) xs i start lt k.filled
 
+-- the slot of an entry that was read is not empty
+pub filled_read : (h : Space) (s : List (Option Stored)) (xs : List (ℕ × ℕ)) (i : ℕ) (e : ℕ × ℕ) → IsKept h s xs → e ≡ get_or xs i e → i < length xs → IsSome (get_or s e.1 None)
+filled_read h s xs i e k read lt = subst (λ (d : ℕ × ℕ). IsSome (slot_of s d)) (entry_read xs i e read lt) (filled_at h s xs i k lt)
+
 -- the same of a reference into the slab
 pub told_stored : (h : Space) (s : List (Option Stored)) (xs : List (ℕ × ℕ)) (i n : ℕ) (r : Option (Bor Stored)) → IsKept h s xs → IsEntry xs n i → option_copied r ≡ slot_of s (get_or xs i start) → IsSomeAnd r (λ x. TellsStored s xs n x.now)
 told_stored h s xs i n None k entry is = absurd (false≢true (subst IsSome (sym is) (filled_at h s xs i k entry.in_bounds)))

@@ -45,13 +45,14 @@ taken_range b = (b.place, size_of b)
 abbrev pub AreRising : List (ℕ × ℕ) → Type 0
 AreRising index = EachPair (λ d e. d.0 < e.0) index
 
--- each block has a slot of its own, and the blocks are what is taken of the device
+-- each block has a slot of its own, every other slot is empty, and the blocks are what is taken of the device
 pub record IsKept (holes : Space) (slots : List (Option Stored)) (index : List (ℕ × ℕ)) : Type 0 where
   pub base : holes.base ≡ device_base
   pub canonical : IsCanonical holes
   pub rising : AreRising index
   pub distinct : EachPair (λ d e. d.1 ≡ e.1 → ⊥) index
   pub filled : AllByRecursion (λ e. IsSome (slot_of slots e)) index
+  pub others_empty : (slot : ℕ) → AllByRecursion (λ e. e.1 ≡ slot → ⊥) index → slice_index_or slots slot None ≡ None
   pub lens : AllByRecursion (λ b. IsFromOne 67108864 b.len) (blocks_in slots index)
   pub partition : IsPartition holes (map taken_range (blocks_in slots index))
 

@@ -31,7 +31,7 @@ pub record IsCounted (l : Limits) (r : Range) : Type 0 where
 
 pub record IsSound (l : Limits) (w : Records) : Type 0 where
   pub ranges : AreRangesApart l w.ranges
-  pub blocks : AreBlocksApart l w
+  pub blocks : AreBlocksApart l.device w.blocks w.births
   pub each : HasOneBlockEach w
   pub counted : AllByRecursion (IsCounted l) w.ranges
 
@@ -137,7 +137,7 @@ ended_sound l k w h = record {
     rising = EachPair-filter (λ r t. IsBelow r.section t.section) (λ r. not (r.block == k)) w.ranges h.ranges.rising;
   };
   blocks = record {
-    on_device = AllByRecursion-filter (IsOnDevice l) (λ b. not (b.number == k)) w.blocks h.blocks.on_device;
+    on_device = AllByRecursion-filter (IsOnDevice l.device) (λ b. not (b.number == k)) w.blocks h.blocks.on_device;
     apart = EachPair-filter IsClearOf (λ b. not (b.number == k)) w.blocks h.blocks.apart;
     born = AllByRecursion-filter (λ b. b.number ≤ w.births) (λ b. not (b.number == k)) w.blocks h.blocks.born;
   };
@@ -189,16 +189,16 @@ born_block k p len = record { number = k; place = p; len = len }
 sides : (x y p size : ℕ) → (nat_le (p + size) x || nat_le y p) ≡ true → (y ≤ p) ⊎ (p + size ≤ x)
 sides x y p size h = grind (arith, nat_tests)
 
-birth_blocks : (l : Limits) (section : Section) (k p : ℕ) (w : Records) → 0 < section.len → IsBirth l section k p w → AreBlocksApart l w → AreBlocksApart l (records_after_birth section k p w)
+birth_blocks : (l : Limits) (section : Section) (k p : ℕ) (w : Records) → 0 < section.len → IsBirth l section k p w → AreBlocksApart l.device w.blocks w.births → AreBlocksApart l.device (records_after_birth section k p w).blocks (records_after_birth section k p w).births
 unfolding records_after_birth
 birth_blocks l section k p w some birth h =
     let found : IsFoundPlace (fits_at l.device w.blocks (rounded section.len)) (Some p) = subst (IsFoundPlace (fits_at l.device w.blocks (rounded section.len))) birth.place_is (place_for-found l.device w.blocks (rounded section.len)) in
     let parts : ((nat_le device_base p && nat_le (p + rounded section.len) (device_base + l.device)) ≡ true) × (list_all (is_clear_of p (rounded section.len)) w.blocks ≡ true) = and_true _ _ found.0 in
     let bounds : (device_base ≤ p) × (p + rounded section.len ≤ device_base + l.device) = grind (arith, nat_tests) in
-    let even : IfSome (Some p) (λ q. q % 16 ≡ 0) = subst (λ o. IfSome o (λ q. q % 16 ≡ 0)) birth.place_is (place_for-even l.device w.blocks (rounded section.len) (AllByRecursion-weaker (IsOnDevice l) (λ b. b.place % 16 ≡ 0) w.blocks (λ b o. o.aligned) h.on_device)) in
+    let even : IfSome (Some p) (λ q. q % 16 ≡ 0) = subst (λ o. IfSome o (λ q. q % 16 ≡ 0)) birth.place_is (place_for-even l.device w.blocks (rounded section.len) (AllByRecursion-weaker (IsOnDevice l.device) (λ b. b.place % 16 ≡ 0) w.blocks (λ b o. o.aligned) h.on_device)) in
     let clear : AllByRecursion (λ b. is_clear_of p (rounded section.len) b ≡ true) w.blocks = list_all-from (is_clear_of p (rounded section.len)) w.blocks parts.1 in
     record {
-      on_device = AllByRecursion-append (IsOnDevice l) w.blocks (born_block k p section.len ∷ []) h.on_device (record { some = some; first = bounds.0; last = bounds.1; aligned = even }, tt);
+      on_device = AllByRecursion-append (IsOnDevice l.device) w.blocks (born_block k p section.len ∷ []) h.on_device (record { some = some; first = bounds.0; last = bounds.1; aligned = even }, tt);
       apart = EachPair-push IsClearOf w.blocks (born_block k p section.len)
           (AllByRecursion-both (λ b. is_clear_of p (rounded section.len) b ≡ true) (λ b. b.number ≤ w.births) (λ b. IsClearOf b (born_block k p section.len)) w.blocks
           (λ b c n. let first : k ≡ w.births + 1 = birth.number in record { addresses = sides b.place (block_end b) p (rounded section.len) c; numbers = omega arith }) clear h.born)

@@ -52,9 +52,9 @@ used_within (suc fuel) low high (b ∷ bs) few order all apart =
     let last : block_end b ≤ high = all.0.last in
     omega arith
 
-pub used_le : (l : Limits) (w : Records) → AreBlocksApart l w → used_bytes w.blocks ≤ l.device
+pub used_le : (l : Limits) (w : Records) → AreBlocksApart l.device w.blocks w.births → used_bytes w.blocks ≤ l.device
 used_le l w h =
     let within : used_bytes w.blocks ≤ device_base + l.device - device_base = used_within (length w.blocks) device_base (device_base + l.device) w.blocks (omega arith) (omega arith)
-    (AllByRecursion-weaker (IsOnDevice l) (IsBetween device_base (device_base + l.device)) w.blocks (λ b o. record { first = o.first; last = o.last }) h.on_device)
+    (AllByRecursion-weaker (IsOnDevice l.device) (IsBetween device_base (device_base + l.device)) w.blocks (λ b o. record { first = o.first; last = o.last }) h.on_device)
     (EachPair-weaker IsClearOf IsBeside w.blocks (λ b c k. k.addresses) h.apart) in
     omega arith

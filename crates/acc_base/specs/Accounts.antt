@@ -1,5 +1,5 @@
 -- What holds of every world that accepted calls lead to: ranges and blocks are apart and account for every used byte, and every counter is what the history gives.
-use Rattle.std.specs.Prelude.{◌+◌, ◌%◌, ◌≡◌, ◌<◌, ◌≤◌, ◌⊎◌, true, List, [], ◌∷◌, length, Some, IsSome, ⊤}
+use Rattle.std.specs.Prelude.{ℕ, ◌+◌, ◌%◌, ◌≡◌, ◌<◌, ◌≤◌, ◌⊎◌, true, List, [], ◌∷◌, length, Some, IsSome, ⊤}
 use Rattle.std.specs.List.{AllByRecursion, AllZip}
 use Rattle.acc_base.specs.declared.mappings.Range.{Range}
 use Rattle.acc_base.specs.declared.mappings.Block.{Block}
@@ -36,11 +36,11 @@ pub record AreRangesApart (l : Limits) (ranges : List Range) : Type 0 where
 
 -- ---- device blocks
 
--- the block lies on the device, and begins at a multiple of 16
-pub record IsOnDevice (l : Limits) (b : Block) : Type 0 where
+-- the block lies on a device of this size, and begins at a multiple of 16
+pub record IsOnDevice (device : ℕ) (b : Block) : Type 0 where
   pub some : 0 < b.len
   pub first : device_base ≤ b.place
-  pub last : block_end b ≤ device_base + l.device
+  pub last : block_end b ≤ device_base + device
   pub aligned : b.place % 16 ≡ 0
 
 -- no address is in both, and the one was born before the other
@@ -48,11 +48,11 @@ pub record IsClearOf (b c : Block) : Type 0 where
   pub addresses : (block_end b ≤ c.place) ⊎ (block_end c ≤ b.place)
   pub numbers : b.number < c.number
 
--- blocks lie on the device, do not overlap, and stand in the order of their births
-pub record AreBlocksApart (l : Limits) (w : Records) : Type 0 where
-  pub on_device : AllByRecursion (IsOnDevice l) w.blocks
-  pub apart : EachPair IsClearOf w.blocks
-  pub born : AllByRecursion (λ b. b.number ≤ w.births) w.blocks
+-- blocks lie on a device of this size, do not overlap, and stand in the order of their births
+pub record AreBlocksApart (device : ℕ) (blocks : List Block) (births : ℕ) : Type 0 where
+  pub on_device : AllByRecursion (IsOnDevice device) blocks
+  pub apart : EachPair IsClearOf blocks
+  pub born : AllByRecursion (λ b. b.number ≤ births) blocks
 
 -- ---- ranges and blocks
 
@@ -101,7 +101,7 @@ pub record AreBooksCounted (l : Limits) (h : History) : Type 0 where
 
 pub record IsAccounted (w : World) : Type 0 where
   pub ranges_apart : AreRangesApart w.limits w.state.records.ranges
-  pub blocks_apart : AreBlocksApart w.limits w.state.records
+  pub blocks_apart : AreBlocksApart w.limits.device w.state.records.blocks w.state.records.births
   pub bytes_accounted : used_bytes w.state.records.blocks ≤ w.limits.device
   pub one_block_each : HasOneBlockEach w.state.records
   pub counters_traced : AllByRecursion (IsTraced w.limits w.history) w.state.records.ranges

@@ -3,6 +3,7 @@ pub mod Faults
 pub mod Section
 pub mod Ranges
 pub mod Blocks
+pub mod Holes
 pub mod Records
 pub mod Walk
 pub mod Bytes

@@ -3,6 +3,7 @@ use Rattle.std.proofs.Common.{ℕ, zero, suc, ◌≡◌, ◌<◌, refl, sym, ap,
 use Rattle.std.specs.Prelude.{◌==◌, not, map, IsSome}
 use Rattle.std.specs.List.{AllByRecursion, remove}
 use Rattle.std.proofs.lemmas.Bool.{cases_eq}
+use Rattle.acc_base.specs.declared.addresses.TheConstants.{MEMORY_MAX}
 use Rattle.acc_base.specs.declared.mappings.Block.{Block}
 use Rattle.acc_base.specs.Limits.{IsFromOne}
 use Rattle.acc_base.specs.Blocks.{rounded, without_block}
@@ -14,7 +15,8 @@ use Rattle.acc_placement.specs.Space.{Space, IsCanonical, IsPartition, IsTaken}
 use Rattle.acc_placement.proofs.Partitions.{partition_without, taken_at}
 use Rattle.acc_dev.specs.declared.entries.Stored.{Stored}
 use Rattle.acc_dev.specs.Device.{IsRetired}
-use Rattle.acc_dev.specs.Kept.{block_from, memory_from, slot_of, blocks_in, memories_in, taken_range, AreRising, IsKept, IsEntry}
+use Rattle.acc_base.specs.Holes.{taken_range}
+use Rattle.acc_dev.specs.Kept.{block_from, memory_from, slot_of, blocks_in, memories_in, AreRising, IsKept, IsEntry}
 use Rattle.acc_dev.proofs.Rising.{start, all-remove, apart-remove, map-remove, filter-map, remove-filter}
 use Rattle.acc_dev.proofs.Slots.{AreSame, KeepsOthers, same_from, others_off, made-removed, in_step}
 use Rattle.acc_dev.proofs.Keeping.{device_of}
@@ -69,7 +71,7 @@ left_kept old new s t xs i x kept lt is others empty base canonical part =
       distinct = apart-remove (λ (d : ℕ × ℕ) (e : ℕ × ℕ). d.1 ≡ e.1 → ⊥) xs i kept.distinct;
       filled = AllByRecursion-both (λ (e : ℕ × ℕ). slot_of t e ≡ slot_of s e) (λ e. IsSome (slot_of s e)) (λ e. IsSome (slot_of t e)) (remove xs i) (λ e q some. subst IsSome (sym q) some) same (all-remove (λ (e : ℕ × ℕ). IsSome (slot_of s e)) xs i kept.filled);
       others_empty = λ j off. left_empty s t xs i j kept.others_empty others empty off;
-      lens = rw blocks (all-remove (λ (b : Block). IsFromOne 67108864 b.len) (blocks_in s xs) i kept.lens);
+      lens = rw blocks (all-remove (λ (b : Block). IsFromOne MEMORY_MAX b.len) (blocks_in s xs) i kept.lens);
       partition = rw (blocks, map-remove taken_range (blocks_in s xs) i) (partition_without old new (map taken_range (blocks_in s xs)) i (range_stored x) _ (range_at s xs i x (range_stored x) lt is) refl (omega (arith, length_ranges s xs)) kept.partition part);
     }
 

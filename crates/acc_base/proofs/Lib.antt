@@ -7,3 +7,4 @@ pub mod Counting
 pub mod Judged
 pub mod Sound
 pub mod Recounted
+pub mod Used

@@ -147,7 +147,7 @@ ended_sound l k w h = record {
     rising = EachPair-filter (λ r t. IsBelow r.section t.section) (λ r. not (r.block == k)) w.ranges h.ranges_apart.rising;
   };
   blocks_apart = record {
-    on_device = AllByRecursion-filter (IsOnDevice l) (λ b. not (b.number == k)) w.blocks h.blocks_apart.on_device;
+    on_device = AllByRecursion-filter (IsOnDevice l.device) (λ b. not (b.number == k)) w.blocks h.blocks_apart.on_device;
     apart = EachPair-filter IsClearOf (λ b. not (b.number == k)) w.blocks h.blocks_apart.apart;
     born = AllByRecursion-filter (λ b. b.number ≤ w.births) (λ b. not (b.number == k)) w.blocks h.blocks_apart.born;
   };
@@ -199,16 +199,16 @@ born_block k p len = record { number = k; place = p; len = len }
 sides : (x y p size : ℕ) → (nat_le (p + size) x || nat_le y p) ≡ true → (y ≤ p) ⊎ (p + size ≤ x)
 sides x y p size h = grind (arith, nat_tests)
 
-birth_blocks : (l : Limits) (new : Range) (p : ℕ) (w : Records) → 0 < new.section.len → IsBirth l new.section new.block p w → AreBlocksApart l w → AreBlocksApart l (records_after_birth new p w)
+birth_blocks : (l : Limits) (new : Range) (p : ℕ) (w : Records) → 0 < new.section.len → IsBirth l new.section new.block p w → AreBlocksApart l.device w.blocks w.births → AreBlocksApart l.device (records_after_birth new p w).blocks (records_after_birth new p w).births
 unfolding records_after_birth
 birth_blocks l new p w some birth h =
     let found : IsFoundPlace (fits_at l.device w.blocks (rounded new.section.len)) (Some p) = subst (IsFoundPlace (fits_at l.device w.blocks (rounded new.section.len))) birth.place_is (place_for-found l.device w.blocks (rounded new.section.len)) in
     let parts : ((nat_le device_base p && nat_le (p + rounded new.section.len) (device_base + l.device)) ≡ true) × (list_all (is_clear_of p (rounded new.section.len)) w.blocks ≡ true) = and_true _ _ found.0 in
     let bounds : (device_base ≤ p) × (p + rounded new.section.len ≤ device_base + l.device) = grind (arith, nat_tests) in
-    let even : IfSome (Some p) (λ q. q % 16 ≡ 0) = subst (λ o. IfSome o (λ q. q % 16 ≡ 0)) birth.place_is (place_for-even l.device w.blocks (rounded new.section.len) (AllByRecursion-weaker (IsOnDevice l) (λ b. b.place % 16 ≡ 0) w.blocks (λ b o. o.aligned) h.on_device)) in
+    let even : IfSome (Some p) (λ q. q % 16 ≡ 0) = subst (λ o. IfSome o (λ q. q % 16 ≡ 0)) birth.place_is (place_for-even l.device w.blocks (rounded new.section.len) (AllByRecursion-weaker (IsOnDevice l.device) (λ b. b.place % 16 ≡ 0) w.blocks (λ b o. o.aligned) h.on_device)) in
     let clear : AllByRecursion (λ b. is_clear_of p (rounded new.section.len) b ≡ true) w.blocks = list_all-from (is_clear_of p (rounded new.section.len)) w.blocks parts.1 in
     record {
-      on_device = AllByRecursion-append (IsOnDevice l) w.blocks (born_block new.block p new.section.len ∷ []) h.on_device (record { some = some; first = bounds.0; last = bounds.1; aligned = even }, tt);
+      on_device = AllByRecursion-append (IsOnDevice l.device) w.blocks (born_block new.block p new.section.len ∷ []) h.on_device (record { some = some; first = bounds.0; last = bounds.1; aligned = even }, tt);
       apart = EachPair-push IsClearOf w.blocks (born_block new.block p new.section.len)
           (AllByRecursion-both (λ b. is_clear_of p (rounded new.section.len) b ≡ true) (λ b. b.number ≤ w.births) (λ b. IsClearOf b (born_block new.block p new.section.len)) w.blocks
           (λ b c n. let first : new.block ≡ w.births + 1 = birth.number in record { addresses = sides b.place (block_end b) p (rounded new.section.len) c; numbers = omega arith }) clear h.born)

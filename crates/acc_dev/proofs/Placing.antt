@@ -71,7 +71,7 @@ free_parts : (bs cs : List Block) (a : ℕ) → IsFree (bs ++ cs) a → IsFree b
 free_parts [] cs a free = (tt, free)
 free_parts (b ∷ bs) cs a free = let rest = free_parts bs cs a free.1 in ((free.0, rest.0), rest.1)
 
-fit_from : (s : Space) (bs cs : List Block) (n q : ℕ) → IsShared s bs → Fits s.size (bs ++ cs) n q → IsFitBeside s.holes (map taken_range cs) n q
+pub fit_from : (s : Space) (bs cs : List Block) (n q : ℕ) → IsShared s bs → Fits s.size (bs ++ cs) n q → IsFitBeside s.holes (map taken_range cs) n q
 fit_from s bs cs n q k fits a w =
     let f = fits a w.0 w.1 in
     let base = k.base in

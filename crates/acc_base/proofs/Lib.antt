@@ -5,3 +5,4 @@ pub mod Where
 pub mod Places
 pub mod Runs
 mod Examples
+mod RegionExamples

@@ -6,3 +6,8 @@ pub mod Places
 pub mod Runs
 mod Examples
 mod RegionExamples
+pub mod Counting
+pub mod Judged
+pub mod Sound
+pub mod Recounted
+pub mod Used

@@ -3,3 +3,5 @@ pub mod Elements
 pub mod Lookups
 pub mod Where
 pub mod Places
+pub mod Walked
+pub mod Memories

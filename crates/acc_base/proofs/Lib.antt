@@ -3,11 +3,13 @@ pub mod Elements
 pub mod Lookups
 pub mod Where
 pub mod Places
-pub mod Runs
-mod Examples
-mod RegionExamples
 pub mod Counting
 pub mod Judged
 pub mod Sound
 pub mod Recounted
 pub mod Used
+pub mod Walked
+pub mod Memories
+pub mod Runs
+mod Examples
+mod RegionExamples

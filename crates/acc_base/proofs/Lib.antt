@@ -8,3 +8,11 @@ pub mod Judged
 pub mod Sound
 pub mod Recounted
 pub mod Used
+pub mod Walked
+pub mod Memories
+pub mod AllTasks
+pub mod Registers
+pub mod Told
+pub mod Runs
+mod Examples
+mod RegionExamples

@@ -3,5 +3,10 @@ pub mod Elements
 pub mod Lookups
 pub mod Where
 pub mod Places
+pub mod Counting
+pub mod Judged
+pub mod Sound
+pub mod Recounted
+pub mod Used
 pub mod Walked
 pub mod Memories

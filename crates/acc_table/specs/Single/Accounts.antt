@@ -7,6 +7,7 @@ use Rattle.acc_base.specs.Limits.{Limits}
 use Rattle.acc_base.specs.Section.{end_of, is_within, host_memory, device_base}
 use Rattle.acc_base.specs.declared.items.Section.{Section}
 use Rattle.acc_base.specs.Records.{Records, Memory, new_records}
+use Rattle.acc_base.specs.Accounts.{AreRangesApart, AreBlocksApart, HasOneBlockEach, IsMemoryOf}
 use Rattle.acc_table.specs.Single.Records.{State}
 use Rattle.acc_base.specs.Ranges.{range_of}
 use Rattle.acc_base.specs.Blocks.{block_at, block_end, used_bytes}

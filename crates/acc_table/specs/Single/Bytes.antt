@@ -18,6 +18,7 @@ use Rattle.acc_table.specs.declared.events.Event.TheVariants.{EnteredData, Exite
 use Rattle.acc_base.specs.Section.{covers, host_base}
 use Rattle.acc_base.specs.Ranges.{start_of}
 use Rattle.acc_base.specs.Records.{Memory}
+use Rattle.acc_base.specs.Bytes.{written_bytes, bytes_of, memory_changed, memories_kept, bytes_moved_in, bytes_moved_out, fill_byte, host_after_write}
 use Rattle.acc_table.specs.Single.Records.{State}
 use Rattle.acc_table.specs.Single.Walk.{after_entered, after_exited}
 

@@ -16,6 +16,8 @@ use Rattle.acc_base.specs.declared.faults.Fault.{Fault}
 use Rattle.acc_base.specs.declared.faults.Fault.TheVariants.{TooManyItems, OutOfHost, PartlyPresent, NotPresent, CounterFull, DeviceFull}
 use Rattle.acc_base.specs.declared.mappings.Found.{Found}
 use Rattle.acc_base.specs.declared.mappings.Found.TheVariants.{Empty, Inside, Partly, Absent}
+use Rattle.acc_base.specs.Results.{◌>>=◌, ◌>>◌, refuse_if}
+use Rattle.acc_base.specs.Tasks.{did_of}
 use Rattle.acc_base.specs.Limits.{Limits}
 use Rattle.acc_base.specs.Section.{is_empty, is_within, host_memory}
 use Rattle.acc_base.specs.Records.{Records}

@@ -1,0 +1,252 @@
+//! Host memory, the device and the present table as one value.
+
+ghost use Rattle.std.specs.Prelude.{◌≡◌, ◌+◌, ◌++◌, ◌^◌, ◌<◌, ◌≤◌, All, IfOk, IfErr, OnOk, OnErr, IfSome, IfNone, MatchOption, IsSomeAnd, None, Some, length};
+ghost use Rattle.acc_base.specs.declared.faults.Fault.TheVariants.{Memory};
+ghost use Rattle.acc_base.specs.Limits.{IsFromOne, IsWithinBounds};
+ghost use Rattle.acc_base.specs.declared.addresses.TheConstants.{MEMORY_MAX};
+ghost use Rattle.acc_base.specs.Section.{device_base};
+ghost use Rattle.acc_base.specs.Ranges.{where_is, where_is_apart, range_of, range_from, structured_of, dynamic_of, counter_of, start_of};
+ghost use Rattle.acc_base.specs.Blocks.{rounded, place_of, place_for, used_bytes};
+ghost use Rattle.acc_base.specs.Register.{holdings_at};
+ghost use Rattle.acc_base.specs.Bytes.{bytes_of, act_state, host_after_write};
+ghost use Rattle.acc_host.specs.Host.{bytes_in, IsOutOfHost};
+ghost use Rattle.acc_placement.specs.Ranges.{IsTakeBelow};
+ghost use Rattle.acc_dev.specs.Device.{planned_blocks};
+ghost use Rattle.acc_clauses.specs.Contents.{AreNew, AreContentsSound};
+ghost use Rattle.acc_clauses.specs.Acting.{IsJudged, IsKnown, HasRoomFor, IsRoomLeft, birth_of};
+
+use crate::acting::act_on;
+use acc_base::{Config, Counter, Counters, Fault, Found, Holding, Range, Section, Step, Task};
+use acc_dev::Device;
+use acc_host::HostMem;
+use acc_present::Present;
+use std::alloc::Global;
+use std::marker::Model;
+
+/// Host memory, the device and the present table, with the number of the next region.
+#[derive(Drop)]
+pub(crate) struct Parts {
+    config: Config,
+    present: Present,
+    device: Device,
+    host: HostMem,
+    next: u64,
+}
+
+impl Model for Parts {
+    ghost use Rattle.acc_clauses.specs.Contents.{Contents, contents_of, ArePartsSound};
+
+    ghost Value = { Contents };
+
+    ghost view = { λ p. contents_of p.config p.present p.device p.host p.next };
+
+    ghost invariant = { λ p. ArePartsSound p.config p.present p.device p.host p.next };
+}
+
+impl Parts {
+    /// Nothing is mapped, no region is open, and host memory is zero.
+    pub(crate) fn new(alloc: Global, config: &Config) -> Result<Parts, Fault>
+        ensures ok { IfOk result (AreNew config.now) }
+        ensures only { IfErr result (λ fault. fault ≡ Memory) }
+    {
+        Ok(Parts {
+            config: *config,
+            present: Present::new(alloc, config.counter_max())?,
+            device: Device::new(alloc, config.device())?,
+            host: HostMem::new(alloc, config.host())?,
+            next: 1,
+        })
+    }
+
+    // ---- where sections lie
+
+    /// Where a section lies among the mapped ranges.
+    pub(crate) fn find(&self, section: Section) -> Found
+        ensures { result ≡ where_is section self.now.state.records.ranges }
+    {
+        self.present.find(section)
+    }
+
+    /// Where a section lies once the mappings to these blocks have ended.
+    pub(crate) fn find_apart(&self, section: Section, blocks: &[u64]) -> Found
+        ensures { result ≡ where_is_apart section blocks.now self.now.state.records.ranges }
+    {
+        self.present.find_apart(section, blocks)
+    }
+
+    /// The range that is mapped to a block, if one is.
+    pub(crate) fn range(&self, block: u64) -> Option<Range>
+        ensures { result ≡ range_of block self.now.state.records.ranges }
+    {
+        self.present.range_at(block)
+    }
+
+    /// The mapped range of least start at or above a host address, if there is one.
+    pub(crate) fn next_range(&self, from: u64) -> Option<Range>
+        ensures { result ≡ range_from from self.now.state.records.ranges }
+    {
+        self.present.next_range(from)
+    }
+
+    /// The reference counters of the range that is mapped to a block; both are 0 where none is.
+    pub(crate) fn counters(&self, block: u64) -> Counters
+        ensures structured { result.structured ≡ structured_of block self.now.state.records.ranges }
+        ensures dynamic { result.dynamic ≡ dynamic_of block self.now.state.records.ranges }
+        ensures structured_limit { result.structured ≤ self.now.limits.counter_max }
+        ensures dynamic_limit { result.dynamic ≤ self.now.limits.counter_max }
+        ensures bound { self.now.limits.counter_max < 2 ^ 32 }
+    {
+        match self.present.range_at(block) {
+            Some(range) => Counters {
+                structured: range.structured,
+                dynamic: range.dynamic,
+            },
+            None => Counters {
+                structured: 0,
+                dynamic: 0,
+            },
+        }
+    }
+
+    /// One of the two reference counters of the range that is mapped to a block; 0 where none is.
+    pub(crate) fn counter(&self, counter: Counter, block: u64) -> u64
+        ensures value { result ≡ counter_of counter block self.now.state.records.ranges }
+        ensures limit { result ≤ self.now.limits.counter_max }
+        ensures bound { self.now.limits.counter_max < 2 ^ 32 }
+    {
+        let counters = self.counters(block);
+        match counter {
+            Counter::Structured => counters.structured,
+            Counter::Dynamic => counters.dynamic,
+        }
+    }
+
+    /// The host address at which the range that is mapped to a block begins; 0 where none is.
+    pub(crate) fn start(&self, block: u64) -> u64
+        ensures { result ≡ start_of block self.now.state.records.ranges }
+    {
+        match self.present.range_at(block) {
+            Some(range) => range.section.start,
+            None => 0,
+        }
+    }
+
+    // ---- device blocks
+
+    /// The number that the next block gets.
+    pub(crate) fn next_block(&self) -> u64
+        ensures { result ≡ self.now.state.records.births + 1 }
+    {
+        self.device.next_block()
+    }
+
+    /// The device address of a block's first byte; 0 where there is no such block.
+    pub(crate) fn place(&self, block: u64) -> u64
+        ensures { result ≡ place_of block self.now.state.records.blocks }
+    {
+        if self.device.has(block) {
+            self.device.place(block).0
+        } else {
+            0
+        }
+    }
+
+    /// Where a block of `len` bytes would lie after births at the listed places and of the listed lengths. `None` exactly
+    /// where it fits nowhere.
+    pub(crate) fn would_take(&self, listed: &[(u64, u64)], len: u64) -> Option<u64>
+        requires len { IsFromOne MEMORY_MAX len }
+        requires listed { All (IsTakeBelow (device_base + self.now.limits.device)) listed.now }
+        ensures { result ≡ place_for self.now.limits.device (self.now.state.records.blocks ++ planned_blocks (self.now.state.records.births + 1) listed.now) (rounded len) }
+    {
+        self.device.would_take(listed, len)
+    }
+
+    /// The bytes of device memory that all blocks take, each rounded up to a multiple of 16.
+    pub(crate) fn used(&self) -> u64
+        ensures { result ≡ used_bytes self.now.state.records.blocks }
+    {
+        self.device.used()
+    }
+
+    // ---- regions
+
+    /// What an open region holds. `None` exactly where no region of the number is open.
+    pub(crate) fn holdings(&self, number: u64) -> Option<&[Holding]>
+        ensures { MatchOption result (holdings_at number self.now.state.register.regions ≡ None) (λ holdings. holdings_at number self.now.state.register.regions ≡ Some holdings.now) }
+    {
+        self.present.holdings(number)
+    }
+
+    /// How many data regions are open.
+    pub(crate) fn regions(&self) -> u64
+        ensures { result ≡ length self.now.state.register.regions }
+    {
+        self.present.regions()
+    }
+
+    /// The number that the next region gets.
+    pub(crate) fn next_region(&self) -> u64
+        ensures { result ≡ self.now.state.register.next }
+    {
+        self.next
+    }
+
+    // ---- bytes
+
+    /// The bytes of a section of host memory. `None` exactly where some address of it is outside of host memory.
+    pub(crate) fn host_read(&self, section: Section) -> Option<&[u8]>
+        ensures part { IfSome result (λ bytes. bytes.now ≡ bytes_in self.now.state.host section) }
+        ensures none { IfNone result (IsOutOfHost self.now.state.host section) }
+    {
+        self.host.read(section)
+    }
+
+    /// The bytes of a block. `None` exactly where there is no such block.
+    pub(crate) fn bytes(&self, block: u64) -> Option<&[u8]>
+        ensures { IfSome result (λ bytes. bytes.now ≡ bytes_of block self.now.state.memories) }
+    {
+        if self.device.has(block) {
+            self.device.bytes(block)
+        } else {
+            None
+        }
+    }
+
+    /// The limits.
+    pub(crate) fn config(&self) -> Config
+        ensures { result ≡ self.now.limits }
+    {
+        self.config
+    }
+
+    /// The records are sound, and the memories are in step with them. Nothing is done.
+    pub(crate) fn laws(&self)
+        ensures sound { AreContentsSound self.now }
+        ensures limits { IsWithinBounds self.now.limits }
+        ensures used { used_bytes self.now.state.records.blocks ≤ self.now.limits.device }
+    {
+        self.config.laws();
+        self.device.laws();
+    }
+
+    // ---- changes
+
+    /// Does the step that a task is judged to do, where there is room for it. It takes no memory and is never refused.
+    pub(crate) fn act(&mut self, task: Task, step: Step)
+        requires judged { IsJudged self.old.limits task step self.old.state.records }
+        requires known { IsKnown self.old.state.records task }
+        requires births { self.old.state.records.births < 2 ^ 48 }
+        requires room { HasRoomFor (birth_of task step) self.old.room }
+        ensures limits { self.new.limits ≡ self.old.limits }
+        ensures state { self.new.state ≡ act_state task step self.old.state }
+        ensures room { IsRoomLeft (birth_of task step) self.old.room self.new.room }
+    {
+        act_on(
+            &mut self.present,
+            &mut self.device,
+            &mut self.host,
+            task,
+            step,
+        );
+    }
+}

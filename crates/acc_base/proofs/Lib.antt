@@ -10,6 +10,7 @@ pub mod Recounted
 pub mod Used
 pub mod Walked
 pub mod Memories
+pub mod KeptMemories
 pub mod AllTasks
 pub mod Registers
 pub mod Told

@@ -10,7 +10,7 @@ use Rattle.acc_base.specs.Blocks.{rounded, without_block}
 use Rattle.acc_base.specs.Bytes.{memories_kept}
 use Rattle.acc_base.specs.Accounts.{EachPair}
 use Rattle.acc_base.proofs.Elements.{AllByRecursion-both}
-use Rattle.acc_base.proofs.Memories.{memories_kept-without}
+use Rattle.acc_base.proofs.KeptMemories.{memories_kept-without}
 use Rattle.acc_placement.specs.Space.{Space, IsCanonical, IsPartition, IsTaken}
 use Rattle.acc_placement.proofs.Partitions.{partition_without, taken_at}
 use Rattle.acc_dev.specs.declared.entries.Stored.{Stored}

@@ -15,6 +15,3 @@ mod tables;
 
 pub use calls::{Answer, Call, Mapped, Reply, Turn};
 pub use tables::Table;
-
-#[cfg(test)]
-mod tests;

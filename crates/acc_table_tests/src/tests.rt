@@ -1,11 +1,11 @@
 //! What no clause says: that calls succeed, that the definitions say what is meant, and that a refused growth leaves
 //! the table as it was. What a script can say is a row of the script tests.
 
-use crate::{Answer, Call, Mapped, Table, Turn};
 use acc_base::{
     Config, Counters, Did, Directive, EnterClause, Event, ExitClause, Fault, Found, Item, List,
     Section, Step, UpdateClause,
 };
+use acc_table::{Answer, Call, Mapped, Table, Turn};
 use rows::{LIFE, ROWS, WIDE};
 use std::alloc::{AllocError, Global};
 use std::fmt::Debug;

@@ -19,6 +19,3 @@ pub use calls::{Answer, Call, Mapped, Reply, Turn};
 pub use directives::Directive;
 pub use events::Event;
 pub use tables::Table;
-
-#[cfg(test)]
-mod tests;

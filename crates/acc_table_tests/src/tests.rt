@@ -1,11 +1,11 @@
 //! What no clause says: that calls succeed, that the definitions say what is meant, and that a refused growth leaves
 //! the table as it was. What a script can say is a row of the script tests.
 
-use crate::{Answer, Call, Directive, Event, Mapped, Table, Turn};
 use acc_base::{
     Config, Counters, Did, EnterClause, ExitClause, Fault, Found, Item, List, Section, Step,
     UpdateClause,
 };
+use acc_table::{Answer, Call, Directive, Event, Mapped, Table, Turn};
 use rows::{LIFE, ROWS, WIDE};
 use std::alloc::{AllocError, Global};
 use std::fmt::Debug;
@@ -113,11 +113,16 @@ fn call_of(alloc: Global, ask: Ask) -> Result<Call, AllocError> {
     }
 }
 
-fn turn_of(alloc: Global, ask: Ask) -> Result<Turn, AllocError> {
-    match call_of(alloc, ask)? {
-        Call::Do(directive) => Ok(Turn::Do(directive)),
-        Call::HostWrite { addr, bytes } => Ok(Turn::HostWrite { addr, bytes }),
+fn turn_from(call: Call) -> Turn {
+    match call {
+        Call::Do(directive) => Turn::Do(directive),
+        Call::HostWrite { addr, bytes } => Turn::HostWrite { addr, bytes },
     }
+}
+
+fn turn_of(alloc: Global, ask: Ask) -> Result<Turn, AllocError> {
+    let call = call_of(alloc, ask)?;
+    Ok(turn_from(call))
 }
 
 fn turns_of(alloc: Global, asked: &[(Ask, Answer)]) -> Result<Vec<Turn>, AllocError> {
@@ -224,23 +229,28 @@ fn twice(alloc: Global, ask: Ask) -> Result<Call, AllocError> {
     }
 }
 
+/// What a refused call may not change.
+fn told(table: &Table) -> (u64, u64, Option<Mapped>) {
+    (table.events(), table.used(), table.mapped(0))
+}
+
 /// The call came back for want of memory: nothing changed, and it is accepted now.
-fn retry(rt: &impl Abort, table: &mut Table, before: (u64, u64), back: (Call, Fault)) {
+fn retry(
+    rt: &impl Abort,
+    table: &mut Table,
+    before: (u64, u64, Option<Mapped>),
+    back: (Call, Fault),
+) {
     let (call, fault) = back;
     same(rt, "a refused growth", fault, Fault::Memory);
-    same(
-        rt,
-        "a refused growth",
-        (table.events(), table.used()),
-        before,
-    );
+    same(rt, "a refused growth", told(table), before);
     let accepted = table.apply(call).is_ok();
     same(rt, "a refused growth", accepted, true);
 }
 
 /// Makes a call, and once more where memory is refused.
 fn apply_twice(rt: &impl Abort, table: &mut Table, call: Call) {
-    let before = (table.events(), table.used());
+    let before = told(table);
     if let Err(back) = table.apply(call) {
         retry(rt, table, before, back);
     }

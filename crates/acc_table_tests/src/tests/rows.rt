@@ -7,12 +7,12 @@ use crate::tests::Check::{
     Regions, Step as Did, TicketBook, Used,
 };
 use crate::tests::{Ask, Limits, Row};
-use crate::{Answer, Mapped};
 use Answer::Refused;
 use acc_base::EnterClause::{Copyin, Create};
 use acc_base::ExitClause::{Copyout, Delete};
 use acc_base::UpdateClause::{ToDevice, ToSelf};
 use acc_base::{Counters, DEVICE_BASE, Fault, Found, HOST_BASE, Step};
+use acc_table::{Answer, Mapped};
 
 /// Limits that no turn reaches.
 pub const WIDE: Limits = Limits {

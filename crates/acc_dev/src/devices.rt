@@ -91,8 +91,9 @@ impl Device {
     ///
     /// # Errors
     ///
-    /// [`Fault::DeviceFull`] with item 0 and the rounded length, exactly where it fits nowhere; else only
-    /// [`Fault::Memory`]. The device is then as before, but for its spare room.
+    /// [`Fault::DeviceFull`] with item 0 and the rounded length, exactly where it fits nowhere. Else only
+    /// [`Fault::Memory`], where there is no memory for its bytes, or room for one block more was missing and could not be
+    /// made. The device is then as before, but for its spare room.
     pub fn born(&mut self, len: u64, zero: bool) -> Result<u64, Fault>
         requires len { IsFromOne MEMORY_MAX len }
         requires births { self.old.births < 2 ^ 48 }
@@ -290,8 +291,8 @@ impl Device {
     }
 
     /// What holds of every device: its blocks lie on it and apart, by rising number; each has a memory of its length,
-    /// from 1 to 67,108,864 bytes; they take no more bytes than there are; and with the holes
-    /// between them they are the device, with no address in two of them. Nothing is done.
+    /// from 1 to 67,108,864 bytes; they take no more bytes than there are; and with the holes between
+    /// them they are the device, with no address in two of them. Nothing is done.
     pub fn laws(&self)
         ensures size { IsSize self.now.size }
         ensures blocks_apart { HasBlocksApart self.now }

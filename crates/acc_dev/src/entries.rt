@@ -1,12 +1,12 @@
 //! The slots of blocks, and the index by which a number finds its slot.
 
-ghost use Rattle.std.specs.Prelude.{◌≡◌, ℕ, ◌+◌, ◌^◌, ◌<◌, ◌≤◌, ◌≢◌, List, [], ◌∷◌, ◌++◌, length, IfSome, IfNone, IfErr, OnOk, IsSome, Some, vec_len, vec_capacity};
+ghost use Rattle.std.specs.Prelude.{◌≡◌, ℕ, ◌+◌, ◌^◌, ◌<◌, ◌≤◌, ◌≢◌, List, [], ◌∷◌, ◌++◌, length, IfSome, IfNone, IfErr, OnOk, IsOk, IsSome, Some, vec_len, vec_capacity};
 ghost use Rattle.std.specs.List.{AllByRecursion, remove};
 ghost use Rattle.slab.specs.Slab.{get, slab_len, HasRoomFor};
 ghost use Rattle.acc_base.specs.Limits.{IsFromOne};
 ghost use Rattle.acc_base.specs.Blocks.{rounded as rounded_of};
 ghost use Rattle.acc_placement.specs.Ranges.{IsFit, IsLeastFit};
-ghost use Rattle.acc_placement.specs.Space.{IsUnchanged};
+ghost use Rattle.acc_placement.specs.Space.{IsSameSpace};
 ghost use Rattle.acc_dev.specs.Device.{overwritten};
 ghost use Rattle.acc_dev.specs.Kept.{stored_place, stored_bytes, blocks_in, memories_in, AreRising, IsEntry, IsKept};
 
@@ -32,8 +32,8 @@ pub fn position_of(index: &[(u64, usize)], block: u64) -> Option<usize>
     index.binary_search_by_key(&block, |entry| entry.0).ok()
 }
 
-/// Makes room for `count` blocks more, so that so many calls of [`put`] need no memory. Where that is refused, only room
-/// has grown.
+/// Makes room for `count` blocks more, so that so many calls of [`put`] need no memory. It is refused only where that
+/// room was missing, and then only room has grown.
 pub fn make_room(
     holes: &mut Holes,
     slab: &mut Slab<Stored>,
@@ -42,7 +42,7 @@ pub fn make_room(
 ) -> Result<(), Fault>
     requires { count ≤ 2 ^ 32 }
     ensures kept { IsKept holes.old slab.old.slots index.old.items → IsKept holes.new slab.new.slots index.new.items }
-    ensures holes { IsUnchanged holes.old holes.new }
+    ensures holes { IsSameSpace holes.old holes.new }
     ensures slots { slab.new.slots ≡ slab.old.slots }
     ensures index { index.new.items ≡ index.old.items }
     ensures room_taken { OnOk result (count ≤ holes.new.spare) }
@@ -51,6 +51,7 @@ pub fn make_room(
     ensures spare { holes.old.spare ≤ holes.new.spare }
     ensures slab_capacity { slab.old.capacity ≤ slab.new.capacity }
     ensures capacity { vec_capacity index.old ≤ vec_capacity index.new }
+    ensures succeeds { count ≤ holes.old.spare → HasRoomFor slab.old count → vec_len index.old + count ≤ vec_capacity index.old → IsOk result }
     ensures only { IfErr result (λ fault. fault ≡ Fault.Memory) }
 {
     holes.reserve(count)?;

@@ -1,6 +1,8 @@
-use Rattle.std.proofs.Common.{◌≡◌, ◌+◌, ◌≤◌, ℕ, Err, ap, ◌∙◌, sym, subst, rules, arith}
+use Rattle.std.proofs.Common.{◌≡◌, ◌+◌, ◌≤◌, ℕ, [], Option, Err, ap, ◌∙◌, sym, subst, rules, arith}
 use Rattle.acc_base.specs.declared.faults.Fault.TheVariants.{DeviceFull}
 use Rattle.acc_base.specs.Blocks.{rounded, IsPlaceFor}
+use Rattle.std.specs.Prelude.{IfSome, IfNone}
+use Rattle.acc_placement.specs.Ranges.{IsFitBeside, IsLeastFitBeside}
 use Rattle.acc_dev.specs.Room.{room_of, HasRoom}
 use Rattle.acc_dev.specs.Device.{DeviceState, IsBorn, birth_place}
 use Rattle.acc_dev.specs.Kept.{IsKept}
@@ -12,6 +14,11 @@ use Rattle.acc_dev.proofs.devices.Device.born.Goals as goal
 -- the place of a birth is the least, as contracts see the device
 least : (d : Inside) (now : DeviceState) (len : ℕ) → device_of d.holes d.slab.slots d.index.items d.births (room_of d) ≡ now → IsKept d.holes d.slab.slots d.index.items → 1 ≤ len → IsPlaceFor now.size now.blocks (rounded len) (birth_place now len)
 least d now len is k some = subst (λ (x : DeviceState). IsPlaceFor x.size x.blocks (rounded len) (birth_place x len)) is (birth_least d.holes d.slab.slots d.index.items d.births len (room_of d) k some)
+
+-- the look-up finds the place of the birth, as contracts see the device
+found : (d : Inside) (now : DeviceState) (len : ℕ) (o : Option ℕ) → device_of d.holes d.slab.slots d.index.items d.births (room_of d) ≡ now → IsKept d.holes d.slab.slots d.index.items → 1 ≤ len
+    → IfSome o (IsLeastFitBeside d.holes.holes [] (rounded len)) → IfNone o ((q : ℕ) → IsFitBeside d.holes.holes [] (rounded len) q → ⊥) → o ≡ birth_place now len
+found d now len o is k some place none = subst (λ (x : DeviceState). o ≡ birth_place x len) is (birth_found d.holes d.slab.slots d.index.items d.births len (room_of d) o k some place none)
 
 pub returns-in_default-clause-least : goal.returns-in_default-clause-least
 returns-in_default-clause-least c = least c.self.inside c.args.self.now c.args.len c.self.view_is c.self.invariant.0 c.requires.len.0
@@ -27,27 +34,23 @@ returns-clause-least c = least c.self.inside c.args.self.now c.args.len c.self.v
 
 pub returns-in_default-clause-full : goal.returns-in_default-clause-full
 returns-in_default-clause-full c =
-    let d = c.self.inside in
-    let place : c.would_take.result ≡ birth_place c.args.self.now c.args.len = subst (λ (x : DeviceState). c.would_take.result ≡ birth_place x c.args.len) c.self.view_is (birth_found d.holes d.slab.slots d.index.items d.births c.args.len (room_of d) c.would_take.result c.self.invariant.0 c.requires.len.0 c.would_take.ensures.place c.would_take.ensures.none) in
+    let place = found c.self.inside c.args.self.now c.args.len c.would_take.result c.self.view_is c.self.invariant.0 c.requires.len.0 c.would_take.ensures.place c.would_take.ensures.none in
     (λ full. sym place ∙ c.in_default.is, λ none. ap (λ (n : ℕ). Err (DeviceFull 0 n)) c.rounded.ensures.value)
 
 pub returns-in_err-bytes-clause-full : goal.returns-in_err-bytes-clause-full
 returns-in_err-bytes-clause-full c =
-    let d = c.self.inside in
-    let place : c.would_take.result ≡ birth_place c.args.self.now c.args.len = subst (λ (x : DeviceState). c.would_take.result ≡ birth_place x c.args.len) c.self.view_is (birth_found d.holes d.slab.slots d.index.items d.births c.args.len (room_of d) c.would_take.result c.self.invariant.0 c.requires.len.0 c.would_take.ensures.place c.would_take.ensures.none) in
+    let place = found c.self.inside c.args.self.now c.args.len c.would_take.result c.self.view_is c.self.invariant.0 c.requires.len.0 c.would_take.ensures.place c.would_take.ensures.none in
     refused_full c.from_residual.result (birth_place c.args.self.now c.args.len) c.in-Some.field-0 (rounded c.args.len) (search rules) (sym place ∙ c.in-Some.is)
 
 pub returns-in_err-make_room-clause-full : goal.returns-in_err-make_room-clause-full
 returns-in_err-make_room-clause-full c =
-    let d = c.self.inside in
-    let place : c.would_take.result ≡ birth_place c.args.self.now c.args.len = subst (λ (x : DeviceState). c.would_take.result ≡ birth_place x c.args.len) c.self.view_is (birth_found d.holes d.slab.slots d.index.items d.births c.args.len (room_of d) c.would_take.result c.self.invariant.0 c.requires.len.0 c.would_take.ensures.place c.would_take.ensures.none) in
+    let place = found c.self.inside c.args.self.now c.args.len c.would_take.result c.self.view_is c.self.invariant.0 c.requires.len.0 c.would_take.ensures.place c.would_take.ensures.none in
     refused_full c.from_residual-in_err-make_room.result (birth_place c.args.self.now c.args.len) c.in-Some.field-0 (rounded c.args.len) (search rules) (sym place ∙ c.in-Some.is)
 
 pub returns-clause-full : goal.returns-clause-full
 returns-clause-full c =
-    let d = c.self.inside in
-    let place : c.would_take.result ≡ birth_place c.args.self.now c.args.len = subst (λ (x : DeviceState). c.would_take.result ≡ birth_place x c.args.len) c.self.view_is (birth_found d.holes d.slab.slots d.index.items d.births c.args.len (room_of d) c.would_take.result c.self.invariant.0 c.requires.len.0 c.would_take.ensures.place c.would_take.ensures.none) in
-    let found = sym place ∙ c.in-Some.is in
+    let place = found c.self.inside c.args.self.now c.args.len c.would_take.result c.self.view_is c.self.invariant.0 c.requires.len.0 c.would_take.ensures.place c.would_take.ensures.none in
+    let there = sym place ∙ c.in-Some.is in
     (λ full. cc, λ none. let bad : ⊥ = cc in absurd bad)
 
 pub put-requires-clause-above : goal.put-requires-clause-above

@@ -147,5 +147,8 @@ fn length_of(device: &Device, block: u64) -> u64 {
     if !device.has(block) {
         return 0;
     }
-    device.bytes(block).map_or(0, |bytes| bytes.len() as u64)
+    match device.bytes(block) {
+        Some(bytes) => bytes.len() as u64,
+        None => 0,
+    }
 }

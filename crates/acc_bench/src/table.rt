@@ -117,7 +117,10 @@ fn copy_once(source: &mut Vec<u8>, target: &mut Vec<u8>, byte: u8) -> u64 {
     if source.len() == target.len() {
         target.copy_from_slice(source);
     }
-    target.last().map_or(0, |last| *last as u64)
+    match target.last() {
+        Some(last) => *last as u64,
+        None => 0,
+    }
 }
 
 /// Measures how long it takes to map and unmap 16 bytes beside so many other ranges.

@@ -4,6 +4,7 @@
 #![tactic(auto)]
 
 mod device;
+mod limits;
 mod placement;
 mod script;
 mod table;

@@ -1,8 +1,8 @@
 //! Readers and writers of std as sources and sinks.
 
-ghost use Rattle.std.specs.Prelude.{◌≡◌, []};
-ghost use Rattle.acc_script.specs.Told.{Took};
-ghost use Rattle.acc_script.specs.Streams.{given_at_first, taken_of};
+ghost use Rattle.std.specs.Prelude.{◌≡◌, ◌≤◌, [], length, IfSome};
+ghost use Rattle.acc_script.specs.Told.{Took, Becomes, after_read};
+ghost use Rattle.acc_script.specs.Streams.{offered_at_first, taken_of, given_by, HandsOut, EndsEmpty};
 
 use crate::{Sink, Source};
 use std::io::{Read, Write};
@@ -11,7 +11,7 @@ use std::snapshot::Snapshot;
 
 /// A reader of std as a source. Every error is a failure, an interruption too.
 ///
-/// It tells what it gave where contracts see what the reader has left, as for a slice or a `Cursor`.
+/// It tells what it gave, and has left, where contracts see what the reader has left, as for a slice or a `Cursor`.
 #[derive(Drop)]
 pub struct FromRead<R: Read + Drop> {
     start: Snapshot<R>,
@@ -22,20 +22,21 @@ pub struct FromRead<R: Read + Drop> {
 
 impl<R: Read + Drop> Model for FromRead<R> {
     ghost use Rattle.std.specs.Prelude.{◌≡◌, Option};
-    ghost use Rattle.acc_script.specs.Told.{Given};
-    ghost use Rattle.acc_script.specs.Streams.{given_of, rejoined};
+    ghost use Rattle.acc_script.specs.Streams.{Offered, offered_of, rejoined, EndsAt};
 
-    ghost Value = { Option Given };
+    ghost Value = { Option Offered };
 
-    ghost view = { λ s. given_of (R.remaining s.start.value) (R.remaining s.inner) s.ended s.failures };
+    ghost view = { λ s. offered_of (R.remaining s.start.value) (R.remaining s.inner) s.ended s.failures };
 
-    ghost invariant = { λ s. rejoined (R.remaining s.start.value) (R.remaining s.inner) ≡ R.remaining s.start.value };
+    ghost invariant = { λ s.
+        (rejoined (R.remaining s.start.value) (R.remaining s.inner) ≡ R.remaining s.start.value)
+        × EndsAt (R.remaining s.start.value) s.ended (R.remaining s.inner) };
 }
 
 impl<R: Read + Drop> FromRead<R> {
     /// A source that gives what the reader has left.
     pub fn new(inner: R) -> FromRead<R>
-        ensures { result ≡ given_at_first (R.remaining inner) }
+        ensures { result ≡ offered_at_first (R.remaining inner) }
     {
         FromRead {
             start: Snapshot::of(&inner),
@@ -44,13 +45,27 @@ impl<R: Read + Drop> FromRead<R> {
             failures: 0,
         }
     }
+
+    /// What holds of every such source: where its end was told, it has nothing left. Nothing is done.
+    #[tactic(auto, using(crate::proofs::Rejoins::ends_empty))]
+    pub fn laws(&self)
+        ensures { EndsEmpty self.now }
+    {
+        let _ = &self.ended;
+    }
 }
 
 impl<R: Read + Drop> Source for FromRead<R> {
-    ghost told = { λ s. s };
+    ghost told = { λ s. given_by s };
 
-    #[tactic(auto, using(crate::proofs::Rejoins::follows_read, crate::proofs::Rejoins::follows_kept, crate::proofs::Rejoins::gives_read, crate::proofs::Rejoins::gives_nothing))]
-    fn read(&mut self, piece: &mut [u8]) -> Option<usize> {
+    /// Gives what the reader gives; where that is known, the front of what it has left.
+    #[tactic(auto, using(crate::proofs::Rejoins::follows_read, crate::proofs::Rejoins::follows_kept, crate::proofs::Rejoins::gives_read, crate::proofs::Rejoins::gives_nothing, crate::proofs::Rejoins::hands_read, crate::proofs::Rejoins::hands_nothing, crate::proofs::Rejoins::ends_kept, crate::proofs::Rejoins::ends_read, crate::proofs::Rejoins::ends_without_room, crate::proofs::Rejoins::ends_empty))]
+    fn read(&mut self, piece: &mut [u8]) -> Option<usize>
+        ensures bound { IfSome result (λ n. n ≤ length piece.old) }
+        ensures tells { Becomes (given_by self.old) (given_by self.new) (λ g. after_read g result piece.new) }
+        ensures left { HandsOut self.old self.new result piece.new }
+        ensures ended { EndsEmpty self.new }
+    {
         match self.inner.read(piece) {
             Ok(count) => {
                 if !piece.is_empty() {

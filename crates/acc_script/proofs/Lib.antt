@@ -5,6 +5,10 @@ pub mod Fronts
 pub mod Numbers
 pub mod Pieces
 pub mod Turns
+pub mod Accepted
+pub mod ClauseEnds
+pub mod CheckedClauses
+pub mod ByteWords
 pub mod NameEntries
 pub mod Digits
 pub mod Parts

@@ -7,7 +7,7 @@ use Rattle.acc_base.specs.declared.items.Section.{Section}
 use Rattle.acc_base.specs.declared.items.Item.{Item}
 use Rattle.acc_script.specs.declared.troubles.Trouble.{Trouble}
 use Rattle.acc_script.specs.declared.troubles.Trouble.TheVariants as trouble
-use Rattle.acc_script.specs.Reading.{◌>>=◌, Fails}
+use Rattle.acc_script.specs.Reading.{◌>>=◌, Loses}
 use Rattle.acc_script.specs.Tokens.{is_mark_next, is_at_end, skip_comma, comma}
 use Rattle.acc_script.specs.Layout.{Layout}
 use Rattle.acc_script.specs.Places.{section_at}
@@ -15,7 +15,7 @@ use Rattle.acc_script.specs.Grammar.{Grammar}
 use Rattle.acc_script.specs.Clauses.{item_of, items_at, ClausesRead, clause_at, with_clause, clauses_at}
 
 -- a step that failed ends the reading
-bind_fails : {A B : Type 0} (e : Trouble) (read : Result A ScriptFault) (f : A → Result B ScriptFault) → Fails e read → Fails e (read >>= f)
+bind_fails : {A B : Type 0} (e : Trouble) (read : Result A ScriptFault) (f : A → Result B ScriptFault) → Loses e read → Loses e (read >>= f)
 bind_fails trouble.Memory read f h = tt
 bind_fails (trouble.Line kind) read f h = rw h refl
 
@@ -38,7 +38,7 @@ module _ {C : Type 0} where
   unfolding items_at
   items_none n i clause layout before text le = let k : n - i ≡ 0 = omega arith in rw k refl
 
-  pub items_fail : (e : Trouble) (n i : ℕ) (clause : C) (layout : Layout) (before : List (Item C)) (text : List ℕ) → i < n → Fails e (section_at layout text) → Fails e (items_at (n - i) clause layout before text)
+  pub items_fail : (e : Trouble) (n i : ℕ) (clause : C) (layout : Layout) (before : List (Item C)) (text : List ℕ) → i < n → Loses e (section_at layout text) → Loses e (items_at (n - i) clause layout before text)
   items_fail e n i clause layout before text lt h = rw (items_turn n i clause layout before text lt) (bind_fails e (section_at layout text) (after_section (n - (i + 1)) clause layout before) h)
 
   pub items_done : (n i : ℕ) (clause : C) (layout : Layout) (before : List (Item C)) (text : List ℕ) (section : Section) (after : List ℕ) → i < n → section_at layout text ≡ Ok (section, after) → is_mark_next comma after ≡ false
@@ -64,7 +64,7 @@ module _ {C : Type 0} where
   unfolding clauses_at
   clauses_none n i grammar layout before text le = let k : n - i ≡ 0 = omega arith in rw k refl
 
-  pub clauses_fail : (e : Trouble) (n i : ℕ) (grammar : Grammar C) (layout : Layout) (before : ClausesRead C) (text : List ℕ) → i < n → Fails e (clause_at grammar layout before text) → Fails e (clauses_at (n - i) grammar layout before text)
+  pub clauses_fail : (e : Trouble) (n i : ℕ) (grammar : Grammar C) (layout : Layout) (before : ClausesRead C) (text : List ℕ) → i < n → Loses e (clause_at grammar layout before text) → Loses e (clauses_at (n - i) grammar layout before text)
   clauses_fail e n i grammar layout before text lt h = rw (clauses_turn n i grammar layout before text lt) (bind_fails e (clause_at grammar layout before text) (after_clause (n - (i + 1)) grammar layout) h)
 
   pub clauses_done : (n i : ℕ) (grammar : Grammar C) (layout : Layout) (before read : ClausesRead C) (text rest : List ℕ) → i < n → clause_at grammar layout before text ≡ Ok (read, rest) → is_at_end rest ≡ true

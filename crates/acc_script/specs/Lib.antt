@@ -12,6 +12,7 @@ pub mod Bytes
 pub mod Grammar
 pub mod Clauses
 pub mod ClausesRead
+pub mod Checked
 pub mod Statements
 pub mod Meanings
 pub mod Texts

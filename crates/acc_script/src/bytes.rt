@@ -1,16 +1,13 @@
 //! Bytes, written as hexadecimal digits.
 
-ghost use Rattle.std.specs.Prelude.{◌≡◌};
+ghost use Rattle.std.specs.Prelude.{◌≡◌, IfOk, IsOk};
 ghost use Rattle.std.specs.Char.{is_ascii_hexdigit};
 ghost use Rattle.std.specs.List.{list_all};
-ghost use Rattle.acc_script.specs.Reading.{Gives};
-ghost use Rattle.acc_script.specs.Bytes.{bytes_of, bytes_at};
+ghost use Rattle.acc_script.specs.Reading.{Checks};
+ghost use Rattle.acc_script.specs.Bytes.{bytes_of};
 
-use crate::tokens::word_at;
-use crate::troubles::Trouble;
 use acc_base::{List, ScriptFault};
-use hex::FromHexError;
-use std::alloc::Global;
+use std::alloc::{AllocError, Global};
 
 /// How many digits may stand in one word.
 const DIGIT_LIMIT: usize = 128;
@@ -22,29 +19,31 @@ fn has_hex_digits(word: &[u8]) -> bool
     word.iter().all(|b| b.is_ascii_hexdigit())
 }
 
-/// The bytes that a word says, two digits each.
-#[tactic(auto, unfolding(crate::specs::Bytes::bytes_of))]
-fn bytes_of(alloc: Global, word: &[u8]) -> Result<List<u8>, Trouble>
-    ensures { Gives (λ bytes. bytes) result (bytes_of word.now) }
+/// Whether a word says bytes, and else its fault.
+#[tactic(auto, using(crate::proofs::ByteWords::not_digits, crate::proofs::ByteWords::many_digits, crate::proofs::ByteWords::odd_digits, crate::proofs::ByteWords::right_word))]
+pub fn check_bytes(word: &[u8]) -> Result<(), ScriptFault>
+    ensures { Checks result (bytes_of word.now) }
 {
     if !has_hex_digits(word) {
-        return Err(Trouble::Line(ScriptFault::Syntax));
+        return Err(ScriptFault::Syntax);
     }
     if word.len() > DIGIT_LIMIT {
-        return Err(Trouble::Line(ScriptFault::Number));
+        return Err(ScriptFault::Number);
     }
-    match hex::decode(alloc, word) {
-        Ok(bytes) => Ok(List::from_vec(bytes)),
-        Err(FromHexError::OutOfMemory) => Err(Trouble::Memory),
-        Err(_) => Err(Trouble::Line(ScriptFault::Number)),
+    if word.len() % 2 == 1 {
+        return Err(ScriptFault::Number);
     }
+    Ok(())
 }
 
-/// The next word, which says bytes, and the text after it.
-#[tactic(auto, unfolding(crate::specs::Bytes::bytes_at))]
-pub fn bytes_at(alloc: Global, text: &[u8]) -> Result<(List<u8>, &[u8]), Trouble>
-    ensures { Gives (λ x. (x.0, x.1.now)) result (bytes_at text.now) }
+/// The bytes that a word says, two digits each.
+#[tactic(auto, using(crate::proofs::ByteWords::word_decoded))]
+pub fn bytes_of(alloc: Global, word: &[u8]) -> Result<List<u8>, AllocError>
+    requires { IsOk (bytes_of word.now) }
+    ensures { IfOk result (λ bytes. bytes_of word.now ≡ Ok bytes) }
 {
-    let (word, rest) = word_at(text)?;
-    Ok((bytes_of(alloc, word)?, rest))
+    match hex::decode(alloc, word) {
+        Ok(bytes) => Ok(List::from_vec(bytes)),
+        Err(_) => Err(AllocError),
+    }
 }

@@ -1,11 +1,12 @@
 //! The clauses and options of a directive.
 
 ghost use Rattle.std.specs.Prelude.{length};
-ghost use Rattle.acc_script.specs.Reading.{Gives};
+ghost use Rattle.acc_script.specs.Reading.{Reads, Holds, Gives, always};
 ghost use Rattle.acc_script.specs.Clauses.{items_at, modifier_at, modified_at, group_at, nothing_read, clause_at, with_clause, clauses_at};
 ghost use Rattle.acc_script.specs.ClausesRead.{read_of};
 
 use crate::arrays::Arrays;
+use crate::checks::clauses_end;
 use crate::grammar::Clause;
 use crate::places::section_at;
 use crate::tokens::{
@@ -32,7 +33,7 @@ fn items_at<'a, C: Copy>(
     items: &mut Vec<Item<C>>,
     text: &'a [u8],
 ) -> Result<&'a [u8], Trouble>
-    ensures { Gives (λ x. (items.new.items, x.now)) result
+    ensures { Holds (λ x. (items.new.items, x.now)) result
         (items_at (length text.now) clause arrays.now items.old.items text.now) }
 {
     let mut rest = text;
@@ -49,13 +50,13 @@ fn items_at<'a, C: Copy>(
 
 /// A clause with the modifier that stands next, before a colon; the text after the colon.
 #[tactic(auto, unfolding(crate::specs::Clauses::modifier_at))]
-fn modifier_at<C: Clause>(clause: C, text: &[u8]) -> Result<(C, &[u8]), Trouble>
-    ensures { Gives (λ x. (x.0, x.1.now)) result (modifier_at C.grammar clause text.now) }
+fn modifier_at<C: Clause>(clause: C, text: &[u8]) -> Result<(C, &[u8]), ScriptFault>
+    ensures { Reads (λ x. (x.0, x.1.now)) result (modifier_at C.grammar clause text.now) }
 {
     let (word, rest) = word_at(text)?;
     let rest = mark_at(b':', rest)?;
     match clause.with_modifier(word) {
-        None => Err(Trouble::Line(ScriptFault::Syntax)),
+        None => Err(ScriptFault::Syntax),
         Some(modified) => Ok((modified, rest)),
     }
 }
@@ -63,8 +64,8 @@ fn modifier_at<C: Clause>(clause: C, text: &[u8]) -> Result<(C, &[u8]), Trouble>
 /// A clause with the modifier that stands next, if one does; the text after it. The first word is a modifier exactly
 /// where a colon follows it.
 #[tactic(auto, unfolding(crate::specs::Clauses::modified_at))]
-fn modified_at<C: Clause>(clause: C, text: &[u8]) -> Result<(C, &[u8]), Trouble>
-    ensures { Gives (λ x. (x.0, x.1.now)) result (modified_at C.grammar clause text.now) }
+pub fn modified_at<C: Clause>(clause: C, text: &[u8]) -> Result<(C, &[u8]), ScriptFault>
+    ensures { Reads (λ x. (x.0, x.1.now)) result (modified_at C.grammar clause text.now) }
 {
     if is_word_before(b':', text) {
         modifier_at(clause, text)
@@ -81,12 +82,12 @@ fn group_at<'a, C: Clause>(
     items: &mut Vec<Item<C>>,
     text: &'a [u8],
 ) -> Result<&'a [u8], Trouble>
-    ensures { Gives (λ x. (items.new.items, x.now)) result (group_at C.grammar clause arrays.now items.old.items text.now) }
+    ensures { Holds (λ x. (items.new.items, x.now)) result (group_at C.grammar clause arrays.now items.old.items text.now) }
 {
     let inside = mark_at(b'(', text)?;
     let (modified, inside) = modified_at(clause, inside)?;
     let rest = items_at(modified, arrays, items, inside)?;
-    mark_at(b')', rest)
+    Ok(mark_at(b')', rest)?)
 }
 
 /// A clause or an option, behind those before; the text after it.
@@ -96,7 +97,7 @@ fn clause_at<'a, C: Clause>(
     clauses: &mut Clauses<C>,
     text: &'a [u8],
 ) -> Result<&'a [u8], Trouble>
-    ensures { Gives (λ x. (read_of clauses.new, x.now)) result (clause_at C.grammar arrays.now (read_of clauses.old) text.now) }
+    ensures { Holds (λ x. (read_of clauses.new, x.now)) result (clause_at C.grammar arrays.now (read_of clauses.old) text.now) }
 {
     let (word, rest) = word_at(text)?;
     if C::has_if_present() && is_text(word, "if_present") {
@@ -114,7 +115,7 @@ fn clause_at<'a, C: Clause>(
 
 /// What was read, if a clause was among it.
 fn with_clause<C: Copy>(clauses: Clauses<C>) -> Result<Clauses<C>, Trouble>
-    ensures { Gives read_of result (with_clause (read_of clauses)) }
+    ensures { Holds read_of result (with_clause (read_of clauses)) }
 {
     if clauses.items.is_empty() {
         return Err(Trouble::Line(ScriptFault::Syntax));
@@ -122,14 +123,14 @@ fn with_clause<C: Copy>(clauses: Clauses<C>) -> Result<Clauses<C>, Trouble>
     Ok(clauses)
 }
 
-/// The clauses and options up to the end of the line, at least one clause.
+/// The clauses and options up to the end of the line, at least one clause, held in memory as they are read.
 #[tactic(auto, using(crate::proofs::Turns::clauses_fail, crate::proofs::Turns::clauses_done, crate::proofs::Turns::clauses_go_on, crate::proofs::Turns::clauses_none))]
-pub fn clauses_at<C: Clause>(
+fn held_clauses<C: Clause>(
     alloc: Global,
     arrays: &Arrays,
     text: &[u8],
 ) -> Result<Clauses<C>, Trouble>
-    ensures { Gives read_of result (clauses_at (length text.now) C.grammar arrays.now nothing_read text.now) }
+    ensures { Holds read_of result (clauses_at (length text.now) C.grammar arrays.now nothing_read text.now) }
 {
     let mut clauses = Clauses {
         items: Vec::new(alloc),
@@ -144,4 +145,18 @@ pub fn clauses_at<C: Clause>(
         rest = skip_comma(rest);
     }
     Err(Trouble::Line(ScriptFault::Syntax))
+}
+
+/// The clauses and options up to the end of the line, at least one clause. They are checked before any is held, so want
+/// of memory is told only where they are right.
+#[tactic(auto, using(crate::proofs::CheckedClauses::check_fails, crate::proofs::CheckedClauses::held_gives))]
+pub fn clauses_at<C: Clause>(
+    alloc: Global,
+    arrays: &Arrays,
+    text: &[u8],
+) -> Result<Clauses<C>, Trouble>
+    ensures { Gives always read_of result (clauses_at (length text.now) C.grammar arrays.now nothing_read text.now) }
+{
+    let _seen = clauses_end::<C>(arrays, text)?;
+    held_clauses(alloc, arrays, text)
 }

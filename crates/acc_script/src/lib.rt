@@ -7,6 +7,7 @@
 mod addresses;
 mod arrays;
 mod bytes;
+mod checks;
 mod clauses;
 mod directives;
 mod effects;

@@ -1,29 +1,28 @@
 //! Addresses and sections of host memory, said by the names of arrays.
 
-ghost use Rattle.acc_script.specs.Reading.{Gives};
+ghost use Rattle.acc_script.specs.Reading.{Reads};
 ghost use Rattle.acc_script.specs.Places.{known_at, offset_at, address_at, part_at, section_at};
 
 use crate::arrays::{Array, Arrays};
 use crate::tokens::{is_mark_next, mark_at, name_at, number_at};
-use crate::troubles::Trouble;
 use acc_base::{ScriptFault, Section};
 
 /// The next word, which is the name of an array, and the text after it.
 #[tactic(auto, unfolding(crate::specs::Places::known_at))]
-fn known_at<'a>(arrays: &Arrays, text: &'a [u8]) -> Result<(Array, &'a [u8]), Trouble>
-    ensures { Gives (λ x. (x.0, x.1.now)) result (known_at arrays.now text.now) }
+fn known_at<'a>(arrays: &Arrays, text: &'a [u8]) -> Result<(Array, &'a [u8]), ScriptFault>
+    ensures { Reads (λ x. (x.0, x.1.now)) result (known_at arrays.now text.now) }
 {
     let (name, rest) = name_at(text)?;
     match arrays.get(name) {
-        None => Err(Trouble::Line(ScriptFault::UnknownName)),
+        None => Err(ScriptFault::UnknownName),
         Some(array) => Ok((array, rest)),
     }
 }
 
 /// An offset of an array in brackets, as an address, and the text after it.
 #[tactic(auto, unfolding(crate::specs::Places::offset_at))]
-fn offset_at(array: Array, text: &[u8]) -> Result<(u64, &[u8]), Trouble>
-    ensures { Gives (λ x. (x.0, x.1.now)) result (offset_at array text.now) }
+fn offset_at(array: Array, text: &[u8]) -> Result<(u64, &[u8]), ScriptFault>
+    ensures { Reads (λ x. (x.0, x.1.now)) result (offset_at array text.now) }
 {
     let rest = mark_at(b'[', text)?;
     let (from, rest) = number_at(u32::MAX, rest)?;
@@ -33,8 +32,8 @@ fn offset_at(array: Array, text: &[u8]) -> Result<(u64, &[u8]), Trouble>
 
 /// The address of a byte of an array, and the text after it.
 #[tactic(auto, unfolding(crate::specs::Places::address_at))]
-pub fn address_at<'a>(arrays: &Arrays, text: &'a [u8]) -> Result<(u64, &'a [u8]), Trouble>
-    ensures { Gives (λ x. (x.0, x.1.now)) result (address_at arrays.now text.now) }
+pub fn address_at<'a>(arrays: &Arrays, text: &'a [u8]) -> Result<(u64, &'a [u8]), ScriptFault>
+    ensures { Reads (λ x. (x.0, x.1.now)) result (address_at arrays.now text.now) }
 {
     let (array, rest) = known_at(arrays, text)?;
     offset_at(array, rest)
@@ -42,8 +41,8 @@ pub fn address_at<'a>(arrays: &Arrays, text: &'a [u8]) -> Result<(u64, &'a [u8])
 
 /// A part of an array in brackets, and the text after it.
 #[tactic(auto, unfolding(crate::specs::Places::part_at))]
-fn part_at(array: Array, text: &[u8]) -> Result<(Section, &[u8]), Trouble>
-    ensures { Gives (λ x. (x.0, x.1.now)) result (part_at array text.now) }
+fn part_at(array: Array, text: &[u8]) -> Result<(Section, &[u8]), ScriptFault>
+    ensures { Reads (λ x. (x.0, x.1.now)) result (part_at array text.now) }
 {
     let rest = mark_at(b'[', text)?;
     let (from, rest) = number_at(u32::MAX, rest)?;
@@ -55,8 +54,8 @@ fn part_at(array: Array, text: &[u8]) -> Result<(Section, &[u8]), Trouble>
 
 /// A section, which is an array or a part of one, and the text after it.
 #[tactic(auto, unfolding(crate::specs::Places::section_at))]
-pub fn section_at<'a>(arrays: &Arrays, text: &'a [u8]) -> Result<(Section, &'a [u8]), Trouble>
-    ensures { Gives (λ x. (x.0, x.1.now)) result (section_at arrays.now text.now) }
+pub fn section_at<'a>(arrays: &Arrays, text: &'a [u8]) -> Result<(Section, &'a [u8]), ScriptFault>
+    ensures { Reads (λ x. (x.0, x.1.now)) result (section_at arrays.now text.now) }
 {
     let (array, rest) = known_at(arrays, text)?;
     if is_mark_next(b'[', rest) {

@@ -28,20 +28,20 @@ fn read_piece<R: Source>(reader: &mut R, piece: &mut [u8], room: usize) -> Optio
 ///
 /// # Errors
 ///
-/// [`Fault::Memory`]; [`Fault::Read`] where the source fails or gives more than 16,777,216 bytes. No more than one
+/// [`Fault::Memory`] where there is none for what it gave so far; [`Fault::Read`] where the source fails or gives more than 16,777,216 bytes. No more than one
 /// byte past these is read.
 pub fn read_all<R: Source>(alloc: Global, reader: &mut R) -> Result<Vec<u8>, Fault>
     ensures { ReadAll (R.told reader.old) (R.told reader.new) result }
 {
     let mut all = Vec::new(alloc);
     let mut piece = [0u8; 4096];
-    while all.len() <= LIMIT {
+    'pieces: loop {
         let room = (LIMIT + 1 - all.len()).min(piece.len());
         match read_piece(reader, &mut piece, room) {
             None => return Err(Fault::Read),
             Some(0) => return Ok(all),
+            Some(count) if count > LIMIT - all.len() => return Err(Fault::Read),
             Some(count) => all.extend_from_slice(&piece[..count])?,
         }
     }
-    Err(Fault::Read)
 }

@@ -31,7 +31,8 @@ use std::thread::Threads;
 /// - [`Fault::Read`] where the reader fails or gives more than 16,777,216 bytes. Nothing was written.
 /// - [`Fault::Script`] at the first line that is at fault. What the lines before print was written.
 /// - [`Fault::Write`] where the writer fails. It has then taken a front of what the script prints.
-/// - [`Fault::Memory`]. What some first lines print was written, and nothing where the reader had not told its end.
+/// - [`Fault::Memory`]. What some first lines print was written; the line after them is not at fault, and declares,
+///   directs or writes. Nothing was written where memory was wanting for the input or for the table.
 pub fn run<R: Threads + Wait + Sync + AllocGlobal, S: Source, W: Sink>(
     rt: &R,
     reader: &mut S,

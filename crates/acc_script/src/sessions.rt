@@ -42,7 +42,8 @@ impl Session {
     ///
     /// # Errors
     ///
-    /// [`Fault::Memory`] alone.
+    /// [`Fault::Memory`] alone, for a statement that declares, directs or writes and is refused for nothing else.
+    /// Nothing changed.
     pub fn perform(&mut self, alloc: Global, statement: Statement<'_>) -> Result<Effect, Fault>
         ensures { Performs (state_of self.old) (meaning_of statement.entry) (state_of self.new) result }
     {
@@ -63,6 +64,7 @@ impl Session {
     }
 
     /// Makes a call on the table.
+    #[tactic(auto, using(crate::proofs::Accepted::accepted))]
     fn call(&mut self, call: Call) -> Result<Effect, Fault>
         ensures { CallsFor (state_of self.old) (request_of call) (state_of self.new) result }
     {

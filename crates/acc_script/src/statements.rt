@@ -1,13 +1,14 @@
 //! What a line of a script says.
 
-ghost use Rattle.std.specs.Prelude.{◌≡◌, ◌≤◌, ◌==◌, not, length};
+ghost use Rattle.std.specs.Prelude.{◌≡◌, ◌≤◌, ◌==◌, not, length, IsOk, MatchResult};
 ghost use Rattle.std.specs.List.{list_all, prefix_len};
-ghost use Rattle.acc_script.specs.Reading.{Gives};
-ghost use Rattle.acc_script.specs.Statements.{length_at, array_at, write_at, asked_at, place_at, question_at, statement_at, at_end, is_text_byte, hash, before_comment, line_at, Show, Peek, Present};
+ghost use Rattle.acc_script.specs.Reading.{Reads, Gives};
+ghost use Rattle.acc_script.specs.Statements.{length_at, array_at, write_at, last_bytes_at, last_section_at, last_address_at, question_at, statement_at, takes_memory, is_text_byte, hash, before_comment, line_at};
 ghost use Rattle.acc_script.specs.Meanings.{meaning_of};
+ghost use Rattle.acc_script.specs.Bytes.{bytes_of};
 
 use crate::arrays::{Array, Arrays};
-use crate::bytes::bytes_at;
+use crate::bytes::{bytes_of, check_bytes};
 use crate::directives::{enter_at, exit_at, update_at};
 use crate::places::{address_at, section_at};
 use crate::tokens::{is_at_end, is_text, name_at, number_at, word_at};
@@ -54,7 +55,7 @@ pub enum Statement<'a> {
 /// What a line asks for, or its first fault.
 #[tactic(auto, unfolding(crate::specs::Statements::line_at))]
 pub fn line_at<'a>(alloc: Global, arrays: &Arrays, line: &'a [u8]) -> Result<Statement<'a>, Trouble>
-    ensures { Gives meaning_of result (line_at arrays.now line.now) }
+    ensures { Gives takes_memory meaning_of result (line_at arrays.now line.now) }
 {
     if line.len() > LINE_LIMIT {
         return Err(Trouble::Line(ScriptFault::TooLong));
@@ -106,11 +107,11 @@ fn statement_at<'a>(
     arrays: &Arrays,
     text: &'a [u8],
 ) -> Result<Statement<'a>, Trouble>
-    ensures { Gives meaning_of result (statement_at arrays.now text.now) }
+    ensures { Gives takes_memory meaning_of result (statement_at arrays.now text.now) }
 {
     let (word, rest) = word_at(text)?;
     if is_text(word, "array") {
-        array_at(arrays, rest)
+        Ok(array_at(arrays, rest)?)
     } else if is_text(word, "enter") {
         enter_at(alloc, arrays, rest)
     } else if is_text(word, "exit") {
@@ -120,113 +121,106 @@ fn statement_at<'a>(
     } else if is_text(word, "write") {
         write_at(alloc, arrays, rest)
     } else {
-        question_at(word, arrays, rest)
+        Ok(question_at(word, arrays, rest)?)
     }
 }
 
 /// A question, by its word.
 #[tactic(auto, unfolding(crate::specs::Statements::question_at))]
-fn question_at(word: &[u8], arrays: &Arrays, text: &[u8]) -> Result<Statement<'static>, Trouble>
-    ensures { Gives meaning_of result (question_at word.now arrays.now text.now) }
+fn question_at(word: &[u8], arrays: &Arrays, text: &[u8]) -> Result<Statement<'static>, ScriptFault>
+    ensures { Reads meaning_of result (question_at word.now arrays.now text.now) }
 {
     if is_text(word, "show") {
-        show_at(arrays, text)
+        Ok(Statement::Show(last_section_at(arrays, text)?))
     } else if is_text(word, "peek") {
-        peek_at(arrays, text)
+        Ok(Statement::Peek(last_section_at(arrays, text)?))
     } else if is_text(word, "present") {
-        present_at(arrays, text)
+        Ok(Statement::Present(last_section_at(arrays, text)?))
     } else if is_text(word, "address") {
-        place_at(arrays, text)
-    } else if is_text(word, "report") {
-        at_end(Statement::Report, text)
+        Ok(Statement::Address(last_address_at(arrays, text)?))
+    } else if is_text(word, "report") && is_at_end(text) {
+        Ok(Statement::Report)
     } else {
-        Err(Trouble::Line(ScriptFault::Syntax))
+        Err(ScriptFault::Syntax)
     }
 }
 
-/// The statement, if the line ends here.
-fn at_end<'a>(statement: Statement<'a>, rest: &[u8]) -> Result<Statement<'a>, Trouble>
-    ensures { Gives meaning_of result (at_end (meaning_of statement.entry) rest.now) }
+/// A section, up to the end of the line.
+#[tactic(auto, unfolding(crate::specs::Statements::last_section_at))]
+fn last_section_at(arrays: &Arrays, text: &[u8]) -> Result<Section, ScriptFault>
+    ensures { Reads (λ x. x) result (last_section_at arrays.now text.now) }
 {
-    if is_at_end(rest) {
-        Ok(statement)
-    } else {
-        Err(Trouble::Line(ScriptFault::Syntax))
+    let (section, rest) = section_at(arrays, text)?;
+    if !is_at_end(rest) {
+        return Err(ScriptFault::Syntax);
     }
+    Ok(section)
+}
+
+/// An address, up to the end of the line.
+#[tactic(auto, unfolding(crate::specs::Statements::last_address_at))]
+fn last_address_at(arrays: &Arrays, text: &[u8]) -> Result<u64, ScriptFault>
+    ensures { Reads (λ x. x) result (last_address_at arrays.now text.now) }
+{
+    let (addr, rest) = address_at(arrays, text)?;
+    if !is_at_end(rest) {
+        return Err(ScriptFault::Syntax);
+    }
+    Ok(addr)
 }
 
 /// The name and the length of a new array.
 #[tactic(auto, unfolding(crate::specs::Statements::array_at))]
-fn array_at<'a>(arrays: &Arrays, text: &'a [u8]) -> Result<Statement<'a>, Trouble>
-    ensures { Gives meaning_of result (array_at arrays.now text.now) }
+fn array_at<'a>(arrays: &Arrays, text: &'a [u8]) -> Result<Statement<'a>, ScriptFault>
+    ensures { Reads meaning_of result (array_at arrays.now text.now) }
 {
     let (name, rest) = name_at(text)?;
     if arrays.get(name).is_some() {
-        return Err(Trouble::Line(ScriptFault::NameTaken));
+        return Err(ScriptFault::NameTaken);
     }
     length_at(name, arrays, rest)
 }
 
 /// The length of a new array, up to the end of the line.
 #[tactic(auto, unfolding(crate::specs::Statements::length_at))]
-fn length_at<'a>(name: &'a [u8], arrays: &Arrays, text: &[u8]) -> Result<Statement<'a>, Trouble>
-    ensures { Gives meaning_of result (length_at name.now arrays.now text.now) }
+fn length_at<'a>(name: &'a [u8], arrays: &Arrays, text: &[u8]) -> Result<Statement<'a>, ScriptFault>
+    ensures { Reads meaning_of result (length_at name.now arrays.now text.now) }
 {
     let (len, rest) = number_at(u32::MAX, text)?;
     if len == 0 {
-        return Err(Trouble::Line(ScriptFault::Number));
+        return Err(ScriptFault::Number);
     }
     if !is_at_end(rest) {
-        return Err(Trouble::Line(ScriptFault::Syntax));
+        return Err(ScriptFault::Syntax);
     }
     match arrays.next_array(len) {
-        None => Err(Trouble::Line(ScriptFault::HostFull)),
+        None => Err(ScriptFault::HostFull),
         Some(array) => Ok(Statement::Declare { name, array }),
     }
 }
 
 /// The address and the bytes of a write.
-#[tactic(auto, unfolding(crate::specs::Statements::write_at))]
+#[tactic(auto, unfolding(crate::specs::Statements::write_at), using(crate::proofs::ByteWords::write_wants))]
 fn write_at(alloc: Global, arrays: &Arrays, text: &[u8]) -> Result<Statement<'static>, Trouble>
-    ensures { Gives meaning_of result (write_at arrays.now text.now) }
+    ensures { Gives takes_memory meaning_of result (write_at arrays.now text.now) }
 {
     let (addr, rest) = address_at(arrays, text)?;
-    let (bytes, rest) = bytes_at(alloc, rest)?;
-    at_end(Statement::Write { addr, bytes }, rest)
+    let word = last_bytes_at(rest)?;
+    let bytes = bytes_of(alloc, word)?;
+    Ok(Statement::Write { addr, bytes })
 }
 
-/// The section that is shown of host memory.
-#[tactic(auto, unfolding(crate::specs::Statements::asked_at))]
-fn show_at(arrays: &Arrays, text: &[u8]) -> Result<Statement<'static>, Trouble>
-    ensures { Gives meaning_of result (asked_at Show arrays.now text.now) }
+/// A word that says bytes, up to the end of the line.
+#[tactic(auto, using(crate::proofs::ByteWords::last_faulty, crate::proofs::ByteWords::last_open, crate::proofs::ByteWords::last_said, crate::proofs::ByteWords::no_word))]
+fn last_bytes_at(text: &[u8]) -> Result<&[u8], ScriptFault>
+    ensures { MatchResult result
+        (λ word. IsOk (bytes_of word.now) × (last_bytes_at text.now ≡ bytes_of word.now))
+        (λ kind. last_bytes_at text.now ≡ Err kind) }
 {
-    let (section, rest) = section_at(arrays, text)?;
-    at_end(Statement::Show(section), rest)
-}
-
-/// The section that is shown of device memory.
-#[tactic(auto, unfolding(crate::specs::Statements::asked_at))]
-fn peek_at(arrays: &Arrays, text: &[u8]) -> Result<Statement<'static>, Trouble>
-    ensures { Gives meaning_of result (asked_at Peek arrays.now text.now) }
-{
-    let (section, rest) = section_at(arrays, text)?;
-    at_end(Statement::Peek(section), rest)
-}
-
-/// The section that may be present.
-#[tactic(auto, unfolding(crate::specs::Statements::asked_at))]
-fn present_at(arrays: &Arrays, text: &[u8]) -> Result<Statement<'static>, Trouble>
-    ensures { Gives meaning_of result (asked_at Present arrays.now text.now) }
-{
-    let (section, rest) = section_at(arrays, text)?;
-    at_end(Statement::Present(section), rest)
-}
-
-/// The host address that may have a device address.
-#[tactic(auto, unfolding(crate::specs::Statements::place_at))]
-fn place_at(arrays: &Arrays, text: &[u8]) -> Result<Statement<'static>, Trouble>
-    ensures { Gives meaning_of result (place_at arrays.now text.now) }
-{
-    let (addr, rest) = address_at(arrays, text)?;
-    at_end(Statement::Address(addr), rest)
+    let (word, rest) = word_at(text)?;
+    check_bytes(word)?;
+    if !is_at_end(rest) {
+        return Err(ScriptFault::Syntax);
+    }
+    Ok(word)
 }

@@ -4,10 +4,9 @@ ghost use Rattle.std.specs.Prelude.{◌≡◌, ◌≤◌, ◌+◌, min, length, 
 ghost use Rattle.std.specs.List.{list_all, prefix_len};
 ghost use Rattle.std.specs.Char.{is_ascii_digit};
 ghost use Rattle.std.specs.Str.{bytes_eq};
-ghost use Rattle.acc_script.specs.Reading.{Gives};
+ghost use Rattle.acc_script.specs.Reading.{Reads};
 ghost use Rattle.acc_script.specs.Tokens.{is_blank, is_word_byte, word_len, skip_blanks, is_at_end, word_at, keyword_at, is_mark_next, mark_at, skip_comma, is_word_before, number_of, number_at, is_name_byte, begins_lower, is_name, value_of, name_at};
 
-use crate::troubles::Trouble;
 use acc_base::ScriptFault;
 
 /// The byte is a space or a tab.
@@ -64,27 +63,27 @@ pub fn is_text(word: &[u8], text: &str) -> bool
 
 /// The next word, and the text after it.
 #[tactic(auto, unfolding(crate::specs::Tokens::word_at))]
-pub fn word_at(text: &[u8]) -> Result<(&[u8], &[u8]), Trouble>
-    ensures { Gives (λ x. (x.0.now, x.1.now)) result (word_at text.now) }
+pub fn word_at(text: &[u8]) -> Result<(&[u8], &[u8]), ScriptFault>
+    ensures { Reads (λ x. (x.0.now, x.1.now)) result (word_at text.now) }
 {
     let token = skip_blanks(text);
     let len = word_len(token);
     if len == 0 {
-        return Err(Trouble::Line(ScriptFault::Syntax));
+        return Err(ScriptFault::Syntax);
     }
     Ok(token.split_at(len))
 }
 
 /// This keyword; the text after it.
 #[tactic(auto, unfolding(crate::specs::Tokens::keyword_at))]
-pub fn keyword_at<'a>(keyword: &str, text: &'a [u8]) -> Result<&'a [u8], Trouble>
-    ensures { Gives (λ x. x.now) result (keyword_at keyword.now text.now) }
+pub fn keyword_at<'a>(keyword: &str, text: &'a [u8]) -> Result<&'a [u8], ScriptFault>
+    ensures { Reads (λ x. x.now) result (keyword_at keyword.now text.now) }
 {
     let (word, rest) = word_at(text)?;
     if is_text(word, keyword) {
         Ok(rest)
     } else {
-        Err(Trouble::Line(ScriptFault::Syntax))
+        Err(ScriptFault::Syntax)
     }
 }
 
@@ -100,12 +99,12 @@ pub fn is_mark_next(mark: u8, text: &[u8]) -> bool
 
 /// This mark; the text after it.
 #[tactic(auto, unfolding(crate::specs::Tokens::mark_at))]
-pub fn mark_at(mark: u8, text: &[u8]) -> Result<&[u8], Trouble>
-    ensures { Gives (λ x. x.now) result (mark_at mark text.now) }
+pub fn mark_at(mark: u8, text: &[u8]) -> Result<&[u8], ScriptFault>
+    ensures { Reads (λ x. x.now) result (mark_at mark text.now) }
 {
     match skip_blanks(text) {
         [first, rest @ ..] if *first == mark => Ok(rest),
-        _ => Err(Trouble::Line(ScriptFault::Syntax)),
+        _ => Err(ScriptFault::Syntax),
     }
 }
 
@@ -148,23 +147,23 @@ fn capped_value(limit: u32, digits: &[u8]) -> u64
 
 /// The number that a word says, up to a limit.
 #[tactic(auto, using(crate::proofs::Numbers::is_above, crate::proofs::Numbers::is_number), unfolding(crate::specs::Tokens::number_of))]
-fn number_of(limit: u32, word: &[u8]) -> Result<u32, Trouble>
-    ensures { Gives (λ n. n) result (number_of limit word.now) }
+fn number_of(limit: u32, word: &[u8]) -> Result<u32, ScriptFault>
+    ensures { Reads (λ n. n) result (number_of limit word.now) }
 {
     if !has_digits(word) {
-        return Err(Trouble::Line(ScriptFault::Syntax));
+        return Err(ScriptFault::Syntax);
     }
     let value = capped_value(limit, word);
     if value > u64::from(limit) {
-        return Err(Trouble::Line(ScriptFault::Number));
+        return Err(ScriptFault::Number);
     }
     Ok(value as u32)
 }
 
 /// The next word, which is a number up to a limit, and the text after it.
 #[tactic(auto, unfolding(crate::specs::Tokens::number_at))]
-pub fn number_at(limit: u32, text: &[u8]) -> Result<(u32, &[u8]), Trouble>
-    ensures { Gives (λ x. (x.0, x.1.now)) result (number_at limit text.now) }
+pub fn number_at(limit: u32, text: &[u8]) -> Result<(u32, &[u8]), ScriptFault>
+    ensures { Reads (λ x. (x.0, x.1.now)) result (number_at limit text.now) }
 {
     let (word, rest) = word_at(text)?;
     Ok((number_of(limit, word)?, rest))
@@ -203,12 +202,12 @@ fn is_name(word: &[u8]) -> bool
 
 /// The next word, which may name an array, and the text after it.
 #[tactic(auto, unfolding(crate::specs::Tokens::name_at))]
-pub fn name_at(text: &[u8]) -> Result<(&[u8], &[u8]), Trouble>
-    ensures { Gives (λ x. (x.0.now, x.1.now)) result (name_at text.now) }
+pub fn name_at(text: &[u8]) -> Result<(&[u8], &[u8]), ScriptFault>
+    ensures { Reads (λ x. (x.0.now, x.1.now)) result (name_at text.now) }
 {
     let (word, rest) = word_at(text)?;
     if !is_name(word) {
-        return Err(Trouble::Line(ScriptFault::Syntax));
+        return Err(ScriptFault::Syntax);
     }
     Ok((word, rest))
 }

@@ -1,7 +1,7 @@
 //! Why a line gave no statement.
 
 ghost use Rattle.std.specs.Prelude.{◌≡◌};
-ghost use Rattle.acc_script.specs.declared.troubles.Trouble.TheVariants.{Memory};
+ghost use Rattle.acc_script.specs.declared.troubles.Trouble.TheVariants.{Memory, Line};
 
 use acc_base::ScriptFault;
 use std::alloc::{AllocError, AllocFailed};
@@ -13,6 +13,14 @@ pub enum Trouble {
     Memory,
     /// The line is at fault.
     Line(ScriptFault),
+}
+
+impl From<ScriptFault> for Trouble {
+    ghost from_gives = { λ kind trouble. trouble ≡ Line kind };
+
+    fn from(kind: ScriptFault) -> Trouble {
+        Trouble::Line(kind)
+    }
 }
 
 impl From<AllocError> for Trouble {

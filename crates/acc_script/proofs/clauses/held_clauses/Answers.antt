@@ -1,7 +1,7 @@
 use Rattle.std.proofs.Common.{length, sym, ◌∙◌}
 use Rattle.acc_script.specs.ClausesRead.{read_of}
 use Rattle.acc_script.proofs.Turns.{clauses_done}
-use Rattle.acc_script.proofs.clauses.clauses_at.Goals as goal
+use Rattle.acc_script.proofs.clauses.held_clauses.Goals as goal
 
 pub returns-then-is_at_end : goal.returns-then-is_at_end
 returns-then-is_at_end g c =

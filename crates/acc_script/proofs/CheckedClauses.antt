@@ -11,20 +11,20 @@ use Rattle.acc_base.specs.declared.items.EnterClause.{EnterClause}
 use Rattle.acc_base.specs.declared.items.ExitClause.{ExitClause}
 use Rattle.acc_base.specs.declared.items.UpdateClause.{UpdateClause}
 use Rattle.acc_base.specs.declared.directives.Directive.TheVariants.{EnterData, ExitData, Update}
-use Rattle.acc_script.specs.declared.checks.Seen.{Seen}
-use Rattle.acc_script.specs.declared.clauses.Clauses.{Clauses}
-use Rattle.acc_script.specs.declared.troubles.Trouble.{Trouble}
-use Rattle.acc_script.specs.declared.troubles.Trouble.TheVariants as trouble
+use Rattle.acc_script.specs.declared.read.checks.Seen.{Seen}
+use Rattle.acc_script.specs.declared.read.clauses.Clauses.{Clauses}
+use Rattle.acc_script.specs.declared.read.Trouble.{Trouble}
+use Rattle.acc_script.specs.declared.read.Trouble.TheVariants as trouble
 use Rattle.acc_script.specs.Reading.{◌>>=◌, wants, always, Holds, Gives}
 use Rattle.acc_script.specs.Tokens.{word_at, keyword_at, mark_at, is_mark_next, is_at_end, skip_comma, comma, left_parenthesis, right_parenthesis}
 use Rattle.acc_script.specs.Layout.{Layout}
 use Rattle.acc_script.specs.Places.{section_at}
 use Rattle.acc_script.specs.Grammar.{Grammar, enter_grammar, exit_grammar, update_grammar}
 use Rattle.acc_script.specs.Clauses.{item_of, items_at, modified_at, group_at, ClausesRead, nothing_read, listed, passed_over, clause_at, with_clause, clauses_at}
-use Rattle.acc_script.specs.ClausesRead.{read_of}
+use Rattle.acc_script.specs.Meanings.{read_of}
 use Rattle.acc_script.specs.Checked.{items_end, group_end, nothing_seen, listed_end, option_end, clause_end, seen_clause, clauses_end}
 use Rattle.acc_script.specs.Statements.{Direct, takes_memory, enter_at, exit_at, update_at}
-use Rattle.acc_script.proofs.Turns.{after_section, after_clause}
+use Rattle.acc_script.proofs.HeldClauses.{after_section, after_clause}
 use Rattle.acc_script.proofs.ClauseEnds.{after_section_end, after_clause_end}
 
 module _ {C : Type 0} where

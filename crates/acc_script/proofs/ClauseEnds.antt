@@ -4,7 +4,7 @@ use Rattle.std.specs.Prelude.{if◌then◌else◌}
 use Rattle.acc_base.specs.declared.faults.ScriptFault.{ScriptFault}
 use Rattle.acc_base.specs.declared.faults.ScriptFault.TheVariants.{Syntax}
 use Rattle.acc_base.specs.declared.items.Section.{Section}
-use Rattle.acc_script.specs.declared.checks.Seen.{Seen}
+use Rattle.acc_script.specs.declared.read.checks.Seen.{Seen}
 use Rattle.acc_script.specs.Reading.{◌>>=◌}
 use Rattle.acc_script.specs.Tokens.{is_mark_next, is_at_end, skip_comma, comma}
 use Rattle.acc_script.specs.Layout.{Layout}

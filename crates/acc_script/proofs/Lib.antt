@@ -4,7 +4,7 @@ pub mod Rejoins
 pub mod Fronts
 pub mod Numbers
 pub mod Pieces
-pub mod Turns
+pub mod HeldClauses
 pub mod Accepted
 pub mod ClauseEnds
 pub mod CheckedClauses

@@ -8,7 +8,7 @@ use Rattle.std.proofs.Math.Seq.{take-add}
 use Rattle.acc_base.specs.declared.faults.Fault.{Fault}
 use Rattle.acc_base.specs.declared.faults.Fault.TheVariants.{Memory, Script, Write}
 use Rattle.acc_base.specs.declared.faults.ScriptFault.{ScriptFault}
-use Rattle.acc_script.specs.declared.effects.Effect.{Effect}
+use Rattle.acc_script.specs.declared.print.effects.Effect.{Effect}
 use Rattle.acc_script.specs.Told.{Taken, Took, TookFront}
 use Rattle.acc_script.specs.Lines.{lines_of}
 use Rattle.acc_script.specs.Reading.{◌>>=◌, wants}
@@ -21,9 +21,11 @@ use Rattle.acc_script.proofs.Fronts.{Took_then, Took-then_front}
 
 -- ---- a line
 
+-- a line that was run
 abbrev some_turn : Turned → Result Turned ScriptFault
 some_turn turn = Ok turn
 
+-- a line that says a statement is run as the statement is
 turn_is : (s : State) (line : List ℕ) (meaning : Meaning) (turn : Turned) → line_at s.layout line ≡ Ok meaning → turned s meaning ≡ turn → line_turned s line ≡ Ok turn
 unfolding line_turned
 turn_is s line meaning turn said is = rw said (ap some_turn is)
@@ -35,6 +37,7 @@ pub line_ran : (number : ℕ) (s after : State) (line : List ℕ) (old new : Opt
 line_ran number s after line old new meaning effect refused said is refused_is wrote =
     record { turn = record { state = after; effect = effect }; is = turn_is s line meaning _ said is; state = refl; refused_is = refused_is; wrote = wrote }
 
+-- a line that was run and whose text could not be written
 pub line_lost : (number : ℕ) (s after : State) (line : List ℕ) (old new : Option Taken) (meaning : Meaning) (effect : Effect)
     → line_at s.layout line ≡ Ok meaning → turned s meaning ≡ record { state = after; effect = effect } → TookFront old new (line_text number (record { state = after; effect = effect }))
     → LostLine number s line old new
@@ -65,6 +68,7 @@ wanting_runs s line h = by (line_at s.layout line) h
 abbrev pub rest_of : ℕ → Transcript → Transcript
 rest_of done all = record { texts = drop done all.texts; wanting = drop done all.wanting; ending = all.ending }
 
+-- the texts of the lines so far are all texts where none is left
 all_texts : (done : ℕ) (all : Transcript) → drop done all.texts ≡ [] → take done all.texts ≡ all.texts
 all_texts done all none = sym (append-nil (take done all.texts)) ∙ ap (λ (texts : List (List ℕ)). take done all.texts ++ texts) (sym none) ∙ take-append-drop done all.texts
 
@@ -135,6 +139,7 @@ module _ (done : ℕ) (s : State) (refused : Bool) (lines : List (List ℕ)) (al
     line_fails a b c after Write p f = lost_text a b c f.turn f.is p f.wrote
     line_fails a b c after _ p f = absurd f
 
+-- an empty input has no line
 pub lines_none : (rest : List ℕ) → length rest ≡ 0 → lines_of rest ≡ []
 unfolding lines_of
 lines_none rest e = ap lines_of (nil_from_length rest e)

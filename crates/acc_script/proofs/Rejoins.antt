@@ -7,12 +7,15 @@ use Rattle.std.specs.Prelude.{zero, suc, ◌<◌, ◌==◌, true, false, [], ◌
 use Rattle.acc_script.specs.Streams.{offered_of, given_by, rejoined, HandsOut, EndsEmpty, EndsAt}
 use Rattle.acc_script.specs.Told.{Given, Becomes, one_more}
 
+-- a known list
 abbrev some_list : List ℕ → Option (List ℕ)
 some_list x = Some x
 
+-- known lists that are the same, without their wrapping
 list_is : (x y : List ℕ) → some_list x ≡ Some y → x ≡ y
 list_is x y e = cc
 
+-- what was given, after some more bytes were consumed
 consumed : (all left after bs : List ℕ) → take (length all - length left) all ++ left ≡ all → left ≡ bs ++ after → take (length all - length after) all ≡ take (length all - length left) all ++ bs
 consumed all left after bs whole e =
     let p : List ℕ = take (length all - length left) all in
@@ -20,32 +23,36 @@ consumed all left after bs whole e =
     let len : length (p ++ bs) ≡ length all - length after = omega (arith, ap length regrouped, length-append (p ++ bs) after) in
     ap (take (length all - length after)) regrouped ∙ take_at (p ++ bs) after (length all - length after) len
 
+-- what was given and what is left make the whole, after some more bytes were consumed
 rejoins : (all left after bs : List ℕ) → take (length all - length left) all ++ left ≡ all → left ≡ bs ++ after → take (length all - length after) all ++ after ≡ all
 rejoins all left after bs whole e = rw (consumed all left after bs whole e) (append_assoc (take (length all - length left) all) bs after ∙ ap (λ (x : List ℕ). take (length all - length left) all ++ x) (sym e) ∙ whole)
 
--- what was given and what is left stay the whole, over a read
+-- what was given and what is left make the whole, over a read
 pub follows_read : (start old new : Option (List ℕ)) (bs : List ℕ) → rejoined start old ≡ start → Consumes old new bs → rejoined start new ≡ start
 follows_read None old new bs h c = refl
 follows_read (Some all) None new bs h c = absurd cc
 follows_read (Some all) (Some left) None bs h c = absurd c
 follows_read (Some all) (Some left) (Some after) bs h c = ap some_list (rejoins all left after bs (list_is _ all h) c)
 
+-- what was given and what is left make the whole, where nothing was consumed
 pub follows_kept : (start old new : Option (List ℕ)) → rejoined start old ≡ start → Keeps old new → rejoined start new ≡ start
 follows_kept None old new h c = refl
 follows_kept (Some all) None new h c = absurd cc
 follows_kept (Some all) (Some left) None h c = absurd c
 follows_kept (Some all) (Some left) (Some after) h c = rw c h
 
+-- what a source is known to have given
 abbrev some_given : Given → Option Given
 some_given g = Some g
 
--- and the read gave these bytes
+-- a read gives the bytes that it consumed
 pub gives_read : (start old new : Option (List ℕ)) (bs : List ℕ) (ended next : Bool) (failures : ℕ) → rejoined start old ≡ start → Consumes old new bs → Becomes (given_by (offered_of start old ended failures)) (given_by (offered_of start new next failures)) (λ g. record { bytes = g.bytes ++ bs; ended = next; failures = g.failures })
 gives_read None old new bs ended next failures h c = tt
 gives_read (Some all) None new bs ended next failures h c = tt
 gives_read (Some all) (Some left) None bs ended next failures h c = absurd c
 gives_read (Some all) (Some left) (Some after) bs ended next failures h c = ap (λ (x : List ℕ). some_given (record { bytes = x; ended = next; failures = failures })) (consumed all left after bs (list_is _ all h) c)
 
+-- a read that failed gives nothing, and is one more failure
 pub gives_nothing : (start old new : Option (List ℕ)) (ended : Bool) (failures more : ℕ) → Keeps old new → more ≡ one_more failures → Becomes (given_by (offered_of start old ended failures)) (given_by (offered_of start new ended more)) (λ g. record g { failures = one_more g.failures })
 gives_nothing None old new ended failures more c e = tt
 gives_nothing (Some all) None new ended failures more c e = tt

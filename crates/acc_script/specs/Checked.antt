@@ -4,7 +4,7 @@ use Rattle.std.specs.Prelude.{ℕ, zero, suc, true, false, ◌&&◌, List, lengt
 use Rattle.std.specs.Str.{bytes_eq}
 use Rattle.acc_base.specs.declared.faults.ScriptFault.{ScriptFault}
 use Rattle.acc_base.specs.declared.faults.ScriptFault.TheVariants.{Syntax}
-use Rattle.acc_script.specs.declared.checks.Seen.{Seen}
+use Rattle.acc_script.specs.declared.read.checks.Seen.{Seen}
 use Rattle.acc_script.specs.Reading.{◌>>=◌}
 use Rattle.acc_script.specs.Tokens.{word_at, mark_at, is_mark_next, is_at_end, skip_comma, left_parenthesis, right_parenthesis, comma}
 use Rattle.acc_script.specs.Layout.{Layout}

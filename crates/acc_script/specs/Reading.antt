@@ -1,8 +1,8 @@
 -- Reading that may fail: one step after the other, with the first fault that is met.
 use Rattle.std.specs.Prelude.{◌≡◌, Bool, true, false, Result, Ok, Err, IsOk}
 use Rattle.acc_base.specs.declared.faults.ScriptFault.{ScriptFault}
-use Rattle.acc_script.specs.declared.troubles.Trouble.{Trouble}
-use Rattle.acc_script.specs.declared.troubles.Trouble.TheVariants as trouble
+use Rattle.acc_script.specs.declared.read.Trouble.{Trouble}
+use Rattle.acc_script.specs.declared.read.Trouble.TheVariants as trouble
 
 infixl 10 ◌>>=◌
 -- a step, and then another with what it gave, unless it met a fault

@@ -4,7 +4,7 @@ use Rattle.std.specs.List.{concat}
 use Rattle.acc_base.specs.declared.faults.Fault.{Fault}
 use Rattle.acc_base.specs.declared.faults.Fault.TheVariants.{Memory, Script, Read, Write}
 use Rattle.acc_base.specs.Limits.{Limits}
-use Rattle.acc_script.specs.declared.statuses.Status.{Status}
+use Rattle.acc_script.specs.declared.runs.Status.{Status}
 use Rattle.acc_script.specs.Told.{Given, Taken, GaveAll, FailedOrPassed, Took, TookFront}
 use Rattle.acc_script.specs.Ends.{input_limit, GaveSome}
 use Rattle.acc_script.specs.Scripts.{State, Turned, is_refused, line_turned, line_wants, line_text, Transcript, Ended, Faulty, transcript, status_of}

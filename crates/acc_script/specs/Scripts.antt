@@ -9,10 +9,10 @@ use Rattle.acc_base.specs.Limits.{Limits}
 use Rattle.acc_base.specs.Calls.{World, new_world, Request, Do, HostWrite, judge, world_after}
 use Rattle.acc_base.specs.Ranges.{where_is}
 use Rattle.acc_table.specs.Queries.{is_inside, device_address_of, host_read_of, device_read_of}
-use Rattle.acc_script.specs.declared.effects.Effect.{Effect}
-use Rattle.acc_script.specs.declared.effects.Effect.TheVariants.{Nothing, Refused, HostBytes, DeviceBytes, Presence, Place, Reported}
-use Rattle.acc_script.specs.declared.statuses.Status.{Status}
-use Rattle.acc_script.specs.declared.statuses.Status.TheVariants as statuses
+use Rattle.acc_script.specs.declared.print.effects.Effect.{Effect}
+use Rattle.acc_script.specs.declared.print.effects.Effect.TheVariants.{Nothing, Refused, HostBytes, DeviceBytes, Presence, Place, Reported}
+use Rattle.acc_script.specs.declared.runs.Status.{Status}
+use Rattle.acc_script.specs.declared.runs.Status.TheVariants as statuses
 use Rattle.acc_script.specs.Reading.{◌>>=◌, wants}
 use Rattle.acc_script.specs.Lines.{lines_of}
 use Rattle.acc_script.specs.Layout.{Layout, new_layout, with_array}
@@ -50,6 +50,7 @@ shown section (Some bytes) = HostBytes section
 abbrev pub answered : State → Effect → Turned
 answered s effect = record { state = s; effect = effect }
 
+-- a state and a statement, as the state after it and what there is to print
 abbrev pub turned : State → Meaning → Turned
 turned s Blank = answered s Nothing
 turned s (Declare name array) = record { state = record { world = s.world; layout = with_array name array s.layout }; effect = Nothing }
@@ -71,6 +72,7 @@ effect_text number w (Presence present) = presence_text present
 effect_text number w (Place place) = place_text place
 effect_text number w Reported = report_text w
 
+-- what there is to print is a refusal
 abbrev pub is_refused : Effect → Bool
 is_refused (Refused fault) = true
 is_refused _ = false
@@ -118,6 +120,7 @@ transcript_from number s refused (line ∷ lines) = noted number (line_wants s l
 unfoldable pub transcript : Limits → List ℕ → Transcript
 transcript limits input = transcript_from 1 (new_state limits) false (lines_of input)
 
+-- the status of a script of which some line was refused, or none
 abbrev pub status_of : Bool → Status
 status_of true = statuses.Refused
 status_of false = statuses.Clean

@@ -142,6 +142,7 @@ statement_at layout text = do
 abbrev pub is_text_byte : ℕ → Bool
 is_text_byte b = (b == tab) || (nat_le 32 b && nat_le b 126)
 
+-- the mark that begins a comment
 abbrev pub hash : ℕ
 hash = 35
 

@@ -5,18 +5,26 @@ ghost use Rattle.acc_script.specs.Scripts.{transcript, status_of};
 ghost use Rattle.acc_script.specs.Runs.{LineRuns, Played, Ran};
 ghost use Rattle.acc_script.specs.Sessions.{state_of};
 
+use crate::ends::whole::read_all;
 use crate::lines::next_line;
-use crate::reading::read_all;
-use crate::reports::write_effect;
+use crate::print::effects::write_effect;
+use crate::read::Trouble;
+use crate::read::statements::line_at;
 use crate::sessions::Session;
-use crate::statements::line_at;
-use crate::statuses::Status;
-use crate::troubles::Trouble;
 use crate::{Sink, Source};
 use acc_base::{Config, Fault};
 use std::alloc::Global;
 use std::sync::Wait;
 use std::thread::Threads;
+
+/// How a script ended that was run to its last line.
+#[derive(Clone, Copy, Debug, PartialEq, Eq)]
+pub enum Status {
+    /// No line was refused.
+    Clean,
+    /// At least one line was refused.
+    Refused,
+}
 
 /// Reads a whole script, and then runs it line by line on a new table of these limits.
 ///

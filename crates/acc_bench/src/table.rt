@@ -3,10 +3,8 @@
 ghost use Rattle.std.specs.Prelude.{◌<◌};
 
 use crate::limits::largest;
-use acc_base::{
-    Directive, EnterClause, ExitClause, Fault, HOST_BASE, Item, List, Section, UpdateClause,
-};
-use acc_table::{Call, Table};
+use acc_base::{EnterClause, ExitClause, Fault, HOST_BASE, Item, List, Section, UpdateClause};
+use acc_table::{Call, Directive, Table};
 use anyhow::Result;
 use std::alloc::{AllocError, Global};
 use std::rt::Clock;

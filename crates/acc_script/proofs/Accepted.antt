@@ -6,9 +6,9 @@ use Rattle.acc_base.specs.declared.items.Item.{Item}
 use Rattle.acc_base.specs.declared.items.EnterClause.{EnterClause}
 use Rattle.acc_base.specs.declared.items.ExitClause.{ExitClause}
 use Rattle.acc_base.specs.declared.items.UpdateClause.{UpdateClause}
-use Rattle.acc_base.specs.declared.directives.Directive.{Directive}
-use Rattle.acc_base.specs.declared.directives.Directive.TheVariants.{EnterData, ExitData, Update}
-use Rattle.acc_base.specs.declared.events.Event.{Event}
+use Rattle.acc_table.specs.declared.directives.Directive.{Directive}
+use Rattle.acc_table.specs.declared.directives.Directive.TheVariants.{EnterData, ExitData, Update}
+use Rattle.acc_table.specs.declared.events.Event.{Event}
 use Rattle.acc_base.specs.declared.events.Step.{Step}
 use Rattle.acc_base.specs.declared.events.Step.TheVariants as steps
 use Rattle.acc_base.specs.declared.faults.Fault.{Fault}
@@ -20,9 +20,11 @@ use Rattle.acc_base.specs.Records.{Records}
 use Rattle.acc_base.specs.Section.{is_empty, is_within, host_memory}
 use Rattle.acc_base.specs.Ranges.{where_is, dynamic_of}
 use Rattle.acc_base.specs.Blocks.{rounded, place_for}
-use Rattle.acc_base.specs.Walk.{after_entered, after_exited}
-use Rattle.acc_base.specs.Judge.{◌>>=◌, ◌>>◌, refuse_if, born_at, enter_data_at, ends_after_drop, exit_data_at, update_at, section_checked, enter_data_item, exit_data_item, update_item, did_of, enter_data_items, exit_data_items, update_items, item_limit, item_count, few_items, directive_event, write_checked, host_write_event}
-use Rattle.acc_base.specs.Calls.{World, Request, Do, HostWrite, event_count, ticket, trace_room, judge}
+use Rattle.acc_table.specs.Single.Walk.{after_entered, after_exited}
+use Rattle.acc_base.specs.Results.{◌>>=◌, ◌>>◌, refuse_if}
+use Rattle.acc_base.specs.Tasks.{did_of}
+use Rattle.acc_table.specs.Single.Judge.{born_at, enter_data_at, ends_after_drop, exit_data_at, update_at, section_checked, enter_data_item, exit_data_item, update_item, enter_data_items, exit_data_items, update_items, item_limit, item_count, few_items, directive_event, write_checked, host_write_event}
+use Rattle.acc_table.specs.Single.Calls.{World, Request, Do, HostWrite, event_count, ticket, trace_room, judge}
 use Rattle.acc_table.specs.Calls.{IsRefusal}
 
 -- no want of memory is among the answers

@@ -10,7 +10,7 @@ use Rattle.acc_base.specs.declared.items.Item.{Item}
 use Rattle.acc_base.specs.declared.items.EnterClause.{EnterClause}
 use Rattle.acc_base.specs.declared.items.ExitClause.{ExitClause}
 use Rattle.acc_base.specs.declared.items.UpdateClause.{UpdateClause}
-use Rattle.acc_base.specs.declared.directives.Directive.TheVariants.{EnterData, ExitData, Update}
+use Rattle.acc_table.specs.declared.directives.Directive.TheVariants.{EnterData, ExitData, Update}
 use Rattle.acc_script.specs.declared.read.checks.Seen.{Seen}
 use Rattle.acc_script.specs.declared.read.clauses.Clauses.{Clauses}
 use Rattle.acc_script.specs.declared.read.Trouble.{Trouble}

@@ -5,7 +5,7 @@ use Rattle.std.specs.Fmt.{decimal}
 use Rattle.acc_base.specs.declared.faults.Fault.{Fault}
 use Rattle.acc_base.specs.Faults.{number_of, name_of, fields_text}
 use Rattle.acc_base.specs.Blocks.{used_bytes}
-use Rattle.acc_base.specs.Calls.{World, event_count}
+use Rattle.acc_table.specs.Single.Calls.{World, event_count}
 use Rattle.acc_script.specs.Texts.{refusal_start, refusal_text, sizes_text, ranges_text, totals_text, report_text}
 
 -- the texts of a refusal, grouped as they are written

@@ -1,12 +1,12 @@
 -- What a script does and prints, line by line, and how it ends.
 use Rattle.std.specs.Prelude.{ℕ, ◌+◌, Bool, true, false, ◌||◌, List, [], ◌∷◌, Option, Some, None, Result, Ok, Err}
-use Rattle.acc_base.specs.declared.events.Event.{Event}
+use Rattle.acc_table.specs.declared.events.Event.{Event}
 use Rattle.acc_base.specs.declared.faults.Fault.{Fault}
 use Rattle.acc_base.specs.declared.faults.Fault.TheVariants.{OutOfHost}
 use Rattle.acc_base.specs.declared.faults.ScriptFault.{ScriptFault}
 use Rattle.acc_base.specs.declared.items.Section.{Section}
 use Rattle.acc_base.specs.Limits.{Limits}
-use Rattle.acc_base.specs.Calls.{World, new_world, Request, Do, HostWrite, judge, world_after}
+use Rattle.acc_table.specs.Single.Calls.{World, new_world, Request, Do, HostWrite, judge, world_after}
 use Rattle.acc_base.specs.Ranges.{where_is}
 use Rattle.acc_table.specs.Queries.{is_inside, device_address_of, host_read_of, device_read_of}
 use Rattle.acc_script.specs.declared.print.effects.Effect.{Effect}

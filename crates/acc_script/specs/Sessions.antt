@@ -3,7 +3,7 @@ use Rattle.std.specs.Prelude.{◌≡◌, ⊤, Result, Ok, Err, IsOk}
 use Rattle.acc_base.specs.declared.faults.Fault.{Fault}
 use Rattle.acc_base.specs.declared.faults.Fault.TheVariants.{Memory}
 use Rattle.acc_base.specs.Limits.{Limits}
-use Rattle.acc_base.specs.Calls.{Request, Do, HostWrite, judge}
+use Rattle.acc_table.specs.Single.Calls.{Request, Do, HostWrite, judge}
 use Rattle.acc_script.specs.declared.print.effects.Effect.{Effect}
 use Rattle.acc_script.specs.declared.sessions.Session.{Session}
 use Rattle.acc_script.specs.Statements.{Meaning, Declare, Direct, Write}

@@ -4,6 +4,7 @@ ghost use Rattle.std.specs.Prelude.{◌≡◌, ◌-◌, ◌<◌, ◌^◌, length
 ghost use Rattle.acc_base.specs.declared.faults.Fault.TheVariants.{Memory};
 ghost use Rattle.acc_base.specs.Limits.{IsWithinBounds, IsFromOne};
 ghost use Rattle.acc_base.specs.Section.{is_within, host_memory};
+ghost use Rattle.acc_base.specs.Holes.{IsDevice};
 ghost use Rattle.acc_base.specs.Ranges.{start_of};
 ghost use Rattle.acc_base.specs.Blocks.{place_of, block_at};
 ghost use Rattle.acc_base.specs.Bytes.{host_after_write};
@@ -79,6 +80,13 @@ impl Store {
             device: Device::new(alloc, config.device())?,
             host: HostMem::new(alloc, config.host())?,
         })
+    }
+
+    /// Blocks and holes are the device. Nothing is done.
+    pub fn laws(&self)
+        ensures { IsDevice self.now.size self.now.state.records.blocks }
+    {
+        self.device.laws();
     }
 
     /// The device address of a block's first byte, or 0 where there is no such block.

@@ -3,6 +3,7 @@
 ghost use Rattle.std.specs.Prelude.{◌≡◌, ◌≤◌, Ok, Err, MatchResult, IfOk, IfErr, OnOk, OnErr};
 ghost use Rattle.acc_base.specs.declared.faults.Fault.TheVariants.{Memory};
 ghost use Rattle.acc_base.specs.Limits.{IsWithinBounds};
+ghost use Rattle.acc_base.specs.Holes.{IsDevice};
 ghost use Rattle.acc_table.specs.Single.Judge.{item_count, directive_event};
 ghost use Rattle.acc_table.specs.Single.Calls.{Do, HostWrite, judge, ticket, trace_room, new_world, world_after};
 ghost use Rattle.acc_table.specs.Single.Accounts.{IsAccounted};
@@ -70,12 +71,14 @@ impl Table {
 
     /// What holds of every table: mapped ranges and blocks are apart and account for every used byte, each range has
     /// a block of its own, no range has both counters zero, every counter is what the history gives and within its
-    /// limit, each memory has its size, the history is legal, and the limits are within their bounds. Nothing is done.
+    /// limit, each memory has its size, the history is legal, the limits are within their bounds, and blocks and holes are
+    /// the device, with no address in two of them. Nothing is done.
     pub fn laws(&self)
         ensures accounted { IsAccounted self.now }
         ensures bounds { IsWithinBounds self.now.limits }
+        ensures holes { IsDevice self.now.limits.device self.now.state.records.blocks }
     {
-        let _ = &self.config;
+        self.store.laws();
     }
 
     /// Makes one call: an event, or no change (OpenACC 3.3, section 2.6.6, enter data and exit data directives, and the

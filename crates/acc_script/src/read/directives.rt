@@ -9,7 +9,8 @@ use crate::read::Trouble;
 use crate::read::clauses::clauses_at;
 use crate::read::statements::Statement;
 use crate::read::tokens::keyword_at;
-use acc_base::{Directive, List};
+use acc_base::List;
+use acc_table::Directive;
 use std::alloc::Global;
 
 /// The `enter data` directive.

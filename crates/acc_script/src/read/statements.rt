@@ -12,7 +12,8 @@ use crate::read::Trouble;
 use crate::read::directives::{enter_at, exit_at, update_at};
 use crate::read::places::{address_at, section_at};
 use crate::read::tokens::{bytes_of, check_bytes, is_at_end, is_text, name_at, number_at, word_at};
-use acc_base::{Directive, List, ScriptFault, Section};
+use acc_base::{List, ScriptFault, Section};
+use acc_table::Directive;
 use std::alloc::Global;
 
 /// How many bytes a line may have.

@@ -13,6 +13,7 @@ pub mod Memories
 pub mod AllTasks
 pub mod Registers
 pub mod Told
+pub mod Accounted
 pub mod Runs
 mod Examples
 mod RegionExamples

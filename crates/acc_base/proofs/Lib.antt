@@ -14,6 +14,7 @@ pub mod KeptMemories
 pub mod AllTasks
 pub mod Registers
 pub mod Told
+pub mod Accounted
 pub mod Runs
 mod Examples
 mod RegionExamples

@@ -1,33 +1,31 @@
 -- Over every legal list of events: the records stay sound, numbers of regions rise, and both counters of every block are those of the events.
-use Rattle.std.proofs.Common.{ℕ, ◌≡◌, ◌+◌, ◌-◌, ◌≤◌, ◌<◌, refl, sym, ◌∙◌, ap, subst, cond, List, [], ◌∷◌, Option, Some, None, arith}
-use Rattle.std.specs.Prelude.{map, reverse, fold, sum_by, unwrap_or, IsSome, ⊤}
+use Rattle.std.proofs.Common.{ℕ, ◌≡◌, ◌+◌, ◌-◌, ◌≤◌, ◌<◌, refl, ◌∙◌, ap, subst, cond, List, [], ◌∷◌, Option, Some, None, arith}
+use Rattle.std.specs.Prelude.{reverse, fold, sum_by, unwrap_or, IsSome}
 use Rattle.std.specs.List.{AllByRecursion}
 use Rattle.std.proofs.lemmas.List.Sums.{sum_by-cons}
 use Rattle.acc_base.specs.declared.items.Item.{Item}
 use Rattle.acc_base.specs.declared.items.RegionClause.{RegionClause}
 use Rattle.acc_base.specs.declared.items.EnterClause.{EnterClause}
-use Rattle.acc_base.specs.declared.items.ExitClause.{ExitClause}
-use Rattle.acc_base.specs.declared.mappings.Counter.{Counter}
 use Rattle.acc_base.specs.declared.mappings.Counter.TheVariants.{Structured, Dynamic}
 use Rattle.acc_base.specs.declared.regions.Holding.{Holding}
 use Rattle.acc_base.specs.declared.tasks.Task.{Task}
-use Rattle.acc_base.specs.declared.tasks.Task.TheVariants.{Enter, Leave, Exit, Move}
+use Rattle.acc_base.specs.declared.tasks.Task.TheVariants.{Leave, Exit, Move}
 use Rattle.acc_base.specs.declared.events.Did.{Did}
 use Rattle.acc_base.specs.declared.events.Event.{Event}
 use Rattle.acc_base.specs.declared.events.Event.TheVariants.{Entered, Left, EnteredData, ExitedData, Updated, HostWritten}
 use Rattle.acc_base.specs.Limits.{Limits, IsWithinBounds}
 use Rattle.acc_base.specs.Records.{Records, Layout, new_layout}
-use Rattle.acc_base.specs.Register.{Region, Register, holdings_at, opened, closed, is_counted_block, count_held, held_in}
+use Rattle.acc_base.specs.Register.{Register, holdings_at, opened, closed, is_counted_block, count_held, held_in}
 use Rattle.acc_base.specs.Ranges.{structured_of, dynamic_of}
 use Rattle.acc_base.specs.Clauses.{as_region}
 use Rattle.acc_base.specs.Tasks.{act_all}
-use Rattle.acc_base.specs.Walk.{enter_task, enter_data_task, leave_tasks, asked_in, done_in, register_after, holdings_of, walk, walk_all}
-use Rattle.acc_base.specs.History.{counts, drops, count_counted, count_dropped, entries_of, exits_of, structured_in, dynamic_in, dynamic_after, AreJudged, IsLegal, AreLegal}
+use Rattle.acc_base.specs.Walk.{enter_task, enter_data_task, asked_in, done_in, register_after, holdings_of, walk, walk_all}
+use Rattle.acc_base.specs.History.{NamesRight, drops, count_counted, count_dropped, entries_of, exits_of, structured_in, dynamic_in, dynamic_after, IsLegal, AreLegal}
 use Rattle.acc_base.specs.Calls.{History}
-use Rattle.acc_base.specs.Accounts.{EachPair, AreRecordsSound, AreHeld}
+use Rattle.acc_base.specs.Accounts.{EachPair, AreRecordsSound, AreHeld, IsHistoryLegal}
 use Rattle.acc_base.proofs.Elements.{AllByRecursion-weaker}
 use Rattle.acc_base.proofs.Sound.{new_sound}
-use Rattle.acc_base.proofs.AllTasks.{recount, recount_same, AreLeft, all_left, AreSaid, all_said, entered_recount, held-entered, exited_recount, left_recount, held-left, sum_by-reverse}
+use Rattle.acc_base.proofs.AllTasks.{recount_same, AreLeft, all_left, AreSaid, all_said, entered_recount, held-entered, exited_recount, left_recount, held-left, sum_by-reverse}
 use Rattle.acc_base.proofs.Registers.{IsNumbered, new_numbered, opened_numbered, opened_held, closed_numbered, closed_held}
 
 -- ---- one event
@@ -130,3 +128,96 @@ event_told l e lay entries exits dynamics bounds h legal =
     counted_still : (b : ℕ) → IsRecounted b e lay.records (act_all (asked_in e lay.register) (done_in e) lay.records) → IsHeldBy b e lay.register (register_after e lay.register)
         → structured_of b (act_all (asked_in e lay.register) (done_in e) lay.records).ranges + (exits b + exits_of b e) ≡ entries b + entries_of b e
     counted_still b counted holds = omega (arith, h.held b, h.structured b, counted.structured, holds.held)
+
+-- ---- a list of events
+
+pub events_told : (l : Limits) (events : List Event) (lay : Layout) (entries exits dynamics : ℕ → ℕ) → IsWithinBounds l → IsTold l lay entries exits dynamics → AreLegal l events lay
+    → IsTold l (walk_all events lay) (λ b. entries b + sum_by (entries_of b) events) (λ b. exits b + sum_by (exits_of b) events) (λ b. fold (dynamic_after b) (dynamics b) events)
+unfolding walk_all
+events_told l [] lay entries exits dynamics bounds h legal = record {
+  sound = h.sound;
+  numbered = h.numbered;
+  held = h.held;
+  structured = λ b. omega (arith, h.structured b);
+  dynamic = h.dynamic;
+}
+events_told l (e ∷ events) lay entries exits dynamics bounds h legal =
+    let first : IsTold l (walk e lay) (λ b. entries b + entries_of b e) (λ b. exits b + exits_of b e) (λ b. dynamic_after b (dynamics b) e) = event_told l e lay entries exits dynamics bounds h legal.0 in
+    let later : IsTold l (walk_all events (walk e lay)) (λ b. entries b + entries_of b e + sum_by (entries_of b) events) (λ b. exits b + exits_of b e + sum_by (exits_of b) events) (λ b. fold (dynamic_after b) (dynamic_after b (dynamics b) e) events)
+    = events_told l events (walk e lay) (λ b. entries b + entries_of b e) (λ b. exits b + exits_of b e) (λ b. dynamic_after b (dynamics b) e) bounds first legal.1 in
+    record {
+      sound = later.sound;
+      numbered = later.numbered;
+      held = later.held;
+      structured = λ b. omega (arith, later.structured b, sum_by-cons (entries_of b) e events, sum_by-cons (exits_of b) e events);
+      dynamic = later.dynamic;
+    }
+
+pub new_told : (l : Limits) → IsTold l new_layout (λ b. 0) (λ b. 0) (λ b. 0)
+new_told l = record { sound = new_sound l; numbered = new_numbered; held = λ b. refl; structured = λ b. refl; dynamic = λ b. refl }
+
+-- what a history says of the layout that it leads to
+pub record IsLedTo (l : Limits) (h : History) (lay : Layout) : Type 0 where
+  pub sound : AreRecordsSound l lay.records
+  pub numbered : IsNumbered lay.register
+  pub held : AreHeld lay
+  pub structured : (b : ℕ) → structured_of b lay.records.ranges ≡ structured_in b h
+  pub dynamic : (b : ℕ) → dynamic_of b lay.records.ranges ≡ dynamic_in b h
+
+-- a legal history leads to sound records, and tells both counters of every block
+pub legal_told : (l : Limits) (h : History) (lay : Layout) → IsWithinBounds l → IsHistoryLegal l h lay → IsLedTo l h lay
+legal_told l h lay bounds legal =
+    let all_of : IsTold l (walk_all h.trace new_layout) (λ b. 0 + sum_by (entries_of b) h.trace) (λ b. 0 + sum_by (exits_of b) h.trace) (λ b. fold (dynamic_after b) 0 h.trace)
+    = events_told l h.trace new_layout (λ b. 0) (λ b. 0) (λ b. 0) bounds (new_told l) legal.legal in
+    subst (IsLedTo l h) legal.leads (record {
+      sound = all_of.sound;
+      numbered = all_of.numbered;
+      held = all_of.held;
+      structured = λ b. omega (arith, all_of.structured b);
+      dynamic = all_of.dynamic;
+    })
+
+-- ---- numbers of regions
+
+abbrev pub with_number : Event → List ℕ → List ℕ
+with_number (Entered number items did) numbers = number ∷ numbers
+with_number (Left number did) numbers = numbers
+with_number (EnteredData items did) numbers = numbers
+with_number (ExitedData items finalize did) numbers = numbers
+with_number (Updated items if_present did) numbers = numbers
+with_number (HostWritten addr len) numbers = numbers
+
+-- the numbers of the regions that were entered, in order
+abbrev pub numbers_in : List Event → List ℕ
+numbers_in [] = []
+numbers_in (e ∷ events) = with_number e (numbers_in events)
+
+abbrev AreFrom : ℕ → List ℕ → Type 0
+AreFrom least numbers = AllByRecursion (λ n. least ≤ n) numbers
+
+numbers_from : (l : Limits) (events : List Event) (lay : Layout) → AreLegal l events lay → AreFrom lay.register.next (numbers_in events)
+unfolding walk
+numbers_from l [] lay legal = tt
+numbers_from l (e ∷ events) lay legal = go e legal.0.names (numbers_from l events (walk e lay) legal.1)
+  where
+    go : (x : Event) → NamesRight l x lay → AreFrom (register_after x lay.register).next (numbers_in events) → AreFrom lay.register.next (with_number x (numbers_in events))
+    go (Entered number items did) names later = let is : number ≡ lay.register.next = names in (omega arith, AllByRecursion-weaker (λ n. lay.register.next + 1 ≤ n) (λ n. lay.register.next ≤ n) (numbers_in events) (λ n p. omega arith) later)
+    go (Left number did) names later = later
+    go (EnteredData items did) names later = later
+    go (ExitedData items finalize did) names later = later
+    go (Updated items if_present did) names later = later
+    go (HostWritten addr len) names later = later
+
+-- they rise, so no number is used twice
+pub numbers_rise : (l : Limits) (events : List Event) (lay : Layout) → AreLegal l events lay → EachPair (λ (m : ℕ) (n : ℕ). m < n) (numbers_in events)
+unfolding walk
+numbers_rise l [] lay legal = tt
+numbers_rise l (e ∷ events) lay legal = go e legal.0.names (numbers_from l events (walk e lay) legal.1) (numbers_rise l events (walk e lay) legal.1)
+  where
+    go : (x : Event) → NamesRight l x lay → AreFrom (register_after x lay.register).next (numbers_in events) → EachPair (λ (m : ℕ) (n : ℕ). m < n) (numbers_in events) → EachPair (λ (m : ℕ) (n : ℕ). m < n) (with_number x (numbers_in events))
+    go (Entered number items did) names from later = let is : number ≡ lay.register.next = names in (AllByRecursion-weaker (λ n. lay.register.next + 1 ≤ n) (λ n. number < n) (numbers_in events) (λ n p. omega arith) from, later)
+    go (Left number did) names from later = later
+    go (EnteredData items did) names from later = later
+    go (ExitedData items finalize did) names from later = later
+    go (Updated items if_present did) names from later = later
+    go (HostWritten addr len) names from later = later

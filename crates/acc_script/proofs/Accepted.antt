@@ -1,5 +1,5 @@
 -- A table that wants memory for a call was asked for one that is accepted: no refusal of the definitions is want of memory.
-use Rattle.std.proofs.Common.{◌≡◌, ℕ, zero, suc, Bool, true, false, cond, List, [], ◌∷◌, length, Option, Some, None, Result, Ok, Err, refl, sym, ap, ◌∙◌}
+use Rattle.std.proofs.Common.{◌≡◌, ℕ, suc, Bool, true, false, cond, List, [], ◌∷◌, length, Option, Some, None, Result, Ok, Err, refl}
 use Rattle.std.specs.Prelude.{⊤, not, nat_le, nat_lt, ◌==◌, MatchResult, IsOk}
 use Rattle.acc_base.specs.declared.items.Section.{Section}
 use Rattle.acc_base.specs.declared.items.Item.{Item}
@@ -9,10 +9,9 @@ use Rattle.acc_base.specs.declared.items.UpdateClause.{UpdateClause}
 use Rattle.acc_table.specs.declared.directives.Directive.{Directive}
 use Rattle.acc_table.specs.declared.directives.Directive.TheVariants.{EnterData, ExitData, Update}
 use Rattle.acc_table.specs.declared.events.Event.{Event}
-use Rattle.acc_base.specs.declared.events.Step.{Step}
 use Rattle.acc_base.specs.declared.events.Step.TheVariants as steps
 use Rattle.acc_base.specs.declared.faults.Fault.{Fault}
-use Rattle.acc_base.specs.declared.faults.Fault.TheVariants.{Memory, NoTickets, TooManyItems, TraceFull, OutOfHost, NotPresent, CounterFull, DeviceFull}
+use Rattle.acc_base.specs.declared.faults.Fault.TheVariants.{Memory, NoTickets, TooManyItems, TraceFull, OutOfHost, NotPresent, CounterFull}
 use Rattle.acc_base.specs.declared.mappings.Found.{Found}
 use Rattle.acc_base.specs.declared.mappings.Found.TheVariants.{Empty, Inside, Partly, Absent}
 use Rattle.acc_base.specs.Limits.{Limits}

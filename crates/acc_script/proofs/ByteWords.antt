@@ -1,11 +1,11 @@
 -- Words that say bytes.
-use Rattle.std.proofs.Common.{◌≡◌, ℕ, ◌<◌, ◌≤◌, ◌%◌, ◌-◌, ◌≢◌, Bool, true, false, cond, List, [], ◌∷◌, length, Option, Some, None, Result, Ok, Err, refl, sym, ap, ◌∙◌, arith}
+use Rattle.std.proofs.Common.{◌≡◌, ℕ, ◌<◌, ◌≤◌, ◌%◌, ◌-◌, ◌≢◌, Bool, true, false, cond, List, [], ◌∷◌, length, Some, None, Result, Ok, Err, refl, arith}
 use Rattle.std.specs.Prelude.{not, ◌||◌, ◌&&◌, nat_le, nat_lt, is_some, IsOk}
 use Rattle.std.specs.List.{list_all}
 use Rattle.std.specs.Char.{is_ascii_hexdigit}
 use Rattle.std.proofs.lemmas.Bool.{le-ltb, lt-ltb, eq-eqb, and_parts}
 use Rattle.std.proofs.lemmas.List.Sums.{AllPass-from_list_all}
-use Rattle.hex.specs.Hex.{decode_of, is_hex_digit, hex_digit_value}
+use Rattle.hex.specs.Hex.{decode_of, is_hex_digit}
 use Rattle.hex.proofs.HexLemmas.{decode_of-digits}
 use Rattle.acc_base.specs.declared.faults.ScriptFault.{ScriptFault}
 use Rattle.acc_base.specs.declared.faults.ScriptFault.TheVariants.{Syntax, Number}
@@ -14,7 +14,7 @@ use Rattle.acc_script.specs.Tokens.{word_at, is_at_end}
 use Rattle.acc_script.specs.Bytes.{digit_limit, bytes_of, decoded}
 use Rattle.acc_script.specs.Layout.{Layout}
 use Rattle.acc_script.specs.Places.{address_at}
-use Rattle.acc_script.specs.Statements.{Meaning, Write, takes_memory, last_bytes_at, write_at}
+use Rattle.acc_script.specs.Statements.{Write, takes_memory, last_bytes_at, write_at}
 
 -- ---- one word
 

@@ -5,6 +5,7 @@ use crate::{FromRead, MemorySink, MemorySource, Sink, Source, Status, ToWrite, r
 use acc_base::{Config, Fault, ScriptFault};
 use acc_table::Table;
 use std::alloc::{AllocError, Global};
+use std::fmt::Debug;
 use std::io::{self, ErrorKind, Write};
 use std::process::Abort;
 use std::sync::Wait;
@@ -48,6 +49,16 @@ fn config(limits: &Limits) -> Result<Config, Fault> {
     )
 }
 
+/// Compares what was found at a place with what is wanted there.
+fn same<R: Abort, T: PartialEq + Debug + Drop, P: Debug + Drop>(
+    rt: &R,
+    found: T,
+    wanted: T,
+    place: P,
+) {
+    assert_eq!(rt; found, wanted, "at {place:?}");
+}
+
 /// Runs a script within limits, and compares what it prints and how it ends.
 fn check<R: Abort + Threads + Wait + Sync + AllocGlobal>(
     rt: &R,
@@ -60,8 +71,8 @@ fn check<R: Abort + Threads + Wait + Sync + AllocGlobal>(
     let mut writer = MemorySink::new(rt.alloc());
     let answer = run(rt, &mut reader, &mut writer, config(limits)?, 1);
     let wanted = end.map_err(|(line, kind)| Fault::Script { line, kind });
-    assert_eq!(rt; writer.as_slice(), printed.as_bytes(), "{script:?}");
-    assert_eq!(rt; answer, wanted, "{script:?}");
+    same(rt, writer.as_slice(), printed.as_bytes(), script);
+    same(rt, answer, wanted, script);
     Ok(())
 }
 
@@ -437,9 +448,9 @@ fn reads_so_many_bytes_and_no_more(rt: HostRuntime) -> Result<(), Fail> {
         let mut reader = LineFeeds { left: count };
         let mut writer = MemorySink::new(rt.alloc());
         let got = run(&rt, &mut reader, &mut writer, config(&WIDE)?, 1);
-        assert_eq!(rt; got, outcome, "at {count}");
-        assert_eq!(rt; reader.left, left, "at {count}");
-        assert_eq!(rt; writer.as_slice(), b"".as_slice(), "at {count}");
+        same(&rt, got, outcome, count);
+        same(&rt, reader.left, left, count);
+        same(&rt, writer.as_slice(), b"".as_slice(), count);
     }
     Ok(())
 }
@@ -541,8 +552,8 @@ fn a_slow_source_is_read(rt: HostRuntime) -> Result<(), Fail> {
         };
         let mut writer = Narrow::new(256, true);
         let got = run(&rt, &mut reader, &mut writer, config(&WIDE)?, 1);
-        assert_eq!(rt; got, answer);
-        assert_eq!(rt; writer.len, len);
+        same(&rt, got, answer, fails);
+        same(&rt, writer.len, len, fails);
     }
     Ok(())
 }
@@ -556,10 +567,10 @@ fn check_narrow<R: Abort + Threads + Wait + Sync + AllocGlobal>(
     let mut reader = MemorySource::new(SCRIPT);
     let mut writer = Narrow::new(room, fails);
     let got = run(rt, &mut reader, &mut writer, config(&WIDE)?, 1);
-    assert_eq!(rt; got, Err(Fault::Write), "at {room}");
-    assert_eq!(rt; writer.len, room);
+    same(rt, got, Err(Fault::Write), room);
+    same(rt, writer.len, room, room);
     assert!(rt; room <= 148);
-    assert_eq!(rt; &writer.bytes[..room], &PRINTED[..room], "at {room}");
+    same(rt, &writer.bytes[..room], &PRINTED[..room], room);
     Ok(())
 }
 

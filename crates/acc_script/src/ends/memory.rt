@@ -1,6 +1,6 @@
 //! Sources and sinks in memory.
 
-ghost use Rattle.std.specs.Prelude.{◌≡◌, ◌≤◌, ◌+◌, ◌-◌, ◌++◌, Some, length, take, drop, min, IfSome, IfNone};
+ghost use Rattle.std.specs.Prelude.{◌≡◌, ◌≤◌, ◌+◌, ◌-◌, ◌++◌, Some, length, take, drop, min, IfSome};
 ghost use Rattle.acc_script.specs.Told.{after_read, after_write, nothing_given, nothing_taken};
 
 use crate::{Sink, Source};

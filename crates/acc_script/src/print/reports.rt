@@ -3,7 +3,6 @@
 ghost use Rattle.acc_script.specs.Ends.{Wrote};
 ghost use Rattle.acc_script.specs.Texts.{mapped_text, ranges_text, report_text, sizes_text, mapping_text, counters_text, totals_text};
 ghost use Rattle.acc_script.specs.Runs.{Printed};
-ghost use Rattle.std.specs.Prelude.{◌++◌};
 
 use crate::Sink;
 use crate::ends::whole::write_pieces;

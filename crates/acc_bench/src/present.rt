@@ -59,6 +59,7 @@ fn make_table(alloc: Global, count: u64) -> Result<Present, Fault>
 }
 
 /// Maps the range of this place to the block of this number.
+#[tactic(auto, using(crate::proofs::Numbered::one_mapped, crate::proofs::Numbered::at_most))]
 fn map_one(present: &mut Present, index: u64) -> Result<(), Fault>
     requires { AllByRecursion (λ r. r.block < index) present.old.table.ranges }
     ensures { OnOk result (AllByRecursion (λ r. r.block ≤ index) present.new.table.ranges) }

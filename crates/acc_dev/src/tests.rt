@@ -1,7 +1,8 @@
 //! Device memory by example.
 
-ghost use Rattle.std.specs.Prelude.{◌≡◌};
+ghost use Rattle.std.specs.Prelude.{◌≡◌, ◌+◌, ◌^◌, ◌<◌, ◌≤◌, None, [], ◌∷◌, length, drop, IsTrue};
 ghost use Rattle.acc_base.specs.Limits.{IsFromOne};
+ghost use Rattle.acc_dev.specs.Device.{birth_place};
 
 use crate::Device;
 use acc_base::{DEVICE_BASE, Fault, MEMORY_MAX};
@@ -214,5 +215,68 @@ fn a_refused_growth_changes_nothing(rt: HostRuntime) -> Result<(), Fail> {
     assert_eq!(rt; place(&device, 5), Some((DEVICE_BASE + 80, 16)));
     assert!(rt; holds(&device, 1, Some(&[0])));
     assert_eq!(rt; device.used(), 96);
+    Ok(())
+}
+
+/// Makes room for two births, and once more where memory is refused: then nothing may have changed before.
+fn reserve_twice(rt: &impl Abort, device: &mut Device)
+    ensures room { device.new.room ≡ 3 ∷ 16 ∷ [] }
+    ensures births { device.new.births ≡ device.old.births }
+{
+    let number = device.next_block();
+    let used = device.used();
+    let Err(fault) = device.reserve(&[3, 16]) else {
+        return;
+    };
+    assert_eq!(rt; fault, Fault::Memory);
+    assert_eq!(rt; (device.next_block(), device.used()), (number, used));
+    if device.reserve(&[3, 16]).is_err() {
+        panic!(rt; "no memory twice");
+    }
+}
+
+/// Whether a block of this length fits.
+fn fits(device: &Device, len: u64) -> bool
+    requires { IsFromOne MEMORY_MAX len }
+    ensures { IsTrue result → birth_place device.now len ≡ None → ⊥ }
+{
+    device.would_take(&[], len).is_some()
+}
+
+/// A birth in the room made for it, filled.
+fn born_filled(rt: &impl Abort, device: &mut Device) -> u64
+    requires room { device.old.room ≡ 3 ∷ 16 ∷ [] }
+    requires births { device.old.births < 9 }
+    ensures room { device.new.room ≡ 16 ∷ [] }
+    ensures births { device.new.births < 10 }
+{
+    assert!(rt; fits(device, 3));
+    device.born_reserved(3, false)
+}
+
+/// A birth in the room made for it, with these bytes.
+fn born_given(rt: &impl Abort, device: &mut Device, given: &[u8]) -> u64
+    requires room { device.old.room ≡ length given.now ∷ [] }
+    requires births { device.old.births < 10 }
+    requires len { IsFromOne MEMORY_MAX (length given.now) }
+{
+    assert!(rt; fits(device, given.len() as u64));
+    device.born_with_reserved(given)
+}
+
+/// To be run with each allocation failing in turn, too: the two births after the room was made want no memory.
+#[test]
+fn births_use_the_room_made_for_them_in_order(rt: HostRuntime) -> Result<(), Fail> {
+    let mut device = match Device::new(rt.alloc(), 64) {
+        Ok(device) => device,
+        Err(_) => Device::new(rt.alloc(), 64)?,
+    };
+    reserve_twice(&rt, &mut device);
+    let first = born_filled(&rt, &mut device);
+    let second = born_given(&rt, &mut device, &[7; 16]);
+    assert_eq!(rt; (first, second), (1, 2));
+    assert!(rt; holds(&device, 1, Some(&[0xa5; 3])));
+    assert!(rt; holds(&device, 2, Some(&[7; 16])));
+    assert_eq!(rt; place(&device, 2), Some((DEVICE_BASE + 16, 16)));
     Ok(())
 }

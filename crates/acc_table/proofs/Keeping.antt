@@ -3,6 +3,7 @@ use Rattle.std.proofs.Common.{ℕ, ◌≡◌, ◌+◌, ◌≤◌, refl, sym, ◌
 use Rattle.std.specs.Prelude.{nat_lt, ⊤, OnOk, OnErr, IfErr}
 use Rattle.std.proofs.lemmas.Bool.Decides.{nat_tests}
 use Rattle.std.proofs.lemmas.List.Elements.{All-from_recursion}
+use Rattle.acc_base.specs.declared.addresses.TheConstants.{MEMORY_MAX}
 use Rattle.acc_base.specs.declared.items.Section.{Section}
 use Rattle.acc_base.specs.declared.items.Item.{Item}
 use Rattle.acc_base.specs.declared.items.EnterClause.{EnterClause}
@@ -39,12 +40,12 @@ use Rattle.acc_table.specs.Kept.{IsKept}
 
 -- ---- bounds
 
-short : (l : Limits) (r : Range) → l.host ≤ 67108864 → l.counter_max ≤ 4294967295 → IsInHost l r.section → r.dynamic ≤ l.counter_max → IsShort r
+short : (l : Limits) (r : Range) → l.host ≤ MEMORY_MAX → l.counter_max ≤ 4294967295 → IsInHost l r.section → r.dynamic ≤ l.counter_max → IsShort r
 short l r host most inside few = let within : is_within r.section (host_memory l.host) ≡ true = inside.within in
     let below : end_of r.section ≤ host_base + l.host = grind (arith, nat_tests) in
     (omega arith, omega arith)
 
-low : (l : Limits) (b : Block) → l.device ≤ 67108864 → IsOnDevice l.device b → IsLow b
+low : (l : Limits) (b : Block) → l.device ≤ MEMORY_MAX → IsOnDevice l.device b → IsLow b
 low l b most on = let first : device_base ≤ b.place = on.first in let last : block_end b ≤ device_base + l.device = on.last in (omega arith, omega arith)
 
 pub bounded : (size : ℕ) (w : World) → IsKept size w → IsBounded w.state

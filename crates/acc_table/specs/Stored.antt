@@ -1,6 +1,7 @@
 -- What a store holds, and what it needs before it does a step.
 use Rattle.std.specs.Prelude.{ℕ, ◌≡◌, ◌+◌, ◌<◌, ◌^◌, true, List, [], ◌∷◌, ◌++◌, length, Some, IsSome, ⊤}
 use Rattle.std.specs.List.{AllByRecursion}
+use Rattle.acc_base.specs.declared.addresses.TheConstants.{MEMORY_MAX}
 use Rattle.acc_base.specs.declared.items.Section.{Section}
 use Rattle.acc_base.specs.declared.items.Item.{Item}
 use Rattle.acc_base.specs.declared.items.EnterClause.{EnterClause}
@@ -56,7 +57,7 @@ pub record CanMove (section : Section) (block : ℕ) (s : State) : Type 0 where
 -- a section can be mapped to a new block of this number at this place
 pub record CanBear (section : Section) (block place : ℕ) (c : Contents) : Type 0 where
   pub in_host : is_within section (host_memory (length c.state.host)) ≡ true
-  pub len : IsFromOne 67108864 section.len
+  pub len : IsFromOne MEMORY_MAX section.len
   pub number : block ≡ c.state.records.births + 1
   pub place_is : place_for c.size c.state.records.blocks (rounded section.len) ≡ Some place
   pub few : c.state.records.births < 2 ^ 48

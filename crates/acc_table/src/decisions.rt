@@ -6,14 +6,16 @@ ghost use Rattle.acc_table.specs.Bounds.{IsBounded};
 
 use crate::ranges;
 use crate::stores::Store;
-use acc_base::{Config, EnterClause, ExitClause, Fault, Found, Item, Section, Step, UpdateClause};
+use acc_base::{
+    Config, EnterClause, ExitClause, Fault, Found, Item, MEMORY_MAX, Section, Step, UpdateClause,
+};
 use acc_host::HOST_BASE;
 use acc_placement::rounded;
 
 /// The section, which is not empty, has to lie in host memory.
 fn check_section(config: &Config, n: u64, section: Section) -> Result<(), Fault>
     ensures checked { result ≡ section_checked config.now n section }
-    ensures fits { OnOk result (section.len ≤ 67108864) }
+    ensures fits { OnOk result (section.len ≤ MEMORY_MAX) }
 {
     let memory = Section {
         start: HOST_BASE,

@@ -15,7 +15,9 @@ ghost use Rattle.acc_table.specs.Bounds.{IsBounded};
 ghost use Rattle.acc_table.specs.Stored.{new_contents, with_state, with_host, with_memories, CanMove, CanBear, CanEnter, CanExit, CanUpdate, CanWrite, IsMadeWith, unmapped};
 
 use crate::ranges;
-use acc_base::{Config, EnterClause, ExitClause, Fault, Item, Range, Section, Step, UpdateClause};
+use acc_base::{
+    Config, EnterClause, ExitClause, Fault, Item, MEMORY_MAX, Range, Section, Step, UpdateClause,
+};
 use acc_dev::Device;
 use acc_host::HostMem;
 use std::alloc::Global;
@@ -47,7 +49,7 @@ impl Model for Store {
 /// Makes the block of a new mapping, with its bytes.
 fn make_block(device: &mut Device, host: &HostMem, item: Item<EnterClause>) -> Result<u64, Fault>
     requires in_host { is_within item.section (host_memory (length host.now)) ≡ true }
-    requires len { IsFromOne 67108864 item.section.len }
+    requires len { IsFromOne MEMORY_MAX item.section.len }
     requires few { device.old.births < 2 ^ 48 }
     requires room { birth_place device.old item.section.len ≡ None → ⊥ }
     ensures made { IfOk result (IsMadeWith device.old device.new item host.now) }

@@ -8,3 +8,6 @@ mod ranges;
 mod register;
 
 pub use presence::Present;
+
+#[cfg(test)]
+mod tests;

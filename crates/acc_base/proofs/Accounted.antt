@@ -1,17 +1,19 @@
 -- An accepted call makes a legal event, and every world that accepted calls lead to is accounted for.
 use Rattle.std.proofs.Common.{ℕ, suc, ◌≡◌, ◌+◌, ◌<◌, ◌≤◌, refl, sym, ◌∙◌, ap, subst, false, List, [], ◌∷◌, ◌++◌, length, Option, Some, None, Result, Ok, arith, length-append}
-use Rattle.std.specs.Prelude.{nat_le, nat_lt, unwrap_or, option_map, IsSome, ⊤}
+use Rattle.std.specs.Prelude.{nat_le, nat_lt, map, reverse, unwrap_or, option_map, IsSome, ⊤}
 use Rattle.std.specs.List.{AllByRecursion}
 use Rattle.std.proofs.lemmas.List.{reverse-reverse}
 use Rattle.std.proofs.lemmas.Bool.Decides.{nat_tests}
 use Rattle.acc_base.specs.declared.mappings.Range.{Range}
 use Rattle.acc_base.specs.declared.regions.Holding.{Holding}
 use Rattle.acc_base.specs.declared.tasks.Task.{Task}
+use Rattle.acc_base.specs.declared.tasks.Task.TheVariants.{Leave}
 use Rattle.acc_base.specs.declared.directives.Directive.{Directive}
 use Rattle.acc_base.specs.declared.directives.Directive.TheVariants.{Enter, Exit, EnterData, ExitData, Update}
 use Rattle.acc_base.specs.declared.calls.Call.{Call}
 use Rattle.acc_base.specs.declared.calls.Call.TheVariants.{Do, HostWrite}
 use Rattle.acc_base.specs.declared.events.Step.{Step}
+use Rattle.acc_base.specs.declared.events.Step.TheVariants.{Nothing, Dropped}
 use Rattle.acc_base.specs.declared.events.Did.{Did}
 use Rattle.acc_base.specs.declared.events.Event.{Event}
 use Rattle.acc_base.specs.declared.events.Event.TheVariants.{Entered, Left, EnteredData, ExitedData, Updated, HostWritten}
@@ -20,9 +22,9 @@ use Rattle.acc_base.specs.Results.{◌>>=◌, ◌>>◌}
 use Rattle.acc_base.specs.Limits.{Limits, IsWithinBounds}
 use Rattle.acc_base.specs.Records.{Records, Layout, State, layout_of, new_layout}
 use Rattle.acc_base.specs.Register.{Register, holdings_at}
-use Rattle.acc_base.specs.Ranges.{range_of}
-use Rattle.acc_base.specs.Clauses.{in_host}
-use Rattle.acc_base.specs.Tasks.{judge_task, judge_all, act, did_of}
+use Rattle.acc_base.specs.Ranges.{range_of, ends_by}
+use Rattle.acc_base.specs.Clauses.{in_host, leave_row}
+use Rattle.acc_base.specs.Tasks.{recounted, judge_task, judge_all, act, did_of}
 use Rattle.acc_base.specs.Walk.{walk, walk_all, leave_tasks, register_after, holdings_of}
 use Rattle.acc_base.specs.Bytes.{after}
 use Rattle.acc_base.specs.Judge.{few_items, tasks_of, tasks_of_region, event_of, directive_event, host_write_event}
@@ -126,6 +128,30 @@ host_write_legal l addr len lay e h =
     let is : HostWritten addr len ≡ e = ok_same _ _ both.1 in
     let legal : IsLegal l (HostWritten addr len) lay = record { names = both.0; judged = tt } in
     (is, subst (λ x. IsLegal l x lay) is legal)
+
+-- ---- the exit from an open region is not refused
+
+leave_step : (l : Limits) (n : ℕ) (holding : Holding) (w : Records) → (step : Step) × (judge_task l n (Leave holding) w ≡ Ok step)
+unfolding judge_task
+leave_step l n holding w = go holding.block
+  where
+    go : (o : Option ℕ) → (step : Step) × (leave_row o (recounted (Leave holding)) w ≡ Ok step)
+    go None = (Nothing, refl)
+    go (Some block) = (Dropped block (ends_by (recounted (Leave holding)) block w.ranges), refl)
+
+leave_all : (l : Limits) (n : ℕ) (holdings : List Holding) (w : Records) → (dids : List Did) × (judge_all l n (map Leave holdings) w ≡ Ok dids)
+unfolding judge_all
+leave_all l n [] w = ([], refl)
+leave_all l n (holding ∷ holdings) w =
+    let first : (step : Step) × (judge_task l n (Leave holding) w ≡ Ok step) = leave_step l n holding w in
+    let others : (dids : List Did) × (judge_all l (suc n) (map Leave holdings) (act (Leave holding) first.0 w) ≡ Ok dids) = leave_all l (suc n) holdings (act (Leave holding) first.0 w) in
+    (did_of first.0 ∷ others.0, rw (first.1, others.1))
+
+pub exit_accepted : (l : Limits) (number : ℕ) (holdings : List Holding) (lay : Layout) → holdings_at number lay.register.regions ≡ Some holdings → (e : Event) × (directive_event l (Exit number) lay ≡ Ok e)
+unfolding directive_event
+exit_accepted l number holdings lay e =
+    let left : (dids : List Did) × (judge_all l 0 (leave_tasks holdings) lay.records ≡ Ok dids) = leave_all l 0 (reverse holdings) lay.records in
+    (event_of (Exit number) lay.register left.0, rw (e, left.1))
 
 -- ---- an accepted call
 

@@ -1,11 +1,12 @@
 -- Over every legal list of events: the records stay sound, numbers of regions rise, and both counters of every block are those of the events.
-use Rattle.std.proofs.Common.{ℕ, ◌≡◌, ◌+◌, ◌-◌, ◌≤◌, ◌<◌, refl, ◌∙◌, ap, subst, cond, List, [], ◌∷◌, Option, Some, None, arith}
-use Rattle.std.specs.Prelude.{reverse, fold, sum_by, unwrap_or, IsSome}
+use Rattle.std.proofs.Common.{ℕ, ◌≡◌, ◌+◌, ◌-◌, ◌≤◌, ◌<◌, refl, sym, ◌∙◌, ap, subst, Bool, cond, List, [], ◌∷◌, Option, Some, None, arith}
+use Rattle.std.specs.Prelude.{reverse, fold, sum_by, unwrap_or, option_map, IsSome, IfSome, ⊤}
 use Rattle.std.specs.List.{AllByRecursion}
 use Rattle.std.proofs.lemmas.List.Sums.{sum_by-cons}
 use Rattle.acc_base.specs.declared.items.Item.{Item}
 use Rattle.acc_base.specs.declared.items.RegionClause.{RegionClause}
 use Rattle.acc_base.specs.declared.items.EnterClause.{EnterClause}
+use Rattle.acc_base.specs.declared.mappings.Range.{Range}
 use Rattle.acc_base.specs.declared.mappings.Counter.TheVariants.{Structured, Dynamic}
 use Rattle.acc_base.specs.declared.regions.Holding.{Holding}
 use Rattle.acc_base.specs.declared.tasks.Task.{Task}
@@ -15,15 +16,16 @@ use Rattle.acc_base.specs.declared.events.Event.{Event}
 use Rattle.acc_base.specs.declared.events.Event.TheVariants.{Entered, Left, EnteredData, ExitedData, Updated, HostWritten}
 use Rattle.acc_base.specs.Limits.{Limits, IsWithinBounds}
 use Rattle.acc_base.specs.Records.{Records, Layout, new_layout}
-use Rattle.acc_base.specs.Register.{Register, holdings_at, opened, closed, is_counted_block, count_held, held_in}
-use Rattle.acc_base.specs.Ranges.{structured_of, dynamic_of}
+use Rattle.acc_base.specs.Register.{Region, Register, holdings_at, opened, closed, is_counted_block, count_held, held_in}
+use Rattle.acc_base.specs.Ranges.{range_of, structured_of, dynamic_of}
 use Rattle.acc_base.specs.Clauses.{as_region}
 use Rattle.acc_base.specs.Tasks.{act_all}
 use Rattle.acc_base.specs.Walk.{enter_task, enter_data_task, asked_in, done_in, register_after, holdings_of, walk, walk_all}
 use Rattle.acc_base.specs.History.{NamesRight, drops, count_counted, count_dropped, entries_of, exits_of, structured_in, dynamic_in, dynamic_after, IsLegal, AreLegal}
 use Rattle.acc_base.specs.Calls.{History}
 use Rattle.acc_base.specs.Accounts.{EachPair, AreRecordsSound, AreHeld, IsHistoryLegal}
-use Rattle.acc_base.proofs.Elements.{AllByRecursion-weaker}
+use Rattle.acc_base.proofs.Results.{equal_self}
+use Rattle.acc_base.proofs.Elements.{AllByRecursion-weaker, IfSome-weaker}
 use Rattle.acc_base.proofs.Sound.{new_sound}
 use Rattle.acc_base.proofs.AllTasks.{recount_same, AreLeft, all_left, AreSaid, all_said, entered_recount, held-entered, exited_recount, left_recount, held-left, sum_by-reverse}
 use Rattle.acc_base.proofs.Registers.{IsNumbered, new_numbered, opened_numbered, opened_held, closed_numbered, closed_held}
@@ -221,3 +223,66 @@ numbers_rise l (e ∷ events) lay legal = go e legal.0.names (numbers_from l eve
     go (ExitedData items finalize did) names from later = later
     go (Updated items if_present did) names from later = later
     go (HostWritten addr len) names from later = later
+
+-- the numbers count up by one from this one
+abbrev pub AreConsecutive : ℕ → List ℕ → Type 0
+AreConsecutive first [] = ⊤
+AreConsecutive first (n ∷ numbers) = (n ≡ first) × AreConsecutive (first + 1) numbers
+
+-- each region's number is one more than that of the region entered before it, so a refused call uses none
+pub numbers_consecutive : (l : Limits) (events : List Event) (lay : Layout) → AreLegal l events lay → AreConsecutive lay.register.next (numbers_in events)
+unfolding walk
+numbers_consecutive l [] lay legal = tt
+numbers_consecutive l (e ∷ events) lay legal = go e legal.0.names (numbers_consecutive l events (walk e lay) legal.1)
+  where
+    go : (x : Event) → NamesRight l x lay → AreConsecutive (register_after x lay.register).next (numbers_in events) → AreConsecutive lay.register.next (with_number x (numbers_in events))
+    go (Entered number items did) names later = (names, later)
+    go (Left number did) names later = later
+    go (EnteredData items did) names later = later
+    go (ExitedData items finalize did) names later = later
+    go (Updated items if_present did) names later = later
+    go (HostWritten addr len) names later = later
+
+-- ---- what open regions hold
+
+counted_one : (b : ℕ) (o : Option ℕ) → o ≡ Some b → cond {A = ℕ} (is_counted_block b o) 1 0 ≡ 1
+counted_one b o e = subst (λ (x : Option ℕ). cond {A = ℕ} (is_counted_block b x) 1 0 ≡ 1) (sym e) (ap (λ (t : Bool). cond {A = ℕ} t 1 0) (equal_self b))
+
+-- where every count is bounded, a block that a holding counted has a bound above zero
+holdings_below : (bound : ℕ → ℕ) (holdings : List Holding) → ((b : ℕ) → count_held b holdings ≤ bound b) → AllByRecursion (λ (h : Holding). IfSome h.block (λ b. 0 < bound b)) holdings
+holdings_below bound [] le = tt
+holdings_below bound (h ∷ holdings) le = (go h.block refl, holdings_below bound holdings (λ b. omega (arith, le b, all_of b)))
+  where
+    all_of : (b : ℕ) → count_held b (h ∷ holdings) ≡ cond (is_counted_block b h.block) 1 0 + count_held b holdings
+    all_of b = sum_by-cons (λ (x : Holding). cond (is_counted_block b x.block) 1 0) h holdings
+
+    go : (o : Option ℕ) → h.block ≡ o → IfSome o (λ b. 0 < bound b)
+    go None e = tt
+    go (Some b) e =
+        let one : cond {A = ℕ} (is_counted_block b h.block) 1 0 ≡ 1 = counted_one b h.block e in
+        omega (arith, le b, all_of b)
+
+-- the same of all open regions
+regions_below : (bound : ℕ → ℕ) (regions : List Region) → ((b : ℕ) → held_in b regions ≤ bound b) → AllByRecursion (λ (r : Region). AllByRecursion (λ (h : Holding). IfSome h.block (λ b. 0 < bound b)) r.holdings) regions
+regions_below bound [] le = tt
+regions_below bound (r ∷ regions) le = (holdings_below bound r.holdings (λ b. omega (arith, le b, all_of b)), regions_below bound regions (λ b. omega (arith, le b, all_of b)))
+  where
+    all_of : (b : ℕ) → held_in b (r ∷ regions) ≡ count_held b r.holdings + held_in b regions
+    all_of b = sum_by-cons (λ (x : Region). count_held b x.holdings) r regions
+
+counted_there : (b : ℕ) (ranges : List Range) → 0 < structured_of b ranges → IsSome (range_of b ranges)
+counted_there b ranges some = go (range_of b ranges) some
+  where
+    go : (o : Option Range) → 0 < unwrap_or (option_map (λ (r : Range). r.structured) o) 0 → IsSome o
+    go None p = absurd (omega arith)
+    go (Some r) p = refl
+
+-- each block that an open region holds is mapped
+abbrev pub IsHeldMapped : Layout → Type 0
+IsHeldMapped lay = AllByRecursion (λ (r : Region). AllByRecursion (λ (h : Holding). IfSome h.block (λ b. IsSome (range_of b lay.records.ranges))) r.holdings) lay.register.regions
+
+pub held_mapped : (lay : Layout) → AreHeld lay → IsHeldMapped lay
+held_mapped lay held = AllByRecursion-weaker (λ (r : Region). AllByRecursion (λ (h : Holding). IfSome h.block (λ b. 0 < structured_of b lay.records.ranges)) r.holdings) (λ (r : Region). AllByRecursion (λ (h : Holding). IfSome h.block (λ b. IsSome (range_of b lay.records.ranges))) r.holdings) lay.register.regions
+    (λ r all. AllByRecursion-weaker (λ (h : Holding). IfSome h.block (λ b. 0 < structured_of b lay.records.ranges)) (λ (h : Holding). IfSome h.block (λ b. IsSome (range_of b lay.records.ranges))) r.holdings
+    (λ h some. IfSome-weaker (λ b. 0 < structured_of b lay.records.ranges) (λ b. IsSome (range_of b lay.records.ranges)) h.block (λ b p. counted_there b lay.records.ranges p) some) all)
+    (regions_below (λ b. structured_of b lay.records.ranges) lay.register.regions (λ b. omega (arith, held b)))

@@ -1,0 +1,28 @@
+//! The example of the README, as it stands there.
+
+use acc_base::{Config, EnterClause, Fault, HOST_BASE, Item, List, Section};
+use acc_table::{Call, Directive, Table};
+use std::alloc::Global;
+use std::test::Fail;
+
+/// Maps the first 20 bytes of host memory, and answers how many bytes of the device that takes: 32.
+fn used_by_one_array(alloc: Global) -> Result<u64, Fault> {
+    let config = Config::new(65_536, 65_536, 64, 1_048_576, 4_294_967_295, 256, 262_144)?;
+    let mut table = Table::new(alloc, config)?;
+    let section = Section {
+        start: HOST_BASE,
+        len: 20,
+    };
+    let clause = EnterClause::Copyin;
+    let items = List::from_vec(vec![in alloc; Item { clause, section }]?);
+    match table.apply(Call::Do(Directive::EnterData { items })) {
+        Ok(_) => Ok(table.used()),
+        Err((_, fault)) => Err(fault),
+    }
+}
+
+#[test]
+fn an_array_of_20_bytes_takes_32(rt: HostRuntime) -> Result<(), Fail> {
+    assert_eq!(rt; used_by_one_array(rt.alloc())?, 32);
+    Ok(())
+}

@@ -48,11 +48,11 @@ recounted_by l (Entered number items did) g w b said left = record {
   dynamic = left.counter_is Dynamic b ∙ recount_same Dynamic b enter_task items did (dynamic_of b w.ranges) (λ x m. refl);
 }
 recounted_by l (Left number did) g w b said left =
-    let holdings : List Holding = unwrap_or (holdings_at number g.regions) [] in
+    let last_to_first : List Holding = reverse (unwrap_or (holdings_at number g.regions) []) in
     let turned : count_dropped b (reverse did) ≡ count_dropped b did = sum_by-reverse (λ (d : Did). cond (drops b d.step) 1 0) did in
     record {
-      structured = left.counter_is Structured b ∙ (left_recount l b (reverse holdings) (reverse did) (structured_of b w.ranges) said ∙ omega arith);
-      dynamic = left.counter_is Dynamic b ∙ recount_same Dynamic b Leave (reverse holdings) (reverse did) (dynamic_of b w.ranges) (λ x m. refl);
+      structured = left.counter_is Structured b ∙ (left_recount l b last_to_first (reverse did) (structured_of b w.ranges) said ∙ omega arith);
+      dynamic = left.counter_is Dynamic b ∙ recount_same Dynamic b Leave last_to_first (reverse did) (dynamic_of b w.ranges) (λ x m. refl);
     }
 recounted_by l (EnteredData items did) g w b said left = record {
   structured = left.counter_is Structured b ∙ (recount_same Structured b enter_data_task items did (structured_of b w.ranges) (λ x m. refl) ∙ omega arith);

@@ -1,5 +1,6 @@
 -- Ranges whose blocks have numbers below a bound.
-use Rattle.std.proofs.Common.{ℕ, ◌≡◌, ◌+◌, ◌<◌, ◌≤◌, List, None, refl, arith}
+use Rattle.std.proofs.Common.{ℕ, ◌≡◌, ◌+◌, ◌<◌, ◌≤◌, List, None, Result, Ok, Err, arith}
+use Rattle.std.specs.Prelude.{OnOk}
 use Rattle.std.specs.List.{AllByRecursion}
 use Rattle.acc_base.specs.declared.items.Section.{Section}
 use Rattle.acc_base.specs.declared.mappings.Range.{Range}
@@ -26,3 +27,8 @@ at_most k rs h = AllByRecursion-weaker (λ (r : Range). r.block < k) (λ r. r.bl
 -- at most a bound is below the next
 pub below_next : (k : ℕ) (rs : List Range) → AllByRecursion (λ r. r.block ≤ k) rs → AllByRecursion (λ r. r.block < k + 1) rs
 below_next k rs h = AllByRecursion-weaker (λ (r : Range). r.block ≤ k) (λ r. r.block < k + 1) rs (λ r n. omega arith) h
+
+-- what follows from a fact follows where the fact holds of a success
+pub on_ok : {T E : Type 0} (r : Result T E) (P Q : Type 0) → (P → Q) → OnOk r P → OnOk r Q
+on_ok (Ok x) P Q f h = f h
+on_ok (Err e) P Q f h = tt

@@ -9,6 +9,7 @@ use acc_base::{Counters, Fault, Found, Section};
 use std::alloc::Global;
 use std::test::Fail;
 
+mod growths;
 mod steps;
 
 /// Two ranges, a section that is asked for, each by its start and length, the block whose range is left out, and where

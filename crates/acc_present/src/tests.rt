@@ -9,6 +9,9 @@ use acc_base::{Counters, Fault, Found, Section};
 use std::alloc::Global;
 use std::test::Fail;
 
+mod growths;
+mod steps;
+
 /// Two ranges, a section that is asked for, each by its start and length, the block whose range is left out, and where
 /// the section lies then. The first range is mapped to block 1 and the second to block 2, so block 0 leaves none out.
 struct Row((u64, u64), (u64, u64), (u64, u64), u64, Found);

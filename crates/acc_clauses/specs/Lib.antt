@@ -1,2 +1,3 @@
 pub mod Contents
-pub mod Acting
+pub mod Acts
+pub mod Stored

@@ -4,7 +4,12 @@
 //! [`Store::commit`] does it: it takes no memory and is never refused.
 #![tactic(auto)]
 
+mod acted;
 mod acting;
 mod copies;
 mod parts;
 mod rows;
+mod running;
+mod stores;
+
+pub use stores::Store;

@@ -1,0 +1,10 @@
+mod Copying
+mod Moving
+mod Keeping
+mod Steps
+mod Legal
+mod Changes
+mod Remaining
+mod Holding
+mod Entering
+mod Storing

@@ -10,3 +10,11 @@ pub mod Recounted
 pub mod Used
 pub mod Walked
 pub mod Memories
+pub mod KeptMemories
+pub mod AllTasks
+pub mod Registers
+pub mod Told
+pub mod Accounted
+pub mod Runs
+mod Examples
+mod RegionExamples

@@ -3,3 +3,8 @@ pub mod Elements
 pub mod Lookups
 pub mod Where
 pub mod Places
+pub mod Counting
+pub mod Judged
+pub mod Sound
+pub mod Recounted
+pub mod Used

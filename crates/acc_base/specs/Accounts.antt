@@ -37,11 +37,11 @@ pub record AreRangesApart (l : Limits) (ranges : List Range) : Type 0 where
 
 -- ---- device blocks
 
--- the block lies on the device, and begins at a multiple of 16
-pub record IsOnDevice (l : Limits) (b : Block) : Type 0 where
+-- the block lies on a device of this size, and begins at a multiple of 16
+pub record IsOnDevice (device : ℕ) (b : Block) : Type 0 where
   pub some : 0 < b.len
   pub first : device_base ≤ b.place
-  pub last : block_end b ≤ device_base + l.device
+  pub last : block_end b ≤ device_base + device
   pub aligned : b.place % 16 ≡ 0
 
 -- no address is in both, and the one was born before the other
@@ -49,11 +49,11 @@ pub record IsClearOf (b c : Block) : Type 0 where
   pub addresses : (block_end b ≤ c.place) ⊎ (block_end c ≤ b.place)
   pub numbers : b.number < c.number
 
--- blocks lie on the device, do not overlap, and stand in the order of their births
-pub record AreBlocksApart (l : Limits) (w : Records) : Type 0 where
-  pub on_device : AllByRecursion (IsOnDevice l) w.blocks
-  pub apart : EachPair IsClearOf w.blocks
-  pub born : AllByRecursion (λ b. b.number ≤ w.births) w.blocks
+-- blocks lie on a device of this size, do not overlap, and stand in the order of their births
+pub record AreBlocksApart (device : ℕ) (blocks : List Block) (births : ℕ) : Type 0 where
+  pub on_device : AllByRecursion (IsOnDevice device) blocks
+  pub apart : EachPair IsClearOf blocks
+  pub born : AllByRecursion (λ b. b.number ≤ births) blocks
 
 -- ---- ranges and blocks
 
@@ -103,7 +103,7 @@ pub record AreMemoriesSized (l : Limits) (s : State) : Type 0 where
 -- the records alone, which a directive keeps from item to item
 pub record AreRecordsSound (l : Limits) (w : Records) : Type 0 where
   pub ranges_apart : AreRangesApart l w.ranges
-  pub blocks_apart : AreBlocksApart l w
+  pub blocks_apart : AreBlocksApart l.device w.blocks w.births
   pub one_block_each : HasOneBlockEach w
   pub counted : AllByRecursion (IsCounted l) w.ranges
 

@@ -4,6 +4,7 @@ pub mod Results
 pub mod Section
 pub mod Ranges
 pub mod Blocks
+pub mod Holes
 pub mod Register
 pub mod Records
 pub mod Clauses

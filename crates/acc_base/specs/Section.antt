@@ -3,9 +3,13 @@ use Rattle.std.specs.Prelude.{ℕ, ◌+◌, ◌<◌, ◌≤◌, Bool, ◌&&◌, 
 use Rattle.acc_base.specs.declared.items.Section.{Section}
 use Rattle.acc_base.specs.declared.addresses.TheConstants.{HOST_BASE, DEVICE_BASE}
 
+-- the address is one of the n from p on
+abbrev pub Spans : ℕ → ℕ → ℕ → Type 0
+Spans p n a = (p ≤ a) × (a < p + n)
+
 -- the address is one of the section's
 abbrev pub Covers : Section → ℕ → Type 0
-Covers s a = (s.start ≤ a) × (a < s.start + s.len)
+Covers s a = Spans s.start s.len a
 
 -- each address of the one is an address of the other
 abbrev pub IsWithin : Section → Section → Type 0

@@ -4,6 +4,7 @@ use Rattle.std.specs.Prelude.{◌==◌, map, IsSome, IsErrAnd, IfSome, IfNone}
 use Rattle.std.specs.List.{AllByRecursion}
 use Rattle.std.proofs.lemmas.Bool.Decides.{nat_tests}
 use Rattle.std.proofs.lemmas.List.{map-append, append-nil, length-replicate}
+use Rattle.acc_base.specs.declared.addresses.TheConstants.{MEMORY_MAX}
 use Rattle.acc_base.specs.declared.mappings.Block.{Block}
 use Rattle.acc_base.specs.declared.faults.Fault.{Fault}
 use Rattle.acc_base.specs.declared.faults.Fault.TheVariants.{Memory as NoMemory, DeviceFull}
@@ -19,7 +20,8 @@ use Rattle.acc_placement.specs.Space.{Space, IsCanonical, IsPartition}
 use Rattle.acc_placement.proofs.Partitions.{partition_last}
 use Rattle.acc_dev.specs.declared.entries.Stored.{Stored}
 use Rattle.acc_dev.specs.Device.{DeviceState, HasBlock, IsBorn, birth_place}
-use Rattle.acc_dev.specs.Kept.{block_from, memory_from, slot_of, blocks_in, memories_in, taken_range, IsKept, IsCounted}
+use Rattle.acc_base.specs.Holes.{taken_range}
+use Rattle.acc_dev.specs.Kept.{block_from, memory_from, slot_of, blocks_in, memories_in, IsKept, IsCounted}
 use Rattle.acc_dev.proofs.Slots.{AreSame, KeepsOthers, same_from, vacant_off, made-born}
 use Rattle.acc_dev.proofs.Placing.{some_bytes, planned_place, birth_at}
 use Rattle.acc_dev.proofs.Keeping.{device_of, shared}
@@ -37,9 +39,14 @@ pub memories-born : (s t : List (Option Stored)) (xs : List (ℕ × ℕ)) (numbe
     → memories_in t (xs ++ (number, k) ∷ []) ≡ memories_in s xs ++ record { block = number; bytes = x.bytes.items } ∷ []
 memories-born s t xs number k x filled vacant new others = made-born memory_from s t xs number k x (same_from s t k xs others (vacant_off s k xs filled vacant)) new
 
+-- a slot that is no entry's of a longer index
+off_parts : (xs : List (ℕ × ℕ)) (x : ℕ × ℕ) (j : ℕ) → AllByRecursion (λ e. e.1 ≡ j → ⊥) (xs ++ x ∷ []) → AllByRecursion (λ e. e.1 ≡ j → ⊥) xs × (x.1 ≡ j → ⊥)
+off_parts [] x j h = (tt, h.0)
+off_parts (y ∷ ys) x j h = let rest = off_parts ys x j h.1 in ((h.0, rest.0), rest.1)
+
 -- a device keeps what it keeps
 pub born_kept : (old new : Space) (s t : List (Option Stored)) (xs : List (ℕ × ℕ)) (number k : ℕ) (x : Stored) → IsKept old s xs → AllByRecursion (λ e. e.0 < number) xs → get_or s k None ≡ None → get_or t k None ≡ Some x → KeepsOthers s t k
-    → IsFromOne 67108864 (length x.bytes.items) → new.base ≡ old.base → IsCanonical new → ((ts : List (ℕ × ℕ)) → IsPartition old ts → IsPartition new ((x.place, rounded (length x.bytes.items)) ∷ ts)) → IsKept new t (xs ++ (number, k) ∷ [])
+    → IsFromOne MEMORY_MAX (length x.bytes.items) → new.base ≡ old.base → IsCanonical new → ((ts : List (ℕ × ℕ)) → IsPartition old ts → IsPartition new ((x.place, rounded (length x.bytes.items)) ∷ ts)) → IsKept new t (xs ++ (number, k) ∷ [])
 born_kept old new s t xs number k x kept above vacant is others len base canonical part =
     let off = vacant_off s k xs kept.filled vacant in
     let same : AreSame s t xs = same_from s t k xs others off in
@@ -53,7 +60,8 @@ born_kept old new s t xs number k x kept above vacant is others len base canonic
       filled = AllByRecursion-append (λ (e : ℕ × ℕ). IsSome (slot_of t e)) xs ((number, k) ∷ [])
           (AllByRecursion-both (λ (e : ℕ × ℕ). slot_of t e ≡ slot_of s e) (λ e. IsSome (slot_of s e)) (λ e. IsSome (slot_of t e)) xs (λ e q some. subst IsSome (sym q) some) same kept.filled)
           (subst IsSome (sym is) refl, tt);
-      lens = rw blocks (AllByRecursion-append (λ (b : Block). IsFromOne 67108864 b.len) (blocks_in s xs) (born_block number x ∷ []) kept.lens (len, tt));
+      others_empty = λ j off_all. let parts = off_parts xs (number, k) j off_all in others j (λ same. parts.1 (sym same)) ∙ kept.others_empty j parts.0;
+      lens = rw blocks (AllByRecursion-append (λ (b : Block). IsFromOne MEMORY_MAX b.len) (blocks_in s xs) (born_block number x ∷ []) kept.lens (len, tt));
       partition = rw (blocks, ranges) (partition_last new (map taken_range (blocks_in s xs)) (taken_range (born_block number x)) (part (map taken_range (blocks_in s xs)) kept.partition));
     }
 

@@ -1,7 +1,9 @@
 -- What the end of a block leaves.
-use Rattle.std.proofs.Common.{ℕ, zero, suc, ◌≡◌, ◌<◌, refl, sym, ap, ◌∙◌, subst, List, [], ◌∷◌, ◌++◌, length, get_or, Option, Some, arith}
+use Rattle.std.proofs.Common.{ℕ, zero, suc, ◌≡◌, ◌<◌, refl, sym, ap, ◌∙◌, subst, List, [], ◌∷◌, ◌++◌, length, get_or, Option, Some, None, arith, inl, inr}
 use Rattle.std.specs.Prelude.{◌==◌, not, map, IsSome}
-use Rattle.std.specs.List.{remove}
+use Rattle.std.specs.List.{AllByRecursion, remove}
+use Rattle.std.proofs.lemmas.Bool.{cases_eq}
+use Rattle.acc_base.specs.declared.addresses.TheConstants.{MEMORY_MAX}
 use Rattle.acc_base.specs.declared.mappings.Block.{Block}
 use Rattle.acc_base.specs.Limits.{IsFromOne}
 use Rattle.acc_base.specs.Blocks.{rounded, without_block}
@@ -13,7 +15,8 @@ use Rattle.acc_placement.specs.Space.{Space, IsCanonical, IsPartition, IsTaken}
 use Rattle.acc_placement.proofs.Partitions.{partition_without, taken_at}
 use Rattle.acc_dev.specs.declared.entries.Stored.{Stored}
 use Rattle.acc_dev.specs.Device.{IsRetired}
-use Rattle.acc_dev.specs.Kept.{block_from, memory_from, slot_of, blocks_in, memories_in, taken_range, AreRising, IsKept, IsEntry}
+use Rattle.acc_base.specs.Holes.{taken_range}
+use Rattle.acc_dev.specs.Kept.{block_from, memory_from, slot_of, blocks_in, memories_in, AreRising, IsKept, IsEntry}
 use Rattle.acc_dev.proofs.Rising.{start, all-remove, apart-remove, map-remove, filter-map, remove-filter}
 use Rattle.acc_dev.proofs.Slots.{AreSame, KeepsOthers, same_from, others_off, made-removed, in_step}
 use Rattle.acc_dev.proofs.Keeping.{device_of}
@@ -41,10 +44,24 @@ taken_stored h s xs i x k lt is =
 pub same_left : (s t : List (Option Stored)) (xs : List (ℕ × ℕ)) (i : ℕ) → EachPair (λ d e. d.1 ≡ e.1 → ⊥) xs → i < length xs → KeepsOthers s t (get_or xs i start).1 → AreSame s t (remove xs i)
 same_left s t xs i distinct lt others = same_from s t (get_or xs i start).1 (remove xs i) others (others_off xs i distinct lt)
 
+-- a slot that no entry but one has is no entry's, or that one's
+off_removed : (xs : List (ℕ × ℕ)) (i j : ℕ) → AllByRecursion (λ e. e.1 ≡ j → ⊥) (remove xs i) → (j ≡ (get_or xs i start).1 → ⊥) → AllByRecursion (λ e. e.1 ≡ j → ⊥) xs
+off_removed [] i j h differs = tt
+off_removed (x ∷ xs) zero j h differs = (λ same. differs (sym same), h)
+off_removed (x ∷ xs) (suc i) j h differs = (h.0, off_removed xs i j h.1 differs)
+
+-- each slot that no entry is left for is empty
+left_empty : (s t : List (Option Stored)) (xs : List (ℕ × ℕ)) (i j : ℕ) → ((k : ℕ) → AllByRecursion (λ e. e.1 ≡ k → ⊥) xs → get_or s k None ≡ None) → KeepsOthers s t (get_or xs i start).1 → get_or t (get_or xs i start).1 None ≡ None
+    → AllByRecursion (λ e. e.1 ≡ j → ⊥) (remove xs i) → get_or t j None ≡ None
+left_empty s t xs i j before others empty off = elim (cases_eq j (get_or xs i start).1) [
+  | inl same ↦ rw same empty
+  | inr differs ↦ others j differs ∙ before j (off_removed xs i j off differs)
+]
+
 -- without the entry and its slot the device keeps what it keeps
-pub left_kept : (old new : Space) (s t : List (Option Stored)) (xs : List (ℕ × ℕ)) (i : ℕ) (x : Stored) → IsKept old s xs → i < length xs → slot_of s (get_or xs i start) ≡ Some x → KeepsOthers s t (get_or xs i start).1
+pub left_kept : (old new : Space) (s t : List (Option Stored)) (xs : List (ℕ × ℕ)) (i : ℕ) (x : Stored) → IsKept old s xs → i < length xs → slot_of s (get_or xs i start) ≡ Some x → KeepsOthers s t (get_or xs i start).1 → get_or t (get_or xs i start).1 None ≡ None
     → new.base ≡ old.base → IsCanonical new → ((before after : List (ℕ × ℕ)) → IsPartition old (before ++ range_stored x ∷ after) → IsPartition new (before ++ after)) → IsKept new t (remove xs i)
-left_kept old new s t xs i x kept lt is others base canonical part =
+left_kept old new s t xs i x kept lt is others empty base canonical part =
     let same : AreSame s t (remove xs i) = same_left s t xs i kept.distinct lt others in
     let blocks : blocks_in t (remove xs i) ≡ remove (blocks_in s xs) i = made-removed block_from s t xs i same in
     record {
@@ -53,7 +70,8 @@ left_kept old new s t xs i x kept lt is others base canonical part =
       rising = apart-remove (λ (d : ℕ × ℕ) (e : ℕ × ℕ). d.0 < e.0) xs i kept.rising;
       distinct = apart-remove (λ (d : ℕ × ℕ) (e : ℕ × ℕ). d.1 ≡ e.1 → ⊥) xs i kept.distinct;
       filled = AllByRecursion-both (λ (e : ℕ × ℕ). slot_of t e ≡ slot_of s e) (λ e. IsSome (slot_of s e)) (λ e. IsSome (slot_of t e)) (remove xs i) (λ e q some. subst IsSome (sym q) some) same (all-remove (λ (e : ℕ × ℕ). IsSome (slot_of s e)) xs i kept.filled);
-      lens = rw blocks (all-remove (λ (b : Block). IsFromOne 67108864 b.len) (blocks_in s xs) i kept.lens);
+      others_empty = λ j off. left_empty s t xs i j kept.others_empty others empty off;
+      lens = rw blocks (all-remove (λ (b : Block). IsFromOne MEMORY_MAX b.len) (blocks_in s xs) i kept.lens);
       partition = rw (blocks, map-remove taken_range (blocks_in s xs) i) (partition_without old new (map taken_range (blocks_in s xs)) i (range_stored x) _ (range_at s xs i x (range_stored x) lt is) refl (omega (arith, length_ranges s xs)) kept.partition part);
     }
 

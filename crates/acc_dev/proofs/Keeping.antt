@@ -1,16 +1,20 @@
 -- What a device keeps, and what a look-up in it finds.
-use Rattle.std.proofs.Common.{ℕ, ◌≡◌, ◌<◌, ◌≤◌, refl, sym, ap, ◌∙◌, subst, List, [], ◌∷◌, length, get_or, Option, Some, None, Bor, arith, ◌↔◌}
+use Rattle.std.proofs.Common.{ℕ, ◌≡◌, ◌+◌, ◌<◌, ◌≤◌, refl, sym, ap, ◌∙◌, subst, List, [], ◌∷◌, ◌++◌, length, get_or, Option, Some, None, Bor, arith, ◌↔◌}
 use Rattle.std.specs.Prelude.{map, IsSome, IsSomeAnd, IfSome, IfNone, IsTrue, is_some, option_copied}
 use Rattle.std.specs.List.{AllByRecursion}
 use Rattle.std.proofs.lemmas.Bool.{false≢true}
 use Rattle.std.proofs.lemmas.List.{get_or_default}
+use Rattle.acc_base.specs.declared.addresses.TheConstants.{MEMORY_MAX}
 use Rattle.acc_base.specs.declared.mappings.Block.{Block}
 use Rattle.acc_base.specs.Limits.{IsFromOne}
+use Rattle.acc_base.specs.Section.{Spans}
+use Rattle.acc_base.specs.Holes.{IsIn, IsRising, taken_range, IsDevice}
 use Rattle.acc_base.specs.Blocks.{block_at, used_bytes}
 use Rattle.acc_base.specs.Bytes.{bytes_of}
 use Rattle.acc_base.specs.Accounts.{EachPair}
 use Rattle.acc_base.proofs.Elements.{AllByRecursion-map}
 use Rattle.acc_placement.specs.Space.{Space}
+use Rattle.acc_placement.proofs.Partitions.{all_disjoint, all_whole}
 use Rattle.acc_dev.specs.declared.entries.Stored.{Stored}
 use Rattle.acc_dev.specs.Device.{DeviceState, HasBlocksApart}
 use Rattle.acc_dev.specs.Kept.{stored_bytes, block_from, slot_of, blocks_in, memories_in, AreRising, IsKept, IsCounted, IsEntry}
@@ -35,11 +39,24 @@ shared h s xs k = record { base = k.base; canonical = k.canonical; partition = k
 
 -- blocks lie on the device and apart
 pub apart_of : (h : Space) (s : List (Option Stored)) (xs : List (ℕ × ℕ)) (births : ℕ) → IsKept h s xs → IsCounted xs births → HasBlocksApart (device_of h s xs births)
-apart_of h s xs births k c = λ l ranges size. record {
-  on_device = on_device l h (blocks_in s xs) size k.base k.lens k.partition.within k.partition.aligned;
+apart_of h s xs births k c = record {
+  on_device = on_device h (blocks_in s xs) k.base k.lens k.partition.within k.partition.aligned;
   apart = clear_of (blocks_in s xs) (some_bytes (blocks_in s xs) k.lens) (rising_blocks s xs k.rising) k.partition.disjoint;
   born = AllByRecursion-map (λ (b : Block). b.number ≤ births) (λ (e : ℕ × ℕ). block_from e.0 (slot_of s e)) xs c.below;
 }
+
+-- with the holes they are the device
+pub divided : (h : Space) (s : List (Option Stored)) (xs : List (ℕ × ℕ)) → IsKept h s xs → IsDevice h.size (blocks_in s xs)
+divided h s xs k =
+    let ts : List (ℕ × ℕ) = map taken_range (blocks_in s xs) in (
+      h.holes,
+      record {
+        rising = subst (λ (b : ℕ). IsRising b h.holes (b + h.size)) k.base k.canonical.rising;
+        disjoint = all_disjoint h ts k.canonical k.partition;
+        whole = λ a. subst (λ (b : ℕ). IsIn (ts ++ h.holes) a ↔ Spans b h.size a) k.base (all_whole h ts k.canonical k.partition a);
+        bytes = omega (arith, total-used (blocks_in s xs), k.partition.sizes);
+      },
+    )
 
 -- and take no more bytes than it has
 pub used_within : (h : Space) (s : List (Option Stored)) (xs : List (ℕ × ℕ)) → IsKept h s xs → used_bytes (blocks_in s xs) ≤ h.size
@@ -68,15 +85,15 @@ all-unmap P f (x ∷ xs) h = (h.0, all-unmap P f xs h.1)
 pub record TellsStored (s : List (Option Stored)) (xs : List (ℕ × ℕ)) (n : ℕ) (x : Stored) : Type 0 where
   pub block : block_at n (blocks_in s xs) ≡ Some (record { number = n; place = x.place; len = length x.bytes.items })
   pub bytes : x.bytes.items ≡ bytes_of n (memories_in s xs)
-  pub len : IsFromOne 67108864 (length x.bytes.items)
+  pub len : IsFromOne MEMORY_MAX (length x.bytes.items)
 
 -- each block has a byte at least, and not too many
-pub len_at : (h : Space) (s : List (Option Stored)) (xs : List (ℕ × ℕ)) (i : ℕ) → IsKept h s xs → i < length xs → IsFromOne 67108864 (length (stored_bytes (slot_of s (get_or xs i start))))
-len_at h s xs i k lt = all_at (λ (e : ℕ × ℕ). IsFromOne 67108864 (length (stored_bytes (slot_of s e)))) xs i start lt (all-unmap (λ (b : Block). IsFromOne 67108864 b.len) (λ (e : ℕ × ℕ). block_from e.0 (slot_of s e)) xs k.lens)
+pub len_at : (h : Space) (s : List (Option Stored)) (xs : List (ℕ × ℕ)) (i : ℕ) → IsKept h s xs → i < length xs → IsFromOne MEMORY_MAX (length (stored_bytes (slot_of s (get_or xs i start))))
+len_at h s xs i k lt = all_at (λ (e : ℕ × ℕ). IsFromOne MEMORY_MAX (length (stored_bytes (slot_of s e)))) xs i start lt (all-unmap (λ (b : Block). IsFromOne MEMORY_MAX b.len) (λ (e : ℕ × ℕ). block_from e.0 (slot_of s e)) xs k.lens)
 
 -- the same of what its slot has
-pub len_stored : (h : Space) (s : List (Option Stored)) (xs : List (ℕ × ℕ)) (i : ℕ) (x : Stored) → IsKept h s xs → i < length xs → slot_of s (get_or xs i start) ≡ Some x → IsFromOne 67108864 (length x.bytes.items)
-len_stored h s xs i x k lt is = subst (λ (o : Option Stored). IsFromOne 67108864 (length (stored_bytes o))) is (len_at h s xs i k lt)
+pub len_stored : (h : Space) (s : List (Option Stored)) (xs : List (ℕ × ℕ)) (i : ℕ) (x : Stored) → IsKept h s xs → i < length xs → slot_of s (get_or xs i start) ≡ Some x → IsFromOne MEMORY_MAX (length x.bytes.items)
+len_stored h s xs i x k lt is = subst (λ (o : Option Stored). IsFromOne MEMORY_MAX (length (stored_bytes o))) is (len_at h s xs i k lt)
 
 -- what the slot of an entry has is the block
 pub stored_at : (h : Space) (s : List (Option Stored)) (xs : List (ℕ × ℕ)) (i n : ℕ) (x : Stored) → IsKept h s xs → IsEntry xs n i → slot_of s (get_or xs i start) ≡ Some x → TellsStored s xs n x
@@ -84,12 +101,16 @@ stored_at h s xs i n x k entry is =
     record {
       block = rw (block_at-entry s xs i n k.rising entry, is, entry.number);
       bytes = sym (bytes_of-entry s xs i n k.rising entry ∙ ap stored_bytes is);
-      len = subst (λ (o : Option Stored). IsFromOne 67108864 (length (stored_bytes o))) is (len_at h s xs i k entry.in_bounds);
+      len = subst (λ (o : Option Stored). IsFromOne MEMORY_MAX (length (stored_bytes o))) is (len_at h s xs i k entry.in_bounds);
     }
 
 -- the slot of an entry is not empty
 pub filled_at : (h : Space) (s : List (Option Stored)) (xs : List (ℕ × ℕ)) (i : ℕ) → IsKept h s xs → i < length xs → IsSome (slot_of s (get_or xs i start))
 filled_at h s xs i k lt = all_at (λ (e : ℕ × ℕ). IsSome (slot_of s e)) xs i start lt k.filled
+
+-- the slot of an entry that was read is not empty
+pub filled_read : (h : Space) (s : List (Option Stored)) (xs : List (ℕ × ℕ)) (i : ℕ) (e : ℕ × ℕ) → IsKept h s xs → e ≡ get_or xs i e → i < length xs → IsSome (get_or s e.1 None)
+filled_read h s xs i e k read lt = subst (λ (d : ℕ × ℕ). IsSome (slot_of s d)) (entry_read xs i e read lt) (filled_at h s xs i k lt)
 
 -- the same of a reference into the slab
 pub told_stored : (h : Space) (s : List (Option Stored)) (xs : List (ℕ × ℕ)) (i n : ℕ) (r : Option (Bor Stored)) → IsKept h s xs → IsEntry xs n i → option_copied r ≡ slot_of s (get_or xs i start) → IsSomeAnd r (λ x. TellsStored s xs n x.now)
@@ -104,7 +125,7 @@ some_weaker P Q (Some x) f h = (f x h, f x h)
 pub record TellsReference (d : DeviceState) (n : ℕ) (r : Option (Bor Stored)) : Type 0 where
   pub block : IsSomeAnd r (λ x. block_at n d.blocks ≡ Some (record { number = n; place = x.now.place; len = length x.now.bytes.items }))
   pub bytes : IfSome r (λ x. x.now.bytes.items ≡ bytes_of n d.memories)
-  pub len : IfSome r (λ x. IsFromOne 67108864 (length x.now.bytes.items))
+  pub len : IfSome r (λ x. IsFromOne MEMORY_MAX (length x.now.bytes.items))
 
 -- what such a reference tells
 pub told_reference : (h : Space) (s : List (Option Stored)) (xs : List (ℕ × ℕ)) (births i n : ℕ) (e : ℕ × ℕ) (r : Option (Bor Stored)) → IsKept h s xs → IsEntry xs n i → e ≡ get_or xs i e → option_copied r ≡ get_or s e.1 None
@@ -116,5 +137,5 @@ told_reference h s xs births i n e r k entry read is =
     record {
       block = (some_weaker T (λ (x : Bor Stored). block_at n (blocks_in s xs) ≡ Some (record { number = n; place = x.now.place; len = length x.now.bytes.items })) r (λ x t. t.block) told).0;
       bytes = (some_weaker T (λ (x : Bor Stored). x.now.bytes.items ≡ bytes_of n (memories_in s xs)) r (λ x t. t.bytes) told).1;
-      len = (some_weaker T (λ (x : Bor Stored). IsFromOne 67108864 (length x.now.bytes.items)) r (λ x t. t.len) told).1;
+      len = (some_weaker T (λ (x : Bor Stored). IsFromOne MEMORY_MAX (length x.now.bytes.items)) r (λ x t. t.len) told).1;
     }

@@ -5,18 +5,19 @@ use Rattle.std.specs.List.{AllByRecursion}
 use Rattle.std.proofs.lemmas.Bool.{cases_lt}
 use Rattle.std.proofs.lemmas.List.{map-append}
 use Rattle.std.proofs.lemmas.List.Sums.{sum_by-cons}
+use Rattle.acc_base.specs.declared.addresses.TheConstants.{MEMORY_MAX}
 use Rattle.acc_base.specs.declared.mappings.Block.{Block}
-use Rattle.acc_base.specs.Limits.{Limits, IsFromOne}
-use Rattle.acc_base.specs.Section.{device_base}
+use Rattle.acc_base.specs.Limits.{IsFromOne}
+use Rattle.acc_base.specs.Section.{device_base, Spans}
 use Rattle.acc_base.specs.Blocks.{rounded, size_of, block_end, used_bytes, IsFree, Fits, IsPlaceFor, place_for}
 use Rattle.acc_base.specs.Accounts.{EachPair, IsOnDevice, IsClearOf}
 use Rattle.acc_base.proofs.Elements.{AllByRecursion-weaker, AllByRecursion-append}
 use Rattle.acc_base.proofs.Places.{place_for-least}
-use Rattle.acc_placement.specs.Ranges.{Spans, IsIn, IsLeastFit, IsFitBeside, IsLeastFitBeside, IsTakeBelow, IsDisjoint, IsAligned, all_rounded, total}
+use Rattle.acc_base.specs.Holes.{IsIn, IsDisjoint, total, taken_range}
+use Rattle.acc_placement.specs.Ranges.{IsLeastFit, IsFitBeside, IsLeastFitBeside, IsTakeBelow, IsAligned, all_rounded}
 use Rattle.acc_placement.specs.Space.{Space, IsCanonical, IsPartition}
 use Rattle.acc_placement.proofs.Rising.{in_bounds}
 use Rattle.acc_dev.specs.Device.{planned_blocks}
-use Rattle.acc_dev.specs.Kept.{taken_range}
 
 -- ---- addresses in blocks
 
@@ -45,8 +46,8 @@ planned_some n top [] h = tt
 planned_some n top (t ∷ ts) h = let k : IsTakeBelow top t = h 0 t (omega arith) in (omega (arith, k.0.0), planned_some (suc n) top ts (λ k d lt. h (suc k) d (omega arith)))
 
 -- the blocks take some bytes each
-pub some_bytes : (bs : List Block) → AllByRecursion (λ b. IsFromOne 67108864 b.len) bs → AllByRecursion (λ b. 0 < size_of b) bs
-some_bytes bs h = AllByRecursion-weaker (λ b. IsFromOne 67108864 b.len) (λ b. 0 < size_of b) bs (λ b k. omega (arith, k.0)) h
+pub some_bytes : (bs : List Block) → AllByRecursion (λ b. IsFromOne MEMORY_MAX b.len) bs → AllByRecursion (λ b. 0 < size_of b) bs
+some_bytes bs h = AllByRecursion-weaker (λ b. IsFromOne MEMORY_MAX b.len) (λ b. 0 < size_of b) bs (λ b k. omega (arith, k.0)) h
 
 -- ---- what fits in the holes and beside other ranges, and what fits on the device and in no block
 
@@ -97,7 +98,7 @@ beside_none s bs cs n pos some k none =
     no_place s.size n (bs ++ cs) _ (place_for-least s.size (bs ++ cs) n pos some) (λ q fits. none q (fit_from s bs cs n q k fits))
 
 -- where a birth would be placed after planned ones
-pub planned_place : (s : Space) (bs : List Block) (number top : ℕ) (ts : List (ℕ × ℕ)) (n : ℕ) (o : Option ℕ) → 0 < n → All (IsTakeBelow top) ts → AllByRecursion (λ b. IsFromOne 67108864 b.len) bs → IsShared s bs
+pub planned_place : (s : Space) (bs : List Block) (number top : ℕ) (ts : List (ℕ × ℕ)) (n : ℕ) (o : Option ℕ) → 0 < n → All (IsTakeBelow top) ts → AllByRecursion (λ b. IsFromOne MEMORY_MAX b.len) bs → IsShared s bs
     → IfSome o (IsLeastFitBeside s.holes (all_rounded ts) n) → IfNone o ((q : ℕ) → IsFitBeside s.holes (all_rounded ts) n q → ⊥) → o ≡ place_for s.size (bs ++ planned_blocks number ts) n
 planned_place s bs number top ts n None pos listed lens k place none =
     sym (beside_none s bs (planned_blocks number ts) n pos (AllByRecursion-append (λ b. 0 < size_of b) bs (planned_blocks number ts) (some_bytes bs lens) (planned_some number top ts listed)) k (rw (planned_ranges number ts) none))
@@ -105,7 +106,7 @@ planned_place s bs number top ts n (Some p) pos listed lens k place none =
     sym (beside_place s bs (planned_blocks number ts) n p pos (AllByRecursion-append (λ b. 0 < size_of b) bs (planned_blocks number ts) (some_bytes bs lens) (planned_some number top ts listed)) k (rw (planned_ranges number ts) place))
 
 -- the place of a birth
-pub birth_at : (s : Space) (bs : List Block) (n p : ℕ) → 0 < n → AllByRecursion (λ b. IsFromOne 67108864 b.len) bs → IsShared s bs → IsLeastFit s.holes n p → place_for s.size bs n ≡ Some p
+pub birth_at : (s : Space) (bs : List Block) (n p : ℕ) → 0 < n → AllByRecursion (λ b. IsFromOne MEMORY_MAX b.len) bs → IsShared s bs → IsLeastFit s.holes n p → place_for s.size bs n ≡ Some p
 birth_at s bs n p pos lens k least =
     let same : bs ++ [] ≡ bs = Rattle.std.proofs.lemmas.List.append-nil bs in
     subst (λ (xs : List Block). place_for s.size xs n ≡ Some p) same (beside_place s bs [] n p pos (AllByRecursion-append (λ b. 0 < size_of b) bs [] (some_bytes bs lens) tt) k (λ a w. (least.0 a w, λ i. i), λ q fit. least.1 q (λ a w. (fit a w).0)))
@@ -134,12 +135,12 @@ clear_of [] some rise off = tt
 clear_of (b ∷ bs) some rise off = (beside_from b bs some.0 some.1 rise.0 off.0, clear_of bs some.1 rise.1 off.1)
 
 -- each block lies on the device
-pub on_device : (l : Limits) (s : Space) (bs : List Block) → l.device ≡ s.size → s.base ≡ device_base → AllByRecursion (λ b. IsFromOne 67108864 b.len) bs → ((a : ℕ) → IsIn (map taken_range bs) a → Spans s.base s.size a) → All IsAligned (map taken_range bs) → AllByRecursion (IsOnDevice l) bs
-on_device l s [] size base lens within aligned = tt
-on_device l s (b ∷ bs) size base lens within aligned =
+pub on_device : (s : Space) (bs : List Block) → s.base ≡ device_base → AllByRecursion (λ b. IsFromOne MEMORY_MAX b.len) bs → ((a : ℕ) → IsIn (map taken_range bs) a → Spans s.base s.size a) → All IsAligned (map taken_range bs) → AllByRecursion (IsOnDevice s.size) bs
+on_device s [] base lens within aligned = tt
+on_device s (b ∷ bs) base lens within aligned =
     let one : 1 ≤ b.len = lens.0.0 in
     let first : (s.base ≤ b.place) × (b.place < s.base + s.size) = within b.place (inl (omega arith, omega arith)) in
     let last : (s.base ≤ block_end b - 1) × (block_end b - 1 < s.base + s.size) = within (block_end b - 1) (inl (omega arith, omega arith)) in (
       record { some = omega arith; first = omega arith; last = omega arith; aligned = (aligned 0 (taken_range b) (omega arith)).0 },
-      on_device l s bs size base lens.1 (λ a i. within a (inr i)) (λ k d lt. aligned (suc k) d (omega arith)),
+      on_device s bs base lens.1 (λ a i. within a (inr i)) (λ k d lt. aligned (suc k) d (omega arith)),
     )

@@ -1,6 +1,7 @@
 -- What a write leaves.
 use Rattle.std.proofs.Common.{ℕ, ◌≡◌, ◌+◌, ◌≤◌, refl, sym, ap, ◌∙◌, subst, List, length, get_or, Option, None, arith, length-append, length-drop}
 use Rattle.std.specs.Prelude.{IsSome}
+use Rattle.std.proofs.lemmas.Bool.{false≢true}
 use Rattle.std.proofs.lemmas.List.{length-take}
 use Rattle.acc_base.specs.Bytes.{bytes_of}
 use Rattle.acc_placement.specs.Space.{Space}
@@ -10,9 +11,13 @@ use Rattle.acc_dev.specs.Kept.{stored_place, stored_bytes, slot_of, blocks_in, m
 use Rattle.acc_dev.proofs.Slots.{KeepsOthers, bytes_of-entry, IsRewritten, all_filled, blocks_in-rewritten, memories_in-rewritten}
 use Rattle.acc_dev.proofs.Keeping.{device_of, entry_read}
 
+-- a slot that has something is not empty
+some_not_none : {o : Option Stored} → IsSome o → o ≡ None → ⊥
+some_not_none some none = false≢true (subst IsSome none some)
+
 -- a device keeps what it keeps where the bytes of a slot change
-pub written_kept : (h : Space) (s t : List (Option Stored)) (xs : List (ℕ × ℕ)) (k offset : ℕ) (bytes : List ℕ) → IsKept h s xs → IsRewritten s t k offset bytes → IsKept h t xs
-written_kept h s t xs k offset bytes kept w =
+pub written_kept : (h : Space) (s t : List (Option Stored)) (xs : List (ℕ × ℕ)) (k offset : ℕ) (bytes : List ℕ) → IsKept h s xs → IsSome (get_or s k None) → IsRewritten s t k offset bytes → IsKept h t xs
+written_kept h s t xs k offset bytes kept some w =
     let blocks : blocks_in t xs ≡ blocks_in s xs = blocks_in-rewritten s t k offset bytes xs w in
     record {
       base = kept.base;
@@ -20,6 +25,7 @@ written_kept h s t xs k offset bytes kept w =
       rising = kept.rising;
       distinct = kept.distinct;
       filled = all_filled s t k offset bytes xs w kept.filled;
+      others_empty = λ j off. w.others j (λ same. some_not_none some (subst (λ (i : ℕ). get_or s i None ≡ None) same (kept.others_empty j off))) ∙ kept.others_empty j off;
       lens = rw blocks kept.lens;
       partition = rw blocks kept.partition;
     }

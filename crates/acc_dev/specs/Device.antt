@@ -1,8 +1,6 @@
 -- What a device holds, and what its calls make of it.
 use Rattle.std.specs.Prelude.{ℕ, suc, ◌≡◌, ◌+◌, Bool, List, [], ◌∷◌, ◌++◌, length, replicate, map, take, drop, Option, Some, IsSome}
-use Rattle.acc_base.specs.declared.mappings.Range.{Range}
 use Rattle.acc_base.specs.declared.mappings.Block.{Block}
-use Rattle.acc_base.specs.Limits.{Limits}
 use Rattle.acc_base.specs.Records.{Memory}
 use Rattle.acc_base.specs.Blocks.{rounded, place_for, block_at, without_block}
 use Rattle.acc_base.specs.Bytes.{fill_byte, memory_changed, memories_kept}
@@ -76,6 +74,6 @@ pub record IsRetired (old new : DeviceState) (block : ℕ) : Type 0 where
 
 -- ---- what holds of every device
 
--- its blocks lie on it and apart, in the order of their births, whatever the other limits and the mapped ranges are
+-- its blocks lie on it and apart, in the order of their births
 abbrev pub HasBlocksApart : DeviceState → Type 0
-HasBlocksApart d = (l : Limits) (ranges : List Range) → l.device ≡ d.size → AreBlocksApart l (record { ranges = ranges; blocks = d.blocks; births = d.births })
+HasBlocksApart d = AreBlocksApart d.size d.blocks d.births

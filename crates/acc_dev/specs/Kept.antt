@@ -1,11 +1,12 @@
 -- How a device keeps its blocks: each in a slot of a slab, and an index of their numbers and slots. No public clause cites this module.
 use Rattle.std.specs.Prelude.{ℕ, ◌≡◌, ◌^◌, ◌<◌, ◌≤◌, List, [], map, length, Option, Some, None, IsSome, slice_index_or}
 use Rattle.std.specs.List.{AllByRecursion}
+use Rattle.acc_base.specs.declared.addresses.TheConstants.{MEMORY_MAX}
 use Rattle.acc_base.specs.declared.mappings.Block.{Block}
 use Rattle.acc_base.specs.Limits.{IsFromOne}
 use Rattle.acc_base.specs.Section.{device_base}
 use Rattle.acc_base.specs.Records.{Memory}
-use Rattle.acc_base.specs.Blocks.{size_of}
+use Rattle.acc_base.specs.Holes.{taken_range}
 use Rattle.acc_base.specs.Accounts.{EachPair}
 use Rattle.acc_placement.specs.Space.{Space, IsCanonical, IsPartition}
 use Rattle.acc_dev.specs.declared.entries.Stored.{Stored}
@@ -37,22 +38,19 @@ blocks_in slots index = map (λ e. block_from e.0 (slot_of slots e)) index
 abbrev pub memories_in : List (Option Stored) → List (ℕ × ℕ) → List Memory
 memories_in slots index = map (λ e. memory_from e.0 (slot_of slots e)) index
 
--- the addresses that a block takes, as the placement has them
-abbrev pub taken_range : Block → ℕ × ℕ
-taken_range b = (b.place, size_of b)
-
 -- the numbers of an index rise
 abbrev pub AreRising : List (ℕ × ℕ) → Type 0
 AreRising index = EachPair (λ d e. d.0 < e.0) index
 
--- each block has a slot of its own, and the blocks are what is taken of the device
+-- each block has a slot of its own, every other slot is empty, and the blocks are what is taken of the device
 pub record IsKept (holes : Space) (slots : List (Option Stored)) (index : List (ℕ × ℕ)) : Type 0 where
   pub base : holes.base ≡ device_base
   pub canonical : IsCanonical holes
   pub rising : AreRising index
   pub distinct : EachPair (λ d e. d.1 ≡ e.1 → ⊥) index
   pub filled : AllByRecursion (λ e. IsSome (slot_of slots e)) index
-  pub lens : AllByRecursion (λ b. IsFromOne 67108864 b.len) (blocks_in slots index)
+  pub others_empty : (slot : ℕ) → AllByRecursion (λ e. e.1 ≡ slot → ⊥) index → slice_index_or slots slot None ≡ None
+  pub lens : AllByRecursion (λ b. IsFromOne MEMORY_MAX b.len) (blocks_in slots index)
   pub partition : IsPartition holes (map taken_range (blocks_in slots index))
 
 -- no number is above the births, of which there are not too many

@@ -5,20 +5,18 @@ ghost use Rattle.std.specs.List.{AllZip, AllByRecursion};
 ghost use Rattle.acc_base.specs.Limits.{IsSize, IsFromOne};
 ghost use Rattle.acc_base.specs.Section.{device_base};
 ghost use Rattle.acc_base.specs.Blocks.{rounded as rounded_of, place_for, block_at, size_of, used_bytes, IsPlaceFor};
+ghost use Rattle.acc_base.specs.Holes.{IsDevice};
 ghost use Rattle.acc_base.specs.Bytes.{bytes_of, fill_byte};
 ghost use Rattle.acc_base.specs.Accounts.{IsMemoryOf};
 ghost use Rattle.acc_placement.specs.Ranges.{IsTakeBelow};
 ghost use Rattle.acc_dev.specs.Device.{HasBlock, IsNew, IsUnchanged, IsBorn, IsWritten, IsRetired, HasBlocksApart, birth_place, planned_blocks};
 
 use crate::entries::{Stored, make_room, position_of, put, take_out, write_at};
-use acc_base::Fault;
+use acc_base::{DEVICE_BASE, Fault, MEMORY_MAX};
 use acc_placement::{Holes, rounded};
 use slab::Slab;
 use std::alloc::Global;
 use std::marker::Model;
-
-/// The first address of device memory.
-pub const DEVICE_BASE: u64 = 0x1_0000_0000;
 
 /// The byte of a new block that is not set to zero.
 const FILL_BYTE: u8 = 0xa5;
@@ -90,7 +88,7 @@ impl Device {
     /// [`Fault::DeviceFull`] with item 0 and the rounded length, exactly where it fits nowhere; else only
     /// [`Fault::Memory`]. The device is then as before, but for its spare room.
     pub fn born(&mut self, len: u64, zero: bool) -> Result<u64, Fault>
-        requires len { IsFromOne 67108864 len }
+        requires len { IsFromOne MEMORY_MAX len }
         requires births { self.old.births < 2 ^ 48 }
         ensures born { IfOk result (IsBorn self.old self.new len zero) }
         ensures there { IfOk result (HasBlock self.new) }
@@ -130,7 +128,7 @@ impl Device {
     ///
     /// Each listed length is from 1 to 67,108,864, and each listed block ends on the device.
     pub fn would_take(&self, listed: &[(u64, u64)], len: u64) -> Option<u64>
-        requires len { IsFromOne 67108864 len }
+        requires len { IsFromOne MEMORY_MAX len }
         requires listed { All (IsTakeBelow (device_base + self.now.size)) listed.now }
         ensures { result ≡ place_for self.now.size (self.now.blocks ++ planned_blocks (self.now.births + 1) listed.now) (rounded_of len) }
     {
@@ -206,13 +204,15 @@ impl Device {
     }
 
     /// What holds of every device: its blocks lie on it and apart, by rising number; each has a memory of its length,
-    /// from 1 to 67,108,864 bytes; and they take no more bytes than there are. Nothing is done.
+    /// from 1 to 67,108,864 bytes; they take no more bytes than there are; and with the holes
+    /// between them they are the device, with no address in two of them. Nothing is done.
     pub fn laws(&self)
         ensures size { IsSize self.now.size }
         ensures blocks_apart { HasBlocksApart self.now }
         ensures memories { AllZip IsMemoryOf self.now.memories self.now.blocks }
-        ensures lens { AllByRecursion (λ b. IsFromOne 67108864 b.len) self.now.blocks }
+        ensures lens { AllByRecursion (λ b. IsFromOne MEMORY_MAX b.len) self.now.blocks }
         ensures bytes_accounted { used_bytes self.now.blocks ≤ self.now.size }
+        ensures holes { IsDevice self.now.size self.now.blocks }
         ensures births { self.now.births ≤ 2 ^ 48 }
     {
         let _ = &self.births;
@@ -223,7 +223,7 @@ impl Device {
         requires { HasBlock self.now block }
         ensures block { IsSomeAnd result (λ stored. block_at block self.now.blocks ≡ Some (record { number = block; place = stored.now.place; len = length stored.now.bytes.items })) }
         ensures bytes { IfSome result (λ stored. stored.now.bytes.items ≡ bytes_of block self.now.memories) }
-        ensures len { IfSome result (λ stored. IsFromOne 67108864 (length stored.now.bytes.items)) }
+        ensures len { IfSome result (λ stored. IsFromOne MEMORY_MAX (length stored.now.bytes.items)) }
     {
         let at = position_of(&self.index, block)?;
         self.slab.get(self.index[at].1)

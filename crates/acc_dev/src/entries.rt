@@ -10,7 +10,7 @@ ghost use Rattle.acc_placement.specs.Space.{IsUnchanged};
 ghost use Rattle.acc_dev.specs.Device.{overwritten};
 ghost use Rattle.acc_dev.specs.Kept.{stored_place, stored_bytes, blocks_in, memories_in, AreRising, IsEntry, IsKept};
 
-use acc_base::Fault;
+use acc_base::{Fault, MEMORY_MAX};
 use acc_placement::Holes;
 use slab::Slab;
 
@@ -63,7 +63,7 @@ pub fn put(
 ) -> u64
     requires kept { IsKept holes.old slab.old.slots index.old.items }
     requires above { AllByRecursion (λ e. e.0 < number) index.old.items }
-    requires len { IsFromOne 67108864 (length bytes.items) }
+    requires len { IsFromOne MEMORY_MAX (length bytes.items) }
     requires room_taken { 1 ≤ holes.old.spare }
     requires room_slot { HasRoomFor slab.old 1 }
     requires room_entry { vec_len index.old < vec_capacity index.old }

@@ -6,4 +6,5 @@ mod entries;
 #[cfg(test)]
 mod tests;
 
-pub use devices::{DEVICE_BASE, Device};
+pub use acc_base::DEVICE_BASE;
+pub use devices::Device;

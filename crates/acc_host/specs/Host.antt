@@ -1,4 +1,4 @@
--- Host memory: bytes at the addresses from 0x1000 on. Addresses are whole numbers without an upper bound.
+-- Host memory: bytes at the addresses from HOST_BASE on. Addresses are whole numbers without an upper bound.
 use Rattle.std.specs.Prelude.{ℕ, ◌≡◌, ◌+◌, ◌-◌, ◌<◌, ◌≤◌, List, ◌++◌, length, take, drop, slice_index}
 use Rattle.acc_base.specs.declared.items.Section.{Section}
 use Rattle.acc_base.specs.Section.{Covers, host_base}

@@ -1,8 +1,9 @@
-//! Host memory: the bytes at the host addresses from 0x1000 on.
+//! Host memory: the bytes at the host addresses from [`HOST_BASE`] on.
 #![tactic(auto)]
 
 mod memories;
 #[cfg(test)]
 mod tests;
 
-pub use memories::{HOST_BASE, HostMem};
+pub use acc_base::HOST_BASE;
+pub use memories::HostMem;

@@ -5,12 +5,9 @@ ghost use Rattle.std.specs.Int.{w64, from_le_bytes};
 ghost use Rattle.acc_base.specs.Limits.{IsSize};
 ghost use Rattle.acc_host.specs.Host.{IsInHost, IsOutOfHost, IsRead, IsWritten, bytes_in, with_bytes};
 
-use acc_base::{Fault, Section};
+use acc_base::{Fault, HOST_BASE, Section};
 use std::alloc::Global;
 use std::marker::Model;
-
-/// The first address of host memory.
-pub const HOST_BASE: u64 = 0x1000;
 
 /// Host memory: a byte at each host address from [`HOST_BASE`] on (OpenACC 3.3, section 2.6, data environment).
 ///

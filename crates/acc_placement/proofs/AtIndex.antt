@@ -5,7 +5,8 @@ use Rattle.std.proofs.Math.Seq.{drop-cons, take-suc}
 use Rattle.std.specs.Prelude.{All}
 use Rattle.std.specs.List.{remove}
 use Rattle.std.proofs.Math.ListN.{set}
-use Rattle.acc_placement.specs.Ranges.{IsIn, IsFit, IsLeastFit, IsRising}
+use Rattle.acc_base.specs.Holes.{IsIn, IsRising}
+use Rattle.acc_placement.specs.Ranges.{IsFit, IsLeastFit}
 use Rattle.acc_placement.specs.Changes.{IsCut, FitsFirst}
 use Rattle.acc_placement.proofs.Rising.{fit_later, rising_back, none_fits, in_join_right, in_bounds}
 use Rattle.acc_placement.proofs.Cutting.{cut_whole, cut_front}

@@ -1,6 +1,7 @@
 -- There is at most one hole more than taken ranges.
 use Rattle.std.proofs.Common.{◌≡◌, ℕ, suc, ◌+◌, ◌≤◌, ◌⊎◌, List, [], ◌∷◌, inl, inr, arith, refl, length}
-use Rattle.acc_placement.specs.Ranges.{Spans, IsIn, IsRising}
+use Rattle.acc_base.specs.Holes.{IsIn, IsRising}
+use Rattle.acc_base.specs.Section.{Spans}
 
 -- the address after each hole but the last is in one of the ranges ts
 abbrev pub IsEdged : List (ℕ × ℕ) → List (ℕ × ℕ) → Type 0

@@ -1,7 +1,7 @@
 -- Taking the front of a hole, and giving a range back.
 use Rattle.std.proofs.Common.{◌≡◌, ℕ, ◌+◌, ◌-◌, ◌<◌, ◌≤◌, List, [], ◌∷◌, ◌++◌, inl, inr, arith}
 use Rattle.std.proofs.lemmas.Bool.{cases_lt}
-use Rattle.acc_placement.specs.Ranges.{IsRising}
+use Rattle.acc_base.specs.Holes.{IsRising}
 use Rattle.acc_placement.specs.Changes.{IsCut, IsFilled}
 use Rattle.acc_placement.proofs.Rising.{after, in_bounds, before_after, rising_from, rising_front, rising_back, rising_join, in_join_left, in_join_right, in_parts, total-append}
 

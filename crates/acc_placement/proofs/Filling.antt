@@ -6,7 +6,8 @@ use Rattle.std.specs.Prelude.{All}
 use Rattle.std.specs.List.{insert}
 use Rattle.std.proofs.Math.ListN.{set}
 use Rattle.std.proofs.lemmas.Bool.{cases_lt}
-use Rattle.acc_placement.specs.Ranges.{Spans, IsIn, IsRising, total}
+use Rattle.acc_base.specs.Holes.{IsIn, IsRising, total}
+use Rattle.acc_base.specs.Section.{Spans}
 use Rattle.acc_placement.specs.Changes.{IsFilled, IsAbsorbed}
 use Rattle.acc_placement.proofs.Rising.{after, rising_front, rising_back, rising_join, rising_from, in_join_left, in_join_right, in_parts, total-append}
 use Rattle.acc_placement.proofs.AtIndex.{split_at}

@@ -2,7 +2,9 @@
 use Rattle.std.proofs.Common.{◌≡◌, ◌%◌, ℕ, ◌+◌, ◌-◌, ◌<◌, ◌≤◌, ◌⊎◌, List, [], ◌∷◌, ◌++◌, inl, inr, arith, subst, sym, length, length-append}
 use Rattle.std.proofs.lemmas.Bool.{cases_lt}
 use Rattle.std.proofs.lemmas.List.Elements.{All-append, All-cons}
-use Rattle.acc_placement.specs.Ranges.{Spans, IsIn, IsRising, IsAligned, IsDisjoint}
+use Rattle.acc_base.specs.Holes.{IsIn, IsRising, IsDisjoint}
+use Rattle.acc_base.specs.Section.{Spans}
+use Rattle.acc_placement.specs.Ranges.{IsAligned}
 use Rattle.acc_placement.specs.Changes.{IsFilled}
 use Rattle.acc_placement.specs.Space.{Space, IsCanonical, IsPartition, IsTaken, IsTakenFrom, IsGivenBack}
 use Rattle.acc_placement.proofs.Rising.{in_bounds, in_join_left, in_join_right, in_parts, total-append}

@@ -3,7 +3,9 @@ use Rattle.std.proofs.Common.{◌≡◌, ℕ, suc, ◌+◌, ◌<◌, ◌≤◌, 
 use Rattle.std.specs.Prelude.{All, Any}
 use Rattle.std.proofs.lemmas.Bool.{cases_lt}
 use Rattle.acc_base.specs.Blocks.{rounded}
-use Rattle.acc_placement.specs.Ranges.{Spans, IsIn, IsFit, IsFitBeside, IsLeastFitBeside, IsRising, IsTakeBelow, all_rounded}
+use Rattle.acc_base.specs.Holes.{IsIn, IsRising}
+use Rattle.acc_base.specs.Section.{Spans}
+use Rattle.acc_placement.specs.Ranges.{IsFit, IsFitBeside, IsLeastFitBeside, IsTakeBelow, all_rounded}
 use Rattle.std.proofs.lemmas.List.{drop_all}
 use Rattle.std.proofs.Math.Seq.{drop-cons}
 use Rattle.std.proofs.Common.{zero, add-one}

@@ -1,11 +1,13 @@
 -- What a caller that keeps a list of its taken ranges does with it.
-use Rattle.std.proofs.Common.{◌≡◌, ℕ, suc, ◌+◌, ◌<◌, List, [], ◌∷◌, ◌++◌, inl, inr, arith, sym, subst, ap, ◌∙◌, length, take, drop, get_or, length-append}
+use Rattle.std.proofs.Common.{◌≡◌, ℕ, suc, ◌+◌, ◌<◌, ◌↔◌, List, [], ◌∷◌, ◌++◌, inl, inr, arith, sym, subst, ap, ◌∙◌, length, take, drop, get_or, length-append}
 use Rattle.std.specs.List.{remove}
 use Rattle.std.proofs.lemmas.List.{append-nil}
 use Rattle.std.proofs.lemmas.List.Elements.{All-append, All-cons}
-use Rattle.acc_placement.specs.Ranges.{Spans, IsIn, IsFit, IsAligned, IsDisjoint}
+use Rattle.acc_base.specs.Holes.{IsIn, IsDisjoint}
+use Rattle.acc_base.specs.Section.{Spans}
+use Rattle.acc_placement.specs.Ranges.{IsFit, IsAligned}
 use Rattle.acc_placement.specs.Space.{Space, IsCanonical, IsPartition, IsTaken, IsUnchanged}
-use Rattle.acc_placement.proofs.Rising.{in_bounds, in_join_left, in_join_right, in_parts, total-append}
+use Rattle.acc_placement.proofs.Rising.{in_bounds, rising_disjoint, disjoint_join, in_join_left, in_join_right, in_parts, total-append}
 use Rattle.acc_placement.proofs.Alignment.{all_front, all_rest, all_middle, all_back}
 use Rattle.acc_placement.proofs.AtIndex.{split_at}
 
@@ -76,3 +78,14 @@ fit_where_clear r ts n q p clear a w = let c = clear a w in elim (p.covered a c.
 
 pub clear_where_fit : (r : Space) (ts : List (ℕ × ℕ)) (n q : ℕ) → IsCanonical r → IsPartition r ts → IsFit r.holes n q → (a : ℕ) → Spans q n a → Spans r.base r.size a × ¬ IsIn ts a
 clear_where_fit r ts n q s p fit a w = (in_bounds r.base r.holes (r.base + r.size) a s.rising (fit a w), λ i. p.not_free a i (fit a w))
+
+-- no address is in two of the taken ranges and the holes
+pub all_disjoint : (r : Space) (ts : List (ℕ × ℕ)) → IsCanonical r → IsPartition r ts → IsDisjoint (ts ++ r.holes)
+all_disjoint r ts s p = disjoint_join ts r.holes p.disjoint (rising_disjoint r.base r.holes (r.base + r.size) s.rising) p.not_free
+
+-- the taken ranges and the holes have the addresses of the space, and no others
+pub all_whole : (r : Space) (ts : List (ℕ × ℕ)) → IsCanonical r → IsPartition r ts → (a : ℕ) → IsIn (ts ++ r.holes) a ↔ Spans r.base r.size a
+all_whole r ts s p a = (
+  λ i. elim (in_parts ts r.holes a i) [ inl j ↦ p.within a j | inr j ↦ in_bounds r.base r.holes (r.base + r.size) a s.rising j ],
+  λ w. elim (p.covered a w) [ inl h ↦ in_join_right ts r.holes a h | inr i ↦ in_join_left ts r.holes a i ],
+)

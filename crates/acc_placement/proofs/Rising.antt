@@ -1,7 +1,8 @@
 -- Lemmas on ranges that rise.
 use Rattle.std.proofs.Common.{◌≡◌, ℕ, suc, ◌+◌, ◌<◌, ◌≤◌, ◌⊎◌, List, [], ◌∷◌, ◌++◌, inl, inr, arith}
 use Rattle.std.specs.Prelude.{All}
-use Rattle.acc_placement.specs.Ranges.{IsIn, IsFit, IsRising, total}
+use Rattle.acc_base.specs.Holes.{IsIn, IsRising, total, IsDisjoint}
+use Rattle.acc_placement.specs.Ranges.{IsFit}
 
 -- the least place after the ranges at which another may begin
 abbrev pub after : ℕ → List (ℕ × ℕ) → ℕ
@@ -55,6 +56,22 @@ in_parts (h ∷ l) r a (inr i) = elim (in_parts l r a i) [ inl j ↦ inl (inr j)
 pub total-append : (l r : List (ℕ × ℕ)) → total (l ++ r) ≡ total l + total r
 total-append [] r = omega arith
 total-append (h ∷ l) r = omega (arith, total-append l r)
+
+-- ranges that rise share no address
+pub rising_disjoint : (low : ℕ) (t : List (ℕ × ℕ)) (high : ℕ) → IsRising low t high → IsDisjoint t
+rising_disjoint low [] high s = tt
+rising_disjoint low (h ∷ t) high s = (
+  λ a w i. let b : (h.0 + h.1 + 1 ≤ a) × (a < high) = in_bounds (h.0 + h.1 + 1) t high a s.3 i in omega arith,
+  rising_disjoint (h.0 + h.1 + 1) t high s.3,
+)
+
+-- two lists of which neither has an address of the other share none together
+pub disjoint_join : (l r : List (ℕ × ℕ)) → IsDisjoint l → IsDisjoint r → ((a : ℕ) → IsIn l a → IsIn r a → ⊥) → IsDisjoint (l ++ r)
+disjoint_join [] r dl dr off = dr
+disjoint_join (h ∷ l) r dl dr off = (
+  λ a w i. elim (in_parts l r a i) [ inl j ↦ dl.0 a w j | inr j ↦ off a (inl w) j ],
+  disjoint_join l r dl.1 dr (λ a i j. off a (inr i) j),
+)
 
 -- n free addresses in a row are in the first range or in the later ones
 pub fit_step : (low : ℕ) (h : ℕ × ℕ) (t : List (ℕ × ℕ)) (high n q : ℕ) → 0 < n → IsRising low (h ∷ t) high → IsFit (h ∷ t) n q → ((h.0 ≤ q) × (q + n ≤ h.0 + h.1)) ⊎ IsFit t n q

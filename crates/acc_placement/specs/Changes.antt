@@ -1,6 +1,8 @@
 -- How a list of holes that rise changes, and what a search in it finds.
 use Rattle.std.specs.Prelude.{ℕ, ◌≡◌, ◌+◌, ◌^◌, ◌<◌, ◌≤◌, ◌⊎◌, List, length, take, All, slice_index_or}
-use Rattle.acc_placement.specs.Ranges.{Spans, IsIn, IsRising, total, all_rounded}
+use Rattle.acc_base.specs.Holes.{IsIn, IsRising, total}
+use Rattle.acc_base.specs.Section.{Spans}
+use Rattle.acc_placement.specs.Ranges.{all_rounded}
 
 -- the new ranges are the old ones without the n addresses from p on, and rise
 pub record IsCut (low high : ℕ) (old new : List (ℕ × ℕ)) (p n : ℕ) : Type 0 where

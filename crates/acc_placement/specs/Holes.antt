@@ -1,6 +1,6 @@
 -- What the fields of `Holes` stand for, and what holds of them.
 use Rattle.std.specs.Prelude.{◌≡◌, ◌+◌, ◌-◌, ◌≤◌, vec_capacity}
-use Rattle.acc_placement.specs.Ranges.{total}
+use Rattle.acc_base.specs.Holes.{total}
 use Rattle.acc_placement.specs.Space.{Space, IsCanonical}
 use Rattle.acc_placement.specs.declared.placement.Holes.TheInside.{Inside}
 

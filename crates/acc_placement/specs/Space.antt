@@ -1,7 +1,9 @@
 -- A space of device addresses: some ranges of it are taken, and the others are its holes.
 use Rattle.std.specs.Prelude.{ℕ, ◌≡◌, ◌+◌, ◌%◌, ◌^◌, ◌≤◌, ◌⊎◌, List, [], ◌∷◌, ◌++◌, length, All}
 use Rattle.acc_base.specs.Limits.{IsSize}
-use Rattle.acc_placement.specs.Ranges.{Spans, IsIn, IsRising, IsAligned, IsDisjoint, total}
+use Rattle.acc_base.specs.Holes.{IsIn, IsRising, IsDisjoint, total}
+use Rattle.acc_base.specs.Section.{Spans}
+use Rattle.acc_placement.specs.Ranges.{IsAligned}
 
 pub record Space : Type 0 where
   pub base : ℕ

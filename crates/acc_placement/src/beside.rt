@@ -7,12 +7,13 @@ ghost use Rattle.acc_placement.specs.Ranges.{IsTakeBelow};
 ghost use Rattle.acc_placement.specs.Changes.{IsBeside};
 
 use crate::rounding::rounded;
+use acc_base::MEMORY_MAX;
 
 /// The least place from `from` on at which `size` addresses are outside of the listed ranges.
 pub fn past(listed: &[(u64, u64)], from: u64, size: u64, top: u64) -> u64
     requires top_limit { top ≤ 2 ^ 41 }
     requires from_limit { from ≤ top }
-    requires size_limit { IsFromOne 67108864 size }
+    requires size_limit { IsFromOne MEMORY_MAX size }
     requires listed { All (IsTakeBelow top) listed.now }
     ensures not_before { from ≤ result }
     ensures limit { result ≤ top }
@@ -31,7 +32,7 @@ pub fn past(listed: &[(u64, u64)], from: u64, size: u64, top: u64) -> u64
 fn end_of_overlap(listed: &[(u64, u64)], at: u64, size: u64) -> Option<u64>
     requires listed { All (IsTakeBelow (2 ^ 41)) listed.now }
     requires at_limit { at ≤ 2 ^ 41 }
-    requires size_limit { size ≤ 67108864 }
+    requires size_limit { size ≤ MEMORY_MAX }
     ensures found { IfSome result (λ end. Any (λ t. (end ≡ t.0 + rounded_of t.1) × (t.0 < at + size) × (at < end)) listed.now) }
     ensures none { IfNone result (IsBeside listed.now size at) }
 {

@@ -1,7 +1,9 @@
 //! Lists of holes by rising place: the search for one, and how ranges are taken from them and come back.
 
 ghost use Rattle.std.specs.Prelude.{◌≡◌, ℕ, ◌+◌, ◌%◌, ◌^◌, ◌<◌, ◌≤◌, length, take, drop, slice_index_or, All, vec_capacity, IfSome, IfNone};
-ghost use Rattle.acc_placement.specs.Ranges.{IsRising, IsAligned, IsIn, Spans};
+ghost use Rattle.acc_base.specs.Holes.{IsRising, IsIn};
+ghost use Rattle.acc_base.specs.Section.{Spans};
+ghost use Rattle.acc_placement.specs.Ranges.{IsAligned};
 ghost use Rattle.acc_placement.specs.Changes.{IsCut, IsFilled, FitsFirst, IsAbsorbed, NeedsAtMost};
 
 /// The index of the first hole that has `size` bytes.

@@ -3,13 +3,14 @@
 ghost use Rattle.std.specs.Prelude.{◌≡◌, ℕ, List, ◌+◌, ◌%◌, ◌^◌, ◌<◌, ◌≤◌, ◌⊎◌, ◌↔◌, [], ◌∷◌, ◌++◌, All, IfOk, IfErr, IfSome, IfNone, Err, OnErr, OnOk};
 ghost use Rattle.acc_base.specs.Limits.{IsSize, IsFromOne};
 ghost use Rattle.acc_base.specs.Blocks.{rounded as rounded_of};
-ghost use Rattle.acc_placement.specs.Ranges.{all_rounded, IsFit, IsLeastFit, IsFitBeside, IsLeastFitBeside, IsTakeBelow, total};
+ghost use Rattle.acc_base.specs.Holes.{total};
+ghost use Rattle.acc_placement.specs.Ranges.{all_rounded, IsFit, IsLeastFit, IsFitBeside, IsLeastFitBeside, IsTakeBelow};
 ghost use Rattle.acc_placement.specs.Space.{IsCanonical, IsFresh, IsUnchanged, IsPartition, IsTaken, IsTakenFrom, IsGivenBack};
 
 use crate::beside::past;
 use crate::lists::{cut, fill, first_fit};
 use crate::rounding::rounded;
-use acc_base::Fault;
+use acc_base::{Fault, MEMORY_MAX};
 use std::alloc::Global;
 use std::marker::Model;
 
@@ -78,7 +79,7 @@ impl Holes {
     /// [`Fault::Memory`], where there was no spare room. The space is then as before, but for its spare room, which did
     /// not shrink.
     pub fn take(&mut self, need: u64) -> Result<u64, Fault>
-        requires need { IsFromOne 67108864 need }
+        requires need { IsFromOne MEMORY_MAX need }
         ensures place { IfOk result (IsLeastFit self.old.holes (rounded_of need)) }
         ensures taken { IfOk result (λ place. IsTakenFrom self.old self.new place (rounded_of need)) }
         ensures canonical { IsCanonical self.new }
@@ -104,7 +105,7 @@ impl Holes {
 
     /// The place that `take` would choose.
     fn fit(&self, need: u64) -> Option<u64>
-        requires need { IsFromOne 67108864 need }
+        requires need { IsFromOne MEMORY_MAX need }
         ensures place { IfSome result (IsLeastFit self.now.holes (rounded_of need)) }
         ensures none { IfNone result ((q : ℕ) → IsFit self.now.holes (rounded_of need) q → ⊥) }
         ensures canonical { IsCanonical self.now }
@@ -136,7 +137,7 @@ impl Holes {
 
     /// Takes as [`Holes::take`] does, where a hole is large enough and there is room. It needs no memory.
     pub fn take_reserved(&mut self, need: u64) -> u64
-        requires need { IsFromOne 67108864 need }
+        requires need { IsFromOne MEMORY_MAX need }
         requires room { 1 ≤ self.old.spare }
         requires fits { (q : ℕ) × IsFit self.old.holes (rounded_of need) q }
         ensures place { IsLeastFit self.old.holes (rounded_of need) result }
@@ -161,7 +162,7 @@ impl Holes {
     ///
     /// Each listed length is from 1 to 67,108,864, and each listed range ends within the space.
     pub fn would_take(&self, listed: &[(u64, u64)], need: u64) -> Option<u64>
-        requires need { IsFromOne 67108864 need }
+        requires need { IsFromOne MEMORY_MAX need }
         requires listed { All (IsTakeBelow (self.now.base + self.now.size)) listed.now }
         ensures place { IfSome result (IsLeastFitBeside self.now.holes (all_rounded listed.now) (rounded_of need)) }
         ensures none { IfNone result ((q : ℕ) → IsFitBeside self.now.holes (all_rounded listed.now) (rounded_of need) q → ⊥) }
@@ -181,7 +182,7 @@ impl Holes {
     /// Gives back a range that was taken at `place` with this need and not given back since. The new hole is merged with
     /// those that it touches. It needs no memory, is never refused, and leaves room for one take more.
     pub fn give_back(&mut self, place: u64, need: u64)
-        requires need { IsFromOne 67108864 need }
+        requires need { IsFromOne MEMORY_MAX need }
         requires taken { IsTaken self.old place (rounded_of need) }
         ensures given_back { IsGivenBack self.old self.new place (rounded_of need) }
         ensures canonical { IsCanonical self.new }

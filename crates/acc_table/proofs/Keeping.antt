@@ -42,7 +42,7 @@ short l r host most inside few = let within : is_within r.section (host_memory l
     let below : end_of r.section ≤ host_base + l.host = grind (arith, nat_tests) in
     (omega arith, omega arith)
 
-low : (l : Limits) (b : Block) → l.device ≤ 67108864 → IsOnDevice l b → IsLow b
+low : (l : Limits) (b : Block) → l.device ≤ 67108864 → IsOnDevice l.device b → IsLow b
 low l b most on = let first : device_base ≤ b.place = on.first in let last : block_end b ≤ device_base + l.device = on.last in (omega arith, omega arith)
 
 pub bounded : (size : ℕ) (w : World) → IsKept size w → IsBounded w.state
@@ -52,7 +52,7 @@ bounded size w k =
     record {
       ranges = All-from_recursion IsShort w.state.records.ranges
           (AllByRecursion-both (λ r. IsInHost l r.section) (IsTraced l w.history) IsShort w.state.records.ranges (λ r i t. short l r bounds.host.1 bounds.counter_max.1 i t.few) k.accounted.ranges_apart.in_host k.accounted.counters_traced);
-      blocks = All-from_recursion IsLow w.state.records.blocks (AllByRecursion-weaker (IsOnDevice l) IsLow w.state.records.blocks (λ b o. low l b bounds.device.1 o) k.accounted.blocks_apart.on_device);
+      blocks = All-from_recursion IsLow w.state.records.blocks (AllByRecursion-weaker (IsOnDevice l.device) IsLow w.state.records.blocks (λ b o. low l b bounds.device.1 o) k.accounted.blocks_apart.on_device);
       births = omega (arith, k.births, k.accounted.books_counted.tickets, bounds.tickets.1);
       host = omega (arith, k.accounted.memories_sized.host, bounds.host.1);
     }

@@ -9,7 +9,6 @@ use Rattle.acc_base.specs.declared.items.EnterClause.TheVariants.{Copyin}
 use Rattle.acc_base.specs.declared.items.UpdateClause.{UpdateClause}
 use Rattle.acc_base.specs.declared.items.UpdateClause.TheVariants.{ToSelf, ToDevice}
 use Rattle.acc_base.specs.declared.mappings.Block.{Block}
-use Rattle.acc_base.specs.Limits.{limits_of}
 use Rattle.acc_base.specs.declared.items.ExitClause.{ExitClause}
 use Rattle.acc_base.specs.declared.items.ExitClause.TheVariants.{Copyout, Delete}
 use Rattle.acc_base.specs.declared.mappings.Range.{Range}
@@ -88,7 +87,7 @@ fresh (m ∷ ms) (b ∷ bs) births block e h low = (
 )
 
 numbers_low : (d : DeviceState) → HasBlocksApart d → AllByRecursion (λ b. b.number ≤ d.births) d.blocks
-numbers_low d h = (h (limits_of 0 d.size 0 0 0 0 0) [] refl).born
+numbers_low d h = h.born
 
 -- a block that is filled, and then gets the section's bytes of the host
 pub made_copied : (old mid new : DeviceState) (item : Item EnterClause) (host bytes : List ℕ) (block : ℕ) → item.clause ≡ Copyin → is_within item.section (host_memory (length host)) ≡ true → HasBlocksApart old → AllZip IsMemoryOf old.memories old.blocks

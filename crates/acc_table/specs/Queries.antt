@@ -1,5 +1,6 @@
 -- What the queries of a table answer.
-use Rattle.std.specs.Prelude.{ℕ, ◌+◌, ◌-◌, ◌<◌, Bool, true, false, ◌||◌, if◌then◌else◌, List, length, take, drop, Option, Some, None, option_map, Contains}
+use Rattle.std.specs.Prelude.{ℕ, ◌+◌, ◌-◌, ◌<◌, ◌≤◌, Bool, true, false, ◌||◌, if◌then◌else◌, List, length, take, drop, Option, Some, None, option_map, Contains}
+use Rattle.std.specs.List.{AllByRecursion}
 use Rattle.acc_base.specs.declared.items.Section.{Section}
 use Rattle.acc_base.specs.declared.mappings.Range.{Range}
 use Rattle.acc_base.specs.declared.mappings.Block.{Block}
@@ -13,6 +14,7 @@ use Rattle.acc_base.specs.Records.{Records, Memory, State}
 use Rattle.acc_base.specs.Bytes.{bytes_of}
 use Rattle.acc_table.specs.declared.calls.Mapped.{Mapped}
 
+-- the section lies inside one mapped range
 abbrev pub is_inside : Found → Bool
 is_inside (Inside block offset) = true
 is_inside _ = false
@@ -26,6 +28,7 @@ abbrev pub counters_in : Found → List Range → Option Counters
 counters_in (Inside block offset) ranges = Some (record { structured = structured_of block ranges; dynamic = dynamic_of block ranges })
 counters_in _ ranges = None
 
+-- the counters of the range that a section of these records is inside
 abbrev pub counters_at : Section → Records → Option Counters
 counters_at s w = counters_in (where_is s w.ranges) w.ranges
 
@@ -38,12 +41,18 @@ address_in _ blocks = None
 abbrev pub device_address_of : ℕ → Records → Option ℕ
 device_address_of address w = address_in (where_is (only address) w.ranges) w.blocks
 
+-- a range as it is reported, with the device address of its block
 abbrev pub mapped_as : List Block → Range → Mapped
 mapped_as blocks r = record { start = r.section.start; len = r.section.len; place = place_of r.block blocks; structured = r.structured; dynamic = r.dynamic }
 
 -- the mapped range of least start at or above an address
 abbrev pub mapped_from : ℕ → Records → Option Mapped
 mapped_from address w = option_map (mapped_as w.blocks) (range_from address w.ranges)
+
+-- the answer starts at or above an address, as no mapped range does that starts lower; there is none where each starts below the address
+abbrev pub IsLeastFrom : ℕ → List Range → Option Mapped → Type 0
+IsLeastFrom address ranges None = AllByRecursion (λ r. r.section.start < address) ranges
+IsLeastFrom address ranges (Some m) = (address ≤ m.start) × AllByRecursion (λ r. address ≤ r.section.start → m.start ≤ r.section.start) ranges
 
 -- the bytes of a section of host memory; an empty one has none, wherever it starts
 abbrev pub host_read_of : Section → List ℕ → Option (List ℕ)

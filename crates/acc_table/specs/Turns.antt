@@ -6,17 +6,24 @@ use Rattle.acc_base.specs.declared.faults.Fault.TheVariants.{Memory}
 use Rattle.acc_base.specs.Calls.{World, Request, Do, HostWrite, judge, world_after}
 use Rattle.acc_table.specs.declared.calls.Turn.{Turn}
 use Rattle.acc_table.specs.declared.calls.Turn.TheVariants as turns
+use Rattle.acc_table.specs.declared.calls.Reply.{Reply}
+use Rattle.acc_table.specs.declared.calls.Reply.TheVariants.{Done}
 use Rattle.acc_table.specs.declared.calls.Answer.{Answer}
 use Rattle.acc_table.specs.declared.calls.Answer.TheVariants.{Replied, Refused}
+use Rattle.acc_table.specs.Calls.{reply_of}
 
 -- what the turn asks for
 abbrev pub asked_by : Turn → Request
 asked_by (turns.Do directive) = Do directive
 asked_by (turns.HostWrite addr bytes) = HostWrite addr bytes
 
--- the answer to a turn that made this event: none opens a region yet, and none waits for transfers
+-- the answer to a turn whose call was replied to so: it opened nothing, and waited for no transfer
+abbrev pub answer_to : Reply → Answer
+answer_to Done = Replied 0 0
+
+-- the answer to a turn that made this event
 abbrev pub answer_of : Event → Answer
-answer_of e = Replied 0 0
+answer_of e = answer_to (reply_of e)
 
 -- the turn was refused, and the world stayed
 pub record StaysRefused (w : World) (fault : Fault) (answer : Answer) (next : World) : Type 0 where

@@ -3,8 +3,8 @@
 ghost use Rattle.std.specs.Prelude.{◌≡◌, ◌-◌, ◌↔◌, IsTrue, option_map};
 ghost use Rattle.acc_base.specs.Blocks.{used_bytes};
 ghost use Rattle.acc_base.specs.Calls.{event_count};
-ghost use Rattle.acc_base.specs.Ranges.{where_is};
-ghost use Rattle.acc_table.specs.Queries.{is_inside, IsInsideOne, counters_at, device_address_of, mapped_from, host_read_of, device_read_of};
+ghost use Rattle.acc_base.specs.Ranges.{where_is, IsPlacedAt};
+ghost use Rattle.acc_table.specs.Queries.{is_inside, IsInsideOne, counters_at, device_address_of, mapped_from, IsLeastFrom, host_read_of, device_read_of};
 
 use crate::calls::Mapped;
 use crate::ranges;
@@ -19,6 +19,15 @@ fn is_inside(found: Found) -> bool
 }
 
 impl Table {
+    /// Where the section lies among the mapped ranges, by its addresses: it has none, one range has them all, no range
+    /// has any, or some are mapped and no one range has them all.
+    pub fn find(&self, section: Section) -> Found
+        ensures value { result ≡ where_is section self.now.state.records.ranges }
+        ensures addresses { IsPlacedAt section self.now.state.records.ranges result }
+    {
+        ranges::locate(&self.store.ranges, section)
+    }
+
     /// Whether the section is not empty and each of its addresses is in one mapped range.
     pub fn is_present(&self, section: Section) -> bool
         ensures value { result ≡ is_inside (where_is section self.now.state.records.ranges) }
@@ -58,7 +67,8 @@ impl Table {
 
     /// The mapped range of least start at or above a host address, if there is one.
     pub fn mapped(&self, from: u64) -> Option<Mapped>
-        ensures { result ≡ mapped_from from self.now.state.records }
+        ensures value { result ≡ mapped_from from self.now.state.records }
+        ensures least { IsLeastFrom from self.now.state.records.ranges result }
     {
         match ranges::first_from(&self.store.ranges, from) {
             Some(range) => Some(Mapped {

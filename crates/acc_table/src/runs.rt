@@ -3,11 +3,23 @@
 ghost use Rattle.std.specs.Prelude.{◌≡◌, IfOk, IfErr};
 ghost use Rattle.acc_base.specs.declared.faults.Fault.TheVariants.{Memory};
 ghost use Rattle.acc_base.specs.Calls.{judge};
-ghost use Rattle.acc_table.specs.Turns.{asked_by, MayAnswer, IsRun};
+ghost use Rattle.acc_table.specs.Turns.{asked_by, answer_to, MayAnswer, IsRun};
 
-use crate::calls::{Answer, Call, Turn};
+use crate::calls::{Answer, Call, Reply, Turn};
 use crate::tables::Table;
 use acc_base::Fault;
+
+/// The answer to a turn whose call was replied to so.
+fn answer_to(reply: Reply) -> Answer
+    ensures { result ≡ answer_to reply }
+{
+    match reply {
+        Reply::Done => Answer::Replied {
+            number: 0,
+            count: 0,
+        },
+    }
+}
 
 impl Table {
     /// Takes the turns one after the other, and answers each. A refused turn changes nothing, and the next one follows;
@@ -37,10 +49,7 @@ impl Table {
             Turn::HostWrite { addr, bytes } => Call::HostWrite { addr, bytes },
         };
         match self.apply(call) {
-            Ok(_) => Answer::Replied {
-                number: 0,
-                count: 0,
-            },
+            Ok(reply) => answer_to(reply),
             Err((_, fault)) => Answer::Refused(fault),
         }
     }

@@ -97,31 +97,31 @@ impl Table {
     ///   memory;
     /// - last [`Fault::Memory`], where there is no other refusal and memory cannot be had.
     pub fn apply(&mut self, call: Call) -> Result<Reply, (Call, Fault)>
-        ensures done { OnOk result (IsDone self.old (request_of call) self.new) }
+        ensures done { IfOk result (λ reply. IsDone self.old (request_of call) reply self.new) }
         ensures refused { IfErr result (λ back. IsRefusal self.old (request_of call) back.1) }
         ensures same { IfErr result (λ back. (back.0 ≡ call) × (self.new ≡ self.old)) }
     {
         match call {
             Call::Do(directive) => match self.carry_out(directive) {
-                Ok(()) => Ok(Reply::Done),
+                Ok(reply) => Ok(reply),
                 Err((directive, fault)) => Err((Call::Do(directive), fault)),
             },
             Call::HostWrite { addr, bytes } => match self.write_host(addr, bytes.as_slice()) {
-                Ok(()) => Ok(Reply::Done),
+                Ok(reply) => Ok(reply),
                 Err(fault) => Err((Call::HostWrite { addr, bytes }, fault)),
             },
         }
     }
 
     /// Carries out a directive.
-    fn carry_out(&mut self, directive: Directive) -> Result<(), (Directive, Fault)>
-        ensures done { OnOk result (IsDone self.old (Do directive) self.new) }
+    fn carry_out(&mut self, directive: Directive) -> Result<Reply, (Directive, Fault)>
+        ensures done { IfOk result (λ reply. IsDone self.old (Do directive) reply self.new) }
         ensures refused { IfErr result (λ back. IsRefusal self.old (Do directive) back.1) }
         ensures same { IfErr result (λ back. (back.0 ≡ directive) × (self.new ≡ self.old)) }
     {
         match self.plan(&directive) {
             Ok(step) => match self.commit(directive, step) {
-                Ok(()) => Ok(()),
+                Ok(()) => Ok(Reply::Done),
                 Err(directive) => Err((directive, Fault::Memory)),
             },
             Err(fault) => Err((directive, fault)),
@@ -241,8 +241,8 @@ impl Table {
 
     /// Writes into host memory.
     #[tactic(auto, unfolding(acc_base::specs::Calls::world_after, acc_base::specs::Bytes::after), using(crate::proofs::Keeping::judge_write))]
-    fn write_host(&mut self, addr: u64, bytes: &[u8]) -> Result<(), Fault>
-        ensures done { OnOk result (IsDone self.old (HostWrite addr bytes.now) self.new) }
+    fn write_host(&mut self, addr: u64, bytes: &[u8]) -> Result<Reply, Fault>
+        ensures done { IfOk result (λ reply. IsDone self.old (HostWrite addr bytes.now) reply self.new) }
         ensures refused { IfErr result (IsRefusal self.old (HostWrite addr bytes.now)) }
         ensures same { OnErr result (self.new ≡ self.old) }
     {
@@ -251,6 +251,6 @@ impl Table {
             len: bytes.len() as u64,
         })?;
         plans::host_write(&mut self.store, &mut self.trace, addr, bytes)?;
-        Ok(())
+        Ok(Reply::Done)
     }
 }

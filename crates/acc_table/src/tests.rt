@@ -1,407 +1,268 @@
-use crate::{Answer, Call, Mapped, Reply, Table, Turn};
+//! What no clause says: that calls succeed, that the definitions say what is meant, and that a refused growth leaves
+//! the table as it was. What a script can say is a row of the script tests.
+
+use crate::{Answer, Call, Mapped, Table, Turn};
 use acc_base::{
-    Config, Counters, Directive, EnterClause, Event, ExitClause, Fault, Item, List, Section, Step,
-    UpdateClause,
+    Config, Counters, Did, Directive, EnterClause, Event, ExitClause, Fault, Found, Item, List,
+    Section, Step, UpdateClause,
 };
+use rows::{LIFE, ROWS, WIDE};
 use std::alloc::{AllocError, Global};
+use std::fmt::Debug;
 use std::process::Abort;
 use std::test::Fail;
 
-const A: u64 = 0x1000;
+mod rows;
 
-const DEVICE: u64 = 0x1_0000_0000;
+/// The limits in which rows differ. Both memories have 64 bytes, and one data region may be open.
+#[derive(Clone, Copy)]
+struct Limits {
+    tickets: u64,
+    counter_max: u64,
+    trace_cap: u64,
+}
 
-fn section(start: u64, len: u64) -> Section {
+/// The items of one data clause each: the clause, the first host address and the length.
+type Items<C> = &'static [(C, u64, u64)];
+
+/// What a row asks of a table.
+#[derive(Clone, Copy)]
+enum Ask {
+    Enter(Items<EnterClause>),
+    Exit(Items<ExitClause>),
+    Update(Items<UpdateClause>),
+    UpdateIfPresent(Items<UpdateClause>),
+    Write(u64, &'static [u8]),
+}
+
+/// A query with its answer. A section is given by its first host address and its length.
+#[derive(Clone, Copy)]
+enum Check {
+    Found((u64, u64), Found),
+    Present((u64, u64), bool),
+    Address(u64, Option<u64>),
+    Counted((u64, u64), Option<Counters>),
+    MappedFrom(u64, Option<Mapped>),
+    Host((u64, u64), Option<&'static [u8]>),
+    Device((u64, u64), Option<&'static [u8]>),
+    /// What the first item of the event of this number did.
+    Step(usize, Option<Step>),
+    Used(u64),
+    Events(u64),
+    TicketBook(u64),
+    Regions(u64),
+    RegionBook(u64),
+}
+
+/// Turns on a new table with their answers, and what the table says then.
+struct Row {
+    name: &'static str,
+    limits: Limits,
+    turns: &'static [(Ask, Answer)],
+    checks: &'static [Check],
+}
+
+fn section(at: (u64, u64)) -> Section {
+    let (start, len) = at;
     Section { start, len }
 }
 
-fn enter(
+fn items<C: Copy + Drop>(
     alloc: Global,
-    clause: EnterClause,
-    start: u64,
-    len: u64,
-) -> Result<Directive, AllocError> {
-    let item = Item {
-        clause,
-        section: Section { start, len },
-    };
-    Ok(Directive::EnterData {
-        items: List::from_vec(vec![in alloc; item]?),
-    })
-}
-
-fn exit(alloc: Global, clause: ExitClause, start: u64, len: u64) -> Result<Directive, AllocError> {
-    let item = Item {
-        clause,
-        section: Section { start, len },
-    };
-    Ok(Directive::ExitData {
-        items: List::from_vec(vec![in alloc; item]?),
-    })
+    listed: &[(C, u64, u64)],
+) -> Result<List<Item<C>>, AllocError> {
+    let mut items = Vec::with_capacity(alloc, listed.len())?;
+    for &(clause, start, len) in listed {
+        let section = Section { start, len };
+        items.push(Item { clause, section })?;
+    }
+    Ok(List::from_vec(items))
 }
 
 fn update(
     alloc: Global,
-    clause: UpdateClause,
+    listed: &[(UpdateClause, u64, u64)],
     if_present: bool,
-    start: u64,
-    len: u64,
-) -> Result<Directive, AllocError> {
-    let item = Item {
-        clause,
-        section: Section { start, len },
-    };
-    Ok(Directive::Update {
-        items: List::from_vec(vec![in alloc; item]?),
-        if_present,
-    })
-}
-
-fn copyin(alloc: Global, start: u64, len: u64) -> Result<Directive, AllocError> {
-    enter(alloc, EnterClause::Copyin, start, len)
-}
-
-fn delete(alloc: Global, start: u64, len: u64) -> Result<Directive, AllocError> {
-    exit(alloc, ExitClause::Delete, start, len)
+) -> Result<Call, AllocError> {
+    let items = items(alloc, listed)?;
+    Ok(Call::Do(Directive::Update { items, if_present }))
 }
 
 fn write(alloc: Global, addr: u64, bytes: &[u8]) -> Result<Call, AllocError> {
-    Ok(Call::HostWrite {
-        addr,
-        bytes: List::from_vec(Vec::from_slice(alloc, bytes)?),
-    })
+    let bytes = List::from_vec(Vec::from_slice(alloc, bytes)?);
+    Ok(Call::HostWrite { addr, bytes })
 }
 
-/// A table with 64 bytes of each memory.
-fn small(alloc: Global, tickets: u64, counter_max: u64, trace_cap: u64) -> Result<Table, Fault> {
+fn enter(alloc: Global, listed: &[(EnterClause, u64, u64)]) -> Result<Call, AllocError> {
+    let items = items(alloc, listed)?;
+    Ok(Call::Do(Directive::EnterData { items }))
+}
+
+fn exit(alloc: Global, listed: &[(ExitClause, u64, u64)]) -> Result<Call, AllocError> {
+    let items = items(alloc, listed)?;
+    Ok(Call::Do(Directive::ExitData { items }))
+}
+
+fn call_of(alloc: Global, ask: Ask) -> Result<Call, AllocError> {
+    match ask {
+        Ask::Enter(listed) => enter(alloc, listed),
+        Ask::Exit(listed) => exit(alloc, listed),
+        Ask::Update(listed) => update(alloc, listed, false),
+        Ask::UpdateIfPresent(listed) => update(alloc, listed, true),
+        Ask::Write(addr, bytes) => write(alloc, addr, bytes),
+    }
+}
+
+fn turn_of(alloc: Global, ask: Ask) -> Result<Turn, AllocError> {
+    match call_of(alloc, ask)? {
+        Call::Do(directive) => Ok(Turn::Do(directive)),
+        Call::HostWrite { addr, bytes } => Ok(Turn::HostWrite { addr, bytes }),
+    }
+}
+
+fn turns_of(alloc: Global, asked: &[(Ask, Answer)]) -> Result<Vec<Turn>, AllocError> {
+    let mut turns = Vec::new(alloc);
+    for &(ask, _) in asked {
+        turns.push(turn_of(alloc, ask)?)?;
+    }
+    Ok(turns)
+}
+
+fn table_of(alloc: Global, limits: Limits) -> Result<Table, Fault> {
+    let Limits {
+        tickets,
+        counter_max,
+        trace_cap,
+    } = limits;
     let config = Config::new(64, 64, 1, tickets, counter_max, 1, trace_cap)?;
     Table::new(alloc, config)
 }
 
-fn accept(rt: &impl Abort, table: &mut Table, directive: Directive) {
-    match table.apply(Call::Do(directive)) {
-        Ok(reply) => assert_eq!(rt; reply, Reply::Done),
-        Err((_, fault)) => panic!(rt; "refused: {fault}"),
+fn did_first(event: &Event) -> Option<Step> {
+    let did: &List<Did> = match event {
+        Event::EnteredData { did, .. } => did,
+        Event::ExitedData { did, .. } => did,
+        Event::Updated { did, .. } => did,
+        Event::HostWritten { .. } => return None,
+    };
+    match did.as_slice() {
+        [] => None,
+        [first, ..] => Some(first.step),
     }
 }
 
-fn refuse(rt: &impl Abort, table: &mut Table, directive: Directive, wanted: Fault) {
-    match table.apply(Call::Do(directive)) {
-        Ok(_) => panic!(rt; "accepted"),
-        Err((_, fault)) => assert_eq!(rt; fault, wanted),
+fn step_at(trace: &[Event], number: usize) -> Option<Step> {
+    match trace.get(number) {
+        Some(event) => did_first(event),
+        None => None,
     }
 }
 
-#[test]
-fn an_array_is_mapped_reported_and_deleted(rt: HostRuntime) -> Result<(), Fail> {
-    let mut table = small(rt.alloc(), 100, 100, 100)?;
-    accept(&rt, &mut table, copyin(rt.alloc(), A, 32)?);
-    assert_eq!(rt; table.used(), 32);
-    assert_eq!(rt; table.events(), 1);
-    assert!(rt; table.is_present(section(A + 31, 1)));
-    assert!(rt; !table.is_present(section(A + 31, 2)));
-    assert_eq!(rt; table.device_address(A + 31), Some(DEVICE + 31));
-    assert_eq!(rt; table.device_address(A + 32), None);
-    let mapped = Mapped {
-        start: A,
-        len: 32,
-        place: DEVICE,
-        structured: 0,
-        dynamic: 1,
-    };
-    assert_eq!(rt; table.mapped(0), Some(mapped));
-    assert_eq!(rt; table.mapped(A + 1), None);
-    accept(&rt, &mut table, delete(rt.alloc(), A, 32)?);
-    assert_eq!(rt; table.used(), 0);
-    assert_eq!(rt; table.mapped(0), None);
-    assert_eq!(rt; table.regions(), 0);
-    assert_eq!(rt; table.region_book(), 1);
-    assert_eq!(rt; table.ticket_book(), 98);
-    assert_eq!(rt; table.config().device(), 64);
-    Ok(())
+/// Ends the test where the answer is not the one that is wanted.
+fn same<T: PartialEq + Debug + Copy>(rt: &impl Abort, row: &str, found: T, wanted: T) {
+    assert_eq!(rt; found, wanted, "{row}");
 }
 
-#[test]
-fn the_trace_has_the_steps(rt: HostRuntime) -> Result<(), Fail> {
-    let mut table = small(rt.alloc(), 100, 100, 100)?;
-    accept(&rt, &mut table, copyin(rt.alloc(), A, 32)?);
-    accept(&rt, &mut table, delete(rt.alloc(), A, 32)?);
-    let Some(Event::EnteredData { did: entered, .. }) = table.trace().first() else {
-        panic!(rt; "no event");
-    };
-    let born = Step::Born {
-        block: 1,
-        place: DEVICE,
-    };
-    assert_eq!(rt; entered.as_slice().first().map(|did| did.step), Some(born));
-    let Some(Event::ExitedData { did: left, .. }) = table.trace().last() else {
-        panic!(rt; "no event");
-    };
-    let dropped = Step::Dropped {
-        block: 1,
-        ended: true,
-    };
-    assert_eq!(rt; left.as_slice().first().map(|did| did.step), Some(dropped));
-    Ok(())
+fn same_bytes(rt: &impl Abort, row: &str, found: Option<&[u8]>, wanted: Option<&[u8]>) {
+    assert_eq!(rt; found, wanted, "{row}");
 }
 
-#[test]
-fn a_section_over_the_end_of_a_range_is_partly_present(rt: HostRuntime) -> Result<(), Fail> {
-    let mut table = small(rt.alloc(), 100, 100, 100)?;
-    accept(&rt, &mut table, copyin(rt.alloc(), A, 16)?);
-    let over_the_end = copyin(rt.alloc(), A + 8, 16)?;
-    refuse(
-        &rt,
-        &mut table,
-        over_the_end,
-        Fault::PartlyPresent { item: 0 },
-    );
-    accept(&rt, &mut table, copyin(rt.alloc(), A + 4, 4)?);
-    let counters = Counters {
-        structured: 0,
-        dynamic: 2,
-    };
-    assert_eq!(rt; table.counters(section(A, 16)), Some(counters));
-    assert_eq!(rt; table.used(), 16);
-    assert_eq!(rt; table.events(), 2);
-    Ok(())
+fn answered(rt: &impl Abort, row: &Row, answers: &[Answer]) {
+    same(rt, row.name, answers.len(), row.turns.len());
+    for (&answer, &(_, wanted)) in answers.iter().zip(row.turns) {
+        same(rt, row.name, answer, wanted);
+    }
 }
 
-#[test]
-fn a_table_with_one_ticket_makes_one_event(rt: HostRuntime) -> Result<(), Fail> {
-    let mut table = small(rt.alloc(), 1, 100, 100)?;
-    accept(&rt, &mut table, copyin(rt.alloc(), A, 16)?);
-    let again = copyin(rt.alloc(), A, 16)?;
-    refuse(&rt, &mut table, again, Fault::NoTickets { left: 0 });
-    Ok(())
+fn check_one(rt: &impl Abort, row: &str, table: &Table, check: Check) {
+    match check {
+        Check::Found(at, wanted) => same(rt, row, table.find(section(at)), wanted),
+        Check::Present(at, wanted) => same(rt, row, table.is_present(section(at)), wanted),
+        Check::Address(address, wanted) => same(rt, row, table.device_address(address), wanted),
+        Check::Counted(at, wanted) => same(rt, row, table.counters(section(at)), wanted),
+        Check::MappedFrom(from, wanted) => same(rt, row, table.mapped(from), wanted),
+        Check::Step(number, wanted) => same(rt, row, step_at(table.trace(), number), wanted),
+        Check::Host(at, wanted) => same_bytes(rt, row, table.host_read(section(at)), wanted),
+        Check::Device(at, wanted) => same_bytes(rt, row, table.device_read(section(at)), wanted),
+        Check::Used(wanted) => same(rt, row, table.used(), wanted),
+        Check::Events(wanted) => same(rt, row, table.events(), wanted),
+        Check::TicketBook(wanted) => same(rt, row, table.ticket_book(), wanted),
+        Check::Regions(wanted) => same(rt, row, table.regions(), wanted),
+        Check::RegionBook(wanted) => same(rt, row, table.region_book(), wanted),
+    }
 }
 
-#[test]
-fn a_full_trace_takes_no_event(rt: HostRuntime) -> Result<(), Fail> {
-    let mut table = small(rt.alloc(), 100, 100, 2)?;
-    accept(&rt, &mut table, copyin(rt.alloc(), A, 16)?);
-    accept(&rt, &mut table, copyin(rt.alloc(), A, 16)?);
-    let third = copyin(rt.alloc(), A, 16)?;
-    refuse(&rt, &mut table, third, Fault::TraceFull { len: 2 });
-    Ok(())
+fn check_all(rt: &impl Abort, row: &Row, table: &Table) {
+    for &check in row.checks {
+        check_one(rt, row.name, table, check);
+    }
 }
 
-#[test]
-fn a_counter_stops_at_its_limit(rt: HostRuntime) -> Result<(), Fail> {
-    let mut table = small(rt.alloc(), 100, 2, 100)?;
-    accept(&rt, &mut table, copyin(rt.alloc(), A, 16)?);
-    accept(&rt, &mut table, copyin(rt.alloc(), A, 16)?);
-    let third = copyin(rt.alloc(), A, 16)?;
-    refuse(&rt, &mut table, third, Fault::CounterFull { item: 0 });
-    Ok(())
-}
-
-#[test]
-fn a_directive_has_one_item_at_most(rt: HostRuntime) -> Result<(), Fail> {
-    let mut table = small(rt.alloc(), 100, 100, 100)?;
-    let item = Item {
-        clause: EnterClause::Copyin,
-        section: section(A, 16),
-    };
-    let two = Directive::EnterData {
-        items: List::from_vec(vec![in rt.alloc(); item, item]?),
-    };
-    refuse(&rt, &mut table, two, Fault::TooManyItems { n: 2 });
-    let none = Directive::ExitData {
-        items: List::from_vec(Vec::new(rt.alloc())),
-    };
-    accept(&rt, &mut table, none);
-    assert_eq!(rt; table.events(), 1);
-    Ok(())
-}
-
-#[test]
-fn turns_run_one_after_the_other(rt: HostRuntime) -> Result<(), Fail> {
-    let mut table = small(rt.alloc(), 100, 100, 100)?;
-    let turns = vec![in rt.alloc();
-        Turn::Do(copyin(rt.alloc(), A, 33)?),
-        Turn::Do(copyin(rt.alloc(), A + 48, 16)?),
-        Turn::Do(copyin(rt.alloc(), 0x0fff, 1)?),
-        Turn::Do(delete(rt.alloc(), A, 33)?),
-        Turn::HostWrite {
-            addr: A + 15,
-            bytes: List::from_vec(vec![in rt.alloc(); 7]?),
-        },
-        Turn::Do(copyin(rt.alloc(), A, 16)?),
-    ]?;
+/// Takes the turns of a row on a new table, and compares what the table answers and says.
+fn run_row(rt: &(impl Abort + AllocGlobal), row: &Row) -> Result<(), Fault> {
+    let mut table = table_of(rt.alloc(), row.limits)?;
+    let turns = turns_of(rt.alloc(), row.turns)?;
     let answers = table.run(turns)?;
-    let done = Answer::Replied {
-        number: 0,
-        count: 0,
-    };
-    let outside = Answer::Refused(Fault::OutOfHost { item: 0 });
-    assert_eq!(rt;
-        answers.as_slice(),
-        [done, done, outside, done, done, done].as_slice()
-    );
-    assert_eq!(rt; table.device_address(A), Some(DEVICE));
-    assert_eq!(rt; table.device_address(A + 48), Some(DEVICE + 48));
-    assert_eq!(rt;
-        table.device_read(section(A + 14, 2)),
-        Some([0, 7].as_slice())
-    );
+    answered(rt, row, &answers);
+    check_all(rt, row, &table);
     Ok(())
 }
 
 #[test]
-fn a_block_that_does_not_fit_is_refused_with_its_rounded_size(rt: HostRuntime) -> Result<(), Fail> {
-    let mut table = small(rt.alloc(), 100, 100, 100)?;
-    accept(&rt, &mut table, copyin(rt.alloc(), A, 33)?);
-    let too_long = copyin(rt.alloc(), A + 40, 17)?;
-    refuse(
-        &rt,
-        &mut table,
-        too_long,
-        Fault::DeviceFull { item: 0, need: 32 },
-    );
-    accept(&rt, &mut table, copyin(rt.alloc(), A + 40, 16)?);
-    assert_eq!(rt; table.device_address(A + 40), Some(DEVICE + 48));
-    Ok(())
-}
-
-#[test]
-fn an_update_brings_back_what_the_device_has(rt: HostRuntime) -> Result<(), Fail> {
-    let mut table = small(rt.alloc(), 100, 100, 100)?;
-    assert!(rt; table.apply(write(rt.alloc(), A, &[1, 2, 3, 4])?).is_ok());
-    accept(&rt, &mut table, copyin(rt.alloc(), A, 4)?);
-    assert!(rt; table.apply(write(rt.alloc(), A, &[0xff; 4])?).is_ok());
-    assert_eq!(rt;
-        table.device_read(section(A, 4)),
-        Some([1, 2, 3, 4].as_slice())
-    );
-    let middle = update(rt.alloc(), UpdateClause::ToSelf, false, A + 1, 2)?;
-    accept(&rt, &mut table, middle);
-    assert_eq!(rt;
-        table.host_read(section(A, 4)),
-        Some([0xff, 2, 3, 0xff].as_slice())
-    );
-    let first = update(rt.alloc(), UpdateClause::ToDevice, false, A, 1)?;
-    accept(&rt, &mut table, first);
-    assert_eq!(rt;
-        table.device_read(section(A, 4)),
-        Some([0xff, 2, 3, 4].as_slice())
-    );
-    Ok(())
-}
-
-#[test]
-fn an_update_has_to_find_its_section(rt: HostRuntime) -> Result<(), Fail> {
-    let mut table = small(rt.alloc(), 100, 100, 100)?;
-    accept(&rt, &mut table, copyin(rt.alloc(), A, 16)?);
-    let absent = update(rt.alloc(), UpdateClause::ToSelf, false, A + 16, 16)?;
-    refuse(&rt, &mut table, absent, Fault::NotPresent { item: 0 });
-    let passed = update(rt.alloc(), UpdateClause::ToSelf, true, A + 16, 16)?;
-    accept(&rt, &mut table, passed);
-    let partly = update(rt.alloc(), UpdateClause::ToDevice, true, A + 8, 16)?;
-    refuse(&rt, &mut table, partly, Fault::PartlyPresent { item: 0 });
-    Ok(())
-}
-
-#[test]
-fn a_created_array_is_filled_and_not_copied(rt: HostRuntime) -> Result<(), Fail> {
-    let mut table = small(rt.alloc(), 100, 100, 100)?;
-    assert!(rt; table.apply(write(rt.alloc(), A, &[1; 4])?).is_ok());
-    let filled = enter(rt.alloc(), EnterClause::Create { zero: false }, A, 2)?;
-    accept(&rt, &mut table, filled);
-    let zeroed = enter(rt.alloc(), EnterClause::Create { zero: true }, A + 2, 2)?;
-    accept(&rt, &mut table, zeroed);
-    assert_eq!(rt;
-        table.device_read(section(A, 2)),
-        Some([0xa5, 0xa5].as_slice())
-    );
-    assert_eq!(rt;
-        table.device_read(section(A + 2, 2)),
-        Some([0, 0].as_slice())
-    );
-    assert_eq!(rt; table.device_read(section(A, 4)), None);
-    assert_eq!(rt; table.device_read(section(A, 0)), None);
-    Ok(())
-}
-
-#[test]
-fn a_copyout_copies_its_section_and_ends_the_whole_mapping(rt: HostRuntime) -> Result<(), Fail> {
-    let mut table = small(rt.alloc(), 100, 100, 100)?;
-    let created = enter(rt.alloc(), EnterClause::Create { zero: false }, A, 8)?;
-    accept(&rt, &mut table, created);
-    accept(&rt, &mut table, copyin(rt.alloc(), A, 8)?);
-    let counted = exit(rt.alloc(), ExitClause::Copyout, A, 8)?;
-    accept(&rt, &mut table, counted);
-    assert_eq!(rt; table.host_read(section(A, 8)), Some([0; 8].as_slice()));
-    let last = exit(rt.alloc(), ExitClause::Copyout, A + 3, 2)?;
-    accept(&rt, &mut table, last);
-    let copied = [0, 0, 0, 0xa5, 0xa5, 0, 0, 0];
-    assert_eq!(rt; table.host_read(section(A, 8)), Some(copied.as_slice()));
-    assert_eq!(rt; table.used(), 0);
-    let absent = exit(rt.alloc(), ExitClause::Copyout, A, 8)?;
-    accept(&rt, &mut table, absent);
-    assert_eq!(rt; table.events(), 5);
-    Ok(())
-}
-
-#[test]
-fn a_write_of_the_host_stays_in_its_memory(rt: HostRuntime) -> Result<(), Fail> {
-    let mut table = small(rt.alloc(), 100, 100, 100)?;
-    match table.apply(write(rt.alloc(), A + 61, &[1, 2, 3, 4])?) {
-        Ok(_) => panic!(rt; "accepted"),
-        Err((_, fault)) => assert_eq!(rt; fault, Fault::OutOfHost { item: 0 }),
+fn each_row_is_answered_and_reported(rt: HostRuntime) -> Result<(), Fail> {
+    for row in &ROWS {
+        run_row(&rt, row)?;
     }
-    assert_eq!(rt;
-        table.host_read(section(A + 60, 4)),
-        Some([0; 4].as_slice())
-    );
-    assert!(rt; table.apply(write(rt.alloc(), 0, &[])?).is_ok());
-    assert_eq!(rt; table.events(), 1);
-    assert!(rt; table.host_read(section(0, 0)).is_some());
-    assert_eq!(rt; table.host_read(section(A + 61, 4)), None);
     Ok(())
 }
 
-/// Makes a call, and once more where memory is refused: then nothing may have changed before.
-fn apply_twice(rt: &(impl Abort + AllocGlobal), table: &mut Table, call: Call) {
-    let events = table.events();
-    let used = table.used();
-    let mapped = table.mapped(0);
-    if let Err((call, fault)) = table.apply(call) {
-        assert_eq!(rt; fault, Fault::Memory);
-        assert_eq!(rt; table.events(), events);
-        assert_eq!(rt; table.used(), used);
-        assert_eq!(rt; table.mapped(0), mapped);
-        assert!(rt; table.apply(call).is_ok());
+/// Makes what may want memory, and once more where the first time wanted it.
+fn twice(alloc: Global, ask: Ask) -> Result<Call, AllocError> {
+    match call_of(alloc, ask) {
+        Ok(call) => Ok(call),
+        Err(_) => call_of(alloc, ask),
     }
-    assert_eq!(rt; table.events(), events.wrapping_add(1));
 }
 
-/// The calls of a whole life of an array, and of a second one.
-fn call_of(alloc: Global, number: u64) -> Result<Call, AllocError> {
-    Ok(match number {
-        0 => write(alloc, A, &[1, 2])?,
-        1 => Call::Do(copyin(alloc, A, 16)?),
-        2 => Call::Do(enter(alloc, EnterClause::Create { zero: true }, A + 16, 16)?),
-        3 => Call::Do(update(alloc, UpdateClause::ToSelf, false, A + 16, 2)?),
-        4 => Call::Do(exit(alloc, ExitClause::Copyout, A + 16, 16)?),
-        _ => Call::Do(delete(alloc, A, 16)?),
-    })
+/// The call came back for want of memory: nothing changed, and it is accepted now.
+fn retry(rt: &impl Abort, table: &mut Table, before: (u64, u64), back: (Call, Fault)) {
+    let (call, fault) = back;
+    same(rt, "a refused growth", fault, Fault::Memory);
+    same(
+        rt,
+        "a refused growth",
+        (table.events(), table.used()),
+        before,
+    );
+    let accepted = table.apply(call).is_ok();
+    same(rt, "a refused growth", accepted, true);
+}
+
+/// Makes a call, and once more where memory is refused.
+fn apply_twice(rt: &impl Abort, table: &mut Table, call: Call) {
+    let before = (table.events(), table.used());
+    if let Err(back) = table.apply(call) {
+        retry(rt, table, before, back);
+    }
+}
+
+fn live(rt: &(impl Abort + AllocGlobal), table: &mut Table) -> Result<(), AllocError> {
+    for &ask in LIFE {
+        let call = twice(rt.alloc(), ask)?;
+        apply_twice(rt, table, call);
+    }
+    Ok(())
 }
 
 /// To be run with each allocation failing in turn: what is made here is made a second time where the first failed.
 #[test]
 fn a_refused_growth_changes_nothing(rt: HostRuntime) -> Result<(), Fail> {
-    let mut table = match small(rt.alloc(), 100, 100, 100) {
+    let mut table = match table_of(rt.alloc(), WIDE) {
         Ok(table) => table,
-        Err(_) => small(rt.alloc(), 100, 100, 100)?,
+        Err(_) => table_of(rt.alloc(), WIDE)?,
     };
-    for number in 0..6 {
-        let call = match call_of(rt.alloc(), number) {
-            Ok(call) => call,
-            Err(_) => call_of(rt.alloc(), number)?,
-        };
-        apply_twice(&rt, &mut table, call);
-    }
-    assert_eq!(rt; table.used(), 0);
+    live(&rt, &mut table)?;
+    same(&rt, "a refused growth", table.events(), 6);
+    same(&rt, "a refused growth", table.used(), 0);
     Ok(())
 }

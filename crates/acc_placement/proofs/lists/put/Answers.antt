@@ -5,7 +5,7 @@ use Rattle.std.proofs.lemmas.Grind.{common_steps}
 use Rattle.std.specs.List.{insert}
 use Rattle.std.specs.Prelude.{vec_capacity}
 use Rattle.std.proofs.lemmas.List.Edits.{length-insert}
-use Rattle.acc_placement.specs.Ranges.{IsRising}
+use Rattle.acc_base.specs.Holes.{IsRising}
 use Rattle.acc_placement.specs.Changes.{IsFilled}
 use Rattle.acc_placement.proofs.Rising.{after, rising_front, rising_back, rising_to}
 use Rattle.acc_placement.proofs.Filling.{put_onto, put_in, after_before, rising_both}

@@ -1,10 +1,11 @@
 use Rattle.std.proofs.Common.{◌≤◌, subst}
 use Rattle.std.specs.List.{AllZip}
+use Rattle.acc_base.specs.Holes.{IsDevice}
 use Rattle.acc_base.specs.Blocks.{used_bytes}
 use Rattle.acc_base.specs.Accounts.{IsMemoryOf}
 use Rattle.acc_dev.specs.Device.{DeviceState, HasBlocksApart}
 use Rattle.acc_dev.proofs.Slots.{in_step}
-use Rattle.acc_dev.proofs.Keeping.{apart_of, used_within}
+use Rattle.acc_dev.proofs.Keeping.{apart_of, divided, used_within}
 use Rattle.acc_dev.proofs.devices.Device.laws.Goals as goal
 
 pub returns-clause-blocks_apart : goal.returns-clause-blocks_apart
@@ -15,3 +16,6 @@ returns-clause-memories c = subst (λ (d : DeviceState). AllZip IsMemoryOf d.mem
 
 pub returns-clause-bytes_accounted : goal.returns-clause-bytes_accounted
 returns-clause-bytes_accounted c = subst (λ (d : DeviceState). used_bytes d.blocks ≤ d.size) c.self.view_is (used_within c.self.inside.holes c.self.inside.slab.slots c.self.inside.index.items c.self.invariant.0)
+
+pub returns-clause-holes : goal.returns-clause-holes
+returns-clause-holes c = subst (λ (d : DeviceState). IsDevice d.size d.blocks) c.self.view_is (divided c.self.inside.holes c.self.inside.slab.slots c.self.inside.index.items c.self.invariant.0)

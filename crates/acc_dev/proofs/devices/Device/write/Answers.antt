@@ -3,7 +3,7 @@ use Rattle.acc_base.specs.Bytes.{bytes_of}
 use Rattle.acc_dev.specs.Device.{DeviceState, HasBlock, IsWritten}
 use Rattle.acc_dev.specs.Kept.{memories_in, stored_bytes}
 use Rattle.acc_dev.proofs.Slots.{IsRewritten}
-use Rattle.acc_dev.proofs.Keeping.{device_of, not_missed}
+use Rattle.acc_dev.proofs.Keeping.{device_of, not_missed, filled_read}
 use Rattle.acc_dev.proofs.Writes.{bytes_at, rewritten_from, written_kept, written_of}
 use Rattle.acc_dev.proofs.devices.Device.write.Goals as goal
 
@@ -32,7 +32,8 @@ rewritten c =
 
 pub invariant_of-self : goal.invariant_of-self
 invariant_of-self c = (
-  written_kept c.self.inside.holes c.self.inside.slab.slots c.write_at.new.slab.slots c.self.inside.index.items c.index.result.now.1 c.args.offset c.args.bytes.now c.self.invariant.0 (rewritten c),
+  written_kept c.self.inside.holes c.self.inside.slab.slots c.write_at.new.slab.slots c.self.inside.index.items c.index.result.now.1 c.args.offset c.args.bytes.now c.self.invariant.0
+      (filled_read c.self.inside.holes c.self.inside.slab.slots c.self.inside.index.items c.in-Some.at c.index.result.now c.self.invariant.0 c.index.ensures (rw c.deref.ensures.value at c.in-Some.ensures.found).in_bounds) (rewritten c),
   c.self.invariant.1,
 )
 

@@ -1,0 +1,204 @@
+-- What a task that was judged says of the records before it.
+use Rattle.std.proofs.Common.{ℕ, ◌≡◌, ◌+◌, ◌<◌, refl, subst, Bool, true, false, List, [], ◌∷◌, Option, Some, None, Result, Ok, arith, ⊎_elim}
+use Rattle.std.specs.Prelude.{◌==◌, ◌&&◌, not, nat_le, ⊤, Contains, IfSome}
+use Rattle.std.proofs.lemmas.Bool.Decides.{nat_tests}
+use Rattle.std.proofs.lemmas.List.Elements.{All-contains, All-from_recursion}
+use Rattle.acc_base.specs.declared.items.Section.{Section}
+use Rattle.acc_base.specs.declared.items.Item.{Item}
+use Rattle.acc_base.specs.declared.items.RegionClause.{RegionClause}
+use Rattle.acc_base.specs.declared.items.RegionClause.TheVariants as region
+use Rattle.acc_base.specs.declared.items.ExitClause.{ExitClause}
+use Rattle.acc_base.specs.declared.items.UpdateClause.{UpdateClause}
+use Rattle.acc_base.specs.declared.mappings.Counter.{Counter}
+use Rattle.acc_base.specs.declared.mappings.Range.{Range}
+use Rattle.acc_base.specs.declared.mappings.Found.{Found}
+use Rattle.acc_base.specs.declared.mappings.Found.TheVariants.{Empty, Inside, Partly, Absent}
+use Rattle.acc_base.specs.declared.tasks.Task.{Task}
+use Rattle.acc_base.specs.declared.tasks.Task.TheVariants.{Enter, Leave, Exit, Move}
+use Rattle.acc_base.specs.declared.events.Step.{Step}
+use Rattle.acc_base.specs.declared.events.Step.TheVariants.{Nothing, Counted, Born, Dropped, Moved}
+use Rattle.acc_base.specs.declared.faults.Fault.{Fault}
+use Rattle.acc_base.specs.declared.faults.Fault.TheVariants.{CounterFull}
+use Rattle.acc_base.specs.Results.{◌>>◌, refuse_if}
+use Rattle.acc_base.specs.Limits.{Limits}
+use Rattle.acc_base.specs.Section.{is_empty, is_within, host_memory}
+use Rattle.acc_base.specs.Records.{Records}
+use Rattle.acc_base.specs.Ranges.{where_is, range_of, counter_of, dynamic_of, ends_by}
+use Rattle.acc_base.specs.Blocks.{rounded, place_for}
+use Rattle.acc_base.specs.Clauses.{in_host, born_at, born, enter_absent, counted, enter_row, leave_row, exit_row, move_row}
+use Rattle.acc_base.specs.Tasks.{recounted, judge_task}
+use Rattle.acc_base.proofs.Results.{chosen, then_ok, ok_same, refused_not, equal_self}
+use Rattle.acc_base.proofs.Elements.{find_passes, find_none}
+use Rattle.acc_base.proofs.Where.{IsInsideOf, inside_says, absent_says}
+
+-- the block of a section that is inside a range is mapped
+pub inside_mapped : (s : Section) (ranges : List Range) (k o : ℕ) → where_is s ranges ≡ Inside k o → range_of k ranges ≡ None → ⊥
+inside_mapped s ranges k o e none =
+    let found : (r : Range) × IsInsideOf s ranges k o r = inside_says s ranges k o e in
+    let passes : Contains ranges found.0 × (is_within s found.0.section ≡ true) = subst (λ x. IfSome x (λ t. Contains ranges t × (is_within s t.section ≡ true))) found.1.around (find_passes (λ r. is_within s r.section) ranges) in
+    let other : (found.0.block == k) ≡ false = All-contains (λ (r : Range). (r.block == k) ≡ false) ranges found.0 (All-from_recursion (λ (r : Range). (r.block == k) ≡ false) ranges (find_none (λ r. r.block == k) ranges none)) passes.0 in
+    let same : (found.0.block == k) ≡ true = rw found.1.block_is (equal_self k) in
+    cc
+
+-- ---- what each step says
+
+-- a birth: the next number, the least place, and a section of host memory that is absent
+pub record IsBirth (l : Limits) (section : Section) (block place : ℕ) (w : Records) : Type 0 where
+  pub number : block ≡ w.births + 1
+  pub place_is : place_for l.device w.blocks (rounded section.len) ≡ Some place
+  pub absent : where_is section w.ranges ≡ Absent
+  pub within : is_within section (host_memory l.host) ≡ true
+
+-- a count: the block is mapped, and its counter is below the limit
+pub record IsCount (l : Limits) (counter : Counter) (block : ℕ) (w : Records) : Type 0 where
+  pub mapped : range_of block w.ranges ≡ None → ⊥
+  pub room : counter_of counter block w.ranges < l.counter_max
+
+-- a section of host memory that has addresses, all of them in the range of the block
+pub record IsInRangeOf (l : Limits) (section : Section) (block : ℕ) (w : Records) : Type 0 where
+  pub offset : ℕ
+  pub inside : where_is section w.ranges ≡ Inside block offset
+  pub within : is_within section (host_memory l.host) ≡ true
+  pub some : 0 < section.len
+  pub mapped : range_of block w.ranges ≡ None → ⊥
+
+-- a drop by `exit data`: the dynamic counter was above zero
+pub record IsDrop (l : Limits) (finalize : Bool) (item : Item ExitClause) (block : ℕ) (ended : Bool) (w : Records) : Type 0 where
+  pub range : IsInRangeOf l item.section block w
+  pub some : 0 < dynamic_of block w.ranges
+  pub ended_is : ended ≡ ends_by (recounted (Exit finalize item)) block w.ranges
+
+-- the task can have been judged to do the step
+abbrev pub IsJudgedTo : Limits → Task → Step → Records → Type 0
+IsJudgedTo l (Enter counter item) Nothing w = ⊤
+IsJudgedTo l (Enter counter item) (Counted k) w = IsCount l counter k w
+IsJudgedTo l (Enter counter item) (Born k p) w = IsBirth l item.section k p w
+IsJudgedTo l (Enter counter item) (Dropped k ended) w = ⊥
+IsJudgedTo l (Enter counter item) (Moved k) w = ⊥
+IsJudgedTo l (Leave holding) Nothing w = holding.block ≡ None
+IsJudgedTo l (Leave holding) (Counted k) w = ⊥
+IsJudgedTo l (Leave holding) (Born k p) w = ⊥
+IsJudgedTo l (Leave holding) (Dropped k ended) w = (holding.block ≡ Some k) × (ended ≡ ends_by (recounted (Leave holding)) k w.ranges)
+IsJudgedTo l (Leave holding) (Moved k) w = ⊥
+IsJudgedTo l (Exit finalize item) Nothing w = ⊤
+IsJudgedTo l (Exit finalize item) (Counted k) w = ⊥
+IsJudgedTo l (Exit finalize item) (Born k p) w = ⊥
+IsJudgedTo l (Exit finalize item) (Dropped k ended) w = IsDrop l finalize item k ended w
+IsJudgedTo l (Exit finalize item) (Moved k) w = ⊥
+IsJudgedTo l (Move if_present item) Nothing w = ⊤
+IsJudgedTo l (Move if_present item) (Counted k) w = ⊥
+IsJudgedTo l (Move if_present item) (Born k p) w = ⊥
+IsJudgedTo l (Move if_present item) (Dropped k ended) w = ⊥
+IsJudgedTo l (Move if_present item) (Moved k) w = IsInRangeOf l item.section k w
+
+-- ---- sections of host memory
+
+-- a section that was checked and is not empty lies in host memory
+pub in_host_says : (l : Limits) (n : ℕ) (section : Section) → in_host l n section ≡ Ok tt → is_empty section ≡ false → is_within section (host_memory l.host) ≡ true
+in_host_says l n section e filled = go (is_empty section) (is_within section (host_memory l.host)) filled (refused_not _ _ e)
+  where
+    go : (a b : Bool) → a ≡ false → (not a && not b) ≡ false → b ≡ true
+    go true b p q = cc
+    go false true p q = refl
+    go false false p q = cc
+
+inside_filled : (s : Section) (ranges : List Range) (k o : ℕ) → where_is s ranges ≡ Inside k o → is_empty s ≡ false
+inside_filled s ranges k o e = go (is_empty s) refl e
+  where
+    go : (b : Bool) → is_empty s ≡ b → where_is s ranges ≡ Inside k o → is_empty s ≡ false
+    go true p q = let empty : where_is s ranges ≡ Empty = rw p refl in cc
+    go false p q = p
+
+in_range_of : (l : Limits) (n : ℕ) (section : Section) (k o : ℕ) (w : Records) → in_host l n section ≡ Ok tt → where_is section w.ranges ≡ Inside k o → IsInRangeOf l section k w
+in_range_of l n section k o w checked inside =
+    let filled : is_empty section ≡ false = inside_filled section w.ranges k o inside in
+    record {
+      offset = o;
+      inside = inside;
+      within = in_host_says l n section checked filled;
+      some = grind (arith, nat_tests);
+      mapped = inside_mapped section w.ranges k o inside;
+    }
+
+-- ---- entry
+
+enter_told : (l : Limits) (counter : Counter) (item : Item RegionClause) (w : Records) (x y : Step) → x ≡ y → IsJudgedTo l (Enter counter item) x w → IsJudgedTo l (Enter counter item) y w
+enter_told l counter item w x y e h = subst (λ t. IsJudgedTo l (Enter counter item) t w) e h
+
+born_says : (l : Limits) (counter : Counter) (item : Item RegionClause) (n : ℕ) (w : Records) (step : Step) (place : Option ℕ)
+    → place_for l.device w.blocks (rounded item.section.len) ≡ place → where_is item.section w.ranges ≡ Absent → is_within item.section (host_memory l.host) ≡ true
+    → born_at place n item.section w ≡ Ok step → IsJudgedTo l (Enter counter item) step w
+born_says l counter item n w step None p a h e = cc
+born_says l counter item n w step (Some place) p a h e = enter_told l counter item w _ _ (ok_same _ _ e) (record { number = refl; place_is = p; absent = a; within = h })
+
+absent_entered : (l : Limits) (counter : Counter) (item : Item RegionClause) (n : ℕ) (w : Records) (step : Step) (clause : RegionClause)
+    → where_is item.section w.ranges ≡ Absent → is_within item.section (host_memory l.host) ≡ true
+    → enter_absent clause l n item.section w ≡ Ok step → IsJudgedTo l (Enter counter item) step w
+absent_entered l counter item n w step region.Copy a h e = born_says l counter item n w step _ refl a h e
+absent_entered l counter item n w step region.Copyin a h e = born_says l counter item n w step _ refl a h e
+absent_entered l counter item n w step (region.Copyout zeroed) a h e = born_says l counter item n w step _ refl a h e
+absent_entered l counter item n w step (region.Create zeroed) a h e = born_says l counter item n w step _ refl a h e
+absent_entered l counter item n w step region.NoCreate a h e = enter_told l counter item w _ _ (ok_same _ _ e) tt
+absent_entered l counter item n w step region.Present a h e = cc
+
+entered_says : (l : Limits) (counter : Counter) (item : Item RegionClause) (n : ℕ) (w : Records) (step : Step) (found : Found)
+    → where_is item.section w.ranges ≡ found → in_host l n item.section ≡ Ok tt
+    → enter_row found l counter item.clause n item.section w ≡ Ok step → IsJudgedTo l (Enter counter item) step w
+entered_says l counter item n w step Empty f h e = enter_told l counter item w _ _ (ok_same _ _ e) tt
+entered_says l counter item n w step (Inside k o) f h e =
+    let both : (refuse_if (nat_le l.counter_max (counter_of counter k w.ranges)) (CounterFull n) ≡ Ok tt) × (Ok (Counted k) ≡ Ok step) = then_ok _ _ step e in
+    let full : nat_le l.counter_max (counter_of counter k w.ranges) ≡ false = refused_not _ _ both.0 in
+    let room : counter_of counter k w.ranges < l.counter_max = grind (arith, nat_tests) in
+    enter_told l counter item w _ _ (ok_same _ _ both.1) (record { mapped = inside_mapped item.section w.ranges k o f; room = room })
+entered_says l counter item n w step Absent f h e = absent_entered l counter item n w step item.clause f (in_host_says l n item.section h (absent_says item.section w.ranges f).1) e
+entered_says l counter item n w step Partly f h e = cc
+
+-- ---- exit from a region
+
+left_says : (l : Limits) (item : Item RegionClause) (w : Records) (step : Step) (block : Option ℕ)
+    → leave_row block (recounted (Leave (record { item = item; block = block }))) w ≡ Ok step → IsJudgedTo l (Leave (record { item = item; block = block })) step w
+left_says l item w step None e = subst (λ t. IsJudgedTo l (Leave (record { item = item; block = None })) t w) (ok_same _ _ e) refl
+left_says l item w step (Some k) e = subst (λ t. IsJudgedTo l (Leave (record { item = item; block = Some k })) t w) (ok_same _ _ e) (refl, refl)
+
+-- ---- `exit data`
+
+exited_says : (l : Limits) (finalize : Bool) (item : Item ExitClause) (n : ℕ) (w : Records) (step : Step) (found : Found)
+    → where_is item.section w.ranges ≡ found → in_host l n item.section ≡ Ok tt
+    → exit_row found (recounted (Exit finalize item)) n w ≡ Ok step → IsJudgedTo l (Exit finalize item) step w
+exited_says l finalize item n w step Empty f h e = subst (λ t. IsJudgedTo l (Exit finalize item) t w) (ok_same _ _ e) tt
+exited_says l finalize item n w step (Inside k o) f h e = ⊎_elim
+    (λ a. subst (λ t. IsJudgedTo l (Exit finalize item) t w) (ok_same _ _ a.1) tt)
+    (λ b. let some : 0 < dynamic_of k w.ranges = above (dynamic_of k w.ranges) b.0 in
+    subst (λ t. IsJudgedTo l (Exit finalize item) t w) (ok_same _ _ b.1) (record { range = in_range_of l n item.section k o w h f; some = some; ended_is = refl }))
+    (chosen (dynamic_of k w.ranges == 0) (Ok Nothing) (Ok (Dropped k (ends_by (recounted (Exit finalize item)) k w.ranges))) (Ok step) e)
+  where
+    above : (d : ℕ) → (d == 0) ≡ false → 0 < d
+    above d z = grind (arith, nat_tests)
+exited_says l finalize item n w step Absent f h e = subst (λ t. IsJudgedTo l (Exit finalize item) t w) (ok_same _ _ e) tt
+exited_says l finalize item n w step Partly f h e = cc
+
+-- ---- `update`
+
+moved_says : (l : Limits) (if_present : Bool) (item : Item UpdateClause) (n : ℕ) (w : Records) (step : Step) (found : Found)
+    → where_is item.section w.ranges ≡ found → in_host l n item.section ≡ Ok tt
+    → move_row found if_present n ≡ Ok step → IsJudgedTo l (Move if_present item) step w
+moved_says l if_present item n w step Empty f h e = subst (λ t. IsJudgedTo l (Move if_present item) t w) (ok_same _ _ e) tt
+moved_says l if_present item n w step (Inside k o) f h e = subst (λ t. IsJudgedTo l (Move if_present item) t w) (ok_same _ _ e) (in_range_of l n item.section k o w h f)
+moved_says l true item n w step Absent f h e = subst (λ t. IsJudgedTo l (Move true item) t w) (ok_same _ _ e) tt
+moved_says l false item n w step Absent f h e = cc
+moved_says l if_present item n w step Partly f h e = cc
+
+-- ---- any task
+
+pub task_says : (l : Limits) (n : ℕ) (task : Task) (w : Records) (step : Step) → judge_task l n task w ≡ Ok step → IsJudgedTo l task step w
+unfolding judge_task
+task_says l n (Enter counter item) w step e =
+    let both : (in_host l n item.section ≡ Ok tt) × (enter_row (where_is item.section w.ranges) l counter item.clause n item.section w ≡ Ok step) = then_ok _ _ step e in
+    entered_says l counter item n w step (where_is item.section w.ranges) refl both.0 both.1
+task_says l n (Leave holding) w step e = left_says l holding.item w step holding.block e
+task_says l n (Exit finalize item) w step e =
+    let both : (in_host l n item.section ≡ Ok tt) × (exit_row (where_is item.section w.ranges) (recounted (Exit finalize item)) n w ≡ Ok step) = then_ok _ _ step e in
+    exited_says l finalize item n w step (where_is item.section w.ranges) refl both.0 both.1
+task_says l n (Move if_present item) w step e =
+    let both : (in_host l n item.section ≡ Ok tt) × (move_row (where_is item.section w.ranges) if_present n ≡ Ok step) = then_ok _ _ step e in
+    moved_says l if_present item n w step (where_is item.section w.ranges) refl both.0 both.1

@@ -1,3 +1,6 @@
-pub mod Says
-pub mod Reads
 pub mod Founds
+pub mod Overlaid
+pub mod Laws
+pub mod Drafted
+pub mod Turns
+pub mod Asking

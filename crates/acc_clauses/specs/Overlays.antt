@@ -1,8 +1,9 @@
 -- What a plan knows of the records after its tasks: what each look-up answers then, from what it answers before them.
-use Rattle.std.specs.Prelude.{ℕ, ◌+◌, ◌-◌, ◌≡◌, ◌⊎◌, Bool, true, false, if◌then◌else◌, ◌==◌, List, [], ◌∷◌, ◌++◌, map, fold}
+use Rattle.std.specs.Prelude.{ℕ, ◌-◌, ◌≡◌, ◌⊎◌, Bool, true, false, if◌then◌else◌, ◌==◌, ◌&&◌, ◌≤◌, length, List, [], ◌∷◌, ◌++◌, map, fold}
 use Rattle.std.specs.List.{list_any}
 use Rattle.acc_base.specs.declared.items.Section.{Section}
-use Rattle.acc_base.specs.declared.mappings.Counter.{Counter}
+use Rattle.acc_base.specs.declared.mappings.Range.{Range}
+use Rattle.acc_base.specs.declared.mappings.Counters.{Counters}
 use Rattle.acc_base.specs.declared.mappings.Counter.TheVariants.{Structured, Dynamic}
 use Rattle.acc_base.specs.declared.mappings.Found.{Found}
 use Rattle.acc_base.specs.declared.mappings.Found.TheVariants.{Empty, Inside, Partly, Absent}
@@ -11,11 +12,13 @@ use Rattle.acc_base.specs.declared.tasks.Task.TheVariants.{Enter, Leave, Exit, M
 use Rattle.acc_base.specs.declared.events.Step.{Step}
 use Rattle.acc_base.specs.declared.events.Step.TheVariants.{Nothing, Counted, Born, Dropped, Moved}
 use Rattle.acc_base.specs.declared.events.Did.{Did}
-use Rattle.acc_base.specs.Limits.{Limits}
+use Rattle.acc_base.specs.Limits.{Limits, IsWithinBounds}
 use Rattle.acc_base.specs.Section.{is_within, is_apart}
 use Rattle.acc_base.specs.Records.{Records}
-use Rattle.acc_base.specs.Tasks.{section_of, did_of, act_all}
+use Rattle.acc_base.specs.Ranges.{counter_of}
+use Rattle.acc_base.specs.Tasks.{section_of, recounted, did_of, act_all}
 use Rattle.acc_base.specs.History.{AreJudged}
+use Rattle.acc_base.specs.Accounts.{AreRecordsSound}
 use Rattle.acc_clauses.specs.declared.acted.Acted.{Acted}
 
 -- ---- the tasks of a plan, and what they do
@@ -33,6 +36,12 @@ records_after xs w = act_all (tasks_in xs) (dids_in xs) w
 -- each task does what it is judged to do in the records that those before it leave
 abbrev pub ArePlanned : Limits → List Acted → Records → Type 0
 ArePlanned l xs w = AreJudged l 0 (tasks_in xs) (dids_in xs) w
+
+-- what a plan rests on: the records are sound, and each task was judged in what those before it leave
+pub record IsPlanned (l : Limits) (xs : List Acted) (w : Records) : Type 0 where
+  pub bounds : IsWithinBounds l
+  pub sound : AreRecordsSound l w
+  pub judged : ArePlanned l xs w
 
 -- ---- entries and exits
 
@@ -83,6 +92,12 @@ abbrev pub ended_of : List Acted → List ℕ
 ended_of [] = []
 ended_of (x ∷ xs) = end_by x.step ++ ended_of xs
 
+-- what a draft notes beside its tasks: the births and the ends among them
+pub record IsDraft (xs : List Acted) (births : List (ℕ × ℕ)) (ended : List ℕ) : Type 0 where
+  pub births_are : births ≡ births_of xs
+  pub ended_are : ended ≡ ended_of xs
+  pub few : length xs ≤ 64
+
 -- ---- where a section lies
 
 -- where a section lies once a range that it may touch is mapped to a new block
@@ -106,28 +121,34 @@ found_over s found xs = fold (λ f x. found_by s f x.task x.step) found xs
 
 -- ---- reference counters
 
--- a counter of a range that a task counts or drops
-abbrev pub moved_count : Task → Counter → ℕ → ℕ
-moved_count (Enter Structured item) Structured n = n + 1
-moved_count (Enter Structured item) Dynamic n = n
-moved_count (Enter Dynamic item) Structured n = n
-moved_count (Enter Dynamic item) Dynamic n = n + 1
-moved_count (Leave holding) Structured n = n - 1
-moved_count (Leave holding) Dynamic n = n
-moved_count (Exit finalize item) Structured n = n
-moved_count (Exit true item) Dynamic n = 0
-moved_count (Exit false item) Dynamic n = n - 1
-moved_count (Move if_present item) counter n = n
+-- both counters of a range
+abbrev pub counters_in : Range → Counters
+counters_in r = record { structured = r.structured; dynamic = r.dynamic }
 
--- a counter of a block's range after a task
-abbrev pub count_by : Counter → ℕ → ℕ → Task → Step → ℕ
-count_by counter block n task Nothing = n
-count_by counter block n task (Counted b) = if b == block then moved_count task counter n else n
-count_by counter block n task (Born b place) = if b == block then moved_count task counter 0 else n
-count_by counter block n task (Dropped b true) = if b == block then 0 else n
-count_by counter block n task (Dropped b false) = if b == block then moved_count task counter n else n
-count_by counter block n task (Moved b) = n
+-- both counters of the range that is mapped to a block
+abbrev pub counters_at : ℕ → List Range → Counters
+counters_at block ranges = record { structured = counter_of Structured block ranges; dynamic = counter_of Dynamic block ranges }
 
--- a counter of a block's range after tasks
-abbrev pub count_over : Counter → ℕ → ℕ → List Acted → ℕ
-count_over counter block n xs = fold (λ m x. count_by counter block m x.task x.step) n xs
+-- some range with these counters
+abbrev pub range_counted : Counters → Range
+range_counted c = record { section = record { start = 0; len = 0 }; block = 0; structured = c.structured; dynamic = c.dynamic }
+
+-- the counters of a range that a task counts or drops
+abbrev pub recount : Task → Counters → Counters
+recount task c = counters_in (recounted task (range_counted c))
+
+-- neither counter is above zero
+abbrev pub are_zero : Counters → Bool
+are_zero c = (c.structured == 0) && (c.dynamic == 0)
+
+-- the counters of a block's range after a task
+abbrev pub counters_by : ℕ → Counters → Task → Step → Counters
+counters_by block c task Nothing = c
+counters_by block c task (Counted b) = if b == block then recount task c else c
+counters_by block c task (Born b place) = if b == block then recount task c else c
+counters_by block c task (Dropped b ended) = if b == block then recount task c else c
+counters_by block c task (Moved b) = c
+
+-- the counters of a block's range after tasks
+abbrev pub counters_over : ℕ → Counters → List Acted → Counters
+counters_over block c xs = fold (λ d x. counters_by block d x.task x.step) c xs

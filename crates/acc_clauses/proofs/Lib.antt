@@ -4,3 +4,4 @@ pub mod Laws
 pub mod Drafted
 pub mod Turns
 pub mod Asking
+pub mod Events

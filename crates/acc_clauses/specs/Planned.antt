@@ -1,15 +1,18 @@
 -- What contracts see of a plan, and what it rests on.
-use Rattle.std.specs.Prelude.{◌≡◌, ◌≤◌, List, length, reverse, Result, Ok}
+use Rattle.std.specs.Prelude.{◌≡◌, ◌≤◌, List, [], ◌∷◌, ◌++◌, length, reverse, Result, Ok}
 use Rattle.acc_base.specs.declared.directives.Directive.{Directive}
 use Rattle.acc_base.specs.declared.directives.Directive.TheVariants.{Enter, Exit, EnterData, ExitData, Update}
+use Rattle.acc_base.specs.declared.regions.Holding.{Holding}
 use Rattle.acc_base.specs.declared.tasks.Task.{Task}
+use Rattle.acc_base.specs.declared.tasks.Task.TheVariants as tasks
 use Rattle.acc_base.specs.declared.events.Did.{Did}
 use Rattle.acc_base.specs.declared.faults.Fault.{Fault}
 use Rattle.acc_base.specs.Results.{◌>>◌}
 use Rattle.acc_base.specs.Limits.{Limits}
-use Rattle.acc_base.specs.Register.{Region, Register}
+use Rattle.acc_base.specs.Register.{Region, Register, opened, closed}
 use Rattle.acc_base.specs.Records.{Layout}
 use Rattle.acc_base.specs.Judge.{few_items, tasks_of}
+use Rattle.acc_base.specs.Walk.{block_counted}
 use Rattle.acc_base.specs.History.{AreJudged}
 use Rattle.acc_clauses.specs.declared.plans.Head.{Head}
 use Rattle.acc_clauses.specs.declared.plans.Head.TheVariants.{Plain, Entry, Leaving}
@@ -48,3 +51,27 @@ pub record IsPlannedOn (l : Limits) (d : Directive) (lay : Layout) (p : Planned)
 -- what a directive asks, in the order in which it acts; too many items are told before all else
 abbrev pub asked_of : Directive → Register → Result (List Task) Fault
 asked_of d g = few_items d >> tasks_of d g
+
+-- ---- what a plan makes of the register
+
+-- what a task of an entry holds
+abbrev pub holding_by : Task → Did → List Holding
+holding_by (tasks.Enter counter item) did = record { item = item; block = block_counted did.step } ∷ []
+holding_by (tasks.Leave holding) did = []
+holding_by (tasks.Exit finalize item) did = []
+holding_by (tasks.Move if_present item) did = []
+
+-- what the tasks of an entry hold
+abbrev pub holdings_by : List Task → List Did → List Holding
+holdings_by (task ∷ tasks) (did ∷ dids) = holding_by task did ++ holdings_by tasks dids
+holdings_by _ _ = []
+
+-- the register after a directive, whose entry holds these
+abbrev pub register_by : Head → List Holding → Register → Register
+register_by Plain holdings g = g
+register_by Entry holdings g = opened holdings g
+register_by (Leaving number) holdings g = closed number g
+
+-- the register after the plan is done
+abbrev pub register_planned : Planned → Register → Register
+register_planned p g = register_by p.head (holdings_by p.tasks p.dids) g

@@ -1,6 +1,12 @@
+pub mod Founds
+pub mod Overlaid
+pub mod Laws
+pub mod Drafted
+pub mod Turns
+pub mod Asking
+pub mod Events
 mod Copying
 mod Moving
-mod Keeping
 mod Steps
 mod Legal
 mod Changes
@@ -8,3 +14,4 @@ mod Remaining
 mod Holding
 mod Entering
 mod Storing
+mod Finishing

@@ -1,15 +1,9 @@
 -- What the calls that do no step leave of the parts.
-use Rattle.std.proofs.Common.{ℕ, ◌≡◌, ◌<◌, refl, sym, ◌∙◌, ap, subst, true, List, [], length}
-use Rattle.acc_base.specs.declared.items.Section.{Section}
+use Rattle.std.proofs.Common.{ℕ, ◌≡◌, refl, ◌∙◌, ap, List, length}
 use Rattle.acc_base.specs.Limits.{Limits}
-use Rattle.acc_base.specs.Section.{is_within, host_memory}
-use Rattle.acc_base.specs.Records.{Records, State}
-use Rattle.acc_base.specs.Bytes.{host_after_write}
-use Rattle.acc_base.specs.Accounts.{AreRecordsSound, AreMemoriesSized}
-use Rattle.acc_base.proofs.Memories.{length-host_after_write}
-use Rattle.acc_present.specs.Present.{PresentTable, PresentState}
+use Rattle.acc_present.specs.Present.{PresentState}
 use Rattle.acc_dev.specs.Device.{DeviceState, IsUnchanged}
-use Rattle.acc_clauses.specs.Contents.{state_of, contents_of, AreSizedBy, AreContentsSound, ArePartsSound}
+use Rattle.acc_clauses.specs.Contents.{state_of, ArePartsSound}
 
 -- parts with the same ranges, blocks and memories, and host memory as long, are sound as they were
 pub kept_sound : (l : Limits) (p q : PresentState) (d e : DeviceState) (host host2 : List ℕ) (next next2 : ℕ) → ArePartsSound l p d host next → q.table.counter_max ≡ p.table.counter_max → e.size ≡ d.size

@@ -1,5 +1,5 @@
 -- What an entry to a region counts lies within the ranges of the blocks that it counted, after all of its tasks.
-use Rattle.std.proofs.Common.{ℕ, suc, ◌≡◌, ◌+◌, ◌≤◌, refl, sym, ◌∙◌, ap, subst, Bool, true, false, cond, List, [], ◌∷◌, map, Option, Some, None, Result, Ok, arith}
+use Rattle.std.proofs.Common.{ℕ, suc, ◌≡◌, ◌+◌, ◌≤◌, refl, ◌∙◌, ap, subst, Bool, true, false, cond, List, [], ◌∷◌, map, Option, Some, None, Result, Ok, arith}
 use Rattle.std.specs.Prelude.{◌==◌, nat_lt, nat_le}
 use Rattle.std.specs.List.{AllByRecursion}
 use Rattle.std.proofs.lemmas.Bool.Decides.{nat_tests}
@@ -11,7 +11,6 @@ use Rattle.acc_base.specs.declared.mappings.Range.{Range}
 use Rattle.acc_base.specs.declared.mappings.Found.{Found}
 use Rattle.acc_base.specs.declared.mappings.Found.TheVariants.{Empty, Inside, Partly, Absent}
 use Rattle.acc_base.specs.declared.mappings.Counter.TheVariants.{Structured}
-use Rattle.acc_base.specs.declared.regions.Holding.{Holding}
 use Rattle.acc_base.specs.declared.tasks.Task.{Task}
 use Rattle.acc_base.specs.declared.tasks.Task.TheVariants.{Enter}
 use Rattle.acc_base.specs.declared.events.Step.{Step}
@@ -19,7 +18,7 @@ use Rattle.acc_base.specs.declared.events.Step.TheVariants.{Nothing, Counted, Bo
 use Rattle.acc_base.specs.declared.events.Did.{Did}
 use Rattle.acc_base.specs.declared.faults.Fault.{Fault}
 use Rattle.acc_base.specs.declared.faults.Fault.TheVariants.{CounterFull}
-use Rattle.acc_base.specs.Results.{◌>>◌, refuse_if}
+use Rattle.acc_base.specs.Results.{refuse_if}
 use Rattle.acc_base.specs.Limits.{Limits, IsWithinBounds}
 use Rattle.acc_base.specs.Section.{is_within}
 use Rattle.acc_base.specs.Records.{Records}
@@ -27,7 +26,7 @@ use Rattle.acc_base.specs.Ranges.{where_is, range_of, counter_of, with_range, ba
 use Rattle.acc_base.specs.Blocks.{rounded, place_for}
 use Rattle.acc_base.specs.Register.{Region}
 use Rattle.acc_base.specs.Clauses.{in_host, born_at, enter_absent, enter_row}
-use Rattle.acc_base.specs.Tasks.{section_of, recounted, judge_task, act, act_all, records_after_birth, with_range_changed}
+use Rattle.acc_base.specs.Tasks.{judge_task, act, act_all, records_after_birth}
 use Rattle.acc_base.specs.Walk.{enter_task, block_counted, holdings_of}
 use Rattle.acc_base.specs.History.{AreJudged}
 use Rattle.acc_base.specs.Accounts.{AreRecordsSound}
@@ -35,7 +34,6 @@ use Rattle.acc_base.proofs.Results.{equal_self, then_ok}
 use Rattle.acc_base.proofs.Elements.{AllByRecursion-weaker}
 use Rattle.acc_base.proofs.Judged.{IsJudgedTo, task_says}
 use Rattle.acc_base.proofs.Sound.{acted_sound, ranges_born, fresh}
-use Rattle.acc_base.proofs.Memories.{recounted-block, recounted-section}
 use Rattle.acc_clauses.specs.Acts.{IsMappedAround}
 use Rattle.acc_clauses.specs.Stored.{IsHeldWithin, IsHoldingWithin, AreHoldingsWithin}
 use Rattle.acc_clauses.proofs.Legal.{mapped_around}

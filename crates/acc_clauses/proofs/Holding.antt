@@ -16,7 +16,7 @@ use Rattle.acc_base.specs.declared.events.Did.{Did}
 use Rattle.acc_base.specs.Limits.{Limits, IsWithinBounds}
 use Rattle.acc_base.specs.Section.{is_within}
 use Rattle.acc_base.specs.Records.{Records}
-use Rattle.acc_base.specs.Ranges.{range_of, structured_of, counter_of, changed_at, with_range, without_range, bare_range}
+use Rattle.acc_base.specs.Ranges.{range_of, structured_of, changed_at, with_range, without_range, bare_range}
 use Rattle.acc_base.specs.Register.{is_counted_block, count_held}
 use Rattle.acc_base.specs.Tasks.{section_of, recounted, act, records_after_birth, records_after_end, with_range_changed}
 use Rattle.acc_base.specs.History.{AreJudged}
@@ -26,9 +26,9 @@ use Rattle.acc_base.proofs.Elements.{AllByRecursion-weaker}
 use Rattle.acc_base.proofs.Lookups.{at-changed, at-without_same, at-without_other}
 use Rattle.acc_base.proofs.Judged.{IsJudgedTo, task_says}
 use Rattle.acc_base.proofs.Sound.{acted_sound}
-use Rattle.acc_base.proofs.Recounted.{names, moved_by, counter-act}
+use Rattle.acc_base.proofs.Recounted.{names, counter-act}
 use Rattle.acc_base.proofs.Memories.{recounted-block, recounted-section}
-use Rattle.acc_clauses.specs.Acts.{IsMappedAround, IsKnown, AreKnown}
+use Rattle.acc_clauses.specs.Acts.{IsKnown, AreKnown}
 use Rattle.acc_clauses.specs.Stored.{IsHeldWithin, IsHoldingWithin}
 
 -- ---- the range of a block after a step

@@ -1,13 +1,10 @@
 -- A step that a task is judged to do can be done, and leaves the parts sound.
-use Rattle.std.proofs.Common.{ℕ, ◌≡◌, ◌+◌, ◌<◌, ◌≤◌, ◌^◌, refl, sym, ◌∙◌, ap, subst, Bool, true, false, List, [], ◌∷◌, length, Option, Some, None, arith}
-use Rattle.std.specs.Prelude.{◌==◌, IsSome, ⊤, Ok}
+use Rattle.std.proofs.Common.{ℕ, ◌≡◌, ◌+◌, ◌<◌, ◌≤◌, ◌^◌, refl, sym, ◌∙◌, subst, true, false, List, [], ◌∷◌, Option, Some, None, arith}
+use Rattle.std.specs.Prelude.{◌==◌, IsSome}
 use Rattle.std.specs.List.{AllByRecursion, AllZip}
 use Rattle.std.proofs.lemmas.Bool.Decides.{nat_tests}
 use Rattle.acc_base.specs.declared.addresses.TheConstants.{MEMORY_MAX}
 use Rattle.acc_base.specs.declared.items.Section.{Section}
-use Rattle.acc_base.specs.declared.items.Item.{Item}
-use Rattle.acc_base.specs.declared.items.RegionClause.{RegionClause}
-use Rattle.acc_base.specs.declared.mappings.Counter.{Counter}
 use Rattle.acc_base.specs.declared.mappings.Range.{Range}
 use Rattle.acc_base.specs.declared.mappings.Block.{Block}
 use Rattle.acc_base.specs.declared.mappings.Found.TheVariants.{Inside}
@@ -16,24 +13,23 @@ use Rattle.acc_base.specs.declared.tasks.Task.TheVariants.{Enter, Leave, Exit, M
 use Rattle.acc_base.specs.declared.events.Step.{Step}
 use Rattle.acc_base.specs.declared.events.Step.TheVariants.{Nothing, Counted, Born, Dropped, Moved}
 use Rattle.acc_base.specs.Limits.{Limits, IsWithinBounds, IsFromOne}
-use Rattle.acc_base.specs.Section.{is_within, is_empty, host_memory, end_of}
+use Rattle.acc_base.specs.Section.{is_within, is_empty, host_memory}
 use Rattle.acc_base.specs.Records.{Records, Memory, State}
-use Rattle.acc_base.specs.Ranges.{where_is, range_of, counter_of}
-use Rattle.acc_base.specs.Blocks.{rounded, place_for, block_at}
-use Rattle.acc_base.specs.Tasks.{section_of, act}
-use Rattle.acc_base.specs.Bytes.{bytes_of, act_state}
+use Rattle.acc_base.specs.Ranges.{where_is, range_of}
+use Rattle.acc_base.specs.Blocks.{block_at}
+use Rattle.acc_base.specs.Bytes.{act_state}
 use Rattle.acc_base.specs.Accounts.{IsInHost, IsMapped, IsCounted, HasOneBlockEach, IsMemoryOf, AreRecordsSound, AreMemoriesSized}
 use Rattle.acc_base.proofs.Results.{equal}
 use Rattle.acc_base.proofs.Elements.{AllByRecursion-weaker, AllByRecursion-both, found_has}
 use Rattle.acc_base.proofs.Lookups.{at-own}
 use Rattle.acc_base.proofs.Where.{IsInsideOf, inside_says, absent_says}
-use Rattle.acc_base.proofs.Judged.{IsBirth, IsCount, IsInRangeOf, IsDrop, IsJudgedTo, task_says}
+use Rattle.acc_base.proofs.Judged.{IsBirth, IsInRangeOf, IsJudgedTo, task_says}
 use Rattle.acc_base.proofs.Sound.{ranges_born, acted_sound}
 use Rattle.acc_base.proofs.Memories.{act_sized}
 use Rattle.acc_present.specs.Present.{PresentState}
 use Rattle.acc_dev.specs.Device.{DeviceState}
-use Rattle.acc_clauses.specs.Contents.{state_of, contents_of, AreSizedBy, AreContentsSound, ArePartsSound}
-use Rattle.acc_clauses.specs.Acts.{IsJudged, IsMappedAround, IsKnown, CanCount, CanMove, CanBear, CanDrop, CanAct, IsActedBy}
+use Rattle.acc_clauses.specs.Contents.{state_of, ArePartsSound}
+use Rattle.acc_clauses.specs.Acts.{IsJudged, IsMappedAround, IsKnown, CanMove, CanBear, CanAct, IsActedBy}
 use Rattle.acc_clauses.proofs.Moving.{bytes_of-len, some_of}
 use Rattle.acc_clauses.proofs.Steps.{is_some}
 
@@ -111,6 +107,14 @@ not_none None h = absurd (h refl)
 not_none (Some x) h = refl
 
 -- ---- what each step needs
+
+-- a block that can be born is not too long
+pub birth_len : (l : Limits) (section : Section) (k place : ℕ) (w : Records) → IsWithinBounds l → IsBirth l section k place w → IsFromOne MEMORY_MAX section.len
+birth_len l section k place w bounds says =
+    let filled : is_empty section ≡ false = (absent_says section w.ranges says.absent).1 in
+    let some : 1 ≤ section.len = grind (arith, nat_tests) in
+    let most : section.len ≤ MEMORY_MAX = omega (arith, host_len section l.host says.within, bounds.host.1) in
+    (some, most)
 
 can_bear : (l : Limits) (s : State) (section : Section) (k place : ℕ) → IsWithinBounds l → AreRecordsSound l s.records → AreMemoriesSized l s → s.records.births < 2 ^ 48 → IsBirth l section k place s.records
     → CanBear l.counter_max l.device section k place s

@@ -1,5 +1,5 @@
 -- What a copy between host memory and a block of a device leaves.
-use Rattle.std.proofs.Common.{ℕ, ◌≡◌, ◌+◌, ◌-◌, ◌<◌, ◌≤◌, refl, sym, ◌∙◌, ap, subst, Bool, true, false, cond, List, [], ◌∷◌, length, map, Option, Some, None, arith}
+use Rattle.std.proofs.Common.{ℕ, ◌≡◌, ◌+◌, ◌-◌, ◌<◌, refl, sym, ◌∙◌, ap, subst, Bool, true, false, cond, List, [], ◌∷◌, length, map, Option, Some, None, arith}
 use Rattle.std.specs.Prelude.{◌==◌, find, IsSome, unwrap_or, option_map, take, drop, slice_range}
 use Rattle.std.specs.List.{AllByRecursion, AllZip}
 use Rattle.acc_base.specs.declared.items.Section.{Section}

@@ -1,20 +1,26 @@
 -- What is left to do of a directive's steps, before each of them.
-use Rattle.std.proofs.Common.{ℕ, suc, ◌≡◌, ◌+◌, ◌≤◌, refl, sym, ◌∙◌, ap, true, false, List, [], ◌∷◌, ◌++◌, length, drop, arith, append_assoc, length-append}
+use Rattle.std.proofs.Common.{ℕ, suc, ◌≡◌, ◌+◌, ◌≤◌, sym, ◌∙◌, ap, true, false, List, [], ◌∷◌, ◌++◌, length, drop, arith, append_assoc, append-nil, length-append}
 use Rattle.std.proofs.lemmas.List.{drop_all}
-use Rattle.acc_base.specs.declared.mappings.Range.{Range}
 use Rattle.acc_base.specs.declared.tasks.Task.{Task}
 use Rattle.acc_base.specs.declared.events.Step.{Step}
 use Rattle.acc_base.specs.declared.events.Step.TheVariants.{Nothing, Counted, Born, Dropped, Moved}
 use Rattle.acc_base.specs.declared.events.Did.{Did}
-use Rattle.acc_base.specs.Limits.{Limits}
+use Rattle.acc_base.specs.declared.addresses.TheConstants.{MEMORY_MAX}
+use Rattle.acc_base.specs.declared.tasks.Task.TheVariants.{Enter, Leave, Exit, Move}
+use Rattle.acc_base.specs.Limits.{Limits, IsWithinBounds, IsFromOne}
+use Rattle.std.specs.List.{All, AllByRecursion}
+use Rattle.std.proofs.lemmas.List.Elements.{All-from_recursion}
+use Rattle.acc_base.proofs.Elements.{AllByRecursion-append}
+use Rattle.acc_base.proofs.Judged.{IsJudgedTo, task_says}
+use Rattle.acc_clauses.proofs.Legal.{birth_len}
 use Rattle.acc_base.specs.Records.{Records, State}
 use Rattle.acc_base.specs.Tasks.{act, records_after_birth, records_after_end, with_range_changed}
 use Rattle.acc_base.specs.Bytes.{act_state, act_all_state}
 use Rattle.acc_base.specs.History.{AreJudged}
 use Rattle.acc_clauses.specs.declared.acted.Acted.{Acted}
 use Rattle.acc_clauses.specs.Overlays.{tasks_in, dids_in}
-use Rattle.acc_clauses.specs.Contents.{Contents, Room}
-use Rattle.acc_clauses.specs.Acts.{IsJudged, IsKnown, AreKnown, HasRoomFor, IsRoomLeft, birth_of, lens_born}
+use Rattle.acc_clauses.specs.Contents.{Contents}
+use Rattle.acc_clauses.specs.Acts.{IsJudged, AreKnown, HasRoomFor, IsRoomLeft, birth_of, lens_born}
 
 -- these tasks can be done, one after the other
 pub record CanRun (l : Limits) (tasks : List Task) (dids : List Did) (c : Contents) : Type 0 where
@@ -83,3 +89,31 @@ rest_state task tasks did dids s t u e h = ap (act_all_state tasks dids) e ∙ h
 pub rest_done : (acts : List Acted) (i : ℕ) (s u : State) → length acts ≤ i → act_all_state (tasks_in (drop i acts)) (dids_in (drop i acts)) s ≡ u → s ≡ u
 unfolding act_all_state
 rest_done acts i s u h e = let none : drop i acts ≡ [] = drop_all i acts h in rw none at e
+
+-- all lengths are noted behind the last task
+pub lens_done : (acts : List Acted) (i : ℕ) (lens all : List ℕ) → length acts ≤ i → lens ++ lens_born (tasks_in (drop i acts)) (dids_in (drop i acts)) ≡ all → lens ≡ all
+lens_done acts i lens all h e = let none : drop i acts ≡ [] = drop_all i acts h in let same : lens ++ [] ≡ all = rw none at e in sym (append-nil lens) ∙ same
+
+-- ---- the lengths of blocks
+
+-- a block that a task is judged to bear is not too long
+birth_fits : (l : Limits) (task : Task) (step : Step) (w : Records) → IsWithinBounds l → IsJudgedTo l task step w → AllByRecursion (IsFromOne MEMORY_MAX) (birth_of task step)
+birth_fits l task Nothing w bounds says = tt
+birth_fits l task (Counted k) w bounds says = tt
+birth_fits l (Enter counter item) (Born k p) w bounds says = (birth_len l item.section k p w bounds says, tt)
+birth_fits l (Leave holding) (Born k p) w bounds says = absurd says
+birth_fits l (Exit finalize item) (Born k p) w bounds says = absurd says
+birth_fits l (Move if_present item) (Born k p) w bounds says = absurd says
+birth_fits l task (Dropped k ended) w bounds says = tt
+birth_fits l task (Moved k) w bounds says = tt
+
+lens_each : (l : Limits) (n : ℕ) (tasks : List Task) (dids : List Did) (w : Records) → IsWithinBounds l → AreJudged l n tasks dids w → AllByRecursion (IsFromOne MEMORY_MAX) (lens_born tasks dids)
+lens_each l n [] [] w bounds judged = tt
+lens_each l n [] (d ∷ ds) w bounds judged = tt
+lens_each l n (t ∷ ts) [] w bounds judged = tt
+lens_each l n (t ∷ ts) (d ∷ ds) w bounds judged =
+    AllByRecursion-append (IsFromOne MEMORY_MAX) (birth_of t d.step) (lens_born ts ds) (birth_fits l t d.step w bounds (task_says l n t w d.step judged.0)) (lens_each l (suc n) ts ds (act t d.step w) bounds judged.1)
+
+-- and so is none of those that tasks are judged to bear
+pub lens_fit : (l : Limits) (n : ℕ) (tasks : List Task) (dids : List Did) (w : Records) → IsWithinBounds l → AreJudged l n tasks dids w → All (IsFromOne MEMORY_MAX) (lens_born tasks dids)
+lens_fit l n tasks dids w bounds judged = All-from_recursion (IsFromOne MEMORY_MAX) (lens_born tasks dids) (lens_each l n tasks dids w bounds judged)

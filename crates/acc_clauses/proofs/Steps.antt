@@ -1,6 +1,6 @@
 -- What each step leaves of the parts.
 use Rattle.std.proofs.Common.{ℕ, ◌≡◌, ◌+◌, ◌-◌, ◌<◌, ◌≤◌, refl, sym, ◌∙◌, ap, subst, Bool, true, false, cond, List, [], ◌∷◌, ◌++◌, length, replicate, map, Option, Some, None, arith}
-use Rattle.std.specs.Prelude.{◌==◌, not, nat_lt, filter, unwrap_or, option_map, IsSome}
+use Rattle.std.specs.Prelude.{◌==◌, not, nat_lt, unwrap_or, option_map, IsSome}
 use Rattle.std.specs.List.{AllByRecursion, AllZip}
 use Rattle.std.proofs.lemmas.Bool.Decides.{nat_tests}
 use Rattle.acc_base.specs.declared.items.Section.{Section}
@@ -14,30 +14,27 @@ use Rattle.acc_base.specs.declared.mappings.Block.{Block}
 use Rattle.acc_base.specs.declared.tasks.Task.{Task}
 use Rattle.acc_base.specs.declared.tasks.Task.TheVariants.{Enter, Leave, Exit, Move}
 use Rattle.acc_base.specs.declared.tasks.Transfer.{Transfer}
-use Rattle.acc_base.specs.declared.events.Step.{Step}
 use Rattle.acc_base.specs.declared.events.Step.TheVariants.{Nothing, Counted, Born, Dropped, Moved}
-use Rattle.acc_base.specs.Section.{is_within, host_memory, end_of}
+use Rattle.acc_base.specs.Section.{is_within, host_memory}
 use Rattle.acc_base.specs.Records.{Memory, State}
 use Rattle.acc_base.specs.Ranges.{range_of, start_of, changed_at, with_range, without_range, bare_range, risen, counter_in, counter_of, is_unused, ends_by}
-use Rattle.acc_base.specs.Blocks.{without_block}
 use Rattle.acc_base.specs.Clauses.{copies_in, copies_out, is_copyout, is_zeroed}
 use Rattle.acc_base.specs.Tasks.{section_of, recounted, act, records_after_birth, records_after_end, with_range_changed}
-use Rattle.acc_base.specs.Bytes.{bytes_of, fill_byte, fill_of, gets_bytes, gives_bytes, goes_out, bytes_moved_in, bytes_moved_out, memory_changed, memories_kept, without_memory, memories_begun, memories_made, host_made, first_address, transfer_at, transfer_of, memories_acted, host_acted, act_state}
+use Rattle.acc_base.specs.Bytes.{bytes_of, fill_byte, gives_bytes, goes_out, bytes_moved_in, bytes_moved_out, memory_changed, memories_kept, without_memory, memories_begun, memories_made, host_made, first_address, transfer_at, transfer_of, act_state}
 use Rattle.acc_base.specs.Accounts.{IsMemoryOf}
 use Rattle.acc_base.proofs.Results.{equal, equal_self, and_true}
-use Rattle.acc_base.proofs.Elements.{AllByRecursion-weaker}
 use Rattle.acc_base.proofs.Lookups.{at-none, at-changed}
 use Rattle.acc_base.proofs.Counting.{with_same, with_new}
 use Rattle.acc_base.proofs.Sound.{counter_is}
+use Rattle.acc_base.proofs.KeptMemories.{memories_kept-without}
 use Rattle.acc_base.proofs.Memories.{recounted-block, recounted-section}
 use Rattle.acc_host.specs.Host.{bytes_in}
 use Rattle.acc_present.specs.Present.{PresentTable, PresentState, with_ranges}
 use Rattle.acc_present.specs.Present as present
-use Rattle.acc_dev.specs.Device.{DeviceState, birth_place, IsBorn, IsBornWith, IsRetired}
-use Rattle.acc_clauses.specs.Contents.{Room, state_of, room_of}
-use Rattle.acc_clauses.specs.Acts.{CanMove, CanMake, CanBear, IsMade, bytes_made, IsRoomLeft, IsActedBy, birth_of}
+use Rattle.acc_dev.specs.Device.{DeviceState, IsRetired}
+use Rattle.acc_clauses.specs.Contents.{state_of, room_of}
+use Rattle.acc_clauses.specs.Acts.{CanMove, CanBear, IsMade, bytes_made, IsRoomLeft, IsActedBy}
 use Rattle.acc_clauses.proofs.Copying.{born_copied, changed-last}
-use Rattle.acc_clauses.proofs.Keeping.{memories_kept-without}
 
 -- ---- ranges
 
@@ -190,34 +187,6 @@ updated_in task k start x m e out = rw (out, first_is task k start x.records.ran
 
 pub updated_in_host : (task : Task) (k : ℕ) (x : State) → goes_out task ≡ false → x.host ≡ host_made (transfer_of task (Moved k) x.records.ranges) x.memories x.host
 updated_in_host task k x out = rw out refl
-
--- ---- a new block
-
--- a block that was born with the section's bytes
-pub made_copied : (old new : DeviceState) (item : Item RegionClause) (host bytes : List ℕ) (k : ℕ) → copies_in item.clause ≡ true → length bytes ≡ item.section.len → bytes ≡ bytes_in host item.section
-    → IsBornWith old new bytes k → old.room ≡ length bytes ∷ new.room → IsMade old new item host
-made_copied old new item host bytes k clause len is b room = record {
-  place = b.place;
-  place_is = subst (λ n. birth_place old n ≡ Some b.place) len b.place_is;
-  size = b.size;
-  blocks = b.blocks ∙ (rw (len, b.block_is) refl);
-  memories = b.memories ∙ (rw (clause, b.block_is, is) refl);
-  births = b.births ∙ b.block_is;
-  room = room ∙ ap (λ n. n ∷ new.room) len;
-}
-
--- a block that was born filled
-pub made_filled : (old new : DeviceState) (item : Item RegionClause) (host : List ℕ) (zero : Bool) (k : ℕ) → copies_in item.clause ≡ false → zero ≡ is_zeroed item.clause
-    → IsBorn old new item.section.len zero k → old.room ≡ item.section.len ∷ new.room → IsMade old new item host
-made_filled old new item host zero k clause is b room = record {
-  place = b.place;
-  place_is = b.place_is;
-  size = b.size;
-  blocks = b.blocks ∙ (rw b.block_is refl);
-  memories = b.memories ∙ (rw (clause, b.block_is, is) refl);
-  births = b.births ∙ b.block_is;
-  room = room;
-}
 
 -- ---- the state of the parts
 

@@ -1,10 +1,9 @@
 -- A store is sound at first, and after a write of the host.
-use Rattle.std.proofs.Common.{ℕ, ◌≡◌, ◌≤◌, refl, sym, ◌∙◌, ap, subst, List, length, arith}
+use Rattle.std.proofs.Common.{ℕ, ◌≡◌, refl, sym, ◌∙◌, subst, List, length, arith}
 use Rattle.acc_base.specs.Limits.{Limits}
-use Rattle.acc_base.specs.Records.{Layout, State, layout_of, new_state}
-use Rattle.acc_base.specs.Blocks.{used_bytes}
+use Rattle.acc_base.specs.Records.{State, new_state}
 use Rattle.acc_base.specs.Bytes.{host_after_write}
-use Rattle.acc_base.specs.Accounts.{IsLayoutSound, IsSound}
+use Rattle.acc_base.specs.Accounts.{IsSound}
 use Rattle.acc_base.proofs.Sound.{new_sound}
 use Rattle.acc_base.proofs.Memories.{new_sized, length-host_after_write}
 use Rattle.acc_clauses.specs.Contents.{Contents, AreNew}

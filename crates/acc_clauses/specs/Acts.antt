@@ -1,5 +1,5 @@
 -- What is known of a task before its step is done, and what the step takes of the room.
-use Rattle.std.specs.Prelude.{ℕ, ◌≡◌, ◌+◌, ◌<◌, ◌≤◌, ◌^◌, Bool, true, List, [], ◌∷◌, ◌++◌, length, replicate, if◌then◌else◌, Option, Some, None, IsSome, Ok, ⊤}
+use Rattle.std.specs.Prelude.{ℕ, ◌≡◌, ◌+◌, ◌<◌, ◌≤◌, ◌^◌, Bool, true, List, [], ◌∷◌, ◌++◌, length, replicate, if◌then◌else◌, Some, None, IsSome, Ok, ⊤}
 use Rattle.std.specs.List.{AllByRecursion}
 use Rattle.acc_base.specs.declared.addresses.TheConstants.{MEMORY_MAX}
 use Rattle.acc_base.specs.declared.items.Section.{Section}
@@ -7,6 +7,7 @@ use Rattle.acc_base.specs.declared.items.Item.{Item}
 use Rattle.acc_base.specs.declared.items.RegionClause.{RegionClause}
 use Rattle.acc_base.specs.declared.mappings.Range.{Range}
 use Rattle.acc_base.specs.declared.mappings.Found.TheVariants.{Absent}
+use Rattle.acc_base.specs.declared.regions.Holding.{Holding}
 use Rattle.acc_base.specs.declared.tasks.Task.{Task}
 use Rattle.acc_base.specs.declared.tasks.Task.TheVariants.{Enter, Leave, Exit, Move}
 use Rattle.acc_base.specs.declared.events.Step.{Step}
@@ -19,11 +20,15 @@ use Rattle.acc_base.specs.Blocks.{rounded, place_for, block_at}
 use Rattle.acc_base.specs.Records.{Records, State}
 use Rattle.acc_base.specs.Tasks.{section_of, recounted, judge_task, act}
 use Rattle.acc_base.specs.Clauses.{copies_in, is_zeroed}
+use Rattle.acc_base.specs.Register.{region_at}
 use Rattle.acc_base.specs.Bytes.{bytes_of, fill_byte, act_state}
 use Rattle.acc_host.specs.Host.{bytes_in}
 use Rattle.acc_present.specs.Present.{PresentState}
 use Rattle.acc_dev.specs.Device.{DeviceState, birth_place}
-use Rattle.acc_clauses.specs.Contents.{Room, state_of, room_of}
+use Rattle.acc_clauses.specs.declared.plans.Head.{Head}
+use Rattle.acc_clauses.specs.declared.plans.Head.TheVariants.{Plain, Entry, Leaving}
+use Rattle.acc_clauses.specs.Planned.{Planned}
+use Rattle.acc_clauses.specs.Contents.{Room, Contents, state_of, room_of}
 
 -- ---- what is known of a task
 
@@ -178,3 +183,16 @@ pub record IsMade (old new : DeviceState) (item : Item RegionClause) (host : Lis
 -- the section is empty, or lies in host memory
 abbrev pub CanWrite : Section → List ℕ → Type 0
 CanWrite section host = 0 < section.len → is_within section (host_memory (length host)) ≡ true
+
+-- ---- the register
+
+-- what the head of a plan needs of the register and its room, with what the region of an entry holds
+abbrev pub CanFinish : Head → List Holding → Contents → Type 0
+CanFinish Plain holdings c = ⊤
+CanFinish Entry holdings c = (c.state.register.next < 2 ^ 48) × (region_at c.state.register.next c.state.register.regions ≡ None) × HasRegionRoom (length holdings) c.room
+CanFinish (Leaving number) holdings c = IsSome (region_at number c.state.register.regions)
+
+-- there is room for all that a plan takes in
+pub record HasPlanRoom (p : Planned) (room : Room) : Type 0 where
+  pub births : HasRoomFor (lens_born p.tasks p.dids) room
+  pub region : HasRegionRoom (length p.tasks) room

@@ -7,8 +7,10 @@ use Rattle.acc_base.specs.declared.regions.Holding.{Holding}
 use Rattle.acc_base.specs.Section.{is_within}
 use Rattle.acc_base.specs.Ranges.{range_of}
 use Rattle.acc_base.specs.Register.{Region}
-use Rattle.acc_base.specs.Records.{Records}
+use Rattle.acc_base.specs.declared.directives.Directive.{Directive}
+use Rattle.acc_base.specs.Records.{Records, layout_of}
 use Rattle.acc_base.specs.Accounts.{IsSound}
+use Rattle.acc_clauses.specs.Planned.{Planned, IsPlannedOn}
 use Rattle.acc_clauses.specs.Contents.{Contents}
 
 -- the block was born, and the range that is mapped to it, if one is, has each address of the section
@@ -28,3 +30,7 @@ AreHoldingsWithin w regions = AllByRecursion (λ (r : Region). AllByRecursion (I
 pub record IsStoreSound (c : Contents) : Type 0 where
   pub sound : IsSound c.limits c.state
   pub holdings : AreHoldingsWithin c.state.records c.state.register.regions
+
+-- the plan is of some directive, judged on this state
+abbrev pub IsPlan : Contents → Planned → Type 0
+IsPlan c p = (d : Directive) × IsPlannedOn c.limits d (layout_of c.state) p

@@ -66,7 +66,7 @@ fn make_block(device: &mut Device, host: &HostMem, item: Item<RegionClause>)
         let Some(bytes) = host.read(item.section) else {
             unreachable!()
         };
-        device.born_with(bytes);
+        device.born_with_reserved(bytes);
     } else {
         device.born_reserved(item.section.len, is_zeroed(item.clause));
     }

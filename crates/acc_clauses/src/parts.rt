@@ -263,6 +263,7 @@ impl Parts {
     ///
     /// [`Fault::Memory`] alone.
     pub(crate) fn reserve(&mut self, lens: &[u64], holdings: u64) -> Result<(), Fault>
+        requires few { length lens.now ≤ 64 }
         requires lens { All (IsFromOne MEMORY_MAX) lens.now }
         ensures limits { self.new.limits ≡ self.old.limits }
         ensures state { self.new.state ≡ self.old.state }

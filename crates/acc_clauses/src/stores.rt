@@ -1,6 +1,6 @@
 //! Everything that a table keeps beside its trace, as one value.
 
-ghost use Rattle.std.specs.Prelude.{◌≡◌, IfOk, IfErr, MatchOption, IfSome, IfNone, Some, None, length};
+ghost use Rattle.std.specs.Prelude.{◌≡◌, IfOk, IfErr, OnOk, MatchOption, IfSome, IfNone, Some, None, length};
 ghost use Rattle.acc_base.specs.declared.faults.Fault.TheVariants.{Memory};
 ghost use Rattle.acc_base.specs.Limits.{IsWithinBounds};
 ghost use Rattle.acc_base.specs.Ranges.{where_is, range_from, structured_of, dynamic_of};
@@ -9,9 +9,12 @@ ghost use Rattle.acc_base.specs.Bytes.{bytes_of, host_after_write};
 ghost use Rattle.acc_base.specs.Accounts.{IsSound};
 ghost use Rattle.acc_host.specs.Host.{bytes_in, IsOutOfHost};
 ghost use Rattle.acc_clauses.specs.Contents.{AreNew};
-ghost use Rattle.acc_clauses.specs.Acts.{CanWrite};
+ghost use Rattle.acc_clauses.specs.Stored.{IsPlan};
+ghost use Rattle.acc_clauses.specs.Acts.{CanWrite, HasPlanRoom};
 
 use crate::parts::Parts;
+use crate::plans::Plan;
+use crate::running::lens_of;
 use acc_base::{Config, Counters, Fault, Found, Range, Section};
 use std::alloc::Global;
 use std::marker::Model;
@@ -55,6 +58,23 @@ impl Store {
         ensures limits { IsWithinBounds self.now.limits }
     {
         self.parts.laws();
+    }
+
+    /// Makes all room that a plan of this store needs. Nothing else changes, also where it is refused.
+    ///
+    /// # Errors
+    ///
+    /// [`Fault::Memory`] alone.
+    pub fn reserve(&mut self, plan: &Plan) -> Result<(), Fault>
+        requires planned { IsPlan self.old plan.now }
+        ensures limits { self.new.limits ≡ self.old.limits }
+        ensures state { self.new.state ≡ self.old.state }
+        ensures room { OnOk result (HasPlanRoom plan.now self.new.room) }
+        ensures only { IfErr result (λ fault. fault ≡ Memory) }
+    {
+        self.parts.laws();
+        let acts = plan.acts();
+        self.parts.reserve(&lens_of(acts), acts.len() as u64)
     }
 
     /// Writes bytes into host memory from an address on. An empty write may stand anywhere; else each address that is

@@ -1,4 +1,4 @@
-use Rattle.std.proofs.Common.{◌≡◌, ◌∙◌, ap, sym}
+use Rattle.std.proofs.Common.{◌∙◌, ap, sym}
 use Rattle.acc_base.specs.Records.{State}
 use Rattle.acc_base.specs.Bytes.{bytes_of, bytes_moved_out}
 use Rattle.acc_clauses.specs.Contents.{state_of}

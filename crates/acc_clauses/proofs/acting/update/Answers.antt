@@ -1,4 +1,4 @@
-use Rattle.std.proofs.Common.{◌≡◌, ◌∙◌, ap, sym, map}
+use Rattle.std.proofs.Common.{◌∙◌, ap, sym, map}
 use Rattle.acc_base.specs.Records.{State}
 use Rattle.acc_base.specs.Bytes.{bytes_of, bytes_moved_in, bytes_moved_out, memory_changed}
 use Rattle.acc_dev.specs.Device.{DeviceState}

@@ -1,4 +1,4 @@
-use Rattle.std.proofs.Common.{◌≡◌, ◌+◌, ◌<◌, ◌≤◌, arith, refl, length, drop}
+use Rattle.std.proofs.Common.{◌<◌, arith, refl, length}
 use Rattle.std.proofs.lemmas.List.{drop_more}
 use Rattle.acc_clauses.proofs.Remaining.{first_judged, first_room, rest_can, births_next, rest_state, rest_done}
 use Rattle.acc_clauses.proofs.running.act_all.Goals as goal

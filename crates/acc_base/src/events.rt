@@ -3,9 +3,10 @@
 use crate::{EnterClause, ExitClause, Item, List, RegionClause, UpdateClause};
 
 /// What an item of a data clause did to mappings, counters and bytes.
-#[derive(Clone, Copy, Debug, PartialEq, Eq)]
+#[derive(Clone, Copy, Debug, Default, PartialEq, Eq)]
 pub enum Step {
     /// No action.
+    #[default]
     Nothing,
     /// A reference counter of the range that is mapped to a block rose by one.
     Counted {
@@ -34,7 +35,7 @@ pub enum Step {
 }
 
 /// What an item of a data clause did.
-#[derive(Clone, Copy, Debug, PartialEq, Eq)]
+#[derive(Clone, Copy, Debug, Default, PartialEq, Eq)]
 pub struct Did {
     /// What it did to mappings, counters and bytes.
     pub step: Step,

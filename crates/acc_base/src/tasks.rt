@@ -1,6 +1,6 @@
 //! What one item asks, whatever directive it stands in.
 
-use crate::{Counter, ExitClause, Holding, Item, RegionClause, UpdateClause};
+use crate::{Counter, ExitClause, Holding, Item, RegionClause, Section, UpdateClause};
 
 /// What one item of a directive asks of the data environment. Each row of the clause tables is a task.
 #[derive(Clone, Copy, Debug, PartialEq, Eq)]
@@ -33,6 +33,19 @@ pub enum Task {
     },
 }
 
+// A task that asks for nothing: it stands in the unused places of an array.
+impl Default for Task {
+    fn default() -> Self {
+        Task::Move {
+            if_present: true,
+            item: Item {
+                clause: UpdateClause::ToSelf,
+                section: Section { start: 0, len: 0 },
+            },
+        }
+    }
+}
+
 /// A copy of the bytes of a section between host memory and a block.
 #[derive(Clone, Copy, Debug, PartialEq, Eq)]
 pub struct Transfer {
@@ -41,7 +54,7 @@ pub struct Transfer {
     /// How far behind the start of the block the section begins, in bytes.
     pub offset: u64,
     /// The section of host memory.
-    pub section: crate::Section,
+    pub section: Section,
     /// From the block to host memory, and not the other way.
     pub out: bool,
 }

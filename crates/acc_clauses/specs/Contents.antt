@@ -38,9 +38,9 @@ abbrev pub contents_of : Limits → PresentState → DeviceState → List ℕ �
 contents_of l present device host next = record { limits = l; state = state_of present device host next; room = room_of present device }
 
 -- the present table and the device have the sizes that the limits say
-pub record AreSizedBy (l : Limits) (present : PresentState) (device : DeviceState) : Type 0 where
-  pub counters : present.table.counter_max ≡ l.counter_max
-  pub device : device.size ≡ l.device
+pub record AreSizedBy (l : Limits) (p : PresentState) (d : DeviceState) : Type 0 where
+  pub counters : p.table.counter_max ≡ l.counter_max
+  pub device : d.size ≡ l.device
 
 -- what each step of a directive keeps: records that are sound, and memories in step with them
 pub record AreContentsSound (c : Contents) : Type 0 where

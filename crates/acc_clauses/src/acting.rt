@@ -3,12 +3,12 @@
 ghost use Rattle.std.specs.Prelude.{◌≡◌, ◌++◌, ◌∷◌, ◌<◌, [], ℕ, IsSome, Some, true, false, length};
 ghost use Rattle.acc_base.specs.Ranges.{range_of, start_of, counter_of, changed_at, risen};
 ghost use Rattle.acc_base.specs.Tasks.{section_of, recounted};
-ghost use Rattle.acc_base.specs.Bytes.{act_state, gives_bytes, bytes_moved_out, bytes_of};
+ghost use Rattle.acc_base.specs.Bytes.{transfer_of, host_made, memories_made};
 ghost use Rattle.acc_base.specs.declared.tasks.Task.TheVariants.{Enter};
 ghost use Rattle.acc_base.specs.declared.events.Step.TheVariants.{Born, Dropped, Moved};
 ghost use Rattle.acc_present.specs.Present.{HasRange, with_ranges, IsRoomKept};
 ghost use Rattle.acc_clauses.specs.Contents.{state_of, room_of};
-ghost use Rattle.acc_clauses.specs.Acting.{CanAct, CanCount, CanBear, CanMove, IsBelowLimit, HasRoomFor, IsRoomLeft, IsActedBy, CanMake, IsMade, birth_of};
+ghost use Rattle.acc_clauses.specs.Acts.{CanAct, CanCount, CanBear, CanMove, CanDrop, HasRoomFor, IsRoomLeft, IsActedBy, CanMake, IsMade, birth_of};
 
 use crate::copies::{copy_in, copy_out};
 use crate::rows::{copies_in, gives_bytes, goes_out, is_zeroed, section_of};
@@ -54,10 +54,7 @@ fn start_of(present: &Present, block: u64) -> u64
     requires { HasRange present.now.table block }
     ensures { result ≡ start_of block present.now.table.ranges }
 {
-    let Some(range) = present.range_at(block) else {
-        unreachable!()
-    };
-    range.section.start
+    present.range_at(block).section.start
 }
 
 /// A new block for an item that enters, with its bytes.
@@ -69,7 +66,7 @@ fn make_block(device: &mut Device, host: &HostMem, item: Item<RegionClause>)
         let Some(bytes) = host.read(item.section) else {
             unreachable!()
         };
-        device.born_reserved_with(bytes);
+        device.born_with_reserved(bytes);
     } else {
         device.born_reserved(item.section.len, is_zeroed(item.clause));
     }
@@ -85,7 +82,7 @@ fn bear(
     block: u64,
     place: u64,
 )
-    requires can { CanBear device.old.size item.section block place (state_of present.old device.old host.now 0) }
+    requires can { CanBear present.old.table.counter_max device.old.size item.section block place (state_of present.old device.old host.now 0) }
     requires room { HasRoomFor (item.section.len ∷ []) (room_of present.old device.old) }
     ensures acted { IsActedBy (Enter counter item) (Born block place) present.old device.old host.now present.new device.new host.now }
 {
@@ -94,10 +91,10 @@ fn bear(
     raise(present, counter, block);
 }
 
-/// Ends the mapping to a block. Where the task copies at the end, host memory first gets the bytes of the section.
-fn end(present: &mut Present, device: &mut Device, host: &mut HostMem, task: Task, block: u64)
-    requires can { CanMove (section_of task) block (state_of present.old device.old host.old 0) }
-    ensures acted { IsActedBy task (Dropped block true) present.old device.old host.old present.new device.new host.new }
+/// Where the task copies at the end of a mapping, host memory gets the bytes of the section.
+fn give_bytes(present: &Present, device: &Device, host: &mut HostMem, task: Task, block: u64)
+    requires can { CanMove (section_of task) block (state_of present.now device.now host.old 0) }
+    ensures { host.new ≡ host_made (transfer_of task (Dropped block true) present.now.table.ranges) device.now.memories host.old }
 {
     if gives_bytes(task) {
         copy_out(
@@ -108,14 +105,44 @@ fn end(present: &mut Present, device: &mut Device, host: &mut HostMem, task: Tas
             start_of(present, block),
         );
     }
+}
+
+/// Ends the mapping to a block.
+fn end(present: &mut Present, device: &mut Device, host: &mut HostMem, task: Task, block: u64)
+    requires can { CanDrop task block true (state_of present.old device.old host.old 0) }
+    ensures acted { IsActedBy task (Dropped block true) present.old device.old host.old present.new device.new host.new }
+{
+    device.laws();
+    give_bytes(present, device, host, task, block);
+    recount(present, task, block);
     present.remove(block);
     device.retire(block);
+}
+
+/// Lowers the counters of a range, or ends its mapping where none is above zero then.
+fn lower(
+    present: &mut Present,
+    device: &mut Device,
+    host: &mut HostMem,
+    task: Task,
+    block: u64,
+    ended: bool,
+)
+    requires can { CanDrop task block ended (state_of present.old device.old host.old 0) }
+    ensures acted { IsActedBy task (Dropped block ended) present.old device.old host.old present.new device.new host.new }
+{
+    if ended {
+        end(present, device, host, task, block);
+    } else {
+        recount(present, task, block);
+    }
 }
 
 /// Copies the section of an update.
 fn update(present: &Present, device: &mut Device, host: &mut HostMem, task: Task, block: u64)
     requires can { CanMove (section_of task) block (state_of present.now device.old host.old 0) }
-    ensures acted { IsActedBy task (Moved block) present.now device.old host.old present.now device.new host.new }
+    ensures host { host.new ≡ host_made (transfer_of task (Moved block) present.now.table.ranges) device.old.memories host.old }
+    ensures device { device.new ≡ record device.old { memories = memories_made (transfer_of task (Moved block) present.now.table.ranges) host.old device.old.memories } }
 {
     let start = start_of(present, block);
     if goes_out(task) {
@@ -146,11 +173,7 @@ pub fn act_on(
             };
             bear(present, device, host, counter, item, block, place);
         }
-        Step::Dropped { block, ended: true } => end(present, device, host, task, block),
-        Step::Dropped {
-            block,
-            ended: false,
-        } => recount(present, task, block),
+        Step::Dropped { block, ended } => lower(present, device, host, task, block, ended),
         Step::Moved { block } => update(present, device, host, task, block),
     }
 }

@@ -1,10 +1,25 @@
 //! The clauses of data directives: a directive is judged whole, then all room is made, and then it is done.
 //!
-//! [`Store::plan`] judges without memory and without a change, [`Store::reserve`] makes all room that the plan needs, and
-//! [`Store::commit`] does it: it takes no memory and is never refused.
+//! Judging takes no memory and changes nothing; making room changes nothing else; and doing takes no memory and is never
+//! refused.
 #![tactic(auto)]
 
+mod acted;
 mod acting;
 mod copies;
+mod drafts;
+mod effects;
+mod judging;
 mod parts;
+mod planning;
+mod plans;
+mod readings;
 mod rows;
+mod running;
+mod sections;
+mod stores;
+mod tasks;
+
+pub use acted::Acted;
+pub use plans::{Head, Plan};
+pub use stores::Store;

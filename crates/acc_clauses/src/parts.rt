@@ -1,19 +1,19 @@
 //! Host memory, the device and the present table as one value.
 
-ghost use Rattle.std.specs.Prelude.{◌≡◌, ◌+◌, ◌++◌, ◌^◌, ◌<◌, ◌≤◌, All, IfOk, IfErr, OnOk, OnErr, IfSome, IfNone, MatchOption, IsSomeAnd, None, Some, length};
+ghost use Rattle.std.specs.Prelude.{◌≡◌, ◌+◌, ◌++◌, ◌^◌, ◌<◌, ◌≤◌, All, IfOk, IfErr, OnOk, OnErr, IfSome, IfNone, MatchOption, IsSome, None, Some, length};
 ghost use Rattle.acc_base.specs.declared.faults.Fault.TheVariants.{Memory};
 ghost use Rattle.acc_base.specs.Limits.{IsFromOne, IsWithinBounds};
 ghost use Rattle.acc_base.specs.declared.addresses.TheConstants.{MEMORY_MAX};
 ghost use Rattle.acc_base.specs.Section.{device_base};
 ghost use Rattle.acc_base.specs.Ranges.{where_is, where_is_apart, range_of, range_from, structured_of, dynamic_of, counter_of, start_of};
 ghost use Rattle.acc_base.specs.Blocks.{rounded, place_of, place_for, used_bytes};
-ghost use Rattle.acc_base.specs.Register.{holdings_at};
+ghost use Rattle.acc_base.specs.Register.{holdings_at, region_at, opened, closed};
 ghost use Rattle.acc_base.specs.Bytes.{bytes_of, act_state, host_after_write};
 ghost use Rattle.acc_host.specs.Host.{bytes_in, IsOutOfHost};
 ghost use Rattle.acc_placement.specs.Ranges.{IsTakeBelow};
 ghost use Rattle.acc_dev.specs.Device.{planned_blocks};
 ghost use Rattle.acc_clauses.specs.Contents.{AreNew, AreContentsSound};
-ghost use Rattle.acc_clauses.specs.Acting.{IsJudged, IsKnown, HasRoomFor, IsRoomLeft, birth_of};
+ghost use Rattle.acc_clauses.specs.Acts.{IsJudged, IsKnown, HasRoomFor, HasRegionRoom, CanWrite, IsRoomLeft, birth_of};
 
 use crate::acting::act_on;
 use acc_base::{Config, Counter, Counters, Fault, Found, Holding, Range, Section, Step, Task};
@@ -51,7 +51,7 @@ impl Parts {
     {
         Ok(Parts {
             config: *config,
-            present: Present::new(alloc, config.counter_max())?,
+            present: Present::new(alloc, config.counter_max()),
             device: Device::new(alloc, config.device())?,
             host: HostMem::new(alloc, config.host())?,
             next: 1,
@@ -78,7 +78,11 @@ impl Parts {
     pub(crate) fn range(&self, block: u64) -> Option<Range>
         ensures { result ≡ range_of block self.now.state.records.ranges }
     {
-        self.present.range_at(block)
+        if self.device.has(block) {
+            Some(self.present.range_at(block))
+        } else {
+            None
+        }
     }
 
     /// The mapped range of least start at or above a host address, if there is one.
@@ -96,7 +100,8 @@ impl Parts {
         ensures dynamic_limit { result.dynamic ≤ self.now.limits.counter_max }
         ensures bound { self.now.limits.counter_max < 2 ^ 32 }
     {
-        match self.present.range_at(block) {
+        self.laws();
+        match self.range(block) {
             Some(range) => Counters {
                 structured: range.structured,
                 dynamic: range.dynamic,
@@ -125,7 +130,7 @@ impl Parts {
     pub(crate) fn start(&self, block: u64) -> u64
         ensures { result ≡ start_of block self.now.state.records.ranges }
     {
-        match self.present.range_at(block) {
+        match self.range(block) {
             Some(range) => range.section.start,
             None => 0,
         }
@@ -241,6 +246,7 @@ impl Parts {
         ensures state { self.new.state ≡ act_state task step self.old.state }
         ensures room { IsRoomLeft (birth_of task step) self.old.room self.new.room }
     {
+        self.config.laws();
         act_on(
             &mut self.present,
             &mut self.device,
@@ -248,5 +254,58 @@ impl Parts {
             task,
             step,
         );
+    }
+
+    /// Makes room for births of blocks of these lengths, in this order, and for one region with so many holdings.
+    /// Nothing else changes, also where it is refused.
+    ///
+    /// # Errors
+    ///
+    /// [`Fault::Memory`] alone.
+    pub(crate) fn reserve(&mut self, lens: &[u64], holdings: u64) -> Result<(), Fault>
+        requires few { length lens.now ≤ 64 }
+        requires lens { All (IsFromOne MEMORY_MAX) lens.now }
+        ensures limits { self.new.limits ≡ self.old.limits }
+        ensures state { self.new.state ≡ self.old.state }
+        ensures room { OnOk result (HasRoomFor lens.now self.new.room) }
+        ensures room_region { OnOk result (HasRegionRoom holdings self.new.room) }
+        ensures only { IfErr result (λ fault. fault ≡ Memory) }
+    {
+        self.device.reserve(lens)?;
+        self.present.reserve(lens.len() as u64, holdings)?;
+        Ok(())
+    }
+
+    /// Opens a region of the next number with these holdings, where there is room for them. It takes no memory.
+    pub(crate) fn enter(&mut self, holdings: &[Holding])
+        requires next { self.old.state.register.next < 2 ^ 48 }
+        requires new { region_at self.old.state.register.next self.old.state.register.regions ≡ None }
+        requires room { HasRegionRoom (length holdings.now) self.old.room }
+        ensures limits { self.new.limits ≡ self.old.limits }
+        ensures state { self.new.state ≡ record self.old.state { register = opened holdings.now self.old.state.register } }
+    {
+        self.present.enter_reserved(self.next, holdings);
+        self.next += 1;
+    }
+
+    /// Closes an open region.
+    pub(crate) fn leave(&mut self, number: u64)
+        requires { IsSome (region_at number self.old.state.register.regions) }
+        ensures limits { self.new.limits ≡ self.old.limits }
+        ensures state { self.new.state ≡ record self.old.state { register = closed number self.old.state.register } }
+    {
+        self.present.leave(number);
+    }
+
+    /// Writes bytes into host memory. An empty write may stand anywhere; else each address that is written is in host
+    /// memory.
+    pub(crate) fn host_write(&mut self, addr: u64, bytes: &[u8])
+        requires { CanWrite (record { start = addr; len = length bytes.now }) self.old.state.host }
+        ensures limits { self.new.limits ≡ self.old.limits }
+        ensures state { self.new.state ≡ record self.old.state { host = host_after_write addr (length bytes.now) bytes.now self.old.state.host } }
+    {
+        let Ok(()) = self.host.write(addr, bytes) else {
+            unreachable!()
+        };
     }
 }

@@ -100,6 +100,7 @@ retired_of old new s t xs ys births i n room k entry size blocks memories =
       blocks = blocks ∙ sym (without-removed s xs i n k.rising entry);
       memories = memories ∙ sym (kept-removed s xs i n k.rising entry) ∙ ap (λ bs. memories_kept bs (memories_in s xs)) (sym blocks);
       births = refl;
+      room = refl;
     }
 
 -- the numbers that are left are at most the births

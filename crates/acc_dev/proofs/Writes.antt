@@ -53,4 +53,5 @@ written_of h s t xs births i n offset room e bytes k entry read w =
       blocks = blocks_in-rewritten s t e.1 offset bytes xs w;
       memories = memories_in-rewritten s t xs i n offset bytes k.rising k.distinct entry (subst (λ (d : ℕ × ℕ). IsRewritten s t d.1 offset bytes) (sym (entry_read xs i e read entry.in_bounds)) w);
       births = refl;
+      room = refl;
     }

@@ -73,6 +73,7 @@ pub record IsWritten (old new : DeviceState) (block offset : ℕ) (bytes : List 
   pub blocks : new.blocks ≡ old.blocks
   pub memories : new.memories ≡ map (memory_changed block (overwritten offset bytes)) old.memories
   pub births : new.births ≡ old.births
+  pub room : new.room ≡ old.room
 
 -- the new device is the old one without a block and its bytes
 pub record IsRetired (old new : DeviceState) (block : ℕ) : Type 0 where
@@ -80,6 +81,7 @@ pub record IsRetired (old new : DeviceState) (block : ℕ) : Type 0 where
   pub blocks : new.blocks ≡ without_block block old.blocks
   pub memories : new.memories ≡ memories_kept new.blocks old.memories
   pub births : new.births ≡ old.births
+  pub room : new.room ≡ old.room
 
 -- ---- what holds of every device
 

@@ -1,0 +1,59 @@
+-- The births and ends that a draft notes, after one more task.
+use Rattle.std.proofs.Common.{ℕ, ◌≡◌, ◌+◌, ◌<◌, ◌≤◌, refl, sym, ap, ◌∙◌, true, false, List, [], ◌∷◌, ◌++◌, length, arith}
+use Rattle.std.proofs.lemmas.List.{append-nil, append_assoc, length-append}
+use Rattle.acc_base.specs.declared.tasks.Task.{Task}
+use Rattle.acc_base.specs.declared.events.Step.{Step}
+use Rattle.acc_base.specs.declared.events.Step.TheVariants.{Nothing, Counted, Born, Dropped, Moved}
+use Rattle.acc_clauses.specs.declared.acted.Acted.{Acted}
+use Rattle.acc_clauses.specs.Overlays.{IsDraft, birth_by, births_of, end_by, ended_of}
+
+births_of-append : (xs ys : List Acted) → births_of (xs ++ ys) ≡ births_of xs ++ births_of ys
+births_of-append [] ys = refl
+births_of-append (x ∷ xs) ys = ap (λ ps. birth_by x.task x.step ++ ps) (births_of-append xs ys) ∙ sym (append_assoc (birth_by x.task x.step) (births_of xs) (births_of ys))
+
+ended_of-append : (xs ys : List Acted) → ended_of (xs ++ ys) ≡ ended_of xs ++ ended_of ys
+ended_of-append [] ys = refl
+ended_of-append (x ∷ xs) ys = ap (λ ps. end_by x.step ++ ps) (ended_of-append xs ys) ∙ sym (append_assoc (end_by x.step) (ended_of xs) (ended_of ys))
+
+-- the births of one more task stand last
+pub births_of-push : (xs : List Acted) (x : Acted) → births_of (xs ++ x ∷ []) ≡ births_of xs ++ birth_by x.task x.step
+births_of-push xs x = births_of-append xs (x ∷ []) ∙ ap (λ ps. births_of xs ++ ps) (append-nil (birth_by x.task x.step))
+
+pub ended_of-push : (xs : List Acted) (x : Acted) → ended_of (xs ++ x ∷ []) ≡ ended_of xs ++ end_by x.step
+ended_of-push xs x = ended_of-append xs (x ∷ []) ∙ ap (λ ps. ended_of xs ++ ps) (append-nil (end_by x.step))
+
+length-birth_by : (task : Task) (step : Step) → length (birth_by task step) ≤ 1
+length-birth_by task Nothing = omega arith
+length-birth_by task (Counted b) = omega arith
+length-birth_by task (Born b p) = omega arith
+length-birth_by task (Dropped b ended) = omega arith
+length-birth_by task (Moved b) = omega arith
+
+length-end_by : (step : Step) → length (end_by step) ≤ 1
+length-end_by Nothing = omega arith
+length-end_by (Counted b) = omega arith
+length-end_by (Born b p) = omega arith
+length-end_by (Dropped b true) = omega arith
+length-end_by (Dropped b false) = omega arith
+length-end_by (Moved b) = omega arith
+
+-- a task bears one block at most
+pub length-births_of : (xs : List Acted) → length (births_of xs) ≤ length xs
+length-births_of [] = omega arith
+length-births_of (x ∷ xs) = omega (arith, length-births_of xs, length-birth_by x.task x.step, length-append (birth_by x.task x.step) (births_of xs))
+
+-- a task ends one mapping at most
+pub length-ended_of : (xs : List Acted) → length (ended_of xs) ≤ length xs
+length-ended_of [] = omega arith
+length-ended_of (x ∷ xs) = omega (arith, length-ended_of xs, length-end_by x.step, length-append (end_by x.step) (ended_of xs))
+
+-- a draft with one more task
+pub drafted : (xs : List Acted) (x : Acted) (births births' : List (ℕ × ℕ)) (ended ended' : List ℕ) (step : Step) → IsDraft xs births ended → length xs < 64 → x.step ≡ step
+    → births' ≡ births ++ birth_by x.task step → ended' ≡ ended ++ end_by step → IsDraft (xs ++ x ∷ []) births' ended'
+drafted xs x births births' ended ended' step draft few is b e = record {
+  births_are = b ∙ (ap (λ ps. ps ++ birth_by x.task step) draft.births_are ∙ (ap (λ t. births_of xs ++ birth_by x.task t) (sym is) ∙ sym (births_of-push xs x)));
+  ended_are = e ∙ (ap (λ ps. ps ++ end_by step) draft.ended_are ∙ (ap (λ t. ended_of xs ++ end_by t) (sym is) ∙ sym (ended_of-push xs x)));
+  few = omega (arith, length-append xs (x ∷ []));
+}
+
+pub ruleset tally_laws = (births_of-push, ended_of-push, length-births_of, length-ended_of, append-nil)

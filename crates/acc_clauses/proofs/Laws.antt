@@ -1,0 +1,217 @@
+-- What look-ups before the tasks of a plan say of the records after them.
+use Rattle.std.proofs.Common.{ℕ, ◌≡◌, ◌+◌, ◌<◌, ◌≤◌, refl, sym, ap, ◌∙◌, Bool, true, false, ◌&&◌, List, [], ◌∷◌, ◌++◌, length, suc, Option, Some, None, Ok, arith, ⊎_elim, inl, inr}
+use Rattle.std.specs.Prelude.{◌==◌, not, nat_le, unwrap_or, option_map, All, IfSome}
+use Rattle.std.specs.List.{list_any, AllByRecursion}
+use Rattle.std.proofs.lemmas.List.Elements.{All-from_recursion}
+use Rattle.std.proofs.lemmas.Bool.Decides.{nat_tests}
+use Rattle.acc_base.specs.declared.addresses.TheConstants.{MEMORY_MAX}
+use Rattle.acc_base.specs.declared.items.Section.{Section}
+use Rattle.acc_base.specs.declared.items.Item.{Item}
+use Rattle.acc_base.specs.declared.items.RegionClause.{RegionClause}
+use Rattle.acc_base.specs.declared.mappings.Range.{Range}
+use Rattle.acc_base.specs.declared.mappings.Counter.{Counter}
+use Rattle.acc_base.specs.declared.mappings.Counter.TheVariants.{Structured, Dynamic}
+use Rattle.acc_base.specs.declared.mappings.Counters.{Counters}
+use Rattle.acc_base.specs.declared.mappings.Found.{Found}
+use Rattle.acc_base.specs.declared.mappings.Found.TheVariants.{Absent}
+use Rattle.acc_base.specs.declared.tasks.Task.{Task}
+use Rattle.acc_base.specs.declared.tasks.Task.TheVariants.{Enter, Leave, Exit, Move}
+use Rattle.acc_base.specs.declared.events.Step.{Step}
+use Rattle.acc_base.specs.declared.events.Step.TheVariants.{Nothing, Counted, Born, Dropped, Moved}
+use Rattle.acc_base.specs.Limits.{Limits, IsWithinBounds, IsFromOne}
+use Rattle.acc_base.specs.Section.{is_empty, is_within, host_memory, device_base}
+use Rattle.acc_base.specs.Records.{Records}
+use Rattle.acc_base.specs.Ranges.{where_is, where_is_apart, range_of, counter_in, structured_of, dynamic_of, is_unused, ends_by}
+use Rattle.acc_base.specs.Blocks.{rounded, place_for, fits_at}
+use Rattle.acc_base.specs.Clauses.{in_host}
+use Rattle.acc_base.specs.Tasks.{section_of, recounted, act}
+use Rattle.acc_base.specs.History.{AreJudged}
+use Rattle.acc_base.specs.Accounts.{AreRecordsSound, IsCounted}
+use Rattle.acc_base.proofs.Results.{and_true}
+use Rattle.acc_base.proofs.Elements.{found_has, AllByRecursion-append}
+use Rattle.acc_base.proofs.Where.{absent_says}
+use Rattle.acc_base.proofs.Places.{place_for-found}
+use Rattle.acc_base.proofs.Judged.{IsJudgedTo, IsBirth, task_says, in_host_says}
+use Rattle.acc_placement.specs.Ranges.{IsTakeBelow}
+use Rattle.acc_dev.specs.Device.{planned_blocks}
+use Rattle.acc_clauses.specs.declared.acted.Acted.{Acted}
+use Rattle.acc_clauses.specs.Overlays.{IsPlanned, AreUnmixed, tasks_in, dids_in, records_after, may_bear, may_end, birth_by, births_of, end_by, ended_of, found_by, found_over, counters_in, counters_at, recount, are_zero, counters_over}
+use Rattle.acc_clauses.proofs.Founds.{apart_none}
+use Rattle.acc_clauses.proofs.Overlaid.{or_false, birth_entry, bears_none, drops_none, sound-after, counters-after, found-entered, found-left, blocks-after, births-after}
+
+-- ---- where a section lies
+
+end_none : (l : Limits) (task : Task) (step : Step) (w : Records) → IsJudgedTo l task step w → may_end task ≡ false → end_by step ≡ []
+end_none l task Nothing w says none = refl
+end_none l task (Counted k) w says none = refl
+end_none l task (Born k p) w says none = refl
+end_none l task (Dropped k ended) w says none = absurd (drops_none l task k ended w says none)
+end_none l task (Moved k) w says none = refl
+
+ended_none : (l : Limits) (n : ℕ) (xs : List Acted) (w : Records) → AreJudged l n (tasks_in xs) (dids_in xs) w → list_any may_end (tasks_in xs) ≡ false → ended_of xs ≡ []
+ended_none l n [] w judged none = refl
+ended_none l n (x ∷ xs) w judged none =
+    let says = task_says l n x.task w x.step judged.0 in
+    let parts : (may_end x.task ≡ false) × (list_any may_end (tasks_in xs) ≡ false) = or_false _ _ none in
+    let first : end_by x.step ≡ [] = end_none l x.task x.step w says parts.0 in
+    let rest : ended_of xs ≡ [] = ended_none l (suc n) xs (act x.task x.step w) judged.1 parts.1 in
+    rw (first, rest) refl
+
+found_stays : (l : Limits) (task : Task) (step : Step) (w : Records) (s : Section) (f : Found) → IsJudgedTo l task step w → may_bear task ≡ false → found_by s f task step ≡ f
+found_stays l task Nothing w s f says none = refl
+found_stays l task (Counted k) w s f says none = refl
+found_stays l task (Born k p) w s f says none = absurd (bears_none l task k p w says none)
+found_stays l task (Dropped k ended) w s f says none = refl
+found_stays l task (Moved k) w s f says none = refl
+
+found_same : (l : Limits) (n : ℕ) (xs : List Acted) (w : Records) (s : Section) (f : Found) → AreJudged l n (tasks_in xs) (dids_in xs) w → list_any may_bear (tasks_in xs) ≡ false → found_over s f xs ≡ f
+found_same l n [] w s f judged none = refl
+found_same l n (x ∷ xs) w s f judged none =
+    let says = task_says l n x.task w x.step judged.0 in
+    let parts : (may_bear x.task ≡ false) × (list_any may_bear (tasks_in xs) ≡ false) = or_false _ _ none in
+    ap (λ g. found_over s g xs) (found_stays l x.task x.step w s f says parts.0) ∙ found_same l (suc n) xs (act x.task x.step w) s f judged.1 parts.1
+
+pub found-planned : (l : Limits) (xs : List Acted) (w : Records) (s : Section) → IsPlanned l xs w → AreUnmixed (tasks_in xs)
+    → found_over s (where_is_apart s (ended_of xs) w.ranges) xs ≡ where_is s (records_after xs w).ranges
+found-planned l xs w s p unmixed = ⊎_elim
+    (λ none. ap (λ es. found_over s (where_is_apart s es w.ranges) xs) (ended_none l 0 xs w p.judged none)
+    ∙ ap (λ f. found_over s f xs) (apart_none s w.ranges)
+    ∙ found-entered l 0 xs w s p.judged none)
+    (λ none. found_same l 0 xs w s (where_is_apart s (ended_of xs) w.ranges) p.judged none ∙ found-left l 0 xs w s p.judged none)
+    unmixed
+
+-- ---- counters
+
+pub counters-planned : (l : Limits) (xs : List Acted) (w : Records) (b : ℕ) → IsPlanned l xs w → counters_over b (counters_at b w.ranges) xs ≡ counters_at b (records_after xs w).ranges
+counters-planned l xs w b p = counters-after l 0 xs w b p.bounds p.sound p.judged
+
+recounted_both : (task : Task) (r : Range) → is_unused (recounted task r) ≡ are_zero (recount task (counters_in r))
+recounted_both (Enter counter item) r = go counter
+  where
+    go : (c : Counter) → is_unused (recounted (Enter c item) r) ≡ are_zero (recount (Enter c item) (counters_in r))
+    go c = elim c as (λ v. is_unused (recounted (Enter v item) r) ≡ are_zero (recount (Enter v item) (counters_in r))) [ Structured ↦ refl | Dynamic ↦ refl ]
+recounted_both (Leave holding) r = refl
+recounted_both (Exit true item) r = refl
+recounted_both (Exit false item) r = refl
+recounted_both (Move if_present item) r = refl
+
+-- both counters of a range that is looked for; both are 0 where there is none
+abbrev counters_found : Option Range → Counters
+counters_found o = record { structured = unwrap_or (option_map (counter_in Structured) o) 0; dynamic = unwrap_or (option_map (counter_in Dynamic) o) 0 }
+
+-- a counter of the range is above zero
+abbrev IsAbove : Range → Type 0
+IsAbove r = 0 < r.structured + r.dynamic
+
+above_not : (r : Range) → IsAbove r → are_zero (counters_in r) ≡ false
+above_not r above = grind (arith, nat_tests)
+
+unless : (z x y : Bool) → z ≡ false → x ≡ y → x ≡ (not z && y)
+unless true x y e f = cc
+unless false x y e f = f
+
+ends_found : (task : Task) (o : Option Range) → IfSome o IsAbove → unwrap_or (option_map (λ r. is_unused (recounted task r)) o) false ≡ (not (are_zero (counters_found o)) && are_zero (recount task (counters_found o)))
+ends_found task None above = refl
+ends_found task (Some r) above = unless (are_zero (counters_in r)) (is_unused (recounted task r)) (are_zero (recount task (counters_in r))) (above_not r above) (recounted_both task r)
+
+found_above : (l : Limits) (w : Records) (b : ℕ) (o : Option Range) → range_of b w.ranges ≡ o → AreRecordsSound l w → IfSome o IsAbove
+found_above l w b None e h = tt
+found_above l w b (Some r) e h =
+    let has : IsCounted l r × ((r.block == b) ≡ true) = found_has (IsCounted l) (λ t. t.block == b) w.ranges r h.counted e in
+    has.0.some
+
+-- a range is mapped just as long as one of its counters is above zero
+pub ends-planned : (l : Limits) (xs : List Acted) (w : Records) (task : Task) (b : ℕ) → IsPlanned l xs w
+    → ends_by (recounted task) b (records_after xs w).ranges ≡ (not (are_zero (counters_at b (records_after xs w).ranges)) && are_zero (recount task (counters_at b (records_after xs w).ranges)))
+ends-planned l xs w task b p =
+    let after : Records = records_after xs w in
+    ends_found task (range_of b after.ranges) (found_above l after b (range_of b after.ranges) refl (sound-after l 0 xs w p.bounds p.sound p.judged))
+
+both_read : (c : Counters) (s d : ℕ) → c.structured ≡ s → c.dynamic ≡ d → ◌≡◌ {A = Counters} c (record { structured = s; dynamic = d })
+both_read c s d e f =
+    let first : ◌≡◌ {A = Counters} c (record { structured = s; dynamic = c.dynamic }) = ap (λ (n : ℕ). let r : Counters = record { structured = n; dynamic = c.dynamic } in r) e in
+    let second : ◌≡◌ {A = Counters} (record { structured = s; dynamic = c.dynamic }) (record { structured = s; dynamic = d }) = ap (λ (n : ℕ). let r : Counters = record { structured = s; dynamic = n } in r) f in
+    first ∙ second
+
+-- what is read of a block before the tasks gives its counters after them
+pub counters_read : (l : Limits) (xs acts : List Acted) (w : Records) (b : ℕ) (c r : Counters) → IsPlanned l xs w → acts ≡ xs → c.structured ≡ structured_of b w.ranges → c.dynamic ≡ dynamic_of b w.ranges
+    → r ≡ counters_over b c acts → r ≡ counters_at b (records_after xs w).ranges
+counters_read l xs acts w b c r p same s d e =
+    let read : c ≡ counters_at b w.ranges = both_read c _ _ s d in
+    e ∙ (ap (λ ys. counters_over b c ys) same ∙ (ap (λ k. counters_over b k xs) read ∙ counters-planned l xs w b p))
+
+-- ---- births
+
+-- an absent section that was checked is from 1 to 67,108,864 bytes long
+pub absent-len : (l : Limits) (n : ℕ) (s : Section) (ranges : List Range) → IsWithinBounds l → in_host l n s ≡ Ok tt → where_is s ranges ≡ Absent → IsFromOne MEMORY_MAX s.len
+absent-len l n s ranges bounds checked absent =
+    let filled : is_empty s ≡ false = (absent_says s ranges absent).1 in
+    let within : is_within s (host_memory l.host) ≡ true = in_host_says l n s checked filled in
+    let most : l.host ≤ MEMORY_MAX = bounds.host.1 in
+    grind (arith, nat_tests)
+
+birth_len : (l : Limits) (s : Section) (ranges : List Range) → IsWithinBounds l → is_within s (host_memory l.host) ≡ true → where_is s ranges ≡ Absent → IsFromOne MEMORY_MAX s.len
+birth_len l s ranges bounds within absent =
+    let filled : is_empty s ≡ false = (absent_says s ranges absent).1 in
+    let most : l.host ≤ MEMORY_MAX = bounds.host.1 in
+    grind (arith, nat_tests)
+
+place_below : (l : Limits) (w : Records) (size p : ℕ) → place_for l.device w.blocks size ≡ Some p → p + size ≤ device_base + l.device
+place_below l w size p e =
+    let fits : fits_at l.device w.blocks size p ≡ true = (rw e at (place_for-found l.device w.blocks size)).0 in
+    let bounds : (nat_le device_base p && nat_le (p + size) (device_base + l.device)) ≡ true = (and_true _ _ fits).0 in
+    grind (arith, nat_tests)
+
+take_by : (l : Limits) (task : Task) (step : Step) (w : Records) → IsWithinBounds l → IsJudgedTo l task step w → AllByRecursion (IsTakeBelow (device_base + l.device)) (birth_by task step)
+take_by l task Nothing w bounds says = tt
+take_by l task (Counted k) w bounds says = tt
+take_by l task (Born k p) w bounds says =
+    let birth : IsBirth l (section_of task) k p w = birth_entry l task k p w says in
+    ((birth_len l (section_of task) w.ranges bounds birth.within birth.absent, place_below l w (rounded (section_of task).len) p birth.place_is), tt)
+take_by l task (Dropped k ended) w bounds says = tt
+take_by l task (Moved k) w bounds says = tt
+
+takes : (l : Limits) (n : ℕ) (xs : List Acted) (w : Records) → IsWithinBounds l → AreJudged l n (tasks_in xs) (dids_in xs) w → AllByRecursion (IsTakeBelow (device_base + l.device)) (births_of xs)
+takes l n [] w bounds judged = tt
+takes l n (x ∷ xs) w bounds judged =
+    AllByRecursion-append (IsTakeBelow (device_base + l.device)) (birth_by x.task x.step) (births_of xs)
+    (take_by l x.task x.step w bounds (task_says l n x.task w x.step judged.0))
+    (takes l (suc n) xs (act x.task x.step w) bounds judged.1)
+
+-- each block that the tasks bear ends on the device
+pub takes-planned : (l : Limits) (xs : List Acted) (w : Records) → IsPlanned l xs w → All (IsTakeBelow (device_base + l.device)) (births_of xs)
+takes-planned l xs w p = All-from_recursion (IsTakeBelow (device_base + l.device)) (births_of xs) (takes l 0 xs w p.bounds p.judged)
+
+pub place-planned : (l : Limits) (xs : List Acted) (w : Records) (size : ℕ) → IsPlanned l xs w → list_any may_end (tasks_in xs) ≡ false
+    → place_for l.device (w.blocks ++ planned_blocks (w.births + 1) (births_of xs)) size ≡ place_for l.device (records_after xs w).blocks size
+place-planned l xs w size p none = ap (λ bs. place_for l.device bs size) (sym (blocks-after l 0 xs w p.judged none))
+
+pub births-planned : (l : Limits) (xs : List Acted) (w : Records) → IsPlanned l xs w → list_any may_end (tasks_in xs) ≡ false → (records_after xs w).births ≡ w.births + length (births_of xs)
+births-planned l xs w p none = births-after l 0 xs w p.judged none
+
+pub ruleset plan_laws = (found-planned, counters-planned, ends-planned, takes-planned, place-planned, births-planned)
+
+-- ---- kinds of tasks
+
+any_front : (p : Task → Bool) (ts us : List Task) → list_any p (ts ++ us) ≡ false → list_any p ts ≡ false
+any_front p [] us e = refl
+any_front p (t ∷ ts) us e =
+    let parts : (p t ≡ false) × (list_any p (ts ++ us) ≡ false) = or_false _ _ e in
+    rw (parts.0, any_front p ts us parts.1) refl
+
+any_last : (p : Task → Bool) (ts : List Task) (u : Task) → list_any p (ts ++ u ∷ []) ≡ false → p u ≡ false
+any_last p [] u e = (or_false (p u) false e).0
+any_last p (t ∷ ts) u e = any_last p ts u (or_false (p t) (list_any p (ts ++ u ∷ [])) e).1
+
+-- the first tasks of some that are unmixed
+pub unmixed_front : (ts us : List Task) → AreUnmixed (ts ++ us) → AreUnmixed ts
+unmixed_front ts us unmixed = ⊎_elim (λ e. inl (any_front may_end ts us e)) (λ e. inr (any_front may_bear ts us e)) unmixed
+
+-- no task before one of an entry may end a mapping
+pub unmixed_entry : (ts : List Task) (u : Task) (counter : Counter) (item : Item RegionClause) → u ≡ Enter counter item → AreUnmixed (ts ++ u ∷ []) → list_any may_end ts ≡ false
+unmixed_entry ts u counter item is unmixed = ⊎_elim
+    (λ e. any_front may_end ts (u ∷ []) e)
+    (λ e. let last : may_bear u ≡ false = any_last may_bear ts u e in let entry : may_bear u ≡ true = ap may_bear is in absurd cc)
+    unmixed
+
+pub ruleset kind_laws = (unmixed_front)

@@ -1,0 +1,17 @@
+pub mod Founds
+pub mod Overlaid
+pub mod Laws
+pub mod Drafted
+pub mod Turns
+pub mod Asking
+pub mod Events
+mod Copying
+mod Moving
+mod Steps
+mod Legal
+mod Changes
+mod Remaining
+mod Holding
+mod Entering
+mod Storing
+mod Finishing

@@ -1,0 +1,106 @@
+-- One turn of the loop over the tasks of a directive.
+use Rattle.std.proofs.Common.{ℕ, ◌≡◌, ◌+◌, ◌<◌, ◌≤◌, refl, sym, ap, ◌∙◌, List, [], ◌∷◌, ◌++◌, length, suc, Result, Ok, Err, arith, drop, get_or, add-one}
+use Rattle.std.proofs.lemmas.List.{append-nil, append_assoc, drop_more, drop_all, length-append}
+use Rattle.acc_base.specs.declared.tasks.Task.{Task}
+use Rattle.acc_base.specs.declared.events.Did.{Did}
+use Rattle.acc_base.specs.declared.faults.Fault.{Fault}
+use Rattle.acc_base.specs.Results.{◌>>=◌}
+use Rattle.acc_base.specs.Limits.{Limits}
+use Rattle.acc_base.specs.Records.{Records}
+use Rattle.acc_base.specs.Tasks.{did_of, judge_task, judge_all, act, act_all}
+use Rattle.acc_base.specs.History.{AreJudged}
+use Rattle.acc_clauses.specs.declared.acted.Acted.{Acted}
+use Rattle.acc_clauses.specs.Overlays.{IsPlanned, AreUnmixed, tasks_in, dids_in, records_after}
+use Rattle.acc_clauses.proofs.Laws.{unmixed_front}
+
+-- what was done before what is still judged
+abbrev pub prefixed : List Did → Result (List Did) Fault → Result (List Did) Fault
+prefixed done r = r >>= λ rest. Ok (done ++ rest)
+
+pub tasks_in-push : (xs : List Acted) (x : Acted) → tasks_in (xs ++ x ∷ []) ≡ tasks_in xs ++ x.task ∷ []
+tasks_in-push [] x = refl
+tasks_in-push (y ∷ ys) x = ap (λ ts. y.task ∷ ts) (tasks_in-push ys x)
+
+pub dids_in-push : (xs : List Acted) (x : Acted) → dids_in (xs ++ x ∷ []) ≡ dids_in xs ++ did_of x.step ∷ []
+dids_in-push [] x = refl
+dids_in-push (y ∷ ys) x = ap (λ ds. did_of y.step ∷ ds) (dids_in-push ys x)
+
+pub records_after-push : (xs : List Acted) (x : Acted) (w : Records) → records_after (xs ++ x ∷ []) w ≡ act x.task x.step (records_after xs w)
+unfolding act_all
+records_after-push [] x w = refl
+records_after-push (y ∷ ys) x w = records_after-push ys x (act y.task y.step w)
+
+-- one more task was judged
+pub judged-push : (l : Limits) (n m : ℕ) (xs : List Acted) (x : Acted) (w : Records) → m ≡ n + length xs → AreJudged l n (tasks_in xs) (dids_in xs) w → judge_task l m x.task (records_after xs w) ≡ Ok x.step
+    → AreJudged l n (tasks_in (xs ++ x ∷ [])) (dids_in (xs ++ x ∷ [])) w
+unfolding act_all
+judged-push l n m [] x w at judged ok = let same : m ≡ n = omega arith in (rw same at ok, tt)
+judged-push l n m (y ∷ ys) x w at judged ok = (judged.0, judged-push l (suc n) m ys x (act y.task y.step w) (omega arith) judged.1 ok)
+
+pub IsPlanned-push : (l : Limits) (m : ℕ) (xs : List Acted) (x : Acted) (w : Records) → m ≡ length xs → IsPlanned l xs w → judge_task l m x.task (records_after xs w) ≡ Ok x.step → IsPlanned l (xs ++ x ∷ []) w
+IsPlanned-push l m xs x w at p ok = record { bounds = p.bounds; sound = p.sound; judged = judged-push l 0 m xs x w (omega arith) p.judged ok }
+
+prefixed-push : (done : List Did) (did : Did) (r : Result (List Did) Fault) → prefixed (done ++ did ∷ []) r ≡ prefixed done (r >>= λ rest. Ok (did ∷ rest))
+prefixed-push done did (Ok rest) = ap (λ ds. Ok ds) (append_assoc done (did ∷ []) rest)
+prefixed-push done did (Err fault) = refl
+
+pub prefixed-nil : (r : Result (List Did) Fault) → prefixed [] r ≡ r
+prefixed-nil (Ok rest) = refl
+prefixed-nil (Err fault) = refl
+
+-- before the first turn
+pub turns_begun : (l : Limits) (tasks : List Task) (w : Records) → prefixed (dids_in []) (judge_all l 0 tasks (records_after [] w)) ≡ judge_all l 0 tasks w
+unfolding act_all
+turns_begun l tasks w = prefixed-nil (judge_all l 0 tasks w)
+
+-- the first task of some is judged
+judge_all-cons : (l : Limits) (n : ℕ) (task : Task) (tasks : List Task) (w : Records) → judge_all l n (task ∷ tasks) w ≡ (judge_task l n task w >>= λ step. judge_all l (suc n) tasks (act task step w) >>= λ dids. Ok (did_of step ∷ dids))
+unfolding judge_all
+judge_all-cons l n task tasks w = refl
+
+-- what is judged goes from the tasks that are left to those that are done
+pub turn : (l : Limits) (n i : ℕ) (xs ys : List Acted) (x : Acted) (tasks : List Task) (d : Task) (w : Records) (all : Result (List Did) Fault)
+    → i < length tasks → x.task ≡ get_or tasks i d → ys ≡ xs ++ x ∷ [] → judge_task l n x.task (records_after xs w) ≡ Ok x.step
+    → prefixed (dids_in xs) (judge_all l n (drop i tasks) (records_after xs w)) ≡ all
+    → prefixed (dids_in ys) (judge_all l (n + 1) (drop (i + 1) tasks) (records_after ys w)) ≡ all
+turn l n i xs ys x tasks d w all within item more ok so =
+    let cons : drop i tasks ≡ x.task ∷ drop (i + 1) tasks = drop_more tasks i d within ∙ ap (λ t. t ∷ drop (i + 1) tasks) (sym item) in
+    let so' = rw (cons, judge_all-cons, ok) at so in
+    rw (more, records_after-push, dids_in-push, add-one) (prefixed-push (dids_in xs) (did_of x.step) (judge_all l (suc n) (drop (i + 1) tasks) (act x.task x.step (records_after xs w))) ∙ so')
+
+-- a refused task is the answer
+pub turn_refused : (l : Limits) (n i : ℕ) (xs : List Acted) (task : Task) (tasks : List Task) (d : Task) (w : Records) (fault : Fault) (all : Result (List Did) Fault)
+    → i < length tasks → task ≡ get_or tasks i d → judge_task l n task (records_after xs w) ≡ Err fault
+    → prefixed (dids_in xs) (judge_all l n (drop i tasks) (records_after xs w)) ≡ all → all ≡ Err fault
+turn_refused l n i xs task tasks d w fault all within item refused so =
+    let cons : drop i tasks ≡ task ∷ drop (i + 1) tasks = drop_more tasks i d within ∙ ap (λ t. t ∷ drop (i + 1) tasks) (sym item) in
+    sym (rw (cons, judge_all-cons, refused) at so)
+
+judge_all-nil : (l : Limits) (n : ℕ) (w : Records) → judge_all l n [] w ≡ Ok []
+unfolding judge_all
+judge_all-nil l n w = refl
+
+-- after the last turn
+pub turns_done : (l : Limits) (n i : ℕ) (xs : List Acted) (tasks : List Task) (w : Records) (all : Result (List Did) Fault) → length tasks ≤ i
+    → prefixed (dids_in xs) (judge_all l n (drop i tasks) (records_after xs w)) ≡ all → all ≡ Ok (dids_in xs)
+turns_done l n i xs tasks w all past so =
+    let none : drop i tasks ≡ [] = drop_all i tasks past in
+    let so' = rw (none, judge_all-nil) at so in
+    sym so' ∙ ap (λ ds. Ok ds) (append-nil (dids_in xs))
+
+-- the tasks that are done and the next one
+pub unmixed_turn : (i : ℕ) (done : List Task) (task : Task) (tasks : List Task) (d : Task) → i < length tasks → task ≡ get_or tasks i d → done ++ drop i tasks ≡ tasks → AreUnmixed tasks → AreUnmixed (done ++ task ∷ [])
+unmixed_turn i done task tasks d within item so unmixed =
+    let cons : drop i tasks ≡ task ∷ drop (i + 1) tasks = drop_more tasks i d within ∙ ap (λ t. t ∷ drop (i + 1) tasks) (sym item) in
+    let all : (done ++ task ∷ []) ++ drop (i + 1) tasks ≡ tasks = append_assoc done (task ∷ []) (drop (i + 1) tasks) ∙ (ap (λ ts. done ++ ts) (sym cons) ∙ so) in
+    unmixed_front (done ++ task ∷ []) (drop (i + 1) tasks) (rw all unmixed)
+
+-- and the ones that are left
+pub asked_turn : (i : ℕ) (xs ys : List Acted) (x : Acted) (tasks : List Task) (d : Task) → i < length tasks → x.task ≡ get_or tasks i d → ys ≡ xs ++ x ∷ [] → tasks_in xs ++ drop i tasks ≡ tasks → tasks_in ys ++ drop (i + 1) tasks ≡ tasks
+asked_turn i xs ys x tasks d within item more so =
+    let cons : drop i tasks ≡ x.task ∷ drop (i + 1) tasks = drop_more tasks i d within ∙ ap (λ t. t ∷ drop (i + 1) tasks) (sym item) in
+    rw (more, tasks_in-push) (append_assoc (tasks_in xs) (x.task ∷ []) (drop (i + 1) tasks) ∙ (ap (λ ts. tasks_in xs ++ ts) (sym cons) ∙ so))
+
+-- one task more is done
+pub few_turn : (i : ℕ) (xs ys : List Acted) (x : Acted) → ys ≡ xs ++ x ∷ [] → length xs ≡ i → length ys ≡ i + 1
+few_turn i xs ys x more few = rw more (omega (arith, length-append xs (x ∷ []), few))

@@ -1,0 +1,154 @@
+-- What a plan knows of the records after its tasks: what each look-up answers then, from what it answers before them.
+use Rattle.std.specs.Prelude.{ℕ, ◌-◌, ◌≡◌, ◌⊎◌, Bool, true, false, if◌then◌else◌, ◌==◌, ◌&&◌, ◌≤◌, length, List, [], ◌∷◌, ◌++◌, map, fold}
+use Rattle.std.specs.List.{list_any}
+use Rattle.acc_base.specs.declared.items.Section.{Section}
+use Rattle.acc_base.specs.declared.mappings.Range.{Range}
+use Rattle.acc_base.specs.declared.mappings.Counters.{Counters}
+use Rattle.acc_base.specs.declared.mappings.Counter.TheVariants.{Structured, Dynamic}
+use Rattle.acc_base.specs.declared.mappings.Found.{Found}
+use Rattle.acc_base.specs.declared.mappings.Found.TheVariants.{Empty, Inside, Partly, Absent}
+use Rattle.acc_base.specs.declared.tasks.Task.{Task}
+use Rattle.acc_base.specs.declared.tasks.Task.TheVariants.{Enter, Leave, Exit, Move}
+use Rattle.acc_base.specs.declared.events.Step.{Step}
+use Rattle.acc_base.specs.declared.events.Step.TheVariants.{Nothing, Counted, Born, Dropped, Moved}
+use Rattle.acc_base.specs.declared.events.Did.{Did}
+use Rattle.acc_base.specs.Limits.{Limits, IsWithinBounds}
+use Rattle.acc_base.specs.Section.{is_within, is_apart}
+use Rattle.acc_base.specs.Records.{Records}
+use Rattle.acc_base.specs.Ranges.{counter_of}
+use Rattle.acc_base.specs.Tasks.{section_of, recounted, did_of, act_all}
+use Rattle.acc_base.specs.History.{AreJudged}
+use Rattle.acc_base.specs.Accounts.{AreRecordsSound}
+use Rattle.acc_clauses.specs.declared.acted.Acted.{Acted}
+
+-- ---- the tasks of a plan, and what they do
+
+abbrev pub tasks_in : List Acted → List Task
+tasks_in xs = map (λ x. x.task) xs
+
+abbrev pub dids_in : List Acted → List Did
+dids_in xs = map (λ x. did_of x.step) xs
+
+-- the records after these tasks
+abbrev pub records_after : List Acted → Records → Records
+records_after xs w = act_all (tasks_in xs) (dids_in xs) w
+
+-- each task does what it is judged to do in the records that those before it leave
+abbrev pub ArePlanned : Limits → List Acted → Records → Type 0
+ArePlanned l xs w = AreJudged l 0 (tasks_in xs) (dids_in xs) w
+
+-- what a plan rests on: the records are sound, and each task was judged in what those before it leave
+pub record IsPlanned (l : Limits) (xs : List Acted) (w : Records) : Type 0 where
+  pub bounds : IsWithinBounds l
+  pub sound : AreRecordsSound l w
+  pub judged : ArePlanned l xs w
+
+-- ---- entries and exits
+
+-- the task may map a section to a new block
+abbrev pub may_bear : Task → Bool
+may_bear (Enter counter item) = true
+may_bear (Leave holding) = false
+may_bear (Exit finalize item) = false
+may_bear (Move if_present item) = false
+
+-- the task may end a mapping
+abbrev pub may_end : Task → Bool
+may_end (Enter counter item) = false
+may_end (Leave holding) = true
+may_end (Exit finalize item) = true
+may_end (Move if_present item) = false
+
+-- no task may end a mapping, or none may make one
+abbrev pub AreUnmixed : List Task → Type 0
+AreUnmixed tasks = (list_any may_end tasks ≡ false) ⊎ (list_any may_bear tasks ≡ false)
+
+-- ---- births and ends
+
+-- the place and the length of the block that the task bears, if it does
+abbrev pub birth_by : Task → Step → List (ℕ × ℕ)
+birth_by task Nothing = []
+birth_by task (Counted block) = []
+birth_by task (Born block place) = (place, (section_of task).len) ∷ []
+birth_by task (Dropped block ended) = []
+birth_by task (Moved block) = []
+
+-- the places and lengths of the blocks that these tasks bear
+abbrev pub births_of : List Acted → List (ℕ × ℕ)
+births_of [] = []
+births_of (x ∷ xs) = birth_by x.task x.step ++ births_of xs
+
+-- the block whose mapping ends by the step, if one does
+abbrev pub end_by : Step → List ℕ
+end_by Nothing = []
+end_by (Counted block) = []
+end_by (Born block place) = []
+end_by (Dropped block true) = block ∷ []
+end_by (Dropped block false) = []
+end_by (Moved block) = []
+
+-- the blocks whose mappings end by these tasks
+abbrev pub ended_of : List Acted → List ℕ
+ended_of [] = []
+ended_of (x ∷ xs) = end_by x.step ++ ended_of xs
+
+-- what a draft notes beside its tasks: the births and the ends among them
+pub record IsDraft (xs : List Acted) (births : List (ℕ × ℕ)) (ended : List ℕ) : Type 0 where
+  pub births_are : births ≡ births_of xs
+  pub ended_are : ended ≡ ended_of xs
+  pub few : length xs ≤ 64
+
+-- ---- where a section lies
+
+-- where a section lies once a range that it may touch is mapped to a new block
+abbrev pub found_beside : Section → Section → ℕ → Found → Found
+found_beside s range block Empty = Empty
+found_beside s range block (Inside other offset) = Inside other offset
+found_beside s range block Absent = if is_within s range then Inside block (s.start - range.start) else (if is_apart s range then Absent else Partly)
+found_beside s range block Partly = Partly
+
+-- where it lies after a task
+abbrev pub found_by : Section → Found → Task → Step → Found
+found_by s found task Nothing = found
+found_by s found task (Counted block) = found
+found_by s found task (Born block place) = found_beside s (section_of task) block found
+found_by s found task (Dropped block ended) = found
+found_by s found task (Moved block) = found
+
+-- where it lies after tasks of which none ends a mapping
+abbrev pub found_over : Section → Found → List Acted → Found
+found_over s found xs = fold (λ f x. found_by s f x.task x.step) found xs
+
+-- ---- reference counters
+
+-- both counters of a range
+abbrev pub counters_in : Range → Counters
+counters_in r = record { structured = r.structured; dynamic = r.dynamic }
+
+-- both counters of the range that is mapped to a block
+abbrev pub counters_at : ℕ → List Range → Counters
+counters_at block ranges = record { structured = counter_of Structured block ranges; dynamic = counter_of Dynamic block ranges }
+
+-- some range with these counters
+abbrev pub range_counted : Counters → Range
+range_counted c = record { section = record { start = 0; len = 0 }; block = 0; structured = c.structured; dynamic = c.dynamic }
+
+-- the counters of a range that a task counts or drops
+abbrev pub recount : Task → Counters → Counters
+recount task c = counters_in (recounted task (range_counted c))
+
+-- neither counter is above zero
+abbrev pub are_zero : Counters → Bool
+are_zero c = (c.structured == 0) && (c.dynamic == 0)
+
+-- the counters of a block's range after a task
+abbrev pub counters_by : ℕ → Counters → Task → Step → Counters
+counters_by block c task Nothing = c
+counters_by block c task (Counted b) = if b == block then recount task c else c
+counters_by block c task (Born b place) = if b == block then recount task c else c
+counters_by block c task (Dropped b ended) = if b == block then recount task c else c
+counters_by block c task (Moved b) = c
+
+-- the counters of a block's range after tasks
+abbrev pub counters_over : ℕ → Counters → List Acted → Counters
+counters_over block c xs = fold (λ d x. counters_by block d x.task x.step) c xs

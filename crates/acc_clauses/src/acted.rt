@@ -1,0 +1,12 @@
+//! A task with what it is judged to do.
+
+use acc_base::{Step, Task};
+
+/// A task with what it is judged to do.
+#[derive(Clone, Copy, Default)]
+pub struct Acted {
+    /// What an item asks.
+    pub task: Task,
+    /// What it does.
+    pub step: Step,
+}

@@ -1,0 +1,102 @@
+//! What was judged so far of a directive.
+
+ghost use Rattle.std.specs.Prelude.{[], ◌∷◌, ◌++◌, ◌≡◌, ◌<◌, ◌≤◌, length};
+ghost use Rattle.acc_clauses.specs.Overlays.{IsDraft, births_of, ended_of};
+
+use crate::acted::Acted;
+use crate::rows::section_of;
+use acc_base::Step;
+use arrayvec::ArrayVec;
+use std::marker::Model;
+
+/// The tasks of a directive that were judged so far, in the order in which they act, each with what it does.
+#[derive(Drop)]
+pub(crate) struct Draft {
+    acts: ArrayVec<Acted, 64>,
+    // The place and the length of each block that they bear.
+    births: ArrayVec<(u64, u64), 64>,
+    // The blocks whose mappings they end.
+    ended: ArrayVec<u64, 64>,
+}
+
+impl Model for Draft {
+    ghost use Rattle.std.specs.Prelude.{List, ◌≡◌, ◌≤◌, length};
+    ghost use Rattle.acc_clauses.specs.declared.acted.Acted.{Acted};
+    ghost use Rattle.acc_clauses.specs.Overlays.{IsDraft};
+
+    ghost Value = { List Acted };
+
+    ghost view = { λ d. d.acts.items };
+
+    ghost invariant = { λ d. IsDraft d.acts.items d.births.items d.ended.items };
+}
+
+// Notes the birth or the end that the task makes, after these tasks.
+#[tactic(auto, using(crate::proofs::Drafted::tally_laws))]
+fn tally(
+    births: &mut ArrayVec<(u64, u64), 64>,
+    ended: &mut ArrayVec<u64, 64>,
+    x: Acted,
+    acts: &[Acted],
+)
+    requires draft { IsDraft acts.now births.old.items ended.old.items }
+    requires few { length acts.now < 64 }
+    ensures { IsDraft (acts.now ++ x ∷ []) births.new.items ended.new.items }
+{
+    match x.step {
+        Step::Born { place, .. } => births.push((place, section_of(x.task).len)),
+        Step::Dropped { block, ended: over } => {
+            if over {
+                ended.push(block);
+            }
+        }
+        Step::Nothing => {}
+        Step::Counted { .. } => {}
+        Step::Moved { .. } => {}
+    }
+}
+
+impl Draft {
+    /// Nothing was judged.
+    pub(crate) fn new() -> Self
+        ensures { result ≡ [] }
+    {
+        Draft {
+            acts: ArrayVec::new(),
+            births: ArrayVec::new(),
+            ended: ArrayVec::new(),
+        }
+    }
+
+    /// One more task was judged.
+    pub(crate) fn push(&mut self, x: Acted)
+        requires { length self.old < 64 }
+        ensures { self.new ≡ self.old ++ x ∷ [] }
+    {
+        tally(&mut self.births, &mut self.ended, x, &self.acts);
+        self.acts.push(x);
+    }
+
+    /// The tasks, each with what it does.
+    pub(crate) fn acts(&self) -> &[Acted]
+        ensures value { result.now ≡ self.now }
+        ensures few { length result.now ≤ 64 }
+    {
+        &self.acts
+    }
+
+    /// The place and the length of each block that they bear.
+    pub(crate) fn births(&self) -> &[(u64, u64)]
+        ensures value { result.now ≡ births_of self.now }
+        ensures few { length result.now ≤ 64 }
+    {
+        &self.births
+    }
+
+    /// The blocks whose mappings they end.
+    pub(crate) fn ended(&self) -> &[u64]
+        ensures { result.now ≡ ended_of self.now }
+    {
+        &self.ended
+    }
+}

@@ -1,0 +1,138 @@
+//! What look-ups answer after tasks that are only judged yet.
+
+ghost use Rattle.std.specs.Prelude.{◌≡◌, ◌+◌, ◌<◌, ◌≤◌, ◌^◌, length};
+ghost use Rattle.acc_clauses.specs.Overlays.{recount, are_zero, counters_by, counters_over, found_beside, found_by, found_over};
+
+use crate::acted::Acted;
+use crate::rows::section_of;
+use crate::sections::{is_apart, is_within};
+use acc_base::{Counter, Counters, Found, Section, Step, Task};
+
+/// The counters of a range that a task counts or drops.
+pub fn recount(task: Task, counters: Counters) -> Counters
+    requires structured { counters.structured < 2 ^ 40 }
+    requires dynamic { counters.dynamic < 2 ^ 40 }
+    ensures value { result ≡ recount task counters }
+    ensures structured_most { result.structured ≤ counters.structured + 1 }
+    ensures dynamic_most { result.dynamic ≤ counters.dynamic + 1 }
+{
+    let Counters {
+        structured,
+        dynamic,
+    } = counters;
+    match task {
+        Task::Enter { counter, .. } => match counter {
+            Counter::Structured => Counters {
+                structured: structured + 1,
+                dynamic,
+            },
+            Counter::Dynamic => Counters {
+                structured,
+                dynamic: dynamic + 1,
+            },
+        },
+        Task::Leave { .. } => Counters {
+            structured: structured.saturating_sub(1),
+            dynamic,
+        },
+        Task::Exit { finalize, .. } => Counters {
+            structured,
+            dynamic: if finalize {
+                0
+            } else {
+                dynamic.saturating_sub(1)
+            },
+        },
+        Task::Move { .. } => counters,
+    }
+}
+
+/// Neither counter is above zero.
+pub fn are_zero(counters: Counters) -> bool
+    ensures { result ≡ are_zero counters }
+{
+    counters.structured == 0 && counters.dynamic == 0
+}
+
+// The counters of a block's range after one task.
+fn counters_by(block: u64, counters: Counters, x: Acted) -> Counters
+    requires structured { counters.structured < 2 ^ 40 }
+    requires dynamic { counters.dynamic < 2 ^ 40 }
+    ensures value { result ≡ counters_by block counters x.task x.step }
+    ensures structured_most { result.structured ≤ counters.structured + 1 }
+    ensures dynamic_most { result.dynamic ≤ counters.dynamic + 1 }
+{
+    let named = match x.step {
+        Step::Counted { block } => Some(block),
+        Step::Born { block, .. } => Some(block),
+        Step::Dropped { block, .. } => Some(block),
+        Step::Nothing => None,
+        Step::Moved { .. } => None,
+    };
+    if named == Some(block) {
+        recount(x.task, counters)
+    } else {
+        counters
+    }
+}
+
+/// The counters of a block's range after tasks.
+pub fn counters_over(block: u64, counters: Counters, acts: &[Acted]) -> Counters
+    requires few { length acts.now ≤ 64 }
+    requires structured { counters.structured < 2 ^ 32 }
+    requires dynamic { counters.dynamic < 2 ^ 32 }
+    ensures value { result ≡ counters_over block counters acts.now }
+    ensures structured { result.structured < 2 ^ 33 }
+    ensures dynamic { result.dynamic < 2 ^ 33 }
+{
+    let mut after = counters;
+    for x in acts {
+        after = counters_by(block, after, *x);
+    }
+    after
+}
+
+// Where a section lies once a range that it may touch is mapped to a new block.
+fn found_beside(section: Section, range: Section, block: u64, found: Found) -> Found
+    ensures { result ≡ found_beside section range block found }
+{
+    match found {
+        Found::Empty => Found::Empty,
+        Found::Inside { block, offset } => Found::Inside { block, offset },
+        Found::Partly => Found::Partly,
+        Found::Absent => {
+            if is_within(section, range) {
+                let offset = section.start - range.start;
+                return Found::Inside { block, offset };
+            }
+            if is_apart(section, range) {
+                return Found::Absent;
+            }
+            Found::Partly
+        }
+    }
+}
+
+// Where a section lies after one task.
+fn found_by(section: Section, found: Found, x: Acted) -> Found
+    ensures { result ≡ found_by section found x.task x.step }
+{
+    match x.step {
+        Step::Born { block, .. } => found_beside(section, section_of(x.task), block, found),
+        Step::Nothing => found,
+        Step::Counted { .. } => found,
+        Step::Dropped { .. } => found,
+        Step::Moved { .. } => found,
+    }
+}
+
+/// Where a section lies after tasks of which none ends a mapping.
+pub fn found_over(section: Section, found: Found, acts: &[Acted]) -> Found
+    ensures { result ≡ found_over section found acts.now }
+{
+    let mut after = found;
+    for x in acts {
+        after = found_by(section, after, *x);
+    }
+    after
+}

@@ -1,0 +1,226 @@
+//! The clause tables: what a task does after those that were judged before it, or why it is refused.
+
+ghost use Rattle.std.specs.Prelude.{ℕ, ◌≡◌, ◌+◌, ◌++◌, ◌∷◌, [], ◌<◌, ◌≤◌, ◌^◌, false};
+ghost use Rattle.std.specs.List.{list_any};
+ghost use Rattle.acc_base.specs.declared.addresses.TheConstants.{MEMORY_MAX};
+ghost use Rattle.acc_base.specs.Limits.{IsFromOne};
+ghost use Rattle.acc_base.specs.Ranges.{ends_by};
+ghost use Rattle.acc_base.specs.Clauses.{in_host, born, enter_absent, counted, enter_row, leave_row, exit_row, move_row};
+ghost use Rattle.acc_base.specs.Tasks.{recounted, judge_task};
+ghost use Rattle.acc_base.specs.Blocks.{rounded};
+ghost use Rattle.acc_base.specs.declared.events.Step.TheVariants.{Dropped};
+ghost use Rattle.acc_clauses.specs.Overlays.{IsPlanned, AreUnmixed, tasks_in, records_after, may_end};
+
+use crate::drafts::Draft;
+use crate::effects::{are_zero, recount};
+use crate::parts::Parts;
+use crate::readings::{counters_after, found_after, number_after, place_after};
+use crate::sections::is_within;
+use acc_base::{
+    Counter, ExitClause, Fault, Found, HOST_BASE, Holding, Item, RegionClause, Section, Step, Task,
+    UpdateClause,
+};
+
+// A section that is not empty lies in host memory. Nothing of an empty one is checked.
+fn in_host(parts: &Parts, n: u64, section: Section) -> Result<(), Fault>
+    ensures { result ≡ in_host parts.now.limits n section }
+{
+    let host = Section {
+        start: HOST_BASE,
+        len: parts.config().host(),
+    };
+    if section.len != 0 && !is_within(section, host) {
+        return Err(Fault::OutOfHost { item: n });
+    }
+    Ok(())
+}
+
+// What a block takes of the device: the least multiple of 16 that is at least its length.
+fn rounded(len: u64) -> u64
+    requires { len ≤ MEMORY_MAX }
+    ensures { result ≡ rounded len }
+{
+    16 * ((len + 15) / 16)
+}
+
+// The section is mapped to a new block, where the device has a place for it.
+#[tactic(auto, using(crate::proofs::Laws::plan_laws))]
+fn born(parts: &Parts, draft: &Draft, n: u64, section: Section) -> Result<Step, Fault>
+    requires planned { IsPlanned parts.now.limits draft.now parts.now.state.records }
+    requires entering { list_any may_end (tasks_in draft.now) ≡ false }
+    requires births { parts.now.state.records.births < 2 ^ 48 }
+    requires len { IsFromOne MEMORY_MAX section.len }
+    ensures { result ≡ born parts.now.limits n section (records_after draft.now parts.now.state.records) }
+{
+    match place_after(parts, draft, section.len) {
+        Some(place) => {
+            let block = number_after(parts, draft);
+            Ok(Step::Born { block, place })
+        }
+        None => {
+            let need = rounded(section.len);
+            Err(Fault::DeviceFull { item: n, need })
+        }
+    }
+}
+
+// The entry of an absent section.
+fn enter_absent(
+    parts: &Parts,
+    draft: &Draft,
+    n: u64,
+    item: Item<RegionClause>,
+) -> Result<Step, Fault>
+    requires planned { IsPlanned parts.now.limits draft.now parts.now.state.records }
+    requires entering { list_any may_end (tasks_in draft.now) ≡ false }
+    requires births { parts.now.state.records.births < 2 ^ 48 }
+    requires len { IsFromOne MEMORY_MAX item.section.len }
+    ensures { result ≡ enter_absent item.clause parts.now.limits n item.section (records_after draft.now parts.now.state.records) }
+{
+    match item.clause {
+        RegionClause::Copy => born(parts, draft, n, item.section),
+        RegionClause::Copyin => born(parts, draft, n, item.section),
+        RegionClause::Copyout { .. } => born(parts, draft, n, item.section),
+        RegionClause::Create { .. } => born(parts, draft, n, item.section),
+        RegionClause::NoCreate => Ok(Step::Nothing),
+        RegionClause::Present => Err(Fault::NotPresent { item: n }),
+    }
+}
+
+// The counter of a mapped range rises, below its limit.
+fn counted(
+    parts: &Parts,
+    draft: &Draft,
+    n: u64,
+    counter: Counter,
+    block: u64,
+) -> Result<Step, Fault>
+    requires { IsPlanned parts.now.limits draft.now parts.now.state.records }
+    ensures { result ≡ counted parts.now.limits counter n block (records_after draft.now parts.now.state.records) }
+{
+    let counters = counters_after(parts, draft, block);
+    let count = match counter {
+        Counter::Structured => counters.structured,
+        Counter::Dynamic => counters.dynamic,
+    };
+    if parts.config().counter_max() <= count {
+        return Err(Fault::CounterFull { item: n });
+    }
+    Ok(Step::Counted { block })
+}
+
+// An item of a region's entry, or of `enter data`.
+#[tactic(auto, using(crate::proofs::Laws::plan_laws), unfolding(acc_base::specs::Tasks::judge_task))]
+fn enter(
+    parts: &Parts,
+    draft: &Draft,
+    n: u64,
+    counter: Counter,
+    item: Item<RegionClause>,
+) -> Result<Step, Fault>
+    requires planned { IsPlanned parts.now.limits draft.now parts.now.state.records }
+    requires entering { list_any may_end (tasks_in draft.now) ≡ false }
+    requires births { parts.now.state.records.births < 2 ^ 48 }
+    ensures { result ≡ judge_task parts.now.limits n (Task.Enter counter item) (records_after draft.now parts.now.state.records) }
+{
+    in_host(parts, n, item.section)?;
+    match found_after(parts, draft, item.section) {
+        Found::Empty => Ok(Step::Nothing),
+        Found::Inside { block, .. } => counted(parts, draft, n, counter, block),
+        Found::Absent => enter_absent(parts, draft, n, item),
+        Found::Partly => Err(Fault::PartlyPresent { item: n }),
+    }
+}
+
+// The drop of a block by a task. A range is mapped just as long as a counter of it is above zero.
+#[tactic(auto, using(crate::proofs::Laws::plan_laws))]
+fn dropped(parts: &Parts, draft: &Draft, task: Task, block: u64) -> Step
+    requires { IsPlanned parts.now.limits draft.now parts.now.state.records }
+    ensures { result ≡ Dropped block (ends_by (recounted task) block (records_after draft.now parts.now.state.records).ranges) }
+{
+    let counters = counters_after(parts, draft, block);
+    let ended = !are_zero(counters) && are_zero(recount(task, counters));
+    Step::Dropped { block, ended }
+}
+
+// Undoes what an item of a region's entry counted, and nothing else.
+#[tactic(auto, unfolding(acc_base::specs::Tasks::judge_task))]
+fn leave(parts: &Parts, draft: &Draft, holding: Holding) -> Result<Step, Fault>
+    requires { IsPlanned parts.now.limits draft.now parts.now.state.records }
+    ensures { (n : ℕ) → result ≡ judge_task parts.now.limits n (Task.Leave holding) (records_after draft.now parts.now.state.records) }
+{
+    match holding.block {
+        Some(block) => Ok(dropped(parts, draft, Task::Leave { holding }, block)),
+        None => Ok(Step::Nothing),
+    }
+}
+
+// An item of `exit data`.
+#[tactic(auto, unfolding(acc_base::specs::Tasks::judge_task))]
+fn exit(
+    parts: &Parts,
+    draft: &Draft,
+    n: u64,
+    finalize: bool,
+    item: Item<ExitClause>,
+) -> Result<Step, Fault>
+    requires planned { IsPlanned parts.now.limits draft.now parts.now.state.records }
+    requires unmixed { AreUnmixed (tasks_in draft.now) }
+    ensures { result ≡ judge_task parts.now.limits n (Task.Exit finalize item) (records_after draft.now parts.now.state.records) }
+{
+    in_host(parts, n, item.section)?;
+    match found_after(parts, draft, item.section) {
+        Found::Empty => Ok(Step::Nothing),
+        Found::Inside { block, .. } => {
+            if counters_after(parts, draft, block).dynamic == 0 {
+                return Ok(Step::Nothing);
+            }
+            Ok(dropped(parts, draft, Task::Exit { finalize, item }, block))
+        }
+        Found::Absent => Ok(Step::Nothing),
+        Found::Partly => Err(Fault::PartlyPresent { item: n }),
+    }
+}
+
+// An item of `update`.
+#[tactic(auto, unfolding(acc_base::specs::Tasks::judge_task))]
+fn copy(
+    parts: &Parts,
+    draft: &Draft,
+    n: u64,
+    if_present: bool,
+    item: Item<UpdateClause>,
+) -> Result<Step, Fault>
+    requires planned { IsPlanned parts.now.limits draft.now parts.now.state.records }
+    requires unmixed { AreUnmixed (tasks_in draft.now) }
+    ensures { result ≡ judge_task parts.now.limits n (Task.Move if_present item) (records_after draft.now parts.now.state.records) }
+{
+    in_host(parts, n, item.section)?;
+    match found_after(parts, draft, item.section) {
+        Found::Empty => Ok(Step::Nothing),
+        Found::Inside { block, .. } => Ok(Step::Moved { block }),
+        Found::Absent => {
+            if if_present {
+                return Ok(Step::Nothing);
+            }
+            Err(Fault::NotPresent { item: n })
+        }
+        Found::Partly => Err(Fault::PartlyPresent { item: n }),
+    }
+}
+
+/// What the task of the item at place `n` does after those that were judged before it, or its refusal.
+#[tactic(auto, using(crate::proofs::Laws::kind_laws))]
+pub(crate) fn judge(parts: &Parts, draft: &Draft, n: u64, task: Task) -> Result<Step, Fault>
+    requires planned { IsPlanned parts.now.limits draft.now parts.now.state.records }
+    requires unmixed { AreUnmixed (tasks_in draft.now ++ task ∷ []) }
+    requires births { parts.now.state.records.births < 2 ^ 48 }
+    ensures { result ≡ judge_task parts.now.limits n task (records_after draft.now parts.now.state.records) }
+{
+    match task {
+        Task::Enter { counter, item } => enter(parts, draft, n, counter, item),
+        Task::Leave { holding } => leave(parts, draft, holding),
+        Task::Exit { finalize, item } => exit(parts, draft, n, finalize, item),
+        Task::Move { if_present, item } => copy(parts, draft, n, if_present, item),
+    }
+}

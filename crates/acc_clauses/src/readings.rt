@@ -1,0 +1,59 @@
+//! What look-ups answer in the records that the tasks judged so far will leave.
+
+ghost use Rattle.std.specs.Prelude.{◌≡◌, ◌+◌, ◌<◌, ◌^◌, false};
+ghost use Rattle.std.specs.List.{list_any};
+ghost use Rattle.acc_base.specs.declared.addresses.TheConstants.{MEMORY_MAX};
+ghost use Rattle.acc_base.specs.Limits.{IsFromOne};
+ghost use Rattle.acc_base.specs.Ranges.{where_is};
+ghost use Rattle.acc_base.specs.Blocks.{rounded, place_for};
+ghost use Rattle.acc_clauses.specs.Overlays.{IsPlanned, AreUnmixed, tasks_in, records_after, may_end, counters_at};
+
+use crate::drafts::Draft;
+use crate::effects::{counters_over, found_over};
+use crate::parts::Parts;
+use acc_base::{Counters, Found, Section};
+
+/// Where a section lies after the tasks.
+#[tactic(auto, using(crate::proofs::Laws::plan_laws))]
+pub(crate) fn found_after(parts: &Parts, draft: &Draft, section: Section) -> Found
+    requires planned { IsPlanned parts.now.limits draft.now parts.now.state.records }
+    requires unmixed { AreUnmixed (tasks_in draft.now) }
+    ensures { result ≡ where_is section (records_after draft.now parts.now.state.records).ranges }
+{
+    let found = parts.find_apart(section, draft.ended());
+    found_over(section, found, draft.acts())
+}
+
+/// The counters of the range that is mapped to a block after the tasks; both are 0 where none is.
+#[tactic(auto, using(crate::proofs::Laws::plan_laws))]
+pub(crate) fn counters_after(parts: &Parts, draft: &Draft, block: u64) -> Counters
+    requires planned { IsPlanned parts.now.limits draft.now parts.now.state.records }
+    ensures value { result ≡ counters_at block (records_after draft.now parts.now.state.records).ranges }
+    ensures structured { result.structured < 2 ^ 33 }
+    ensures dynamic { result.dynamic < 2 ^ 33 }
+{
+    let counters = parts.counters(block);
+    counters_over(block, counters, draft.acts())
+}
+
+/// Where a block of `len` bytes would be born after the tasks, of which none ends a mapping.
+#[tactic(auto, using(crate::proofs::Laws::plan_laws))]
+pub(crate) fn place_after(parts: &Parts, draft: &Draft, len: u64) -> Option<u64>
+    requires planned { IsPlanned parts.now.limits draft.now parts.now.state.records }
+    requires entering { list_any may_end (tasks_in draft.now) ≡ false }
+    requires len { IsFromOne MEMORY_MAX len }
+    ensures { result ≡ place_for parts.now.limits.device (records_after draft.now parts.now.state.records).blocks (rounded len) }
+{
+    parts.would_take(draft.births(), len)
+}
+
+/// The number of the next block after the tasks, of which none ends a mapping.
+#[tactic(auto, using(crate::proofs::Laws::plan_laws))]
+pub(crate) fn number_after(parts: &Parts, draft: &Draft) -> u64
+    requires planned { IsPlanned parts.now.limits draft.now parts.now.state.records }
+    requires entering { list_any may_end (tasks_in draft.now) ≡ false }
+    requires births { parts.now.state.records.births < 2 ^ 48 }
+    ensures { result ≡ (records_after draft.now parts.now.state.records).births + 1 }
+{
+    parts.next_block() + draft.births().len() as u64
+}

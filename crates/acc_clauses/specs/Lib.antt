@@ -1,3 +1,4 @@
 pub mod Contents
 pub mod Overlays
 pub mod Planned
+pub mod Stored

@@ -11,7 +11,9 @@ mod plans;
 mod readings;
 mod rows;
 mod sections;
+mod stores;
 mod tasks;
 
 pub use acted::Acted;
 pub use plans::{Head, Plan};
+pub use stores::Store;

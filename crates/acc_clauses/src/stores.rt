@@ -36,7 +36,8 @@ impl Store {
     ///
     /// [`Fault::TooManyItems`] above 64 items; [`Fault::NoRegion`] where the region that is left is not open; else the
     /// first refusal of an item: [`Fault::OutOfHost`], [`Fault::PartlyPresent`], [`Fault::NotPresent`],
-    /// [`Fault::CounterFull`] or [`Fault::DeviceFull`], with the item's place among those that act, counted from 0.
+    /// [`Fault::CounterFull`] or [`Fault::DeviceFull`], with the item's place in the directive, counted
+    /// from 0.
     pub fn plan(&self, directive: &Directive) -> Result<Plan, Fault>
         requires { self.now.state.records.births < 2 ^ 48 }
         ensures judged { let lay = layout_of self.now.state in MatchResult result (λ p. plan_of self.now.limits directive.now lay ≡ Ok (event_of directive.now lay.register p.dids)) (λ fault. plan_of self.now.limits directive.now lay ≡ Err fault) }

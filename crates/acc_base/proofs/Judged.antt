@@ -1,5 +1,5 @@
 -- What a task that was judged says of the records before it.
-use Rattle.std.proofs.Common.{ℕ, ◌≡◌, ◌+◌, ◌<◌, refl, subst, Bool, true, false, List, [], ◌∷◌, Option, Some, None, Result, Ok, arith, ⊎_elim}
+use Rattle.std.proofs.Common.{ℕ, ◌≡◌, ◌+◌, ◌<◌, refl, subst, Bool, true, false, List, Option, Some, None, Ok, arith, ⊎_elim}
 use Rattle.std.specs.Prelude.{◌==◌, ◌&&◌, not, nat_le, ⊤, Contains, IfSome}
 use Rattle.std.proofs.lemmas.Bool.Decides.{nat_tests}
 use Rattle.std.proofs.lemmas.List.Elements.{All-contains, All-from_recursion}
@@ -17,15 +17,14 @@ use Rattle.acc_base.specs.declared.tasks.Task.{Task}
 use Rattle.acc_base.specs.declared.tasks.Task.TheVariants.{Enter, Leave, Exit, Move}
 use Rattle.acc_base.specs.declared.events.Step.{Step}
 use Rattle.acc_base.specs.declared.events.Step.TheVariants.{Nothing, Counted, Born, Dropped, Moved}
-use Rattle.acc_base.specs.declared.faults.Fault.{Fault}
 use Rattle.acc_base.specs.declared.faults.Fault.TheVariants.{CounterFull}
-use Rattle.acc_base.specs.Results.{◌>>◌, refuse_if}
+use Rattle.acc_base.specs.Results.{refuse_if}
 use Rattle.acc_base.specs.Limits.{Limits}
 use Rattle.acc_base.specs.Section.{is_empty, is_within, host_memory}
 use Rattle.acc_base.specs.Records.{Records}
 use Rattle.acc_base.specs.Ranges.{where_is, range_of, counter_of, dynamic_of, ends_by}
 use Rattle.acc_base.specs.Blocks.{rounded, place_for}
-use Rattle.acc_base.specs.Clauses.{in_host, born_at, born, enter_absent, counted, enter_row, leave_row, exit_row, move_row}
+use Rattle.acc_base.specs.Clauses.{in_host, born_at, enter_absent, enter_row, leave_row, exit_row, move_row}
 use Rattle.acc_base.specs.Tasks.{recounted, judge_task}
 use Rattle.acc_base.proofs.Results.{chosen, then_ok, ok_same, refused_not, equal_self}
 use Rattle.acc_base.proofs.Elements.{find_passes, find_none}

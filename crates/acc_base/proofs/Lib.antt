@@ -8,3 +8,13 @@ pub mod Judged
 pub mod Sound
 pub mod Recounted
 pub mod Used
+pub mod Walked
+pub mod Memories
+pub mod KeptMemories
+pub mod AllTasks
+pub mod Registers
+pub mod Told
+pub mod Accounted
+pub mod Runs
+mod Examples
+mod RegionExamples

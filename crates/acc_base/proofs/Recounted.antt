@@ -1,7 +1,6 @@
 -- Both reference counters of every block after a task that was judged.
-use Rattle.std.proofs.Common.{ℕ, ◌≡◌, ◌+◌, ◌-◌, refl, sym, ◌∙◌, ap, subst, Bool, true, false, cond, Option, Some, None, List, arith}
-use Rattle.std.specs.Prelude.{◌==◌, ◌&&◌, unwrap_or, option_map, if◌then◌else◌}
-use Rattle.std.proofs.lemmas.Bool.Decides.{nat_tests}
+use Rattle.std.proofs.Common.{ℕ, ◌≡◌, ◌+◌, ◌-◌, refl, sym, ◌∙◌, ap, subst, Bool, true, false, cond, Option, Some, None, List}
+use Rattle.std.specs.Prelude.{◌==◌, unwrap_or, option_map, if◌then◌else◌}
 use Rattle.acc_base.specs.declared.items.Section.{Section}
 use Rattle.acc_base.specs.declared.mappings.Counter.{Counter}
 use Rattle.acc_base.specs.declared.mappings.Counter.TheVariants.{Structured, Dynamic}
@@ -12,7 +11,7 @@ use Rattle.acc_base.specs.declared.events.Step.{Step}
 use Rattle.acc_base.specs.declared.events.Step.TheVariants.{Nothing, Counted, Born, Dropped, Moved}
 use Rattle.acc_base.specs.Limits.{Limits}
 use Rattle.acc_base.specs.Records.{Records}
-use Rattle.acc_base.specs.Ranges.{range_of, counter_in, counter_of, with_range, without_range, bare_range, is_unused, ends_by}
+use Rattle.acc_base.specs.Ranges.{range_of, counter_in, counter_of, with_range, bare_range, is_unused, ends_by}
 use Rattle.acc_base.specs.Tasks.{section_of, recounted, records_after_birth, records_after_end, with_range_changed, act}
 use Rattle.acc_base.specs.Accounts.{AreRecordsSound}
 use Rattle.acc_base.proofs.Results.{and_true, equal}

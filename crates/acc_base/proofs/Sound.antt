@@ -1,5 +1,5 @@
 -- A task that was judged keeps the records sound: ranges and blocks stay apart, each range has a block of its own, and no range has both counters zero.
-use Rattle.std.proofs.Common.{ℕ, ◌≡◌, ◌+◌, ◌-◌, ◌%◌, ◌<◌, ◌≤◌, refl, sym, ◌∙◌, ap, subst, Bool, true, false, cond, List, [], ◌∷◌, ◌++◌, Option, Some, None, Ok, arith}
+use Rattle.std.proofs.Common.{ℕ, ◌≡◌, ◌+◌, ◌%◌, ◌<◌, ◌≤◌, refl, sym, ◌∙◌, ap, subst, Bool, true, false, cond, List, [], ◌∷◌, ◌++◌, Option, Some, None, Ok, arith}
 use Rattle.std.specs.Prelude.{◌⊎◌, ◌==◌, ◌&&◌, ◌||◌, not, nat_lt, nat_le, unwrap_or, option_map, IsSome, IfSome}
 use Rattle.std.specs.List.{AllByRecursion, list_all}
 use Rattle.std.proofs.lemmas.Bool.Decides.{nat_tests}
@@ -17,7 +17,7 @@ use Rattle.acc_base.specs.declared.events.Step.TheVariants.{Nothing, Counted, Bo
 use Rattle.acc_base.specs.Limits.{Limits, IsWithinBounds}
 use Rattle.acc_base.specs.Section.{is_empty, is_apart, end_of, device_base}
 use Rattle.acc_base.specs.Records.{Records, new_records}
-use Rattle.acc_base.specs.Ranges.{range_of, counter_in, counter_of, with_range, without_range, changed_at, bare_range, risen, fallen, cleared, is_unused, ends_by}
+use Rattle.acc_base.specs.Ranges.{range_of, counter_in, counter_of, with_range, without_range, changed_at, bare_range, risen, is_unused, ends_by}
 use Rattle.acc_base.specs.Blocks.{rounded, fits_at, is_clear_of, block_end, block_at, without_block}
 use Rattle.acc_base.specs.Tasks.{recounted, judge_task, records_after_birth, records_after_end, with_range_changed, act}
 use Rattle.acc_base.specs.Accounts.{EachPair, IsInHost, IsBelow, AreRangesApart, IsOnDevice, IsClearOf, AreBlocksApart, IsMapped, HasOneBlockEach, IsCounted, AreRecordsSound}

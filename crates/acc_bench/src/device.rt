@@ -7,7 +7,7 @@ use acc_dev::Device;
 use anyhow::Result;
 use std::alloc::Global;
 use std::rt::Clock;
-use std::time::Instant;
+use std::time::{Duration, Instant};
 
 /// How often a call is made in one measurement.
 const ROUNDS: u64 = 1_000;
@@ -16,23 +16,63 @@ const ROUNDS: u64 = 1_000;
 /// the index, with the end of the oldest block, which is the first, and a look-up with its bytes.
 pub fn run<R: Print + Clock + AllocGlobal>(rt: &R) -> Result<()> {
     for count in [0, 1_000, 10_000] {
-        let mut device = make_device(rt.alloc(), count)?;
-        let start = Instant::now(rt)?;
-        retire_newest(&mut device)?;
-        let newest = start.elapsed(rt)?;
-        let start = Instant::now(rt)?;
-        retire_oldest(&mut device, count)?;
-        let oldest = start.elapsed(rt)?;
-        let start = Instant::now(rt)?;
-        let found = look_up(&device, count);
-        let looked = start.elapsed(rt)?;
-        println!(rt;
-            "device with {count} other blocks: born and retire {:?}, of the oldest {:?}, has and bytes {:?}, {found} bytes found",
-            newest / ROUNDS as u32,
-            oldest / ROUNDS as u32,
-            looked / ROUNDS as u32
-        )?;
+        measure(rt, count)?;
     }
+    Ok(())
+}
+
+/// Measures the calls beside so many other blocks.
+fn measure<R: Print + Clock + AllocGlobal>(rt: &R, count: u64) -> Result<()>
+    requires { count ≤ 2 ^ 20 }
+{
+    let mut device = make_device(rt.alloc(), count)?;
+    let newest = time_newest(rt, &mut device)?;
+    let oldest = time_oldest(rt, &mut device, count)?;
+    let (looked, found) = time_look_ups(rt, &device, count)?;
+    tell(rt, count, newest, oldest, looked, found)
+}
+
+/// How long a birth and the end of that block last.
+fn time_newest<R: Clock>(rt: &R, device: &mut Device) -> Result<Duration>
+    requires { device.old.births ≤ 2 ^ 20 }
+    ensures { OnOk result (device.new.births ≤ device.old.births + ROUNDS) }
+{
+    let start = Instant::now(rt)?;
+    retire_newest(device)?;
+    let taken = start.elapsed(rt)?;
+    Ok(taken / ROUNDS as u32)
+}
+
+/// How long a birth and the end of the oldest block last.
+fn time_oldest<R: Clock>(rt: &R, device: &mut Device, count: u64) -> Result<Duration>
+    requires { device.old.births ≤ 2 ^ 21 }
+{
+    let start = Instant::now(rt)?;
+    retire_oldest(device, count)?;
+    let taken = start.elapsed(rt)?;
+    Ok(taken / ROUNDS as u32)
+}
+
+/// How long a look-up lasts, and how many bytes were found.
+fn time_look_ups<R: Clock>(rt: &R, device: &Device, count: u64) -> Result<(Duration, u64)> {
+    let start = Instant::now(rt)?;
+    let found = look_up(device, count);
+    let taken = start.elapsed(rt)?;
+    Ok((taken / ROUNDS as u32, found))
+}
+
+/// Prints one measurement.
+fn tell<R: Print>(
+    rt: &R,
+    count: u64,
+    newest: Duration,
+    oldest: Duration,
+    looked: Duration,
+    found: u64,
+) -> Result<()> {
+    println!(rt;
+        "device with {count} other blocks: born and retire {newest:?}, of the oldest {oldest:?}, has and bytes {looked:?}, {found} bytes found"
+    )?;
     Ok(())
 }
 
@@ -64,20 +104,31 @@ fn retire_newest(device: &mut Device) -> Result<(), Fault>
 fn retire_oldest(device: &mut Device, count: u64) -> Result<(), Fault>
     requires { device.old.births ≤ 2 ^ 21 }
 {
-    // The numbers from 1 to the count, and then each new one.
     let first = device.next_block();
     for round in 0..ROUNDS {
         device.born(16, false)?;
-        let oldest = if round < count {
-            round + 1
-        } else {
-            first + (round - count)
-        };
-        if device.has(oldest) {
-            device.retire(oldest);
-        }
+        retire_if_there(device, oldest_at(round, count, first));
     }
     Ok(())
+}
+
+/// The number of the oldest block at the end of a round that began with so many blocks: from 1 to the count, and then
+/// from the first new one on.
+fn oldest_at(round: u64, count: u64, first: u64) -> u64 {
+    if round < count {
+        round + 1
+    } else {
+        first.wrapping_add(round - count)
+    }
+}
+
+/// Gives a block back, if the device has it.
+fn retire_if_there(device: &mut Device, block: u64)
+    ensures { device.new.births ≡ device.old.births }
+{
+    if device.has(block) {
+        device.retire(block);
+    }
 }
 
 /// Looks up blocks all over the index, and answers how many bytes they have.
@@ -86,11 +137,18 @@ fn look_up(device: &Device, count: u64) -> u64 {
     let mut found = 0u64;
     for round in 0..ROUNDS {
         let block = last - (round * 7_919) % (count.min(last) + 1);
-        if device.has(block) {
-            if let Some(bytes) = device.bytes(block) {
-                found = found.wrapping_add(bytes.len() as u64);
-            }
-        }
+        found = found.wrapping_add(length_of(device, block));
     }
     found
+}
+
+/// How many bytes a block has; none if it is not there.
+fn length_of(device: &Device, block: u64) -> u64 {
+    if !device.has(block) {
+        return 0;
+    }
+    match device.bytes(block) {
+        Some(bytes) => bytes.len() as u64,
+        None => 0,
+    }
 }

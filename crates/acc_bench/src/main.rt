@@ -1,10 +1,12 @@
 //! Measures the crates of the runtime: `acc_bench placement` prints how long the calls of the placement take,
-//! `acc_bench device` those of device memory, `acc_bench table` those of the table, and `acc_bench script` how long
+//! `acc_bench device` those of device memory, `acc_bench present` those of the present table, `acc_bench table` those of the table, and `acc_bench script` how long
 //! scripts take.
 #![tactic(auto)]
 
 mod device;
+mod limits;
 mod placement;
+mod present;
 mod script;
 mod table;
 
@@ -15,10 +17,11 @@ fn main(rt: HostRuntime) -> Result<()> {
     match env::args(&rt)?.nth(1) {
         Some(name) if name.as_str() == "placement" => placement::run(&rt),
         Some(name) if name.as_str() == "device" => device::run(&rt),
+        Some(name) if name.as_str() == "present" => present::run(&rt),
         Some(name) if name.as_str() == "table" => table::run(&rt),
         Some(name) if name.as_str() == "script" => script::run(&rt),
         _ => {
-            println!(rt; "usage: acc_bench placement|device|table|script")?;
+            println!(rt; "usage: acc_bench placement|device|present|table|script")?;
             Ok(())
         }
     }

@@ -3,18 +3,15 @@
 ghost use Rattle.std.specs.Prelude.{◌≡◌, ◌+◌, ◌^◌, ◌<◌, ◌≤◌, length, IfOk};
 ghost use Rattle.acc_bench.specs.Held.{IsHeld};
 
-use acc_base::Fault;
+use acc_base::{DEVICE_BASE, Fault};
 use acc_placement::Holes;
 use anyhow::Result;
 use std::alloc::Global;
 use std::rt::Clock;
-use std::time::Instant;
+use std::time::{Duration, Instant};
 
 /// How often a call is made in one measurement.
 const ROUNDS: u32 = 1_000;
-
-/// The device address at which the space begins.
-const BASE: u64 = 0x1_0000_0000;
 
 /// A space with a hole of 16 bytes in front of each of its taken ranges of 16 bytes, and a larger hole at its end.
 #[derive(Drop)]
@@ -28,19 +25,44 @@ struct Sieve {
 /// passes all holes and finds the last.
 pub fn run<R: Print + Clock + AllocGlobal>(rt: &R) -> Result<()> {
     for count in [100, 1_000, 10_000] {
-        let mut sieve = make_sieve(rt.alloc(), count)?;
-        let start = Instant::now(rt)?;
-        take_and_give_back(&mut sieve)?;
-        let taken = start.elapsed(rt)?;
-        let start = Instant::now(rt)?;
-        let found = would_take(&sieve);
-        let looked = start.elapsed(rt)?;
-        println!(rt;
-            "placement with {count} small holes: take and give back {:?}, would_take {:?}, {found} found",
-            taken / ROUNDS,
-            looked / ROUNDS
-        )?;
+        measure(rt, count)?;
     }
+    Ok(())
+}
+
+/// Measures the calls beside so many small holes.
+fn measure<R: Print + Clock + AllocGlobal>(rt: &R, count: u64) -> Result<()>
+    requires { count ≤ 2 ^ 20 }
+{
+    let mut sieve = make_sieve(rt.alloc(), count)?;
+    let taken = time_takes(rt, &mut sieve)?;
+    let (looked, found) = time_looks(rt, &sieve)?;
+    tell(rt, count, taken, looked, found)
+}
+
+/// How long a take with its give back lasts.
+fn time_takes<R: Clock>(rt: &R, sieve: &mut Sieve) -> Result<Duration>
+    requires { IsHeld sieve.old }
+{
+    let start = Instant::now(rt)?;
+    take_and_give_back(sieve)?;
+    let taken = start.elapsed(rt)?;
+    Ok(taken / ROUNDS)
+}
+
+/// How long a look lasts, and how many found a place.
+fn time_looks<R: Clock>(rt: &R, sieve: &Sieve) -> Result<(Duration, u32)> {
+    let start = Instant::now(rt)?;
+    let found = would_take(sieve);
+    let looked = start.elapsed(rt)?;
+    Ok((looked / ROUNDS, found))
+}
+
+/// Prints one measurement.
+fn tell<R: Print>(rt: &R, count: u64, taken: Duration, looked: Duration, found: u32) -> Result<()> {
+    println!(rt;
+        "placement with {count} small holes: take and give back {taken:?}, would_take {looked:?}, {found} found"
+    )?;
     Ok(())
 }
 
@@ -75,7 +97,7 @@ fn make_sieve(alloc: Global, count: u64) -> Result<Sieve, Fault>
     ensures { IfOk result IsHeld }
 {
     let mut sieve = Sieve {
-        holes: Holes::new(alloc, BASE, 32 * count + 64)?,
+        holes: Holes::new(alloc, DEVICE_BASE, 32 * count + 64)?,
         held: Vec::new(alloc),
     };
     for _ in 0..2 * count {

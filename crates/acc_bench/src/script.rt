@@ -1,13 +1,13 @@
 //! How long scripts take.
 
-use acc_base::Config;
-use acc_script::{MemorySink, MemorySource, run as run_script};
+use crate::limits::largest;
+use acc_script::{MemorySink, MemorySource, Status, run as run_script};
 use anyhow::Result;
 use std::alloc::{AllocError, Global};
 use std::rt::Clock;
 use std::sync::Wait;
 use std::thread::Threads;
-use std::time::Instant;
+use std::time::{Duration, Instant};
 
 /// A comment of 64 bytes with its line feed.
 const COMMENT: &[u8; 64] = b"# nothing is asked for in this line, and nothing is to be done.\n";
@@ -28,21 +28,25 @@ fn measure<R: Print + Clock + Threads + Wait + Sync + AllocGlobal>(
     name: &str,
     script: &[u8],
 ) -> Result<()> {
-    let config = Config::new(
-        67_108_864,
-        67_108_864,
-        64,
-        1_048_576,
-        4_294_967_295,
-        256,
-        262_144,
-    )?;
+    let (status, taken) = time_script(rt, script)?;
+    tell(rt, name, script.len(), status, taken)
+}
+
+/// How a script ends, and how long it takes.
+fn time_script<R: Clock + Threads + Wait + Sync + AllocGlobal>(
+    rt: &R,
+    script: &[u8],
+) -> Result<(Status, Duration)> {
+    let config = largest()?;
     let mut reader = MemorySource::new(script);
     let mut writer = MemorySink::new(rt.alloc());
     let start = Instant::now(rt)?;
     let status = run_script(rt, &mut reader, &mut writer, config, 1)?;
-    let taken = start.elapsed(rt)?;
-    let size = script.len();
+    Ok((status, start.elapsed(rt)?))
+}
+
+/// Prints one measurement.
+fn tell<R: Print>(rt: &R, name: &str, size: usize, status: Status, taken: Duration) -> Result<()> {
     println!(rt; "script of {name}: {size} bytes, {status:?} in {taken:?}")?;
     Ok(())
 }

@@ -2,17 +2,13 @@
 
 ghost use Rattle.std.specs.Prelude.{◌<◌};
 
-use acc_base::{
-    Config, Directive, EnterClause, ExitClause, Fault, Item, List, Section, UpdateClause,
-};
-use acc_table::{Call, Table};
+use crate::limits::largest;
+use acc_base::{EnterClause, ExitClause, Fault, HOST_BASE, Item, List, Section, UpdateClause};
+use acc_table::{Call, Directive, Table};
 use anyhow::Result;
 use std::alloc::{AllocError, Global};
 use std::rt::Clock;
-use std::time::Instant;
-
-/// Where host memory begins.
-const HOST: u64 = 0x1000;
+use std::time::{Duration, Instant};
 
 /// How often a range is mapped and unmapped in one measurement.
 const ROUNDS: u32 = 1_000;
@@ -28,44 +24,64 @@ pub fn run<R: Print + Clock + AllocGlobal>(rt: &R) -> Result<()> {
     Ok(())
 }
 
-/// Prints how long `update device` and `update self` of so many bytes take, and a plain copy of them.
+/// Measures updates of so many bytes, and a plain copy of them.
 fn measure_updates<R: Print + Clock + AllocGlobal>(rt: &R, len: u64, rounds: u32) -> Result<()>
     requires { 0 < rounds }
 {
-    let mut table = new_table(rt.alloc())?;
-    let section = Section { start: HOST, len };
+    let section = Section {
+        start: HOST_BASE,
+        len,
+    };
+    let mut table = table_with(rt.alloc(), section)?;
+    let to_device = time_updates(rt, &mut table, UpdateClause::ToDevice, section, rounds)?;
+    let to_self = time_updates(rt, &mut table, UpdateClause::ToSelf, section, rounds)?;
+    let (plain, sum) = time_copies(rt, len, rounds)?;
+    tell_updates(rt, len, [to_device, to_self, plain], sum)
+}
+
+/// Prints how long updates of so many bytes take, to the device and to the host, and a plain copy.
+fn tell_updates<R: Print>(rt: &R, len: u64, taken: [Duration; 3], sum: u64) -> Result<()> {
+    let [to_device, to_self, plain] = taken;
+    println!(rt;
+        "update of {len} bytes: device {to_device:?}, self {to_self:?}, plain copy {plain:?} ({sum})"
+    )?;
+    Ok(())
+}
+
+/// A table on which a section is mapped.
+fn table_with(alloc: Global, section: Section) -> Result<Table, Fault> {
+    let mut table = new_table(alloc)?;
     let create = EnterClause::Create { zero: true };
-    apply(&mut table, enter(rt.alloc(), create, section)?)?;
+    apply(&mut table, enter(alloc, create, section)?)?;
+    Ok(table)
+}
+
+/// How long an update of a section takes.
+fn time_updates<R: Clock + AllocGlobal>(
+    rt: &R,
+    table: &mut Table,
+    clause: UpdateClause,
+    section: Section,
+    rounds: u32,
+) -> Result<Duration>
+    requires { 0 < rounds }
+{
     let start = Instant::now(rt)?;
-    make_updates(
-        &mut table,
-        rt.alloc(),
-        UpdateClause::ToDevice,
-        section,
-        rounds,
-    )?;
-    let to_device = start.elapsed(rt)?;
-    let start = Instant::now(rt)?;
-    make_updates(
-        &mut table,
-        rt.alloc(),
-        UpdateClause::ToSelf,
-        section,
-        rounds,
-    )?;
-    let to_self = start.elapsed(rt)?;
+    make_updates(table, rt.alloc(), clause, section, rounds)?;
+    let taken = start.elapsed(rt)?;
+    Ok(taken / rounds)
+}
+
+/// How long a plain copy of so many bytes takes, and a sum that depends on each copy.
+fn time_copies<R: Clock + AllocGlobal>(rt: &R, len: u64, rounds: u32) -> Result<(Duration, u64)>
+    requires { 0 < rounds }
+{
     let mut source = vec![in rt.alloc(); 1; len as usize]?;
     let mut target = vec![in rt.alloc(); 2; len as usize]?;
     let start = Instant::now(rt)?;
     let sum = copy(&mut source, &mut target, rounds);
-    let plain = start.elapsed(rt)?;
-    println!(rt;
-        "update of {len} bytes: device {:?}, self {:?}, plain copy {:?} ({sum})",
-        to_device / rounds,
-        to_self / rounds,
-        plain / rounds
-    )?;
-    Ok(())
+    let taken = start.elapsed(rt)?;
+    Ok((taken / rounds, sum))
 }
 
 /// Makes so many updates of a section, one after the other.
@@ -77,67 +93,81 @@ fn make_updates(
     rounds: u32,
 ) -> Result<(), Fault> {
     for _ in 0..rounds {
-        let items = List::from_vec(vec![in alloc; Item { clause, section }]?);
-        let if_present = false;
-        apply(table, Directive::Update { items, if_present })?;
+        apply(table, update(alloc, clause, section)?)?;
     }
     Ok(())
 }
 
-/// Copies all bytes so many times, with another first byte each time, and answers a sum, so that no copy can be left out.
+/// Copies all bytes so many times, and answers a sum that depends on each copy, so that none can be left out.
 fn copy(source: &mut Vec<u8>, target: &mut Vec<u8>, rounds: u32) -> u64 {
     let mut sum: u64 = 0;
     for round in 0..rounds {
-        if let Some(first) = source.first_mut() {
-            *first = (round % 256) as u8;
-        }
-        if source.len() == target.len() {
-            target.copy_from_slice(source);
-        }
-        if let Some(last) = target.last() {
-            sum = sum.wrapping_add(*last as u64);
-        }
+        sum = sum.wrapping_add(copy_once(source, target, (round % 256) as u8));
     }
     sum
 }
 
-/// Prints how long it takes to map and unmap 16 bytes beside so many other ranges.
+/// Copies all bytes, with this first one, and answers the last byte.
+fn copy_once(source: &mut Vec<u8>, target: &mut Vec<u8>, byte: u8) -> u64 {
+    if let Some(first) = source.first_mut() {
+        *first = byte;
+    }
+    if source.len() == target.len() {
+        target.copy_from_slice(source);
+    }
+    match target.last() {
+        Some(last) => *last as u64,
+        None => 0,
+    }
+}
+
+/// Measures how long it takes to map and unmap 16 bytes beside so many other ranges.
 fn measure_mappings<R: Print + Clock + AllocGlobal>(rt: &R, count: u32) -> Result<()> {
     let mut table = new_table(rt.alloc())?;
-    for number in 0..count {
-        let start = HOST + 32 * number as u64;
-        let section = Section { start, len: 16 };
-        apply(&mut table, enter(rt.alloc(), EnterClause::Copyin, section)?)?;
-    }
-    let section = Section {
-        start: HOST + 32 * count as u64,
-        len: 16,
-    };
+    map_others(&mut table, rt.alloc(), count)?;
     let start = Instant::now(rt)?;
-    for _ in 0..ROUNDS {
-        apply(&mut table, enter(rt.alloc(), EnterClause::Copyin, section)?)?;
-        apply(&mut table, exit(rt.alloc(), section)?)?;
-    }
+    map_and_unmap(&mut table, rt.alloc(), sixteen_bytes_at(count))?;
     let taken = start.elapsed(rt)?;
+    tell_mappings(rt, count, taken / ROUNDS)
+}
+
+/// Prints how long it takes to map and unmap 16 bytes beside so many other ranges.
+fn tell_mappings<R: Print>(rt: &R, count: u32, taken: Duration) -> Result<()> {
     println!(rt;
-        "table with {count} other ranges: enter data copyin and exit data delete of 16 bytes {:?}",
-        taken / ROUNDS
+        "table with {count} other ranges: enter data copyin and exit data delete of 16 bytes {taken:?}"
     )?;
+    Ok(())
+}
+
+/// Maps so many ranges of 16 bytes that do not touch.
+fn map_others(table: &mut Table, alloc: Global, count: u32) -> Result<(), Fault> {
+    for number in 0..count {
+        let section = sixteen_bytes_at(number);
+        apply(table, enter(alloc, EnterClause::Copyin, section)?)?;
+    }
+    Ok(())
+}
+
+/// The place of the range of a number, counted from 0.
+fn sixteen_bytes_at(number: u32) -> Section {
+    Section {
+        start: HOST_BASE + 32 * number as u64,
+        len: 16,
+    }
+}
+
+/// Maps a section and ends the mapping, again and again.
+fn map_and_unmap(table: &mut Table, alloc: Global, section: Section) -> Result<(), Fault> {
+    for _ in 0..ROUNDS {
+        apply(table, enter(alloc, EnterClause::Copyin, section)?)?;
+        apply(table, exit(alloc, section)?)?;
+    }
     Ok(())
 }
 
 /// A table with as much memory as there may be.
 fn new_table(alloc: Global) -> Result<Table, Fault> {
-    let config = Config::new(
-        67_108_864,
-        67_108_864,
-        64,
-        1_048_576,
-        4_294_967_295,
-        256,
-        262_144,
-    )?;
-    Table::new(alloc, config)
+    Table::new(alloc, largest()?)
 }
 
 /// An `enter data` of one item.
@@ -152,6 +182,14 @@ fn exit(alloc: Global, section: Section) -> Result<Directive, AllocError> {
     let clause = ExitClause::Delete;
     Ok(Directive::ExitData {
         items: List::from_vec(vec![in alloc; Item { clause, section }]?),
+    })
+}
+
+/// An `update` of one section.
+fn update(alloc: Global, clause: UpdateClause, section: Section) -> Result<Directive, AllocError> {
+    Ok(Directive::Update {
+        items: List::from_vec(vec![in alloc; Item { clause, section }]?),
+        if_present: false,
     })
 }
 

@@ -33,7 +33,7 @@ use Rattle.acc_base.proofs.Where.{absent_says}
 use Rattle.acc_base.proofs.Places.{place_for-found}
 use Rattle.acc_base.proofs.Judged.{IsJudgedTo, IsBirth, task_says, in_host_says}
 use Rattle.acc_placement.specs.Ranges.{IsTakeBelow}
-use Rattle.acc_clauses.specs.Contents.{planned_blocks}
+use Rattle.acc_dev.specs.Device.{planned_blocks}
 use Rattle.acc_clauses.specs.declared.acted.Acted.{Acted}
 use Rattle.acc_clauses.specs.Overlays.{IsPlanned, AreUnmixed, tasks_in, dids_in, records_after, may_bear, may_end, birth_by, births_of, end_by, ended_of, found_by, found_over, counters_in, counters_at, recount, are_zero, counters_over}
 use Rattle.acc_clauses.proofs.Founds.{apart_none}

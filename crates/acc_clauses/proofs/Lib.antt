@@ -5,3 +5,13 @@ pub mod Drafted
 pub mod Turns
 pub mod Asking
 pub mod Events
+mod Copying
+mod Moving
+mod Steps
+mod Legal
+mod Changes
+mod Remaining
+mod Holding
+mod Entering
+mod Storing
+mod Finishing

@@ -23,7 +23,7 @@ use Rattle.acc_base.proofs.Judged.{IsJudgedTo, IsBirth, task_says}
 use Rattle.acc_base.proofs.Recounted.{moved_by, counter-act}
 use Rattle.acc_base.proofs.Sound.{recounted_keeps, acted_sound}
 use Rattle.acc_base.proofs.Where.{absent_says}
-use Rattle.acc_clauses.specs.Contents.{planned_blocks}
+use Rattle.acc_dev.specs.Device.{planned_blocks}
 use Rattle.acc_clauses.specs.declared.acted.Acted.{Acted}
 use Rattle.acc_clauses.specs.Overlays.{tasks_in, dids_in, records_after, may_bear, may_end, birth_by, births_of, end_by, ended_of, found_by, found_over, counters_at, recount, counters_by, counters_over}
 use Rattle.acc_clauses.proofs.Founds.{where_is-with, where_is-changed, apart-changed, apart_none, apart_more}

@@ -1,4 +1,5 @@
 pub mod Contents
 pub mod Overlays
 pub mod Planned
+pub mod Acts
 pub mod Stored

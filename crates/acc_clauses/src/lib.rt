@@ -1,7 +1,12 @@
 //! The clauses of data directives: a directive is judged whole, then all room is made, and then it is done.
+//!
+//! Judging takes no memory and changes nothing; making room changes nothing else; and doing takes no memory and is never
+//! refused.
 #![tactic(auto)]
 
 mod acted;
+mod acting;
+mod copies;
 mod drafts;
 mod effects;
 mod judging;
@@ -10,6 +15,7 @@ mod planning;
 mod plans;
 mod readings;
 mod rows;
+mod running;
 mod sections;
 mod stores;
 mod tasks;

@@ -1,43 +1,95 @@
 //! Host memory, the device and the present table as one value.
 
-ghost use Rattle.std.specs.Prelude.{◌≡◌, ◌+◌, ◌++◌, ◌^◌, ◌<◌, ◌≤◌, All, MatchOption, None, Some};
+ghost use Rattle.std.specs.Prelude.{◌≡◌, ◌+◌, ◌++◌, ◌^◌, ◌<◌, ◌≤◌, All, IfOk, IfErr, OnOk, OnErr, IfSome, IfNone, MatchOption, IsSome, None, Some, length};
+ghost use Rattle.acc_base.specs.declared.faults.Fault.TheVariants.{Memory};
 ghost use Rattle.acc_base.specs.Limits.{IsFromOne, IsWithinBounds};
 ghost use Rattle.acc_base.specs.declared.addresses.TheConstants.{MEMORY_MAX};
 ghost use Rattle.acc_base.specs.Section.{device_base};
-ghost use Rattle.acc_base.specs.Ranges.{where_is_apart, structured_of, dynamic_of};
-ghost use Rattle.acc_base.specs.Blocks.{rounded, place_for};
-ghost use Rattle.acc_base.specs.Register.{holdings_at};
+ghost use Rattle.acc_base.specs.Ranges.{where_is, where_is_apart, range_of, range_from, structured_of, dynamic_of, counter_of, start_of};
+ghost use Rattle.acc_base.specs.Blocks.{rounded, place_of, place_for, used_bytes};
+ghost use Rattle.acc_base.specs.Register.{holdings_at, region_at, opened, closed};
+ghost use Rattle.acc_base.specs.Bytes.{bytes_of, act_state, host_after_write};
+ghost use Rattle.acc_host.specs.Host.{bytes_in, IsOutOfHost};
 ghost use Rattle.acc_placement.specs.Ranges.{IsTakeBelow};
-ghost use Rattle.acc_clauses.specs.Contents.{AreContentsSound, planned_blocks};
+ghost use Rattle.acc_dev.specs.Device.{planned_blocks};
+ghost use Rattle.acc_clauses.specs.Contents.{AreNew, AreContentsSound};
+ghost use Rattle.acc_clauses.specs.Acts.{IsJudged, IsKnown, HasRoomFor, HasRegionRoom, CanWrite, IsRoomLeft, birth_of};
 
-use acc_base::{Config, Counters, Found, Holding, Section};
+use crate::acting::act_on;
+use acc_base::{Config, Counter, Counters, Fault, Found, Holding, Range, Section, Step, Task};
+use acc_dev::Device;
+use acc_host::HostMem;
+use acc_present::Present;
+use std::alloc::Global;
 use std::marker::Model;
 
 /// Host memory, the device and the present table, with the number of the next region.
 #[derive(Drop)]
 pub(crate) struct Parts {
     config: Config,
+    present: Present,
+    device: Device,
+    host: HostMem,
     next: u64,
 }
 
 impl Model for Parts {
-    ghost use Rattle.std.specs.Prelude.{[], ◌≡◌};
-    ghost use Rattle.acc_clauses.specs.Contents.{Contents};
+    ghost use Rattle.acc_clauses.specs.Contents.{Contents, contents_of, ArePartsSound};
 
     ghost Value = { Contents };
 
-    ghost view = { λ p. record { limits = p.config; state = record { records = record { ranges = []; blocks = []; births = 0 }; register = record { regions = []; next = p.next }; host = []; memories = [] }; room = record { births = []; ranges = 0; regions = 0; holdings = 0 } } };
+    ghost view = { λ p. contents_of p.config p.present p.device p.host p.next };
 
-    ghost invariant = { λ p. ⊥ };
+    ghost invariant = { λ p. ArePartsSound p.config p.present p.device p.host p.next };
 }
 
 impl Parts {
+    /// Nothing is mapped, no region is open, and host memory is zero.
+    pub(crate) fn new(alloc: Global, config: &Config) -> Result<Parts, Fault>
+        ensures ok { IfOk result (AreNew config.now) }
+        ensures only { IfErr result (λ fault. fault ≡ Memory) }
+    {
+        Ok(Parts {
+            config: *config,
+            present: Present::new(alloc, config.counter_max()),
+            device: Device::new(alloc, config.device())?,
+            host: HostMem::new(alloc, config.host())?,
+            next: 1,
+        })
+    }
+
+    // ---- where sections lie
+
+    /// Where a section lies among the mapped ranges.
+    pub(crate) fn find(&self, section: Section) -> Found
+        ensures { result ≡ where_is section self.now.state.records.ranges }
+    {
+        self.present.find(section)
+    }
+
     /// Where a section lies once the mappings to these blocks have ended.
     pub(crate) fn find_apart(&self, section: Section, blocks: &[u64]) -> Found
         ensures { result ≡ where_is_apart section blocks.now self.now.state.records.ranges }
     {
-        let _ = &self.config;
-        Found::Empty
+        self.present.find_apart(section, blocks)
+    }
+
+    /// The range that is mapped to a block, if one is.
+    pub(crate) fn range(&self, block: u64) -> Option<Range>
+        ensures { result ≡ range_of block self.now.state.records.ranges }
+    {
+        if self.device.has(block) {
+            Some(self.present.range_at(block))
+        } else {
+            None
+        }
+    }
+
+    /// The mapped range of least start at or above a host address, if there is one.
+    pub(crate) fn next_range(&self, from: u64) -> Option<Range>
+        ensures { result ≡ range_from from self.now.state.records.ranges }
+    {
+        self.present.next_range(from)
     }
 
     /// The reference counters of the range that is mapped to a block; both are 0 where none is.
@@ -48,19 +100,60 @@ impl Parts {
         ensures dynamic_limit { result.dynamic ≤ self.now.limits.counter_max }
         ensures bound { self.now.limits.counter_max < 2 ^ 32 }
     {
-        let _ = &self.config;
-        Counters {
-            structured: 0,
-            dynamic: 0,
+        self.laws();
+        match self.range(block) {
+            Some(range) => Counters {
+                structured: range.structured,
+                dynamic: range.dynamic,
+            },
+            None => Counters {
+                structured: 0,
+                dynamic: 0,
+            },
         }
     }
+
+    /// One of the two reference counters of the range that is mapped to a block; 0 where none is.
+    pub(crate) fn counter(&self, counter: Counter, block: u64) -> u64
+        ensures value { result ≡ counter_of counter block self.now.state.records.ranges }
+        ensures limit { result ≤ self.now.limits.counter_max }
+        ensures bound { self.now.limits.counter_max < 2 ^ 32 }
+    {
+        let counters = self.counters(block);
+        match counter {
+            Counter::Structured => counters.structured,
+            Counter::Dynamic => counters.dynamic,
+        }
+    }
+
+    /// The host address at which the range that is mapped to a block begins; 0 where none is.
+    pub(crate) fn start(&self, block: u64) -> u64
+        ensures { result ≡ start_of block self.now.state.records.ranges }
+    {
+        match self.range(block) {
+            Some(range) => range.section.start,
+            None => 0,
+        }
+    }
+
+    // ---- device blocks
 
     /// The number that the next block gets.
     pub(crate) fn next_block(&self) -> u64
         ensures { result ≡ self.now.state.records.births + 1 }
     {
-        let _ = &self.config;
-        1
+        self.device.next_block()
+    }
+
+    /// The device address of a block's first byte; 0 where there is no such block.
+    pub(crate) fn place(&self, block: u64) -> u64
+        ensures { result ≡ place_of block self.now.state.records.blocks }
+    {
+        if self.device.has(block) {
+            self.device.place(block).0
+        } else {
+            0
+        }
     }
 
     /// Where a block of `len` bytes would lie after births at the listed places and of the listed lengths. `None` exactly
@@ -70,16 +163,58 @@ impl Parts {
         requires listed { All (IsTakeBelow (device_base + self.now.limits.device)) listed.now }
         ensures { result ≡ place_for self.now.limits.device (self.now.state.records.blocks ++ planned_blocks (self.now.state.records.births + 1) listed.now) (rounded len) }
     {
-        let _ = &self.config;
-        None
+        self.device.would_take(listed, len)
     }
+
+    /// The bytes of device memory that all blocks take, each rounded up to a multiple of 16.
+    pub(crate) fn used(&self) -> u64
+        ensures { result ≡ used_bytes self.now.state.records.blocks }
+    {
+        self.device.used()
+    }
+
+    // ---- regions
 
     /// What an open region holds. `None` exactly where no region of the number is open.
     pub(crate) fn holdings(&self, number: u64) -> Option<&[Holding]>
         ensures { MatchOption result (holdings_at number self.now.state.register.regions ≡ None) (λ holdings. holdings_at number self.now.state.register.regions ≡ Some holdings.now) }
     {
-        let _ = &self.config;
-        None
+        self.present.holdings(number)
+    }
+
+    /// How many data regions are open.
+    pub(crate) fn regions(&self) -> u64
+        ensures { result ≡ length self.now.state.register.regions }
+    {
+        self.present.regions()
+    }
+
+    /// The number that the next region gets.
+    pub(crate) fn next_region(&self) -> u64
+        ensures { result ≡ self.now.state.register.next }
+    {
+        self.next
+    }
+
+    // ---- bytes
+
+    /// The bytes of a section of host memory. `None` exactly where some address of it is outside of host memory.
+    pub(crate) fn host_read(&self, section: Section) -> Option<&[u8]>
+        ensures part { IfSome result (λ bytes. bytes.now ≡ bytes_in self.now.state.host section) }
+        ensures none { IfNone result (IsOutOfHost self.now.state.host section) }
+    {
+        self.host.read(section)
+    }
+
+    /// The bytes of a block. `None` exactly where there is no such block.
+    pub(crate) fn bytes(&self, block: u64) -> Option<&[u8]>
+        ensures { IfSome result (λ bytes. bytes.now ≡ bytes_of block self.now.state.memories) }
+    {
+        if self.device.has(block) {
+            self.device.bytes(block)
+        } else {
+            None
+        }
     }
 
     /// The limits.
@@ -93,7 +228,84 @@ impl Parts {
     pub(crate) fn laws(&self)
         ensures sound { AreContentsSound self.now }
         ensures limits { IsWithinBounds self.now.limits }
+        ensures used { used_bytes self.now.state.records.blocks ≤ self.now.limits.device }
     {
-        let _ = &self.config;
+        self.config.laws();
+        self.device.laws();
+    }
+
+    // ---- changes
+
+    /// Does the step that a task is judged to do, where there is room for it. It takes no memory and is never refused.
+    pub(crate) fn act(&mut self, task: Task, step: Step)
+        requires judged { IsJudged self.old.limits task step self.old.state.records }
+        requires known { IsKnown self.old.state.records task }
+        requires births { self.old.state.records.births < 2 ^ 48 }
+        requires room { HasRoomFor (birth_of task step) self.old.room }
+        ensures limits { self.new.limits ≡ self.old.limits }
+        ensures state { self.new.state ≡ act_state task step self.old.state }
+        ensures room { IsRoomLeft (birth_of task step) self.old.room self.new.room }
+    {
+        self.config.laws();
+        act_on(
+            &mut self.present,
+            &mut self.device,
+            &mut self.host,
+            task,
+            step,
+        );
+    }
+
+    /// Makes room for births of blocks of these lengths, in this order, and for one region with so many holdings.
+    /// Nothing else changes, also where it is refused.
+    ///
+    /// # Errors
+    ///
+    /// [`Fault::Memory`] alone.
+    pub(crate) fn reserve(&mut self, lens: &[u64], holdings: u64) -> Result<(), Fault>
+        requires few { length lens.now ≤ 64 }
+        requires lens { All (IsFromOne MEMORY_MAX) lens.now }
+        ensures limits { self.new.limits ≡ self.old.limits }
+        ensures state { self.new.state ≡ self.old.state }
+        ensures room { OnOk result (HasRoomFor lens.now self.new.room) }
+        ensures room_region { OnOk result (HasRegionRoom holdings self.new.room) }
+        ensures only { IfErr result (λ fault. fault ≡ Memory) }
+    {
+        self.device.reserve(lens)?;
+        self.present.reserve(lens.len() as u64, holdings)?;
+        Ok(())
+    }
+
+    /// Opens a region of the next number with these holdings, where there is room for them. It takes no memory.
+    pub(crate) fn enter(&mut self, holdings: &[Holding])
+        requires next { self.old.state.register.next < 2 ^ 48 }
+        requires new { region_at self.old.state.register.next self.old.state.register.regions ≡ None }
+        requires room { HasRegionRoom (length holdings.now) self.old.room }
+        ensures limits { self.new.limits ≡ self.old.limits }
+        ensures state { self.new.state ≡ record self.old.state { register = opened holdings.now self.old.state.register } }
+    {
+        self.present.enter_reserved(self.next, holdings);
+        self.next += 1;
+    }
+
+    /// Closes an open region.
+    pub(crate) fn leave(&mut self, number: u64)
+        requires { IsSome (region_at number self.old.state.register.regions) }
+        ensures limits { self.new.limits ≡ self.old.limits }
+        ensures state { self.new.state ≡ record self.old.state { register = closed number self.old.state.register } }
+    {
+        self.present.leave(number);
+    }
+
+    /// Writes bytes into host memory. An empty write may stand anywhere; else each address that is written is in host
+    /// memory.
+    pub(crate) fn host_write(&mut self, addr: u64, bytes: &[u8])
+        requires { CanWrite (record { start = addr; len = length bytes.now }) self.old.state.host }
+        ensures limits { self.new.limits ≡ self.old.limits }
+        ensures state { self.new.state ≡ record self.old.state { host = host_after_write addr (length bytes.now) bytes.now self.old.state.host } }
+    {
+        let Ok(()) = self.host.write(addr, bytes) else {
+            unreachable!()
+        };
     }
 }

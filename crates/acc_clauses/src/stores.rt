@@ -1,17 +1,31 @@
 //! Everything that a table keeps beside its trace, as one value.
 
-ghost use Rattle.std.specs.Prelude.{◌≡◌, ◌<◌, ◌^◌, MatchResult, IfOk, Ok, Err};
+ghost use Rattle.std.specs.Prelude.{◌≡◌, ◌<◌, ◌^◌, MatchResult, Ok, Err, IfOk, IfErr, OnOk, MatchOption, IfSome, IfNone, Some, None, length};
+ghost use Rattle.acc_base.specs.declared.faults.Fault.TheVariants.{Memory};
+ghost use Rattle.acc_base.specs.Limits.{IsWithinBounds};
+ghost use Rattle.acc_base.specs.Ranges.{where_is, range_from, structured_of, dynamic_of};
+ghost use Rattle.acc_base.specs.Blocks.{place_of, used_bytes};
+ghost use Rattle.acc_base.specs.Bytes.{bytes_of, host_after_write};
+ghost use Rattle.acc_base.specs.Accounts.{IsSound};
+ghost use Rattle.acc_host.specs.Host.{bytes_in, IsOutOfHost};
+ghost use Rattle.acc_clauses.specs.Contents.{AreNew};
 ghost use Rattle.acc_base.specs.Records.{layout_of};
 ghost use Rattle.acc_base.specs.Judge.{event_of, plan_of};
 ghost use Rattle.acc_clauses.specs.Planned.{IsPlannedOn};
+ghost use Rattle.acc_clauses.specs.Stored.{IsPlan};
+ghost use Rattle.acc_clauses.specs.Acts.{CanWrite, HasPlanRoom};
 
 use crate::parts::Parts;
 use crate::planning;
 use crate::plans::Plan;
-use acc_base::{Directive, Fault};
+use crate::running::lens_of;
+use acc_base::{Config, Counters, Directive, Fault, Found, Range, Section};
+use std::alloc::Global;
 use std::marker::Model;
 
 /// Host memory, the blocks of the device, the mapped ranges with their counters, and the open data regions.
+///
+/// Contracts see the limits, the state, and the room that was made for more.
 #[derive(Drop)]
 pub struct Store {
     parts: Parts,
@@ -29,6 +43,27 @@ impl Model for Store {
 }
 
 impl Store {
+    /// Nothing is mapped, no region is open, and host memory is zero.
+    ///
+    /// # Errors
+    ///
+    /// [`Fault::Memory`] alone.
+    pub fn new(alloc: Global, config: &Config) -> Result<Store, Fault>
+        ensures ok { IfOk result (AreNew config.now) }
+        ensures only { IfErr result (λ fault. fault ≡ Memory) }
+    {
+        let parts = Parts::new(alloc, config)?;
+        Ok(Store { parts })
+    }
+
+    /// The state is sound, and the limits lie within their bounds. Nothing is done.
+    pub fn laws(&self)
+        ensures sound { IsSound self.now.limits self.now.state }
+        ensures limits { IsWithinBounds self.now.limits }
+    {
+        self.parts.laws();
+    }
+
     /// Judges a directive whole: its first refusal, or what each of its items will do, each judged in what those before
     /// it leave. On a region's exit the last item acts first. It takes no memory, and nothing changes.
     ///
@@ -44,5 +79,99 @@ impl Store {
         ensures planned { IfOk result (λ p. IsPlannedOn self.now.limits directive.now (layout_of self.now.state) p) }
     {
         planning::plan(&self.parts, directive)
+    }
+
+    /// Makes all room that a plan of this store needs. Nothing else changes, also where it is refused.
+    ///
+    /// # Errors
+    ///
+    /// [`Fault::Memory`] alone.
+    pub fn reserve(&mut self, plan: &Plan) -> Result<(), Fault>
+        requires planned { IsPlan self.old plan.now }
+        ensures limits { self.new.limits ≡ self.old.limits }
+        ensures state { self.new.state ≡ self.old.state }
+        ensures room { OnOk result (HasPlanRoom plan.now self.new.room) }
+        ensures only { IfErr result (λ fault. fault ≡ Memory) }
+    {
+        self.parts.laws();
+        let acts = plan.acts();
+        self.parts.reserve(&lens_of(acts), acts.len() as u64)
+    }
+
+    /// Writes bytes into host memory from an address on. An empty write may stand anywhere; else each address that is
+    /// written is in host memory. It takes no memory and is never refused.
+    pub fn host_write(&mut self, addr: u64, bytes: &[u8])
+        requires { CanWrite (record { start = addr; len = length bytes.now }) self.old.state.host }
+        ensures limits { self.new.limits ≡ self.old.limits }
+        ensures state { self.new.state ≡ record self.old.state { host = host_after_write addr (length bytes.now) bytes.now self.old.state.host } }
+    {
+        self.parts.host_write(addr, bytes);
+    }
+
+    // ---- what it tells of itself
+
+    /// The limits.
+    pub fn config(&self) -> Config
+        ensures { result ≡ self.now.limits }
+    {
+        self.parts.config()
+    }
+
+    /// Where a section lies among the mapped ranges.
+    pub fn find(&self, section: Section) -> Found
+        ensures { result ≡ where_is section self.now.state.records.ranges }
+    {
+        self.parts.find(section)
+    }
+
+    /// The mapped range of least start at or above a host address, if there is one.
+    pub fn next_range(&self, from: u64) -> Option<Range>
+        ensures { result ≡ range_from from self.now.state.records.ranges }
+    {
+        self.parts.next_range(from)
+    }
+
+    /// The reference counters of the range that is mapped to a block; both are 0 where none is.
+    pub fn counters(&self, block: u64) -> Counters
+        ensures structured { result.structured ≡ structured_of block self.now.state.records.ranges }
+        ensures dynamic { result.dynamic ≡ dynamic_of block self.now.state.records.ranges }
+    {
+        self.parts.counters(block)
+    }
+
+    /// The device address of a block's first byte; 0 where there is no such block.
+    pub fn place(&self, block: u64) -> u64
+        ensures { result ≡ place_of block self.now.state.records.blocks }
+    {
+        self.parts.place(block)
+    }
+
+    /// The bytes of device memory that all blocks take, each rounded up to a multiple of 16.
+    pub fn used(&self) -> u64
+        ensures { result ≡ used_bytes self.now.state.records.blocks }
+    {
+        self.parts.used()
+    }
+
+    /// How many data regions are open.
+    pub fn regions(&self) -> u64
+        ensures { result ≡ length self.now.state.register.regions }
+    {
+        self.parts.regions()
+    }
+
+    /// The bytes of a section of host memory. `None` exactly where some address of it is outside of host memory.
+    pub fn host_read(&self, section: Section) -> Option<&[u8]>
+        ensures part { IfSome result (λ bytes. bytes.now ≡ bytes_in self.now.state.host section) }
+        ensures none { IfNone result (IsOutOfHost self.now.state.host section) }
+    {
+        self.parts.host_read(section)
+    }
+
+    /// The bytes of a block, if there is such a block.
+    pub fn bytes(&self, block: u64) -> Option<&[u8]>
+        ensures { IfSome result (λ bytes. bytes.now ≡ bytes_of block self.now.state.memories) }
+    {
+        self.parts.bytes(block)
     }
 }

@@ -10,20 +10,20 @@ use Rattle.acc_base.specs.declared.faults.Fault.{Fault}
 use Rattle.acc_base.specs.declared.faults.Fault.TheVariants.{Memory as NoMemory, DeviceFull}
 use Rattle.acc_base.specs.Limits.{IsFromOne}
 use Rattle.acc_base.specs.Records.{Memory}
-use Rattle.acc_base.specs.Blocks.{rounded, block_at, place_for, IsPlaceFor}
+use Rattle.acc_base.specs.Blocks.{rounded, block_at, place_for, fits_at, Fits, IsPlaceFor}
 use Rattle.acc_base.specs.Bytes.{bytes_of, fill_byte}
 use Rattle.acc_base.proofs.Elements.{AllByRecursion-weaker, AllByRecursion-both, AllByRecursion-append, AllByRecursion-map, EachPair-push}
-use Rattle.acc_base.proofs.Places.{place_for-least}
+use Rattle.acc_base.proofs.Places.{place_for-least, place_for-found, IsFoundPlace, fits_says}
 use Rattle.acc_base.proofs.Results.{equal_self}
-use Rattle.acc_placement.specs.Ranges.{IsLeastFit, IsFitBeside, IsLeastFitBeside}
+use Rattle.acc_placement.specs.Ranges.{IsFit, IsLeastFit, IsFitBeside, IsLeastFitBeside}
 use Rattle.acc_placement.specs.Space.{Space, IsCanonical, IsPartition}
 use Rattle.acc_placement.proofs.Partitions.{partition_last}
 use Rattle.acc_dev.specs.declared.entries.Stored.{Stored}
-use Rattle.acc_dev.specs.Device.{DeviceState, HasBlock, IsBorn, birth_place}
+use Rattle.acc_dev.specs.Device.{DeviceState, HasBlock, IsBorn, IsBornWith, birth_place}
 use Rattle.acc_base.specs.Holes.{taken_range}
 use Rattle.acc_dev.specs.Kept.{block_from, memory_from, slot_of, blocks_in, memories_in, IsKept, IsCounted}
 use Rattle.acc_dev.proofs.Slots.{AreSame, KeepsOthers, same_from, vacant_off, made-born}
-use Rattle.acc_dev.proofs.Placing.{some_bytes, planned_place, birth_at}
+use Rattle.acc_dev.proofs.Placing.{some_bytes, planned_place, birth_at, fit_from}
 use Rattle.acc_dev.proofs.Keeping.{device_of, shared}
 
 -- the block of a slot
@@ -66,9 +66,9 @@ born_kept old new s t xs number k x kept above vacant is others len base canonic
     }
 
 -- the place that a look ahead finds is that of a birth
-pub birth_found : (h : Space) (s : List (Option Stored)) (xs : List (ℕ × ℕ)) (births len : ℕ) (o : Option ℕ) → IsKept h s xs → 1 ≤ len
-    → IfSome o (IsLeastFitBeside h.holes [] (rounded len)) → IfNone o ((q : ℕ) → IsFitBeside h.holes [] (rounded len) q → ⊥) → o ≡ birth_place (device_of h s xs births) len
-birth_found h s xs births len o k some place none =
+pub birth_found : (h : Space) (s : List (Option Stored)) (xs : List (ℕ × ℕ)) (births len : ℕ) (room : List ℕ) (o : Option ℕ) → IsKept h s xs → 1 ≤ len
+    → IfSome o (IsLeastFitBeside h.holes [] (rounded len)) → IfNone o ((q : ℕ) → IsFitBeside h.holes [] (rounded len) q → ⊥) → o ≡ birth_place (device_of h s xs births room) len
+birth_found h s xs births len room o k some place none =
     planned_place h (blocks_in s xs) 0 0 [] (rounded len) o (omega arith) (λ i d lt. absurd (omega arith)) k.lens (shared h s xs k) place none
     ∙ ap (λ bs. place_for h.size bs (rounded len)) (append-nil (blocks_in s xs))
 
@@ -78,27 +78,48 @@ refused_full (Ok x) o p n only place = absurd only
 refused_full (Err fault) o p n only place = (λ full. let bad : ⊥ = cc in absurd bad, λ none. let bad : ⊥ = cc in absurd bad)
 
 -- it is the least of all device addresses at which the length fits
-pub birth_least : (h : Space) (s : List (Option Stored)) (xs : List (ℕ × ℕ)) (births len : ℕ) → IsKept h s xs → 1 ≤ len → IsPlaceFor h.size (blocks_in s xs) (rounded len) (birth_place (device_of h s xs births) len)
-birth_least h s xs births len k some = place_for-least h.size (blocks_in s xs) (rounded len) (omega arith) (some_bytes (blocks_in s xs) k.lens)
+pub birth_least : (h : Space) (s : List (Option Stored)) (xs : List (ℕ × ℕ)) (births len : ℕ) (room : List ℕ) → IsKept h s xs → 1 ≤ len → IsPlaceFor h.size (blocks_in s xs) (rounded len) (birth_place (device_of h s xs births room) len)
+birth_least h s xs births len room k some = place_for-least h.size (blocks_in s xs) (rounded len) (omega arith) (some_bytes (blocks_in s xs) k.lens)
 
--- what a birth leaves, as contracts see it
-pub born_of : (old new : Space) (s s' t : List (Option Stored)) (xs xs' ys : List (ℕ × ℕ)) (births len place : ℕ) (clear : Bool) (bytes : List ℕ) → IsKept old s xs → 1 ≤ len → s' ≡ s → xs' ≡ xs → new.size ≡ old.size → bytes ≡ replicate len (fill_byte clear)
+-- what a birth with these bytes leaves, as contracts see it
+pub born_with : (old new : Space) (s s' t : List (Option Stored)) (xs xs' ys : List (ℕ × ℕ)) (births len place : ℕ) (bytes room left : List ℕ) → IsKept old s xs → 1 ≤ len → s' ≡ s → xs' ≡ xs → new.size ≡ old.size → length bytes ≡ len
     → IsLeastFit old.holes (rounded (length bytes)) place
     → blocks_in t ys ≡ blocks_in s' xs' ++ record { number = births + 1; place = place; len = length bytes } ∷ []
     → memories_in t ys ≡ memories_in s' xs' ++ record { block = births + 1; bytes = bytes } ∷ []
-    → IsBorn (device_of old s xs births) (device_of new t ys (births + 1)) len clear (births + 1)
-born_of old new s s' t xs xs' ys births len place clear bytes k some slots index size filled least blocks memories =
-    let long : length bytes ≡ len = ap length filled ∙ length-replicate len (fill_byte clear) in
-    let at : birth_place (device_of old s xs births) len ≡ Some place = birth_at old (blocks_in s xs) (rounded len) place (omega arith) k.lens (shared old s xs k) (rw long at least) in
+    → IsBornWith (device_of old s xs births room) (device_of new t ys (births + 1) left) len bytes (births + 1)
+born_with old new s s' t xs xs' ys births len place bytes room left k some slots index size long least blocks memories =
+    let at : birth_place (device_of old s xs births room) len ≡ Some place = birth_at old (blocks_in s xs) (rounded len) place (omega arith) k.lens (shared old s xs k) (rw long at least) in
     record {
       place = place;
       place_is = at;
       block_is = refl;
       size = size;
       blocks = rw (long, slots, index) at blocks;
-      memories = memories ∙ rw (slots, index) (ap (λ (b : List ℕ). memories_in s xs ++ record { block = births + 1; bytes = b } ∷ []) filled);
+      memories = memories ∙ rw (slots, index) refl;
       births = refl;
     }
+
+-- what a birth leaves, as contracts see it
+pub born_of : (old new : Space) (s s' t : List (Option Stored)) (xs xs' ys : List (ℕ × ℕ)) (births len place : ℕ) (clear : Bool) (bytes room left : List ℕ) → IsKept old s xs → 1 ≤ len → s' ≡ s → xs' ≡ xs → new.size ≡ old.size → bytes ≡ replicate len (fill_byte clear)
+    → IsLeastFit old.holes (rounded (length bytes)) place
+    → blocks_in t ys ≡ blocks_in s' xs' ++ record { number = births + 1; place = place; len = length bytes } ∷ []
+    → memories_in t ys ≡ memories_in s' xs' ++ record { block = births + 1; bytes = bytes } ∷ []
+    → IsBorn (device_of old s xs births room) (device_of new t ys (births + 1) left) len clear (births + 1)
+born_of old new s s' t xs xs' ys births len place clear bytes room left k some slots index size filled least blocks memories =
+    let long : length bytes ≡ len = ap length filled ∙ length-replicate len (fill_byte clear) in
+    subst (λ b. IsBornWith (device_of old s xs births room) (device_of new t ys (births + 1) left) len b (births + 1)) filled
+    (born_with old new s s' t xs xs' ys births len place bytes room left k some slots index size long least blocks memories)
+
+-- a length for which there is a place fits in the holes
+pub fits_there : (h : Space) (s : List (Option Stored)) (xs : List (ℕ × ℕ)) (births len : ℕ) (room : List ℕ) → IsKept h s xs → (birth_place (device_of h s xs births room) len ≡ None → ⊥) → (q : ℕ) × IsFit h.holes (rounded len) q
+fits_there h s xs births len room k some = go (place_for h.size (blocks_in s xs) (rounded len)) (place_for-found h.size (blocks_in s xs) (rounded len)) some
+  where
+    go : (o : Option ℕ) → IsFoundPlace (fits_at h.size (blocks_in s xs) (rounded len)) o → (o ≡ None → ⊥) → (q : ℕ) × IsFit h.holes (rounded len) q
+    go None found none = absurd (none refl)
+    go (Some p) found none =
+        let fits : Fits h.size (blocks_in s xs) (rounded len) p = fits_says h.size (blocks_in s xs) (rounded len) p found.0 in
+        let beside : IsFitBeside h.holes [] (rounded len) p = fit_from h (blocks_in s xs) [] (rounded len) p (shared h s xs k) (subst (λ bs. Fits h.size bs (rounded len) p) (sym (append-nil (blocks_in s xs))) fits) in
+        (p, λ a w. (beside a w).0)
 
 -- a new block is there
 found_last : (blocks : List Block) (b : Block) → IsSome (block_at b.number (blocks ++ b ∷ []))
@@ -119,8 +140,8 @@ bytes_last (m ∷ ms) n bytes h =
     let t : (m.block == n) ≡ false = grind (arith, nat_tests, h.0) in
     rw t (bytes_last ms n bytes h.1)
 
-pub filled_after_birth : (old : Space) (s : List (Option Stored)) (xs : List (ℕ × ℕ)) (births len : ℕ) (clear : Bool) (new : DeviceState) → IsCounted xs births → IsBorn (device_of old s xs births) new len clear (births + 1) → bytes_of (births + 1) new.memories ≡ replicate len (fill_byte clear)
-filled_after_birth old s xs births len clear new c born =
+pub filled_after_birth : (old : Space) (s : List (Option Stored)) (xs : List (ℕ × ℕ)) (births len : ℕ) (clear : Bool) (room : List ℕ) (new : DeviceState) → IsCounted xs births → IsBorn (device_of old s xs births room) new len clear (births + 1) → bytes_of (births + 1) new.memories ≡ replicate len (fill_byte clear)
+filled_after_birth old s xs births len clear room new c born =
     ap (bytes_of (births + 1)) born.memories
     ∙ bytes_last (memories_in s xs) (births + 1) (replicate len (fill_byte clear))
     (AllByRecursion-map (λ (m : Memory). m.block ≡ births + 1 → ⊥) (λ (e : ℕ × ℕ). memory_from e.0 (slot_of s e)) xs (AllByRecursion-weaker (λ (e : ℕ × ℕ). e.0 ≤ births) (λ e. e.0 ≡ births + 1 → ⊥) xs (λ e le same. omega arith) c.below))

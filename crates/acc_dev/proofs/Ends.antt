@@ -1,5 +1,5 @@
 -- What the end of a block leaves.
-use Rattle.std.proofs.Common.{ℕ, zero, suc, ◌≡◌, ◌<◌, refl, sym, ap, ◌∙◌, subst, List, [], ◌∷◌, ◌++◌, length, get_or, Option, Some, None, arith, inl, inr}
+use Rattle.std.proofs.Common.{ℕ, zero, suc, ◌≡◌, ◌<◌, ◌≤◌, refl, sym, ap, ◌∙◌, subst, List, [], ◌∷◌, ◌++◌, length, get_or, Option, Some, None, arith, inl, inr}
 use Rattle.std.specs.Prelude.{◌==◌, not, map, IsSome}
 use Rattle.std.specs.List.{AllByRecursion, remove}
 use Rattle.std.proofs.lemmas.Bool.{cases_eq}
@@ -10,13 +10,13 @@ use Rattle.acc_base.specs.Blocks.{rounded, without_block}
 use Rattle.acc_base.specs.Bytes.{memories_kept}
 use Rattle.acc_base.specs.Accounts.{EachPair}
 use Rattle.acc_base.proofs.Elements.{AllByRecursion-both}
-use Rattle.acc_base.proofs.Memories.{memories_kept-without}
+use Rattle.acc_base.proofs.KeptMemories.{memories_kept-without}
 use Rattle.acc_placement.specs.Space.{Space, IsCanonical, IsPartition, IsTaken}
 use Rattle.acc_placement.proofs.Partitions.{partition_without, taken_at}
 use Rattle.acc_dev.specs.declared.entries.Stored.{Stored}
 use Rattle.acc_dev.specs.Device.{IsRetired}
 use Rattle.acc_base.specs.Holes.{taken_range}
-use Rattle.acc_dev.specs.Kept.{block_from, memory_from, slot_of, blocks_in, memories_in, AreRising, IsKept, IsEntry}
+use Rattle.acc_dev.specs.Kept.{block_from, memory_from, slot_of, blocks_in, memories_in, AreRising, IsKept, IsCounted, IsEntry}
 use Rattle.acc_dev.proofs.Rising.{start, all-remove, apart-remove, map-remove, filter-map, remove-filter}
 use Rattle.acc_dev.proofs.Slots.{AreSame, KeepsOthers, same_from, others_off, made-removed, in_step}
 use Rattle.acc_dev.proofs.Keeping.{device_of}
@@ -92,12 +92,17 @@ kept-removed s xs i n rise entry =
     ∙ map-remove (λ (e : ℕ × ℕ). memory_from e.0 (slot_of s e)) xs i
 
 -- what an end leaves, as contracts see it
-pub retired_of : (old new : Space) (s t : List (Option Stored)) (xs ys : List (ℕ × ℕ)) (births i n : ℕ) → IsKept old s xs → IsEntry xs n i → new.size ≡ old.size → blocks_in t ys ≡ remove (blocks_in s xs) i → memories_in t ys ≡ remove (memories_in s xs) i
-    → IsRetired (device_of old s xs births) (device_of new t ys births) n
-retired_of old new s t xs ys births i n k entry size blocks memories =
+pub retired_of : (old new : Space) (s t : List (Option Stored)) (xs ys : List (ℕ × ℕ)) (births i n : ℕ) (room : List ℕ) → IsKept old s xs → IsEntry xs n i → new.size ≡ old.size → blocks_in t ys ≡ remove (blocks_in s xs) i → memories_in t ys ≡ remove (memories_in s xs) i
+    → IsRetired (device_of old s xs births room) (device_of new t ys births room) n
+retired_of old new s t xs ys births i n room k entry size blocks memories =
     record {
       size = size;
       blocks = blocks ∙ sym (without-removed s xs i n k.rising entry);
       memories = memories ∙ sym (kept-removed s xs i n k.rising entry) ∙ ap (λ bs. memories_kept bs (memories_in s xs)) (sym blocks);
       births = refl;
+      room = refl;
     }
+
+-- the numbers that are left are at most the births
+pub counted_left : (xs ys : List (ℕ × ℕ)) (births i : ℕ) → IsCounted xs births → ys ≡ remove xs i → IsCounted ys births
+counted_left xs ys births i c is = record { below = rw is (all-remove (λ (e : ℕ × ℕ). e.0 ≤ births) xs i c.below); few = c.few }

@@ -23,8 +23,8 @@ use Rattle.acc_dev.proofs.Slots.{block_at-entry, bytes_of-entry, block_at-none}
 use Rattle.acc_dev.proofs.Placing.{IsShared, total-used, some_bytes, clear_of, on_device}
 
 -- what contracts see of a device
-abbrev pub device_of : Space → List (Option Stored) → List (ℕ × ℕ) → ℕ → DeviceState
-device_of h s xs births = record { size = h.size; blocks = blocks_in s xs; memories = memories_in s xs; births = births }
+abbrev pub device_of : Space → List (Option Stored) → List (ℕ × ℕ) → ℕ → List ℕ → DeviceState
+device_of h s xs births room = record { size = h.size; blocks = blocks_in s xs; memories = memories_in s xs; births = births; room = room }
 
 -- ---- what holds of every device
 
@@ -38,8 +38,8 @@ pub shared : (h : Space) (s : List (Option Stored)) (xs : List (ℕ × ℕ)) →
 shared h s xs k = record { base = k.base; canonical = k.canonical; partition = k.partition }
 
 -- blocks lie on the device and apart
-pub apart_of : (h : Space) (s : List (Option Stored)) (xs : List (ℕ × ℕ)) (births : ℕ) → IsKept h s xs → IsCounted xs births → HasBlocksApart (device_of h s xs births)
-apart_of h s xs births k c = record {
+pub apart_of : (h : Space) (s : List (Option Stored)) (xs : List (ℕ × ℕ)) (births : ℕ) (room : List ℕ) → IsKept h s xs → IsCounted xs births → HasBlocksApart (device_of h s xs births room)
+apart_of h s xs births room k c = record {
   on_device = on_device h (blocks_in s xs) k.base k.lens k.partition.within k.partition.aligned;
   apart = clear_of (blocks_in s xs) (some_bytes (blocks_in s xs) k.lens) (rising_blocks s xs k.rising) k.partition.disjoint;
   born = AllByRecursion-map (λ (b : Block). b.number ≤ births) (λ (e : ℕ × ℕ). block_from e.0 (slot_of s e)) xs c.below;
@@ -128,9 +128,9 @@ pub record TellsReference (d : DeviceState) (n : ℕ) (r : Option (Bor Stored)) 
   pub len : IfSome r (λ x. IsFromOne MEMORY_MAX (length x.now.bytes.items))
 
 -- what such a reference tells
-pub told_reference : (h : Space) (s : List (Option Stored)) (xs : List (ℕ × ℕ)) (births i n : ℕ) (e : ℕ × ℕ) (r : Option (Bor Stored)) → IsKept h s xs → IsEntry xs n i → e ≡ get_or xs i e → option_copied r ≡ get_or s e.1 None
-    → TellsReference (device_of h s xs births) n r
-told_reference h s xs births i n e r k entry read is =
+pub told_reference : (h : Space) (s : List (Option Stored)) (xs : List (ℕ × ℕ)) (births i n : ℕ) (room : List ℕ) (e : ℕ × ℕ) (r : Option (Bor Stored)) → IsKept h s xs → IsEntry xs n i → e ≡ get_or xs i e → option_copied r ≡ get_or s e.1 None
+    → TellsReference (device_of h s xs births room) n r
+told_reference h s xs births i n room e r k entry read is =
     let same : get_or xs i start ≡ e = get_or_default xs i start e entry.in_bounds ∙ sym read in
     let told : IsSomeAnd r (λ (x : Bor Stored). TellsStored s xs n x.now) = told_stored h s xs i n r k entry (is ∙ ap (slot_of s) (sym same)) in
     let T : Bor Stored → Type 0 = λ x. TellsStored s xs n x.now in

@@ -21,11 +21,13 @@ use Rattle.acc_dev.specs.Device.{planned_blocks}
 
 -- ---- addresses in blocks
 
+-- a free address is in no taken range
 free_out : (bs : List Block) (a : ℕ) → IsFree bs a → IsIn (map taken_range bs) a → ⊥
 free_out [] a free i = i
 free_out (b ∷ bs) a free (inl w) = free.0 w.0 w.1
 free_out (b ∷ bs) a free (inr i) = free_out bs a free.1 i
 
+-- an address in no taken range is free
 out_free : (bs : List Block) (a : ℕ) → (IsIn (map taken_range bs) a → ⊥) → IsFree bs a
 out_free [] a out = tt
 out_free (b ∷ bs) a out = (λ low high. out (inl (low, high)), out_free bs a (λ i. out (inr i)))
@@ -37,10 +39,12 @@ total-used (b ∷ bs) = omega (arith, total-used bs, sum_by-cons size_of b bs)
 
 -- ---- blocks that are yet to be born
 
+-- the ranges of planned blocks are those of their takes
 planned_ranges : (n : ℕ) (ts : List (ℕ × ℕ)) → map taken_range (planned_blocks n ts) ≡ all_rounded ts
 planned_ranges n [] = refl
 planned_ranges n (t ∷ ts) = ap (λ rs. (t.0, rounded t.1) ∷ rs) (planned_ranges (suc n) ts)
 
+-- planned blocks take some bytes each
 planned_some : (n top : ℕ) (ts : List (ℕ × ℕ)) → All (IsTakeBelow top) ts → AllByRecursion (λ b. 0 < size_of b) (planned_blocks n ts)
 planned_some n top [] h = tt
 planned_some n top (t ∷ ts) h = let k : IsTakeBelow top t = h 0 t (omega arith) in (omega (arith, k.0.0), planned_some (suc n) top ts (λ k d lt. h (suc k) d (omega arith)))
@@ -57,6 +61,7 @@ pub record IsShared (s : Space) (bs : List Block) : Type 0 where
   pub canonical : IsCanonical s
   pub partition : IsPartition s (map taken_range bs)
 
+-- what fits in the holes and beside other ranges fits on the device and in no block
 fits_from : (s : Space) (bs cs : List Block) (n q : ℕ) → IsShared s bs → IsFitBeside s.holes (map taken_range cs) n q → Fits s.size (bs ++ cs) n q
 fits_from s bs cs n q k fit a low high =
     let f = fit a (low, high) in
@@ -67,11 +72,13 @@ fits_from s bs cs n q k fit a low high =
       AllByRecursion-append (λ b. b.place ≤ a → a < block_end b → ⊥) bs cs (out_free bs a (λ i. k.partition.not_free a i f.0)) (out_free cs a f.1),
     )
 
+-- an address that is in none of two lists of blocks is in none of each
 free_parts : (bs cs : List Block) (a : ℕ) → IsFree (bs ++ cs) a → IsFree bs a × IsFree cs a
 free_parts [] cs a free = (tt, free)
 free_parts (b ∷ bs) cs a free = let rest = free_parts bs cs a free.1 in ((free.0, rest.0), rest.1)
 
-fit_from : (s : Space) (bs cs : List Block) (n q : ℕ) → IsShared s bs → Fits s.size (bs ++ cs) n q → IsFitBeside s.holes (map taken_range cs) n q
+-- what fits on the device and in no block fits in the holes and beside other ranges
+pub fit_from : (s : Space) (bs cs : List Block) (n q : ℕ) → IsShared s bs → Fits s.size (bs ++ cs) n q → IsFitBeside s.holes (map taken_range cs) n q
 fit_from s bs cs n q k fits a w =
     let f = fits a w.0 w.1 in
     let base = k.base in
@@ -85,14 +92,17 @@ same_place : (device size p : ℕ) (bs : List Block) (o : Option ℕ) → IsPlac
 same_place device size p bs None none is = absurd (none p is.0)
 same_place device size p bs (Some q) found is = let e : q ≡ p = omega (arith, found.1 p is.0, is.1 q found.0) in ap (λ x. Some x) e
 
+-- where nothing fits the search finds no place
 no_place : (device size : ℕ) (bs : List Block) (o : Option ℕ) → IsPlaceFor device bs size o → ((q : ℕ) → Fits device bs size q → ⊥) → o ≡ None
 no_place device size bs None none is = refl
 no_place device size bs (Some q) found is = absurd (is q found.0)
 
+-- the least place in the holes and beside planned blocks is that of the definition
 beside_place : (s : Space) (bs cs : List Block) (n p : ℕ) → 0 < n → AllByRecursion (λ b. 0 < size_of b) (bs ++ cs) → IsShared s bs → IsLeastFitBeside s.holes (map taken_range cs) n p → place_for s.size (bs ++ cs) n ≡ Some p
 beside_place s bs cs n p pos some k least =
     same_place s.size n p (bs ++ cs) _ (place_for-least s.size (bs ++ cs) n pos some) (fits_from s bs cs n p k least.0, λ q fits. least.1 q (fit_from s bs cs n q k fits))
 
+-- where nothing fits in the holes and beside planned blocks, there is no place by the definition
 beside_none : (s : Space) (bs cs : List Block) (n : ℕ) → 0 < n → AllByRecursion (λ b. 0 < size_of b) (bs ++ cs) → IsShared s bs → ((q : ℕ) → IsFitBeside s.holes (map taken_range cs) n q → ⊥) → place_for s.size (bs ++ cs) n ≡ None
 beside_none s bs cs n pos some k none =
     no_place s.size n (bs ++ cs) _ (place_for-least s.size (bs ++ cs) n pos some) (λ q fits. none q (fit_from s bs cs n q k fits))
@@ -113,6 +123,7 @@ birth_at s bs n p pos lens k least =
 
 -- ---- blocks lie apart
 
+-- a block is clear of later ones with which it shares no address
 beside_from : (b : Block) (bs : List Block) → 0 < size_of b → AllByRecursion (λ c. 0 < size_of c) bs → AllByRecursion (λ c. b.number < c.number) bs → ((a : ℕ) → Spans b.place (size_of b) a → IsIn (map taken_range bs) a → ⊥) → AllByRecursion (IsClearOf b) bs
 beside_from b [] pos some rise off = tt
 beside_from b (c ∷ cs) pos some rise off = (

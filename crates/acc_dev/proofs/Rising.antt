@@ -14,33 +14,39 @@ use Rattle.acc_dev.specs.Kept.{AreRising, IsEntry}
 
 -- ---- each element
 
+-- what holds of each element holds of the one at an index
 pub all_at : {X : Type 0} (P : X → Type 0) (xs : List X) (i : ℕ) (d : X) → i < length xs → AllByRecursion P xs → P (get_or xs i d)
 all_at P [] i d lt h = absurd (omega arith)
 all_at P (x ∷ xs) zero d lt h = h.0
 all_at P (x ∷ xs) (suc i) d lt h = all_at P xs i d (omega arith) h.1
 
+-- what holds at each index holds of each element
 pub all_from : {X : Type 0} (P : X → Type 0) (xs : List X) (d : X) → ((k : ℕ) → k < length xs → P (get_or xs k d)) → AllByRecursion P xs
 all_from P [] d h = tt
 all_from P (x ∷ xs) d h = (h 0 (omega arith), all_from P xs d (λ k lt. h (suc k) (omega arith)))
 
+-- what holds of each element holds of each that is left without one
 pub all-remove : {X : Type 0} (P : X → Type 0) (xs : List X) (i : ℕ) → AllByRecursion P xs → AllByRecursion P (remove xs i)
 all-remove P [] zero h = tt
 all-remove P [] (suc i) h = tt
 all-remove P (x ∷ xs) zero h = h.1
 all-remove P (x ∷ xs) (suc i) h = (h.0, all-remove P xs i h.1)
 
+-- what relates each two elements relates each two that are left without one
 pub apart-remove : {X : Type 0} (R : X → X → Type 0) (xs : List X) (i : ℕ) → EachPair R xs → EachPair R (remove xs i)
 apart-remove R [] zero h = tt
 apart-remove R [] (suc i) h = tt
 apart-remove R (x ∷ xs) zero h = h.1
 apart-remove R (x ∷ xs) (suc i) h = (all-remove (R x) xs i h.0, apart-remove R xs i h.1)
 
+-- the images without one are the images of the elements without one
 pub map-remove : {X Y : Type 0} (f : X → Y) (xs : List X) (i : ℕ) → map f (remove xs i) ≡ remove (map f xs) i
 map-remove f [] zero = refl
 map-remove f [] (suc i) = refl
 map-remove f (x ∷ xs) zero = refl
 map-remove f (x ∷ xs) (suc i) = ap (λ ys. f x ∷ ys) (map-remove f xs i)
 
+-- a search among images finds the image of what a search among the elements finds
 pub find-map : {X Y : Type 0} (f : X → Y) (p : X → Bool) (q : Y → Bool) (xs : List X) → ((x : X) → q (f x) ≡ p x) → find q (map f xs) ≡ option_map f (find p xs)
 find-map f p q [] same = refl
 find-map {X} {Y} f p q (x ∷ xs) same = ap (λ b. cond b (Some (f x)) (find q (map f xs))) (same x) ∙ go (find-map f p q xs same) (p x)
@@ -49,6 +55,7 @@ find-map {X} {Y} f p q (x ∷ xs) same = ap (λ b. cond b (Some (f x)) (find q (
     go rest true = refl
     go rest false = rest
 
+-- the images that pass a test are the images of the elements that pass it
 pub filter-map : {X Y : Type 0} (f : X → Y) (p : X → Bool) (q : Y → Bool) (xs : List X) → ((x : X) → q (f x) ≡ p x) → filter q (map f xs) ≡ map f (filter p xs)
 filter-map f p q [] same = refl
 filter-map {X} {Y} f p q (x ∷ xs) same = ap (λ b. cond b (f x ∷ filter q (map f xs)) (filter q (map f xs))) (same x) ∙ go (filter-map f p q xs same) (p x)
@@ -59,15 +66,18 @@ filter-map {X} {Y} f p q (x ∷ xs) same = ap (λ b. cond b (f x ∷ filter q (m
 
 -- ---- numbers that rise
 
+-- what an index outside of a list reads
 abbrev pub start : ℕ × ℕ
 start = (0, 0)
 
+-- of two entries the later one has the greater number
 pub rise_at : (xs : List (ℕ × ℕ)) (i j : ℕ) → AreRising xs → i < j → j < length xs → (get_or xs i start).0 < (get_or xs j start).0
 rise_at [] i j r lt within = absurd (omega arith)
 rise_at (x ∷ xs) i zero r lt within = absurd (omega arith)
 rise_at (x ∷ xs) zero (suc j) r lt within = all_at (λ (e : ℕ × ℕ). x.0 < e.0) xs j start (omega arith) r.0
 rise_at (x ∷ xs) (suc i) (suc j) r lt within = rise_at xs i j r.1 (omega arith) (omega arith)
 
+-- of two entries, which may be one, the later one has no lesser number
 rise_to : (xs : List (ℕ × ℕ)) (i j : ℕ) → AreRising xs → i ≤ j → j < length xs → (get_or xs i start).0 ≤ (get_or xs j start).0
 rise_to xs i j r le within = elim (cases_eq i j) [
   | inl same ↦ omega (arith, ap (λ (k : ℕ). (get_or xs k start).0) same)
@@ -92,6 +102,7 @@ searched xs n (Err at) rise range parted =
       ]),
     )
 
+-- a search by number finds the entry of that number
 pub find_at : (xs : List (ℕ × ℕ)) (i n : ℕ) → AreRising xs → i < length xs → (get_or xs i start).0 ≡ n → find (λ e. e.0 == n) xs ≡ Some (get_or xs i start)
 find_at [] i n r lt is = absurd (omega arith)
 find_at (x ∷ xs) zero n r lt is = let t : (x.0 == n) ≡ true = grind (arith, nat_tests) in rw t
@@ -100,6 +111,7 @@ find_at (x ∷ xs) (suc i) n r lt is =
     let t : (x.0 == n) ≡ false = grind (arith, nat_tests) in
     rw t (find_at xs i n r.1 (omega arith) is)
 
+-- leaving out a number that is below all leaves all
 filter_none : (xs : List (ℕ × ℕ)) (n : ℕ) → AllByRecursion (λ (e : ℕ × ℕ). n < e.0) xs → filter (λ e. not (e.0 == n)) xs ≡ xs
 filter_none [] n h = refl
 filter_none (x ∷ xs) n h =

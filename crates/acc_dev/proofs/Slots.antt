@@ -52,7 +52,7 @@ made-born f s t xs number k x same new =
 
 -- ---- an end
 
--- and with one less
+-- what is made of the slots, with one entry less
 pub made-removed : {Y : Type 0} (f : ℕ → Option Stored → Y) (s t : List (Option Stored)) (xs : List (ℕ × ℕ)) (i : ℕ) → AreSame s t (remove xs i)
     → map (λ e. f e.0 (slot_of t e)) (remove xs i) ≡ remove (map (λ e. f e.0 (slot_of s e)) xs) i
 made-removed f s t xs i same = map-same f s t (remove xs i) same ∙ map-remove (λ (e : ℕ × ℕ). f e.0 (slot_of s e)) xs i
@@ -64,12 +64,13 @@ pub block_at-entry : (s : List (Option Stored)) (xs : List (ℕ × ℕ)) (i n : 
 block_at-entry s xs i n rise entry =
     find-map (λ (e : ℕ × ℕ). block_from e.0 (slot_of s e)) (λ e. e.0 == n) (λ b. b.number == n) xs (λ e. refl) ∙ ap (option_map (λ (e : ℕ × ℕ). block_from e.0 (slot_of s e))) (find_at xs i n rise entry.in_bounds entry.number)
 
--- and its bytes are those of the slot
+-- the bytes of a number are those of the slot of its entry
 pub bytes_of-entry : (s : List (Option Stored)) (xs : List (ℕ × ℕ)) (i n : ℕ) → AreRising xs → IsEntry xs n i → bytes_of n (memories_in s xs) ≡ stored_bytes (slot_of s (get_or xs i start))
 bytes_of-entry s xs i n rise entry =
     ap (λ o. unwrap_or (option_map (λ (m : Memory). m.bytes) o) [])
     (find-map (λ (e : ℕ × ℕ). memory_from e.0 (slot_of s e)) (λ e. e.0 == n) (λ m. m.block == n) xs (λ e. refl) ∙ ap (option_map (λ (e : ℕ × ℕ). memory_from e.0 (slot_of s e))) (find_at xs i n rise entry.in_bounds entry.number))
 
+-- a search by a number that no entry has finds nothing
 find_none : (xs : List (ℕ × ℕ)) (n : ℕ) → AllByRecursion (λ e. e.0 ≡ n → ⊥) xs → find (λ e. e.0 == n) xs ≡ None
 find_none [] n h = refl
 find_none (x ∷ xs) n h =
@@ -96,15 +97,18 @@ pub record IsRewritten (s t : List (Option Stored)) (k offset : ℕ) (bytes : Li
   pub len : length (stored_bytes (get_or t k None)) ≡ length (stored_bytes (get_or s k None))
   pub others : KeepsOthers s t k
 
+-- a slot that has something still has something after a write
 filled_rewritten : (s t : List (Option Stored)) (k offset : ℕ) (bytes : List ℕ) (j : ℕ) → IsRewritten s t k offset bytes → IsSome (get_or s j None) → IsSome (get_or t j None)
 filled_rewritten s t k offset bytes j w some = elim (cases_eq j k) [
   | inl same ↦ subst (λ (i : ℕ). IsSome (get_or t i None)) (sym same) w.filled
   | inr differs ↦ subst IsSome (sym (w.others j differs)) some
 ]
 
+-- each slot of an index still has something after a write
 pub all_filled : (s t : List (Option Stored)) (k offset : ℕ) (bytes : List ℕ) (xs : List (ℕ × ℕ)) → IsRewritten s t k offset bytes → AllByRecursion (λ e. IsSome (slot_of s e)) xs → AllByRecursion (λ e. IsSome (slot_of t e)) xs
 all_filled s t k offset bytes xs w filled = AllByRecursion-weaker (λ (e : ℕ × ℕ). IsSome (slot_of s e)) (λ e. IsSome (slot_of t e)) xs (λ e some. filled_rewritten s t k offset bytes e.1 w some) filled
 
+-- a write leaves the block of each slot
 same_block : (s t : List (Option Stored)) (k offset : ℕ) (bytes : List ℕ) (number j : ℕ) → IsRewritten s t k offset bytes → block_from number (get_or t j None) ≡ block_from number (get_or s j None)
 same_block s t k offset bytes number j w = elim (cases_eq j k) [
   | inl same ↦
@@ -114,7 +118,7 @@ same_block s t k offset bytes number j w = elim (cases_eq j k) [
   | inr differs ↦ ap (block_from number) (w.others j differs)
 ]
 
--- the blocks stay
+-- a write to a slot leaves the blocks
 pub blocks_in-rewritten : (s t : List (Option Stored)) (k offset : ℕ) (bytes : List ℕ) (xs : List (ℕ × ℕ)) → IsRewritten s t k offset bytes → blocks_in t xs ≡ blocks_in s xs
 blocks_in-rewritten s t k offset bytes [] w = refl
 blocks_in-rewritten s t k offset bytes (x ∷ xs) w = rw (same_block s t k offset bytes x.0 x.1 w) (ap (λ bs. block_from x.0 (slot_of s x) ∷ bs) (blocks_in-rewritten s t k offset bytes xs w))
@@ -123,6 +127,7 @@ blocks_in-rewritten s t k offset bytes (x ∷ xs) w = rw (same_block s t k offse
 abbrev AreTold : List (ℕ × ℕ) → ℕ → ℕ → Type 0
 AreTold xs n k = AllByRecursion (λ e. ((e.0 ≡ n) × (e.1 ≡ k)) ⊎ ((e.0 ≡ n → ⊥) × (e.1 ≡ k → ⊥))) xs
 
+-- the entries are told apart by their numbers as by their slots
 told : (xs : List (ℕ × ℕ)) (i : ℕ) → AreRising xs → EachPair (λ d e. d.1 ≡ e.1 → ⊥) xs → i < length xs → AreTold xs (get_or xs i start).0 (get_or xs i start).1
 told [] i rise distinct lt = absurd (omega arith)
 told (x ∷ xs) zero rise distinct lt = (inl (refl, refl), off xs rise.0 distinct.0)
@@ -134,12 +139,15 @@ told (x ∷ xs) (suc i) rise distinct lt =
     let less : x.0 < (get_or xs i start).0 = all_at (λ (e : ℕ × ℕ). x.0 < e.0) xs i start (omega arith) rise.0 in
     (inr (λ same. omega arith, all_at (λ (e : ℕ × ℕ). x.1 ≡ e.1 → ⊥) xs i start (omega arith) distinct.0), told xs i rise.1 distinct.1 (omega arith))
 
+-- a change of a block's memory is a change of its bytes
 changed_here : (n : ℕ) (change : List ℕ → List ℕ) (m : Memory) → m.block ≡ n → memory_changed n change m ≡ record { block = m.block; bytes = change m.bytes }
 changed_here n change m same = let t : (m.block == n) ≡ true = grind (arith, nat_tests) in rw t
 
+-- a change of a block's memory leaves that of another block
 changed_elsewhere : (n : ℕ) (change : List ℕ → List ℕ) (m : Memory) → (m.block ≡ n → ⊥) → memory_changed n change m ≡ m
 changed_elsewhere n change m differs = let t : (m.block == n) ≡ false = grind (arith, nat_tests, differs) in rw t
 
+-- a write to a slot changes the memory of its block alone, where entries are told apart
 rewritten : (s t : List (Option Stored)) (n k offset : ℕ) (bytes : List ℕ) (xs : List (ℕ × ℕ)) → IsRewritten s t k offset bytes → AreTold xs n k → memories_in t xs ≡ map (memory_changed n (overwritten offset bytes)) (memories_in s xs)
 rewritten s t n k offset bytes [] w told_of = refl
 rewritten s t n k offset bytes (x ∷ xs) w told_of =
@@ -153,7 +161,7 @@ rewritten s t n k offset bytes (x ∷ xs) w told_of =
     ] in
     ap (λ (m : Memory). m ∷ memories_in t xs) here ∙ ap (λ ms. memory_changed n (overwritten offset bytes) (memory_from x.0 (slot_of s x)) ∷ ms) rest
 
--- and one memory changes
+-- a write to the slot of an entry changes the memory of its block alone
 pub memories_in-rewritten : (s t : List (Option Stored)) (xs : List (ℕ × ℕ)) (i n offset : ℕ) (bytes : List ℕ) → AreRising xs → EachPair (λ d e. d.1 ≡ e.1 → ⊥) xs → IsEntry xs n i → IsRewritten s t (get_or xs i start).1 offset bytes
     → memories_in t xs ≡ map (memory_changed n (overwritten offset bytes)) (memories_in s xs)
 memories_in-rewritten s t xs i n offset bytes rise distinct entry w =

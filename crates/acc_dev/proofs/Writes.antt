@@ -45,12 +45,13 @@ rewritten_from s t k offset bytes within filled place is others =
     record { filled = filled; place = place; bytes_are = is; len = ap length is ∙ length-overwritten offset bytes (stored_bytes (get_or s k None)) within; others = others }
 
 -- what a write leaves, as contracts see it
-pub written_of : (h : Space) (s t : List (Option Stored)) (xs : List (ℕ × ℕ)) (births i n offset : ℕ) (e : ℕ × ℕ) (bytes : List ℕ) → IsKept h s xs → IsEntry xs n i → e ≡ get_or xs i e → IsRewritten s t e.1 offset bytes
-    → IsWritten (device_of h s xs births) (device_of h t xs births) n offset bytes
-written_of h s t xs births i n offset e bytes k entry read w =
+pub written_of : (h : Space) (s t : List (Option Stored)) (xs : List (ℕ × ℕ)) (births i n offset : ℕ) (room : List ℕ) (e : ℕ × ℕ) (bytes : List ℕ) → IsKept h s xs → IsEntry xs n i → e ≡ get_or xs i e → IsRewritten s t e.1 offset bytes
+    → IsWritten (device_of h s xs births room) (device_of h t xs births room) n offset bytes
+written_of h s t xs births i n offset room e bytes k entry read w =
     record {
       size = refl;
       blocks = blocks_in-rewritten s t e.1 offset bytes xs w;
       memories = memories_in-rewritten s t xs i n offset bytes k.rising k.distinct entry (subst (λ (d : ℕ × ℕ). IsRewritten s t d.1 offset bytes) (sym (entry_read xs i e read entry.in_bounds)) w);
       births = refl;
+      room = refl;
     }

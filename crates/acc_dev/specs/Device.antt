@@ -6,12 +6,13 @@ use Rattle.acc_base.specs.Blocks.{rounded, place_for, block_at, without_block}
 use Rattle.acc_base.specs.Bytes.{fill_byte, memory_changed, memories_kept}
 use Rattle.acc_base.specs.Accounts.{AreBlocksApart}
 
--- the size of device memory in bytes, the blocks by rising number, the bytes of each in step with them, and how many blocks were ever born
+-- the size of device memory in bytes, the blocks by rising number, the bytes of each in step with them, how many blocks were ever born, and the lengths of births for which room was made, in the order of its use
 pub record DeviceState : Type 0 where
   pub size : ℕ
   pub blocks : List Block
   pub memories : List Memory
   pub births : ℕ
+  pub room : List ℕ
 
 -- the block is one of the device's
 abbrev pub HasBlock : DeviceState → ℕ → Type 0
@@ -37,15 +38,23 @@ pub record IsUnchanged (old new : DeviceState) : Type 0 where
 abbrev pub birth_place : DeviceState → ℕ → Option ℕ
 birth_place d len = place_for d.size d.blocks (rounded len)
 
--- the new device is the old one with a block more: it has the next number, lies at the least place, and is filled
-pub record IsBorn (old new : DeviceState) (len : ℕ) (zero : Bool) (block : ℕ) : Type 0 where
+-- the new device is the old one with a block more: it has the next number, lies at the least place, and has these bytes
+pub record IsBornWith (old new : DeviceState) (len : ℕ) (bytes : List ℕ) (block : ℕ) : Type 0 where
   pub place : ℕ
   pub place_is : birth_place old len ≡ Some place
   pub block_is : block ≡ old.births + 1
   pub size : new.size ≡ old.size
   pub blocks : new.blocks ≡ old.blocks ++ record { number = block; place = place; len = len } ∷ []
-  pub memories : new.memories ≡ old.memories ++ record { block = block; bytes = replicate len (fill_byte zero) } ∷ []
+  pub memories : new.memories ≡ old.memories ++ record { block = block; bytes = bytes } ∷ []
   pub births : new.births ≡ block
+
+-- and its bytes are filled
+abbrev pub IsBorn : DeviceState → DeviceState → ℕ → Bool → ℕ → Type 0
+IsBorn old new len zero block = IsBornWith old new len (replicate len (fill_byte zero)) block
+
+-- room was made for a birth of this length, and it is the next
+abbrev pub IsNextRoom : DeviceState → ℕ → Type 0
+IsNextRoom d len = (rest : List ℕ) × (d.room ≡ len ∷ rest)
 
 -- blocks that are yet to be born, at these places and of these lengths, from this number on
 abbrev pub planned_blocks : ℕ → List (ℕ × ℕ) → List Block
@@ -64,6 +73,7 @@ pub record IsWritten (old new : DeviceState) (block offset : ℕ) (bytes : List 
   pub blocks : new.blocks ≡ old.blocks
   pub memories : new.memories ≡ map (memory_changed block (overwritten offset bytes)) old.memories
   pub births : new.births ≡ old.births
+  pub room : new.room ≡ old.room
 
 -- the new device is the old one without a block and its bytes
 pub record IsRetired (old new : DeviceState) (block : ℕ) : Type 0 where
@@ -71,6 +81,7 @@ pub record IsRetired (old new : DeviceState) (block : ℕ) : Type 0 where
   pub blocks : new.blocks ≡ without_block block old.blocks
   pub memories : new.memories ≡ memories_kept new.blocks old.memories
   pub births : new.births ≡ old.births
+  pub room : new.room ≡ old.room
 
 -- ---- what holds of every device
 

@@ -11,19 +11,21 @@ use Rattle.acc_base.specs.Accounts.{EachPair}
 use Rattle.acc_placement.specs.Space.{Space, IsCanonical, IsPartition}
 use Rattle.acc_dev.specs.declared.entries.Stored.{Stored}
 
--- what a slot has; no slot of a block is empty
+-- the place that a slot has; no slot of a block is empty
 abbrev pub stored_place : Option Stored → ℕ
 stored_place None = 0
 stored_place (Some s) = s.place
 
+-- the bytes that a slot has
 abbrev pub stored_bytes : Option Stored → List ℕ
 stored_bytes None = []
 stored_bytes (Some s) = s.bytes.items
 
--- the block of a number with what its slot has, and its bytes
+-- the block of a number, with what its slot has
 abbrev pub block_from : ℕ → Option Stored → Block
 block_from number slot = record { number = number; place = stored_place slot; len = length (stored_bytes slot) }
 
+-- the bytes of a number, which its slot has
 abbrev pub memory_from : ℕ → Option Stored → Memory
 memory_from number slot = record { block = number; bytes = stored_bytes slot }
 
@@ -31,10 +33,11 @@ memory_from number slot = record { block = number; bytes = stored_bytes slot }
 abbrev pub slot_of : List (Option Stored) → ℕ × ℕ → Option Stored
 slot_of slots e = slice_index_or slots e.1 None
 
--- the blocks of an index, and their bytes
+-- the blocks of an index
 abbrev pub blocks_in : List (Option Stored) → List (ℕ × ℕ) → List Block
 blocks_in slots index = map (λ e. block_from e.0 (slot_of slots e)) index
 
+-- the bytes of the blocks of an index
 abbrev pub memories_in : List (Option Stored) → List (ℕ × ℕ) → List Memory
 memories_in slots index = map (λ e. memory_from e.0 (slot_of slots e)) index
 

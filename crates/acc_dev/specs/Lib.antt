@@ -1,2 +1,3 @@
 pub mod Device
 pub mod Kept
+pub mod Room

@@ -1,6 +1,6 @@
 //! Device memory as one value.
 
-ghost use Rattle.std.specs.Prelude.{◌≡◌, ◌+◌, ◌^◌, ◌<◌, ◌≤◌, ◌⊎◌, ◌↔◌, ◌++◌, length, replicate, All, IfOk, IfErr, OnOk, OnErr, IsSomeAnd, IfSome, IsTrue, Err, None, Some};
+ghost use Rattle.std.specs.Prelude.{◌≡◌, ◌+◌, ◌^◌, ◌<◌, ◌≤◌, ◌⊎◌, ◌↔◌, ◌++◌, length, map, drop, [], replicate, vec_capacity, All, IfOk, IfErr, OnOk, OnErr, IsSomeAnd, IfSome, IsTrue, Err, None, Some};
 ghost use Rattle.std.specs.List.{AllZip, AllByRecursion};
 ghost use Rattle.acc_base.specs.Limits.{IsSize, IsFromOne};
 ghost use Rattle.acc_base.specs.Section.{device_base};
@@ -9,13 +9,14 @@ ghost use Rattle.acc_base.specs.Holes.{IsDevice};
 ghost use Rattle.acc_base.specs.Bytes.{bytes_of, fill_byte};
 ghost use Rattle.acc_base.specs.Accounts.{IsMemoryOf};
 ghost use Rattle.acc_placement.specs.Ranges.{IsTakeBelow};
-ghost use Rattle.acc_dev.specs.Device.{HasBlock, IsNew, IsUnchanged, IsBorn, IsWritten, IsRetired, HasBlocksApart, birth_place, planned_blocks};
+ghost use Rattle.acc_dev.specs.Device.{HasBlock, IsNew, IsUnchanged, IsBorn, IsBornWith, IsNextRoom, IsWritten, IsRetired, HasBlocksApart, birth_place, planned_blocks};
 
 use crate::entries::{Stored, make_room, position_of, put, take_out, write_at};
 use acc_base::{DEVICE_BASE, Fault, MEMORY_MAX};
 use acc_placement::{Holes, rounded};
 use slab::Slab;
 use std::alloc::Global;
+use std::collections::VecDeque;
 use std::marker::Model;
 
 /// The byte of a new block that is not set to zero.
@@ -39,11 +40,14 @@ pub struct Device {
     // The number and the slot of each block, by rising number.
     index: Vec<(u64, usize)>,
     births: u64,
+    // For each birth to come for which room was made, an empty vector that its bytes fit into.
+    ready: VecDeque<Vec<u8>>,
 }
 
 impl Model for Device {
     ghost use Rattle.acc_dev.specs.Device.{DeviceState};
     ghost use Rattle.acc_dev.specs.Kept.{blocks_in, memories_in, IsKept, IsCounted};
+    ghost use Rattle.acc_dev.specs.Room.{room_of, HasRoom};
 
     ghost Value = { DeviceState };
 
@@ -52,9 +56,10 @@ impl Model for Device {
       blocks = blocks_in d.slab.slots d.index.items;
       memories = memories_in d.slab.slots d.index.items;
       births = d.births;
+      room = room_of d;
     } };
 
-    ghost invariant = { λ d. IsKept d.holes d.slab.slots d.index.items × IsCounted d.index.items d.births };
+    ghost invariant = { λ d. IsKept d.holes d.slab.slots d.index.items × IsCounted d.index.items d.births × HasRoom d };
 }
 
 impl Device {
@@ -74,6 +79,7 @@ impl Device {
             slab: Slab::new(alloc),
             index: Vec::new(alloc),
             births: 0,
+            ready: VecDeque::new(alloc),
         })
     }
 
@@ -85,8 +91,9 @@ impl Device {
     ///
     /// # Errors
     ///
-    /// [`Fault::DeviceFull`] with item 0 and the rounded length, exactly where it fits nowhere; else only
-    /// [`Fault::Memory`]. The device is then as before, but for its spare room.
+    /// [`Fault::DeviceFull`] with item 0 and the rounded length, exactly where it fits nowhere. Else only
+    /// [`Fault::Memory`], where there is no memory for its bytes, or room for one block more was missing and could not be
+    /// made. The device is then as before, but for its spare room.
     pub fn born(&mut self, len: u64, zero: bool) -> Result<u64, Fault>
         requires len { IsFromOne MEMORY_MAX len }
         requires births { self.old.births < 2 ^ 48 }
@@ -109,7 +116,8 @@ impl Device {
             });
         };
         let bytes = filled(self.alloc, len, zero)?;
-        make_room(&mut self.holes, &mut self.slab, &mut self.index)?;
+        let count = self.ready.len() as u64 + 1;
+        make_room(&mut self.holes, &mut self.slab, &mut self.index, count)?;
         let number = self.births + 1;
         put(
             &mut self.holes,
@@ -120,6 +128,85 @@ impl Device {
         );
         self.births = number;
         Ok(number)
+    }
+
+    /// Makes room for births of these lengths, in this order: the bytes of each, and its places in the lists. Room that
+    /// was made before is given up. There are at most 65,536 lengths, each from 1 to 67,108,864.
+    ///
+    /// # Errors
+    ///
+    /// [`Fault::Memory`] alone. There is then no room, and the device is as before.
+    pub fn reserve(&mut self, lens: &[u64]) -> Result<(), Fault>
+        requires few { length lens.now ≤ 2 ^ 16 }
+        requires lens { All (IsFromOne MEMORY_MAX) lens.now }
+        ensures room { OnOk result (self.new.room ≡ lens.now) }
+        ensures none { OnErr result (self.new.room ≡ []) }
+        ensures only { IfErr result (λ fault. fault ≡ Fault.Memory) }
+        ensures unchanged { IsUnchanged self.old self.new }
+    {
+        self.ready.clear();
+        let count = lens.len() as u64;
+        make_room(&mut self.holes, &mut self.slab, &mut self.index, count)?;
+        self.ready = empty_vectors(self.alloc, lens)?;
+        Ok(())
+    }
+
+    /// Makes a block as [`Device::born`] does, where room for a birth of this length was made by [`Device::reserve`] and
+    /// is the next. It needs no memory and is never refused: the length fits on the device.
+    ///
+    /// Fewer than 2^48 blocks were born before.
+    pub fn born_reserved(&mut self, len: u64, zero: bool) -> u64
+        requires len { IsFromOne MEMORY_MAX len }
+        requires births { self.old.births < 2 ^ 48 }
+        requires room { IsNextRoom self.old len }
+        requires fits { birth_place self.old len ≡ None → ⊥ }
+        ensures born { IsBorn self.old self.new len zero result }
+        ensures room { self.new.room ≡ drop 1 self.old.room }
+    {
+        let Some(mut bytes) = self.ready.pop_front() else {
+            unreachable!()
+        };
+        fill(&mut bytes, len, zero);
+        let number = self.births + 1;
+        put(
+            &mut self.holes,
+            &mut self.slab,
+            &mut self.index,
+            number,
+            bytes,
+        );
+        self.births = number;
+        number
+    }
+
+    /// Makes a block of these bytes, and fills it with nothing else, where room for a birth of this length was made by
+    /// [`Device::reserve`] and is the next. It needs no memory and is never refused: the length fits on the device.
+    ///
+    /// Fewer than 2^48 blocks were born before.
+    pub fn born_with_reserved(&mut self, given: &[u8]) -> u64
+        requires len { IsFromOne MEMORY_MAX (length given.now) }
+        requires births { self.old.births < 2 ^ 48 }
+        requires room { IsNextRoom self.old (length given.now) }
+        requires fits { birth_place self.old (length given.now) ≡ None → ⊥ }
+        ensures born { IsBornWith self.old self.new (length given.now) given.now result }
+        ensures room { self.new.room ≡ drop 1 self.old.room }
+    {
+        let Some(mut bytes) = self.ready.pop_front() else {
+            unreachable!()
+        };
+        let Ok(()) = bytes.extend_from_slice(given) else {
+            unreachable!()
+        };
+        let number = self.births + 1;
+        put(
+            &mut self.holes,
+            &mut self.slab,
+            &mut self.index,
+            number,
+            bytes,
+        );
+        self.births = number;
+        number
     }
 
     /// Where [`Device::born`] would place a block of `len` bytes after births at the listed places and of the listed
@@ -204,8 +291,8 @@ impl Device {
     }
 
     /// What holds of every device: its blocks lie on it and apart, by rising number; each has a memory of its length,
-    /// from 1 to 67,108,864 bytes; they take no more bytes than there are; and with the holes
-    /// between them they are the device, with no address in two of them. Nothing is done.
+    /// from 1 to 67,108,864 bytes; they take no more bytes than there are; and with the holes between
+    /// them they are the device, with no address in two of them. Nothing is done.
     pub fn laws(&self)
         ensures size { IsSize self.now.size }
         ensures blocks_apart { HasBlocksApart self.now }
@@ -230,11 +317,42 @@ impl Device {
     }
 }
 
+/// The byte that fills a new block.
+fn byte_that_fills(zero: bool) -> u8
+    ensures { result ≡ fill_byte zero }
+{
+    if zero { 0 } else { FILL_BYTE }
+}
+
+/// An empty vector for each length, with room for as many bytes.
+fn empty_vectors(alloc: Global, lens: &[u64]) -> Result<VecDeque<Vec<u8>>, Fault>
+    ensures room { IfOk result (λ vectors. map (λ v. vec_capacity v) vectors.items ≡ lens.now) }
+    ensures empty { IfOk result (λ vectors. AllByRecursion (λ v. v.items ≡ []) vectors.items) }
+    ensures only { IfErr result (λ fault. fault ≡ Fault.Memory) }
+{
+    let mut vectors = VecDeque::new(alloc);
+    for len in lens {
+        vectors.push_back(Vec::with_capacity(alloc, *len as usize)?)?;
+    }
+    Ok(vectors)
+}
+
+/// Fills an empty vector that has room with the bytes of a new block.
+fn fill(bytes: &mut Vec<u8>, len: u64, zero: bool)
+    requires empty { bytes.old.items ≡ [] }
+    requires room { len ≤ vec_capacity bytes.old }
+    ensures { bytes.new.items ≡ replicate len (fill_byte zero) }
+{
+    let Ok(()) = bytes.resize(len as usize, byte_that_fills(zero)) else {
+        unreachable!()
+    };
+}
+
 /// The bytes of a new block.
 fn filled(alloc: Global, len: u64, zero: bool) -> Result<Vec<u8>, Fault>
     ensures ok { IfOk result (λ bytes. bytes.items ≡ replicate len (fill_byte zero)) }
     ensures only { IfErr result (λ fault. fault ≡ Fault.Memory) }
 {
-    let fill = if zero { 0 } else { FILL_BYTE };
+    let fill = byte_that_fills(zero);
     Ok(vec![in alloc; fill; len as usize]?)
 }

@@ -1,12 +1,12 @@
 //! The slots of blocks, and the index by which a number finds its slot.
 
-ghost use Rattle.std.specs.Prelude.{◌≡◌, ℕ, ◌+◌, ◌^◌, ◌<◌, ◌≤◌, ◌≢◌, List, [], ◌∷◌, ◌++◌, length, IfSome, IfNone, IfErr, OnOk, IsSome, Some, vec_len, vec_capacity};
+ghost use Rattle.std.specs.Prelude.{◌≡◌, ℕ, ◌+◌, ◌^◌, ◌<◌, ◌≤◌, ◌≢◌, List, [], ◌∷◌, ◌++◌, length, IfSome, IfNone, IfErr, OnOk, IsOk, IsSome, Some, vec_len, vec_capacity};
 ghost use Rattle.std.specs.List.{AllByRecursion, remove};
-ghost use Rattle.slab.specs.Slab.{get, HasRoomFor};
+ghost use Rattle.slab.specs.Slab.{get, slab_len, HasRoomFor};
 ghost use Rattle.acc_base.specs.Limits.{IsFromOne};
 ghost use Rattle.acc_base.specs.Blocks.{rounded as rounded_of};
 ghost use Rattle.acc_placement.specs.Ranges.{IsFit, IsLeastFit};
-ghost use Rattle.acc_placement.specs.Space.{IsUnchanged};
+ghost use Rattle.acc_placement.specs.Space.{IsSameSpace};
 ghost use Rattle.acc_dev.specs.Device.{overwritten};
 ghost use Rattle.acc_dev.specs.Kept.{stored_place, stored_bytes, blocks_in, memories_in, AreRising, IsEntry, IsKept};
 
@@ -32,24 +32,31 @@ pub fn position_of(index: &[(u64, usize)], block: u64) -> Option<usize>
     index.binary_search_by_key(&block, |entry| entry.0).ok()
 }
 
-/// Makes room for one block more, so that [`put`] needs no memory. Where that is refused, only room has grown.
+/// Makes room for `count` blocks more, so that so many calls of [`put`] need no memory. It is refused only where that
+/// room was missing, and then only room has grown.
 pub fn make_room(
     holes: &mut Holes,
     slab: &mut Slab<Stored>,
     index: &mut Vec<(u64, usize)>,
+    count: u64,
 ) -> Result<(), Fault>
+    requires { count ≤ 2 ^ 32 }
     ensures kept { IsKept holes.old slab.old.slots index.old.items → IsKept holes.new slab.new.slots index.new.items }
-    ensures holes { IsUnchanged holes.old holes.new }
+    ensures holes { IsSameSpace holes.old holes.new }
     ensures slots { slab.new.slots ≡ slab.old.slots }
     ensures index { index.new.items ≡ index.old.items }
-    ensures room_taken { OnOk result (1 ≤ holes.new.spare) }
-    ensures room_slot { OnOk result (HasRoomFor slab.new 1) }
-    ensures room_entry { OnOk result (vec_len index.new < vec_capacity index.new) }
+    ensures room_taken { OnOk result (count ≤ holes.new.spare) }
+    ensures room_slot { OnOk result (HasRoomFor slab.new count) }
+    ensures room_entry { OnOk result (vec_len index.new + count ≤ vec_capacity index.new) }
+    ensures spare { holes.old.spare ≤ holes.new.spare }
+    ensures slab_capacity { slab.old.capacity ≤ slab.new.capacity }
+    ensures capacity { vec_capacity index.old ≤ vec_capacity index.new }
+    ensures succeeds { count ≤ holes.old.spare → HasRoomFor slab.old count → vec_len index.old + count ≤ vec_capacity index.old → IsOk result }
     ensures only { IfErr result (λ fault. fault ≡ Fault.Memory) }
 {
-    holes.reserve(1)?;
-    slab.reserve(1)?;
-    index.reserve(1)?;
+    holes.reserve(count)?;
+    slab.reserve(count as usize)?;
+    index.reserve(count as usize)?;
     Ok(())
 }
 
@@ -74,6 +81,11 @@ pub fn put(
     ensures index { (slot : ℕ) × (index.new.items ≡ index.old.items ++ (number, slot) ∷ []) }
     ensures blocks { blocks_in slab.new.slots index.new.items ≡ blocks_in slab.old.slots index.old.items ++ record { number = number; place = result; len = length bytes.items } ∷ [] }
     ensures memories { memories_in slab.new.slots index.new.items ≡ memories_in slab.old.slots index.old.items ++ record { block = number; bytes = bytes.items } ∷ [] }
+    ensures spare { holes.old.spare ≤ holes.new.spare + 1 }
+    ensures slots { slab_len slab.new ≡ slab_len slab.old + 1 }
+    ensures slab_capacity { slab.new.capacity ≡ slab.old.capacity }
+    ensures capacity { vec_capacity index.new ≡ vec_capacity index.old }
+    ensures entries { vec_len index.new ≡ vec_len index.old + 1 }
 {
     let place = holes.take_reserved(bytes.len() as u64);
     let slot = slab.insert_reserved(Stored { place, bytes });
@@ -95,6 +107,11 @@ pub fn take_out(
     ensures index { index.new.items ≡ remove index.old.items at }
     ensures blocks { blocks_in slab.new.slots index.new.items ≡ remove (blocks_in slab.old.slots index.old.items) at }
     ensures memories { memories_in slab.new.slots index.new.items ≡ remove (memories_in slab.old.slots index.old.items) at }
+    ensures spare { holes.old.spare ≤ holes.new.spare }
+    ensures slots { slab_len slab.new ≤ slab_len slab.old }
+    ensures slab_capacity { slab.new.capacity ≡ slab.old.capacity }
+    ensures capacity { vec_capacity index.new ≡ vec_capacity index.old }
+    ensures entries { vec_len index.new ≤ vec_len index.old }
 {
     let (_, slot) = index.remove(at);
     let Stored { place, bytes } = slab.remove(slot);
@@ -109,6 +126,8 @@ pub fn write_at(slab: &mut Slab<Stored>, slot: usize, offset: usize, bytes: &[u8
     ensures place { stored_place (get slab.new slot) ≡ stored_place (get slab.old slot) }
     ensures bytes { stored_bytes (get slab.new slot) ≡ overwritten offset bytes.now (stored_bytes (get slab.old slot)) }
     ensures others { (other : ℕ) → other ≢ slot → get slab.new other ≡ get slab.old other }
+    ensures slots { slab_len slab.new ≡ slab_len slab.old }
+    ensures capacity { slab.new.capacity ≡ slab.old.capacity }
 {
     if let Some(stored) = slab.get_mut(slot) {
         overwrite(&mut stored.bytes, offset, bytes);

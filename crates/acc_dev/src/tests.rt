@@ -4,33 +4,110 @@ ghost use Rattle.std.specs.Prelude.{◌≡◌};
 ghost use Rattle.acc_base.specs.Limits.{IsFromOne};
 
 use crate::Device;
-use acc_base::Fault;
+use acc_base::{DEVICE_BASE, Fault, MEMORY_MAX};
 use std::process::Abort;
 use std::test::Fail;
 
-/// Where device memory begins.
-const BASE: u64 = 0x1_0000_0000;
+/// One call of a device, and its answer.
+enum Turn {
+    /// The number of the block born with this length, zeroed or not.
+    Born(u64, bool, u64),
+    /// A length, zeroed or not, for which there is no place, and the rounded length.
+    Full(u64, bool, u64),
+    /// Where a block of this length would be placed.
+    WouldTake(u64, Option<u64>),
+    /// The number of the next block.
+    Next(u64),
+    /// The bytes that the blocks take.
+    Used(u64),
+    /// The place and the size of a block, or `None` where there is none.
+    Lies(u64, Option<(u64, u64)>),
+    /// The bytes of a block, or `None` where there is none.
+    Holds(u64, Option<&'static [u8]>),
+    /// A write of these bytes to a block from an offset on.
+    Writes(u64, u64, &'static [u8]),
+    /// The end of a block.
+    Retires(u64),
+}
 
-/// The block is there and has these bytes.
-fn holds(device: &Device, block: u64, wanted: &[u8]) -> bool {
-    if !device.has(block) {
-        return false;
+/// A device of 64 bytes: its blocks are filled, lie where they fit first, and come back.
+const BLOCKS: &[Turn] = &[
+    Turn::Next(1),
+    Turn::Born(3, false, 1),
+    Turn::Born(3, true, 2),
+    Turn::Holds(1, Some(&[0xa5, 0xa5, 0xa5])),
+    Turn::Holds(2, Some(&[0, 0, 0])),
+    Turn::Holds(0, None),
+    Turn::Holds(3, None),
+    Turn::Next(3),
+    Turn::Born(32, false, 3),
+    Turn::Lies(3, Some((0x1_0000_0020, 32))),
+    Turn::Used(64),
+    Turn::WouldTake(1, None),
+    Turn::Retires(1),
+    Turn::Lies(1, None),
+    Turn::Used(48),
+    Turn::Full(17, false, 32),
+    Turn::WouldTake(16, Some(0x1_0000_0000)),
+    Turn::Born(1, false, 4),
+    Turn::Lies(4, Some((0x1_0000_0000, 16))),
+    Turn::Next(5),
+];
+
+/// A device of 64 bytes: a write changes its bytes alone.
+const WRITES: &[Turn] = &[
+    Turn::Born(4, true, 1),
+    Turn::Born(4, true, 2),
+    Turn::Writes(1, 1, &[7, 8]),
+    Turn::Writes(2, 4, &[]),
+    Turn::Holds(1, Some(&[0, 7, 8, 0])),
+    Turn::Holds(2, Some(&[0, 0, 0, 0])),
+];
+
+/// The answer of a birth, where the device can be asked for one.
+fn birth(device: &mut Device, len: u64, zero: bool) -> Option<Result<u64, Fault>> {
+    let few = device.next_block() < 100;
+    if few && 0 < len && len <= MEMORY_MAX {
+        Some(device.born(len, zero))
+    } else {
+        None
     }
-    match device.bytes(block) {
-        Some(bytes) => bytes == wanted,
+}
+
+/// Where a block would be placed, if its length is one.
+fn place_for(device: &Device, len: u64) -> Option<u64> {
+    if 0 < len && len <= MEMORY_MAX {
+        device.would_take(&[], len)
+    } else {
+        None
+    }
+}
+
+/// The place and the size of a block.
+fn place(device: &Device, block: u64) -> Option<(u64, u64)> {
+    if device.has(block) {
+        Some(device.place(block))
+    } else {
+        None
+    }
+}
+
+/// The bytes of a block are these, or there is no such block.
+fn holds(device: &Device, block: u64, wanted: Option<&[u8]>) -> bool {
+    if !device.has(block) {
+        return wanted.is_none();
+    }
+    match wanted {
+        Some(wanted) => match device.bytes(block) {
+            Some(bytes) => bytes == wanted,
+            None => false,
+        },
         None => false,
     }
 }
 
-/// The block is there and lies at this place, with this size.
-fn lies(device: &Device, block: u64, wanted: (u64, u64)) -> bool {
-    device.has(block) && device.place(block) == wanted
-}
-
-/// Gives the block back, if it is there.
-fn retire(device: &mut Device, block: u64) -> bool
-    ensures { device.new.births ≡ device.old.births }
-{
+/// Gives a block back, and answers whether it was there.
+fn retire(device: &mut Device, block: u64) -> bool {
     let there = device.has(block);
     if there {
         device.retire(block);
@@ -38,90 +115,83 @@ fn retire(device: &mut Device, block: u64) -> bool
     there
 }
 
-/// Writes bytes into the block, if it is there and has so many.
-fn write(device: &mut Device, block: u64, offset: u64, bytes: &[u8]) -> bool
-    ensures { device.new.births ≡ device.old.births }
-{
+/// Writes bytes into a block, and answers whether it is there and has so many.
+fn write(device: &mut Device, block: u64, offset: u64, new: &[u8]) -> bool {
     if !device.has(block) {
         return false;
     }
     let len = match device.bytes(block) {
-        Some(bytes) => bytes.len() as u64,
+        Some(old) => old.len() as u64,
         None => 0,
     };
-    let fits = offset <= len && bytes.len() as u64 <= len - offset;
+    let fits = offset <= len && new.len() as u64 <= len - offset;
     if fits {
-        device.write(block, offset, bytes);
+        device.write(block, offset, new);
     }
     fits
 }
 
-#[test]
-fn new_blocks_are_filled(rt: HostRuntime) -> Result<(), Fail> {
-    let mut device = Device::new(rt.alloc(), 64)?;
-    assert_eq!(rt; device.next_block(), 1);
-    assert_eq!(rt; device.born(3, false)?, 1);
-    assert_eq!(rt; device.born(3, true)?, 2);
-    assert!(rt; holds(&device, 1, &[0xa5, 0xa5, 0xa5]));
-    assert!(rt; holds(&device, 2, &[0, 0, 0]));
-    assert!(rt; !device.has(0) && !device.has(3));
-    assert_eq!(rt; device.next_block(), 3);
-    Ok(())
+/// The device answers a call as the row says.
+fn agrees(device: &mut Device, turn: &Turn) -> bool {
+    match turn {
+        Turn::Born(len, zero, block) => birth(device, *len, *zero) == Some(Ok(*block)),
+        Turn::Full(len, zero, need) => {
+            let full = Fault::DeviceFull {
+                item: 0,
+                need: *need,
+            };
+            birth(device, *len, *zero) == Some(Err(full))
+        }
+        Turn::WouldTake(len, wanted) => place_for(device, *len) == *wanted,
+        Turn::Next(block) => device.next_block() == *block,
+        Turn::Used(wanted) => device.used() == *wanted,
+        Turn::Lies(block, wanted) => place(device, *block) == *wanted,
+        Turn::Holds(block, wanted) => holds(device, *block, *wanted),
+        Turn::Writes(block, offset, new) => write(device, *block, *offset, new),
+        Turn::Retires(block) => retire(device, *block),
+    }
+}
+
+/// The device answers each row in turn.
+fn all_agree(rt: &impl Abort, device: &mut Device, turns: &[Turn]) {
+    for (row, turn) in turns.iter().enumerate() {
+        assert!(rt; agrees(device, turn), "row {row}");
+    }
 }
 
 #[test]
 fn blocks_lie_where_they_fit_first(rt: HostRuntime) -> Result<(), Fail> {
     let mut device = Device::new(rt.alloc(), 64)?;
-    assert_eq!(rt;
-        device.would_take(&[(BASE, 16), (BASE + 16, 1)], 32),
-        Some(BASE + 32)
-    );
-    for len in [16, 16, 32] {
-        assert!(rt; device.next_block() < 9);
-        device.born(len, false)?;
-    }
-    assert!(rt; lies(&device, 3, (BASE + 32, 32)));
-    assert_eq!(rt; device.used(), 64);
-    assert!(rt; retire(&mut device, 1));
-    assert!(rt; !device.has(1));
-    assert_eq!(rt; device.used(), 48);
-    assert!(rt; device.next_block() < 9);
-    assert_eq!(rt;
-        device.born(17, false),
-        Err(Fault::DeviceFull { item: 0, need: 32 })
-    );
-    assert_eq!(rt; device.born(1, false)?, 4);
-    assert!(rt; lies(&device, 4, (BASE, 16)));
-    assert_eq!(rt; device.would_take(&[], 1), None);
+    all_agree(&rt, &mut device, BLOCKS);
     Ok(())
 }
 
 #[test]
 fn a_write_changes_its_bytes_alone(rt: HostRuntime) -> Result<(), Fail> {
     let mut device = Device::new(rt.alloc(), 64)?;
-    device.born(4, true)?;
-    device.born(4, true)?;
-    assert!(rt; write(&mut device, 1, 1, &[7, 8]));
-    assert!(rt; !write(&mut device, 2, 4, &[9]));
-    assert!(rt; write(&mut device, 2, 4, &[]));
-    assert!(rt; holds(&device, 1, &[0, 7, 8, 0]));
-    assert!(rt; holds(&device, 2, &[0, 0, 0, 0]));
+    all_agree(&rt, &mut device, WRITES);
+    Ok(())
+}
+
+#[test]
+fn planned_blocks_are_in_the_way(rt: HostRuntime) -> Result<(), Fail> {
+    let device = Device::new(rt.alloc(), 64)?;
+    let planned = [(DEVICE_BASE, 16), (DEVICE_BASE + 16, 1)];
+    assert_eq!(rt; device.would_take(&planned, 32), Some(DEVICE_BASE + 32));
     Ok(())
 }
 
 /// A birth, and once more where memory is refused: then nothing may have changed before.
 fn born_twice(rt: &impl Abort, device: &mut Device, len: u64)
-    requires { IsFromOne 67108864 len }
+    requires { IsFromOne MEMORY_MAX len }
 {
     let number = device.next_block();
     let used = device.used();
     assert!(rt; number < 9);
     if let Err(fault) = device.born(len, true) {
         assert_eq!(rt; fault, Fault::Memory);
-        assert_eq!(rt; device.next_block(), number);
-        assert_eq!(rt; device.used(), used);
+        assert_eq!(rt; (device.next_block(), device.used()), (number, used));
         assert!(rt; !device.has(number));
-        assert!(rt; number < 2 || holds(device, 1, &[0]));
         assert_eq!(rt; device.born(len, true), Ok(number));
     }
     assert!(rt; device.has(number));
@@ -137,13 +207,12 @@ fn a_refused_growth_changes_nothing(rt: HostRuntime) -> Result<(), Fail> {
             Device::new(rt.alloc(), 256)?
         }
     };
-    born_twice(&rt, &mut device, 1);
-    born_twice(&rt, &mut device, 16);
-    born_twice(&rt, &mut device, 17);
-    born_twice(&rt, &mut device, 2);
-    born_twice(&rt, &mut device, 3);
-    assert!(rt; lies(&device, 1, (BASE, 16)));
-    assert!(rt; lies(&device, 5, (BASE + 80, 16)));
+    for len in [1, 16, 17, 2, 3] {
+        born_twice(&rt, &mut device, len);
+    }
+    assert_eq!(rt; place(&device, 1), Some((DEVICE_BASE, 16)));
+    assert_eq!(rt; place(&device, 5), Some((DEVICE_BASE + 80, 16)));
+    assert!(rt; holds(&device, 1, Some(&[0])));
     assert_eq!(rt; device.used(), 96);
     Ok(())
 }

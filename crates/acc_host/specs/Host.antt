@@ -18,7 +18,7 @@ pub record IsOutOfHost (host : List ℕ) (s : Section) : Type 0 where
   pub covered : Covers s address
   pub outside : ¬ IsHost host address
 
--- these are the bytes of the section, which lies in host memory
+-- the bytes are those of the section, which lies in host memory
 pub record IsRead (host : List ℕ) (s : Section) (bytes : List ℕ) : Type 0 where
   pub in_host : IsInHost host s
   pub length_is : length bytes ≡ s.len
@@ -31,10 +31,10 @@ pub record IsWritten (old new : List ℕ) (s : Section) (bytes : List ℕ) : Typ
   pub written : (a : ℕ) → Covers s a → host_byte new a ≡ slice_index bytes (a - s.start)
   pub kept : (a : ℕ) → IsHost old a → ¬ Covers s a → host_byte new a ≡ host_byte old a
 
--- the part of the list that a section in host memory is
+-- the part of the host's bytes that a section in host memory is
 abbrev pub bytes_in : List ℕ → Section → List ℕ
 bytes_in host s = take s.len (drop (s.start - host_base) host)
 
--- the list with that part replaced
+-- the host's bytes with the part that a section is replaced
 abbrev pub with_bytes : List ℕ → Section → List ℕ → List ℕ
 with_bytes host s bytes = take (s.start - host_base) host ++ bytes ++ drop (s.start - host_base + s.len) host

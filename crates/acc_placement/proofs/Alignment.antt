@@ -5,21 +5,26 @@ use Rattle.std.specs.List.{remove}
 use Rattle.std.proofs.lemmas.List.Elements.{All-append, All-take, All-drop}
 use Rattle.acc_base.specs.Blocks.{rounded}
 
+-- what holds of each of two lists holds of the first
 pub all_front : (P : ℕ × ℕ → Type 0) (l r : List (ℕ × ℕ)) → All P (l ++ r) → All P l
 all_front P [] r a k d lt = absurd (omega arith)
 all_front P (h ∷ l) r a zero d lt = a zero d (omega arith)
 all_front P (h ∷ l) r a (suc k) d lt = all_front P l r (λ j e u. a (suc j) e (omega arith)) k d (omega arith)
 
+-- what holds of each of two lists holds of the second
 pub all_rest : (P : ℕ × ℕ → Type 0) (l r : List (ℕ × ℕ)) → All P (l ++ r) → All P r
 all_rest P [] r a = a
 all_rest P (h ∷ l) r a = all_rest P l r (λ j e u. a (suc j) e (omega arith))
 
+-- what holds of each range holds of one between two lists
 pub all_middle : (P : ℕ × ℕ → Type 0) (l : List (ℕ × ℕ)) (x : ℕ × ℕ) (r : List (ℕ × ℕ)) → All P (l ++ x ∷ r) → P x
 all_middle P l x r a = all_rest P l (x ∷ r) a 0 x (omega arith)
 
+-- what holds of each range holds of those behind one
 pub all_back : (P : ℕ × ℕ → Type 0) (l : List (ℕ × ℕ)) (x : ℕ × ℕ) (r : List (ℕ × ℕ)) → All P (l ++ x ∷ r) → All P r
 all_back P l x r a k d lt = all_rest P l (x ∷ r) a (suc k) d (omega arith)
 
+-- what holds of each range holds of each that is left without one
 pub All-remove : (P : ℕ × ℕ → Type 0) (xs : List (ℕ × ℕ)) (i : ℕ) → All P xs → All P (remove xs i)
 All-remove P xs i a = All-append P (take i xs) (drop (suc i) xs) (All-take P i xs a) (All-drop P (suc i) xs a)
 

@@ -11,19 +11,23 @@ use Rattle.acc_placement.specs.Changes.{IsCut, FitsFirst}
 use Rattle.acc_placement.proofs.Rising.{fit_later, rising_back, none_fits, in_join_right, in_bounds}
 use Rattle.acc_placement.proofs.Cutting.{cut_whole, cut_front}
 
+-- a list is what stands before an index, the range there, and what stands behind
 pub split_at : (hs : List (ℕ × ℕ)) (i : ℕ) (d : ℕ × ℕ) → i < length hs → hs ≡ take i hs ++ get_or hs i d ∷ drop (suc i) hs
 split_at hs i d lt = sym (take-append-drop i hs) ∙ ap (λ r. take i hs ++ r) (drop-cons hs i d lt)
 
+-- leaving out the hole at an index takes all of its addresses
 pub cut_at_whole : (low high : ℕ) (hs : List (ℕ × ℕ)) (i n : ℕ) (x : ℕ × ℕ) → x ≡ get_or hs i x → x.1 ≡ n → i < length hs → IsRising low hs high → IsCut low high hs (remove hs i) x.0 n
 cut_at_whole low high hs i n x at e lt s =
     let split : hs ≡ take i hs ++ x ∷ drop (suc i) hs = split_at hs i x lt ∙ ap (λ y. take i hs ++ y ∷ drop (suc i) hs) (sym at) in
     subst (λ (h : List (ℕ × ℕ)). IsCut low high h (remove hs i) x.0 n) (sym split) (cut_whole low (take i hs) x (drop (suc i) hs) high n e (subst (λ (h : List (ℕ × ℕ)). IsRising low h high) split s))
 
+-- making the hole at an index shorter at its front takes its first addresses
 pub cut_at_front : (low high : ℕ) (hs : List (ℕ × ℕ)) (i n : ℕ) (x : ℕ × ℕ) → x ≡ get_or hs i x → n < x.1 → i < length hs → IsRising low hs high → IsCut low high hs (set hs i (x.0 + n, x.1 - n)) x.0 n
 cut_at_front low high hs i n x at e lt s =
     let split : hs ≡ take i hs ++ x ∷ drop (suc i) hs = split_at hs i x lt ∙ ap (λ y. take i hs ++ y ∷ drop (suc i) hs) (sym at) in
     rw (set_split hs i (x.0 + n, x.1 - n) lt) (subst (λ (h : List (ℕ × ℕ)). IsCut low high h (take i hs ++ (x.0 + n, x.1 - n) ∷ drop (suc i) hs) x.0 n) (sym split) (cut_front low (take i hs) x (drop (suc i) hs) high n e (subst (λ (h : List (ℕ × ℕ)). IsRising low h high) split s)))
 
+-- the first hole that is large enough is so, as it was read
 pub is_large : (hs : List (ℕ × ℕ)) (i n : ℕ) (x : ℕ × ℕ) → FitsFirst hs n i → x ≡ get_or hs i x → n ≤ x.1
 is_large hs i n x f at = subst (λ (y : ℕ × ℕ). n ≤ y.1) (get_or_default hs i (0, 0) x f.in_bounds ∙ sym at) f.large
 

@@ -20,6 +20,7 @@ pub record IsWithout (ts : List (ℕ × ℕ)) (e : ℕ) : Type 0 where
   pub others : (a : ℕ) → IsIn ts a → Spans place size a ⊎ IsIn rest a
   pub kept : (a : ℕ) → IsIn rest a → IsIn ts a
 
+-- a range that has an address can be left out of the list
 without : (ts : List (ℕ × ℕ)) (e : ℕ) → IsIn ts e → IsWithout ts e
 without [] e i = absurd i
 without (t ∷ ts) e (inl i) = record { rest = ts; place = t.0; size = t.1; one_less = refl; has = i; of = λ a w. inl w; others = λ a w. w; kept = λ a w. inr w }
@@ -36,12 +37,14 @@ without (t ∷ ts) e (inr i) =
       kept = λ a u. elim u [ inl v ↦ inl v | inr v ↦ inr (w.kept a v) ];
     }
 
+-- holes that end at taken ranges end at those of a list that has the same addresses behind them
 edged_keep : (low : ℕ) (hs : List (ℕ × ℕ)) (high : ℕ) (ts us : List (ℕ × ℕ)) → IsRising low hs high → ((a : ℕ) → low ≤ a → IsIn ts a → IsIn us a) → IsEdged hs ts → IsEdged hs us
 edged_keep low [] high ts us s f e = tt
 edged_keep low (h ∷ []) high ts us s f e = tt
 edged_keep low (h ∷ k ∷ t) high ts us s f e =
     (f _ (omega arith) e.0, edged_keep (h.0 + h.1 + 1) (k ∷ t) high ts us s.3 (λ a le. f a (omega arith)) e.1)
 
+-- there is at most one hole more than there are taken ranges
 pub length_holes : (low : ℕ) (hs : List (ℕ × ℕ)) (high : ℕ) (ts : List (ℕ × ℕ)) → IsRising low hs high → ((a : ℕ) → IsIn hs a → IsIn ts a → ⊥) → IsEdged hs ts → length hs ≤ length ts + 1
 length_holes low [] high ts s sep e = omega arith
 length_holes low (h ∷ []) high ts s sep e = omega arith

@@ -13,11 +13,13 @@ record Parts (low : ℕ) (l : List (ℕ × ℕ)) (x : ℕ × ℕ) (r : List (ℕ
   fits : x.0 + x.1 ≤ high
   back : IsRising (x.0 + x.1 + 1) r high
 
+-- what rises around a range, from what rises as a whole
 parts : (low : ℕ) (l : List (ℕ × ℕ)) (x : ℕ × ℕ) (r : List (ℕ × ℕ)) (high : ℕ) → IsRising low (l ++ x ∷ r) high → Parts low l x r high
 parts low l x r high s =
     let b = rising_back low l (x ∷ r) high s in
     record { front = rising_front low l (x ∷ r) high s; below = b.0; not_empty = b.1; fits = b.2; back = b.3 }
 
+-- leaving out a hole takes all of its addresses
 pub cut_whole : (low : ℕ) (l : List (ℕ × ℕ)) (x : ℕ × ℕ) (r : List (ℕ × ℕ)) (high n : ℕ) → x.1 ≡ n → IsRising low (l ++ x ∷ r) high → IsCut low high (l ++ x ∷ r) (l ++ r) x.0 n
 cut_whole low l x r high n e s =
     let p = parts low l x r high s in
@@ -36,6 +38,7 @@ cut_whole low l x r high n e s =
       was_free = λ a w. in_join_right l (x ∷ r) a (inl (omega arith, omega arith));
     }
 
+-- making a hole shorter at its front takes its first addresses
 pub cut_front : (low : ℕ) (l : List (ℕ × ℕ)) (x : ℕ × ℕ) (r : List (ℕ × ℕ)) (high n : ℕ) → n < x.1 → IsRising low (l ++ x ∷ r) high → IsCut low high (l ++ x ∷ r) (l ++ (x.0 + n, x.1 - n) ∷ r) x.0 n
 cut_front low l x r high n less s =
     let p = parts low l x r high s in

@@ -13,6 +13,7 @@ use Rattle.acc_placement.proofs.Rising.{after, rising_front, rising_back, rising
 use Rattle.acc_placement.proofs.AtIndex.{split_at}
 use Rattle.acc_placement.proofs.Cutting.{fill_between, fill_onto}
 
+-- the least place after ranges is one behind the end of the last
 pub after-last : (low : ℕ) (l : List (ℕ × ℕ)) (x : ℕ × ℕ) → after low (l ++ x ∷ []) ≡ x.0 + x.1 + 1
 after-last low [] x = refl
 after-last low (h ∷ l) x = after-last (h.0 + h.1 + 1) l x
@@ -22,10 +23,12 @@ pub after_le : (from low : ℕ) (l : List (ℕ × ℕ)) (p : ℕ) → IsRising f
 after_le from low [] p s le = le
 after_le from low (h ∷ l) p s le = after_le (h.0 + h.1 + 1) (h.0 + h.1 + 1) l p s.3 (omega (arith, s.2))
 
+-- ranges that rise from one place and below another do both at once
 pub rising_both : (a b : ℕ) (t : List (ℕ × ℕ)) (high top : ℕ) → IsRising a t high → IsRising b t top → IsRising a t top
 rising_both a b [] high top s u = tt
 rising_both a b (h ∷ t) high top s u = (s.0, u.1, u.2, u.3)
 
+-- holes that begin below a place that is not free end at it or before
 pub below_place : (low : ℕ) (l : List (ℕ × ℕ)) (high p n : ℕ) → 0 < n → IsRising low l high → All (λ h. h.0 < p) l → ((a : ℕ) → Spans p n a → IsIn l a → ⊥) → IsRising low l p
 below_place low [] high p n pos s below not_free = tt
 below_place low (h ∷ l) high p n pos s below not_free =
@@ -33,6 +36,7 @@ below_place low (h ∷ l) high p n pos s below not_free =
     let e : h.0 + h.1 ≤ p = elim (cases_lt p (h.0 + h.1)) [ inl more ↦ absurd (not_free p (omega arith, omega arith) (inl (omega arith, more))) | inr less ↦ less ] in
     (s.0, s.1, e, below_place (h.0 + h.1 + 1) l high p n pos s.3 (λ k d lt. below (suc k) d (omega arith)) (λ a w i. not_free a w (inr i)))
 
+-- holes that begin at a range that is not free or behind begin behind its end
 pub above_place : (low : ℕ) (r : List (ℕ × ℕ)) (high p n : ℕ) → IsRising low r high → (0 < length r → p ≤ (get_or r 0 (0, 0)).0) → ((a : ℕ) → Spans p n a → IsIn r a → ⊥) → IsRising (p + n) r high
 above_place low [] high p n s head not_free = tt
 above_place low (x ∷ r) high p n s head not_free =
@@ -92,6 +96,7 @@ filled_after_absorbed low high hs mid new at p n s same ab f =
       ];
     }
 
+-- ranges that rise between two places have no more addresses than lie there
 pub total_le : (low : ℕ) (t : List (ℕ × ℕ)) (high : ℕ) → low ≤ high → IsRising low t high → low + total t ≤ high
 total_le low [] high le s = omega arith
 total_le low (h ∷ t) high le s = let r = total_le (h.0 + h.1) t high s.2 (rising_from (h.0 + h.1 + 1) (h.0 + h.1) t high (omega arith) s.3) in omega (arith, s.0)
@@ -101,6 +106,7 @@ pub record IsParted (hs : List (ℕ × ℕ)) (at p n top : ℕ) : Type 0 where
   pub before : IsRising 0 (take at hs) p
   pub behind : IsRising (p + n) (drop at hs) top
 
+-- a place among the holes parts them into those that end before and those that begin behind
 pub parted : (xs hs : List (ℕ × ℕ)) (at p n top : ℕ) → xs ≡ hs → 0 < n → All (λ h. h.0 < p) (take at xs) → (at < length xs → p ≤ (get_or xs at (0, 0)).0) → ((a : ℕ) → Spans p n a → IsIn hs a → ⊥) → IsRising 0 hs top → IsParted hs at p n top
 parted xs hs at p n top e pos below not_below not_free s =
     let b : All (λ (h : ℕ × ℕ). h.0 < p) (take at hs) = subst (λ (l : List (ℕ × ℕ)). All (λ (h : ℕ × ℕ). h.0 < p) (take at l)) e below in

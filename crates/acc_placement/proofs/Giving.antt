@@ -15,18 +15,22 @@ use Rattle.acc_placement.proofs.Counting.{IsEdged, length_holes}
 pub in_longer : (l r : List (ℕ × ℕ)) (x : ℕ × ℕ) (a : ℕ) → IsIn (l ++ r) a → IsIn (l ++ x ∷ r) a
 in_longer l r x a i = elim (in_parts l r a i) [ inl j ↦ in_join_left l (x ∷ r) a j | inr j ↦ in_join_right l (x ∷ r) a (inr j) ]
 
+-- an address in a list is in one of its ranges, or in the list without that
 pub in_shorter : (l r : List (ℕ × ℕ)) (x : ℕ × ℕ) (a : ℕ) → IsIn (l ++ x ∷ r) a → Spans x.0 x.1 a ⊎ IsIn (l ++ r) a
 in_shorter l r x a i = elim (in_parts l (x ∷ r) a i) [ inl j ↦ inr (in_join_left l r a j) | inr (inl j) ↦ inl j | inr (inr j) ↦ inr (in_join_right l r a j) ]
 
+-- a range shares no address with those before and behind it
 pub disjoint_middle : (l r : List (ℕ × ℕ)) (x : ℕ × ℕ) (a : ℕ) → IsDisjoint (l ++ x ∷ r) → Spans x.0 x.1 a → IsIn (l ++ r) a → ⊥
 disjoint_middle [] r x a d w i = d.0 a w i
 disjoint_middle (h ∷ l) r x a d w (inl i) = d.0 a i (in_join_right l (x ∷ r) a (inl w))
 disjoint_middle (h ∷ l) r x a d w (inr i) = disjoint_middle l r x a d.1 w i
 
+-- a list that shares no address shares none without one of its ranges
 pub disjoint_shorter : (l r : List (ℕ × ℕ)) (x : ℕ × ℕ) → IsDisjoint (l ++ x ∷ r) → IsDisjoint (l ++ r)
 disjoint_shorter [] r x d = d.1
 disjoint_shorter (h ∷ l) r x d = (λ a w i. d.0 a w (in_longer l r x a i), disjoint_shorter l r x d.1)
 
+-- each hole of a space ends at a taken range, or at the end of the space
 edged_of : (low : ℕ) (hs : List (ℕ × ℕ)) (high base top : ℕ) (ts : List (ℕ × ℕ)) → IsRising low hs high → ((a : ℕ) → IsIn hs a → (base ≤ a) × (a < top)) → ((a : ℕ) → low ≤ a → base ≤ a → a < top → IsIn hs a ⊎ IsIn ts a) → IsEdged hs ts
 edged_of low [] high base top ts s bounds cover = tt
 edged_of low (h ∷ []) high base top ts s bounds cover = tt
@@ -70,9 +74,11 @@ taken_limit r before after p n pos part =
     let b = part.within (p + n - 1) (in_join_right before ((p, n) ∷ after) (p + n - 1) (inl (omega arith, omega arith))) in
     omega arith
 
+-- an address of a taken range is in no hole
 pub taken_not_free : (r : Space) (before after : List (ℕ × ℕ)) (p n : ℕ) → IsPartition r (before ++ (p, n) ∷ after) → (a : ℕ) → Spans p n a → IsIn r.holes a → ⊥
 taken_not_free r before after p n part a w i = part.not_free a (in_join_right before ((p, n) ∷ after) a (inl w)) i
 
+-- where a range is taken, the number of taken ranges is not zero
 pub taken_count : (r : Space) (before after : List (ℕ × ℕ)) (p n : ℕ) → IsPartition r (before ++ (p, n) ∷ after) → 0 < r.taken
 taken_count r before after p n part = omega (arith, part.count, length-append before ((p, n) ∷ after))
 
@@ -108,6 +114,7 @@ taken_partition old new ts p n round s t part =
       ];
     }
 
+-- a range that was given back is left out of the list of the taken ones
 pub given_partition : (old new : Space) (before after : List (ℕ × ℕ)) (p n : ℕ) → IsGivenBack old new p n → IsPartition old (before ++ (p, n) ∷ after) → IsPartition new (before ++ after)
 given_partition old new before after p n g part =
     record {
@@ -134,6 +141,7 @@ pub record TellsTaken (r : Space) (p n : ℕ) : Type 0 where
   pub aligned : p % 16 ≡ 0
   pub room : (new : List (ℕ × ℕ)) (top : ℕ) → IsFilled 0 top r.holes new p n → length new ≤ r.taken
 
+-- what a taken range tells of the space
 pub tells_taken : (r : Space) (p n : ℕ) → 0 < n → IsCanonical r → IsTaken r p n → TellsTaken r p n
 tells_taken r p n pos s t =
     record {

@@ -13,19 +13,23 @@ use Rattle.acc_placement.specs.Changes.{IsBeside}
 use Rattle.acc_placement.proofs.Rising.{after, rising_back, fit_step, in_bounds}
 use Rattle.acc_placement.proofs.AtIndex.{split_at, hole_below}
 
+-- a place that is clear of each listed range is outside of all
 pub beside_all : (ts : List (ℕ × ℕ)) (n q : ℕ) → All (λ t. (q + n ≤ t.0) ⊎ (t.0 + rounded t.1 ≤ q)) ts → IsBeside ts n q
 beside_all [] n q out a w i = i
 beside_all (t ∷ ts) n q out a w (inl i) = elim (out 0 t (omega arith)) [ inl x ↦ omega arith | inr x ↦ omega arith ]
 beside_all (t ∷ ts) n q out a w (inr i) = beside_all ts n q (λ k d lt. out (suc k) d (omega arith)) a w i
 
+-- a length is at most its rounded one
 pub le-rounded : (n : ℕ) → n ≤ rounded n
 le-rounded n = omega arith
 
+-- an address of a listed range, rounded up, is in the ranges that are taken for the list
 in_rounded : (ts : List (ℕ × ℕ)) (k : ℕ) (t : ℕ × ℕ) (a : ℕ) → k < length ts → get_or ts k t ≡ t → Spans t.0 (rounded t.1) a → IsIn (all_rounded ts) a
 in_rounded [] k t a lt e w = absurd (omega arith)
 in_rounded (h ∷ ts) zero t a lt e w = inl (subst (λ (x : ℕ × ℕ). Spans x.0 (rounded x.1) a) (sym e) w)
 in_rounded (h ∷ ts) (suc k) t a lt e w = inr (in_rounded ts k t a (omega arith) e w)
 
+-- an address of the range at an index is in the list
 pub in_at : (ts : List (ℕ × ℕ)) (k : ℕ) (t : ℕ × ℕ) (a : ℕ) → k < length ts → get_or ts k t ≡ t → Spans t.0 t.1 a → IsIn ts a
 in_at [] k t a lt e w = absurd (omega arith)
 in_at (h ∷ ts) zero t a lt e w = inl (subst (λ (x : ℕ × ℕ). Spans x.0 x.1 a) (sym e) w)
@@ -59,6 +63,7 @@ tried low high hs i x ts n place pos lt is s small least so_far q f =
       | inr h ↦ h
     ])
 
+-- the place at which the walk along the holes stops is the least
 pub found : (low high : ℕ) (hs : List (ℕ × ℕ)) (i : ℕ) (x : ℕ × ℕ) (ts : List (ℕ × ℕ)) (n place : ℕ) → 0 < n → i < length hs → x ≡ get_or hs i x → IsRising low hs high → x.0 ≤ place → place + n ≤ x.0 + x.1 → IsBeside ts n place → ((q : ℕ) → x.0 ≤ q → IsBeside ts n q → place ≤ q) → ((q : ℕ) → IsFitBeside hs (all_rounded ts) n q → IsFit (drop i hs) n q) → IsLeastFitBeside hs (all_rounded ts) n place
 found low high hs i x ts n place pos lt is s ge fits outside least so_far =
     let split : hs ≡ take i hs ++ x ∷ drop (suc i) hs = split_at hs i x lt ∙ ap (λ (y : ℕ × ℕ). take i hs ++ y ∷ drop (suc i) hs) (sym is) in
@@ -73,6 +78,7 @@ found low high hs i x ts n place pos lt is s ge fits outside least so_far =
           ],
     )
 
+-- where the walk along the holes ends, there is no place
 pub none_left : (hs : List (ℕ × ℕ)) (i : ℕ) (ts : List (ℕ × ℕ)) (n : ℕ) → 0 < n → length hs ≤ i → ((q : ℕ) → IsFitBeside hs (all_rounded ts) n q → IsFit (drop i hs) n q) → (q : ℕ) → IsFitBeside hs (all_rounded ts) n q → ⊥
 none_left hs i ts n pos le so_far q f = subst (λ (l : List (ℕ × ℕ)). IsIn l q) (drop_all i hs le) (so_far q f q (omega arith, omega arith))
 

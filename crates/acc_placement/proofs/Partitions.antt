@@ -6,13 +6,13 @@ use Rattle.std.proofs.lemmas.List.Elements.{All-append, All-cons}
 use Rattle.acc_base.specs.Holes.{IsIn, IsDisjoint}
 use Rattle.acc_base.specs.Section.{Spans}
 use Rattle.acc_placement.specs.Ranges.{IsFit, IsAligned}
-use Rattle.acc_placement.specs.Space.{Space, IsCanonical, IsPartition, IsTaken, IsUnchanged}
+use Rattle.acc_placement.specs.Space.{Space, IsCanonical, IsPartition, IsTaken, IsSameSpace}
 use Rattle.acc_placement.proofs.Rising.{in_bounds, rising_disjoint, disjoint_join, in_join_left, in_join_right, in_parts, total-append}
 use Rattle.acc_placement.proofs.Alignment.{all_front, all_rest, all_middle, all_back}
 use Rattle.acc_placement.proofs.AtIndex.{split_at}
 
 -- the taken ranges of an unchanged space
-pub partition_unchanged : (old new : Space) (ts : List (ℕ × ℕ)) → IsUnchanged old new → IsPartition old ts → IsPartition new ts
+pub partition_unchanged : (old new : Space) (ts : List (ℕ × ℕ)) → IsSameSpace old new → IsPartition old ts → IsPartition new ts
 partition_unchanged old new ts u p =
     record {
       count = p.count ∙ sym u.taken;
@@ -29,9 +29,11 @@ in_moved : (l r : List (ℕ × ℕ)) (x : ℕ × ℕ) (a : ℕ) → IsIn (x ∷ 
 in_moved l r x a (inl w) = in_join_right l (x ∷ r) a (inl w)
 in_moved l r x a (inr i) = elim (in_parts l r a i) [ inl j ↦ in_join_left l (x ∷ r) a j | inr j ↦ in_join_right l (x ∷ r) a (inr j) ]
 
+-- an address that stands in a list stands in it with one range moved to the front
 in_front : (l r : List (ℕ × ℕ)) (x : ℕ × ℕ) (a : ℕ) → IsIn (l ++ x ∷ r) a → IsIn (x ∷ (l ++ r)) a
 in_front l r x a i = elim (in_parts l (x ∷ r) a i) [ inl j ↦ inr (in_join_left l r a j) | inr (inl w) ↦ inl w | inr (inr j) ↦ inr (in_join_right l r a j) ]
 
+-- a list that shares no address shares none with its first range moved
 disjoint_moved : (l r : List (ℕ × ℕ)) (x : ℕ × ℕ) → IsDisjoint (x ∷ (l ++ r)) → IsDisjoint (l ++ x ∷ r)
 disjoint_moved [] r x d = d
 disjoint_moved (h ∷ l) r x d = (
@@ -52,6 +54,7 @@ partition_moved r before after x p =
       covered = λ a w. elim (p.covered a w) [ inl h ↦ inl h | inr i ↦ inr (in_moved before after x a i) ];
     }
 
+-- a list is what stands before an index, the range that was read there, and what stands behind
 split : (ts : List (ℕ × ℕ)) (i : ℕ) (x : ℕ × ℕ) → x ≡ get_or ts i x → i < length ts → ts ≡ take i ts ++ x ∷ drop (suc i) ts
 split ts i x is lt = split_at ts i x lt ∙ ap (λ (y : ℕ × ℕ). take i ts ++ y ∷ drop (suc i) ts) (sym is)
 
@@ -72,10 +75,11 @@ taken_at r ts i x n is size lt p =
 pub partition_without : (old new : Space) (ts : List (ℕ × ℕ)) (i : ℕ) (x : ℕ × ℕ) (n : ℕ) → x ≡ get_or ts i x → n ≡ x.1 → i < length ts → IsPartition old ts → ((before after : List (ℕ × ℕ)) → IsPartition old (before ++ (x.0, n) ∷ after) → IsPartition new (before ++ after)) → IsPartition new (remove ts i)
 partition_without old new ts i x n is size lt p back = back (take i ts) (drop (suc i) ts) (rw size (subst (λ (l : List (ℕ × ℕ)). IsPartition old l) (split ts i x is lt) p))
 
--- addresses of the space that are in no taken range are free, and free addresses are such
+-- addresses of the space that are in no taken range are free
 pub fit_where_clear : (r : Space) (ts : List (ℕ × ℕ)) (n q : ℕ) → IsPartition r ts → ((a : ℕ) → Spans q n a → Spans r.base r.size a × ¬ IsIn ts a) → IsFit r.holes n q
 fit_where_clear r ts n q p clear a w = let c = clear a w in elim (p.covered a c.0) [ inl h ↦ h | inr i ↦ absurd (c.1 i) ]
 
+-- free addresses are in the space and in no taken range
 pub clear_where_fit : (r : Space) (ts : List (ℕ × ℕ)) (n q : ℕ) → IsCanonical r → IsPartition r ts → IsFit r.holes n q → (a : ℕ) → Spans q n a → Spans r.base r.size a × ¬ IsIn ts a
 clear_where_fit r ts n q s p fit a w = (in_bounds r.base r.holes (r.base + r.size) a s.rising (fit a w), λ i. p.not_free a i (fit a w))
 

@@ -9,50 +9,61 @@ abbrev pub after : ℕ → List (ℕ × ℕ) → ℕ
 after low [] = low
 after low (h ∷ t) = after (h.0 + h.1 + 1) t
 
+-- ranges that rise from a place rise from each lower one
 pub rising_from : (b a : ℕ) (t : List (ℕ × ℕ)) (high : ℕ) → a ≤ b → IsRising b t high → IsRising a t high
 rising_from b a [] high le s = tt
 rising_from b a (h ∷ t) high le s = (omega arith, s.1, s.2, s.3)
 
+-- an address of ranges that rise between two places lies between them
 pub in_bounds : (low : ℕ) (t : List (ℕ × ℕ)) (high a : ℕ) → IsRising low t high → IsIn t a → (low ≤ a) × (a < high)
 in_bounds low [] high a s i = absurd i
 in_bounds low (h ∷ t) high a s (inl i) = (omega arith, omega arith)
 in_bounds low (h ∷ t) high a s (inr i) = let r : (h.0 + h.1 + 1 ≤ a) × (a < high) = in_bounds (h.0 + h.1 + 1) t high a s.3 i in (omega arith, r.1)
 
+-- the least place after ranges is not before the place from which they rise
 pub low_le-after : (low : ℕ) (t : List (ℕ × ℕ)) (high : ℕ) → IsRising low t high → low ≤ after low t
 low_le-after low [] high s = omega arith
 low_le-after low (h ∷ t) high s = let r = low_le-after (h.0 + h.1 + 1) t high s.3 in omega arith
 
+-- an address of ranges that rise lies more than one before the least place after them
 pub before_after : (low : ℕ) (t : List (ℕ × ℕ)) (high a : ℕ) → IsRising low t high → IsIn t a → a + 1 < after low t
 before_after low [] high a s i = absurd i
 before_after low (h ∷ t) high a s (inl i) = let r = low_le-after (h.0 + h.1 + 1) t high s.3 in omega arith
 before_after low (h ∷ t) high a s (inr i) = before_after (h.0 + h.1 + 1) t high a s.3 i
 
+-- of ranges that rise the first ones do
 pub rising_front : (low : ℕ) (l r : List (ℕ × ℕ)) (high : ℕ) → IsRising low (l ++ r) high → IsRising low l high
 rising_front low [] r high s = tt
 rising_front low (h ∷ l) r high s = (s.0, s.1, s.2, rising_front (h.0 + h.1 + 1) l r high s.3)
 
+-- of ranges that rise the later ones do, from the least place after the first ones
 pub rising_back : (low : ℕ) (l r : List (ℕ × ℕ)) (high : ℕ) → IsRising low (l ++ r) high → IsRising (after low l) r high
 rising_back low [] r high s = s
 rising_back low (h ∷ l) r high s = rising_back (h.0 + h.1 + 1) l r high s.3
 
+-- ranges that rise, and others that rise from the least place after them, rise together
 pub rising_join : (low : ℕ) (l r : List (ℕ × ℕ)) (high : ℕ) → IsRising low l high → IsRising (after low l) r high → IsRising low (l ++ r) high
 rising_join low [] r high s u = u
 rising_join low (h ∷ l) r high s u = (s.0, s.1, s.2, rising_join (h.0 + h.1 + 1) l r high s.3 u)
 
+-- an address in the first of two lists is in both together
 pub in_join_left : (l r : List (ℕ × ℕ)) (a : ℕ) → IsIn l a → IsIn (l ++ r) a
 in_join_left [] r a i = absurd i
 in_join_left (h ∷ l) r a (inl i) = inl i
 in_join_left (h ∷ l) r a (inr i) = inr (in_join_left l r a i)
 
+-- an address in the second of two lists is in both together
 pub in_join_right : (l r : List (ℕ × ℕ)) (a : ℕ) → IsIn r a → IsIn (l ++ r) a
 in_join_right [] r a i = i
 in_join_right (h ∷ l) r a i = inr (in_join_right l r a i)
 
+-- an address in two lists together is in one of them
 pub in_parts : (l r : List (ℕ × ℕ)) (a : ℕ) → IsIn (l ++ r) a → IsIn l a ⊎ IsIn r a
 in_parts [] r a i = inr i
 in_parts (h ∷ l) r a (inl i) = inl (inl i)
 in_parts (h ∷ l) r a (inr i) = elim (in_parts l r a i) [ inl j ↦ inl (inr j) | inr j ↦ inr j ]
 
+-- the sizes of two lists add up
 pub total-append : (l r : List (ℕ × ℕ)) → total (l ++ r) ≡ total l + total r
 total-append [] r = omega arith
 total-append (h ∷ l) r = omega (arith, total-append l r)
@@ -92,6 +103,7 @@ fit_later low (h ∷ l) r high n q pos s small f = elim (fit_step low h (l ++ r)
   | inr g ↦ fit_later (h.0 + h.1 + 1) l r high n q pos s.3 (λ k d lt. small (suc k) d (omega arith)) g
 ]
 
+-- where all ranges are too small, nothing fits
 pub none_fits : (low : ℕ) (l : List (ℕ × ℕ)) (high n q : ℕ) → 0 < n → IsRising low l high → All (λ h. h.1 < n) l → IsFit l n q → ⊥
 none_fits low [] high n q pos s small f = f q (omega arith, omega arith)
 none_fits low (h ∷ l) high n q pos s small f = elim (fit_step low h l high n q pos s f) [
@@ -99,6 +111,7 @@ none_fits low (h ∷ l) high n q pos s small f = elim (fit_step low h l high n q
   | inr g ↦ none_fits (h.0 + h.1 + 1) l high n q pos s.3 (λ k d lt. small (suc k) d (omega arith)) g
 ]
 
+-- ranges that rise below a place rise below each higher one
 pub rising_to : (low : ℕ) (t : List (ℕ × ℕ)) (high top : ℕ) → high ≤ top → IsRising low t high → IsRising low t top
 rising_to low [] high top le s = tt
 rising_to low (h ∷ t) high top le s = (s.0, s.1, omega (arith, s.2), rising_to (h.0 + h.1 + 1) t high top le s.3)

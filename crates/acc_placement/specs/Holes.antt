@@ -4,6 +4,7 @@ use Rattle.acc_base.specs.Holes.{total}
 use Rattle.acc_placement.specs.Space.{Space, IsCanonical}
 use Rattle.acc_placement.specs.declared.placement.Holes.TheInside.{Inside}
 
+-- the space that the fields of `Holes` stand for
 abbrev pub space_of : Inside → Space
 space_of h = record {
   base = h.base;
@@ -13,6 +14,7 @@ space_of h = record {
   spare = vec_capacity h.holes - (h.taken + 1);
 }
 
+-- the holes are those of a space, the used bytes are the others, and there is room to give each taken range back
 pub record IsSound (h : Inside) : Type 0 where
   pub canonical : IsCanonical (space_of h)
   pub used : h.used + total h.holes.items ≡ h.size

@@ -5,6 +5,7 @@ use Rattle.acc_base.specs.Holes.{IsIn, IsRising, IsDisjoint, total}
 use Rattle.acc_base.specs.Section.{Spans}
 use Rattle.acc_placement.specs.Ranges.{IsAligned}
 
+-- where the space begins, its bytes, and what is taken of it
 pub record Space : Type 0 where
   pub base : ℕ
   pub size : ℕ
@@ -60,8 +61,8 @@ pub record IsGivenBack (old new : Space) (p n : ℕ) : Type 0 where
   pub free : (a : ℕ) → IsIn new.holes a → IsIn old.holes a ⊎ Spans p n a
   pub kept : (a : ℕ) → IsIn old.holes a ⊎ Spans p n a → IsIn new.holes a
 
--- the same space, but for its spare room
-pub record IsUnchanged (old new : Space) : Type 0 where
+-- the new space is the old one, but for its spare room
+pub record IsSameSpace (old new : Space) : Type 0 where
   pub base : new.base ≡ old.base
   pub size : new.size ≡ old.size
   pub holes : new.holes ≡ old.holes

@@ -5,7 +5,7 @@ ghost use Rattle.acc_base.specs.Limits.{IsSize, IsFromOne};
 ghost use Rattle.acc_base.specs.Blocks.{rounded as rounded_of};
 ghost use Rattle.acc_base.specs.Holes.{total};
 ghost use Rattle.acc_placement.specs.Ranges.{all_rounded, IsFit, IsLeastFit, IsFitBeside, IsLeastFitBeside, IsTakeBelow};
-ghost use Rattle.acc_placement.specs.Space.{IsCanonical, IsFresh, IsUnchanged, IsPartition, IsTaken, IsTakenFrom, IsGivenBack};
+ghost use Rattle.acc_placement.specs.Space.{IsCanonical, IsFresh, IsSameSpace, IsPartition, IsTaken, IsTakenFrom, IsGivenBack};
 
 use crate::beside::past;
 use crate::lists::{cut, fill, first_fit};
@@ -88,7 +88,7 @@ impl Holes {
         // Each error, and what it leaves.
         ensures full { (result ≡ Err (Fault.DeviceFull 0 (rounded_of need))) ↔ ((q : ℕ) → IsFit self.old.holes (rounded_of need) q → ⊥) }
         ensures only { IfErr result (λ fault. (fault ≡ Fault.Memory) ⊎ (fault ≡ Fault.DeviceFull 0 (rounded_of need))) }
-        ensures unchanged { OnErr result (IsUnchanged self.old self.new) }
+        ensures unchanged { OnErr result (IsSameSpace self.old self.new) }
         ensures memory { result ≡ Err Fault.Memory → self.old.spare ≡ 0 }
         ensures spare { self.old.spare ≤ self.new.spare + 1 }
         ensures spare_kept { OnErr result (self.old.spare ≤ self.new.spare) }
@@ -124,7 +124,7 @@ impl Holes {
     pub fn reserve(&mut self, count: u64) -> Result<(), Fault>
         requires limit { count ≤ 2 ^ 32 }
         ensures ok { OnOk result (count ≤ self.new.spare) }
-        ensures unchanged { IsUnchanged self.old self.new }
+        ensures unchanged { IsSameSpace self.old self.new }
         ensures canonical { IsCanonical self.new }
         ensures spare { self.old.spare ≤ self.new.spare }
         ensures only { IfErr result (λ fault. fault ≡ Fault.Memory) }

@@ -17,33 +17,40 @@ use Rattle.acc_script.specs.Layout.{Layout, array_of, whole, part_of}
 use Rattle.acc_script.specs.Places.{known, known_at, part_at, section_at}
 use Rattle.acc_script.specs.Grammar.{Grammar}
 use Rattle.acc_script.specs.Clauses.{item_of, items_at, some_clause, modifier_at, modified_at, group_at, ClausesRead, listed, passed_over, clause_at, with_clause, clauses_at}
-use Rattle.acc_script.proofs.Turns.{after_section, after_clause}
+use Rattle.acc_script.proofs.HeldClauses.{after_section, after_clause}
 
 -- ---- a reading that went well, as its steps
 
+-- a reading of two steps that went well, as its steps
 bind_is : {A B : Type 0} (read : Result A ScriptFault) (f : A → Result B ScriptFault) (y : B) → (read >>= f) ≡ Ok y → (x : A) × (read ≡ Ok x) × (f x ≡ Ok y)
 bind_is (Ok x) f y e = (x, refl, e)
 bind_is (Err kind) f y e = absurd cc
 
+-- a choice between a fault and a value that gave a value, faults first
 then_ok : {A : Type 0} (b : Bool) (kind : ScriptFault) (x y : A) → cond b (Err kind) (Ok x) ≡ Ok y → (b ≡ false) × (x ≡ y)
 then_ok true kind x y e = absurd cc
 then_ok false kind x y e = (refl, cc)
 
+-- a choice between a value and a fault that gave a value
 else_ok : {A : Type 0} (b : Bool) (kind : ScriptFault) (x y : A) → cond b (Ok x) (Err kind) ≡ Ok y → x ≡ y
 else_ok true kind x y e = cc
 else_ok false kind x y e = absurd cc
 
+-- a reading that went well
 abbrev read_ok : {A : Type 0} → A → List ℕ → Result (A × List ℕ) ScriptFault
 read_ok x rest = Ok (x, rest)
 
+-- readings that are the same leave texts of the same length
 rest_len : {A : Type 0} (x : A) (rest : List ℕ) (y : A × List ℕ) → read_ok x rest ≡ Ok y → length rest ≡ length y.1
 rest_len {A} x rest y e = let same : (x, rest) ≡ y = cc in ap (λ (z : A × List ℕ). length z.1) same
 
 -- ---- how much of the text each reading leaves
 
+-- skipping blanks makes no text longer
 skipped_le : (text : List ℕ) → length (skip_blanks text) ≤ length text
 skipped_le text = omega (arith, length-drop (prefix_len is_blank text) text)
 
+-- reading a word takes a byte at least
 word_shorter : (text : List ℕ) (word : List ℕ × List ℕ) → word_at text ≡ Ok word → length word.1 < length text
 unfolding word_at
 word_shorter text word e =
@@ -53,6 +60,7 @@ word_shorter text word e =
     let rest : drop (word_len token) token ≡ word.1 = ap (λ (w : List ℕ × List ℕ). w.1) parts.1 in
     subst (λ (xs : List ℕ). length xs < length text) rest (omega (arith, some, length-drop (word_len token) token, skipped_le text, prefix_len-le-length is_word_byte token))
 
+-- reading a name takes a byte at least
 name_shorter : (text : List ℕ) (name : List ℕ × List ℕ) → name_at text ≡ Ok name → length name.1 < length text
 unfolding name_at
 name_shorter text name e =
@@ -60,6 +68,7 @@ name_shorter text name e =
     let same : steps.0 ≡ name = else_ok (is_name steps.0.0) Syntax steps.0 name steps.2 in
     subst (λ (w : List ℕ × List ℕ). length w.1 < length text) same (word_shorter text steps.0 steps.1)
 
+-- reading a number takes a byte at least
 number_shorter : (limit : ℕ) (text : List ℕ) (number : ℕ × List ℕ) → number_at limit text ≡ Ok number → length number.1 < length text
 unfolding number_at
 number_shorter limit text number e =
@@ -68,12 +77,14 @@ number_shorter limit text number e =
     let same : (value.0, word.0.1) ≡ number = cc in
     subst (λ (n : ℕ × List ℕ). length n.1 < length text) same (word_shorter text word.0 word.1)
 
+-- reading a mark makes no text longer
 mark_shorter : (mark : ℕ) (text rest : List ℕ) → mark_at mark text ≡ Ok rest → length rest ≤ length text
 unfolding mark_at
 mark_shorter mark text rest e =
     let same : drop 1 (skip_blanks text) ≡ rest = else_ok (is_mark_next mark text) Syntax (drop 1 (skip_blanks text)) rest e in
     subst (λ (xs : List ℕ). length xs ≤ length text) same (omega (arith, length-drop 1 (skip_blanks text), skipped_le text))
 
+-- skipping a comma makes no text longer
 comma_le : (text : List ℕ) → length (skip_comma text) ≤ length text
 comma_le text = by (is_mark_next comma text)
   where
@@ -81,16 +92,19 @@ comma_le text = by (is_mark_next comma text)
     by true = omega (arith, length-drop 1 (skip_blanks text), skipped_le text)
     by false = omega arith
 
+-- a known array leaves the text after its name
 known_is : (o : Option Array) (rest : List ℕ) (array : Array × List ℕ) → known o rest ≡ Ok array → rest ≡ array.1
 known_is None rest array e = absurd cc
 known_is (Some a) rest array e = let same : (a, rest) ≡ array = cc in ap (λ (x : Array × List ℕ). x.1) same
 
+-- reading the name of an array takes a byte at least
 known_shorter : (layout : Layout) (text : List ℕ) (array : Array × List ℕ) → known_at layout text ≡ Ok array → length array.1 < length text
 unfolding known_at
 known_shorter layout text array e =
     let name = bind_is (name_at text) (λ name. known (array_of name.0 layout) name.1) array e in
     subst (λ (xs : List ℕ). length xs < length text) (known_is (array_of name.0.0 layout) name.0.1 array name.2) (name_shorter text name.0 name.1)
 
+-- reading a part of an array makes no text longer
 part_shorter : (array : Array) (text : List ℕ) (part : Section × List ℕ) → part_at array text ≡ Ok part → length part.1 ≤ length text
 unfolding part_at
 part_shorter array text part e =
@@ -101,6 +115,7 @@ part_shorter array text part e =
     let close = bind_is (mark_at right_bracket len.0.1) (λ close. Ok (part_of array from.0.0 len.0.0, close)) part len.2 in
     omega (arith, rest_len (part_of array from.0.0 len.0.0) close.0 part close.2, mark_shorter left_bracket text bracket.0 bracket.1, number_shorter number_limit bracket.0 from.0 from.1, mark_shorter colon from.0.1 between.0 between.1, number_shorter number_limit between.0 len.0 len.1, mark_shorter right_bracket len.0.1 close.0 close.1)
 
+-- reading a section takes a byte at least
 section_shorter : (layout : Layout) (text : List ℕ) (section : Section × List ℕ) → section_at layout text ≡ Ok section → length section.1 < length text
 unfolding section_at
 section_shorter layout text section e =
@@ -124,6 +139,7 @@ module _ {C : Type 0} where
   abbrev ItemsAgree : ℕ → C → Layout → Type 0
   ItemsAgree n clause layout = (before : List (Item C)) (text : List ℕ) → length text ≤ n → items_at n clause layout before text ≡ items_at (suc n) clause layout before text
 
+  -- one more turn of fuel changes no reading of items
   items_one_more : (n : ℕ) (clause : C) (layout : Layout) → ItemsAgree n clause layout
   unfolding items_at
   items_one_more zero clause layout before text le =
@@ -148,6 +164,7 @@ module _ {C : Type 0} where
       let e : length text + suc more ≡ suc (length text + more) = omega arith in
       rw e (sym (items_one_more (length text + more) clause layout before text (omega arith)) ∙ items_enough more clause layout before text)
 
+  -- reading items makes no text longer
   items_le : (n : ℕ) (clause : C) (layout : Layout) (before : List (Item C)) (text : List ℕ) (items : List (Item C) × List ℕ) → items_at n clause layout before text ≡ Ok items → length items.1 ≤ length text
   unfolding items_at
   items_le zero clause layout before text items e = absurd cc
@@ -162,10 +179,12 @@ module _ {C : Type 0} where
 
   -- ---- clauses
 
+  -- a clause that is one leaves the text as it is
   some_clause_is : (o : Option C) (rest : List ℕ) (clause : C × List ℕ) → some_clause o rest ≡ Ok clause → rest ≡ clause.1
   some_clause_is None rest clause e = absurd cc
   some_clause_is (Some c) rest clause e = let same : (c, rest) ≡ clause = cc in ap (λ (x : C × List ℕ). x.1) same
 
+  -- reading a modifier makes no text longer
   modifier_le : (grammar : Grammar C) (clause : C) (text : List ℕ) (modified : C × List ℕ) → modifier_at grammar clause text ≡ Ok modified → length modified.1 ≤ length text
   unfolding modifier_at
   modifier_le grammar clause text modified e =
@@ -174,6 +193,7 @@ module _ {C : Type 0} where
       let same = some_clause_is (grammar.modified clause word.0.0) between.0 modified between.2 in
       subst (λ (xs : List ℕ). length xs ≤ length text) same (omega (arith, word_shorter text word.0 word.1, mark_shorter colon word.0.1 between.0 between.1))
 
+  -- reading a clause with its modifier, if it has one, makes no text longer
   modified_le : (grammar : Grammar C) (clause : C) (text : List ℕ) (modified : C × List ℕ) → modified_at grammar clause text ≡ Ok modified → length modified.1 ≤ length text
   unfolding modified_at
   modified_le grammar clause text modified e = by (is_word_before colon text) e
@@ -182,6 +202,7 @@ module _ {C : Type 0} where
       by true h = modifier_le grammar clause text modified h
       by false h = let same : (clause, text) ≡ modified = cc in subst (λ (x : C × List ℕ). length x.1 ≤ length text) same (omega arith)
 
+  -- reading the items of a clause in parentheses makes no text longer
   group_le : (grammar : Grammar C) (clause : C) (layout : Layout) (before : List (Item C)) (text : List ℕ) (items : List (Item C) × List ℕ) → group_at grammar clause layout before text ≡ Ok items → length items.1 ≤ length text
   unfolding group_at
   group_le grammar clause layout before text items e =
@@ -191,6 +212,7 @@ module _ {C : Type 0} where
       let close = bind_is (mark_at right_parenthesis group.0.1) (λ close. Ok (group.0.0, close)) items group.2 in
       omega (arith, rest_len group.0.0 close.0 items close.2, mark_shorter left_parenthesis text inside.0 inside.1, modified_le grammar clause inside.0 modified.0 modified.1, items_le (length modified.0.1) modified.0.0 layout before modified.0.1 group.0 group.1, mark_shorter right_parenthesis group.0.1 close.0 close.1)
 
+  -- reading a clause of a word makes no text longer
   listed_le : (o : Option C) (grammar : Grammar C) (layout : Layout) (before : ClausesRead C) (text : List ℕ) (read : ClausesRead C × List ℕ) → listed o grammar layout before text ≡ Ok read → length read.1 ≤ length text
   listed_le None grammar layout before text read e = absurd cc
   listed_le (Some clause) grammar layout before text read e =
@@ -198,11 +220,13 @@ module _ {C : Type 0} where
       let same : (record { items = items.0.0; if_present = before.if_present }, items.0.1) ≡ read = cc in
       subst (λ (x : ClausesRead C × List ℕ). length x.1 ≤ length text) same (group_le grammar clause layout before.items text items.0 items.1)
 
+  -- reading an option makes no text longer
   passed_le : (before : ClausesRead C) (text : List ℕ) (read : ClausesRead C × List ℕ) → passed_over before text ≡ Ok read → length read.1 ≤ length text
   passed_le before text read e =
       let parts = then_ok before.if_present Syntax (record { items = before.items; if_present = true }, text) read e in
       subst (λ (x : ClausesRead C × List ℕ). length x.1 ≤ length text) parts.1 (omega arith)
 
+  -- reading a clause or an option takes a byte at least
   clause_shorter : (grammar : Grammar C) (layout : Layout) (before : ClausesRead C) (text : List ℕ) (read : ClausesRead C × List ℕ) → clause_at grammar layout before text ≡ Ok read → length read.1 < length text
   unfolding clause_at
   clause_shorter grammar layout before text read e =
@@ -218,9 +242,11 @@ module _ {C : Type 0} where
   unfolding clause_at word_at
   no_clause grammar layout before = refl
 
+  -- one more turn of fuel changes no reading of clauses of a text within a length
   abbrev ClausesAgree : ℕ → Grammar C → Layout → Type 0
   ClausesAgree n grammar layout = (before : ClausesRead C) (text : List ℕ) → length text ≤ n → clauses_at n grammar layout before text ≡ clauses_at (suc n) grammar layout before text
 
+  -- clauses are read the same with one more turn of fuel
   clauses_one_more : (n : ℕ) (grammar : Grammar C) (layout : Layout) → ClausesAgree n grammar layout
   unfolding clauses_at
   clauses_one_more zero grammar layout before text le =

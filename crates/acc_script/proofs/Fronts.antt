@@ -7,6 +7,7 @@ use Rattle.std.proofs.Math.Seq.{drop-cons}
 use Rattle.acc_script.specs.Told.{Taken, Took, TookFront, one_more}
 use Rattle.acc_script.specs.Ends.{Wrote}
 
+-- a sink took one text, failed in the next, and others follow
 pub Took-then_front : (a b c : Option Taken) (xs ys more : List ℕ) → Took a b xs → TookFront b c ys → TookFront a c (xs ++ (ys ++ more))
 Took-then_front None b c xs ys more p q = tt
 Took-then_front (Some a) None c xs ys more p q = absurd p
@@ -19,6 +20,7 @@ Took-then_front (Some a) (Some b) (Some c) xs ys more p q = (
   q.4 ∙ ap one_more p.1,
 )
 
+-- a sink took some pieces and failed in the next
 pub front_of_pieces : {X : Type 0} (f : X → List ℕ) (a b c : Option Taken) (pieces : List X) (i : ℕ) (d : X) → i < length pieces → Took a b (flat_map f (take i pieces)) → TookFront b c (f (get_or pieces i d)) → TookFront a c (flat_map f pieces)
 front_of_pieces {X} f a b c pieces i d lt p q =
     let tail : flat_map f (drop i pieces) ≡ f (get_or pieces i d) ++ flat_map f (drop (suc i) pieces) = ap (flat_map f) (drop-cons pieces i d lt) ∙ flat_map-cons f (get_or pieces i d) (drop (suc i) pieces) in
@@ -26,17 +28,20 @@ front_of_pieces {X} f a b c pieces i d lt p q =
     ap (flat_map f) (sym (take-append-drop i pieces)) ∙ flat_map-append f (take i pieces) (drop i pieces) ∙ ap (λ (z : List ℕ). flat_map f (take i pieces) ++ z) tail in
     rw whole (Took-then_front a b c (flat_map f (take i pieces)) (f (get_or pieces i d)) (flat_map f (drop (suc i) pieces)) p q)
 
+-- a sink took one text, and then another
 pub Took_then : (a b c : Option Taken) (xs ys : List ℕ) → Took a b xs → Took b c ys → Took a c (xs ++ ys)
 Took_then None b c xs ys p q = tt
 Took_then (Some a) None c xs ys p q = absurd p
 Took_then (Some a) (Some b) None xs ys p q = absurd q
 Took_then (Some a) (Some b) (Some c) xs ys p q = (q.0 ∙ ap (λ (x : List ℕ). x ++ ys) p.0 ∙ append_assoc a.bytes xs ys, q.1 ∙ p.1)
 
+-- a front of a text is one of the text with more behind it
 pub front_more : (a b : Option Taken) (xs ys : List ℕ) → TookFront a b xs → TookFront a b (xs ++ ys)
 front_more None b xs ys p = tt
 front_more (Some a) None xs ys p = absurd p
 front_more (Some a) (Some b) xs ys p = (p.0, p.1 ++ ys, ap (λ (z : List ℕ). z ++ ys) p.2 ∙ append_assoc p.0 p.1 ys, p.3, p.4)
 
+-- a sink took one text and failed in the next
 pub front_then : (a b c : Option Taken) (xs ys : List ℕ) → Took a b xs → TookFront b c ys → TookFront a c (xs ++ ys)
 front_then None b c xs ys p q = tt
 front_then (Some a) None c xs ys p q = absurd p
@@ -54,6 +59,7 @@ pub wrote_then : (a b c : Option Taken) (xs ys : List ℕ) (done : Bool) → Too
 wrote_then a b c xs ys true p q = Took_then a b c xs ys p q
 wrote_then a b c xs ys false p q = front_then a b c xs ys p q
 
+-- a sink took no bytes
 pub took_nothing : (a : Option Taken) → Took a a []
 took_nothing None = tt
 took_nothing (Some a) = (sym (append-nil a.bytes), refl)

@@ -4,7 +4,11 @@ pub mod Rejoins
 pub mod Fronts
 pub mod Numbers
 pub mod Pieces
-pub mod Turns
+pub mod HeldClauses
+pub mod Accepted
+pub mod ClauseEnds
+pub mod CheckedClauses
+pub mod ByteWords
 pub mod NameEntries
 pub mod Digits
 pub mod Parts

@@ -1,26 +1,31 @@
 -- One more line of a script.
-use Rattle.std.proofs.Common.{◌≡◌, ℕ, ◌+◌, Bool, List, [], ◌∷◌, ◌++◌, length, take, drop, Option, Result, Ok, Err, refl, sym, ap, subst, ◌∙◌}
+use Rattle.std.proofs.Common.{◌≡◌, ℕ, ◌+◌, Bool, true, false, List, [], ◌∷◌, ◌++◌, length, get_or, take, drop, Option, Result, Ok, Err, refl, sym, ap, subst, ◌∙◌, inr, arith}
 use Rattle.std.specs.Prelude.{◌||◌}
 use Rattle.std.specs.List.{concat}
-use Rattle.std.proofs.lemmas.List.{append-nil, take-append-drop, drop-drop, nil_from_length}
+use Rattle.std.proofs.lemmas.List.{append-nil, take-append-drop, drop-drop, nil_from_length, get_or-drop}
 use Rattle.std.proofs.lemmas.List.Folds.{concat-append}
 use Rattle.std.proofs.Math.Seq.{take-add}
 use Rattle.acc_base.specs.declared.faults.Fault.{Fault}
 use Rattle.acc_base.specs.declared.faults.Fault.TheVariants.{Memory, Script, Write}
 use Rattle.acc_base.specs.declared.faults.ScriptFault.{ScriptFault}
-use Rattle.acc_script.specs.declared.effects.Effect.{Effect}
+use Rattle.acc_script.specs.declared.print.effects.Effect.{Effect}
 use Rattle.acc_script.specs.Told.{Taken, Took, TookFront}
 use Rattle.acc_script.specs.Lines.{lines_of}
-use Rattle.acc_script.specs.Statements.{Meaning, line_at}
-use Rattle.acc_script.specs.Scripts.{State, Turned, turned, is_refused, line_turned, line_text, Transcript, Ended, Faulty, noted, transcript_from}
+use Rattle.acc_script.specs.Reading.{◌>>=◌, wants}
+use Rattle.acc_script.specs.Statements.{Meaning, Declare, Direct, takes_memory, line_at}
+use Rattle.acc_script.specs.Statements.{Write as WriteBytes}
+use Rattle.acc_script.specs.Sessions.{MayWant}
+use Rattle.acc_script.specs.Scripts.{State, Turned, turned, is_refused, line_turned, line_wants, line_text, Transcript, Ended, Faulty, noted, transcript_from}
 use Rattle.acc_script.specs.Runs.{RanLine, LostLine, LineRuns, Played}
 use Rattle.acc_script.proofs.Fronts.{Took_then, Took-then_front}
 
 -- ---- a line
 
+-- a line that was run
 abbrev some_turn : Turned → Result Turned ScriptFault
 some_turn turn = Ok turn
 
+-- a line that says a statement is run as the statement is
 turn_is : (s : State) (line : List ℕ) (meaning : Meaning) (turn : Turned) → line_at s.layout line ≡ Ok meaning → turned s meaning ≡ turn → line_turned s line ≡ Ok turn
 unfolding line_turned
 turn_is s line meaning turn said is = rw said (ap some_turn is)
@@ -32,17 +37,38 @@ pub line_ran : (number : ℕ) (s after : State) (line : List ℕ) (old new : Opt
 line_ran number s after line old new meaning effect refused said is refused_is wrote =
     record { turn = record { state = after; effect = effect }; is = turn_is s line meaning _ said is; state = refl; refused_is = refused_is; wrote = wrote }
 
+-- a line that was run and whose text could not be written
 pub line_lost : (number : ℕ) (s after : State) (line : List ℕ) (old new : Option Taken) (meaning : Meaning) (effect : Effect)
     → line_at s.layout line ≡ Ok meaning → turned s meaning ≡ record { state = after; effect = effect } → TookFront old new (line_text number (record { state = after; effect = effect }))
     → LostLine number s line old new
 line_lost number s after line old new meaning effect said is wrote = record { turn = record { state = after; effect = effect }; is = turn_is s line meaning _ said is; wrote = wrote }
 
+-- a line that was read and could not be run, since there was no memory for it
+pub line_wanted : (number : ℕ) (s after left : State) (line : List ℕ) (old : Option Taken) (meaning : Meaning) (fault : Fault) → line_at s.layout line ≡ Ok meaning → (fault ≡ Memory) × MayWant s meaning × (left ≡ s) → LineRuns number s line old old after (Err fault)
+line_wanted number s after left line old meaning fault said h = rw (h.0, said) (takes meaning h.1, refl)
+  where
+    takes : (m : Meaning) → MayWant s m → takes_memory m ≡ true
+    takes (Declare name array) k = refl
+    takes (Direct directive) k = refl
+    takes (WriteBytes addr bytes) k = refl
+    takes _ k = absurd k
+
+-- a line that takes memory is one that is run
+wanting_runs : (s : State) (line : List ℕ) → line_wants s line ≡ true → (turn : Turned) × (line_turned s line ≡ Ok turn)
+unfolding line_turned
+wanting_runs s line h = by (line_at s.layout line) h
+  where
+    by : (r : Result Meaning ScriptFault) → wants takes_memory r ≡ true → (turn : Turned) × ((r >>= (λ meaning. Ok (turned s meaning))) ≡ Ok turn)
+    by (Ok meaning) k = (turned s meaning, refl)
+    by (Err kind) k = absurd cc
+
 -- ---- all lines
 
 -- the transcript without the text of the first lines
 abbrev pub rest_of : ℕ → Transcript → Transcript
-rest_of done all = record { texts = drop done all.texts; ending = all.ending }
+rest_of done all = record { texts = drop done all.texts; wanting = drop done all.wanting; ending = all.ending }
 
+-- the texts of the lines so far are all texts where none is left
 all_texts : (done : ℕ) (all : Transcript) → drop done all.texts ≡ [] → take done all.texts ≡ all.texts
 all_texts done all none = sym (append-nil (take done all.texts)) ∙ ap (λ (texts : List (List ℕ)). take done all.texts ++ texts) (sym none) ∙ take-append-drop done all.texts
 
@@ -51,7 +77,7 @@ module _ (done : ℕ) (s : State) (refused : Bool) (lines : List (List ℕ)) (al
   pub ends_well : (a b : Option Taken) → lines ≡ [] → Took a b (concat (take done all.texts)) → (all.ending ≡ Ended refused) × Took a b (concat all.texts)
   ends_well a b none wrote =
       let P : List (List ℕ) → Type 0 = λ ls. transcript_from (done + 1) s refused ls ≡ rest_of done all in
-      let now : record { texts = []; ending = Ended refused } ≡ rest_of done all = subst P none left in
+      let now : record { texts = []; wanting = []; ending = Ended refused } ≡ rest_of done all = subst P none left in
       (sym (ap (λ (t : Transcript). t.ending) now), subst (λ (texts : List (List ℕ)). Took a b (concat texts)) (all_texts done all (sym (ap (λ (t : Transcript). t.texts) now))) wrote)
 
   module _ (line : List ℕ) (others : List (List ℕ)) (first : lines ≡ line ∷ others) where
@@ -59,15 +85,17 @@ module _ (done : ℕ) (s : State) (refused : Bool) (lines : List (List ℕ)) (al
     abbrev after_line : Turned → Transcript
     after_line turn = transcript_from (done + 1 + 1) turn.state (refused || is_refused turn.effect) others
 
-    left_is : (r : Result Turned ScriptFault) → line_turned s line ≡ r → noted (done + 1) r after_line ≡ rest_of done all
+    left_is : (r : Result Turned ScriptFault) → line_turned s line ≡ r → noted (done + 1) (line_wants s line) r after_line ≡ rest_of done all
     left_is r is =
-        let P : Result Turned ScriptFault → Type 0 = λ r. noted (done + 1) r after_line ≡ rest_of done all in
+        let P : Result Turned ScriptFault → Type 0 = λ r. noted (done + 1) (line_wants s line) r after_line ≡ rest_of done all in
         let Q : List (List ℕ) → Type 0 = λ ls. transcript_from (done + 1) s refused ls ≡ rest_of done all in
         subst P is (subst Q first left)
 
     pub left_more : (turn : Turned) → line_turned s line ≡ Ok turn → after_line turn ≡ rest_of (done + 1) all
     left_more turn is =
-        ap (λ (t : Transcript). rest_of 1 t) (left_is (Ok turn) is) ∙ ap (λ (texts : List (List ℕ)). record { texts = texts; ending = all.ending }) (drop-drop 1 done all.texts)
+        ap (λ (t : Transcript). rest_of 1 t) (left_is (Ok turn) is)
+        ∙ ap (λ (texts : List (List ℕ)). record { texts = texts; wanting = drop 1 (drop done all.wanting); ending = all.ending }) (drop-drop 1 done all.texts)
+        ∙ ap (λ (wanting : List Bool). record { texts = drop (done + 1) all.texts; wanting = wanting; ending = all.ending }) (drop-drop 1 done all.wanting)
 
     texts_more : (turn : Turned) → line_turned s line ≡ Ok turn → take (done + 1) all.texts ≡ take done all.texts ++ line_text (done + 1) turn ∷ []
     texts_more turn is = take-add done 1 all.texts ∙ ap (λ (t : Transcript). take done all.texts ++ take 1 t.texts) (sym (left_is (Ok turn) is))
@@ -91,18 +119,27 @@ module _ (done : ℕ) (s : State) (refused : Bool) (lines : List (List ℕ)) (al
     -- the line is at fault
     ends_faulty : (a b : Option Taken) (kind : ScriptFault) → line_turned s line ≡ Err kind → Took a b (concat (take done all.texts)) → (all.ending ≡ Faulty (done + 1) kind) × Took a b (concat all.texts)
     ends_faulty a b kind is wrote =
-        let now : record { texts = []; ending = Faulty (done + 1) kind } ≡ rest_of done all = left_is (Err kind) is in
+        let now : record { texts = []; wanting = []; ending = Faulty (done + 1) kind } ≡ rest_of done all = left_is (Err kind) is in
         (sym (ap (λ (t : Transcript). t.ending) now), subst (λ (texts : List (List ℕ)). Took a b (concat texts)) (all_texts done all (sym (ap (λ (t : Transcript). t.texts) now))) wrote)
+
+    -- the transcript tells of the line whether it takes memory
+    tells_wanting : (turn : Turned) → line_turned s line ≡ Ok turn → line_wants s line ≡ true → get_or all.wanting done false ≡ true
+    tells_wanting turn is wants =
+        let here : done ≡ done + 0 = omega arith in
+        ap (λ (n : ℕ). get_or all.wanting n false) here ∙ sym (get_or-drop done all.wanting 0 false) ∙ ap (λ (t : Transcript). get_or t.wanting 0 false) (sym (left_is (Ok turn) is)) ∙ wants
 
     -- a line that ends the run
     pub line_fails : (a b c : Option Taken) (after : State) (e : Fault) → Took a b (concat (take done all.texts)) → LineRuns (done + 1) s line b c after (Err e) → Played all a c (Err e)
-    line_fails a b c after Memory p f = (done, subst (λ (x : Option Taken). Took a x (concat (take done all.texts))) (sym f) p)
+    line_fails a b c after Memory p f =
+        let ran = wanting_runs s line f.0 in
+        inr (done, tells_wanting ran.0 ran.1 f.0, subst (λ (x : Option Taken). Took a x (concat (take done all.texts))) (sym f.1) p)
     line_fails a b c after (Script at kind) p f =
         let ended = ends_faulty a b kind f.1 p in
         (rw f.0 ended.0, subst (λ (x : Option Taken). Took a x (concat all.texts)) (sym f.2) ended.1)
     line_fails a b c after Write p f = lost_text a b c f.turn f.is p f.wrote
     line_fails a b c after _ p f = absurd f
 
+-- an empty input has no line
 pub lines_none : (rest : List ℕ) → length rest ≡ 0 → lines_of rest ≡ []
 unfolding lines_of
 lines_none rest e = ap lines_of (nil_from_length rest e)

@@ -13,12 +13,15 @@ use Rattle.std.specs.Map.{lookup}
 use Rattle.acc_script.specs.declared.arrays.Array.{Array}
 use Rattle.acc_script.specs.Naming.{entry_of, names_of}
 
+-- the order of names
 abbrev by_name : List ℕ → List ℕ → Ordering
 by_name = slice_cmp nat_cmp
 
+-- the order of names as they lie in memory
 abbrev by_vec : Vec ℕ → Vec ℕ → Ordering
 by_vec k q = by_name k.items q.items
 
+-- a look-up in entries, by a name
 find_entry : (name : List ℕ) (entries : List (Vec ℕ × Array)) → find by_name name (map entry_of entries) ≡ lookup (is_at (λ q. by_name name q.items)) entries
 find_entry name [] = refl
 find_entry name (e ∷ entries) = ap (cond (eq_by_cmp by_name name e.0.items) (Some e.1)) (find_entry name entries)
@@ -27,6 +30,7 @@ find_entry name (e ∷ entries) = ap (cond (eq_by_cmp by_name name e.0.items) (S
 pub get-names_of : (name : List ℕ) (entries : List (Vec ℕ × Array)) → get (names_of entries) name ≡ lookup (is_at (λ q. by_name name q.items)) entries
 get-names_of name entries = get-from_entries nat_list_cmp_total (map entry_of entries) name ∙ find_entry name entries
 
+-- an entry put among others, without where its name lies
 put_entry : (k : Vec ℕ) (array : Array) (entries : List (Vec ℕ × Array)) → map entry_of (insert_entry by_vec entries k array) ≡ put by_name k.items array (map entry_of entries)
 put_entry k array [] = refl
 put_entry k array (e ∷ entries) =

@@ -14,6 +14,7 @@ use Rattle.acc_base.specs.Accounts.{IsInHost, IsBelow, EachPair}
 use Rattle.acc_script.specs.Told.{Taken, Took, TookFront}
 use Rattle.acc_script.proofs.Fronts.{Took_then, Took-then_front}
 
+-- a range starts at an address or above
 abbrev starts_from : ℕ → Range → Bool
 starts_from from r = nat_le from r.section.start
 
@@ -25,6 +26,7 @@ below from ranges = filter (λ r. not (starts_from from r)) ranges
 abbrev Precedes : Range → Range → Type 0
 Precedes r t = IsBelow r.section t.section
 
+-- a range lies in host memory
 abbrev LiesInHost : Limits → Range → Type 0
 LiesInHost l r = IsInHost l r.section
 
@@ -104,6 +106,7 @@ pub found_view : {X Y : Type 0} (view : X → Y) (o : Option X) (y : Y) → Some
 found_view view None y e = absurd cc
 found_view view (Some x) y e = (x, refl, cc)
 
+-- a look-up that found nothing, without its view
 pub found_none : {X Y : Type 0} (view : X → Y) (o : Option X) → None ≡ option_map view o → o ≡ None
 found_none view None e = refl
 found_none view (Some x) e = absurd cc

@@ -6,8 +6,6 @@ use Rattle.hex.specs.declared.error.FromHexError.{FromHexError}
 use Rattle.hex.specs.Hex.{decode_of}
 use Rattle.acc_base.specs.declared.faults.ScriptFault.{ScriptFault}
 use Rattle.acc_base.specs.declared.faults.ScriptFault.TheVariants.{Syntax, Number}
-use Rattle.acc_script.specs.Reading.{◌>>=◌}
-use Rattle.acc_script.specs.Tokens.{word_at}
 
 -- how many digits may stand in one word
 abbrev pub digit_limit : ℕ
@@ -23,10 +21,3 @@ unfoldable pub bytes_of : List ℕ → Result (List ℕ) ScriptFault
 bytes_of word = if not (list_all is_ascii_hexdigit word) then Err Syntax
     else if nat_lt digit_limit (length word) then Err Number
     else decoded (decode_of word)
-
--- a word of bytes
-unfoldable pub bytes_at : List ℕ → Result (List ℕ × List ℕ) ScriptFault
-bytes_at text = do
-  word ← word_at text
-  bytes ← bytes_of word.0
-  Ok (bytes, word.1)

@@ -13,6 +13,7 @@ use Rattle.acc_script.specs.Grammar.{Grammar}
 
 -- ---- the items of a clause
 
+-- a section under a clause, as an item
 abbrev pub item_of : {C : Type 0} → C → Section → Item C
 item_of clause section = record { clause = clause; section = section }
 
@@ -60,9 +61,11 @@ pub record ClausesRead (C : Type 0) : Type 0 where
   pub items : List (Item C)
   pub if_present : Bool
 
+-- no clause and no option
 abbrev pub nothing_read : {C : Type 0} → ClausesRead C
 nothing_read = record { items = []; if_present = false }
 
+-- the items of the clause of a word, behind those before, if the word is one
 abbrev pub listed : {C : Type 0} → Option C → Grammar C → Layout → ClausesRead C → List ℕ → Result (ClausesRead C × List ℕ) ScriptFault
 listed None grammar layout before rest = Err Syntax
 listed (Some clause) grammar layout before rest = do

@@ -1,18 +1,23 @@
 -- What reading to the end, and writing all of some bytes, comes to.
-use Rattle.std.specs.Prelude.{ℕ, Bool, ◌≤◌, ⊤, List, length, Option, Result, Ok, Err, MatchBool}
+use Rattle.std.specs.Prelude.{ℕ, Bool, ◌≤◌, List, length, Option, Result, Ok, Err, MatchBool}
 use Rattle.std.specs.Global.{Vec}
 use Rattle.acc_base.specs.declared.faults.Fault.{Fault}
 use Rattle.acc_base.specs.declared.faults.Fault.TheVariants.{Memory, Read}
-use Rattle.acc_script.specs.Told.{Given, Taken, GaveAll, FailedOrPassed, Took, TookFront}
+use Rattle.acc_script.specs.Told.{Given, Taken, Gave, GaveAll, FailedOrPassed, Took, TookFront}
 
 -- how many bytes an input may have
 abbrev pub input_limit : ℕ
 input_limit = 16777216
 
--- all that the source gave up to its end, where that is no more than the limit
+-- a source gave some bytes, no more than the limit, and did not fail
+abbrev pub GaveSome : Option Given → Option Given → Type 0
+GaveSome old new = (bytes : List ℕ) × Gave old new bytes × (length bytes ≤ input_limit)
+
+-- all that the source gave up to its end, where that is no more than the limit; or what it gave before memory was
+-- wanting; or it failed or gave more
 abbrev pub ReadAll : Option Given → Option Given → Result (Vec ℕ) Fault → Type 0
 ReadAll old new (Ok all) = GaveAll old new all.items × (length all.items ≤ input_limit)
-ReadAll old new (Err Memory) = ⊤
+ReadAll old new (Err Memory) = GaveSome old new
 ReadAll old new (Err Read) = FailedOrPassed input_limit old new
 ReadAll old new (Err _) = ⊥
 

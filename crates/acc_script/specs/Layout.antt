@@ -22,6 +22,7 @@ pub record Layout : Type 0 where
 abbrev pub new_layout : ℕ → Layout
 new_layout host = record { names = map.empty; last_end = host_base; limit = host_base + host }
 
+-- the array of a name, if it is declared
 abbrev pub array_of : List ℕ → Layout → Option Array
 array_of name layout = map.get layout.names name
 
@@ -31,6 +32,7 @@ next_array len layout =
     let start = rounded layout.last_end in
     if nat_lt layout.limit (start + len) then None else Some (record { start = start; end = start + len })
 
+-- a layout with one more array, behind the others
 abbrev pub with_array : List ℕ → Array → Layout → Layout
 with_array name array layout = record { names = map.insert layout.names name array; last_end = array.end; limit = layout.limit }
 

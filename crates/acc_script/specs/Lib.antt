@@ -11,7 +11,7 @@ pub mod Places
 pub mod Bytes
 pub mod Grammar
 pub mod Clauses
-pub mod ClausesRead
+pub mod Checked
 pub mod Statements
 pub mod Meanings
 pub mod Texts

@@ -1,8 +1,11 @@
--- What a statement of the code says, without where it lies in memory.
-use Rattle.acc_script.specs.declared.statements.Statement.{Statement}
-use Rattle.acc_script.specs.declared.statements.Statement.TheVariants as code
+-- What statements and clauses of the code say, without where they lie in memory.
+use Rattle.acc_script.specs.declared.read.clauses.Clauses.{Clauses}
+use Rattle.acc_script.specs.declared.read.statements.Statement.{Statement}
+use Rattle.acc_script.specs.declared.read.statements.Statement.TheVariants as code
+use Rattle.acc_script.specs.Clauses.{ClausesRead}
 use Rattle.acc_script.specs.Statements.{Meaning, Blank, Declare, Direct, Write, Show, Peek, Present, Address, Report}
 
+-- what a statement says
 abbrev pub meaning_of : Statement → Meaning
 meaning_of code.Blank = Blank
 meaning_of (code.Declare name array) = Declare name.now array
@@ -13,3 +16,7 @@ meaning_of (code.Peek section) = Peek section
 meaning_of (code.Present section) = Present section
 meaning_of (code.Address addr) = Address addr
 meaning_of code.Report = Report
+
+-- what clauses in memory say
+abbrev pub read_of : {C : Type 0} → Clauses C → ClausesRead C
+read_of clauses = record { items = clauses.items.items; if_present = clauses.if_present }

@@ -9,5 +9,6 @@ use Rattle.acc_script.specs.Layout.{Names}
 abbrev pub entry_of : Vec ℕ × Array → List ℕ × Array
 entry_of e = (e.0.items, e.1)
 
+-- arrays by their names, from entries in memory
 abbrev pub names_of : List (Vec ℕ × Array) → Names
 names_of entries = finite.from_entries (map entry_of entries)

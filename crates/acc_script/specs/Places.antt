@@ -8,11 +8,12 @@ use Rattle.acc_script.specs.Reading.{◌>>=◌}
 use Rattle.acc_script.specs.Tokens.{name_at, number_at, number_limit, mark_at, is_mark_next, left_bracket, right_bracket, colon}
 use Rattle.acc_script.specs.Layout.{Layout, array_of, whole, part_of, byte_of}
 
+-- an array, if its name is declared, and the text after the name
 abbrev pub known : Option Array → List ℕ → Result (Array × List ℕ) ScriptFault
 known None rest = Err UnknownName
 known (Some array) rest = Ok (array, rest)
 
--- the name of an array
+-- the array that the next word names, and the text after it
 unfoldable pub known_at : Layout → List ℕ → Result (Array × List ℕ) ScriptFault
 known_at layout text = do
   name ← name_at text

@@ -1,13 +1,13 @@
 -- What a run of a script reads, writes and answers.
-use Rattle.std.specs.Prelude.{◌≡◌, ◌⊎◌, ℕ, Bool, List, take, Option, Result, Ok, Err, ⊤}
+use Rattle.std.specs.Prelude.{◌≡◌, ◌⊎◌, ℕ, Bool, true, false, List, slice_index_or, take, Option, Result, Ok, Err, ⊤}
 use Rattle.std.specs.List.{concat}
 use Rattle.acc_base.specs.declared.faults.Fault.{Fault}
 use Rattle.acc_base.specs.declared.faults.Fault.TheVariants.{Memory, Script, Read, Write}
 use Rattle.acc_base.specs.Limits.{Limits}
-use Rattle.acc_script.specs.declared.statuses.Status.{Status}
+use Rattle.acc_script.specs.declared.runs.Status.{Status}
 use Rattle.acc_script.specs.Told.{Given, Taken, GaveAll, FailedOrPassed, Took, TookFront}
-use Rattle.acc_script.specs.Ends.{input_limit}
-use Rattle.acc_script.specs.Scripts.{State, Turned, is_refused, line_turned, line_text, Transcript, Ended, Faulty, transcript, status_of}
+use Rattle.acc_script.specs.Ends.{input_limit, GaveSome}
+use Rattle.acc_script.specs.Scripts.{State, Turned, is_refused, line_turned, line_wants, line_text, Transcript, Ended, Faulty, transcript, status_of}
 
 -- a text was written, or the sink failed and took a front of it
 abbrev pub Printed : Option Taken → Option Taken → List ℕ → Result ⊤ Fault → Type 0
@@ -31,21 +31,23 @@ pub record LostLine (number : ℕ) (s : State) (line : List ℕ) (old new : Opti
   pub is : line_turned s line ≡ Ok turn
   pub wrote : TookFront old new (line_text number turn)
 
+-- a line was run; or it is at fault, it takes memory and there was none, or its text could not be written
 abbrev pub LineRuns : ℕ → State → List ℕ → Option Taken → Option Taken → State → Result Bool Fault → Type 0
 LineRuns number s line old new after (Ok refused) = RanLine number s line old new after refused
-LineRuns number s line old new after (Err Memory) = new ≡ old
+LineRuns number s line old new after (Err Memory) = (line_wants s line ≡ true) × (new ≡ old)
 LineRuns number s line old new after (Err (Script at kind)) = (at ≡ number) × (line_turned s line ≡ Err kind) × (new ≡ old)
 LineRuns number s line old new after (Err Write) = LostLine number s line old new
 LineRuns number s line old new after (Err _) = ⊥
 
 -- ---- a script
 
--- what was written is what the transcript says: all of it, the lines before one at fault, the first lines where there
--- was no memory for more, or a front of it where the sink failed
+-- what was written is what the transcript says: all of it; the lines before one at fault; nothing where there was no
+-- memory for a table, and the lines before one that takes memory where there was none for it; or a front of it where
+-- the sink failed
 abbrev pub Played : Transcript → Option Taken → Option Taken → Result Status Fault → Type 0
 Played t old new (Ok status) = (refused : Bool) × (t.ending ≡ Ended refused) × (status ≡ status_of refused) × Took old new (concat t.texts)
 Played t old new (Err (Script number kind)) = (t.ending ≡ Faulty number kind) × Took old new (concat t.texts)
-Played t old new (Err Memory) = (lines : ℕ) × Took old new (concat (take lines t.texts))
+Played t old new (Err Memory) = (new ≡ old) ⊎ ((lines : ℕ) × (slice_index_or t.wanting lines false ≡ true) × Took old new (concat (take lines t.texts)))
 Played t old new (Err Write) = TookFront old new (concat t.texts)
 Played t old new (Err _) = ⊥
 
@@ -55,10 +57,12 @@ Played t old new (Err _) = ⊥
 abbrev pub RanAll : Limits → Option Given → Option Given → Option Taken → Option Taken → Result Status Fault → Type 0
 RanAll limits given gave taken took result = (input : List ℕ) × GaveAll given gave input × Played (transcript limits input) taken took result
 
+-- a run read its whole input and played it; or there was no memory to read more of it, or it could not be read, and
+-- nothing was written
 abbrev pub Ran : Limits → Option Given → Option Given → Option Taken → Option Taken → Result Status Fault → Type 0
 Ran limits given gave taken took (Ok status) = RanAll limits given gave taken took (Ok status)
 Ran limits given gave taken took (Err (Script number kind)) = RanAll limits given gave taken took (Err (Script number kind))
-Ran limits given gave taken took (Err Memory) = RanAll limits given gave taken took (Err Memory) ⊎ (took ≡ taken)
+Ran limits given gave taken took (Err Memory) = RanAll limits given gave taken took (Err Memory) ⊎ (GaveSome given gave × (took ≡ taken))
 Ran limits given gave taken took (Err Read) = FailedOrPassed input_limit given gave × (took ≡ taken)
 Ran limits given gave taken took (Err Write) = RanAll limits given gave taken took (Err Write)
 Ran limits given gave taken took (Err _) = ⊥

@@ -1,22 +1,22 @@
 -- What a script does and prints, line by line, and how it ends.
 use Rattle.std.specs.Prelude.{ℕ, ◌+◌, Bool, true, false, ◌||◌, List, [], ◌∷◌, Option, Some, None, Result, Ok, Err}
-use Rattle.acc_base.specs.declared.events.Event.{Event}
+use Rattle.acc_table.specs.declared.events.Event.{Event}
 use Rattle.acc_base.specs.declared.faults.Fault.{Fault}
 use Rattle.acc_base.specs.declared.faults.Fault.TheVariants.{OutOfHost}
 use Rattle.acc_base.specs.declared.faults.ScriptFault.{ScriptFault}
 use Rattle.acc_base.specs.declared.items.Section.{Section}
 use Rattle.acc_base.specs.Limits.{Limits}
-use Rattle.acc_base.specs.Calls.{World, new_world, Request, Do, HostWrite, judge, world_after}
+use Rattle.acc_table.specs.Single.Calls.{World, new_world, Request, Do, HostWrite, judge, world_after}
 use Rattle.acc_base.specs.Ranges.{where_is}
 use Rattle.acc_table.specs.Queries.{is_inside, device_address_of, host_read_of, device_read_of}
-use Rattle.acc_script.specs.declared.effects.Effect.{Effect}
-use Rattle.acc_script.specs.declared.effects.Effect.TheVariants.{Nothing, Refused, HostBytes, DeviceBytes, Presence, Place, Reported}
-use Rattle.acc_script.specs.declared.statuses.Status.{Status}
-use Rattle.acc_script.specs.declared.statuses.Status.TheVariants as statuses
-use Rattle.acc_script.specs.Reading.{◌>>=◌}
+use Rattle.acc_script.specs.declared.print.effects.Effect.{Effect}
+use Rattle.acc_script.specs.declared.print.effects.Effect.TheVariants.{Nothing, Refused, HostBytes, DeviceBytes, Presence, Place, Reported}
+use Rattle.acc_script.specs.declared.runs.Status.{Status}
+use Rattle.acc_script.specs.declared.runs.Status.TheVariants as statuses
+use Rattle.acc_script.specs.Reading.{◌>>=◌, wants}
 use Rattle.acc_script.specs.Lines.{lines_of}
 use Rattle.acc_script.specs.Layout.{Layout, new_layout, with_array}
-use Rattle.acc_script.specs.Statements.{Meaning, Blank, Declare, Direct, Write, Show, Peek, Present, Address, Report, line_at}
+use Rattle.acc_script.specs.Statements.{Meaning, Blank, Declare, Direct, Write, Show, Peek, Present, Address, Report, takes_memory, line_at}
 use Rattle.acc_script.specs.Texts.{refusal_text, report_text}
 use Rattle.acc_script.specs.Shown.{read_text, presence_text, place_text}
 
@@ -50,6 +50,7 @@ shown section (Some bytes) = HostBytes section
 abbrev pub answered : State → Effect → Turned
 answered s effect = record { state = s; effect = effect }
 
+-- a state and a statement, as the state after it and what there is to print
 abbrev pub turned : State → Meaning → Turned
 turned s Blank = answered s Nothing
 turned s (Declare name array) = record { state = record { world = s.world; layout = with_array name array s.layout }; effect = Nothing }
@@ -71,6 +72,7 @@ effect_text number w (Presence present) = presence_text present
 effect_text number w (Place place) = place_text place
 effect_text number w Reported = report_text w
 
+-- what there is to print is a refusal
 abbrev pub is_refused : Effect → Bool
 is_refused (Refused fault) = true
 is_refused _ = false
@@ -83,6 +85,11 @@ line_turned s line = do
   meaning ← line_at s.layout line
   Ok (turned s meaning)
 
+-- the line is not at fault, and what it asks for takes memory
+abbrev pub line_wants : State → List ℕ → Bool
+line_wants s line = wants takes_memory (line_at s.layout line)
+
+-- what the line of a number prints, once it was run
 abbrev pub line_text : ℕ → Turned → List ℕ
 line_text number turn = effect_text number turn.state.world turn.effect
 
@@ -93,24 +100,27 @@ pub data Ending : Type 0 where
   Ended : (refused : Bool) → Ending
   Faulty : (number : ℕ) (kind : ScriptFault) → Ending
 
--- the text of each line that was run, and the ending
+-- the text of each line that was run, whether it takes memory, and the ending
 pub record Transcript : Type 0 where
   pub texts : List (List ℕ)
+  pub wanting : List Bool
   pub ending : Ending
 
-abbrev pub noted : ℕ → Result Turned ScriptFault → (Turned → Transcript) → Transcript
-noted number (Err kind) others = record { texts = []; ending = Faulty number kind }
-noted number (Ok turn) others = record { texts = line_text number turn ∷ (others turn).texts; ending = (others turn).ending }
+-- the line of a number, and the lines after it
+abbrev pub noted : ℕ → Bool → Result Turned ScriptFault → (Turned → Transcript) → Transcript
+noted number wanting (Err kind) others = record { texts = []; wanting = []; ending = Faulty number kind }
+noted number wanting (Ok turn) others = record { texts = line_text number turn ∷ (others turn).texts; wanting = wanting ∷ (others turn).wanting; ending = (others turn).ending }
 
 -- the lines from that of a number on; refused says whether one before was
 abbrev pub transcript_from : ℕ → State → Bool → List (List ℕ) → Transcript
-transcript_from number s refused [] = record { texts = []; ending = Ended refused }
-transcript_from number s refused (line ∷ lines) = noted number (line_turned s line) (λ turn. transcript_from (number + 1) turn.state (refused || is_refused turn.effect) lines)
+transcript_from number s refused [] = record { texts = []; wanting = []; ending = Ended refused }
+transcript_from number s refused (line ∷ lines) = noted number (line_wants s line) (line_turned s line) (λ turn. transcript_from (number + 1) turn.state (refused || is_refused turn.effect) lines)
 
 -- an input as a script on a new table of these limits
 unfoldable pub transcript : Limits → List ℕ → Transcript
 transcript limits input = transcript_from 1 (new_state limits) false (lines_of input)
 
+-- the status of a script of which some line was refused, or none
 abbrev pub status_of : Bool → Status
 status_of true = statuses.Refused
 status_of false = statuses.Clean

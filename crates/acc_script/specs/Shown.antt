@@ -12,6 +12,7 @@ abbrev pub read_text : Option (List ℕ) → List ℕ
 read_text None = codes "none\n"
 read_text (Some bytes) = bytes_text bytes
 
+-- whether a section is present
 abbrev pub presence_text : Bool → List ℕ
 presence_text present = if present then codes "yes\n" else codes "no\n"
 

@@ -1,18 +1,18 @@
 -- What a line says, or its first fault.
-use Rattle.std.specs.Prelude.{ℕ, ◌||◌, Bool, not, ◌&&◌, List, length, Option, Some, None, Result, Ok, Err, is_some, ◌==◌, nat_lt, nat_le, if◌then◌else◌, codes}
+use Rattle.std.specs.Prelude.{ℕ, ◌||◌, Bool, true, false, not, ◌&&◌, List, length, Option, Some, None, Result, Ok, Err, is_some, ◌==◌, nat_lt, nat_le, if◌then◌else◌, codes}
 use Rattle.std.specs.List.{list_all, before_first}
 use Rattle.std.specs.Str.{bytes_eq}
 use Rattle.acc_base.specs.declared.faults.ScriptFault.{ScriptFault}
 use Rattle.acc_base.specs.declared.faults.ScriptFault.TheVariants.{TooLong, NotText, Syntax, Number, NameTaken, HostFull}
-use Rattle.acc_base.specs.declared.directives.Directive.{Directive}
-use Rattle.acc_base.specs.declared.directives.Directive.TheVariants.{EnterData, ExitData, Update}
+use Rattle.acc_table.specs.declared.directives.Directive.{Directive}
+use Rattle.acc_table.specs.declared.directives.Directive.TheVariants.{EnterData, ExitData, Update}
 use Rattle.acc_base.specs.declared.items.Section.{Section}
 use Rattle.acc_script.specs.declared.arrays.Array.{Array}
 use Rattle.acc_script.specs.Reading.{◌>>=◌}
 use Rattle.acc_script.specs.Tokens.{word_at, keyword_at, name_at, number_at, number_limit, is_at_end, tab}
 use Rattle.acc_script.specs.Layout.{Layout, array_of, next_array}
 use Rattle.acc_script.specs.Places.{address_at, section_at}
-use Rattle.acc_script.specs.Bytes.{bytes_at}
+use Rattle.acc_script.specs.Bytes.{bytes_of}
 use Rattle.acc_script.specs.Grammar.{enter_grammar, exit_grammar, update_grammar}
 use Rattle.acc_script.specs.Clauses.{nothing_read, clauses_at}
 
@@ -28,6 +28,14 @@ pub data Meaning : Type 0 where
   Address : (addr : ℕ) → Meaning
   Report : Meaning
 
+-- a statement that takes memory to read or to run: one that declares, directs or writes, and none that only asks
+abbrev pub takes_memory : Meaning → Bool
+takes_memory (Declare name array) = true
+takes_memory (Direct directive) = true
+takes_memory (Write addr bytes) = true
+takes_memory _ = false
+
+-- a new array of a name, if host memory has room for it
 abbrev pub declared : List ℕ → Option Array → Result Meaning ScriptFault
 declared name None = Err HostFull
 declared name (Some array) = Ok (Declare name array)
@@ -74,34 +82,46 @@ update_at layout text = do
 abbrev pub at_end : Meaning → List ℕ → Result Meaning ScriptFault
 at_end meaning rest = if is_at_end rest then Ok meaning else Err Syntax
 
+-- bytes, up to the end of the line
+unfoldable pub last_bytes_at : List ℕ → Result (List ℕ) ScriptFault
+last_bytes_at text = do
+  word ← word_at text
+  bytes ← bytes_of word.0
+  if is_at_end word.1 then Ok bytes else Err Syntax
+
 -- `write NAME[N] HEX`
 unfoldable pub write_at : Layout → List ℕ → Result Meaning ScriptFault
 write_at layout text = do
   addr ← address_at layout text
-  bytes ← bytes_at addr.1
-  at_end (Write addr.0 bytes.0) bytes.1
+  bytes ← last_bytes_at addr.1
+  Ok (Write addr.0 bytes)
 
--- what a word asks of a section
-unfoldable pub asked_at : (Section → Meaning) → Layout → List ℕ → Result Meaning ScriptFault
-asked_at ask layout text = do
+-- a section, up to the end of the line
+unfoldable pub last_section_at : Layout → List ℕ → Result Section ScriptFault
+last_section_at layout text = do
   section ← section_at layout text
-  at_end (ask section.0) section.1
+  if is_at_end section.1 then Ok section.0 else Err Syntax
 
--- `address NAME[N]`
-unfoldable pub place_at : Layout → List ℕ → Result Meaning ScriptFault
-place_at layout text = do
+-- an address, up to the end of the line
+unfoldable pub last_address_at : Layout → List ℕ → Result ℕ ScriptFault
+last_address_at layout text = do
   addr ← address_at layout text
-  at_end (Address addr.0) addr.1
+  if is_at_end addr.1 then Ok addr.0 else Err Syntax
+
+-- what a question asks of what it names
+abbrev pub asked : {A : Type 0} → (A → Meaning) → Result A ScriptFault → Result Meaning ScriptFault
+asked ask (Ok x) = Ok (ask x)
+asked ask (Err kind) = Err kind
 
 -- ---- a statement
 
--- a question, by its word
+-- a question, by its word: `show REF`, `peek REF`, `present REF`, `address NAME[N]` or `report`
 unfoldable pub question_at : List ℕ → Layout → List ℕ → Result Meaning ScriptFault
 question_at word layout text =
-    if bytes_eq word (codes "show") then asked_at Show layout text
-    else if bytes_eq word (codes "peek") then asked_at Peek layout text
-    else if bytes_eq word (codes "present") then asked_at Present layout text
-    else if bytes_eq word (codes "address") then place_at layout text
+    if bytes_eq word (codes "show") then asked Show (last_section_at layout text)
+    else if bytes_eq word (codes "peek") then asked Peek (last_section_at layout text)
+    else if bytes_eq word (codes "present") then asked Present (last_section_at layout text)
+    else if bytes_eq word (codes "address") then asked Address (last_address_at layout text)
     else if bytes_eq word (codes "report") then at_end Report text
     else Err Syntax
 
@@ -122,6 +142,7 @@ statement_at layout text = do
 abbrev pub is_text_byte : ℕ → Bool
 is_text_byte b = (b == tab) || (nat_le 32 b && nat_le b 126)
 
+-- the mark that begins a comment
 abbrev pub hash : ℕ
 hash = 35
 

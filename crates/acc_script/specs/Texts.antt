@@ -6,19 +6,21 @@ use Rattle.acc_base.specs.declared.faults.Fault.{Fault}
 use Rattle.acc_base.specs.Faults.{number_of, name_of, fault_text}
 use Rattle.acc_base.specs.Blocks.{used_bytes}
 use Rattle.acc_base.specs.Records.{Records}
-use Rattle.acc_base.specs.Calls.{World, event_count}
+use Rattle.acc_table.specs.Single.Calls.{World, event_count}
 use Rattle.acc_table.specs.declared.calls.Mapped.{Mapped}
 use Rattle.acc_table.specs.Queries.{mapped_as}
 
+-- an address as `0x` and hexadecimal digits
 abbrev pub address : ℕ → List ℕ
 address n = codes "0x" ++ digits 16 false n
 
 -- ---- refusals
 
+-- a field of a fault: its name and its value
 abbrev pub field_text : List ℕ → ℕ → List ℕ
 field_text name value = name ++ decimal value
 
--- up to the fields of the fault
+-- the line of a refusal up to the fields of the fault
 abbrev pub refusal_start : ℕ → Fault → List ℕ
 refusal_start line fault = codes "line " ++ (decimal line ++ (codes ": refused " ++ (decimal (number_of fault) ++ (codes " " ++ name_of fault))))
 
@@ -36,6 +38,7 @@ sizes_text host device used = codes "host " ++ (decimal host ++ (codes " device 
 abbrev pub mapping_text : ℕ → ℕ → ℕ → List ℕ
 mapping_text start len place = codes "map " ++ (address start ++ (codes " " ++ (decimal len ++ (codes " at " ++ address place))))
 
+-- the two reference counters of a mapped range, up to the end of its line
 abbrev pub counters_text : ℕ → ℕ → List ℕ
 counters_text structured dynamic = codes " structured " ++ (decimal structured ++ (codes " dynamic " ++ (decimal dynamic ++ codes "\n")))
 

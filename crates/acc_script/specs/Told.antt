@@ -12,9 +12,11 @@ pub record Taken : Type 0 where
   pub bytes : List ℕ
   pub failures : ℕ
 
+-- a source before its first read
 abbrev pub nothing_given : Given
 nothing_given = record { bytes = []; ended = false; failures = 0 }
 
+-- a sink before its first write
 abbrev pub nothing_taken : Taken
 nothing_taken = record { bytes = []; failures = 0 }
 
@@ -44,7 +46,7 @@ Gave None new bytes = ⊤
 Gave (Some a) None bytes = ⊥
 Gave (Some a) (Some b) bytes = (b.bytes ≡ a.bytes ++ bytes) × (b.failures ≡ a.failures)
 
--- and then it told its end
+-- a source gave these bytes, told its end and did not fail, where it tells
 abbrev pub GaveAll : Option Given → Option Given → List ℕ → Type 0
 GaveAll None new bytes = ⊤
 GaveAll (Some a) None bytes = ⊥

@@ -3,13 +3,10 @@
 ghost use Rattle.std.specs.Prelude.{◌≡◌, ◌+◌, ◌≤◌, OnOk, OnErr};
 ghost use Rattle.acc_script.specs.Layout.{new_layout, array_of, next_array, with_array, whole, part_of, byte_of};
 
-use acc_base::Section;
+use acc_base::{HOST_BASE, MEMORY_MAX, Section};
 use std::alloc::{AllocError, Global};
 use std::collections::BTreeMap;
 use std::marker::Model;
-
-/// Where host memory begins.
-const HOST_BASE: u32 = 0x1000;
 
 /// The host addresses from `start` up to `end`, which is not one of them.
 #[derive(Clone, Copy, Debug, PartialEq, Eq)]
@@ -75,13 +72,13 @@ impl Model for Arrays {
 impl Arrays {
     /// No array, in host memory of `host` bytes.
     pub fn new(alloc: Global, host: u32) -> Arrays
-        requires { host ≤ 67108864 }
+        requires { host ≤ MEMORY_MAX }
         ensures { result ≡ new_layout host }
     {
         Arrays {
             names: BTreeMap::new(alloc),
-            last_end: HOST_BASE,
-            limit: HOST_BASE + host,
+            last_end: HOST_BASE as u32,
+            limit: HOST_BASE as u32 + host,
         }
     }
 

@@ -4,38 +4,20 @@
 //! `specs/` says what a script means, apart from any code: its lines, what a line says, and what it prints.
 #![tactic(auto)]
 
-mod addresses;
 mod arrays;
-mod bytes;
-mod clauses;
-mod directives;
-mod effects;
 mod ends;
-mod grammar;
 mod lines;
-mod mappings;
-mod memory;
-mod places;
-mod reading;
-mod refusals;
-mod reports;
+mod print;
+mod read;
 mod runs;
 mod sessions;
-mod showing;
-mod statements;
-mod statuses;
-mod streams;
-mod tokens;
-mod troubles;
-mod writing;
 
+pub use ends::memory::{MemorySink, MemorySource};
+pub use ends::streams::{FromRead, ToWrite};
+pub use ends::whole::write_all;
 pub use ends::{Sink, Source};
-pub use memory::{MemorySink, MemorySource};
-pub use reports::report;
-pub use runs::run;
-pub use statuses::Status;
-pub use streams::{FromRead, ToWrite};
-pub use writing::write_all;
+pub use print::reports::report;
+pub use runs::{Status, run};
 
 #[cfg(test)]
 mod tests;

@@ -5,18 +5,26 @@ ghost use Rattle.acc_script.specs.Scripts.{transcript, status_of};
 ghost use Rattle.acc_script.specs.Runs.{LineRuns, Played, Ran};
 ghost use Rattle.acc_script.specs.Sessions.{state_of};
 
+use crate::ends::whole::read_all;
 use crate::lines::next_line;
-use crate::reading::read_all;
-use crate::reports::write_effect;
+use crate::print::effects::write_effect;
+use crate::read::Trouble;
+use crate::read::statements::line_at;
 use crate::sessions::Session;
-use crate::statements::line_at;
-use crate::statuses::Status;
-use crate::troubles::Trouble;
 use crate::{Sink, Source};
 use acc_base::{Config, Fault};
 use std::alloc::Global;
 use std::sync::Wait;
 use std::thread::Threads;
+
+/// How a script ended that was run to its last line.
+#[derive(Clone, Copy, Debug, PartialEq, Eq)]
+pub enum Status {
+    /// No line was refused.
+    Clean,
+    /// At least one line was refused.
+    Refused,
+}
 
 /// Reads a whole script, and then runs it line by line on a new table of these limits.
 ///
@@ -31,7 +39,8 @@ use std::thread::Threads;
 /// - [`Fault::Read`] where the reader fails or gives more than 16,777,216 bytes. Nothing was written.
 /// - [`Fault::Script`] at the first line that is at fault. What the lines before print was written.
 /// - [`Fault::Write`] where the writer fails. It has then taken a front of what the script prints.
-/// - [`Fault::Memory`]. What some first lines print was written, and nothing where the reader had not told its end.
+/// - [`Fault::Memory`]. What some first lines print was written; the line after them is not at fault, and declares,
+///   directs or writes. Nothing was written where memory was wanting for the input or for the table.
 pub fn run<R: Threads + Wait + Sync + AllocGlobal, S: Source, W: Sink>(
     rt: &R,
     reader: &mut S,

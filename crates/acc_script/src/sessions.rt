@@ -8,8 +8,8 @@ ghost use Rattle.acc_table.specs.Calls.{request_of};
 ghost use Rattle.acc_table.specs.Queries.{host_read_of};
 
 use crate::arrays::Arrays;
-use crate::effects::Effect;
-use crate::statements::Statement;
+use crate::print::effects::Effect;
+use crate::read::statements::Statement;
 use acc_base::{Config, Fault, Section};
 use acc_table::{Call, Table};
 use std::alloc::Global;
@@ -42,7 +42,8 @@ impl Session {
     ///
     /// # Errors
     ///
-    /// [`Fault::Memory`] alone.
+    /// [`Fault::Memory`] alone, for a statement that declares, directs or writes and is refused for nothing else.
+    /// Nothing changed.
     pub fn perform(&mut self, alloc: Global, statement: Statement<'_>) -> Result<Effect, Fault>
         ensures { Performs (state_of self.old) (meaning_of statement.entry) (state_of self.new) result }
     {
@@ -54,7 +55,7 @@ impl Session {
             }
             Statement::Direct(directive) => self.call(Call::Do(directive)),
             Statement::Write { addr, bytes } => self.call(Call::HostWrite { addr, bytes }),
-            Statement::Show(section) => Ok(self.show(section)),
+            Statement::Show(section) => Ok(self.answer_show(section)),
             Statement::Peek(section) => Ok(Effect::DeviceBytes(section)),
             Statement::Present(section) => Ok(Effect::Presence(self.table.is_present(section))),
             Statement::Address(addr) => Ok(Effect::Place(self.table.device_address(addr))),
@@ -63,6 +64,7 @@ impl Session {
     }
 
     /// Makes a call on the table.
+    #[tactic(auto, using(crate::proofs::Accepted::accepted))]
     fn call(&mut self, call: Call) -> Result<Effect, Fault>
         ensures { CallsFor (state_of self.old) (request_of call) (state_of self.new) result }
     {
@@ -73,8 +75,9 @@ impl Session {
         }
     }
 
-    /// The host's bytes of a section are to be shown, where host memory has them.
-    fn show(&self, section: Section) -> Effect
+    /// What `show` has to print: a section's bytes, or a refusal where host memory does not have them. The bytes
+    /// themselves are read where they are written.
+    fn answer_show(&self, section: Section) -> Effect
         ensures { result ≡ shown section (host_read_of section (state_of self.now).world.state.host) }
     {
         match self.table.host_read(section) {

@@ -1,470 +1,392 @@
 //! What no clause says: that calls succeed, that the definitions say what is meant, and what is left where an end or
-//! memory fails.
+//! memory fails. What a script prints is a row of a table, and one function runs a row.
 
 use crate::{FromRead, MemorySink, MemorySource, Sink, Source, Status, ToWrite, report, run};
 use acc_base::{Config, Fault, ScriptFault};
 use acc_table::Table;
+use std::alloc::{AllocError, Global};
+use std::fmt::Debug;
 use std::io::{self, ErrorKind, Write};
 use std::process::Abort;
 use std::sync::Wait;
 use std::test::Fail;
 use std::thread::Threads;
 
+/// The sizes of host and device, and the limits of regions, tickets, counters, queues and trace.
+type Limits = [u64; 7];
+
 /// Limits that no script of these tests reaches.
-fn wide() -> Result<Config, Fault> {
-    Config::new(65_536, 65_536, 64, 1_048_576, 4_294_967_295, 256, 262_144)
+const WIDE: Limits = [65_536, 65_536, 64, 1_048_576, 4_294_967_295, 256, 262_144];
+
+/// How a script ends: its status, or the line at fault and why.
+type End = Result<Status, (u64, ScriptFault)>;
+
+/// No line was refused.
+const CLEAN: End = Ok(Status::Clean);
+
+/// Some line was refused.
+const REFUSED: End = Ok(Status::Refused);
+
+/// The configuration of some limits.
+fn config(limits: &Limits) -> Result<Config, Fault> {
+    let [
+        host,
+        device,
+        regions,
+        tickets,
+        counter_max,
+        queue_cap,
+        trace_cap,
+    ] = *limits;
+    Config::new(
+        host,
+        device,
+        regions,
+        tickets,
+        counter_max,
+        queue_cap,
+        trace_cap,
+    )
 }
 
-/// Runs a script and compares what it prints and answers.
-fn expect_run<R: Abort + Threads + Wait + Sync + AllocGlobal>(
+/// Compares what was found at a place with what is wanted there.
+fn same<R: Abort, T: PartialEq + Debug + Drop, P: Debug + Drop>(
     rt: &R,
-    config: Config,
-    input: &[u8],
+    found: T,
+    wanted: T,
+    place: P,
+) {
+    assert_eq!(rt; found, wanted, "at {place:?}");
+}
+
+/// Runs a script within limits, and compares what it prints and how it ends.
+fn check<R: Abort + Threads + Wait + Sync + AllocGlobal>(
+    rt: &R,
+    limits: &Limits,
+    script: &[u8],
     printed: &str,
-    outcome: Result<Status, Fault>,
-) {
-    expect_bytes(rt, config, input, printed.as_bytes(), outcome);
-}
-
-/// The same for output as bytes.
-fn expect_bytes<R: Abort + Threads + Wait + Sync + AllocGlobal>(
-    rt: &R,
-    config: Config,
-    input: &[u8],
-    printed: &[u8],
-    outcome: Result<Status, Fault>,
-) {
-    let mut reader = MemorySource::new(input);
+    end: End,
+) -> Result<(), Fault> {
+    let mut reader = MemorySource::new(script);
     let mut writer = MemorySink::new(rt.alloc());
-    let got = run(rt, &mut reader, &mut writer, config, 1);
-    assert_eq!(rt; writer.as_slice(), printed, "printed by {input:?}");
-    assert_eq!(rt; got, outcome, "answered to {input:?}");
+    let answer = run(rt, &mut reader, &mut writer, config(limits)?, 1);
+    let wanted = end.map_err(|(line, kind)| Fault::Script { line, kind });
+    same(rt, writer.as_slice(), printed.as_bytes(), script);
+    same(rt, answer, wanted, script);
+    Ok(())
 }
 
-/// A script ends at the fault of a line, and prints nothing.
-fn expect_fault<R: Abort + Threads + Wait + Sync + AllocGlobal>(
+/// Scripts within wide limits: the script, what it prints, how it ends.
+const SCRIPTS: [(&str, &str, End); 23] = [
+    // A script without lines, and a section far behind host memory.
+    ("", "", CLEAN),
+    (
+        "array a 16\nexit data delete(a[65536:1])\n",
+        "line 2: refused 7 OutOfHost item 0\n",
+        REFUSED,
+    ),
+    // A block made by `create` is filled.
+    (
+        "array a 2\nwrite a[0] 0102\nenter data create(a)\npeek a\nshow a\n",
+        "a5a5\n0102\n",
+        CLEAN,
+    ),
+    // `update` copies its section alone, one way or the other.
+    (
+        "array a 3\nenter data copyin(readonly: a)\nwrite a[0] 010203\nupdate device(a[1:1])\npeek a\nwrite a[0] ffffff\nupdate host(a[1:2])\nshow a\n",
+        "000200\nff0200\n",
+        CLEAN,
+    ),
+    // `copyout` copies its section alone, and only where the mapping ends.
+    (
+        "array a 4\nwrite a[0] 01020304\nenter data copyin(a)\nwrite a[0] ffffffff\nexit data copyout(a[1:2])\nshow a\npeek a\n",
+        "ff0203ff\nnone\n",
+        CLEAN,
+    ),
+    (
+        "array a 1\nenter data create(a)\nenter data create(zero: a)\nexit data copyout(a)\nshow a\nexit data copyout(a)\nshow a\n",
+        "00\na5\n",
+        CLEAN,
+    ),
+    (
+        "array a 1\nenter data create(a)\nexit data delete(a)\nshow a\n",
+        "00\n",
+        CLEAN,
+    ),
+    // Questions on the 16 bytes from the offset 8 on, which are mapped.
+    (
+        "array a 32\nwrite a[22] 070809\nenter data copyin(a[8:16])\npresent a[8:16]\npresent a[9:1]\npresent a[8:17]\npresent a\npresent a[24:8]\npresent a[9:0]\n",
+        "yes\nyes\nno\nno\nno\nno\n",
+        CLEAN,
+    ),
+    (
+        "array a 32\nenter data copyin(a[8:16])\naddress a[8]\naddress a[23]\naddress a[24]\naddress a[7]\naddress a[4294967295]\n",
+        "0x100000000\n0x10000000f\nnone\nnone\nnone\n",
+        CLEAN,
+    ),
+    (
+        "array a 32\nwrite a[22] 070809\nenter data copyin(a[8:16])\npeek a[22:2]\npeek a[22:3]\npeek a[0:1]\npeek a[9:0]\n",
+        "0708\nnone\nnone\nnone\n",
+        CLEAN,
+    ),
+    (
+        "array a 32\nwrite a[22] 070809\nshow a[21:4]\nshow a[9:0]\nshow a[4294967295:0]\nshow a[65534:2]\n",
+        "00070809\n-\n-\n0000\n",
+        CLEAN,
+    ),
+    // Refusals of writes, shows and updates.
+    (
+        "array s 16\nupdate self(s)\nupdate self(s) if_present\nwrite s[65536] 01\nshow s[65535:2]\nshow s[65536:1]\nenter data create(s[0:8])\nupdate if_present device(s)\nupdate self(s[0:1]) device(s[0:1])\nexit data copyout(s)\nenter data create(zero: s)\nreport\n",
+        "line 2: refused 11 NotPresent item 0\nline 4: refused 7 OutOfHost item 0\nline 5: refused 7 OutOfHost item 0\nline 6: refused 7 OutOfHost item 0\nline 8: refused 10 PartlyPresent item 0\nline 9: refused 5 TooManyItems n 2\nline 10: refused 10 PartlyPresent item 0\nline 11: refused 10 PartlyPresent item 0\nhost 65536 device 65536 used 16\nmap 0x1000 8 at 0x100000000 structured 0 dynamic 1\nregions 0 events 2\n",
+        REFUSED,
+    ),
+    // The digits of 130 bytes are written in three pieces; the bytes 63 and 64 are at the end of one.
+    (
+        "array a 130\nwrite a[63] 0aFf\nshow a\n",
+        "0000000000000000000000000000000000000000000000000000000000000000000000000000000000000000000000000000000000000000000000000000000aff0000000000000000000000000000000000000000000000000000000000000000000000000000000000000000000000000000000000000000000000000000000000\n",
+        CLEAN,
+    ),
+    // Arrays may be named as keywords are, and lie at multiples of 16.
+    (
+        "array copyin 1\narray b23456789012345678901234567890_2\t00000000000000000017\narray data 1#\nenter data copyin(copyin)\r\n\tenter\tdata copyin ( data [ 0 : 1 ] ) # data\nenter data copyin(b23456789012345678901234567890_2)\nreport",
+        "host 65536 device 65536 used 64\nmap 0x1000 1 at 0x100000000 structured 0 dynamic 1\nmap 0x1010 17 at 0x100000020 structured 0 dynamic 1\nmap 0x1030 1 at 0x100000010 structured 0 dynamic 1\nregions 0 events 3\n",
+        CLEAN,
+    ),
+    // Clauses stand with or without a comma between two of them.
+    (
+        "array a 16\nenter data copyin(a)copyin(a)\nexit data delete(a) , delete(a, a)\n",
+        "line 2: refused 5 TooManyItems n 2\nline 3: refused 5 TooManyItems n 3\n",
+        REFUSED,
+    ),
+    // A modifier is one where a colon follows it; options stand before and behind clauses; digits are of either case.
+    (
+        "array zero 2\narray readonly 2\narray if_present 1\nenter data create ( zero : zero )\nenter data copyin(readonly:readonly)\nenter data create(if_present)\nwrite zero [ 0 ] aBCd\nupdate if_present,device(zero)\npeek zero\nupdate self(if_present) , if_present\nshow if_present\nwrite readonly[1]7F#f\nupdate device(readonly)if_present\npeek readonly\n",
+        "abcd\na5\n007f\n",
+        CLEAN,
+    ),
+    // A comment may hold any byte. One carriage return is dropped at the end of a line, and none before.
+    ("# \u{e4}\n", "", CLEAN),
+    ("\r", "", CLEAN),
+    ("\r\n\r", "", CLEAN),
+    ("\n\r\r\n", "", Err((2, ScriptFault::NotText))),
+    ("report\r \n", "", Err((1, ScriptFault::NotText))),
+    ("\u{e4}\n", "", Err((1, ScriptFault::NotText))),
+    ("~", "", Err((1, ScriptFault::Syntax))),
+];
+
+#[test]
+fn scripts_print_and_end(rt: HostRuntime) -> Result<(), Fail> {
+    for (script, printed, end) in SCRIPTS {
+        check(&rt, &WIDE, script.as_bytes(), printed, end)?;
+    }
+    Ok(())
+}
+
+/// The limits of small tables, and what the third line of one script is refused for there.
+const SMALL: [(Limits, &str); 4] = [
+    (
+        [64, 64, 1, 1, 8, 1, 8],
+        "line 3: refused 3 NoTickets left 0\n",
+    ),
+    (
+        [64, 64, 1, 8, 8, 1, 1],
+        "line 3: refused 6 TraceFull len 1\n",
+    ),
+    (
+        [64, 64, 1, 8, 1, 1, 8],
+        "line 3: refused 12 CounterFull item 0\n",
+    ),
+    (
+        [64, 16, 1, 8, 8, 1, 8],
+        "line 2: refused 14 DeviceFull item 0 need 32\nline 3: refused 14 DeviceFull item 0 need 32\n",
+    ),
+];
+
+#[test]
+fn small_tables_refuse(rt: HostRuntime) -> Result<(), Fail> {
+    let script = b"array a 20\nenter data copyin(a)\nenter data copyin(a)\n";
+    for (limits, printed) in SMALL {
+        check(&rt, &limits, script, printed, REFUSED)?;
+    }
+    Ok(())
+}
+
+/// Lines at fault, where the array `a` of 16 bytes is declared before: the first fault from the left.
+const FAULTS: [(&str, ScriptFault); 89] = [
+    ("array a ! 0", ScriptFault::NameTaken),
+    ("array a", ScriptFault::NameTaken),
+    ("array b 0 !", ScriptFault::Number),
+    ("array b 99999999999999999999 !", ScriptFault::Number),
+    ("array b 9999999 !", ScriptFault::Syntax),
+    ("enter data copyin(b !", ScriptFault::UnknownName),
+    ("enter data ! copyin(b)", ScriptFault::Syntax),
+    ("enter data copyin(a[4294967296:1] !", ScriptFault::Number),
+    ("enter data copyin(a[0:99999999999]", ScriptFault::Number),
+    (
+        "enter data copyin(a) copyin(b) delete(a)",
+        ScriptFault::UnknownName,
+    ),
+    ("enter data copyin(a) delete(b)", ScriptFault::Syntax),
+    ("write a[0] 012", ScriptFault::Number),
+    ("write a[0] 0", ScriptFault::Number),
+    ("write a[0] 01g", ScriptFault::Syntax),
+    ("write a[4294967296] 01g", ScriptFault::Number),
+    ("write b[0] 012", ScriptFault::UnknownName),
+    ("show b[0:1", ScriptFault::UnknownName),
+    ("peek b a", ScriptFault::UnknownName),
+    ("address b !", ScriptFault::UnknownName),
+    ("enter data create(zero b)", ScriptFault::UnknownName),
+    ("enter data create(zero: zero: a)", ScriptFault::UnknownName),
+    ("enter data create(b: c)", ScriptFault::Syntax),
+    ("exit data copyout(zero: b)", ScriptFault::Syntax),
+    (
+        "update self(b) if_present if_present",
+        ScriptFault::UnknownName,
+    ),
+    ("update if_present if_present self(b)", ScriptFault::Syntax),
+    ("array b16", ScriptFault::Syntax),
+    ("array b", ScriptFault::Syntax),
+    ("array b 16 17", ScriptFault::Syntax),
+    ("array b -1", ScriptFault::Syntax),
+    ("array b 0x10", ScriptFault::Syntax),
+    ("array B 16", ScriptFault::Syntax),
+    ("array 1b 16", ScriptFault::Syntax),
+    (
+        "array b234567890123456789012345678901_3 16",
+        ScriptFault::Syntax,
+    ),
+    ("Report", ScriptFault::Syntax),
+    ("report a", ScriptFault::Syntax),
+    ("enter copyin(a)", ScriptFault::Syntax),
+    ("enter data", ScriptFault::Syntax),
+    ("enter data copyin", ScriptFault::Syntax),
+    ("enter data copyin()", ScriptFault::Syntax),
+    ("enter data copyin(a", ScriptFault::Syntax),
+    ("enter data copyin(a,)", ScriptFault::Syntax),
+    ("enter data copyin(,a)", ScriptFault::Syntax),
+    ("enter data copyin(a a)", ScriptFault::Syntax),
+    ("enter data copyin(a),", ScriptFault::Syntax),
+    ("enter data ,copyin(a)", ScriptFault::Syntax),
+    ("enter data copyin(a),,copyin(a)", ScriptFault::Syntax),
+    ("enter data copyin(a[0])", ScriptFault::Syntax),
+    ("enter data copyin(a[0:])", ScriptFault::Syntax),
+    ("enter data copyin(a[b:1])", ScriptFault::Syntax),
+    ("enter data copyin(unknown: a)", ScriptFault::Syntax),
+    ("enter data copyin(: a)", ScriptFault::Syntax),
+    ("enter data copyin(readonly:)", ScriptFault::Syntax),
+    ("enter data copyin(zero: a)", ScriptFault::Syntax),
+    ("enter data create(readonly: a)", ScriptFault::Syntax),
+    ("enter data copyin(a) if_present", ScriptFault::Syntax),
+    ("enter data copyout(a)", ScriptFault::Syntax),
+    ("enter data copyin(a) async", ScriptFault::Syntax),
+    ("enter data delete(a)", ScriptFault::Syntax),
+    ("exit data copyin(a)", ScriptFault::Syntax),
+    ("exit data create(a)", ScriptFault::Syntax),
+    ("exit data copyout(zero: a)", ScriptFault::Syntax),
+    ("exit data delete(readonly: a)", ScriptFault::Syntax),
+    ("exit data delete(a) finalize", ScriptFault::Syntax),
+    ("exit data delete(a) if_present", ScriptFault::Syntax),
+    ("update", ScriptFault::Syntax),
+    ("update a", ScriptFault::Syntax),
+    ("update if_present", ScriptFault::Syntax),
+    ("update if_present self(a) if_present", ScriptFault::Syntax),
+    ("update copyin(a)", ScriptFault::Syntax),
+    ("update self(zero: a)", ScriptFault::Syntax),
+    ("update self(a) async", ScriptFault::Syntax),
+    ("update data self(a)", ScriptFault::Syntax),
+    ("write a 01", ScriptFault::Syntax),
+    ("write a[0:1] 01", ScriptFault::Syntax),
+    ("write a[0]", ScriptFault::Syntax),
+    ("write a[0] 01 02", ScriptFault::Syntax),
+    ("write a[0] 0x01", ScriptFault::Syntax),
+    ("show", ScriptFault::Syntax),
+    ("show a a", ScriptFault::Syntax),
+    ("show a[0]", ScriptFault::Syntax),
+    ("peek a[0:1", ScriptFault::Syntax),
+    ("present(a)", ScriptFault::Syntax),
+    ("address a", ScriptFault::Syntax),
+    ("address a[0:1]", ScriptFault::Syntax),
+    ("point a[0] to a[8]", ScriptFault::Syntax),
+    ("data copy(a)", ScriptFault::Syntax),
+    ("end data", ScriptFault::Syntax),
+    ("wait", ScriptFault::Syntax),
+    ("array a 16 16", ScriptFault::NameTaken),
+];
+
+/// Runs a script of a first part and a line, and compares the fault of its second line.
+fn check_fault<R: Abort + Threads + Wait + Sync + AllocGlobal>(
     rt: &R,
-    input: &[u8],
-    line: u64,
+    line: &str,
     kind: ScriptFault,
 ) -> Result<(), Fault> {
-    expect_run(rt, wide()?, input, "", Err(Fault::Script { line, kind }));
-    Ok(())
+    let mut script = Vec::from_slice(rt.alloc(), b"array a 16\n")?;
+    script.extend_from_slice(line.as_bytes())?;
+    check(rt, &WIDE, &script, "", Err((2, kind)))
 }
 
 #[test]
-fn prints_each_form(rt: HostRuntime) -> Result<(), Fail> {
-    expect_run(&rt, wide()?, b"", "", Ok(Status::Clean));
-    expect_run(
-        &rt,
-        wide()?,
-        b"array a 32\nenter data copyin(a)\nreport\nexit data delete(a)\nreport\n",
-        "host 65536 device 65536 used 32\n\
-         map 0x1000 32 at 0x100000000 structured 0 dynamic 1\n\
-         regions 0 events 1\n\
-         host 65536 device 65536 used 0\n\
-         regions 0 events 2\n",
-        Ok(Status::Clean),
-    );
-    expect_run(
-        &rt,
-        wide()?,
-        b"array a 32\nenter data copyin(a[0:16])\nenter data copyin(a[8:16])\nenter data copyin(a[4:4])\nreport\n",
-        "line 3: refused 10 PartlyPresent item 0\n\
-         host 65536 device 65536 used 16\n\
-         map 0x1000 16 at 0x100000000 structured 0 dynamic 2\n\
-         regions 0 events 2\n",
-        Ok(Status::Refused),
-    );
-    expect_run(
-        &rt,
-        wide()?,
-        b"array a 16\nenter data copyin(a, a)\n",
-        "line 2: refused 5 TooManyItems n 2\n",
-        Ok(Status::Refused),
-    );
-    expect_run(
-        &rt,
-        wide()?,
-        b"array a 16\nexit data delete(a[65536:1])\n",
-        "line 2: refused 7 OutOfHost item 0\n",
-        Ok(Status::Refused),
-    );
-    Ok(())
-}
-
-#[test]
-fn prints_refusals_of_small_tables(rt: HostRuntime) -> Result<(), Fail> {
-    let script = b"array a 20\nenter data copyin(a)\nenter data copyin(a)\n";
-    let no_tickets = Config::new(64, 64, 1, 1, 8, 1, 8)?;
-    expect_run(
-        &rt,
-        no_tickets,
-        script,
-        "line 3: refused 3 NoTickets left 0\n",
-        Ok(Status::Refused),
-    );
-    let no_trace = Config::new(64, 64, 1, 8, 8, 1, 1)?;
-    expect_run(
-        &rt,
-        no_trace,
-        script,
-        "line 3: refused 6 TraceFull len 1\n",
-        Ok(Status::Refused),
-    );
-    let no_count = Config::new(64, 64, 1, 8, 1, 1, 8)?;
-    expect_run(
-        &rt,
-        no_count,
-        script,
-        "line 3: refused 12 CounterFull item 0\n",
-        Ok(Status::Refused),
-    );
-    let no_device = Config::new(64, 16, 1, 8, 8, 1, 8)?;
-    expect_run(
-        &rt,
-        no_device,
-        script,
-        "line 2: refused 14 DeviceFull item 0 need 32\nline 3: refused 14 DeviceFull item 0 need 32\n",
-        Ok(Status::Refused),
-    );
-    Ok(())
-}
-
-#[test]
-fn copies_between_the_memories(rt: HostRuntime) -> Result<(), Fail> {
-    for (script, printed) in [
-        // What the host wrote after the copy comes back over by `update`.
-        (
-            "array a 4\nwrite a[0] 01020304\nenter data copyin(a)\nwrite a[0] ffffffff\npeek a\nupdate self(a)\nshow a\n",
-            "01020304\n01020304\n",
-        ),
-        // A block made by `create` is filled; `zero` fills it with zero.
-        (
-            "array a 16\nexit data delete(a)\nenter data create(zero: a)\npeek a[14:2]\nexit data delete(a)\nexit data delete(a)\nreport\n",
-            "0000\nhost 65536 device 65536 used 0\nregions 0 events 4\n",
-        ),
-        (
-            "array a 2\nwrite a[0] 0102\nenter data create(a)\npeek a\nshow a\n",
-            "a5a5\n0102\n",
-        ),
-        // `update` copies its section alone, one way or the other.
-        (
-            "array a 3\nenter data copyin(readonly: a)\nwrite a[0] 010203\nupdate device(a[1:1])\npeek a\nwrite a[0] ffffff\nupdate host(a[1:2])\nshow a\n",
-            "000200\nff0200\n",
-        ),
-        // `copyout` copies its section alone, and only where the mapping ends.
-        (
-            "array a 4\nwrite a[0] 01020304\nenter data copyin(a)\nwrite a[0] ffffffff\nexit data copyout(a[1:2])\nshow a\npeek a\n",
-            "ff0203ff\nnone\n",
-        ),
-        (
-            "array a 1\nenter data create(a)\nenter data create(zero: a)\nexit data copyout(a)\nshow a\nexit data copyout(a)\nshow a\n",
-            "00\na5\n",
-        ),
-        (
-            "array a 1\nenter data create(a)\nexit data delete(a)\nshow a\n",
-            "00\n",
-        ),
-    ] {
-        expect_run(&rt, wide()?, script.as_bytes(), printed, Ok(Status::Clean));
+fn lines_at_fault_are_told(rt: HostRuntime) -> Result<(), Fail> {
+    for (line, kind) in FAULTS {
+        check_fault(&rt, line, kind)?;
     }
     Ok(())
 }
 
-#[test]
-fn answers_questions(rt: HostRuntime) -> Result<(), Fail> {
-    // The 16 bytes from the offset 8 on are mapped.
-    for (question, answer) in [
-        ("present a[8:16]", "yes"),
-        ("present a[9:1]", "yes"),
-        ("present a[8:17]", "no"),
-        ("present a", "no"),
-        ("present a[24:8]", "no"),
-        ("present a[9:0]", "no"),
-        ("address a[8]", "0x100000000"),
-        ("address a[23]", "0x10000000f"),
-        ("address a[24]", "none"),
-        ("address a[7]", "none"),
-        ("address a[4294967295]", "none"),
-        ("peek a[22:2]", "0708"),
-        ("peek a[22:3]", "none"),
-        ("peek a[0:1]", "none"),
-        ("peek a[9:0]", "none"),
-        ("show a[21:4]", "00070809"),
-        ("show a[9:0]", "-"),
-        ("show a[4294967295:0]", "-"),
-        ("show a[65534:2]", "0000"),
-    ] {
-        let mut input = Vec::from_slice(
-            rt.alloc(),
-            b"array a 32\nwrite a[22] 070809\nenter data copyin(a[8:16])\n",
-        )?;
-        input.extend_from_slice(question.as_bytes())?;
-        let printed = format!(in rt.alloc(); "{answer}\n")?;
-        expect_run(&rt, wide()?, &input, printed.as_str(), Ok(Status::Clean));
-    }
-    Ok(())
-}
-
-#[test]
-fn refuses_writes_shows_and_updates(rt: HostRuntime) -> Result<(), Fail> {
-    expect_run(
-        &rt,
-        wide()?,
-        b"array s 16\nupdate self(s)\nupdate self(s) if_present\nwrite s[65536] 01\nshow s[65535:2]\nshow s[65536:1]\n\
-          enter data create(s[0:8])\nupdate if_present device(s)\nupdate self(s[0:1]) device(s[0:1])\nexit data copyout(s)\nenter data create(zero: s)\nreport\n",
-        "line 2: refused 11 NotPresent item 0\n\
-         line 4: refused 7 OutOfHost item 0\n\
-         line 5: refused 7 OutOfHost item 0\n\
-         line 6: refused 7 OutOfHost item 0\n\
-         line 8: refused 10 PartlyPresent item 0\n\
-         line 9: refused 5 TooManyItems n 2\n\
-         line 10: refused 10 PartlyPresent item 0\n\
-         line 11: refused 10 PartlyPresent item 0\n\
-         host 65536 device 65536 used 16\n\
-         map 0x1000 8 at 0x100000000 structured 0 dynamic 1\n\
-         regions 0 events 2\n",
-        Ok(Status::Refused),
-    );
-    // What stood before a line that ends in the middle of a clause is printed.
-    expect_run(
-        &rt,
-        wide()?,
-        b"array a 16\nshow a[0:2]\nenter data copyin(a[0:",
-        "0000\n",
-        Err(Fault::Script {
-            line: 3,
-            kind: ScriptFault::Syntax,
-        }),
-    );
-    Ok(())
-}
-
-#[test]
-fn writes_and_shows_many_bytes(rt: HostRuntime) -> Result<(), Fail> {
-    // The digits of 130 bytes are written in three pieces; the bytes 63 and 64 are at the end of one.
-    let mut printed = [b'0'; 261];
-    printed[127] = b'a';
-    printed[128] = b'f';
-    printed[129] = b'f';
-    printed[260] = b'\n';
-    expect_bytes(
-        &rt,
-        wide()?,
-        b"array a 130\nwrite a[63] 0aFf\nshow a\n",
-        &printed,
-        Ok(Status::Clean),
-    );
-    // A word of 128 digits, and one of 130.
-    let digits = [b'9'; 129];
-    let mut input = Vec::from_slice(rt.alloc(), b"array a 64\nwrite a[0]")?;
-    input.extend_from_slice(&digits[..128])?;
-    let mut longer = input.clone()?;
-    input.extend_from_slice(b"\nshow a[62:2]\n")?;
-    expect_run(&rt, wide()?, &input, "9999\n", Ok(Status::Clean));
-    longer.extend_from_slice(b"99")?;
-    expect_fault(&rt, &longer, 2, ScriptFault::Number)?;
-    Ok(())
-}
-
-#[test]
-fn tells_each_kind_of_fault(rt: HostRuntime) -> Result<(), Fail> {
-    expect_fault(&rt, b"\xc3\xa4\n", 1, ScriptFault::NotText)?;
-    expect_fault(
-        &rt,
-        b"array a 16\narray a 16 16\n",
-        2,
-        ScriptFault::NameTaken,
-    )?;
-    expect_fault(&rt, b"array a 0\n", 1, ScriptFault::Number)?;
-    expect_fault(&rt, b"array a 4294967296\n", 1, ScriptFault::Number)?;
-    expect_fault(&rt, b"array a 4294967295\n", 1, ScriptFault::HostFull)?;
-    expect_fault(&rt, b"array a 65536\narray b 1\n", 2, ScriptFault::HostFull)?;
-    expect_fault(&rt, b"enter data copyin(b)\n", 1, ScriptFault::UnknownName)?;
-    expect_fault(&rt, b"show b\n", 1, ScriptFault::UnknownName)?;
-    expect_fault(
-        &rt,
-        b"array a 16\n\nenter data copyin(a[0:",
-        3,
-        ScriptFault::Syntax,
-    )?;
-    Ok(())
-}
-
-#[test]
-fn tells_the_first_fault_from_the_left(rt: HostRuntime) -> Result<(), Fail> {
-    // The array `a` is declared in front of each line.
-    for (line, kind) in [
-        ("array a ! 0", ScriptFault::NameTaken),
-        ("array a", ScriptFault::NameTaken),
-        ("array b 0 !", ScriptFault::Number),
-        ("array b 99999999999999999999 !", ScriptFault::Number),
-        ("array b 9999999 !", ScriptFault::Syntax),
-        ("enter data copyin(b !", ScriptFault::UnknownName),
-        ("enter data ! copyin(b)", ScriptFault::Syntax),
-        ("enter data copyin(a[4294967296:1] !", ScriptFault::Number),
-        ("enter data copyin(a[0:99999999999]", ScriptFault::Number),
-        (
-            "enter data copyin(a) copyin(b) delete(a)",
-            ScriptFault::UnknownName,
-        ),
-        ("enter data copyin(a) delete(b)", ScriptFault::Syntax),
-        ("write a[0] 012", ScriptFault::Number),
-        ("write a[0] 0", ScriptFault::Number),
-        ("write a[0] 01g", ScriptFault::Syntax),
-        ("write a[4294967296] 01g", ScriptFault::Number),
-        ("write b[0] 012", ScriptFault::UnknownName),
-        ("show b[0:1", ScriptFault::UnknownName),
-        ("peek b a", ScriptFault::UnknownName),
-        ("address b !", ScriptFault::UnknownName),
-        ("enter data create(zero b)", ScriptFault::UnknownName),
-        ("enter data create(zero: zero: a)", ScriptFault::UnknownName),
-        ("enter data create(b: c)", ScriptFault::Syntax),
-        ("exit data copyout(zero: b)", ScriptFault::Syntax),
-        (
-            "update self(b) if_present if_present",
-            ScriptFault::UnknownName,
-        ),
-        ("update if_present if_present self(b)", ScriptFault::Syntax),
-    ] {
-        let mut input = Vec::from_slice(rt.alloc(), b"array a 16\n")?;
-        input.extend_from_slice(line.as_bytes())?;
-        expect_fault(&rt, &input, 2, kind)?;
-    }
-    Ok(())
-}
-
-#[test]
-fn refuses_what_is_no_statement(rt: HostRuntime) -> Result<(), Fail> {
-    // The array `a` is declared in front of each line.
-    for line in [
-        "array b16",
-        "array b",
-        "array b 16 17",
-        "array b -1",
-        "array b 0x10",
-        "array B 16",
-        "array 1b 16",
-        "array b234567890123456789012345678901_3 16",
-        "Report",
-        "report a",
-        "enter copyin(a)",
-        "enter data",
-        "enter data copyin",
-        "enter data copyin()",
-        "enter data copyin(a",
-        "enter data copyin(a,)",
-        "enter data copyin(,a)",
-        "enter data copyin(a a)",
-        "enter data copyin(a),",
-        "enter data ,copyin(a)",
-        "enter data copyin(a),,copyin(a)",
-        "enter data copyin(a[0])",
-        "enter data copyin(a[0:])",
-        "enter data copyin(a[b:1])",
-        "enter data copyin(unknown: a)",
-        "enter data copyin(: a)",
-        "enter data copyin(readonly:)",
-        "enter data copyin(zero: a)",
-        "enter data create(readonly: a)",
-        "enter data copyin(a) if_present",
-        "enter data copyout(a)",
-        "enter data copyin(a) async",
-        "enter data delete(a)",
-        "exit data copyin(a)",
-        "exit data create(a)",
-        "exit data copyout(zero: a)",
-        "exit data delete(readonly: a)",
-        "exit data delete(a) finalize",
-        "exit data delete(a) if_present",
-        "update",
-        "update a",
-        "update if_present",
-        "update if_present self(a) if_present",
-        "update copyin(a)",
-        "update self(zero: a)",
-        "update self(a) async",
-        "update data self(a)",
-        "write a 01",
-        "write a[0:1] 01",
-        "write a[0]",
-        "write a[0] 01 02",
-        "write a[0] 0x01",
-        "show",
-        "show a a",
-        "show a[0]",
-        "peek a[0:1",
-        "present(a)",
-        "address a",
-        "address a[0:1]",
-        "point a[0] to a[8]",
-        "data copy(a)",
-        "end data",
-        "wait",
-    ] {
-        let mut input = Vec::from_slice(rt.alloc(), b"array a 16\n")?;
-        input.extend_from_slice(line.as_bytes())?;
-        expect_fault(&rt, &input, 2, ScriptFault::Syntax)?;
-    }
-    Ok(())
-}
-
-#[test]
-fn reads_each_spelling(rt: HostRuntime) -> Result<(), Fail> {
-    // Arrays may be named as keywords are, and lie at multiples of 16.
-    expect_run(
-        &rt,
-        wide()?,
-        b"array copyin 1\narray b23456789012345678901234567890_2\t00000000000000000017\narray data 1#\n\
-          enter data copyin(copyin)\r\n\tenter\tdata copyin ( data [ 0 : 1 ] ) # data\nenter data copyin(b23456789012345678901234567890_2)\nreport",
-        "host 65536 device 65536 used 64\n\
-         map 0x1000 1 at 0x100000000 structured 0 dynamic 1\n\
-         map 0x1010 17 at 0x100000020 structured 0 dynamic 1\n\
-         map 0x1030 1 at 0x100000010 structured 0 dynamic 1\n\
-         regions 0 events 3\n",
-        Ok(Status::Clean),
-    );
-    // Clauses stand with or without a comma between two of them.
-    expect_run(
-        &rt,
-        wide()?,
-        b"array a 16\nenter data copyin(a)copyin(a)\nexit data delete(a) , delete(a, a)\n",
-        "line 2: refused 5 TooManyItems n 2\nline 3: refused 5 TooManyItems n 3\n",
-        Ok(Status::Refused),
-    );
-    // A modifier is one where a colon follows it; options stand before and behind clauses; digits are of either case.
-    expect_run(
-        &rt,
-        wide()?,
-        b"array zero 2\narray readonly 2\narray if_present 1\nenter data create ( zero : zero )\nenter data copyin(readonly:readonly)\nenter data create(if_present)\n\
-          write zero [ 0 ] aBCd\nupdate if_present,device(zero)\npeek zero\nupdate self(if_present) , if_present\nshow if_present\nwrite readonly[1]7F#f\nupdate device(readonly)if_present\npeek readonly\n",
-        "abcd\na5\n007f\n",
-        Ok(Status::Clean),
-    );
-    Ok(())
-}
-
-#[test]
-fn reads_bytes_and_lines(rt: HostRuntime) -> Result<(), Fail> {
+/// Long lines: a first part, a byte so many times, a last part, what the script prints, and how it ends.
+const LONG: [(&str, u8, usize, &str, &str, End); 6] = [
+    (
+        "array a 64\nwrite a[0]",
+        b'9',
+        128,
+        "\nshow a[62:2]\n",
+        "9999\n",
+        CLEAN,
+    ),
+    (
+        "array a 64\nwrite a[0]",
+        b'9',
+        130,
+        "",
+        "",
+        Err((2, ScriptFault::Number)),
+    ),
     // The carriage return and the line feed do not count.
-    let comment = [b'#'; 4097];
-    let mut line = Vec::from_slice(rt.alloc(), &comment[..4096])?;
-    expect_run(&rt, wide()?, &line, "", Ok(Status::Clean));
-    line.extend_from_slice(b"\r\nreport!")?;
-    expect_fault(&rt, &line, 2, ScriptFault::Syntax)?;
-    expect_fault(&rt, &comment, 1, ScriptFault::TooLong)?;
-    // The byte 0x80 in a comment, and outside; a line that is too long is told first.
-    expect_run(&rt, wide()?, b"# \x80\n", "", Ok(Status::Clean));
-    expect_fault(&rt, b"\x80", 1, ScriptFault::NotText)?;
-    expect_fault(&rt, &[b'\x80'; 4097], 1, ScriptFault::TooLong)?;
-    // One carriage return is dropped at the end of a line, and none before.
-    expect_run(&rt, wide()?, b"\r", "", Ok(Status::Clean));
-    expect_run(&rt, wide()?, b"\r\n\r", "", Ok(Status::Clean));
-    expect_fault(&rt, b"\n\r\r\n", 2, ScriptFault::NotText)?;
-    expect_fault(&rt, b"report\r \n", 1, ScriptFault::NotText)?;
-    expect_fault(&rt, b"\x7f", 1, ScriptFault::NotText)?;
-    expect_fault(&rt, b"~", 1, ScriptFault::Syntax)?;
+    ("", b'#', 4096, "", "", CLEAN),
+    (
+        "",
+        b'#',
+        4096,
+        "\r\nreport!",
+        "",
+        Err((2, ScriptFault::Syntax)),
+    ),
+    // A line that is too long is told first.
+    ("", b'#', 4097, "", "", Err((1, ScriptFault::TooLong))),
+    ("", 0x80, 4097, "", "", Err((1, ScriptFault::TooLong))),
+];
+
+/// A byte so many times, between two texts.
+fn joined(
+    alloc: Global,
+    first: &str,
+    byte: u8,
+    count: usize,
+    last: &str,
+) -> Result<Vec<u8>, AllocError> {
+    let mut script = Vec::from_slice(alloc, first.as_bytes())?;
+    for _ in 0..count {
+        script.push(byte)?;
+    }
+    script.extend_from_slice(last.as_bytes())?;
+    Ok(script)
+}
+
+#[test]
+fn long_lines_are_read(rt: HostRuntime) -> Result<(), Fail> {
+    for (first, byte, count, last, printed, end) in LONG {
+        let script = joined(rt.alloc(), first, byte, count, last)?;
+        check(&rt, &WIDE, &script, printed, end)?;
+    }
     Ok(())
 }
 
@@ -525,10 +447,10 @@ fn reads_so_many_bytes_and_no_more(rt: HostRuntime) -> Result<(), Fail> {
     ] {
         let mut reader = LineFeeds { left: count };
         let mut writer = MemorySink::new(rt.alloc());
-        let got = run(&rt, &mut reader, &mut writer, wide()?, 1);
-        assert_eq!(rt; got, outcome, "at {count}");
-        assert_eq!(rt; reader.left, left, "at {count}");
-        assert_eq!(rt; writer.as_slice(), b"".as_slice(), "at {count}");
+        let got = run(&rt, &mut reader, &mut writer, config(&WIDE)?, 1);
+        same(&rt, got, outcome, count);
+        same(&rt, reader.left, left, count);
+        same(&rt, writer.as_slice(), b"".as_slice(), count);
     }
     Ok(())
 }
@@ -619,31 +541,44 @@ const PRINTED: &[u8; 149] =
     b"0102\nhost 65536 device 65536 used 16\nmap 0x1010 16 at 0x100000000 structured 0 dynamic 1\nregions 0 events 2\nline 7: refused 10 PartlyPresent item 0\n\0";
 
 #[test]
-fn ends_may_be_slow_or_fail(rt: HostRuntime) -> Result<(), Fail> {
-    for fails in [false, true] {
+fn a_slow_source_is_read(rt: HostRuntime) -> Result<(), Fail> {
+    for (fails, answer, len) in [
+        (false, Ok(Status::Refused), 148),
+        (true, Err(Fault::Read), 0),
+    ] {
         let mut reader = Trickle {
             bytes: SCRIPT,
             fails,
         };
         let mut writer = Narrow::new(256, true);
-        let got = run(&rt, &mut reader, &mut writer, wide()?, 1);
-        let (want, len) = if fails {
-            (Err(Fault::Read), 0)
-        } else {
-            (Ok(Status::Refused), 148)
-        };
-        assert_eq!(rt; got, want);
-        assert_eq!(rt; writer.len, len);
+        let got = run(&rt, &mut reader, &mut writer, config(&WIDE)?, 1);
+        same(&rt, got, answer, fails);
+        same(&rt, writer.len, len, fails);
     }
+    Ok(())
+}
+
+/// Runs the script into a sink of this room, which then fails, and compares what it took.
+fn check_narrow<R: Abort + Threads + Wait + Sync + AllocGlobal>(
+    rt: &R,
+    room: usize,
+    fails: bool,
+) -> Result<(), Fault> {
+    let mut reader = MemorySource::new(SCRIPT);
+    let mut writer = Narrow::new(room, fails);
+    let got = run(rt, &mut reader, &mut writer, config(&WIDE)?, 1);
+    same(rt, got, Err(Fault::Write), room);
+    same(rt, writer.len, room, room);
+    assert!(rt; room <= 148);
+    same(rt, &writer.bytes[..room], &PRINTED[..room], room);
+    Ok(())
+}
+
+#[test]
+fn a_sink_may_fail_anywhere(rt: HostRuntime) -> Result<(), Fail> {
     for room in 0..148usize {
-        for fails in [false, true] {
-            let mut reader = MemorySource::new(SCRIPT);
-            let mut writer = Narrow::new(room, fails);
-            let got = run(&rt, &mut reader, &mut writer, wide()?, 1);
-            assert_eq!(rt; got, Err(Fault::Write), "at {room}");
-            assert_eq!(rt; writer.len, room);
-            assert_eq!(rt; &writer.bytes[..room], &PRINTED[..room], "at {room}");
-        }
+        check_narrow(&rt, room, false)?;
+        check_narrow(&rt, room, true)?;
     }
     Ok(())
 }
@@ -653,7 +588,7 @@ fn ends_may_be_slow_or_fail(rt: HostRuntime) -> Result<(), Fail> {
 fn each_growth_may_be_refused(rt: HostRuntime) -> Result<(), Fail> {
     let mut reader = MemorySource::new(SCRIPT);
     let mut writer = Narrow::new(256, true);
-    let got = run(&rt, &mut reader, &mut writer, wide()?, 1);
+    let got = run(&rt, &mut reader, &mut writer, config(&WIDE)?, 1);
     let len = writer.len;
     match got {
         Ok(Status::Refused) => assert_eq!(rt; len, 148),

@@ -12,8 +12,9 @@ use Rattle.acc_base.specs.declared.mappings.Found.TheVariants.{Empty, Inside, Pa
 use Rattle.acc_base.specs.Section.{is_within, end_of}
 use Rattle.acc_base.specs.Ranges.{where_is, range_from, IsPlacedAt}
 use Rattle.acc_base.specs.Blocks.{block_at, place_of}
-use Rattle.acc_base.specs.Calls.{World}
-use Rattle.acc_base.specs.Accounts.{EachPair, IsInHost, IsBelow, IsAccounted}
+use Rattle.acc_table.specs.Single.Calls.{World}
+use Rattle.acc_base.specs.Accounts.{EachPair, IsInHost, IsBelow}
+use Rattle.acc_table.specs.Single.Accounts.{IsAccounted}
 use Rattle.acc_base.proofs.Elements.{AllByRecursion-weaker, found_has}
 use Rattle.acc_base.proofs.Where.{IsInside, where_is-placed, inside_exactly, IsInsideOf, inside_says}
 use Rattle.acc_table.specs.Bounds.{IsShort, IsLow}

@@ -8,7 +8,8 @@ use Rattle.acc_base.specs.declared.items.Section.{Section}
 use Rattle.acc_base.specs.declared.items.EnterClause.TheVariants as enter
 use Rattle.acc_base.specs.Section.{covers, end_of, is_within, host_memory, host_base}
 use Rattle.acc_base.specs.Records.{Memory}
-use Rattle.acc_base.specs.Bytes.{written_bytes, host_byte, memory_changed, bytes_moved_in, bytes_moved_out, bytes_born, fill_byte, host_after_write}
+use Rattle.acc_base.specs.Bytes.{written_bytes, host_byte, memory_changed, bytes_moved_in, bytes_moved_out, fill_byte, host_after_write}
+use Rattle.acc_table.specs.Single.Bytes.{bytes_born}
 use Rattle.acc_base.proofs.Results.{equal, equal_self}
 use Rattle.acc_host.specs.Host.{bytes_in, with_bytes}
 use Rattle.acc_dev.specs.Device.{overwritten}

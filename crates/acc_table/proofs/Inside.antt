@@ -9,12 +9,14 @@ use Rattle.acc_base.specs.declared.mappings.Block.{Block}
 use Rattle.acc_base.specs.declared.mappings.Found.TheVariants.{Inside}
 use Rattle.acc_base.specs.Limits.{Limits}
 use Rattle.acc_base.specs.Section.{is_within, host_memory, end_of}
-use Rattle.acc_base.specs.Records.{Records, Memory, State}
+use Rattle.acc_base.specs.Records.{Records, Memory}
+use Rattle.acc_table.specs.Single.Records.{State}
 use Rattle.acc_base.specs.Ranges.{where_is, range_of}
 use Rattle.acc_base.specs.Blocks.{block_at}
 use Rattle.acc_base.specs.Bytes.{bytes_of}
-use Rattle.acc_base.specs.Calls.{World}
-use Rattle.acc_base.specs.Accounts.{EachPair, IsInHost, IsClearOf, IsMapped, IsMemoryOf, IsAccounted}
+use Rattle.acc_table.specs.Single.Calls.{World}
+use Rattle.acc_base.specs.Accounts.{EachPair, IsInHost, IsClearOf, IsMapped, IsMemoryOf}
+use Rattle.acc_table.specs.Single.Accounts.{IsAccounted}
 use Rattle.acc_base.proofs.Elements.{AllByRecursion-weaker, AllByRecursion-both, EachPair-weaker, found_has}
 use Rattle.acc_base.proofs.Lookups.{at-own}
 use Rattle.acc_base.proofs.Where.{IsInsideOf, inside_says}

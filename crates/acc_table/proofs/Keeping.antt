@@ -7,13 +7,13 @@ use Rattle.acc_base.specs.declared.items.Section.{Section}
 use Rattle.acc_base.specs.declared.items.Item.{Item}
 use Rattle.acc_base.specs.declared.items.EnterClause.{EnterClause}
 use Rattle.acc_base.specs.declared.items.ExitClause.{ExitClause}
-use Rattle.acc_base.specs.declared.directives.Directive.{Directive}
-use Rattle.acc_base.specs.declared.directives.Directive.TheVariants.{EnterData, ExitData, Update}
+use Rattle.acc_table.specs.declared.directives.Directive.{Directive}
+use Rattle.acc_table.specs.declared.directives.Directive.TheVariants.{EnterData, ExitData, Update}
 use Rattle.acc_base.specs.declared.events.Step.{Step}
 use Rattle.acc_base.specs.declared.events.Step.TheVariants.{Nothing, Counted, Born, Dropped, Moved}
 use Rattle.acc_base.specs.declared.events.Did.{Did}
-use Rattle.acc_base.specs.declared.events.Event.{Event}
-use Rattle.acc_base.specs.declared.events.Event.TheVariants.{HostWritten}
+use Rattle.acc_table.specs.declared.events.Event.{Event}
+use Rattle.acc_table.specs.declared.events.Event.TheVariants.{HostWritten}
 use Rattle.acc_base.specs.declared.faults.Fault.{Fault}
 use Rattle.acc_base.specs.declared.mappings.Range.{Range}
 use Rattle.acc_base.specs.declared.mappings.Block.{Block}
@@ -21,15 +21,17 @@ use Rattle.acc_base.specs.Limits.{Limits, IsWithinBounds}
 use Rattle.acc_base.specs.Section.{is_within, end_of, host_memory, host_base, device_base}
 use Rattle.acc_base.specs.Blocks.{block_end}
 use Rattle.acc_base.specs.Records.{Records}
-use Rattle.acc_base.specs.Walk.{records_after_birth, records_after_end, with_range_changed, after_entered, after_exited, after_all_entered, after_all_exited, walk}
-use Rattle.acc_base.specs.Bytes.{after}
-use Rattle.acc_base.specs.Judge.{◌>>◌, item_count, few_items, directive_event, write_checked, host_write_event}
-use Rattle.acc_base.specs.Calls.{World, Request, Do, HostWrite, judge, ticket, trace_room, world_after, bytes_brought}
-use Rattle.acc_base.specs.Accounts.{IsInHost, IsOnDevice, IsTraced}
+use Rattle.acc_table.specs.Single.Walk.{records_after_birth, records_after_end, with_range_changed, after_entered, after_exited, after_all_entered, after_all_exited, walk}
+use Rattle.acc_table.specs.Single.Bytes.{after}
+use Rattle.acc_base.specs.Results.{◌>>◌}
+use Rattle.acc_table.specs.Single.Judge.{item_count, few_items, directive_event, write_checked, host_write_event}
+use Rattle.acc_table.specs.Single.Calls.{World, Request, Do, HostWrite, judge, ticket, trace_room, world_after, bytes_brought}
+use Rattle.acc_base.specs.Accounts.{IsInHost, IsOnDevice}
+use Rattle.acc_table.specs.Single.Accounts.{IsTraced}
 use Rattle.acc_base.proofs.Results.{then_ok, refused_not}
 use Rattle.acc_base.proofs.Elements.{AllByRecursion-weaker, AllByRecursion-both}
-use Rattle.acc_base.proofs.Walked.{records-after}
-use Rattle.acc_base.proofs.Accounted.{accepted, accounted_after, new_accounted}
+use Rattle.acc_table.proofs.Single.Walked.{records-after}
+use Rattle.acc_table.proofs.Single.Accounted.{accepted, accounted_after, new_accounted}
 use Rattle.acc_table.specs.Bounds.{IsShort, IsLow, IsBounded}
 use Rattle.acc_table.specs.Stored.{Contents, with_state, new_contents}
 use Rattle.acc_table.specs.Planned.{dids_of, event_of, admitted, write_admitted}

@@ -1,3 +1,4 @@
+pub mod Single
 pub mod Searches
 pub mod Copying
 pub mod Storing

@@ -6,22 +6,24 @@ use Rattle.acc_base.specs.declared.items.Item.{Item}
 use Rattle.acc_base.specs.declared.items.EnterClause.{EnterClause}
 use Rattle.acc_base.specs.declared.items.ExitClause.{ExitClause}
 use Rattle.acc_base.specs.declared.items.UpdateClause.{UpdateClause}
-use Rattle.acc_base.specs.declared.directives.Directive.TheVariants.{EnterData, ExitData, Update}
+use Rattle.acc_table.specs.declared.directives.Directive.TheVariants.{EnterData, ExitData, Update}
 use Rattle.acc_base.specs.declared.events.Step.{Step}
 use Rattle.acc_base.specs.declared.events.Step.TheVariants.{Nothing, Counted, Born, Dropped, Moved}
 use Rattle.acc_base.specs.declared.events.Did.{Did}
-use Rattle.acc_base.specs.declared.events.Event.TheVariants.{HostWritten}
+use Rattle.acc_table.specs.declared.events.Event.TheVariants.{HostWritten}
 use Rattle.acc_base.specs.declared.faults.Fault.{Fault}
 use Rattle.acc_base.specs.Section.{is_empty, is_within, host_memory}
 use Rattle.acc_base.specs.Blocks.{rounded, place_for}
-use Rattle.acc_base.specs.Walk.{after_entered, after_exited}
-use Rattle.acc_base.specs.Judge.{◌>>=◌, did_of, section_checked, enter_data_item, enter_data_items, exit_data_item, exit_data_items, write_checked}
-use Rattle.acc_base.specs.Calls.{World, Do, HostWrite, judge}
-use Rattle.acc_base.specs.Accounts.{IsAccounted}
+use Rattle.acc_table.specs.Single.Walk.{after_entered, after_exited}
+use Rattle.acc_base.specs.Results.{◌>>=◌}
+use Rattle.acc_base.specs.Tasks.{did_of}
+use Rattle.acc_table.specs.Single.Judge.{section_checked, enter_data_item, enter_data_items, exit_data_item, exit_data_items, write_checked}
+use Rattle.acc_table.specs.Single.Calls.{World, Do, HostWrite, judge}
+use Rattle.acc_table.specs.Single.Accounts.{IsAccounted}
 use Rattle.acc_base.proofs.Results.{bind_ok, ok_same, chosen}
 use Rattle.acc_base.proofs.Where.{absent_says}
-use Rattle.acc_base.proofs.Judged.{IsBirth, IsInRangeOf, IsEntered, entered_says, IsExited, exited_says, IsUpdated, updates_say, checked_says}
-use Rattle.acc_base.proofs.Accounted.{accepted}
+use Rattle.acc_table.proofs.Single.Judged.{IsBirth, IsInRangeOf, IsEntered, entered_says, IsExited, exited_says, IsUpdated, updates_say, checked_says}
+use Rattle.acc_table.proofs.Single.Accounted.{accepted}
 use Rattle.acc_table.specs.Stored.{CanMove, CanBear, CanEnter, CanExit, CanUpdate, CanWrite}
 use Rattle.acc_table.specs.Planned.{dids_of, event_of, CanEnterFirst, CanExitFirst, CanUpdateFirst}
 use Rattle.acc_table.specs.Kept.{IsKept}

@@ -15,14 +15,17 @@ use Rattle.acc_base.specs.declared.mappings.Range.{Range}
 use Rattle.acc_base.specs.declared.events.Step.{Step}
 use Rattle.acc_base.specs.declared.events.Step.TheVariants.{Nothing, Counted, Born, Dropped, Moved}
 use Rattle.acc_base.specs.Section.{is_within, host_memory}
-use Rattle.acc_base.specs.Records.{Memory, State}
-use Rattle.acc_base.specs.Ranges.{changed_at, lowered, without_range, start_of, range_of}
-use Rattle.acc_base.specs.Walk.{after_exited, records_after_end, with_range_changed}
-use Rattle.acc_base.specs.Bytes.{bytes_of, memory_changed, bytes_moved_in, memories_moved_in, host_moved_out, memories_kept, bytes_born, fill_byte, state_after_exited, state_after_updated, state_after_move}
-use Rattle.acc_base.specs.Judge.{did_of}
+use Rattle.acc_base.specs.Records.{Memory}
+use Rattle.acc_table.specs.Single.Records.{State}
+use Rattle.acc_base.specs.Ranges.{changed_at, without_range, start_of, range_of}
+use Rattle.acc_table.specs.Single.Ranges.{lowered}
+use Rattle.acc_table.specs.Single.Walk.{after_exited, records_after_end, with_range_changed}
+use Rattle.acc_base.specs.Bytes.{bytes_of, memory_changed, bytes_moved_in, memories_kept, fill_byte}
+use Rattle.acc_table.specs.Single.Bytes.{memories_moved_in, host_moved_out, bytes_born, state_after_exited, state_after_updated, state_after_move}
+use Rattle.acc_base.specs.Tasks.{did_of}
 use Rattle.acc_base.specs.Accounts.{IsMemoryOf}
 use Rattle.acc_base.proofs.Elements.{AllByRecursion-weaker}
-use Rattle.acc_base.proofs.Memories.{memories_kept-same}
+use Rattle.acc_table.proofs.Single.Memories.{memories_kept-same}
 use Rattle.acc_host.specs.Host.{bytes_in, with_bytes}
 use Rattle.acc_dev.specs.Device.{DeviceState, IsBorn, IsWritten, IsRetired, HasBlocksApart, overwritten}
 use Rattle.acc_table.specs.Stored.{Contents, with_state, with_host, with_memories, unmapped, CanMove, IsMadeWith}

@@ -3,7 +3,7 @@ use Rattle.std.specs.Prelude.{◌<◌, ◌^◌, All, length}
 use Rattle.acc_base.specs.declared.mappings.Range.{Range}
 use Rattle.acc_base.specs.declared.mappings.Block.{Block}
 use Rattle.acc_base.specs.Section.{end_of}
-use Rattle.acc_base.specs.Records.{State}
+use Rattle.acc_table.specs.Single.Records.{State}
 
 -- the range ends low enough, and its dynamic counter is small enough, for sums of 64 bits
 abbrev pub IsShort : Range → Type 0

@@ -2,8 +2,8 @@
 use Rattle.std.specs.Prelude.{◌≡◌, MatchResult}
 use Rattle.acc_base.specs.declared.faults.Fault.{Fault}
 use Rattle.acc_base.specs.declared.faults.Fault.TheVariants.{Memory}
-use Rattle.acc_base.specs.Calls.{World, Request, Do, HostWrite, judge, world_after}
-use Rattle.acc_base.specs.declared.events.Event.{Event}
+use Rattle.acc_table.specs.Single.Calls.{World, Request, Do, HostWrite, judge, world_after}
+use Rattle.acc_table.specs.declared.events.Event.{Event}
 use Rattle.acc_table.specs.declared.calls.Call.{Call}
 use Rattle.acc_table.specs.declared.calls.Call.TheVariants as calls
 use Rattle.acc_table.specs.declared.calls.Reply.{Reply}

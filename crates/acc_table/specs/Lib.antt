@@ -1,3 +1,4 @@
+pub mod Single
 pub mod Bounds
 pub mod Stored
 pub mod Planned

@@ -5,16 +5,18 @@ use Rattle.acc_base.specs.declared.items.Item.{Item}
 use Rattle.acc_base.specs.declared.items.EnterClause.{EnterClause}
 use Rattle.acc_base.specs.declared.items.ExitClause.{ExitClause}
 use Rattle.acc_base.specs.declared.items.UpdateClause.{UpdateClause}
-use Rattle.acc_base.specs.declared.directives.Directive.{Directive}
-use Rattle.acc_base.specs.declared.directives.Directive.TheVariants.{EnterData, ExitData, Update}
+use Rattle.acc_table.specs.declared.directives.Directive.{Directive}
+use Rattle.acc_table.specs.declared.directives.Directive.TheVariants.{EnterData, ExitData, Update}
 use Rattle.acc_base.specs.declared.events.Step.{Step}
 use Rattle.acc_base.specs.declared.events.Did.{Did}
-use Rattle.acc_base.specs.declared.events.Event.{Event}
-use Rattle.acc_base.specs.declared.events.Event.TheVariants.{EnteredData, ExitedData, Updated}
+use Rattle.acc_table.specs.declared.events.Event.{Event}
+use Rattle.acc_table.specs.declared.events.Event.TheVariants.{EnteredData, ExitedData, Updated}
 use Rattle.acc_base.specs.declared.faults.Fault.{Fault}
-use Rattle.acc_base.specs.Records.{State}
-use Rattle.acc_base.specs.Judge.{◌>>◌, did_of, few_items, write_checked}
-use Rattle.acc_base.specs.Calls.{World, ticket, trace_room}
+use Rattle.acc_table.specs.Single.Records.{State}
+use Rattle.acc_base.specs.Results.{◌>>◌}
+use Rattle.acc_base.specs.Tasks.{did_of}
+use Rattle.acc_table.specs.Single.Judge.{few_items, write_checked}
+use Rattle.acc_table.specs.Single.Calls.{World, ticket, trace_room}
 use Rattle.acc_table.specs.Stored.{Contents, CanEnter, CanExit, CanUpdate}
 
 -- what the items did, where the one item, if there is one, did this step

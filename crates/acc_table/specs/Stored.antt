@@ -9,11 +9,13 @@ use Rattle.acc_base.specs.declared.events.Step.{Step}
 use Rattle.acc_base.specs.declared.events.Step.TheVariants.{Born, Dropped, Moved}
 use Rattle.acc_base.specs.Limits.{Limits, IsFromOne}
 use Rattle.acc_base.specs.Section.{is_within, host_memory}
-use Rattle.acc_base.specs.Records.{Memory, State, new_state}
+use Rattle.acc_base.specs.Records.{Memory}
+use Rattle.acc_table.specs.Single.Records.{State, new_state}
 use Rattle.acc_base.specs.Ranges.{range_of}
 use Rattle.acc_base.specs.Blocks.{rounded, place_for, block_at, without_block}
-use Rattle.acc_base.specs.Walk.{records_after_end}
-use Rattle.acc_base.specs.Bytes.{bytes_of, bytes_born, memories_kept}
+use Rattle.acc_table.specs.Single.Walk.{records_after_end}
+use Rattle.acc_base.specs.Bytes.{bytes_of, memories_kept}
+use Rattle.acc_table.specs.Single.Bytes.{bytes_born}
 use Rattle.acc_dev.specs.Device.{DeviceState, birth_place}
 
 -- the size of device memory in bytes, and the state

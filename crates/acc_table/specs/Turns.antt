@@ -1,9 +1,9 @@
 -- A list of turns, one after the other, with its answers.
 use Rattle.std.specs.Prelude.{◌≡◌, ◌⊎◌, List, [], ◌∷◌, Result, Ok, Err}
-use Rattle.acc_base.specs.declared.events.Event.{Event}
+use Rattle.acc_table.specs.declared.events.Event.{Event}
 use Rattle.acc_base.specs.declared.faults.Fault.{Fault}
 use Rattle.acc_base.specs.declared.faults.Fault.TheVariants.{Memory}
-use Rattle.acc_base.specs.Calls.{World, Request, Do, HostWrite, judge, world_after}
+use Rattle.acc_table.specs.Single.Calls.{World, Request, Do, HostWrite, judge, world_after}
 use Rattle.acc_table.specs.declared.calls.Turn.{Turn}
 use Rattle.acc_table.specs.declared.calls.Turn.TheVariants as turns
 use Rattle.acc_table.specs.declared.calls.Reply.{Reply}

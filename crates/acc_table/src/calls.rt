@@ -1,6 +1,7 @@
 //! What a table is asked, and what it answers.
 
-use acc_base::{Directive, Fault, List};
+use crate::Directive;
+use acc_base::{Fault, List};
 
 /// A call on a table.
 #[derive(Debug, Drop)]

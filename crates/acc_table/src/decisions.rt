@@ -1,7 +1,7 @@
 //! What an item does, by where its section lies, or what it is refused for.
 
 ghost use Rattle.std.specs.Prelude.{◌≡◌, ◌≤◌, OnOk};
-ghost use Rattle.acc_base.specs.Judge.{enter_data_item, exit_data_item, update_item, section_checked, write_checked};
+ghost use Rattle.acc_table.specs.Single.Judge.{enter_data_item, exit_data_item, update_item, section_checked, write_checked};
 ghost use Rattle.acc_table.specs.Bounds.{IsBounded};
 
 use crate::ranges;
@@ -38,7 +38,7 @@ pub fn check_write(config: &Config, section: Section) -> Result<(), Fault>
 
 impl Store {
     /// What an item of `enter data` does, or its refusal.
-    #[tactic(auto, unfolding(acc_base::specs::Judge::enter_data_item))]
+    #[tactic(auto, unfolding(crate::specs::Single::Judge::enter_data_item))]
     pub fn entry_step(
         &self,
         config: &Config,
@@ -78,7 +78,7 @@ impl Store {
     }
 
     /// What an item of `exit data` does, or its refusal.
-    #[tactic(auto, unfolding(acc_base::specs::Judge::exit_data_item))]
+    #[tactic(auto, unfolding(crate::specs::Single::Judge::exit_data_item))]
     pub fn exit_step(&self, config: &Config, n: u64, item: Item<ExitClause>) -> Result<Step, Fault>
         requires { IsBounded self.now.state }
         ensures { result ≡ exit_data_item config.now n item self.now.state.records }
@@ -107,7 +107,7 @@ impl Store {
     }
 
     /// What an item of `update` does, or its refusal.
-    #[tactic(auto, unfolding(acc_base::specs::Judge::update_item))]
+    #[tactic(auto, unfolding(crate::specs::Single::Judge::update_item))]
     pub fn update_step(
         &self,
         config: &Config,

@@ -6,6 +6,8 @@
 
 mod calls;
 mod decisions;
+mod directives;
+mod events;
 mod plans;
 mod queries;
 mod ranges;
@@ -14,7 +16,6 @@ mod stores;
 mod tables;
 
 pub use calls::{Answer, Call, Mapped, Reply, Turn};
+pub use directives::Directive;
+pub use events::Event;
 pub use tables::Table;
-
-#[cfg(test)]
-mod tests;

@@ -1,20 +1,20 @@
 //! What a call is to do, and what it leaves in the store and in the trace. All growths come before the first change.
 
 ghost use Rattle.std.specs.Prelude.{◌≡◌, ◌≤◌, ◌<◌, vec_len, vec_capacity, ◌++◌, ◌∷◌, [], length, Ok, Err, MatchResult, IfOk, IfErr, OnOk, OnErr};
-ghost use Rattle.acc_base.specs.Judge.{enter_data_items, exit_data_items, update_items};
-ghost use Rattle.acc_base.specs.Bytes.{state_after_all_entered, state_after_all_exited, state_after_all_updated, host_after_write};
+ghost use Rattle.acc_table.specs.Single.Judge.{enter_data_items, exit_data_items, update_items};
+ghost use Rattle.acc_base.specs.Bytes.{host_after_write};
+ghost use Rattle.acc_table.specs.Single.Bytes.{state_after_all_entered, state_after_all_exited, state_after_all_updated};
 ghost use Rattle.acc_table.specs.Bounds.{IsBounded};
 ghost use Rattle.acc_table.specs.Stored.{CanWrite, with_state, with_host};
 ghost use Rattle.acc_table.specs.Planned.{dids_of, CanEnterFirst, CanExitFirst, CanUpdateFirst};
 
+use crate::Event;
 use crate::stores::Store;
-use acc_base::{
-    Config, Did, EnterClause, Event, ExitClause, Fault, Item, List, Step, UpdateClause,
-};
+use acc_base::{Config, Did, EnterClause, ExitClause, Fault, Item, List, Step, UpdateClause};
 use std::alloc::AllocError;
 
 /// What the one item of `enter data` does, if there is one, or its refusal.
-#[tactic(auto, unfolding(acc_base::specs::Judge::enter_data_items))]
+#[tactic(auto, unfolding(crate::specs::Single::Judge::enter_data_items))]
 pub fn entry_step(
     store: &Store,
     config: &Config,
@@ -34,7 +34,7 @@ pub fn entry_step(
 }
 
 /// What the one item of `exit data` does, if there is one, or its refusal.
-#[tactic(auto, unfolding(acc_base::specs::Judge::exit_data_items))]
+#[tactic(auto, unfolding(crate::specs::Single::Judge::exit_data_items))]
 pub fn exit_step(
     store: &Store,
     config: &Config,
@@ -53,7 +53,7 @@ pub fn exit_step(
 }
 
 /// What the one item of `update` does, if there is one, or its refusal.
-#[tactic(auto, unfolding(acc_base::specs::Judge::update_items))]
+#[tactic(auto, unfolding(crate::specs::Single::Judge::update_items))]
 pub fn update_step(
     store: &Store,
     config: &Config,
@@ -87,7 +87,7 @@ fn make_room(trace: &mut Vec<Event>, step: Option<Step>) -> Result<List<Did>, Al
 }
 
 /// Does the step of the one item of `enter data`, if there is one.
-#[tactic(auto, unfolding(acc_base::specs::Bytes::state_after_all_entered))]
+#[tactic(auto, unfolding(crate::specs::Single::Bytes::state_after_all_entered))]
 fn enter_first(
     store: &mut Store,
     items: &[Item<EnterClause>],
@@ -106,7 +106,7 @@ fn enter_first(
 }
 
 /// Does the step of the one item of `exit data`, if there is one.
-#[tactic(auto, unfolding(acc_base::specs::Bytes::state_after_all_exited))]
+#[tactic(auto, unfolding(crate::specs::Single::Bytes::state_after_all_exited))]
 fn exit_first(store: &mut Store, items: &[Item<ExitClause>], step: Option<Step>)
     requires bounded { IsBounded store.old.state }
     requires few { length items.now ≤ 1 }
@@ -119,7 +119,7 @@ fn exit_first(store: &mut Store, items: &[Item<ExitClause>], step: Option<Step>)
 }
 
 /// Does the step of the one item of `update`, if there is one.
-#[tactic(auto, unfolding(acc_base::specs::Bytes::state_after_all_updated))]
+#[tactic(auto, unfolding(crate::specs::Single::Bytes::state_after_all_updated))]
 fn update_first(store: &mut Store, items: &[Item<UpdateClause>], step: Option<Step>)
     requires bounded { IsBounded store.old.state }
     requires few { length items.now ≤ 1 }

@@ -2,14 +2,14 @@
 
 ghost use Rattle.std.specs.Prelude.{◌≡◌, ◌-◌, ◌↔◌, IsTrue, option_map};
 ghost use Rattle.acc_base.specs.Blocks.{used_bytes};
-ghost use Rattle.acc_base.specs.Calls.{event_count};
+ghost use Rattle.acc_table.specs.Single.Calls.{event_count};
 ghost use Rattle.acc_base.specs.Ranges.{where_is, IsPlacedAt};
 ghost use Rattle.acc_table.specs.Queries.{is_inside, IsInsideOne, counters_at, device_address_of, mapped_from, IsLeastFrom, host_read_of, device_read_of};
 
 use crate::calls::Mapped;
-use crate::ranges;
 use crate::tables::Table;
-use acc_base::{Config, Counters, Event, Found, Section};
+use crate::{Event, ranges};
+use acc_base::{Config, Counters, Found, Section};
 
 /// The section is inside one range.
 fn is_inside(found: Found) -> bool

@@ -4,7 +4,8 @@ ghost use Rattle.std.specs.Prelude.{◌≡◌, ◌<◌, ◌≤◌, ◌+◌, ◌^
 ghost use Rattle.std.specs.List.{list_all, position_or_len, position};
 ghost use Rattle.std.specs.Bool.{OnTrue};
 ghost use Rattle.acc_base.specs.Section.{is_within, is_apart, end_of};
-ghost use Rattle.acc_base.specs.Ranges.{where_is, range_around, range_of, range_from, dynamic_of, structured_of, start_of, with_range, without_range, changed_at, raised, lowered};
+ghost use Rattle.acc_base.specs.Ranges.{where_is, range_around, range_of, range_from, dynamic_of, structured_of, start_of, with_range, without_range, changed_at};
+ghost use Rattle.acc_table.specs.Single.Ranges.{raised, lowered};
 ghost use Rattle.acc_table.specs.Bounds.{IsShort};
 
 use acc_base::{Found, Range, Section};

@@ -2,7 +2,7 @@
 
 ghost use Rattle.std.specs.Prelude.{◌≡◌, IfOk, IfErr};
 ghost use Rattle.acc_base.specs.declared.faults.Fault.TheVariants.{Memory};
-ghost use Rattle.acc_base.specs.Calls.{judge};
+ghost use Rattle.acc_table.specs.Single.Calls.{judge};
 ghost use Rattle.acc_table.specs.Turns.{asked_by, answer_to, MayAnswer, IsRun};
 
 use crate::calls::{Answer, Call, Reply, Turn};

@@ -4,10 +4,12 @@ ghost use Rattle.std.specs.Prelude.{◌≡◌, ◌-◌, ◌<◌, ◌^◌, length
 ghost use Rattle.acc_base.specs.declared.faults.Fault.TheVariants.{Memory};
 ghost use Rattle.acc_base.specs.Limits.{IsWithinBounds, IsFromOne};
 ghost use Rattle.acc_base.specs.Section.{is_within, host_memory};
+ghost use Rattle.acc_base.specs.Holes.{IsDevice};
 ghost use Rattle.acc_base.specs.Ranges.{start_of};
 ghost use Rattle.acc_base.specs.Blocks.{place_of, block_at};
-ghost use Rattle.acc_base.specs.Bytes.{host_moved_out, memories_moved_in, host_after_write, state_after_entered, state_after_exited, state_after_updated};
-ghost use Rattle.acc_base.specs.Judge.{did_of};
+ghost use Rattle.acc_base.specs.Bytes.{host_after_write};
+ghost use Rattle.acc_table.specs.Single.Bytes.{host_moved_out, memories_moved_in, state_after_entered, state_after_exited, state_after_updated};
+ghost use Rattle.acc_base.specs.Tasks.{did_of};
 ghost use Rattle.acc_dev.specs.Device.{IsUnchanged, birth_place};
 ghost use Rattle.acc_table.specs.Bounds.{IsBounded};
 ghost use Rattle.acc_table.specs.Stored.{new_contents, with_state, with_host, with_memories, CanMove, CanBear, CanEnter, CanExit, CanUpdate, CanWrite, IsMadeWith, unmapped};
@@ -80,6 +82,13 @@ impl Store {
         })
     }
 
+    /// Blocks and holes are the device. Nothing is done.
+    pub fn laws(&self)
+        ensures { IsDevice self.now.size self.now.state.records.blocks }
+    {
+        self.device.laws();
+    }
+
     /// The device address of a block's first byte, or 0 where there is no such block.
     pub fn place_at(&self, block: u64) -> u64
         ensures { result ≡ place_of block self.now.state.records.blocks }
@@ -119,7 +128,7 @@ impl Store {
     }
 
     /// Maps a section to a new block. All growths come before the first change.
-    #[tactic(auto, unfolding(acc_base::specs::Bytes::state_after_entered, acc_base::specs::Walk::after_entered, acc_base::specs::Walk::records_after_birth))]
+    #[tactic(auto, unfolding(crate::specs::Single::Bytes::state_after_entered, crate::specs::Single::Walk::after_entered, crate::specs::Single::Walk::records_after_birth))]
     fn map_section(&mut self, item: Item<EnterClause>, block: u64, place: u64) -> Result<(), Fault>
         requires can { CanBear item.section block place self.old }
         ensures ok { OnOk result (self.new ≡ with_state (state_after_entered item (did_of (Step.Born block place)) self.old.state) self.old) }
@@ -141,7 +150,7 @@ impl Store {
     }
 
     /// Does the step of an item of `enter data`. Where memory is refused nothing changed.
-    #[tactic(auto, unfolding(acc_base::specs::Bytes::state_after_entered, acc_base::specs::Walk::after_entered, acc_base::specs::Walk::with_range_changed))]
+    #[tactic(auto, unfolding(crate::specs::Single::Bytes::state_after_entered, crate::specs::Single::Walk::after_entered, crate::specs::Single::Walk::with_range_changed))]
     pub fn enter(&mut self, item: Item<EnterClause>, step: Step) -> Result<(), Fault>
         requires bounded { IsBounded self.old.state }
         requires can { CanEnter item.section step self.old }

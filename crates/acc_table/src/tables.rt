@@ -3,16 +3,17 @@
 ghost use Rattle.std.specs.Prelude.{◌≡◌, ◌≤◌, Ok, Err, MatchResult, IfOk, IfErr, OnOk, OnErr};
 ghost use Rattle.acc_base.specs.declared.faults.Fault.TheVariants.{Memory};
 ghost use Rattle.acc_base.specs.Limits.{IsWithinBounds};
-ghost use Rattle.acc_base.specs.Judge.{item_count, directive_event};
-ghost use Rattle.acc_base.specs.Calls.{Do, HostWrite, judge, ticket, trace_room, new_world, world_after};
-ghost use Rattle.acc_base.specs.Accounts.{IsAccounted};
+ghost use Rattle.acc_base.specs.Holes.{IsDevice};
+ghost use Rattle.acc_table.specs.Single.Judge.{item_count, directive_event};
+ghost use Rattle.acc_table.specs.Single.Calls.{Do, HostWrite, judge, ticket, trace_room, new_world, world_after};
+ghost use Rattle.acc_table.specs.Single.Accounts.{IsAccounted};
 ghost use Rattle.acc_table.specs.Calls.{request_of, IsDone, IsRefusal};
 ghost use Rattle.acc_table.specs.Planned.{admitted, write_admitted, event_of};
 
 use crate::calls::{Call, Reply};
 use crate::stores::Store;
-use crate::{decisions, plans};
-use acc_base::{Config, Directive, Event, Fault, Section, Step};
+use crate::{Directive, Event, decisions, plans};
+use acc_base::{Config, Fault, Section, Step};
 use std::alloc::Global;
 use std::marker::Model;
 
@@ -31,7 +32,7 @@ pub struct Table {
 }
 
 impl Model for Table {
-    ghost use Rattle.acc_base.specs.Calls.{World};
+    ghost use Rattle.acc_table.specs.Single.Calls.{World};
     ghost use Rattle.acc_table.specs.Kept.{IsKept};
 
     ghost Value = { World };
@@ -70,12 +71,14 @@ impl Table {
 
     /// What holds of every table: mapped ranges and blocks are apart and account for every used byte, each range has
     /// a block of its own, no range has both counters zero, every counter is what the history gives and within its
-    /// limit, each memory has its size, the history is legal, and the limits are within their bounds. Nothing is done.
+    /// limit, each memory has its size, the history is legal, the limits are within their bounds, and blocks and holes are
+    /// the device, with no address in two of them. Nothing is done.
     pub fn laws(&self)
         ensures accounted { IsAccounted self.now }
         ensures bounds { IsWithinBounds self.now.limits }
+        ensures holes { IsDevice self.now.limits.device self.now.state.records.blocks }
     {
-        let _ = &self.config;
+        self.store.laws();
     }
 
     /// Makes one call: an event, or no change (OpenACC 3.3, section 2.6.6, enter data and exit data directives, and the
@@ -169,7 +172,7 @@ impl Table {
     }
 
     /// What the one item does, if there is one, or its refusal.
-    #[tactic(auto, unfolding(acc_base::specs::Judge::directive_event))]
+    #[tactic(auto, unfolding(crate::specs::Single::Judge::directive_event))]
     fn first_step(&self, directive: &Directive) -> Result<Option<Step>, Fault>
         requires { item_count directive.now ≤ 1 }
         ensures { MatchResult result
@@ -201,7 +204,7 @@ impl Table {
     }
 
     /// Makes the planned event, or hands the directive back where memory is refused.
-    #[tactic(auto, unfolding(acc_base::specs::Calls::world_after, acc_base::specs::Bytes::after))]
+    #[tactic(auto, unfolding(crate::specs::Single::Calls::world_after, crate::specs::Single::Bytes::after))]
     fn commit(&mut self, directive: Directive, step: Option<Step>) -> Result<(), Directive>
         requires { judge self.old (Do directive) ≡ Ok (event_of directive step) }
         ensures ok { OnOk result (self.new ≡ world_after (Do directive) (event_of directive step) self.old) }
@@ -240,7 +243,7 @@ impl Table {
     }
 
     /// Writes into host memory.
-    #[tactic(auto, unfolding(acc_base::specs::Calls::world_after, acc_base::specs::Bytes::after), using(crate::proofs::Keeping::judge_write))]
+    #[tactic(auto, unfolding(crate::specs::Single::Calls::world_after, crate::specs::Single::Bytes::after), using(crate::proofs::Keeping::judge_write))]
     fn write_host(&mut self, addr: u64, bytes: &[u8]) -> Result<Reply, Fault>
         ensures done { IfOk result (λ reply. IsDone self.old (HostWrite addr bytes.now) reply self.new) }
         ensures refused { IfErr result (IsRefusal self.old (HostWrite addr bytes.now)) }

@@ -2,26 +2,24 @@
 #![tactic(auto)]
 
 mod options;
+mod outputs;
 #[cfg(test)]
 mod tests;
 mod tools;
+mod words;
 
-use crate::tools::{FAULTED, tell, tool};
+use crate::tools::{FAULTED, tell, tell_words, tool};
+use crate::words::read_words;
 use acc_base::Fault;
 use acc_script::{FromRead, ToWrite};
-use std::env;
 use std::io::BufWriter;
 use std::process::ExitCode;
 
 fn main(rt: HostRuntime) -> ExitCode {
     let mut err = ToWrite::new(rt.stderr());
-    let Ok(args) = env::args(&rt) else {
-        tell(&mut err, Fault::Memory);
-        return ExitCode::from(FAULTED);
-    };
-    let Ok(words) = args.collect::<Vec<String>>(rt.alloc()) else {
-        tell(&mut err, Fault::Memory);
-        return ExitCode::from(FAULTED);
+    let words = match read_words(&rt) {
+        Ok(words) => words,
+        Err(fault) => return ExitCode::from(tell_words(&mut err, fault)),
     };
     let Ok(stdout) = BufWriter::new(rt.alloc(), rt.stdout()) else {
         tell(&mut err, Fault::Memory);
@@ -29,10 +27,5 @@ fn main(rt: HostRuntime) -> ExitCode {
     };
     let mut out = ToWrite::new(stdout);
     let mut reader = FromRead::new(rt.stdin());
-    let status = tool(&rt, words, &mut reader, &mut out, &mut err);
-    if !out.flush() && status != FAULTED {
-        tell(&mut err, Fault::Write);
-        return ExitCode::from(FAULTED);
-    }
-    ExitCode::from(status)
+    ExitCode::from(tool(&rt, words, &mut reader, &mut out, &mut err))
 }

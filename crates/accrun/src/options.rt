@@ -34,20 +34,11 @@ fn size_option<'a>(alloc: Global, name: &'a str, help: &'a str) -> Arg<'a> {
 /// `clap`'s own, whose text is for the user: also where help was asked for, and for want of memory.
 pub fn parsed_options(alloc: Global, words: &[String]) -> Result<Options, Error> {
     let command = Command::new(alloc, "accrun")
-        .about(
-            "Runs a script of OpenACC data directives, read on standard input, on a simulated device",
-        )
+        .about("Runs a script of OpenACC data directives on a simulated device")
+        .override_usage(USAGE)
         .after_help(AFTER_HELP)
-        .arg(size_option(
-            alloc,
-            "host",
-            "Size of host memory, 16 to 67108864, a multiple of 16",
-        ))?
-        .arg(size_option(
-            alloc,
-            "device",
-            "Size of device memory, 16 to 67108864, a multiple of 16",
-        ))?;
+        .arg(size_option(alloc, "host", "Size of host memory"))?
+        .arg(size_option(alloc, "device", "Size of device memory"))?;
     let matches = command.try_get_matches_from(words)?;
     Ok(Options {
         host: matches.get_one::<u64>("host").unwrap_or(DEFAULT_SIZE),
@@ -55,31 +46,46 @@ pub fn parsed_options(alloc: Global, words: &[String]) -> Result<Options, Error>
     })
 }
 
+/// How the program is called.
+const USAGE: &str = "accrun [OPTIONS] < SCRIPT";
+
 /// What the help says after the options: the statements, an example, the status.
-const AFTER_HELP: &str = "Statements, one to a line, with comments after '#':
-  array NAME BYTES             an array in host memory
-  write PLACE DIGITS           write bytes to host memory, two hexadecimal digits each
-  enter data copyin(REF)       map it, with its bytes, or count it once more
-  enter data create(REF)       the same without its bytes; with create(zero: REF) a new block is zero
-  exit data delete(REF)        count it once less; at zero the mapping ends
-  exit data copyout(REF)       the same, and its bytes are copied to host memory before the mapping ends
-  update self(REF)             copy its bytes from the device to host memory; host(REF) says the same
-  update device(REF)           copy its bytes from host memory to the device
-  show REF                     its bytes in host memory
-  peek REF                     its bytes on the device, or none
-  present REF                  whether all of it lies in one mapped range: yes or no
-  address PLACE                its device address, or none
-  report                       the sizes, the mapped ranges with their counters, the numbers of regions and events
-NAME is a lower-case letter, then lower-case letters, digits and '_', 32 at most.
-REF is NAME, or NAME[OFFSET:LENGTH], in bytes from the start of the array; a directive has one. PLACE is NAME[OFFSET].
-An update with the option if_present passes over what is absent, and not over what is partly mapped.
+const AFTER_HELP: &str = "\
+A size is from 16 to 67108864 bytes, a multiple of 16.
+
+The script is read whole before its first line runs.
+
+Statements, one to a line, with comments after '#':
+  array NAME BYTES         an array in host memory
+  write PLACE DIGITS       write bytes to host memory, two hexadecimal digits
+                           each
+  enter data copyin(REF)   map it, with its bytes, or count it once more
+  enter data create(REF)   the same without its bytes; create(zero: REF) fills
+                           a new block with zero
+  exit data delete(REF)    count it once less; at zero the mapping ends
+  exit data copyout(REF)   the same, and its bytes are copied to host memory
+                           before the mapping ends
+  update self(REF)         copy its bytes from the device to host memory;
+                           host(REF) says the same
+  update device(REF)       copy its bytes from host memory to the device
+  show REF                 its bytes in host memory
+  peek REF                 its bytes on the device, or none
+  present REF              whether all of it lies in one mapped range: yes or no
+  address PLACE            its device address, or none
+  report                   the sizes, the mapped ranges with their counters, the
+                           numbers of regions and events
+NAME is a lower-case letter, then lower-case letters, digits and '_', 32 at
+most. REF is NAME, or NAME[OFFSET:LENGTH], in bytes from the start of the array;
+a directive has one. PLACE is NAME[OFFSET]. An update with the option if_present
+passes over what is absent, and not over what is partly mapped.
 copyin(readonly: REF) is copyin(REF).
 
-A statement that is refused changes nothing and prints 'line L: refused ..'; the script goes on.
-A line that is at fault ends the script.
+A statement that is refused changes nothing and prints 'line L: refused ..'; the
+script goes on. A line that is at fault ends the script.
 
 Example:
   printf 'array a 32\\nenter data copyin(a)\\nreport\\n' | accrun --device 4096
 
-Status: 0; 1 where a statement was refused; 2 for a fault, which standard error names.
+Status: 0; 1 where a statement was refused; 2 for a fault, which standard error
+names.
 ";

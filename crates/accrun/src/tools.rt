@@ -1,8 +1,11 @@
 //! The program, over any source and any two sinks.
 
 use crate::options::{Options, parsed_options};
-use acc_base::{Config, Fault, ScriptFault};
+use crate::outputs::Output;
+use crate::words::WordsFault;
+use acc_base::{Config, Fault};
 use acc_script::{Sink, Source, Status, run, write_all};
+use arrayvec::ArrayString;
 use clap::Error;
 use clap::error::ErrorKind;
 use std::fmt::{self, Write};
@@ -33,41 +36,48 @@ const QUEUE_CAP: u64 = 256;
 /// How many events the trace may have.
 const TRACE_CAP: u64 = 262_144;
 
-/// A sink that takes formatted text. It needs no memory.
-#[derive(Drop)]
-struct TextSink<'a, W: Sink>(&'a mut W);
+/// What is told where a word of the command line is not UTF-8.
+const NOT_TEXT: &str = "error: a word of the command line is not UTF-8
 
-impl<W: Sink> fmt::Write for TextSink<'_, W> {
-    fn write_str(&mut self, text: &str) -> fmt::Result {
-        if write_all(self.0, text.as_bytes()) {
-            Ok(())
-        } else {
-            Err(fmt::Error)
-        }
+For more information, try '--help'.
+";
+
+/// Writes the one line that tells a fault, in one piece and without memory. A failure of the sink changes nothing.
+pub fn tell<E: Sink>(err: &mut E, fault: Fault) {
+    // The longest line has 74 bytes: that of `DeviceFull` with two numbers of 20 digits.
+    let mut line = ArrayString::<80>::new();
+    let _ = write_fault(&mut line, fault);
+    let _ = write_all(err, line.as_bytes());
+}
+
+/// Writes the line of a fault: of a script's fault, where it is and what it is.
+fn write_fault<W: Write>(line: &mut W, fault: Fault) -> fmt::Result {
+    match fault {
+        Fault::Script { line: number, kind } => writeln!(line, "accrun: line {number}: {kind}"),
+        _ => writeln!(line, "accrun: {fault}"),
     }
 }
 
-/// Writes the one line that tells a fault. A failure of the sink changes nothing.
-pub fn tell<E: Sink>(err: &mut E, fault: Fault) {
-    let _ = match fault {
-        Fault::Script { line, kind } => tell_line(err, line, kind),
-        _ => writeln!(TextSink(err), "accrun: {fault}"),
-    };
+/// Tells that the words of the command line could not be had, and answers the status.
+pub fn tell_words<E: Sink>(err: &mut E, fault: WordsFault) -> u8 {
+    match fault {
+        WordsFault::Memory => tell(err, Fault::Memory),
+        WordsFault::NotText => {
+            let _ = write_all(err, NOT_TEXT.as_bytes());
+        }
+    }
+    FAULTED
 }
 
-/// Writes the line of a script's fault.
-fn tell_line<E: Sink>(err: &mut E, line: u64, kind: ScriptFault) -> fmt::Result {
-    writeln!(TextSink(err), "accrun: line {line}: {kind}")
-}
-
-/// Parses the command line, runs the script and answers the status: 0, 1 where a statement was refused, 2 for a fault.
-/// What `out` keeps back is not flushed; that is for the caller.
+/// Parses the command line, runs the script, flushes its output and answers the status: 0, 1 where a statement was
+/// refused, 2 for a fault.
 ///
 /// `words` begins with the program's name. The script is read from `reader` and its output goes to `out`. A fault of
-/// the command line is told on `err` in the parser's words, and then nothing is read; each other fault in one line,
-/// [`Fault::BadConfig`] before those of the run. Help that is asked for goes to `err` too, with status 0. A failure of
-/// `err` changes nothing.
-pub fn tool<R: Threads + Wait + Sync + AllocGlobal, S: Source, O: Sink, E: Sink>(
+/// the command line is told on `err` in the parser's words, and then nothing is read. Each other fault is told there in
+/// one line, after `out` was flushed: [`Fault::BadConfig`] before those of the run, and [`Fault::Write`] where the flush
+/// fails after a run without fault. Help that is asked for goes to `err` too, with status 0. A failure of `err` changes
+/// nothing.
+pub fn tool<R: Threads + Wait + Sync + AllocGlobal, S: Source, O: Output, E: Sink>(
     rt: &R,
     words: Vec<String>,
     reader: &mut S,
@@ -78,7 +88,8 @@ pub fn tool<R: Threads + Wait + Sync + AllocGlobal, S: Source, O: Sink, E: Sink>
         Ok(options) => options,
         Err(error) => return tell_usage(rt, err, &error),
     };
-    match run_script(rt, options, reader, out) {
+    let ending = run_script(rt, options, reader, out);
+    match flushed(out, ending) {
         Ok(Status::Clean) => CLEAN,
         Ok(Status::Refused) => REFUSED,
         Err(fault) => {
@@ -86,6 +97,14 @@ pub fn tool<R: Threads + Wait + Sync + AllocGlobal, S: Source, O: Sink, E: Sink>
             FAULTED
         }
     }
+}
+
+/// Flushes the output of a run; where only that fails, the result is [`Fault::Write`].
+fn flushed<O: Output>(out: &mut O, ending: Result<Status, Fault>) -> Result<Status, Fault> {
+    if !out.flush() && ending.is_ok() {
+        return Err(Fault::Write);
+    }
+    ending
 }
 
 /// Runs the script with the program's limits.

@@ -1,6 +1,6 @@
 use Rattle.std.proofs.Common.{◌==◌, cond, arith}
 use Rattle.acc_base.specs.declared.mappings.Range.{Range}
-use Rattle.acc_base.specs.Ranges.{lowered}
+use Rattle.acc_table.specs.Single.Ranges.{lowered}
 use Rattle.acc_table.proofs.Searches.{change_more}
 use Rattle.acc_table.proofs.ranges.lower.Goals as goal
 

@@ -1,5 +1,6 @@
 use Rattle.std.proofs.Common.{◌≡◌, ◌++◌, take, drop}
-use Rattle.acc_base.specs.Ranges.{changed_at, lowered}
+use Rattle.acc_base.specs.Ranges.{changed_at}
+use Rattle.acc_table.specs.Single.Ranges.{lowered}
 use Rattle.acc_table.proofs.ranges.lower.Given as goal
 
 -- the ranges so far are changed

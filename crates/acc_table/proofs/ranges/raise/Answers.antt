@@ -1,6 +1,6 @@
 use Rattle.std.proofs.Common.{◌==◌, cond, arith}
 use Rattle.acc_base.specs.declared.mappings.Range.{Range}
-use Rattle.acc_base.specs.Ranges.{raised}
+use Rattle.acc_table.specs.Single.Ranges.{raised}
 use Rattle.acc_table.proofs.Searches.{change_more}
 use Rattle.acc_table.proofs.ranges.raise.Goals as goal
 

@@ -1,5 +1,6 @@
 use Rattle.std.proofs.Common.{◌≡◌, ◌++◌, take, drop}
-use Rattle.acc_base.specs.Ranges.{changed_at, raised}
+use Rattle.acc_base.specs.Ranges.{changed_at}
+use Rattle.acc_table.specs.Single.Ranges.{raised}
 use Rattle.acc_table.proofs.ranges.raise.Given as goal
 
 -- the ranges so far are changed

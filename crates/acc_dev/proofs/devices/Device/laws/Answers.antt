@@ -3,13 +3,14 @@ use Rattle.std.specs.List.{AllZip}
 use Rattle.acc_base.specs.Holes.{IsDevice}
 use Rattle.acc_base.specs.Blocks.{used_bytes}
 use Rattle.acc_base.specs.Accounts.{IsMemoryOf}
+use Rattle.acc_dev.specs.Room.{room_of}
 use Rattle.acc_dev.specs.Device.{DeviceState, HasBlocksApart}
 use Rattle.acc_dev.proofs.Slots.{in_step}
 use Rattle.acc_dev.proofs.Keeping.{apart_of, divided, used_within}
 use Rattle.acc_dev.proofs.devices.Device.laws.Goals as goal
 
 pub returns-clause-blocks_apart : goal.returns-clause-blocks_apart
-returns-clause-blocks_apart c = subst HasBlocksApart c.self.view_is (apart_of c.self.inside.holes c.self.inside.slab.slots c.self.inside.index.items c.self.inside.births c.self.invariant.0 c.self.invariant.1)
+returns-clause-blocks_apart c = subst HasBlocksApart c.self.view_is (apart_of c.self.inside.holes c.self.inside.slab.slots c.self.inside.index.items c.self.inside.births (room_of c.self.inside) c.self.invariant.0 c.self.invariant.1)
 
 pub returns-clause-memories : goal.returns-clause-memories
 returns-clause-memories c = subst (λ (d : DeviceState). AllZip IsMemoryOf d.memories d.blocks) c.self.view_is (in_step c.self.inside.slab.slots c.self.inside.index.items)

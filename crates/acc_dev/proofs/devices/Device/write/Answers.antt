@@ -1,5 +1,6 @@
-use Rattle.std.proofs.Common.{◌≡◌, ◌+◌, ◌≤◌, List, ℕ, sym, subst, length, get_or, None}
+use Rattle.std.proofs.Common.{◌≡◌, ◌+◌, ◌≤◌, List, ℕ, sym, subst, length, get_or, None, arith}
 use Rattle.acc_base.specs.Bytes.{bytes_of}
+use Rattle.acc_dev.specs.Room.{room_of}
 use Rattle.acc_dev.specs.Device.{DeviceState, HasBlock, IsWritten}
 use Rattle.acc_dev.specs.Kept.{memories_in, stored_bytes}
 use Rattle.acc_dev.proofs.Slots.{IsRewritten}
@@ -35,11 +36,12 @@ invariant_of-self c = (
   written_kept c.self.inside.holes c.self.inside.slab.slots c.write_at.new.slab.slots c.self.inside.index.items c.index.result.now.1 c.args.offset c.args.bytes.now c.self.invariant.0
       (filled_read c.self.inside.holes c.self.inside.slab.slots c.self.inside.index.items c.in-Some.at c.index.result.now c.self.invariant.0 c.index.ensures (rw c.deref.ensures.value at c.in-Some.ensures.found).in_bounds) (rewritten c),
   c.self.invariant.1,
+  (let r = c.self.invariant.2 in record { few = r.few; empty = r.empty; holes = r.holes; slots = omega (arith, r.slots, c.write_at.ensures.slots, c.write_at.ensures.capacity); entries = r.entries }),
 )
 
 pub returns : goal.returns
 returns c =
     let s = c.self.inside in
     let found = rw c.deref.ensures.value at c.in-Some.ensures.found in
-    subst (λ (d : DeviceState). IsWritten d (device_of s.holes c.write_at.new.slab.slots s.index.items s.births) c.args.block c.args.offset c.args.bytes.now) c.self.view_is
-    (written_of s.holes s.slab.slots c.write_at.new.slab.slots s.index.items s.births c.in-Some.at c.args.block c.args.offset c.index.result.now c.args.bytes.now c.self.invariant.0 found c.index.ensures (rewritten c))
+    subst (λ (d : DeviceState). IsWritten d (device_of s.holes c.write_at.new.slab.slots s.index.items s.births (room_of c.self.inside)) c.args.block c.args.offset c.args.bytes.now) c.self.view_is
+    (written_of s.holes s.slab.slots c.write_at.new.slab.slots s.index.items s.births c.in-Some.at c.args.block c.args.offset (room_of c.self.inside) c.index.result.now c.args.bytes.now c.self.invariant.0 found c.index.ensures (rewritten c))

@@ -1,7 +1,7 @@
 use Rattle.std.proofs.Common.{◌≡◌, ◌∙◌, sym, ap, subst, false}
 use Rattle.acc_base.specs.declared.events.Step.TheVariants.{Dropped}
-use Rattle.acc_base.specs.Bytes.{state_after_exited}
-use Rattle.acc_base.specs.Judge.{did_of}
+use Rattle.acc_table.specs.Single.Bytes.{state_after_exited}
+use Rattle.acc_base.specs.Tasks.{did_of}
 use Rattle.acc_table.specs.contracts.stores.Store.{the_view}
 use Rattle.acc_table.specs.Stored.{Contents, with_state}
 use Rattle.acc_table.proofs.Storing.{contents, exited_lower}

@@ -1,6 +1,6 @@
 use Rattle.std.proofs.Common.{◌≡◌, ◌∙◌, sym, ap, subst}
 use Rattle.acc_base.specs.Ranges.{start_of}
-use Rattle.acc_base.specs.Bytes.{memories_moved_in}
+use Rattle.acc_table.specs.Single.Bytes.{memories_moved_in}
 use Rattle.acc_table.specs.contracts.stores.Store.{the_view}
 use Rattle.acc_table.specs.Stored.{Contents, with_memories, CanMove}
 use Rattle.acc_table.proofs.Storing.{copied_in, store_written}

@@ -1,6 +1,6 @@
 use Rattle.std.proofs.Common.{◌≡◌, ◌∙◌, sym, ap, subst}
 use Rattle.acc_base.specs.Ranges.{start_of}
-use Rattle.acc_base.specs.Bytes.{host_moved_out}
+use Rattle.acc_table.specs.Single.Bytes.{host_moved_out}
 use Rattle.acc_table.specs.contracts.stores.Store.{the_view}
 use Rattle.acc_table.specs.Stored.{Contents, with_host, CanMove}
 use Rattle.acc_table.proofs.Storing.{copied_out}

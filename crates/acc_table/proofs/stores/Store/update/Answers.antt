@@ -1,6 +1,6 @@
 use Rattle.std.proofs.Common.{◌≡◌, ◌∙◌, sym, ap, subst}
-use Rattle.acc_base.specs.Bytes.{host_moved_out, memories_moved_in, state_after_updated}
-use Rattle.acc_base.specs.Judge.{did_of}
+use Rattle.acc_table.specs.Single.Bytes.{host_moved_out, memories_moved_in, state_after_updated}
+use Rattle.acc_base.specs.Tasks.{did_of}
 use Rattle.acc_table.specs.Stored.{with_state, with_host, with_memories}
 use Rattle.acc_table.proofs.Storing.{updated_not, updated_out, updated_in}
 use Rattle.acc_table.proofs.stores.Store.update.Goals as goal

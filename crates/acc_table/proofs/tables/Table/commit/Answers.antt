@@ -1,7 +1,7 @@
 use Rattle.std.proofs.Common.{◌≡◌, refl, sym, subst, Ok}
-use Rattle.acc_base.specs.declared.directives.Directive.TheVariants.{EnterData, ExitData, Update}
-use Rattle.acc_base.specs.Bytes.{after}
-use Rattle.acc_base.specs.Calls.{World, Do, judge}
+use Rattle.acc_table.specs.declared.directives.Directive.TheVariants.{EnterData, ExitData, Update}
+use Rattle.acc_table.specs.Single.Bytes.{after}
+use Rattle.acc_table.specs.Single.Calls.{World, Do, judge}
 use Rattle.acc_table.specs.Planned.{event_of}
 use Rattle.acc_table.proofs.Keeping.{judged_few, kept_committed}
 use Rattle.acc_table.proofs.Planning.{can_enter_first, can_exit_first, can_update_first}

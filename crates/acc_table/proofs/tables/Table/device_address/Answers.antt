@@ -3,7 +3,7 @@ use Rattle.acc_base.specs.declared.mappings.Found.TheVariants.{Inside}
 use Rattle.acc_base.specs.Section.{only}
 use Rattle.acc_base.specs.Ranges.{where_is}
 use Rattle.acc_base.specs.Blocks.{place_of}
-use Rattle.acc_base.specs.Calls.{World}
+use Rattle.acc_table.specs.Single.Calls.{World}
 use Rattle.acc_table.specs.declared.tables.Table.TheInside.{Inside as Fields}
 use Rattle.acc_table.specs.Bounds.{IsBounded}
 use Rattle.acc_table.proofs.Keeping.{bounded}

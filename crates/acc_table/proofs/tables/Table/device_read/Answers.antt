@@ -1,6 +1,6 @@
 use Rattle.std.proofs.Common.{◌+◌, ◌≤◌, ◌<◌, ◌^◌, ◌∙◌, sym, ap, subst, length, arith}
 use Rattle.acc_base.specs.Bytes.{bytes_of}
-use Rattle.acc_base.specs.Calls.{World}
+use Rattle.acc_table.specs.Single.Calls.{World}
 use Rattle.acc_table.specs.declared.tables.Table.TheInside.{Inside as Fields}
 use Rattle.acc_table.proofs.Keeping.{bounded}
 use Rattle.acc_table.proofs.Inside.{IsPartOf, part_of}

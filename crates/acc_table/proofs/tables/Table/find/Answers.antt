@@ -1,6 +1,6 @@
 use Rattle.std.proofs.Common.{◌≡◌, subst, rules}
 use Rattle.acc_base.specs.Ranges.{where_is, IsPlacedAt}
-use Rattle.acc_base.specs.Calls.{World}
+use Rattle.acc_table.specs.Single.Calls.{World}
 use Rattle.acc_table.proofs.Answering.{placed}
 use Rattle.acc_table.proofs.tables.Table.find.Goals as goal
 

@@ -1,5 +1,5 @@
 use Rattle.std.proofs.Common.{◌≡◌, sym, subst, Option, Some, None, rules}
-use Rattle.acc_base.specs.Calls.{World}
+use Rattle.acc_table.specs.Single.Calls.{World}
 use Rattle.acc_table.specs.declared.calls.Mapped.{Mapped}
 use Rattle.acc_table.specs.Queries.{mapped_from, IsLeastFrom}
 use Rattle.acc_table.proofs.Answering.{least_from}

@@ -1,7 +1,7 @@
 use Rattle.std.proofs.Common.{◌≡◌, refl, sym, subst, length, Ok}
-use Rattle.acc_base.specs.declared.events.Event.TheVariants.{HostWritten}
-use Rattle.acc_base.specs.Bytes.{after}
-use Rattle.acc_base.specs.Calls.{World, HostWrite, judge}
+use Rattle.acc_table.specs.declared.events.Event.TheVariants.{HostWritten}
+use Rattle.acc_table.specs.Single.Bytes.{after}
+use Rattle.acc_table.specs.Single.Calls.{World, HostWrite, judge}
 use Rattle.acc_table.proofs.Keeping.{judged_write, kept_written}
 use Rattle.acc_table.proofs.Planning.{can_write}
 use Rattle.acc_table.proofs.tables.Table.write_host.Goals as goal

@@ -1,0 +1,185 @@
+-- What the tasks of a directive, each judged in what those before it left, leave of both counters of every block.
+use Rattle.std.proofs.Common.{ℕ, suc, ◌≡◌, ◌+◌, ◌-◌, refl, sym, ◌∙◌, ap, Bool, true, false, cond, List, [], ◌∷◌, ◌++◌, arith}
+use Rattle.std.specs.Prelude.{map, reverse, fold, sum_by, if◌then◌else◌}
+use Rattle.std.specs.List.{AllZip}
+use Rattle.std.proofs.lemmas.Grind.{reverse_onto}
+use Rattle.std.proofs.lemmas.List.Sums.{sum_by-cons, sum_by_push}
+use Rattle.acc_base.specs.declared.items.Item.{Item}
+use Rattle.acc_base.specs.declared.items.RegionClause.{RegionClause}
+use Rattle.acc_base.specs.declared.items.ExitClause.{ExitClause}
+use Rattle.acc_base.specs.declared.mappings.Counter.{Counter}
+use Rattle.acc_base.specs.declared.mappings.Counter.TheVariants.{Structured, Dynamic}
+use Rattle.acc_base.specs.declared.regions.Holding.{Holding}
+use Rattle.acc_base.specs.declared.tasks.Task.{Task}
+use Rattle.acc_base.specs.declared.tasks.Task.TheVariants.{Enter, Leave, Exit}
+use Rattle.acc_base.specs.declared.events.Step.{Step}
+use Rattle.acc_base.specs.declared.events.Step.TheVariants.{Nothing, Counted, Born, Dropped, Moved}
+use Rattle.acc_base.specs.declared.events.Did.{Did}
+use Rattle.acc_base.specs.Limits.{Limits, IsWithinBounds}
+use Rattle.acc_base.specs.Records.{Records}
+use Rattle.acc_base.specs.Register.{is_counted_block, count_held}
+use Rattle.acc_base.specs.Ranges.{counter_of}
+use Rattle.acc_base.specs.Tasks.{act, act_all}
+use Rattle.acc_base.specs.Walk.{enter_task, block_counted, holdings_of}
+use Rattle.acc_base.specs.History.{counts, drops, count_counted, count_dropped, dynamic_dropped, AreJudged}
+use Rattle.acc_base.specs.Accounts.{AreRecordsSound}
+use Rattle.acc_base.proofs.Judged.{IsJudgedTo, task_says}
+use Rattle.acc_base.proofs.Sound.{acted_sound}
+use Rattle.acc_base.proofs.Recounted.{moved_by, names, counter-act}
+
+-- ---- any tasks
+
+-- a counter of a block after tasks, with what each did
+abbrev pub recount : Counter → ℕ → List Task → List Did → ℕ → ℕ
+recount counter b (task ∷ tasks) (did ∷ dids) n = recount counter b tasks dids (cond (names b did.step) (moved_by counter task n) n)
+recount counter b _ _ n = n
+
+-- what tasks leave of records: sound records, and both counters of every block
+pub record AreLeft (l : Limits) (tasks : List Task) (dids : List Did) (w v : Records) : Type 0 where
+  pub sound : AreRecordsSound l v
+  pub counter_is : (counter : Counter) (b : ℕ) → counter_of counter b v.ranges ≡ recount counter b tasks dids (counter_of counter b w.ranges)
+
+pub all_left : (l : Limits) (n : ℕ) (tasks : List Task) (dids : List Did) (w : Records) → IsWithinBounds l → AreRecordsSound l w → AreJudged l n tasks dids w → AreLeft l tasks dids w (act_all tasks dids w)
+unfolding act_all
+all_left l n [] [] w bounds h judged = record { sound = h; counter_is = λ counter b. refl }
+all_left l n [] (did ∷ dids) w bounds h judged = absurd judged
+all_left l n (task ∷ tasks) [] w bounds h judged = absurd judged
+all_left l n (task ∷ tasks) (did ∷ dids) w bounds h judged =
+    let says : IsJudgedTo l task did.step w = task_says l n task w did.step judged.0 in
+    let v : Records = act task did.step w in
+    let later : AreLeft l tasks dids v (act_all tasks dids v) = all_left l (suc n) tasks dids v bounds (acted_sound l task did.step w bounds says h) judged.1 in
+    record { sound = later.sound; counter_is = λ counter b. later.counter_is counter b ∙ ap (λ m. recount counter b tasks dids m) (counter-act l task did.step w counter b h says) }
+
+-- each task was judged to do its step in some records
+abbrev pub AreSaid : Limits → List Task → List Did → Type 0
+AreSaid l tasks dids = AllZip (λ task did. (w : Records) × IsJudgedTo l task did.step w) tasks dids
+
+pub all_said : (l : Limits) (n : ℕ) (tasks : List Task) (dids : List Did) (w : Records) → AreJudged l n tasks dids w → AreSaid l tasks dids
+all_said l n [] [] w judged = tt
+all_said l n [] (did ∷ dids) w judged = absurd judged
+all_said l n (task ∷ tasks) [] w judged = absurd judged
+all_said l n (task ∷ tasks) (did ∷ dids) w judged = ((w, task_says l n task w did.step judged.0), all_said l (suc n) tasks dids (act task did.step w) judged.1)
+
+-- tasks that leave a counter
+pub recount_same : {X : Type 0} (counter : Counter) (b : ℕ) (f : X → Task) (items : List X) (dids : List Did) (n : ℕ) → ((x : X) (m : ℕ) → moved_by counter (f x) m ≡ m) → recount counter b (map f items) dids n ≡ n
+recount_same counter b f [] [] n same = refl
+recount_same counter b f [] (did ∷ dids) n same = refl
+recount_same counter b f (x ∷ xs) [] n same = refl
+recount_same counter b f (x ∷ xs) (did ∷ dids) n same = recount_same counter b f xs dids (cond (names b did.step) (moved_by counter (f x) n) n) same ∙ go (names b did.step)
+  where
+    go : (t : Bool) → cond t (moved_by counter (f x) n) n ≡ n
+    go true = same x n
+    go false = refl
+
+-- ---- entry
+
+one_more : (t : Bool) (n : ℕ) → cond t (n + 1) n ≡ n + cond t 1 0
+one_more true n = refl
+one_more false n = omega arith
+
+enter_names : (l : Limits) (counter : Counter) (item : Item RegionClause) (b : ℕ) (step : Step) (w : Records) → IsJudgedTo l (Enter counter item) step w → names b step ≡ counts b step
+enter_names l counter item b Nothing w says = refl
+enter_names l counter item b (Counted k) w says = refl
+enter_names l counter item b (Born k p) w says = refl
+enter_names l counter item b (Dropped k ended) w says = absurd says
+enter_names l counter item b (Moved k) w says = refl
+
+enter_moved : (counter : Counter) (item : Item RegionClause) (n : ℕ) → moved_by counter (Enter counter item) n ≡ n + 1
+enter_moved Structured item n = refl
+enter_moved Dynamic item n = refl
+
+pub entered_recount : {X : Type 0} (l : Limits) (counter : Counter) (b : ℕ) (f : X → Item RegionClause) (items : List X) (dids : List Did) (n : ℕ) → AreSaid l (map (λ x. Enter counter (f x)) items) dids
+    → recount counter b (map (λ x. Enter counter (f x)) items) dids n ≡ n + count_counted b dids
+entered_recount l counter b f [] [] n said = omega arith
+entered_recount l counter b f [] (did ∷ dids) n said = absurd said
+entered_recount l counter b f (x ∷ xs) [] n said = absurd said
+entered_recount l counter b f (x ∷ xs) (did ∷ dids) n said =
+    let later : recount counter b (map (λ y. Enter counter (f y)) xs) dids (cond (names b did.step) (moved_by counter (Enter counter (f x)) n) n) ≡ cond (names b did.step) (moved_by counter (Enter counter (f x)) n) n + count_counted b dids
+    = entered_recount l counter b f xs dids (cond (names b did.step) (moved_by counter (Enter counter (f x)) n) n) said.1 in
+    let moved : cond (names b did.step) (moved_by counter (Enter counter (f x)) n) n ≡ n + cond (counts b did.step) 1 0
+    = ap (λ m. cond (names b did.step) m n) (enter_moved counter (f x) n) ∙ (ap (λ t. cond t (n + 1) n) (enter_names l counter (f x) b did.step said.0.0 said.0.1) ∙ one_more (counts b did.step) n) in
+    let all_of : count_counted b (did ∷ dids) ≡ cond (counts b did.step) 1 0 + count_counted b dids = sum_by-cons (λ (d : Did). cond (counts b d.step) 1 0) did dids in
+    later ∙ (ap (λ m. m + count_counted b dids) moved ∙ omega arith)
+
+counts_held : (b : ℕ) (step : Step) → is_counted_block b (block_counted step) ≡ counts b step
+counts_held b Nothing = refl
+counts_held b (Counted k) = refl
+counts_held b (Born k p) = refl
+counts_held b (Dropped k ended) = refl
+counts_held b (Moved k) = refl
+
+-- what a region holds is what its entry counted
+pub held-entered : (l : Limits) (b : ℕ) (items : List (Item RegionClause)) (dids : List Did) → AreSaid l (map enter_task items) dids → count_held b (holdings_of items dids) ≡ count_counted b dids
+held-entered l b [] [] said = refl
+held-entered l b [] (did ∷ dids) said = absurd said
+held-entered l b (item ∷ items) [] said = absurd said
+held-entered l b (item ∷ items) (did ∷ dids) said =
+    sum_by-cons (λ (h : Holding). cond (is_counted_block b h.block) 1 0) (record { item = item; block = block_counted did.step }) (holdings_of items dids)
+    ∙ (ap (λ t. cond t 1 0 + count_held b (holdings_of items dids)) (counts_held b did.step)
+    ∙ (ap (λ m. cond (counts b did.step) 1 0 + m) (held-entered l b items dids said.1) ∙ sym (sum_by-cons (λ (d : Did). cond (counts b d.step) 1 0) did dids)))
+
+-- ---- `exit data`
+
+exit_names : (l : Limits) (finalize : Bool) (item : Item ExitClause) (b : ℕ) (step : Step) (w : Records) → IsJudgedTo l (Exit finalize item) step w → names b step ≡ drops b step
+exit_names l finalize item b Nothing w says = refl
+exit_names l finalize item b (Counted k) w says = absurd says
+exit_names l finalize item b (Born k p) w says = absurd says
+exit_names l finalize item b (Dropped k ended) w says = refl
+exit_names l finalize item b (Moved k) w says = refl
+
+pub exited_recount : (l : Limits) (b : ℕ) (finalize : Bool) (items : List (Item ExitClause)) (dids : List Did) (n : ℕ) → AreSaid l (map (Exit finalize) items) dids
+    → recount Dynamic b (map (Exit finalize) items) dids n ≡ fold (dynamic_dropped finalize b) n dids
+exited_recount l b finalize [] [] n said = refl
+exited_recount l b finalize [] (did ∷ dids) n said = absurd said
+exited_recount l b finalize (item ∷ items) [] n said = absurd said
+exited_recount l b finalize (item ∷ items) (did ∷ dids) n said =
+    exited_recount l b finalize items dids (cond (names b did.step) (if finalize then 0 else n - 1) n) said.1
+    ∙ ap (λ t. fold (dynamic_dropped finalize b) (cond t (if finalize then 0 else n - 1) n) dids) (exit_names l finalize item b did.step said.0.0 said.0.1)
+
+-- ---- exit from a region
+
+leave_names : (l : Limits) (holding : Holding) (b : ℕ) (step : Step) (w : Records) → IsJudgedTo l (Leave holding) step w → names b step ≡ drops b step
+leave_names l holding b Nothing w says = refl
+leave_names l holding b (Counted k) w says = absurd says
+leave_names l holding b (Born k p) w says = absurd says
+leave_names l holding b (Dropped k ended) w says = refl
+leave_names l holding b (Moved k) w says = refl
+
+leave_held : (l : Limits) (holding : Holding) (b : ℕ) (step : Step) (w : Records) → IsJudgedTo l (Leave holding) step w → drops b step ≡ is_counted_block b holding.block
+leave_held l holding b Nothing w says = sym (ap (is_counted_block b) says)
+leave_held l holding b (Counted k) w says = absurd says
+leave_held l holding b (Born k p) w says = absurd says
+leave_held l holding b (Dropped k ended) w says = sym (ap (is_counted_block b) says.0)
+leave_held l holding b (Moved k) w says = absurd says
+
+one_less : (t : Bool) (n c : ℕ) → cond t (n - 1) n - c ≡ n - (cond t 1 0 + c)
+one_less true n c = omega arith
+one_less false n c = omega arith
+
+pub left_recount : (l : Limits) (b : ℕ) (holdings : List Holding) (dids : List Did) (n : ℕ) → AreSaid l (map Leave holdings) dids → recount Structured b (map Leave holdings) dids n ≡ n - count_dropped b dids
+left_recount l b [] [] n said = omega arith
+left_recount l b [] (did ∷ dids) n said = absurd said
+left_recount l b (holding ∷ holdings) [] n said = absurd said
+left_recount l b (holding ∷ holdings) (did ∷ dids) n said =
+    left_recount l b holdings dids (cond (names b did.step) (n - 1) n) said.1
+    ∙ (ap (λ t. cond t (n - 1) n - count_dropped b dids) (leave_names l holding b did.step said.0.0 said.0.1)
+    ∙ (one_less (drops b did.step) n (count_dropped b dids) ∙ ap (λ m. n - m) (sym (sum_by-cons (λ (d : Did). cond (drops b d.step) 1 0) did dids))))
+
+-- the exit of a region drops what the region holds
+pub held-left : (l : Limits) (b : ℕ) (holdings : List Holding) (dids : List Did) → AreSaid l (map Leave holdings) dids → count_dropped b dids ≡ count_held b holdings
+held-left l b [] [] said = refl
+held-left l b [] (did ∷ dids) said = absurd said
+held-left l b (holding ∷ holdings) [] said = absurd said
+held-left l b (holding ∷ holdings) (did ∷ dids) said =
+    sum_by-cons (λ (d : Did). cond (drops b d.step) 1 0) did dids
+    ∙ (ap (λ t. cond t 1 0 + count_dropped b dids) (leave_held l holding b did.step said.0.0 said.0.1)
+    ∙ (ap (λ m. cond (is_counted_block b holding.block) 1 0 + m) (held-left l b holdings dids said.1) ∙ sym (sum_by-cons (λ (h : Holding). cond (is_counted_block b h.block) 1 0) holding holdings)))
+
+-- a sum does not depend on the direction
+pub sum_by-reverse : {X : Type 0} (f : X → ℕ) (xs : List X) → sum_by f (reverse xs) ≡ sum_by f xs
+sum_by-reverse f [] = refl
+sum_by-reverse f (x ∷ xs) =
+    let later : sum_by f (reverse xs) ≡ sum_by f xs = sum_by-reverse f xs in
+    let first : sum_by f (x ∷ xs) ≡ f x + sum_by f xs = sum_by-cons f x xs in
+    let last : sum_by f (reverse xs ++ x ∷ []) ≡ sum_by f (reverse xs) + f x = sum_by_push f (reverse xs) x in
+    ap (λ ys. sum_by f ys) (reverse_onto xs x []) ∙ (last ∙ omega arith)

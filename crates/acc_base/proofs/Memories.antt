@@ -1,0 +1,191 @@
+-- After every task host memory has its size, and each block, in order, a memory of its length.
+use Rattle.std.proofs.Common.{ℕ, suc, ◌≡◌, refl, sym, ◌∙◌, ap, subst, Bool, true, false, cond, List, [], ◌∷◌, ◌++◌, length, replicate, Option, Some, None}
+use Rattle.std.specs.Prelude.{◌==◌, ◌-◌, filter, map, not, slice_index}
+use Rattle.std.specs.List.{AllZip}
+use Rattle.std.proofs.lemmas.List.{length-replicate}
+use Rattle.acc_base.specs.declared.items.Section.{Section}
+use Rattle.acc_base.specs.declared.mappings.Range.{Range}
+use Rattle.acc_base.specs.declared.mappings.Counter.TheVariants.{Structured, Dynamic}
+use Rattle.acc_base.specs.declared.mappings.Block.{Block}
+use Rattle.acc_base.specs.declared.tasks.Task.{Task}
+use Rattle.acc_base.specs.declared.tasks.Task.TheVariants.{Enter, Leave, Exit, Move}
+use Rattle.acc_base.specs.declared.tasks.Transfer.{Transfer}
+use Rattle.acc_base.specs.declared.events.Step.{Step}
+use Rattle.acc_base.specs.declared.events.Step.TheVariants.{Nothing, Counted, Born, Dropped, Moved}
+use Rattle.acc_base.specs.declared.events.Did.{Did}
+use Rattle.acc_base.specs.declared.events.Event.{Event}
+use Rattle.acc_base.specs.declared.events.Event.TheVariants.{Entered, Left, EnteredData, ExitedData, Updated, HostWritten}
+use Rattle.acc_base.specs.Limits.{Limits}
+use Rattle.acc_base.specs.Records.{Memory, State, new_state}
+use Rattle.acc_base.specs.Section.{covers, host_base}
+use Rattle.acc_base.specs.Ranges.{bare_range}
+use Rattle.acc_base.specs.Blocks.{without_block}
+use Rattle.acc_base.specs.Tasks.{section_of, recounted, act, records_after_birth, records_after_end, with_range_changed}
+use Rattle.acc_base.specs.Walk.{asked_in, done_in}
+use Rattle.acc_base.specs.Bytes.{host_byte, bytes_of, written_bytes, bytes_moved_in, bytes_moved_out, memory_changed, host_made, memories_made, first_address, transfer_of, fill_of, host_after_write, host_after, act_state, act_all_state, after}
+use Rattle.acc_base.specs.Accounts.{IsMemoryOf, AreMemoriesSized}
+
+-- ---- memories of blocks that are there
+
+-- a block is gone, and its memory with it; the others stay in step
+without_sized : (k : ℕ) (ms : List Memory) (bs : List Block) → AllZip IsMemoryOf ms bs → AllZip IsMemoryOf (filter (λ m. not (m.block == k)) ms) (without_block k bs)
+without_sized k [] [] h = tt
+without_sized k [] (b ∷ bs) h = absurd h
+without_sized k (m ∷ ms) [] h = absurd h
+without_sized k (m ∷ ms) (b ∷ bs) h = subst (λ n. AllZip IsMemoryOf (cond (not (n == k)) (m ∷ filter (λ x. not (x.block == k)) ms) (filter (λ x. not (x.block == k)) ms)) (cond (not (b.number == k)) (b ∷ without_block k bs) (without_block k bs))) (sym h.0.block)
+    (go (without_sized k ms bs h.1) (b.number == k))
+  where
+    go : AllZip IsMemoryOf (filter (λ x. not (x.block == k)) ms) (without_block k bs) → (t : Bool)
+        → AllZip IsMemoryOf (cond (not t) (m ∷ filter (λ x. not (x.block == k)) ms) (filter (λ x. not (x.block == k)) ms)) (cond (not t) (b ∷ without_block k bs) (without_block k bs))
+    go rest true = rest
+    go rest false = (h.0, rest)
+
+-- ---- copies keep lengths
+
+pub length-written_bytes : (taken : ℕ → Bool) (source : ℕ → ℕ) (address : ℕ) (bytes : List ℕ) → length (written_bytes taken source address bytes) ≡ length bytes
+length-written_bytes taken source address [] = refl
+length-written_bytes taken source address (byte ∷ bytes) = ap suc (length-written_bytes taken source (suc address) bytes)
+
+pub length-moved_in : (section : Section) (host : List ℕ) (start : ℕ) (bytes : List ℕ) → length (bytes_moved_in section host start bytes) ≡ length bytes
+length-moved_in section host start bytes = length-written_bytes (covers section) (host_byte host) start bytes
+
+pub length-moved_out : (section : Section) (bytes : List ℕ) (start : ℕ) (host : List ℕ) → length (bytes_moved_out section bytes start host) ≡ length host
+length-moved_out section bytes start host = length-written_bytes (covers section) (λ a. slice_index bytes (a - start)) host_base host
+
+pub length-host_after_write : (addr len : ℕ) (bytes host : List ℕ) → length (host_after_write addr len bytes host) ≡ length host
+length-host_after_write addr len bytes host = length-written_bytes (covers (record { start = addr; len = len })) (λ a. slice_index bytes (a - addr)) host_base host
+
+-- ---- the memory of a new block
+
+sized-push : (ms : List Memory) (bs : List Block) (m : Memory) (b : Block) → AllZip IsMemoryOf ms bs → IsMemoryOf m b → AllZip IsMemoryOf (ms ++ m ∷ []) (bs ++ b ∷ [])
+sized-push [] [] m b h k = (k, tt)
+sized-push [] (c ∷ bs) m b h k = absurd h
+sized-push (x ∷ ms) [] m b h k = absurd h
+sized-push (x ∷ ms) (c ∷ bs) m b h k = (h.0, sized-push ms bs m b h.1 k)
+
+-- ---- the memory of one block changed
+
+memory_changed_sized : (k : ℕ) (change : List ℕ → List ℕ) (m : Memory) (b : Block) → ((bytes : List ℕ) → length (change bytes) ≡ length bytes) → IsMemoryOf m b → IsMemoryOf (memory_changed k change m) b
+memory_changed_sized k change m b keeps h = go (m.block == k)
+  where
+    go : (t : Bool) → IsMemoryOf (cond t (record m { bytes = change m.bytes }) m) b
+    go true = record { block = h.block; len = keeps m.bytes ∙ h.len }
+    go false = h
+
+pub changed_sized : (k : ℕ) (change : List ℕ → List ℕ) (ms : List Memory) (bs : List Block) → ((bytes : List ℕ) → length (change bytes) ≡ length bytes) → AllZip IsMemoryOf ms bs → AllZip IsMemoryOf (map (memory_changed k change) ms) bs
+changed_sized k change [] [] keeps h = tt
+changed_sized k change [] (b ∷ bs) keeps h = absurd h
+changed_sized k change (m ∷ ms) [] keeps h = absurd h
+changed_sized k change (m ∷ ms) (b ∷ bs) keeps h = (memory_changed_sized k change m b keeps h.0, changed_sized k change ms bs keeps h.1)
+
+-- ---- a transfer
+
+-- a transfer keeps the length of host memory
+pub length-host_made : (o : Option Transfer) (ms : List Memory) (host : List ℕ) → length (host_made o ms host) ≡ length host
+length-host_made None ms host = refl
+length-host_made (Some t) ms host = go t.out
+  where
+    go : (b : Bool) → length (cond b (bytes_moved_out t.section (bytes_of t.block ms) (first_address t) host) host) ≡ length host
+    go true = length-moved_out t.section (bytes_of t.block ms) (first_address t) host
+    go false = refl
+
+-- and those of the blocks' memories
+pub made_sized : (o : Option Transfer) (host : List ℕ) (ms : List Memory) (bs : List Block) → AllZip IsMemoryOf ms bs → AllZip IsMemoryOf (memories_made o host ms) bs
+made_sized None host ms bs h = h
+made_sized (Some t) host ms bs h = go t.out
+  where
+    go : (b : Bool) → AllZip IsMemoryOf (cond b ms (map (memory_changed t.block (bytes_moved_in t.section host (first_address t))) ms)) bs
+    go true = h
+    go false = changed_sized t.block (bytes_moved_in t.section host (first_address t)) ms bs (length-moved_in t.section host (first_address t)) h
+
+-- ---- a task
+
+-- counting keeps the block of a range
+pub recounted-block : (task : Task) (r : Range) → (recounted task r).block ≡ r.block
+recounted-block (Enter Structured item) r = refl
+recounted-block (Enter Dynamic item) r = refl
+recounted-block (Leave holding) r = refl
+recounted-block (Exit finalize item) r = go finalize
+  where
+    go : (b : Bool) → (recounted (Exit b item) r).block ≡ r.block
+    go true = refl
+    go false = refl
+recounted-block (Move if_present item) r = refl
+
+-- and its section
+pub recounted-section : (task : Task) (r : Range) → (recounted task r).section ≡ r.section
+recounted-section (Enter Structured item) r = refl
+recounted-section (Enter Dynamic item) r = refl
+recounted-section (Leave holding) r = refl
+recounted-section (Exit finalize item) r = go finalize
+  where
+    go : (b : Bool) → (recounted (Exit b item) r).section ≡ r.section
+    go true = refl
+    go false = refl
+recounted-section (Move if_present item) r = refl
+
+-- the memory of a block that is born by a task is as long as the block
+pub is_born_memory : (task : Task) (block place : ℕ) → IsMemoryOf (record { block = block; bytes = replicate (section_of task).len (fill_of task) })
+    (record { number = (recounted task (bare_range (section_of task) block)).block; place = place; len = (recounted task (bare_range (section_of task) block)).section.len })
+is_born_memory task block place = record {
+  block = sym (recounted-block task (bare_range (section_of task) block));
+  len = length-replicate (section_of task).len (fill_of task) ∙ sym (ap (λ (s : Section). s.len) (recounted-section task (bare_range (section_of task) block)));
+}
+
+-- memories are as long as their blocks after a task, whatever its step
+pub act_sized : (l : Limits) (task : Task) (step : Step) (s : State) → AreMemoriesSized l s → AreMemoriesSized l (act_state task step s)
+unfolding act_state act records_after_birth records_after_end with_range_changed
+act_sized l task Nothing s h = record { host = h.host; blocks = h.blocks }
+act_sized l task (Counted k) s h = record { host = h.host; blocks = h.blocks }
+act_sized l task (Born k p) s h =
+    let o : Option Transfer = transfer_of task (Born k p) s.records.ranges in
+    let new : Memory = record { block = k; bytes = replicate (section_of task).len (fill_of task) } in
+    let r : Range = recounted task (bare_range (section_of task) k) in
+    let b : Block = record { number = r.block; place = p; len = r.section.len } in
+    record {
+      host = length-host_made o s.memories s.host ∙ h.host;
+      blocks = made_sized o s.host (s.memories ++ new ∷ []) (s.records.blocks ++ b ∷ []) (sized-push s.memories s.records.blocks new b h.blocks (is_born_memory task k p));
+    }
+act_sized l task (Dropped k true) s h =
+    let o : Option Transfer = transfer_of task (Dropped k true) s.records.ranges in
+    record {
+      host = length-host_made o s.memories s.host ∙ h.host;
+      blocks = without_sized k (memories_made o s.host s.memories) s.records.blocks (made_sized o s.host s.memories s.records.blocks h.blocks);
+    }
+act_sized l task (Dropped k false) s h = record { host = h.host; blocks = h.blocks }
+act_sized l task (Moved k) s h =
+    let o : Option Transfer = transfer_of task (Moved k) s.records.ranges in
+    record {
+      host = length-host_made o s.memories s.host ∙ h.host;
+      blocks = made_sized o s.host s.memories s.records.blocks h.blocks;
+    }
+
+-- and after a list of tasks
+pub act_all_sized : (l : Limits) (tasks : List Task) (dids : List Did) (s : State) → AreMemoriesSized l s → AreMemoriesSized l (act_all_state tasks dids s)
+unfolding act_all_state
+act_all_sized l [] [] s h = h
+act_all_sized l [] (d ∷ ds) s h = h
+act_all_sized l (t ∷ ts) [] s h = h
+act_all_sized l (t ∷ ts) (d ∷ ds) s h = act_all_sized l ts ds (act_state t d.step s) (act_sized l t d.step s h)
+
+-- ---- an event
+
+-- the bytes that a call brings keep the length of host memory
+pub length-host_after : (e : Event) (brought host : List ℕ) → length (host_after e brought host) ≡ length host
+length-host_after (Entered number items did) brought host = refl
+length-host_after (Left number did) brought host = refl
+length-host_after (EnteredData items did) brought host = refl
+length-host_after (ExitedData items finalize did) brought host = refl
+length-host_after (Updated items if_present did) brought host = refl
+length-host_after (HostWritten addr len) brought host = length-host_after_write addr len brought host
+
+-- memories are as long as their blocks after an event
+pub event_sized : (l : Limits) (e : Event) (brought : List ℕ) (s : State) → AreMemoriesSized l s → AreMemoriesSized l (after e brought s)
+unfolding after
+event_sized l e brought s h =
+    let acted : AreMemoriesSized l (act_all_state (asked_in e s.register) (done_in e) s) = act_all_sized l (asked_in e s.register) (done_in e) s h in
+    record { host = length-host_after e brought (act_all_state (asked_in e s.register) (done_in e) s).host ∙ acted.host; blocks = acted.blocks }
+
+-- and at first
+pub new_sized : (l : Limits) → AreMemoriesSized l (new_state l.host)
+new_sized l = record { host = length-replicate l.host 0; blocks = tt }

@@ -1,0 +1,113 @@
+-- Calls one after the other, computed by the definitions: what each was refused for, and the world in the end.
+use Rattle.std.proofs.Common.{ℕ, List, [], ◌∷◌, ◌++◌, Option, Some, None, Result, Ok, Err, true, false, replicate}
+use Rattle.acc_base.specs.declared.items.Section.{Section}
+use Rattle.acc_base.specs.declared.items.Item.{Item}
+use Rattle.acc_base.specs.declared.items.RegionClause.{RegionClause}
+use Rattle.acc_base.specs.declared.items.EnterClause.{EnterClause}
+use Rattle.acc_base.specs.declared.items.ExitClause.{ExitClause}
+use Rattle.acc_base.specs.declared.items.UpdateClause.{UpdateClause}
+use Rattle.acc_base.specs.declared.directives.Directive.TheVariants.{Enter, Exit, EnterData, ExitData, Update}
+use Rattle.acc_base.specs.declared.calls.Call.{Call}
+use Rattle.acc_base.specs.declared.calls.Call.TheVariants.{Do}
+use Rattle.acc_base.specs.declared.faults.Fault.{Fault}
+use Rattle.acc_base.specs.declared.mappings.Range.{Range}
+use Rattle.acc_base.specs.declared.mappings.Block.{Block}
+use Rattle.acc_base.specs.declared.regions.Holding.{Holding}
+use Rattle.acc_base.specs.Limits.{Limits}
+use Rattle.acc_base.specs.Records.{Memory}
+use Rattle.acc_base.specs.Register.{Region}
+use Rattle.acc_base.specs.Tasks.{judge_task, judge_all, act, records_after_birth, records_after_end, with_range_changed}
+use Rattle.acc_base.specs.Bytes.{act_state, act_all_state, after}
+use Rattle.acc_base.specs.Judge.{directive_event, host_write_event}
+use Rattle.acc_base.specs.Calls.{World, Verdict, Makes, Idle, judge, world_after, new_world}
+
+-- the refusals, and the world in the end
+pub record Ran : Type 0 where
+  pub refused : List (Option Fault)
+  pub world : World
+
+abbrev refusal_in : Result Verdict Fault → Option Fault
+refusal_in (Ok verdict) = None
+refusal_in (Err fault) = Some fault
+
+next_in : Call → World → Result Verdict Fault → World
+unfolding world_after after act_all_state act_state act records_after_birth records_after_end with_range_changed
+next_in call w (Ok (Makes e)) = world_after call e w
+next_in call w (Ok Idle) = w
+next_in call w (Err fault) = w
+
+unfoldable pub ran_in : List Call → World → Ran
+unfolding next_in judge directive_event host_write_event judge_all judge_task act records_after_birth records_after_end with_range_changed
+ran_in [] w = record { refused = []; world = w }
+ran_in (call ∷ calls) w =
+    let judged : Result Verdict Fault = judge w call in
+    let rest : Ran = ran_in calls (next_in call w judged) in
+    record { refused = refusal_in judged ∷ rest.refused; world = rest.world }
+
+-- the calls on a new table with these limits
+unfoldable pub ran_with : Limits → List Call → Ran
+unfolding ran_in
+ran_with l calls = ran_in calls (new_world l)
+
+-- room for two counts, five events and 64 bytes on either side
+abbrev pub small : Limits
+small = record { host = 64; device = 64; regions = 4; tickets = 6; counter_max = 2; queue_cap = 4; trace_cap = 5 }
+
+-- the calls on a new table with little room
+unfoldable pub ran : List Call → Ran
+unfolding ran_with
+ran calls = ran_with small calls
+
+-- ---- what examples are written with
+
+abbrev pub at : ℕ → ℕ → Section
+at start len = record { start = start; len = len }
+
+abbrev pub item : {C : Type 0} → C → Section → Item C
+item clause s = record { clause = clause; section = s }
+
+abbrev pub enter_of : List (Item RegionClause) → Call
+enter_of items = Do (Enter items)
+
+abbrev pub exit_of : ℕ → Call
+exit_of number = Do (Exit number)
+
+abbrev pub enter_data_of : List (Item EnterClause) → Call
+enter_data_of items = Do (EnterData items)
+
+-- without `finalize`, and with it
+abbrev pub exit_data_of : List (Item ExitClause) → Call
+exit_data_of items = Do (ExitData items false)
+
+abbrev pub finalize_of : List (Item ExitClause) → Call
+finalize_of items = Do (ExitData items true)
+
+-- without `if_present`, and with it
+abbrev pub update_of : List (Item UpdateClause) → Call
+update_of items = Do (Update items false)
+
+abbrev pub update_if_present_of : List (Item UpdateClause) → Call
+update_if_present_of items = Do (Update items true)
+
+-- a directive without items
+abbrev pub idle : Call
+idle = Do (EnterData [])
+
+abbrev pub range : Section → ℕ → ℕ → ℕ → Range
+range s block structured dynamic = record { section = s; block = block; structured = structured; dynamic = dynamic }
+
+abbrev pub block : ℕ → ℕ → ℕ → Block
+block number place len = record { number = number; place = place; len = len }
+
+abbrev pub memory : ℕ → List ℕ → Memory
+memory block bytes = record { block = block; bytes = bytes }
+
+abbrev pub holding : RegionClause → Section → Option ℕ → Holding
+holding clause s block = record { item = record { clause = clause; section = s }; block = block }
+
+abbrev pub region : ℕ → List Holding → Region
+region number holdings = record { number = number; holdings = holdings }
+
+-- bytes at the start of host memory, and zeros behind them
+abbrev pub host_of : List ℕ → ℕ → List ℕ
+host_of bytes rest = bytes ++ replicate rest 0

@@ -1,0 +1,223 @@
+-- Over every legal list of events: the records stay sound, numbers of regions rise, and both counters of every block are those of the events.
+use Rattle.std.proofs.Common.{ℕ, ◌≡◌, ◌+◌, ◌-◌, ◌≤◌, ◌<◌, refl, ◌∙◌, ap, subst, cond, List, [], ◌∷◌, Option, Some, None, arith}
+use Rattle.std.specs.Prelude.{reverse, fold, sum_by, unwrap_or, IsSome}
+use Rattle.std.specs.List.{AllByRecursion}
+use Rattle.std.proofs.lemmas.List.Sums.{sum_by-cons}
+use Rattle.acc_base.specs.declared.items.Item.{Item}
+use Rattle.acc_base.specs.declared.items.RegionClause.{RegionClause}
+use Rattle.acc_base.specs.declared.items.EnterClause.{EnterClause}
+use Rattle.acc_base.specs.declared.mappings.Counter.TheVariants.{Structured, Dynamic}
+use Rattle.acc_base.specs.declared.regions.Holding.{Holding}
+use Rattle.acc_base.specs.declared.tasks.Task.{Task}
+use Rattle.acc_base.specs.declared.tasks.Task.TheVariants.{Leave, Exit, Move}
+use Rattle.acc_base.specs.declared.events.Did.{Did}
+use Rattle.acc_base.specs.declared.events.Event.{Event}
+use Rattle.acc_base.specs.declared.events.Event.TheVariants.{Entered, Left, EnteredData, ExitedData, Updated, HostWritten}
+use Rattle.acc_base.specs.Limits.{Limits, IsWithinBounds}
+use Rattle.acc_base.specs.Records.{Records, Layout, new_layout}
+use Rattle.acc_base.specs.Register.{Register, holdings_at, opened, closed, is_counted_block, count_held, held_in}
+use Rattle.acc_base.specs.Ranges.{structured_of, dynamic_of}
+use Rattle.acc_base.specs.Clauses.{as_region}
+use Rattle.acc_base.specs.Tasks.{act_all}
+use Rattle.acc_base.specs.Walk.{enter_task, enter_data_task, asked_in, done_in, register_after, holdings_of, walk, walk_all}
+use Rattle.acc_base.specs.History.{NamesRight, drops, count_counted, count_dropped, entries_of, exits_of, structured_in, dynamic_in, dynamic_after, IsLegal, AreLegal}
+use Rattle.acc_base.specs.Calls.{History}
+use Rattle.acc_base.specs.Accounts.{EachPair, AreRecordsSound, AreHeld, IsHistoryLegal}
+use Rattle.acc_base.proofs.Elements.{AllByRecursion-weaker}
+use Rattle.acc_base.proofs.Sound.{new_sound}
+use Rattle.acc_base.proofs.AllTasks.{recount_same, AreLeft, all_left, AreSaid, all_said, entered_recount, held-entered, exited_recount, left_recount, held-left, sum_by-reverse}
+use Rattle.acc_base.proofs.Registers.{IsNumbered, new_numbered, opened_numbered, opened_held, closed_numbered, closed_held}
+
+-- ---- one event
+
+-- both counters of a block after an event, from what they were
+record IsRecounted (b : ℕ) (e : Event) (w v : Records) : Type 0 where
+  structured : structured_of b v.ranges ≡ structured_of b w.ranges + entries_of b e - exits_of b e
+  dynamic : dynamic_of b v.ranges ≡ dynamic_after b (dynamic_of b w.ranges) e
+
+-- what an entry to a region holds, and what an exit from one held
+record IsHeldBy (b : ℕ) (e : Event) (g k : Register) : Type 0 where
+  held : held_in b k.regions + exits_of b e ≡ held_in b g.regions + entries_of b e
+
+-- what the tasks of an event make of the counters
+recounted_by : (l : Limits) (e : Event) (g : Register) (w : Records) (b : ℕ) → AreSaid l (asked_in e g) (done_in e) → AreLeft l (asked_in e g) (done_in e) w (act_all (asked_in e g) (done_in e) w) → IsRecounted b e w (act_all (asked_in e g) (done_in e) w)
+recounted_by l (Entered number items did) g w b said left = record {
+  structured = left.counter_is Structured b ∙ (entered_recount l Structured b (λ (i : Item RegionClause). i) items did (structured_of b w.ranges) said ∙ omega arith);
+  dynamic = left.counter_is Dynamic b ∙ recount_same Dynamic b enter_task items did (dynamic_of b w.ranges) (λ x m. refl);
+}
+recounted_by l (Left number did) g w b said left =
+    let holdings : List Holding = unwrap_or (holdings_at number g.regions) [] in
+    let turned : count_dropped b (reverse did) ≡ count_dropped b did = sum_by-reverse (λ (d : Did). cond (drops b d.step) 1 0) did in
+    record {
+      structured = left.counter_is Structured b ∙ (left_recount l b (reverse holdings) (reverse did) (structured_of b w.ranges) said ∙ omega arith);
+      dynamic = left.counter_is Dynamic b ∙ recount_same Dynamic b Leave (reverse holdings) (reverse did) (dynamic_of b w.ranges) (λ x m. refl);
+    }
+recounted_by l (EnteredData items did) g w b said left = record {
+  structured = left.counter_is Structured b ∙ (recount_same Structured b enter_data_task items did (structured_of b w.ranges) (λ x m. refl) ∙ omega arith);
+  dynamic = left.counter_is Dynamic b ∙ entered_recount l Dynamic b (λ (i : Item EnterClause). record { clause = as_region i.clause; section = i.section }) items did (dynamic_of b w.ranges) said;
+}
+recounted_by l (ExitedData items finalize did) g w b said left = record {
+  structured = left.counter_is Structured b ∙ (recount_same Structured b (Exit finalize) items did (structured_of b w.ranges) (λ x m. refl) ∙ omega arith);
+  dynamic = left.counter_is Dynamic b ∙ exited_recount l b finalize items did (dynamic_of b w.ranges) said;
+}
+recounted_by l (Updated items if_present did) g w b said left = record {
+  structured = left.counter_is Structured b ∙ (recount_same Structured b (Move if_present) items did (structured_of b w.ranges) (λ x m. refl) ∙ omega arith);
+  dynamic = left.counter_is Dynamic b ∙ recount_same Dynamic b (Move if_present) items did (dynamic_of b w.ranges) (λ x m. refl);
+}
+recounted_by l (HostWritten addr len) g w b said left = record { structured = left.counter_is Structured b ∙ omega arith; dynamic = left.counter_is Dynamic b }
+
+-- what a number of a region holds, where one of that number is open
+holds : (o : Option (List Holding)) → IsSome o → o ≡ Some (unwrap_or o [])
+holds None h = cc
+holds (Some holdings) h = refl
+
+-- how often a block is held after an event
+held_by : (l : Limits) (e : Event) (lay : Layout) (b : ℕ) → IsNumbered lay.register → IsLegal l e lay → AreSaid l (asked_in e lay.register) (done_in e) → IsHeldBy b e lay.register (register_after e lay.register)
+held_by l (Entered number items did) lay b h legal said =
+    let more : held_in b (opened (holdings_of items did) lay.register).regions ≡ held_in b lay.register.regions + count_held b (holdings_of items did) = opened_held b (holdings_of items did) lay.register h in
+    let counted : count_held b (holdings_of items did) ≡ count_counted b did = held-entered l b items did said in
+    record { held = omega arith }
+held_by l (Left number did) lay b h legal said =
+    let holdings : List Holding = unwrap_or (holdings_at number lay.register.regions) [] in
+    let less : held_in b lay.register.regions ≡ held_in b (closed number lay.register).regions + count_held b holdings = closed_held b number holdings lay.register h (holds (holdings_at number lay.register.regions) legal.names) in
+    let turned : count_dropped b (reverse did) ≡ count_dropped b did = sum_by-reverse (λ (d : Did). cond (drops b d.step) 1 0) did in
+    let turned_back : count_held b (reverse holdings) ≡ count_held b holdings = sum_by-reverse (λ (x : Holding). cond (is_counted_block b x.block) 1 0) holdings in
+    let dropped : count_dropped b (reverse did) ≡ count_held b (reverse holdings) = held-left l b (reverse holdings) (reverse did) said in
+    record { held = omega arith }
+held_by l (EnteredData items did) lay b h legal said = record { held = refl }
+held_by l (ExitedData items finalize did) lay b h legal said = record { held = refl }
+held_by l (Updated items if_present did) lay b h legal said = record { held = refl }
+held_by l (HostWritten addr len) lay b h legal said = record { held = refl }
+
+numbered_by : (e : Event) (g : Register) → IsNumbered g → IsNumbered (register_after e g)
+numbered_by (Entered number items did) g h = opened_numbered (holdings_of items did) g h
+numbered_by (Left number did) g h = closed_numbered number g h
+numbered_by (EnteredData items did) g h = h
+numbered_by (ExitedData items finalize did) g h = h
+numbered_by (Updated items if_present did) g h = h
+numbered_by (HostWritten addr len) g h = h
+
+-- what holds of a layout, with how often each block was counted and dropped by regions, and its dynamic counter
+pub record IsTold (l : Limits) (lay : Layout) (entries exits dynamics : ℕ → ℕ) : Type 0 where
+  pub sound : AreRecordsSound l lay.records
+  pub numbered : IsNumbered lay.register
+  pub held : AreHeld lay
+  pub structured : (b : ℕ) → structured_of b lay.records.ranges + exits b ≡ entries b
+  pub dynamic : (b : ℕ) → dynamic_of b lay.records.ranges ≡ dynamics b
+
+-- an event that is legal keeps it
+pub event_told : (l : Limits) (e : Event) (lay : Layout) (entries exits dynamics : ℕ → ℕ) → IsWithinBounds l → IsTold l lay entries exits dynamics → IsLegal l e lay
+    → IsTold l (walk e lay) (λ b. entries b + entries_of b e) (λ b. exits b + exits_of b e) (λ b. dynamic_after b (dynamics b) e)
+unfolding walk
+event_told l e lay entries exits dynamics bounds h legal =
+    let tasks : List Task = asked_in e lay.register in
+    let said : AreSaid l tasks (done_in e) = all_said l 0 tasks (done_in e) lay.records legal.judged in
+    let left : AreLeft l tasks (done_in e) lay.records (act_all tasks (done_in e) lay.records) = all_left l 0 tasks (done_in e) lay.records bounds h.sound legal.judged in
+    record {
+      sound = left.sound;
+      numbered = numbered_by e lay.register h.numbered;
+      held = λ b. held_still b (recounted_by l e lay.register lay.records b said left) (held_by l e lay b h.numbered legal said);
+      structured = λ b. counted_still b (recounted_by l e lay.register lay.records b said left) (held_by l e lay b h.numbered legal said);
+      dynamic = λ b. (recounted_by l e lay.register lay.records b said left).dynamic ∙ ap (λ n. dynamic_after b n e) (h.dynamic b);
+    }
+  where
+    held_still : (b : ℕ) → IsRecounted b e lay.records (act_all (asked_in e lay.register) (done_in e) lay.records) → IsHeldBy b e lay.register (register_after e lay.register)
+        → structured_of b (act_all (asked_in e lay.register) (done_in e) lay.records).ranges ≡ held_in b (register_after e lay.register).regions
+    held_still b counted holds = omega (arith, h.held b, counted.structured, holds.held)
+
+    counted_still : (b : ℕ) → IsRecounted b e lay.records (act_all (asked_in e lay.register) (done_in e) lay.records) → IsHeldBy b e lay.register (register_after e lay.register)
+        → structured_of b (act_all (asked_in e lay.register) (done_in e) lay.records).ranges + (exits b + exits_of b e) ≡ entries b + entries_of b e
+    counted_still b counted holds = omega (arith, h.held b, h.structured b, counted.structured, holds.held)
+
+-- ---- a list of events
+
+pub events_told : (l : Limits) (events : List Event) (lay : Layout) (entries exits dynamics : ℕ → ℕ) → IsWithinBounds l → IsTold l lay entries exits dynamics → AreLegal l events lay
+    → IsTold l (walk_all events lay) (λ b. entries b + sum_by (entries_of b) events) (λ b. exits b + sum_by (exits_of b) events) (λ b. fold (dynamic_after b) (dynamics b) events)
+unfolding walk_all
+events_told l [] lay entries exits dynamics bounds h legal = record {
+  sound = h.sound;
+  numbered = h.numbered;
+  held = h.held;
+  structured = λ b. omega (arith, h.structured b);
+  dynamic = h.dynamic;
+}
+events_told l (e ∷ events) lay entries exits dynamics bounds h legal =
+    let first : IsTold l (walk e lay) (λ b. entries b + entries_of b e) (λ b. exits b + exits_of b e) (λ b. dynamic_after b (dynamics b) e) = event_told l e lay entries exits dynamics bounds h legal.0 in
+    let later : IsTold l (walk_all events (walk e lay)) (λ b. entries b + entries_of b e + sum_by (entries_of b) events) (λ b. exits b + exits_of b e + sum_by (exits_of b) events) (λ b. fold (dynamic_after b) (dynamic_after b (dynamics b) e) events)
+    = events_told l events (walk e lay) (λ b. entries b + entries_of b e) (λ b. exits b + exits_of b e) (λ b. dynamic_after b (dynamics b) e) bounds first legal.1 in
+    record {
+      sound = later.sound;
+      numbered = later.numbered;
+      held = later.held;
+      structured = λ b. omega (arith, later.structured b, sum_by-cons (entries_of b) e events, sum_by-cons (exits_of b) e events);
+      dynamic = later.dynamic;
+    }
+
+pub new_told : (l : Limits) → IsTold l new_layout (λ b. 0) (λ b. 0) (λ b. 0)
+new_told l = record { sound = new_sound l; numbered = new_numbered; held = λ b. refl; structured = λ b. refl; dynamic = λ b. refl }
+
+-- what a history says of the layout that it leads to
+pub record IsLedTo (l : Limits) (h : History) (lay : Layout) : Type 0 where
+  pub sound : AreRecordsSound l lay.records
+  pub numbered : IsNumbered lay.register
+  pub held : AreHeld lay
+  pub structured : (b : ℕ) → structured_of b lay.records.ranges ≡ structured_in b h
+  pub dynamic : (b : ℕ) → dynamic_of b lay.records.ranges ≡ dynamic_in b h
+
+-- a legal history leads to sound records, and tells both counters of every block
+pub legal_told : (l : Limits) (h : History) (lay : Layout) → IsWithinBounds l → IsHistoryLegal l h lay → IsLedTo l h lay
+legal_told l h lay bounds legal =
+    let all_of : IsTold l (walk_all h.trace new_layout) (λ b. 0 + sum_by (entries_of b) h.trace) (λ b. 0 + sum_by (exits_of b) h.trace) (λ b. fold (dynamic_after b) 0 h.trace)
+    = events_told l h.trace new_layout (λ b. 0) (λ b. 0) (λ b. 0) bounds (new_told l) legal.legal in
+    subst (IsLedTo l h) legal.leads (record {
+      sound = all_of.sound;
+      numbered = all_of.numbered;
+      held = all_of.held;
+      structured = λ b. omega (arith, all_of.structured b);
+      dynamic = all_of.dynamic;
+    })
+
+-- ---- numbers of regions
+
+abbrev pub with_number : Event → List ℕ → List ℕ
+with_number (Entered number items did) numbers = number ∷ numbers
+with_number (Left number did) numbers = numbers
+with_number (EnteredData items did) numbers = numbers
+with_number (ExitedData items finalize did) numbers = numbers
+with_number (Updated items if_present did) numbers = numbers
+with_number (HostWritten addr len) numbers = numbers
+
+-- the numbers of the regions that were entered, in order
+abbrev pub numbers_in : List Event → List ℕ
+numbers_in [] = []
+numbers_in (e ∷ events) = with_number e (numbers_in events)
+
+abbrev AreFrom : ℕ → List ℕ → Type 0
+AreFrom least numbers = AllByRecursion (λ n. least ≤ n) numbers
+
+numbers_from : (l : Limits) (events : List Event) (lay : Layout) → AreLegal l events lay → AreFrom lay.register.next (numbers_in events)
+unfolding walk
+numbers_from l [] lay legal = tt
+numbers_from l (e ∷ events) lay legal = go e legal.0.names (numbers_from l events (walk e lay) legal.1)
+  where
+    go : (x : Event) → NamesRight l x lay → AreFrom (register_after x lay.register).next (numbers_in events) → AreFrom lay.register.next (with_number x (numbers_in events))
+    go (Entered number items did) names later = let is : number ≡ lay.register.next = names in (omega arith, AllByRecursion-weaker (λ n. lay.register.next + 1 ≤ n) (λ n. lay.register.next ≤ n) (numbers_in events) (λ n p. omega arith) later)
+    go (Left number did) names later = later
+    go (EnteredData items did) names later = later
+    go (ExitedData items finalize did) names later = later
+    go (Updated items if_present did) names later = later
+    go (HostWritten addr len) names later = later
+
+-- they rise, so no number is used twice
+pub numbers_rise : (l : Limits) (events : List Event) (lay : Layout) → AreLegal l events lay → EachPair (λ (m : ℕ) (n : ℕ). m < n) (numbers_in events)
+unfolding walk
+numbers_rise l [] lay legal = tt
+numbers_rise l (e ∷ events) lay legal = go e legal.0.names (numbers_from l events (walk e lay) legal.1) (numbers_rise l events (walk e lay) legal.1)
+  where
+    go : (x : Event) → NamesRight l x lay → AreFrom (register_after x lay.register).next (numbers_in events) → EachPair (λ (m : ℕ) (n : ℕ). m < n) (numbers_in events) → EachPair (λ (m : ℕ) (n : ℕ). m < n) (with_number x (numbers_in events))
+    go (Entered number items did) names from later = let is : number ≡ lay.register.next = names in (AllByRecursion-weaker (λ n. lay.register.next + 1 ≤ n) (λ n. number < n) (numbers_in events) (λ n p. omega arith) from, later)
+    go (Left number did) names from later = later
+    go (EnteredData items did) names from later = later
+    go (ExitedData items finalize did) names from later = later
+    go (Updated items if_present did) names from later = later
+    go (HostWritten addr len) names from later = later

@@ -1,0 +1,35 @@
+-- The layout after an event is the walk of the event.
+use Rattle.std.proofs.Common.{◌≡◌, refl, ◌∙◌, ap, List, [], ◌∷◌, ℕ}
+use Rattle.acc_base.specs.declared.tasks.Task.{Task}
+use Rattle.acc_base.specs.declared.events.Did.{Did}
+use Rattle.acc_base.specs.declared.events.Event.{Event}
+use Rattle.acc_base.specs.Records.{State, Records, layout_of}
+use Rattle.acc_base.specs.Tasks.{act, act_all}
+use Rattle.acc_base.specs.Walk.{walk, asked_in, done_in, register_after}
+use Rattle.acc_base.specs.Bytes.{act_state, act_all_state, after}
+
+-- the records after a task of a state are those that the task leaves of its records
+pub records-act_state : (task : Task) (did : Did) (s : State) → (act_state task did.step s).records ≡ act task did.step s.records
+unfolding act_state
+records-act_state task did s = refl
+
+-- and the same of a list of tasks
+pub records-act_all_state : (tasks : List Task) (dids : List Did) (s : State) → (act_all_state tasks dids s).records ≡ act_all tasks dids s.records
+unfolding act_all_state act_all
+records-act_all_state [] [] s = refl
+records-act_all_state [] (d ∷ ds) s = refl
+records-act_all_state (t ∷ ts) [] s = refl
+records-act_all_state (t ∷ ts) (d ∷ ds) s = records-act_all_state ts ds (act_state t d.step s) ∙ ap (act_all ts ds) (records-act_state t d s)
+
+-- tasks leave the register
+pub register-act_all_state : (tasks : List Task) (dids : List Did) (s : State) → (act_all_state tasks dids s).register ≡ s.register
+unfolding act_all_state act_state
+register-act_all_state [] [] s = refl
+register-act_all_state [] (d ∷ ds) s = refl
+register-act_all_state (t ∷ ts) [] s = refl
+register-act_all_state (t ∷ ts) (d ∷ ds) s = register-act_all_state ts ds (act_state t d.step s)
+
+-- the layout after an event, whatever bytes its call brought
+pub layout-after : (e : Event) (brought : List ℕ) (s : State) → layout_of (after e brought s) ≡ walk e (layout_of s)
+unfolding after walk
+layout-after e brought s = ap (λ (w : Records). record { records = w; register = register_after e s.register }) (records-act_all_state (asked_in e s.register) (done_in e) s)

@@ -1,0 +1,157 @@
+-- What is held stays within the range of its block, whatever step is done; and each task that leaves finds what it held.
+use Rattle.std.proofs.Common.{ℕ, suc, ◌≡◌, ◌+◌, ◌-◌, ◌≤◌, refl, sym, ◌∙◌, ap, subst, Bool, true, false, cond, List, [], ◌∷◌, map, Option, Some, None, arith}
+use Rattle.std.specs.Prelude.{◌==◌, nat_lt, unwrap_or, option_map}
+use Rattle.std.specs.List.{AllByRecursion}
+use Rattle.std.proofs.lemmas.Bool.Decides.{nat_tests}
+use Rattle.std.proofs.lemmas.List.Sums.{sum_by-cons}
+use Rattle.acc_base.specs.declared.items.Section.{Section}
+use Rattle.acc_base.specs.declared.mappings.Range.{Range}
+use Rattle.acc_base.specs.declared.mappings.Counter.TheVariants.{Structured}
+use Rattle.acc_base.specs.declared.regions.Holding.{Holding}
+use Rattle.acc_base.specs.declared.tasks.Task.{Task}
+use Rattle.acc_base.specs.declared.tasks.Task.TheVariants.{Enter, Leave, Exit, Move}
+use Rattle.acc_base.specs.declared.events.Step.{Step}
+use Rattle.acc_base.specs.declared.events.Step.TheVariants.{Nothing, Counted, Born, Dropped, Moved}
+use Rattle.acc_base.specs.declared.events.Did.{Did}
+use Rattle.acc_base.specs.Limits.{Limits, IsWithinBounds}
+use Rattle.acc_base.specs.Section.{is_within}
+use Rattle.acc_base.specs.Records.{Records}
+use Rattle.acc_base.specs.Ranges.{range_of, structured_of, changed_at, with_range, without_range, bare_range}
+use Rattle.acc_base.specs.Register.{is_counted_block, count_held}
+use Rattle.acc_base.specs.Tasks.{section_of, recounted, act, records_after_birth, records_after_end, with_range_changed}
+use Rattle.acc_base.specs.History.{AreJudged}
+use Rattle.acc_base.specs.Accounts.{AreRecordsSound}
+use Rattle.acc_base.proofs.Results.{equal}
+use Rattle.acc_base.proofs.Elements.{AllByRecursion-weaker}
+use Rattle.acc_base.proofs.Lookups.{at-changed, at-without_same, at-without_other}
+use Rattle.acc_base.proofs.Judged.{IsJudgedTo, task_says}
+use Rattle.acc_base.proofs.Sound.{acted_sound}
+use Rattle.acc_base.proofs.Recounted.{names, counter-act}
+use Rattle.acc_base.proofs.Memories.{recounted-block, recounted-section}
+use Rattle.acc_clauses.specs.Acts.{IsKnown, AreKnown}
+use Rattle.acc_clauses.specs.Stored.{IsHeldWithin, IsHoldingWithin}
+
+-- ---- the range of a block after a step
+
+abbrev block_of : Range → ℕ
+block_of r = r.block
+
+-- a range more leaves those of other blocks
+range-with_other : (new : Range) (b : ℕ) (rs : List Range) → (new.block == b) ≡ false → range_of b (with_range new rs) ≡ range_of b rs
+range-with_other new b [] n = rw n
+range-with_other new b (r ∷ rs) n = go (range-with_other new b rs n) (nat_lt new.section.start r.section.start) (r.block == b) refl
+  where
+    go : range_of b (with_range new rs) ≡ range_of b rs → (x t : Bool) → (r.block == b) ≡ t → range_of b (cond x (new ∷ r ∷ rs) (r ∷ with_range new rs)) ≡ range_of b (r ∷ rs)
+    go rest true t e = rw n
+    go rest false true e = rw e
+    go rest false false e = rw e rest
+
+-- a change of counters leaves sections
+within_changed : (task : Task) (k b : ℕ) (rs : List Range) (s : Section) → ((r : Range) → range_of b rs ≡ Some r → is_within s r.section ≡ true) → (r : Range) → range_of b (changed_at k (recounted task) rs) ≡ Some r → is_within s r.section ≡ true
+within_changed task k b rs s h r e = go (range_of b rs) refl (sym (at-changed block_of k b (recounted task) rs (recounted-block task)) ∙ e)
+  where
+    sect : (x : Range) → range_of b rs ≡ Some x → (t : Bool) → is_within s (cond t (recounted task x) x).section ≡ true
+    sect x p true = rw (recounted-section task x) (h x p)
+    sect x p false = h x p
+
+    go : (o : Option Range) → range_of b rs ≡ o → option_map (λ (x : Range). cond (x.block == k) (recounted task x) x) o ≡ Some r → is_within s r.section ≡ true
+    go None p q = cc
+    go (Some x) p q =
+        let same : cond (x.block == k) (recounted task x) x ≡ r = cc in
+        subst (λ (y : Range). is_within s y.section ≡ true) same (sect x p (x.block == k))
+
+-- an end leaves the ranges of other blocks
+within_without : (k b : ℕ) (rs : List Range) (s : Section) → ((r : Range) → range_of b rs ≡ Some r → is_within s r.section ≡ true) → (r : Range) → range_of b (without_range k rs) ≡ Some r → is_within s r.section ≡ true
+within_without k b rs s h r e = go (b == k) refl
+  where
+    go : (t : Bool) → (b == k) ≡ t → is_within s r.section ≡ true
+    go true t =
+        let there : range_of k (without_range k rs) ≡ Some r = subst (λ n. range_of n (without_range k rs) ≡ Some r) (equal b k t) e in
+        let gone : range_of k (without_range k rs) ≡ None = at-without_same block_of k rs in
+        cc
+    go false t = h r (sym (at-without_other block_of k b rs t) ∙ e)
+
+born_number : (l : Limits) (task : Task) (k p : ℕ) (w : Records) → IsJudgedTo l task (Born k p) w → k ≡ w.births + 1
+born_number l (Enter counter item) k p w says = says.number
+born_number l (Leave holding) k p w says = absurd says
+born_number l (Exit finalize item) k p w says = absurd says
+born_number l (Move if_present item) k p w says = absurd says
+
+above_differs : (k b n : ℕ) → k ≡ n + 1 → b ≤ n → (k == b) ≡ false
+above_differs k b n e h = grind (arith, nat_tests)
+
+-- what is held stays within
+pub within_act : (l : Limits) (task : Task) (step : Step) (w : Records) (s : Section) (b : ℕ) → IsJudgedTo l task step w → IsHeldWithin w s b → IsHeldWithin (act task step w) s b
+unfolding act records_after_birth records_after_end with_range_changed
+within_act l task Nothing w s b says h = h
+within_act l task (Counted k) w s b says h = record { born = h.born; within = within_changed task k b w.ranges s h.within }
+within_act l task (Born k p) w s b says h =
+    let new : Range = recounted task (bare_range (section_of task) k) in
+    let other : (new.block == b) ≡ false = rw (recounted-block task (bare_range (section_of task) k)) (above_differs k b w.births (born_number l task k p w says) h.born) in
+    record { born = omega (arith, h.born); within = λ r e. h.within r (sym (range-with_other new b w.ranges other) ∙ e) }
+within_act l task (Dropped k true) w s b says h = record { born = h.born; within = within_without k b w.ranges s h.within }
+within_act l task (Dropped k false) w s b says h = record { born = h.born; within = within_changed task k b w.ranges s h.within }
+within_act l task (Moved k) w s b says h = h
+
+-- ---- exit from a region
+
+-- a block whose structured counter is above zero is mapped
+counted_mapped : (k : ℕ) (ranges : List Range) → 1 ≤ structured_of k ranges → (r : Range) × (range_of k ranges ≡ Some r)
+counted_mapped k ranges h = go (range_of k ranges) refl
+  where
+    go : (o : Option Range) → range_of k ranges ≡ o → (r : Range) × (range_of k ranges ≡ Some r)
+    go None p =
+        let zero : structured_of k ranges ≡ 0 = ap (λ (o : Option Range). unwrap_or (option_map (λ (r : Range). r.structured) o) 0) p in
+        absurd (omega (arith, h, zero))
+    go (Some r) p = (r, p)
+
+held-cons : (b : ℕ) (h : Holding) (hs : List Holding) → count_held b (h ∷ hs) ≡ cond (is_counted_block b h.block) 1 0 + count_held b hs
+held-cons b h hs = sum_by-cons (λ (x : Holding). cond (is_counted_block b x.block) 1 0) h hs
+
+counted_self : (k : ℕ) (block : Option ℕ) → block ≡ Some k → ◌≡◌ {A = ℕ} (cond (is_counted_block k block) 1 0) 1
+counted_self k block e = let same : (k == k) ≡ true = grind (arith, nat_tests) in rw (e, same) refl
+
+-- what a task that leaves makes of the structured counter of a block
+leave_names : (l : Limits) (b : ℕ) (h : Holding) (step : Step) (w : Records) → IsJudgedTo l (Leave h) step w → names b step ≡ is_counted_block b h.block
+leave_names l b h Nothing w says = rw says refl
+leave_names l b h (Counted k) w says = absurd says
+leave_names l b h (Born k p) w says = absurd says
+leave_names l b h (Dropped k ended) w says = rw says.0 refl
+leave_names l b h (Moved k) w says = absurd says
+
+-- the counters still cover what is left to undo
+covers_next : (c : Bool) (m n k : ℕ) → cond c 1 0 + n ≤ m → k ≡ cond c (m - 1) m → n ≤ k
+covers_next true m n k h e = omega (arith, h, e)
+covers_next false m n k h e = omega (arith, h, e)
+
+-- each task of the exit from a region finds the block that its entry counted
+pub leaves_known : (l : Limits) (n : ℕ) (hs : List Holding) (dids : List Did) (w : Records) → IsWithinBounds l → AreRecordsSound l w → AreJudged l n (map Leave hs) dids w → AllByRecursion (IsHoldingWithin w) hs
+    → ((b : ℕ) → count_held b hs ≤ structured_of b w.ranges) → AreKnown (map Leave hs) dids w
+leaves_known l n [] [] w bounds sound judged within covers = tt
+leaves_known l n [] (d ∷ ds) w bounds sound judged within covers = tt
+leaves_known l n (h ∷ hs) [] w bounds sound judged within covers = tt
+leaves_known l n (h ∷ hs) (d ∷ ds) w bounds sound judged within covers = (known, leaves_known l (suc n) hs ds v bounds (acted_sound l (Leave h) d.step w bounds says sound) judged.1 later covered)
+  where
+    v : Records
+    v = act (Leave h) d.step w
+
+    says : IsJudgedTo l (Leave h) d.step w
+    says = task_says l n (Leave h) w d.step judged.0
+
+    known : IsKnown w (Leave h)
+    known k e =
+        let one : count_held k (h ∷ hs) ≡ cond (is_counted_block k h.block) 1 0 + count_held k hs = held-cons k h hs in
+        let self : ◌≡◌ {A = ℕ} (cond (is_counted_block k h.block) 1 0) 1 = counted_self k h.block e in
+        let mapped : (r : Range) × (range_of k w.ranges ≡ Some r) = counted_mapped k w.ranges (omega (arith, covers k, one, self)) in
+        record { range = mapped.0; range_is = mapped.1; within = (within.0 k e).within mapped.0 mapped.1 }
+
+    later : AllByRecursion (IsHoldingWithin v) hs
+    later = AllByRecursion-weaker (IsHoldingWithin w) (IsHoldingWithin v) hs (λ x p k e. within_act l (Leave h) d.step w x.item.section k says (p k e)) within.1
+
+    covered : (b : ℕ) → count_held b hs ≤ structured_of b v.ranges
+    covered b =
+        let after : structured_of b v.ranges ≡ cond (names b d.step) (structured_of b w.ranges - 1) (structured_of b w.ranges) = counter-act l (Leave h) d.step w Structured b sound says in
+        let named : structured_of b v.ranges ≡ cond (is_counted_block b h.block) (structured_of b w.ranges - 1) (structured_of b w.ranges) =
+        after ∙ ap (λ t. cond t (structured_of b w.ranges - 1) (structured_of b w.ranges)) (leave_names l b h d.step w says) in
+        let one : count_held b (h ∷ hs) ≡ cond (is_counted_block b h.block) 1 0 + count_held b hs = held-cons b h hs in
+        covers_next (is_counted_block b h.block) (structured_of b w.ranges) (count_held b hs) (structured_of b v.ranges) (omega (arith, covers b, one)) named

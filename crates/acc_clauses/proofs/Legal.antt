@@ -1,0 +1,184 @@
+-- A step that a task is judged to do can be done, and leaves the parts sound.
+use Rattle.std.proofs.Common.{ℕ, ◌≡◌, ◌+◌, ◌<◌, ◌≤◌, ◌^◌, refl, sym, ◌∙◌, subst, true, false, List, [], ◌∷◌, Option, Some, None, arith}
+use Rattle.std.specs.Prelude.{◌==◌, IsSome}
+use Rattle.std.specs.List.{AllByRecursion, AllZip}
+use Rattle.std.proofs.lemmas.Bool.Decides.{nat_tests}
+use Rattle.acc_base.specs.declared.addresses.TheConstants.{MEMORY_MAX}
+use Rattle.acc_base.specs.declared.items.Section.{Section}
+use Rattle.acc_base.specs.declared.mappings.Range.{Range}
+use Rattle.acc_base.specs.declared.mappings.Block.{Block}
+use Rattle.acc_base.specs.declared.mappings.Found.TheVariants.{Inside}
+use Rattle.acc_base.specs.declared.tasks.Task.{Task}
+use Rattle.acc_base.specs.declared.tasks.Task.TheVariants.{Enter, Leave, Exit, Move}
+use Rattle.acc_base.specs.declared.events.Step.{Step}
+use Rattle.acc_base.specs.declared.events.Step.TheVariants.{Nothing, Counted, Born, Dropped, Moved}
+use Rattle.acc_base.specs.Limits.{Limits, IsWithinBounds, IsFromOne}
+use Rattle.acc_base.specs.Section.{is_within, is_empty, host_memory}
+use Rattle.acc_base.specs.Records.{Records, Memory, State}
+use Rattle.acc_base.specs.Ranges.{where_is, range_of}
+use Rattle.acc_base.specs.Blocks.{block_at}
+use Rattle.acc_base.specs.Bytes.{act_state}
+use Rattle.acc_base.specs.Accounts.{IsInHost, IsMapped, IsCounted, HasOneBlockEach, IsMemoryOf, AreRecordsSound, AreMemoriesSized}
+use Rattle.acc_base.proofs.Results.{equal}
+use Rattle.acc_base.proofs.Elements.{AllByRecursion-weaker, AllByRecursion-both, found_has}
+use Rattle.acc_base.proofs.Lookups.{at-own}
+use Rattle.acc_base.proofs.Where.{IsInsideOf, inside_says, absent_says}
+use Rattle.acc_base.proofs.Judged.{IsBirth, IsInRangeOf, IsJudgedTo, task_says}
+use Rattle.acc_base.proofs.Sound.{ranges_born, acted_sound}
+use Rattle.acc_base.proofs.Memories.{act_sized}
+use Rattle.acc_present.specs.Present.{PresentState}
+use Rattle.acc_dev.specs.Device.{DeviceState}
+use Rattle.acc_clauses.specs.Contents.{state_of, ArePartsSound}
+use Rattle.acc_clauses.specs.Acts.{IsJudged, IsMappedAround, IsKnown, CanMove, CanBear, CanAct, IsActedBy}
+use Rattle.acc_clauses.proofs.Moving.{bytes_of-len, some_of}
+use Rattle.acc_clauses.proofs.Steps.{is_some}
+
+-- ---- sections
+
+within_both : (s t u : Section) → is_within s t ≡ true → is_within t u ≡ true → is_within s u ≡ true
+within_both s t u h k = grind (arith, nat_tests)
+
+-- a section of host memory is no longer than it
+host_len : (s : Section) (n : ℕ) → is_within s (host_memory n) ≡ true → s.len ≤ n
+host_len s n h = grind (arith, nat_tests)
+
+-- the range of the block of a section that is inside a range
+pub mapped_around : (l : Limits) (w : Records) (section : Section) (k o : ℕ) → AreRecordsSound l w → where_is section w.ranges ≡ Inside k o → IsMappedAround w section k
+mapped_around l w section k o h e =
+    let found : (r : Range) × IsInsideOf section w.ranges k o r = inside_says section w.ranges k o e in
+    let has : (range_of found.0.block w.ranges ≡ Some found.0) × (is_within section found.0.section ≡ true) =
+    found_has (λ r. range_of r.block w.ranges ≡ Some r) (λ r. is_within section r.section) w.ranges found.0 (at-own (λ (r : Range). r.block) w.ranges h.one_block_each.distinct) found.1.around in
+    record { range = found.0; range_is = subst (λ n. range_of n w.ranges ≡ Some found.0) found.1.block_is has.0; within = has.1 }
+
+-- what holds of the range of a block
+record IsWhole (l : Limits) (w : Records) (r : Range) : Type 0 where
+  mapped : IsMapped w.blocks r
+  in_host : IsInHost l r.section
+
+pub can_move : (l : Limits) (s : State) (section : Section) (k : ℕ) → AreRecordsSound l s.records → AreMemoriesSized l s → IsMappedAround s.records section k → CanMove section k s
+can_move l s section k h m around =
+    let has : IsWhole l s.records around.range × ((around.range.block == k) ≡ true) =
+    found_has (IsWhole l s.records) (λ r. r.block == k) s.records.ranges around.range
+    (AllByRecursion-both (IsMapped s.records.blocks) (λ r. IsInHost l r.section) (IsWhole l s.records) s.records.ranges (λ r a b. record { mapped = a; in_host = b }) h.one_block_each.mapped h.ranges_apart.in_host) around.range_is in
+    let b : Block = has.0.mapped.0 in
+    let there : block_at k s.records.blocks ≡ Some b = subst (λ n. block_at n s.records.blocks ≡ Some b) (equal around.range.block k has.1) has.0.mapped.1 in
+    record {
+      in_host = subst (λ n. is_within section (host_memory n) ≡ true) (sym m.host) (within_both section around.range.section (host_memory l.host) around.within has.0.in_host.within);
+      range = around.range;
+      range_is = around.range_is;
+      within = around.within;
+      there = is_some (block_at k s.records.blocks) b there;
+      len = bytes_of-len k s.memories s.records.blocks b m.blocks there ∙ has.0.mapped.2;
+    }
+
+-- a block that is there has a range
+pub has_range : (k : ℕ) (w : Records) → HasOneBlockEach w → IsSome (block_at k w.blocks) → IsSome (range_of k w.ranges)
+has_range k w h there =
+    let b : (b : Block) × (block_at k w.blocks ≡ Some b) = some_of (block_at k w.blocks) there in
+    let has : IsSome (range_of b.0.number w.ranges) × ((b.0.number == k) ≡ true) = found_has (λ b. IsSome (range_of b.number w.ranges)) (λ b. b.number == k) w.blocks b.0 h.in_use b.1 in
+    subst (λ n. IsSome (range_of n w.ranges)) (equal b.0.number k has.1) has.0
+
+-- and one that is not has none
+pub has_none : (k : ℕ) (w : Records) → HasOneBlockEach w → (IsSome (block_at k w.blocks) → ⊥) → range_of k w.ranges ≡ None
+has_none k w h none = go (range_of k w.ranges) refl
+  where
+    go : (o : Option Range) → range_of k w.ranges ≡ o → o ≡ None
+    go None e = refl
+    go (Some r) e =
+        let has : IsMapped w.blocks r × ((r.block == k) ≡ true) = found_has (IsMapped w.blocks) (λ t. t.block == k) w.ranges r h.mapped e in
+        absurd (none (is_some (block_at k w.blocks) has.0.0 (subst (λ n. block_at n w.blocks ≡ Some has.0.0) (equal r.block k has.1) has.0.1)))
+
+-- the counters of the range of a block keep their limit
+pub limit_of : (l : Limits) (w : Records) (k : ℕ) (r : Range) → AreRecordsSound l w → range_of k w.ranges ≡ Some r → IsCounted l r
+limit_of l w k r h e = let has : IsCounted l r × ((r.block == k) ≡ true) = found_has (IsCounted l) (λ t. t.block == k) w.ranges r h.counted e in has.0
+
+-- the block of a number above the births has no memory
+no_memory : (k births : ℕ) (ms : List Memory) (bs : List Block) → AllZip IsMemoryOf ms bs → AllByRecursion (λ b. b.number ≤ births) bs → k ≡ births + 1 → AllByRecursion (λ m. m.block ≡ k → ⊥) ms
+no_memory k births [] bs h low e = tt
+no_memory k births (m ∷ ms) [] h low e = absurd h
+no_memory k births (m ∷ ms) (b ∷ bs) h low e = (
+  (λ same. let below : b.number ≤ births = low.0 in let owner : m.block ≡ b.number = h.0.block in omega (arith, e, below, owner, same)),
+  no_memory k births ms bs h.1 low.1 e,
+)
+
+-- a look-up that does not find nothing finds something
+not_none : {X : Type 0} (o : Option X) → (o ≡ None → ⊥) → IsSome o
+not_none None h = absurd (h refl)
+not_none (Some x) h = refl
+
+-- ---- what each step needs
+
+-- a block that can be born is not too long
+pub birth_len : (l : Limits) (section : Section) (k place : ℕ) (w : Records) → IsWithinBounds l → IsBirth l section k place w → IsFromOne MEMORY_MAX section.len
+birth_len l section k place w bounds says =
+    let filled : is_empty section ≡ false = (absent_says section w.ranges says.absent).1 in
+    let some : 1 ≤ section.len = grind (arith, nat_tests) in
+    let most : section.len ≤ MEMORY_MAX = omega (arith, host_len section l.host says.within, bounds.host.1) in
+    (some, most)
+
+can_bear : (l : Limits) (s : State) (section : Section) (k place : ℕ) → IsWithinBounds l → AreRecordsSound l s.records → AreMemoriesSized l s → s.records.births < 2 ^ 48 → IsBirth l section k place s.records
+    → CanBear l.counter_max l.device section k place s
+can_bear l s section k place bounds h m few says =
+    let filled : is_empty section ≡ false = (absent_says section s.records.ranges says.absent).1 in
+    let some : 1 ≤ section.len = grind (arith, nat_tests) in
+    let most : section.len ≤ MEMORY_MAX = omega (arith, host_len section l.host says.within, bounds.host.1) in
+    record {
+      in_host = subst (λ n. is_within section (host_memory n) ≡ true) (sym m.host) says.within;
+      absent = says.absent;
+      len = (some, most);
+      number = says.number;
+      place_is = says.place_is;
+      few = few;
+      no_range = AllByRecursion-weaker (λ (r : Range). r.block ≤ s.records.births) (λ r. r.block ≡ k → ⊥) s.records.ranges (λ r n same. let number : k ≡ s.records.births + 1 = says.number in omega arith) (ranges_born l s.records h);
+      no_memory = no_memory k s.records.births s.memories s.records.blocks m.blocks h.blocks_apart.born says.number;
+      counted = bounds.counter_max.0;
+    }
+
+can_range : (l : Limits) (s : State) (section : Section) (k : ℕ) → AreRecordsSound l s.records → AreMemoriesSized l s → IsInRangeOf l section k s.records → CanMove section k s
+can_range l s section k h m says = can_move l s section k h m (mapped_around l s.records section k says.offset h says.inside)
+
+can_by : (l : Limits) (s : State) (task : Task) (step : Step) → IsWithinBounds l → AreRecordsSound l s.records → AreMemoriesSized l s → s.records.births < 2 ^ 48 → IsKnown s.records task → IsJudgedTo l task step s.records
+    → CanAct l.counter_max l.device task step s
+can_by l s task Nothing bounds h m few known says = tt
+can_by l s (Enter counter item) (Counted k) bounds h m few known says = record { there = not_none (range_of k s.records.ranges) says.mapped; below = says.room }
+can_by l s (Enter counter item) (Born k p) bounds h m few known says = (tt, can_bear l s item.section k p bounds h m few says)
+can_by l s (Enter counter item) (Dropped k ended) bounds h m few known says = absurd says
+can_by l s (Enter counter item) (Moved k) bounds h m few known says = absurd says
+can_by l s (Leave holding) (Counted k) bounds h m few known says = absurd says
+can_by l s (Leave holding) (Born k p) bounds h m few known says = absurd says
+can_by l s (Leave holding) (Dropped k ended) bounds h m few known says = record { move = can_move l s holding.item.section k h m (known k says.0); not_entry = λ x. x; ends = sym says.1 }
+can_by l s (Leave holding) (Moved k) bounds h m few known says = absurd says
+can_by l s (Exit finalize item) (Counted k) bounds h m few known says = absurd says
+can_by l s (Exit finalize item) (Born k p) bounds h m few known says = absurd says
+can_by l s (Exit finalize item) (Dropped k ended) bounds h m few known says = record { move = can_range l s item.section k h m says.range; not_entry = λ x. x; ends = sym says.ended_is }
+can_by l s (Exit finalize item) (Moved k) bounds h m few known says = absurd says
+can_by l s (Move if_present item) (Counted k) bounds h m few known says = absurd says
+can_by l s (Move if_present item) (Born k p) bounds h m few known says = absurd says
+can_by l s (Move if_present item) (Dropped k ended) bounds h m few known says = absurd says
+can_by l s (Move if_present item) (Moved k) bounds h m few known says = can_range l s item.section k h m says
+
+pub can_act : (l : Limits) (p : PresentState) (d : DeviceState) (host : List ℕ) (next : ℕ) (task : Task) (step : Step) → IsWithinBounds l → ArePartsSound l p d host next → d.births < 2 ^ 48
+    → IsKnown (state_of p d host next).records task → IsJudged l task step (state_of p d host next).records → CanAct p.table.counter_max d.size task step (state_of p d host 0)
+can_act l p d host next task step bounds sound few known judged =
+    let at : CanAct l.counter_max l.device task step (state_of p d host 0) = can_by l (state_of p d host 0) task step bounds sound.sound.records (record { host = sound.sound.memories.host; blocks = sound.sound.memories.blocks }) few known (task_says l judged.item task (state_of p d host next).records step judged.judged) in
+    subst (λ n. CanAct p.table.counter_max n task step (state_of p d host 0)) (sym sound.sized.device) (subst (λ n. CanAct n l.device task step (state_of p d host 0)) (sym sound.sized.counters) at)
+
+-- ---- what a step leaves
+
+-- the records and the memories are sound after a step that the task is judged to do
+pub acts_sound : (l : Limits) (s : State) (task : Task) (step : Step) → IsWithinBounds l → AreRecordsSound l s.records → AreMemoriesSized l s → IsJudged l task step s.records
+    → AreRecordsSound l (act_state task step s).records × AreMemoriesSized l (act_state task step s)
+unfolding act_state
+acts_sound l s task step bounds h m judged = (acted_sound l task step s.records bounds (task_says l judged.item task s.records step judged.judged) h, act_sized l task step s m)
+
+pub parts_sound : (l : Limits) (p q : PresentState) (d e : DeviceState) (host host2 : List ℕ) (next : ℕ) (task : Task) (step : Step) → IsWithinBounds l → ArePartsSound l p d host next → IsJudged l task step (state_of p d host next).records
+    → IsActedBy task step p d host q e host2 → ArePartsSound l q e host2 next
+parts_sound l p q d e host host2 next task step bounds sound judged acted =
+    let after : AreRecordsSound l (act_state task step (state_of p d host next)).records × AreMemoriesSized l (act_state task step (state_of p d host next)) =
+    acts_sound l (state_of p d host next) task step bounds sound.sound.records sound.sound.memories judged in
+    let there : AreRecordsSound l (state_of q e host2 next).records × AreMemoriesSized l (state_of q e host2 next) =
+    subst (λ (s : State). AreRecordsSound l s.records × AreMemoriesSized l s) (sym (acted.state next)) after in
+    record {
+      sized = record { counters = acted.counter_max ∙ sound.sized.counters; device = acted.size ∙ sound.sized.device };
+      sound = record { records = there.0; memories = there.1 };
+    }

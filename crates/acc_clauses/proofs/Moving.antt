@@ -1,0 +1,93 @@
+-- What a copy between host memory and a block of a device leaves.
+use Rattle.std.proofs.Common.{ℕ, ◌≡◌, ◌+◌, ◌-◌, ◌<◌, refl, sym, ◌∙◌, ap, subst, Bool, true, false, cond, List, [], ◌∷◌, length, map, Option, Some, None, arith}
+use Rattle.std.specs.Prelude.{◌==◌, find, IsSome, unwrap_or, option_map, take, drop, slice_range}
+use Rattle.std.specs.List.{AllByRecursion, AllZip}
+use Rattle.acc_base.specs.declared.items.Section.{Section}
+use Rattle.acc_base.specs.declared.mappings.Block.{Block}
+use Rattle.acc_base.specs.Section.{is_within, host_memory}
+use Rattle.acc_base.specs.Records.{Memory}
+use Rattle.acc_base.specs.Blocks.{block_at}
+use Rattle.acc_base.specs.Bytes.{bytes_of, memory_changed, bytes_moved_in, bytes_moved_out}
+use Rattle.acc_base.specs.Accounts.{EachPair, IsClearOf, IsMemoryOf}
+use Rattle.acc_base.proofs.Elements.{AllByRecursion-weaker, EachPair-weaker}
+use Rattle.acc_base.proofs.Lookups.{at-own}
+use Rattle.acc_host.specs.Host.{bytes_in, with_bytes}
+use Rattle.acc_dev.specs.Device.{DeviceState, IsWritten, HasBlocksApart, overwritten}
+use Rattle.acc_clauses.proofs.Copying.{part, part-length, IsPartAt, part_at, moved_in, moved_out, changed-same}
+
+-- ---- to host memory
+
+-- a section's bytes in the block, as a slice from where the block's range begins
+abbrev slice : Section → ℕ → List ℕ → List ℕ
+slice s start bytes = slice_range bytes (s.start - start) (s.start - start + s.len)
+
+slice_is : (s : Section) (start : ℕ) (bytes : List ℕ) → slice s start bytes ≡ part bytes (s.start - start) s.len
+slice_is s start bytes = ap (λ n. take n (drop (s.start - start) bytes)) (let same : s.start - start + s.len - (s.start - start) ≡ s.len = omega arith in same)
+
+pub copied_out : (s : Section) (start : ℕ) (bytes host : List ℕ) → is_within s (host_memory (length host)) ≡ true → is_within s (record { start = start; len = length bytes }) ≡ true
+    → with_bytes host (record { start = s.start; len = length (slice s start bytes) }) (slice s start bytes) ≡ bytes_moved_out s bytes start host
+copied_out s start bytes host in_host within =
+    let fits : IsPartAt s start (length bytes) (s.start - start) = part_at s (record { start = start; len = length bytes }) within in
+    let len : length (slice s start bytes) ≡ s.len = ap length (slice_is s start bytes) ∙ part-length bytes (s.start - start) s.len (omega (arith, fits.at_is, fits.fits)) in
+    rw (len, slice_is s start bytes) (sym (moved_out s bytes start host in_host within))
+
+-- ---- the memory of a block
+
+-- each block is the one of its number, since numbers rise
+own_blocks : (blocks : List Block) → EachPair IsClearOf blocks → AllByRecursion (λ b. block_at b.number blocks ≡ Some b) blocks
+own_blocks blocks h = at-own (λ (b : Block). b.number) blocks (EachPair-weaker IsClearOf (λ b c. b.number ≡ c.number → ⊥) blocks (λ b c clear same. let below : b.number < c.number = clear.numbers in absurd (omega (arith, same))) h)
+
+-- each block of a number that is there is as long as that one
+lens_of : (block : ℕ) (blocks : List Block) (b : Block) → EachPair IsClearOf blocks → block_at block blocks ≡ Some b → AllByRecursion (λ c. c.number ≡ block → c.len ≡ b.len) blocks
+lens_of block blocks b apart there = AllByRecursion-weaker (λ c. block_at c.number blocks ≡ Some c) (λ c. c.number ≡ block → c.len ≡ b.len) blocks
+    (λ c own same. let is : block_at c.number blocks ≡ Some b = rw same there in let one : c ≡ b = cc in ap (λ (x : Block). x.len) one)
+    (own_blocks blocks apart)
+
+-- and so is each memory of it
+memories_long : (block len : ℕ) (memories : List Memory) (blocks : List Block) → AllZip IsMemoryOf memories blocks → AllByRecursion (λ b. b.number ≡ block → b.len ≡ len) blocks
+    → AllByRecursion (λ m. m.block ≡ block → length m.bytes ≡ len) memories
+memories_long block len [] [] h k = tt
+memories_long block len [] (b ∷ bs) h k = absurd h
+memories_long block len (m ∷ ms) [] h k = absurd h
+memories_long block len (m ∷ ms) (b ∷ bs) h k = ((λ is. h.0.len ∙ k.0 (sym h.0.block ∙ is)), memories_long block len ms bs h.1 k.1)
+
+-- a block that is there has a memory as long
+pub bytes_of-len : (block : ℕ) (memories : List Memory) (blocks : List Block) (b : Block) → AllZip IsMemoryOf memories blocks → block_at block blocks ≡ Some b → length (bytes_of block memories) ≡ b.len
+bytes_of-len block [] [] b h e = cc
+bytes_of-len block [] (c ∷ cs) b h e = absurd h
+bytes_of-len block (m ∷ ms) [] b h e = absurd h
+bytes_of-len block (m ∷ ms) (c ∷ cs) b h e = subst (λ n. length (unwrap_or (option_map (λ x. x.bytes) (cond (n == block) (Some m) (find (λ x. x.block == block) ms))) []) ≡ b.len) (sym h.0.block) (go (bytes_of-len block ms cs b h.1) (c.number == block) e)
+  where
+    go : (block_at block cs ≡ Some b → length (bytes_of block ms) ≡ b.len) → (t : Bool) → cond t (Some c) (block_at block cs) ≡ Some b
+        → length (unwrap_or (option_map (λ x. x.bytes) (cond t (Some m) (find (λ x. x.block == block) ms))) []) ≡ b.len
+    go rest true k = let same : c ≡ b = cc in h.0.len ∙ ap (λ (x : Block). x.len) same
+    go rest false k = rest k
+
+-- what is there is something
+pub some_of : {X : Type 0} (o : Option X) → IsSome o → (x : X) × (o ≡ Some x)
+some_of None h = cc
+some_of (Some x) h = (x, refl)
+
+-- each memory of a block that is there is as long as its bytes
+lens_by : (d : DeviceState) (block : ℕ) → HasBlocksApart d → AllZip IsMemoryOf d.memories d.blocks → IsSome (block_at block d.blocks) → AllByRecursion (λ m. m.block ≡ block → length m.bytes ≡ length (bytes_of block d.memories)) d.memories
+lens_by d block apart sized there =
+    let b : (b : Block) × (block_at block d.blocks ≡ Some b) = some_of (block_at block d.blocks) there in
+    subst (λ n. AllByRecursion (λ m. m.block ≡ block → length m.bytes ≡ n) d.memories) (sym (bytes_of-len block d.memories d.blocks b.0 sized b.1))
+    (memories_long block b.0.len d.memories d.blocks sized (lens_of block d.blocks b.0 apart.apart b.1))
+
+-- ---- to a block
+
+-- a device after a write has other memories, and nothing else changed
+pub device_written : (old new : DeviceState) (block offset : ℕ) (bytes : List ℕ) (ms : List Memory) → IsWritten old new block offset bytes → map (memory_changed block (overwritten offset bytes)) old.memories ≡ ms → new ≡ record old { memories = ms }
+device_written old new block offset bytes ms h e = remade new (record old { memories = ms }) h.size h.blocks (h.memories ∙ e) h.births h.room
+  where
+    remade : (a b : DeviceState) → a.size ≡ b.size → a.blocks ≡ b.blocks → a.memories ≡ b.memories → a.births ≡ b.births → a.room ≡ b.room → a ≡ b
+    remade a b p q r s t = let e : record { size = a.size; blocks = a.blocks; memories = a.memories; births = a.births; room = a.room } ≡ b = rw (p, q, r, s, t) refl in e
+
+pub copied_in : (s : Section) (start : ℕ) (host bytes : List ℕ) (d new : DeviceState) (block : ℕ) → HasBlocksApart d → AllZip IsMemoryOf d.memories d.blocks → IsSome (block_at block d.blocks)
+    → is_within s (host_memory (length host)) ≡ true → is_within s (record { start = start; len = length (bytes_of block d.memories) }) ≡ true → bytes ≡ bytes_in host s → IsWritten d new block (s.start - start) bytes
+    → new ≡ record d { memories = map (memory_changed block (bytes_moved_in s host start)) d.memories }
+copied_in s start host bytes d new block apart sized there in_host within bytes_are h =
+    device_written d new block (s.start - start) bytes _ h (rw bytes_are (changed-same block (overwritten (s.start - start) (bytes_in host s)) (bytes_moved_in s host start) d.memories
+    (AllByRecursion-weaker (λ y. y.block ≡ block → length y.bytes ≡ length (bytes_of block d.memories)) (λ y. y.block ≡ block → overwritten (s.start - start) (bytes_in host s) y.bytes ≡ bytes_moved_in s host start y.bytes) d.memories
+    (λ y len e. sym (moved_in s host start y.bytes in_host (rw (len e) within))) (lens_by d block apart sized there))))

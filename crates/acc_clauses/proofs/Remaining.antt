@@ -1,0 +1,119 @@
+-- What is left to do of a directive's steps, before each of them.
+use Rattle.std.proofs.Common.{ℕ, suc, ◌≡◌, ◌+◌, ◌≤◌, sym, ◌∙◌, ap, true, false, List, [], ◌∷◌, ◌++◌, length, drop, arith, append_assoc, append-nil, length-append}
+use Rattle.std.proofs.lemmas.List.{drop_all}
+use Rattle.acc_base.specs.declared.tasks.Task.{Task}
+use Rattle.acc_base.specs.declared.events.Step.{Step}
+use Rattle.acc_base.specs.declared.events.Step.TheVariants.{Nothing, Counted, Born, Dropped, Moved}
+use Rattle.acc_base.specs.declared.events.Did.{Did}
+use Rattle.acc_base.specs.declared.addresses.TheConstants.{MEMORY_MAX}
+use Rattle.acc_base.specs.declared.tasks.Task.TheVariants.{Enter, Leave, Exit, Move}
+use Rattle.acc_base.specs.Limits.{Limits, IsWithinBounds, IsFromOne}
+use Rattle.std.specs.List.{All, AllByRecursion}
+use Rattle.std.proofs.lemmas.List.Elements.{All-from_recursion}
+use Rattle.acc_base.proofs.Elements.{AllByRecursion-append}
+use Rattle.acc_base.proofs.Judged.{IsJudgedTo, task_says}
+use Rattle.acc_clauses.proofs.Legal.{birth_len}
+use Rattle.acc_base.specs.Records.{Records, State}
+use Rattle.acc_base.specs.Tasks.{act, records_after_birth, records_after_end, with_range_changed}
+use Rattle.acc_base.specs.Bytes.{act_state, act_all_state}
+use Rattle.acc_base.specs.History.{AreJudged}
+use Rattle.acc_clauses.specs.declared.acted.Acted.{Acted}
+use Rattle.acc_clauses.specs.Overlays.{tasks_in, dids_in}
+use Rattle.acc_clauses.specs.Contents.{Contents}
+use Rattle.acc_clauses.specs.Acts.{IsJudged, AreKnown, HasRoomFor, IsRoomLeft, birth_of, lens_born}
+
+-- these tasks can be done, one after the other
+pub record CanRun (l : Limits) (tasks : List Task) (dids : List Did) (c : Contents) : Type 0 where
+  pub limits : c.limits ≡ l
+  pub item : ℕ
+  pub judged : AreJudged l item tasks dids c.state.records
+  pub known : AreKnown tasks dids c.state.records
+  pub room : HasRoomFor (lens_born tasks dids) c.room
+
+-- the first of them
+pub first_judged : (l : Limits) (task : Task) (tasks : List Task) (did : Did) (dids : List Did) (c : Contents) → CanRun l (task ∷ tasks) (did ∷ dids) c → IsJudged c.limits task did.step c.state.records
+first_judged l task tasks did dids c h = record { item = h.item; judged = rw h.limits h.judged.0 }
+
+pub first_room : (l : Limits) (task : Task) (tasks : List Task) (did : Did) (dids : List Did) (c : Contents) → CanRun l (task ∷ tasks) (did ∷ dids) c → HasRoomFor (birth_of task did.step) c.room
+first_room l task tasks did dids c h = record {
+  rest = lens_born tasks dids ++ h.room.rest;
+  births_are = h.room.births_are ∙ append_assoc (birth_of task did.step) (lens_born tasks dids) h.room.rest;
+  ranges = omega (arith, h.room.ranges, length-append (birth_of task did.step) (lens_born tasks dids));
+}
+
+births_step : (task : Task) (step : Step) (w : Records) → (act task step w).births ≤ w.births + 1
+unfolding act records_after_birth records_after_end with_range_changed
+births_step task Nothing w = omega arith
+births_step task (Counted k) w = omega arith
+births_step task (Born k p) w = omega arith
+births_step task (Dropped k true) w = omega arith
+births_step task (Dropped k false) w = omega arith
+births_step task (Moved k) w = omega arith
+
+-- what comes first in both is the same
+same_rest : (xs ys zs : List ℕ) → xs ++ ys ≡ xs ++ zs → ys ≡ zs
+same_rest [] ys zs e = e
+same_rest (x ∷ xs) ys zs e = same_rest xs ys zs (cc)
+
+-- the others, after the first
+pub rest_can : (l : Limits) (task : Task) (tasks : List Task) (did : Did) (dids : List Did) (c e : Contents) → CanRun l (task ∷ tasks) (did ∷ dids) c → e.limits ≡ c.limits → e.state ≡ act_state task did.step c.state
+    → IsRoomLeft (birth_of task did.step) c.room e.room → CanRun l tasks dids e
+unfolding act_state
+rest_can l task tasks did dids c e h limits state room =
+    let records : e.state.records ≡ act task did.step c.state.records = ap (λ (s : State). s.records) state in
+    record {
+      limits = limits ∙ h.limits;
+      item = suc h.item;
+      judged = rw records h.judged.1;
+      known = rw records h.known.1;
+      room = record {
+        rest = h.room.rest;
+        births_are = same_rest (birth_of task did.step) e.room.births (lens_born tasks dids ++ h.room.rest) (sym room.births_are ∙ (h.room.births_are ∙ append_assoc (birth_of task did.step) (lens_born tasks dids) h.room.rest));
+        ranges = omega (arith, h.room.ranges, room.ranges, length-append (birth_of task did.step) (lens_born tasks dids));
+      };
+    }
+
+-- at most one block is born by a step
+pub births_next : (task : Task) (step : Step) (c e : Contents) → e.state ≡ act_state task step c.state → e.state.records.births ≤ c.state.records.births + 1
+unfolding act_state
+births_next task step c e state =
+    let records : e.state.records ≡ act task step c.state.records = ap (λ (s : State). s.records) state in
+    rw records (births_step task step c.state.records)
+
+-- what the tasks come to is what the first comes to, and then the others
+pub rest_state : (task : Task) (tasks : List Task) (did : Did) (dids : List Did) (s t u : State) → t ≡ act_state task did.step s → act_all_state (task ∷ tasks) (did ∷ dids) s ≡ u → act_all_state tasks dids t ≡ u
+unfolding act_all_state
+rest_state task tasks did dids s t u e h = ap (act_all_state tasks dids) e ∙ h
+
+-- nothing is left behind the last one
+pub rest_done : (acts : List Acted) (i : ℕ) (s u : State) → length acts ≤ i → act_all_state (tasks_in (drop i acts)) (dids_in (drop i acts)) s ≡ u → s ≡ u
+unfolding act_all_state
+rest_done acts i s u h e = let none : drop i acts ≡ [] = drop_all i acts h in rw none at e
+
+-- all lengths are noted behind the last task
+pub lens_done : (acts : List Acted) (i : ℕ) (lens all : List ℕ) → length acts ≤ i → lens ++ lens_born (tasks_in (drop i acts)) (dids_in (drop i acts)) ≡ all → lens ≡ all
+lens_done acts i lens all h e = let none : drop i acts ≡ [] = drop_all i acts h in let same : lens ++ [] ≡ all = rw none at e in sym (append-nil lens) ∙ same
+
+-- ---- the lengths of blocks
+
+-- a block that a task is judged to bear is not too long
+birth_fits : (l : Limits) (task : Task) (step : Step) (w : Records) → IsWithinBounds l → IsJudgedTo l task step w → AllByRecursion (IsFromOne MEMORY_MAX) (birth_of task step)
+birth_fits l task Nothing w bounds says = tt
+birth_fits l task (Counted k) w bounds says = tt
+birth_fits l (Enter counter item) (Born k p) w bounds says = (birth_len l item.section k p w bounds says, tt)
+birth_fits l (Leave holding) (Born k p) w bounds says = absurd says
+birth_fits l (Exit finalize item) (Born k p) w bounds says = absurd says
+birth_fits l (Move if_present item) (Born k p) w bounds says = absurd says
+birth_fits l task (Dropped k ended) w bounds says = tt
+birth_fits l task (Moved k) w bounds says = tt
+
+lens_each : (l : Limits) (n : ℕ) (tasks : List Task) (dids : List Did) (w : Records) → IsWithinBounds l → AreJudged l n tasks dids w → AllByRecursion (IsFromOne MEMORY_MAX) (lens_born tasks dids)
+lens_each l n [] [] w bounds judged = tt
+lens_each l n [] (d ∷ ds) w bounds judged = tt
+lens_each l n (t ∷ ts) [] w bounds judged = tt
+lens_each l n (t ∷ ts) (d ∷ ds) w bounds judged =
+    AllByRecursion-append (IsFromOne MEMORY_MAX) (birth_of t d.step) (lens_born ts ds) (birth_fits l t d.step w bounds (task_says l n t w d.step judged.0)) (lens_each l (suc n) ts ds (act t d.step w) bounds judged.1)
+
+-- and so is none of those that tasks are judged to bear
+pub lens_fit : (l : Limits) (n : ℕ) (tasks : List Task) (dids : List Did) (w : Records) → IsWithinBounds l → AreJudged l n tasks dids w → All (IsFromOne MEMORY_MAX) (lens_born tasks dids)
+lens_fit l n tasks dids w bounds judged = All-from_recursion (IsFromOne MEMORY_MAX) (lens_born tasks dids) (lens_each l n tasks dids w bounds judged)

@@ -1,0 +1,351 @@
+-- What each step leaves of the parts.
+use Rattle.std.proofs.Common.{ℕ, ◌≡◌, ◌+◌, ◌-◌, ◌<◌, ◌≤◌, refl, sym, ◌∙◌, ap, subst, Bool, true, false, cond, List, [], ◌∷◌, ◌++◌, length, replicate, map, Option, Some, None, arith}
+use Rattle.std.specs.Prelude.{◌==◌, not, nat_lt, unwrap_or, option_map, IsSome}
+use Rattle.std.specs.List.{AllByRecursion, AllZip}
+use Rattle.std.proofs.lemmas.Bool.Decides.{nat_tests}
+use Rattle.acc_base.specs.declared.items.Section.{Section}
+use Rattle.acc_base.specs.declared.items.Item.{Item}
+use Rattle.acc_base.specs.declared.items.RegionClause.{RegionClause}
+use Rattle.acc_base.specs.declared.items.UpdateClause.{UpdateClause}
+use Rattle.acc_base.specs.declared.mappings.Counter.{Counter}
+use Rattle.acc_base.specs.declared.mappings.Counter.TheVariants.{Structured, Dynamic}
+use Rattle.acc_base.specs.declared.mappings.Range.{Range}
+use Rattle.acc_base.specs.declared.mappings.Block.{Block}
+use Rattle.acc_base.specs.declared.tasks.Task.{Task}
+use Rattle.acc_base.specs.declared.tasks.Task.TheVariants.{Enter, Leave, Exit, Move}
+use Rattle.acc_base.specs.declared.tasks.Transfer.{Transfer}
+use Rattle.acc_base.specs.declared.events.Step.TheVariants.{Nothing, Counted, Born, Dropped, Moved}
+use Rattle.acc_base.specs.Section.{is_within, host_memory}
+use Rattle.acc_base.specs.Records.{Memory, State}
+use Rattle.acc_base.specs.Ranges.{range_of, start_of, changed_at, with_range, without_range, bare_range, risen, counter_in, counter_of, is_unused, ends_by}
+use Rattle.acc_base.specs.Clauses.{copies_in, copies_out, is_copyout, is_zeroed}
+use Rattle.acc_base.specs.Tasks.{section_of, recounted, act, records_after_birth, records_after_end, with_range_changed}
+use Rattle.acc_base.specs.Bytes.{bytes_of, fill_byte, gives_bytes, goes_out, bytes_moved_in, bytes_moved_out, memory_changed, memories_kept, without_memory, memories_begun, memories_made, host_made, first_address, transfer_at, transfer_of, act_state}
+use Rattle.acc_base.specs.Accounts.{IsMemoryOf}
+use Rattle.acc_base.proofs.Results.{equal, equal_self, and_true}
+use Rattle.acc_base.proofs.Lookups.{at-none, at-changed}
+use Rattle.acc_base.proofs.Counting.{with_same, with_new}
+use Rattle.acc_base.proofs.Sound.{counter_is}
+use Rattle.acc_base.proofs.KeptMemories.{memories_kept-without}
+use Rattle.acc_base.proofs.Memories.{recounted-block, recounted-section}
+use Rattle.acc_host.specs.Host.{bytes_in}
+use Rattle.acc_present.specs.Present.{PresentTable, PresentState, with_ranges}
+use Rattle.acc_present.specs.Present as present
+use Rattle.acc_dev.specs.Device.{DeviceState, IsRetired}
+use Rattle.acc_clauses.specs.Contents.{state_of, room_of}
+use Rattle.acc_clauses.specs.Acts.{CanMove, CanBear, IsMade, bytes_made, IsRoomLeft, IsActedBy}
+use Rattle.acc_clauses.proofs.Copying.{born_copied, changed-last}
+
+-- ---- ranges
+
+-- no range has the block, so none changes
+changed-absent : (k : ℕ) (f : Range → Range) (rs : List Range) → AllByRecursion (λ r. r.block ≡ k → ⊥) rs → changed_at k f rs ≡ rs
+changed-absent k f [] h = refl
+changed-absent k f (r ∷ rs) h = go (changed-absent k f rs h.1) (r.block == k) refl
+  where
+    go : changed_at k f rs ≡ rs → (b : Bool) → (r.block == k) ≡ b → cond b (f r) r ∷ changed_at k f rs ≡ r ∷ rs
+    go rest true e = absurd (h.0 (equal _ _ e))
+    go rest false e = ap (λ xs. r ∷ xs) rest
+
+-- a new range changes where it is put
+pub changed-with : (k : ℕ) (f : Range → Range) (new : Range) (rs : List Range) → new.block ≡ k → (f new).section ≡ new.section → AllByRecursion (λ r. r.block ≡ k → ⊥) rs
+    → changed_at k f (with_range new rs) ≡ with_range (f new) rs
+changed-with k f new [] e s h = let same : (new.block == k) ≡ true = rw e (equal_self k) in rw same refl
+changed-with k f new (r ∷ rs) e s h =
+    let low : nat_lt (f new).section.start r.section.start ≡ nat_lt new.section.start r.section.start = ap (λ (x : Section). nat_lt x.start r.section.start) s in
+    rw low (go (changed-with k f new rs e s h.1) (nat_lt new.section.start r.section.start))
+  where
+    same : (new.block == k) ≡ true
+    same = rw e (equal_self k)
+
+    later : (t : Bool) → (r.block == k) ≡ t → cond t (f r) r ≡ r
+    later true d = absurd (h.0 (equal _ _ d))
+    later false d = refl
+
+    go : changed_at k f (with_range new rs) ≡ with_range (f new) rs → (b : Bool) → changed_at k f (cond b (new ∷ r ∷ rs) (r ∷ with_range new rs)) ≡ cond b (f new ∷ r ∷ rs) (r ∷ with_range (f new) rs)
+    go rest true = ap (λ t. cond t (f new) new ∷ changed_at k f (r ∷ rs)) same ∙ ap (λ xs. f new ∷ xs) (changed-absent k f (r ∷ rs) h)
+    go rest false = ap (λ x. x ∷ changed_at k f (with_range new rs)) (later (r.block == k) refl) ∙ ap (λ xs. r ∷ xs) rest
+
+-- a change that leaves each range
+pub changed-same_ranges : (k : ℕ) (f : Range → Range) (rs : List Range) → ((r : Range) → f r ≡ r) → changed_at k f rs ≡ rs
+changed-same_ranges k f [] h = refl
+changed-same_ranges k f (r ∷ rs) h = go (changed-same_ranges k f rs h) (r.block == k)
+  where
+    go : changed_at k f rs ≡ rs → (b : Bool) → cond b (f r) r ∷ changed_at k f rs ≡ r ∷ rs
+    go rest true = rw (h r) (ap (λ xs. r ∷ xs) rest)
+    go rest false = ap (λ xs. r ∷ xs) rest
+
+-- what changed is gone
+pub without-changed : (k : ℕ) (f : Range → Range) (rs : List Range) → ((r : Range) → (f r).block ≡ r.block) → without_range k (changed_at k f rs) ≡ without_range k rs
+without-changed k f [] h = refl
+without-changed k f (r ∷ rs) h = go (without-changed k f rs h) (r.block == k) refl
+  where
+    go : without_range k (changed_at k f rs) ≡ without_range k rs → (b : Bool) → (r.block == k) ≡ b
+        → cond (not ((cond b (f r) r).block == k)) (cond b (f r) r ∷ without_range k (changed_at k f rs)) (without_range k (changed_at k f rs)) ≡ cond (not b) (r ∷ without_range k rs) (without_range k rs)
+    go rest true e = let gone : ((f r).block == k) ≡ true = ap (λ (n : ℕ). n == k) (h r) ∙ e in rw gone rest
+    go rest false e = rw e (ap (λ xs. r ∷ xs) rest)
+
+-- ---- memories
+
+-- the new block's memory, with the bytes that a birth by entry gives it
+born_memories : (counter : Counter) (item : Item RegionClause) (k place : ℕ) (ranges : List Range) (host : List ℕ) (ms : List Memory) → is_within item.section (host_memory (length host)) ≡ true → AllByRecursion (λ m. m.block ≡ k → ⊥) ms
+    → ms ++ record { block = k; bytes = bytes_made item host } ∷ [] ≡ memories_made (transfer_of (Enter counter item) (Born k place) ranges) host (memories_begun (Enter counter item) (Born k place) ms)
+born_memories counter item k place ranges host ms in_host new = go (copies_in item.clause)
+  where
+    fill : ℕ
+    fill = fill_byte (is_zeroed item.clause)
+
+    t : Transfer
+    t = record { block = k; offset = 0; section = item.section; out = false }
+
+    go : (b : Bool) → ms ++ record { block = k; bytes = cond b (bytes_in host item.section) (replicate item.section.len fill) } ∷ [] ≡ memories_made (cond b (Some t) None) host (ms ++ record { block = k; bytes = replicate item.section.len fill } ∷ [])
+    go true = sym (changed-last k (bytes_moved_in item.section host (item.section.start - 0)) (replicate item.section.len fill) ms new
+        ∙ ap (λ x. ms ++ record { block = k; bytes = x } ∷ []) (born_copied item.section (item.section.start - 0) fill host in_host (omega arith)))
+    go false = refl
+
+-- a birth leaves host memory
+born_host : (counter : Counter) (item : Item RegionClause) (k place : ℕ) (ranges : List Range) (host : List ℕ) (ms : List Memory) → host ≡ host_made (transfer_of (Enter counter item) (Born k place) ranges) ms host
+born_host counter item k place ranges host ms = go (copies_in item.clause)
+  where
+    go : (b : Bool) → host ≡ host_made (cond b (Some (record { block = k; offset = 0; section = item.section; out = false })) None) ms host
+    go true = refl
+    go false = refl
+
+-- the end of a mapping copies to no block
+ended_memories : (task : Task) (k : ℕ) (ranges : List Range) (host : List ℕ) (ms : List Memory) → ms ≡ memories_made (transfer_of task (Dropped k true) ranges) host ms
+ended_memories (Enter counter item) k ranges host ms = refl
+ended_memories (Leave holding) k ranges host ms = go (copies_out holding.item.clause)
+  where
+    go : (b : Bool) → ms ≡ memories_made (cond b (Some (transfer_at (Leave holding) k ranges)) None) host ms
+    go true = refl
+    go false = refl
+ended_memories (Exit finalize item) k ranges host ms = go (is_copyout item.clause)
+  where
+    go : (b : Bool) → ms ≡ memories_made (cond b (Some (transfer_at (Exit finalize item) k ranges)) None) host ms
+    go true = refl
+    go false = refl
+ended_memories (Move if_present item) k ranges host ms = refl
+
+-- ---- transfers of a section that is inside the range of a block
+
+-- the range begins at or below the section, at the address of which a look-up by block tells
+record IsFirst (section : Section) (k start : ℕ) (ranges : List Range) : Type 0 where
+  start_is : start ≡ start_of k ranges
+  low : start ≤ section.start
+
+first_is : (task : Task) (k start : ℕ) (ranges : List Range) → IsFirst (section_of task) k start ranges → first_address (transfer_at task k ranges) ≡ start
+first_is task k start ranges h =
+    ap (λ n. (section_of task).start - ((section_of task).start - n)) (sym h.start_is) ∙ (let same : (section_of task).start - ((section_of task).start - start) ≡ start = omega (arith, h.low) in same)
+
+starts_at : (section : Section) (k start : ℕ) (x : State) → CanMove section k x → start ≡ start_of k x.records.ranges → IsFirst section k start x.records.ranges
+starts_at section k start x m e =
+    let at : start_of k x.records.ranges ≡ m.range.section.start = ap (λ o. unwrap_or (option_map (λ (t : Range). t.section.start) o) 0) m.range_is in
+    let inside : is_within section m.range.section ≡ true = m.within in
+    let low : m.range.section.start ≤ section.start = grind (arith, nat_tests) in
+    record { start_is = e; low = omega (arith, e, at, low) }
+
+-- the section is within the bytes of the block
+pub within_block : (section : Section) (k start : ℕ) (x : State) → CanMove section k x → start ≡ start_of k x.records.ranges → is_within section (record { start = start; len = length (bytes_of k x.memories) }) ≡ true
+within_block section k start x m e =
+    let at : start_of k x.records.ranges ≡ m.range.section.start = ap (λ o. unwrap_or (option_map (λ (t : Range). t.section.start) o) 0) m.range_is in
+    rw (e, at, m.len) m.within
+
+pub is_some : {X : Type 0} (o : Option X) (x : X) → o ≡ Some x → IsSome o
+is_some o x e = rw e refl
+
+-- the block of the section is mapped
+pub mapped_of : (section : Section) (k : ℕ) (x : State) → CanMove section k x → IsSome (range_of k x.records.ranges)
+mapped_of section k x m = is_some (range_of k x.records.ranges) m.range m.range_is
+
+-- a task that gives bytes at the end of a mapping copies out
+gives_out : (task : Task) → gives_bytes task ≡ true → goes_out task ≡ true
+gives_out (Enter counter item) e = cc
+gives_out (Leave holding) e = refl
+gives_out (Exit finalize item) e = refl
+gives_out (Move if_present item) e = cc
+
+-- host memory after the end of a mapping that copies
+pub given : (task : Task) (k start : ℕ) (x : State) → CanMove (section_of task) k x → start ≡ start_of k x.records.ranges → gives_bytes task ≡ true
+    → bytes_moved_out (section_of task) (bytes_of k x.memories) start x.host ≡ host_made (transfer_of task (Dropped k true) x.records.ranges) x.memories x.host
+given task k start x m e gives = rw (gives, gives_out task gives, first_is task k start x.records.ranges (starts_at (section_of task) k start x m e)) refl
+
+-- and after one that does not
+pub given_none : (task : Task) (k : ℕ) (x : State) → gives_bytes task ≡ false → x.host ≡ host_made (transfer_of task (Dropped k true) x.records.ranges) x.memories x.host
+given_none task k x gives = rw gives refl
+
+-- host memory and the memories after an update
+pub updated_out : (task : Task) (k start : ℕ) (x : State) → CanMove (section_of task) k x → start ≡ start_of k x.records.ranges → goes_out task ≡ true
+    → bytes_moved_out (section_of task) (bytes_of k x.memories) start x.host ≡ host_made (transfer_of task (Moved k) x.records.ranges) x.memories x.host
+updated_out task k start x m e out = rw (out, first_is task k start x.records.ranges (starts_at (section_of task) k start x m e)) refl
+
+pub updated_out_memories : (task : Task) (k : ℕ) (x : State) → goes_out task ≡ true → x.memories ≡ memories_made (transfer_of task (Moved k) x.records.ranges) x.host x.memories
+updated_out_memories task k x out = rw out refl
+
+pub updated_in : (task : Task) (k start : ℕ) (x : State) → CanMove (section_of task) k x → start ≡ start_of k x.records.ranges → goes_out task ≡ false
+    → map (memory_changed k (bytes_moved_in (section_of task) x.host start)) x.memories ≡ memories_made (transfer_of task (Moved k) x.records.ranges) x.host x.memories
+updated_in task k start x m e out = rw (out, first_is task k start x.records.ranges (starts_at (section_of task) k start x m e)) refl
+
+pub updated_in_host : (task : Task) (k : ℕ) (x : State) → goes_out task ≡ false → x.host ≡ host_made (transfer_of task (Moved k) x.records.ranges) x.memories x.host
+updated_in_host task k x out = rw out refl
+
+-- ---- the state of the parts
+
+-- the parts come to a state that has the same fields
+state_by : (p : PresentState) (d : DeviceState) (host : List ℕ) (next : ℕ) (s : State) → p.table.ranges ≡ s.records.ranges → d.blocks ≡ s.records.blocks → d.births ≡ s.records.births
+    → p.table.regions ≡ s.register.regions → next ≡ s.register.next → host ≡ s.host → d.memories ≡ s.memories → state_of p d host next ≡ s
+state_by p d host next s a b c e f g h = rw (a, b, c, e, f, g, h) refl
+
+-- ---- room
+
+-- no room was taken, and the device has what it had
+room_same : (p q : PresentState) (d e : DeviceState) → present.IsRoomKept p.room q.room → e.room ≡ d.room → IsRoomLeft [] (room_of p d) (room_of q e)
+room_same p q d e h same = record { births_are = sym same; ranges = omega (arith, h.ranges); regions = h.regions; holdings = h.holdings }
+
+-- ---- steps
+
+pub nothing_acts : (task : Task) (p : PresentState) (d : DeviceState) (host : List ℕ) → IsActedBy task Nothing p d host p d host
+unfolding act_state act
+nothing_acts task p d host = record {
+  state = λ next. refl;
+  counter_max = refl;
+  size = refl;
+  room = record { births_are = refl; ranges = omega arith; regions = omega arith; holdings = omega arith };
+}
+
+pub counted_acts : (task : Task) (k : ℕ) (p q : PresentState) (d : DeviceState) (host : List ℕ) → q.table ≡ with_ranges p.table (changed_at k (recounted task) p.table.ranges) → present.IsRoomKept p.room q.room
+    → IsActedBy task (Counted k) p d host q d host
+unfolding act_state act with_range_changed
+counted_acts task k p q d host e room = record {
+  state = λ next. state_by q d host next (act_state task (Counted k) (state_of p d host next)) (ap (λ t. t.ranges) e) refl refl (ap (λ t. t.regions) e) refl refl refl;
+  counter_max = ap (λ t. t.counter_max) e;
+  size = refl;
+  room = room_same p q d d room refl;
+}
+
+pub dropped_acts : (task : Task) (k : ℕ) (p q : PresentState) (d : DeviceState) (host : List ℕ) → q.table ≡ with_ranges p.table (changed_at k (recounted task) p.table.ranges) → present.IsRoomKept p.room q.room
+    → IsActedBy task (Dropped k false) p d host q d host
+unfolding act_state act with_range_changed
+dropped_acts task k p q d host e room = record {
+  state = λ next. state_by q d host next (act_state task (Dropped k false) (state_of p d host next)) (ap (λ t. t.ranges) e) refl refl (ap (λ t. t.regions) e) refl refl refl;
+  counter_max = ap (λ t. t.counter_max) e;
+  size = refl;
+  room = room_same p q d d room refl;
+}
+
+pub moved_acts : (task : Task) (k : ℕ) (p : PresentState) (d e : DeviceState) (host host2 : List ℕ) → host2 ≡ host_made (transfer_of task (Moved k) p.table.ranges) d.memories host
+    → e ≡ record d { memories = memories_made (transfer_of task (Moved k) p.table.ranges) host d.memories } → IsActedBy task (Moved k) p d host p e host2
+unfolding act_state act
+moved_acts task k p d e host host2 h is = record {
+  state = λ next. state_by p e host2 next (act_state task (Moved k) (state_of p d host next)) refl (ap (λ x. x.blocks) is) (ap (λ x. x.births) is) refl refl h (ap (λ x. x.memories) is);
+  counter_max = refl;
+  size = ap (λ x. x.size) is;
+  room = record { births_are = sym (ap (λ x. x.room) is); ranges = omega arith; regions = omega arith; holdings = omega arith };
+}
+
+-- two rooms one after the other
+kept_twice : (a b c : present.Room) → present.IsRoomKept a b → present.IsRoomKept b c → present.IsRoomKept a c
+kept_twice a b c h k = record { ranges = omega (arith, h.ranges, k.ranges); regions = omega (arith, h.regions, k.regions); holdings = omega (arith, h.holdings, k.holdings) }
+
+pub ended_acts : (task : Task) (k : ℕ) (p q r : PresentState) (d e : DeviceState) (host host2 : List ℕ) → AllZip IsMemoryOf d.memories d.blocks → host2 ≡ host_made (transfer_of task (Dropped k true) p.table.ranges) d.memories host
+    → q.table ≡ with_ranges p.table (changed_at k (recounted task) p.table.ranges) → present.IsRoomKept p.room q.room → r.table ≡ with_ranges q.table (without_range k q.table.ranges) → present.IsRoomKept q.room r.room
+    → IsRetired d e k → IsActedBy task (Dropped k true) p d host r e host2
+unfolding act_state act records_after_end
+ended_acts task k p q r d e host host2 sized h counted room1 removed room2 gone =
+    let ranges : r.table.ranges ≡ without_range k p.table.ranges = ap (λ t. t.ranges) removed ∙ (ap (λ t. without_range k t.ranges) counted ∙ without-changed k (recounted task) p.table.ranges (recounted-block task)) in
+    let memories : e.memories ≡ without_memory k (memories_made (transfer_of task (Dropped k true) p.table.ranges) host d.memories) =
+    gone.memories ∙ (ap (λ bs. memories_kept bs d.memories) gone.blocks ∙ (memories_kept-without k d.memories d.blocks sized ∙ ap (without_memory k) (ended_memories task k p.table.ranges host d.memories))) in
+    record {
+      state = λ next. state_by r e host2 next (act_state task (Dropped k true) (state_of p d host next)) ranges gone.blocks gone.births (ap (λ t. t.regions) removed ∙ ap (λ t. t.regions) counted) refl h memories;
+      counter_max = ap (λ t. t.counter_max) removed ∙ ap (λ t. t.counter_max) counted;
+      size = gone.size;
+      room = room_same p r d e (kept_twice p.room q.room r.room room1 room2) gone.room;
+    }
+
+-- a new range with one count
+born_ranges : (counter : Counter) (item : Item RegionClause) (k : ℕ) (p q r : PresentState) → AllByRecursion (λ x. x.block ≡ k → ⊥) p.table.ranges
+    → q.table ≡ with_ranges p.table (with_range (bare_range item.section k) p.table.ranges) → r.table ≡ with_ranges q.table (changed_at k (risen counter) q.table.ranges)
+    → r.table.ranges ≡ with_range (recounted (Enter counter item) (bare_range item.section k)) p.table.ranges
+born_ranges counter item k p q r new put raised =
+    ap (λ t. t.ranges) raised ∙ (ap (λ t. changed_at k (risen counter) t.ranges) put
+    ∙ changed-with k (risen counter) (bare_range item.section k) p.table.ranges refl (recounted-section (Enter counter item) (bare_range item.section k)) new)
+
+some_same : (a b : ℕ) (o : Option ℕ) → o ≡ Some a → o ≡ Some b → a ≡ b
+some_same a b o e h = cc
+
+-- the block that a birth adds is the one that the definitions name
+born_block : (counter : Counter) (item : Item RegionClause) (k n p q : ℕ) → k ≡ n → p ≡ q
+    → ◌≡◌ {A = Block} (record { number = n; place = q; len = item.section.len }) (record { number = (recounted (Enter counter item) (bare_range item.section k)).block; place = p; len = (recounted (Enter counter item) (bare_range item.section k)).section.len })
+born_block counter item k n p q e h = rw (recounted-block (Enter counter item) (bare_range item.section k), recounted-section (Enter counter item) (bare_range item.section k), e, h) refl
+
+pub born_acts : (counter : Counter) (item : Item RegionClause) (k place : ℕ) (p q r : PresentState) (d e : DeviceState) (host : List ℕ) → CanBear p.table.counter_max d.size item.section k place (state_of p d host 0) → IsMade d e item host
+    → q.table ≡ with_ranges p.table (with_range (bare_range item.section k) p.table.ranges) → p.room.ranges ≤ q.room.ranges + 1 → p.room.regions ≤ q.room.regions → p.room.holdings ≤ q.room.holdings
+    → r.table ≡ with_ranges q.table (changed_at k (risen counter) q.table.ranges) → present.IsRoomKept q.room r.room → IsActedBy (Enter counter item) (Born k place) p d host r e host
+unfolding act_state act records_after_birth
+born_acts counter item k place p q r d e host can made put ranges regions holdings raised room =
+    let where_it_is : place ≡ made.place = some_same place made.place _ can.place_is made.place_is in
+    let blocks : e.blocks ≡ (act (Enter counter item) (Born k place) (state_of p d host 0).records).blocks = made.blocks ∙ ap (λ b. d.blocks ++ b ∷ []) (born_block counter item k (d.births + 1) place made.place can.number where_it_is) in
+    let memories : e.memories ≡ memories_made (transfer_of (Enter counter item) (Born k place) p.table.ranges) host (memories_begun (Enter counter item) (Born k place) d.memories) =
+    made.memories ∙ (ap (λ n. d.memories ++ record { block = n; bytes = bytes_made item host } ∷ []) (sym can.number) ∙ born_memories counter item k place p.table.ranges host d.memories can.in_host can.no_memory) in
+    record {
+      state = λ next. state_by r e host next (act_state (Enter counter item) (Born k place) (state_of p d host next)) (born_ranges counter item k p q r can.no_range put raised) blocks made.births
+          (ap (λ t. t.regions) raised ∙ ap (λ t. t.regions) put) refl (born_host counter item k place p.table.ranges host d.memories) memories;
+      counter_max = ap (λ t. t.counter_max) raised ∙ ap (λ t. t.counter_max) put;
+      size = made.size;
+      room = record { births_are = made.room; ranges = omega (arith, ranges, room.ranges); regions = omega (arith, regions, room.regions); holdings = omega (arith, holdings, room.holdings) };
+    }
+
+-- ---- what the calls on the present table need
+
+-- an update changes no counter
+pub moved_table : (t : PresentTable) (task : Task) (k : ℕ) (if_present : Bool) (item : Item UpdateClause) → task ≡ Move if_present item → t ≡ with_ranges t (changed_at k (recounted task) t.ranges)
+moved_table t task k if_present item e = rw e (ap (with_ranges t) (sym (changed-same_ranges k (λ r. r) t.ranges (λ r. refl))))
+
+-- no range has a new number
+pub new_absent : (k : ℕ) (ranges : List Range) → AllByRecursion (λ r. r.block ≡ k → ⊥) ranges → range_of k ranges ≡ None
+new_absent k ranges h = at-none (λ (r : Range). r.block) k ranges h
+
+-- the new range is there, and nothing has counted it
+pub new_there : (section : Section) (k : ℕ) (t u : PresentTable) → u ≡ with_ranges t (with_range (bare_range section k) t.ranges) → IsSome (range_of k u.ranges)
+new_there section k t u e = subst (λ (x : PresentTable). IsSome (range_of k x.ranges)) (sym e) (with_new (bare_range section k) t.ranges)
+
+zero_in : (counter : Counter) (s : Section) (k : ℕ) → counter_in counter (bare_range s k) ≡ 0
+zero_in Structured s k = refl
+zero_in Dynamic s k = refl
+
+pub new_below : (counter : Counter) (section : Section) (k : ℕ) (t u : PresentTable) → AllByRecursion (λ r. r.block ≡ k → ⊥) t.ranges → 0 < t.counter_max → u ≡ with_ranges t (with_range (bare_range section k) t.ranges)
+    → counter_of counter k u.ranges < u.counter_max
+new_below counter section k t u h some e =
+    let zero : counter_of counter k (with_range (bare_range section k) t.ranges) ≡ 0 = with_same (counter_in counter) (bare_range section k) t.ranges (new_absent k t.ranges h) ∙ zero_in counter section k in
+    subst (λ (x : PresentTable). counter_of counter k x.ranges < x.counter_max) (sym e) (subst (λ n. n < t.counter_max) (sym zero) some)
+
+found_block : (k : ℕ) (ranges : List Range) (r : Range) → range_of k ranges ≡ Some r → (r.block == k) ≡ true
+found_block k [] r e = cc
+found_block k (x ∷ xs) r e = go (found_block k xs r) (x.block == k) refl e
+  where
+    go : (range_of k xs ≡ Some r → (r.block == k) ≡ true) → (b : Bool) → (x.block == k) ≡ b → cond b (Some x) (range_of k xs) ≡ Some r → (r.block == k) ≡ true
+    go rest true t h = let same : x ≡ r = cc in subst (λ (y : Range). (y.block == k) ≡ true) same t
+    go rest false t h = rest h
+
+-- the range of a block after a change of it
+found_changed : (task : Task) (k : ℕ) (ranges : List Range) (r : Range) → range_of k ranges ≡ Some r → range_of k (changed_at k (recounted task) ranges) ≡ Some (recounted task r)
+found_changed task k ranges r e =
+    let here : (r.block == k) ≡ true = found_block k ranges r e in
+    at-changed (λ (x : Range). x.block) k k (recounted task) ranges (recounted-block task)
+    ∙ (ap (option_map (λ (x : Range). cond (x.block == k) (recounted task x) x)) e ∙ ap (λ b. Some (cond b (recounted task r) r)) here)
+
+-- the range of a block that is counted is there still
+pub changed_there : (task : Task) (k : ℕ) (t u : PresentTable) (r : Range) → u ≡ with_ranges t (changed_at k (recounted task) t.ranges) → range_of k t.ranges ≡ Some r → IsSome (range_of k u.ranges)
+changed_there task k t u r e is = subst (λ (x : PresentTable). IsSome (range_of k x.ranges)) (sym e) (is_some (range_of k (changed_at k (recounted task) t.ranges)) (recounted task r) (found_changed task k t.ranges r is))
+
+unused_zero : (counter : Counter) (r : Range) → is_unused r ≡ true → counter_in counter r ≡ 0
+unused_zero Structured r e = equal _ _ (and_true (r.structured == 0) (r.dynamic == 0) e).0
+unused_zero Dynamic r e = equal _ _ (and_true (r.structured == 0) (r.dynamic == 0) e).1
+
+-- both counters are zero after a change that leaves the range unused
+pub changed_zero : (counter : Counter) (task : Task) (k : ℕ) (t u : PresentTable) (r : Range) → u ≡ with_ranges t (changed_at k (recounted task) t.ranges) → range_of k t.ranges ≡ Some r → ends_by (recounted task) k t.ranges ≡ true
+    → counter_of counter k u.ranges ≡ 0
+changed_zero counter task k t u r e is ends =
+    let told : ends_by (recounted task) k t.ranges ≡ is_unused (recounted task r) = ap (λ o. unwrap_or (option_map (λ (x : Range). is_unused (recounted task x)) o) false) is in
+    let unused : is_unused (recounted task r) ≡ true = sym told ∙ ends in
+    subst (λ (x : PresentTable). counter_of counter k x.ranges ≡ 0) (sym e)
+    (counter_is counter k (changed_at k (recounted task) t.ranges) (recounted task r) (found_changed task k t.ranges r is) ∙ unused_zero counter (recounted task r) unused)

@@ -1,0 +1,14 @@
+use Rattle.std.proofs.Common.{Bool, sym, subst}
+use Rattle.acc_base.specs.declared.events.Step.TheVariants.{Dropped}
+use Rattle.acc_clauses.specs.Acts.{IsActedBy}
+use Rattle.acc_clauses.proofs.Steps.{dropped_acts}
+use Rattle.acc_clauses.proofs.acting.lower.Goals as goal
+
+pub returns-then-ended : goal.returns-then-ended
+returns-then-ended c = record { acted = subst (λ (b : Bool). IsActedBy c.args.task (Dropped c.args.block b) c.args.present.now c.args.device.now c.args.host.now c.end.new.present c.end.new.device c.end.new.host) (sym c.if-ended.true) c.end.ensures.acted }
+
+pub returns-else-ended : goal.returns-else-ended
+returns-else-ended c = record {
+  acted = subst (λ (b : Bool). IsActedBy c.args.task (Dropped c.args.block b) c.args.present.now c.args.device.now c.args.host.now c.recount.new.present c.args.device.now c.args.host.now) (sym c.if-ended.false)
+      (dropped_acts c.args.task c.args.block c.args.present.now c.recount.new.present c.args.device.now c.args.host.now c.recount.ensures.table c.recount.ensures.room);
+}

@@ -1,0 +1,198 @@
+-- What is known of a task before its step is done, and what the step takes of the room.
+use Rattle.std.specs.Prelude.{ℕ, ◌≡◌, ◌+◌, ◌<◌, ◌≤◌, ◌^◌, Bool, true, List, [], ◌∷◌, ◌++◌, length, replicate, if◌then◌else◌, Some, None, IsSome, Ok, ⊤}
+use Rattle.std.specs.List.{AllByRecursion}
+use Rattle.acc_base.specs.declared.addresses.TheConstants.{MEMORY_MAX}
+use Rattle.acc_base.specs.declared.items.Section.{Section}
+use Rattle.acc_base.specs.declared.items.Item.{Item}
+use Rattle.acc_base.specs.declared.items.RegionClause.{RegionClause}
+use Rattle.acc_base.specs.declared.mappings.Range.{Range}
+use Rattle.acc_base.specs.declared.mappings.Found.TheVariants.{Absent}
+use Rattle.acc_base.specs.declared.regions.Holding.{Holding}
+use Rattle.acc_base.specs.declared.tasks.Task.{Task}
+use Rattle.acc_base.specs.declared.tasks.Task.TheVariants.{Enter, Leave, Exit, Move}
+use Rattle.acc_base.specs.declared.events.Step.{Step}
+use Rattle.acc_base.specs.declared.events.Step.TheVariants.{Nothing, Counted, Born, Dropped, Moved}
+use Rattle.acc_base.specs.declared.events.Did.{Did}
+use Rattle.acc_base.specs.Limits.{Limits, IsFromOne}
+use Rattle.acc_base.specs.Section.{is_within, host_memory}
+use Rattle.acc_base.specs.Ranges.{range_of, counter_of, where_is, ends_by}
+use Rattle.acc_base.specs.Blocks.{rounded, place_for, block_at}
+use Rattle.acc_base.specs.Records.{Records, State}
+use Rattle.acc_base.specs.Tasks.{section_of, recounted, judge_task, act}
+use Rattle.acc_base.specs.Clauses.{copies_in, is_zeroed}
+use Rattle.acc_base.specs.Register.{region_at}
+use Rattle.acc_base.specs.Bytes.{bytes_of, fill_byte, act_state}
+use Rattle.acc_host.specs.Host.{bytes_in}
+use Rattle.acc_present.specs.Present.{PresentState}
+use Rattle.acc_dev.specs.Device.{DeviceState, birth_place}
+use Rattle.acc_clauses.specs.declared.plans.Head.{Head}
+use Rattle.acc_clauses.specs.declared.plans.Head.TheVariants.{Plain, Entry, Leaving}
+use Rattle.acc_clauses.specs.Planned.{Planned}
+use Rattle.acc_clauses.specs.Contents.{Room, Contents, state_of, room_of}
+
+-- ---- what is known of a task
+
+-- the task is judged to do this step, at some place of a list
+pub record IsJudged (l : Limits) (task : Task) (step : Step) (w : Records) : Type 0 where
+  pub item : ℕ
+  pub judged : judge_task l item task w ≡ Ok step
+
+-- the block is mapped, and its range has each address of the section
+pub record IsMappedAround (w : Records) (section : Section) (block : ℕ) : Type 0 where
+  pub range : Range
+  pub range_is : range_of block w.ranges ≡ Some range
+  pub within : is_within section range.section ≡ true
+
+-- a task that undoes a holding finds the block that was counted
+abbrev pub IsKnown : Records → Task → Type 0
+IsKnown w (Enter counter item) = ⊤
+IsKnown w (Leave holding) = (block : ℕ) → holding.block ≡ Some block → IsMappedAround w holding.item.section block
+IsKnown w (Exit finalize item) = ⊤
+IsKnown w (Move if_present item) = ⊤
+
+-- each task that undoes a holding finds the block that was counted, in what the tasks before it leave
+abbrev pub AreKnown : List Task → List Did → Records → Type 0
+AreKnown (task ∷ tasks) (did ∷ dids) w = IsKnown w task × AreKnown tasks dids (act task did.step w)
+AreKnown _ _ w = ⊤
+
+-- ---- what each step needs
+
+-- the counter that the task raises is below its limit
+abbrev pub IsBelowLimit : ℕ → Task → ℕ → List Range → Type 0
+IsBelowLimit counter_max (Enter counter item) block ranges = counter_of counter block ranges < counter_max
+IsBelowLimit counter_max (Leave holding) block ranges = ⊤
+IsBelowLimit counter_max (Exit finalize item) block ranges = ⊤
+IsBelowLimit counter_max (Move if_present item) block ranges = ⊤
+
+-- entry is the one task that bears a block
+abbrev pub IsEnter : Task → Type 0
+IsEnter (Enter counter item) = ⊤
+IsEnter (Leave holding) = ⊥
+IsEnter (Exit finalize item) = ⊥
+IsEnter (Move if_present item) = ⊥
+
+-- the range of the block can be counted by the task
+pub record CanCount (counter_max : ℕ) (task : Task) (block : ℕ) (ranges : List Range) : Type 0 where
+  pub there : IsSome (range_of block ranges)
+  pub below : IsBelowLimit counter_max task block ranges
+
+-- the section can be copied between host memory and a block: it lies in host memory and in the range that is mapped to the block, which is there and as long as that range
+pub record CanMove (section : Section) (block : ℕ) (s : State) : Type 0 where
+  pub in_host : is_within section (host_memory (length s.host)) ≡ true
+  pub range : Range
+  pub range_is : range_of block s.records.ranges ≡ Some range
+  pub within : is_within section range.section ≡ true
+  pub there : IsSome (block_at block s.records.blocks)
+  pub len : length (bytes_of block s.memories) ≡ range.section.len
+
+-- the section can be mapped to a new block of this number at this place
+pub record CanBear (counter_max device : ℕ) (section : Section) (block place : ℕ) (s : State) : Type 0 where
+  pub in_host : is_within section (host_memory (length s.host)) ≡ true
+  pub absent : where_is section s.records.ranges ≡ Absent
+  pub len : IsFromOne MEMORY_MAX section.len
+  pub number : block ≡ s.records.births + 1
+  pub place_is : place_for device s.records.blocks (rounded section.len) ≡ Some place
+  pub few : s.records.births < 2 ^ 48
+  pub no_range : AllByRecursion (λ r. r.block ≡ block → ⊥) s.records.ranges
+  pub no_memory : AllByRecursion (λ m. m.block ≡ block → ⊥) s.memories
+  pub counted : 0 < counter_max
+
+-- a counter of the block's range can fall, for which no task that enters asks; and the mapping ends by it exactly if the step says so
+pub record CanDrop (task : Task) (block : ℕ) (ended : Bool) (s : State) : Type 0 where
+  pub move : CanMove (section_of task) block s
+  pub not_entry : IsEnter task → ⊥
+  pub ends : ends_by (recounted task) block s.records.ranges ≡ ended
+
+-- before a step, with the limit of the counters and the size of the device
+abbrev pub CanAct : ℕ → ℕ → Task → Step → State → Type 0
+CanAct counter_max device task Nothing s = ⊤
+CanAct counter_max device task (Counted block) s = CanCount counter_max task block s.records.ranges
+CanAct counter_max device task (Born block place) s = IsEnter task × CanBear counter_max device (section_of task) block place s
+CanAct counter_max device task (Dropped block ended) s = CanDrop task block ended s
+CanAct counter_max device task (Moved block) s = CanMove (section_of task) block s
+
+-- ---- what a step takes of the room
+
+-- the length of the block that a step bears, if it bears one
+abbrev pub birth_of : Task → Step → List ℕ
+birth_of task Nothing = []
+birth_of task (Counted block) = []
+birth_of task (Born block place) = (section_of task).len ∷ []
+birth_of task (Dropped block ended) = []
+birth_of task (Moved block) = []
+
+-- the lengths of the blocks that tasks bear, one after the other
+abbrev pub lens_born : List Task → List Did → List ℕ
+lens_born (task ∷ tasks) (did ∷ dids) = birth_of task did.step ++ lens_born tasks dids
+lens_born _ _ = []
+
+-- there is room for births of these lengths, which come next
+pub record HasRoomFor (births : List ℕ) (room : Room) : Type 0 where
+  pub rest : List ℕ
+  pub births_are : room.births ≡ births ++ rest
+  pub ranges : length births ≤ room.ranges
+
+-- there is room for one region with so many holdings
+pub record HasRegionRoom (holdings : ℕ) (room : Room) : Type 0 where
+  pub regions : 1 ≤ room.regions
+  pub enough : holdings ≤ room.holdings
+
+-- births of these lengths took their room, and nothing else was taken
+pub record IsRoomLeft (births : List ℕ) (old new : Room) : Type 0 where
+  pub births_are : old.births ≡ births ++ new.births
+  pub ranges : old.ranges ≤ new.ranges + length births
+  pub regions : old.regions ≤ new.regions
+  pub holdings : old.holdings ≤ new.holdings
+
+-- ---- what a step makes of the parts
+
+-- the present table, the device and host memory before a step and after it
+pub record IsActedBy (task : Task) (step : Step) (old_present : PresentState) (old_device : DeviceState) (old_host : List ℕ) (new_present : PresentState) (new_device : DeviceState) (new_host : List ℕ) : Type 0 where
+  pub state : (next : ℕ) → state_of new_present new_device new_host next ≡ act_state task step (state_of old_present old_device old_host next)
+  pub counter_max : new_present.table.counter_max ≡ old_present.table.counter_max
+  pub size : new_device.size ≡ old_device.size
+  pub room : IsRoomLeft (birth_of task step) (room_of old_present old_device) (room_of new_present new_device)
+
+-- ---- a new block
+
+-- the next birth of the device is of a block as long as the section, which lies in host memory and fits
+pub record CanMake (d : DeviceState) (host : List ℕ) (section : Section) : Type 0 where
+  pub in_host : is_within section (host_memory (length host)) ≡ true
+  pub len : IsFromOne MEMORY_MAX section.len
+  pub fits : birth_place d section.len ≡ None → ⊥
+  pub few : d.births < 2 ^ 48
+  pub rest : List ℕ
+  pub room : d.room ≡ section.len ∷ rest
+
+-- the bytes of a new block: those of the section, or the byte that fills it
+abbrev pub bytes_made : Item RegionClause → List ℕ → List ℕ
+bytes_made item host = if copies_in item.clause then bytes_in host item.section else replicate item.section.len (fill_byte (is_zeroed item.clause))
+
+-- the new device is the old one with a block more, which has these bytes
+pub record IsMade (old new : DeviceState) (item : Item RegionClause) (host : List ℕ) : Type 0 where
+  pub place : ℕ
+  pub place_is : birth_place old item.section.len ≡ Some place
+  pub size : new.size ≡ old.size
+  pub blocks : new.blocks ≡ old.blocks ++ record { number = old.births + 1; place = place; len = item.section.len } ∷ []
+  pub memories : new.memories ≡ old.memories ++ record { block = old.births + 1; bytes = bytes_made item host } ∷ []
+  pub births : new.births ≡ old.births + 1
+  pub room : old.room ≡ item.section.len ∷ new.room
+
+-- ---- a write of the host
+
+-- the section is empty, or lies in host memory
+abbrev pub CanWrite : Section → List ℕ → Type 0
+CanWrite section host = 0 < section.len → is_within section (host_memory (length host)) ≡ true
+
+-- ---- the register
+
+-- what the head of a plan needs of the register and its room, with what the region of an entry holds
+abbrev pub CanFinish : Head → List Holding → Contents → Type 0
+CanFinish Plain holdings c = ⊤
+CanFinish Entry holdings c = (c.state.register.next < 2 ^ 48) × (region_at c.state.register.next c.state.register.regions ≡ None) × HasRegionRoom (length holdings) c.room
+CanFinish (Leaving number) holdings c = IsSome (region_at number c.state.register.regions)
+
+-- there is room for all that a plan takes in
+pub record HasPlanRoom (p : Planned) (room : Room) : Type 0 where
+  pub births : HasRoomFor (lens_born p.tasks p.dids) room
+  pub region : HasRegionRoom (length p.tasks) room

@@ -1,0 +1,58 @@
+use Rattle.std.proofs.Common.{List, [], ◌∷◌, ◌++◌, vec_capacity, Vec, Global, ◌≡◌, ◌+◌, ℕ, length, replicate, None, refl, sym, ap, ◌∙◌, subst, arith, rules}
+use Rattle.std.specs.Prelude.{map}
+use Rattle.std.specs.List.{AllByRecursion}
+use Rattle.std.proofs.lemmas.List.{length-replicate}
+use Rattle.acc_base.specs.Bytes.{fill_byte}
+use Rattle.acc_base.specs.Blocks.{rounded}
+use Rattle.acc_placement.specs.Ranges.{IsFit}
+use Rattle.acc_dev.specs.Device.{DeviceState, IsBorn, IsBornWith, birth_place}
+use Rattle.acc_dev.specs.declared.devices.Device.TheInside.{Inside}
+use Rattle.acc_dev.specs.Room.{room_of, HasRoom}
+use Rattle.acc_dev.proofs.Keeping.{device_of}
+use Rattle.acc_dev.proofs.Births.{born_with, born_of, born_counted, above_all, fits_there}
+use Rattle.acc_dev.proofs.devices.Device.born_with_reserved.Goals as goal
+
+-- an empty vector that the given bytes were put into has these
+given_is : (d : Inside) (v : Vec ℕ Global) (vs : List (Vec ℕ Global)) (given bytes : List ℕ) → HasRoom d → d.ready.items ≡ v ∷ vs → bytes ≡ v.items ++ given → bytes ≡ given
+given_is d v vs given bytes r items is =
+    let empty : AllByRecursion (λ (u : Vec ℕ Global). u.items ≡ []) (v ∷ vs) = subst (λ (us : List (Vec ℕ Global)). AllByRecursion (λ u. u.items ≡ []) us) items r.empty in
+    is ∙ ap (λ (b : List ℕ). b ++ given) empty.0
+
+pub put-requires-clause-above : goal.put-requires-clause-above
+put-requires-clause-above c = above_all c.self.inside.index.items c.self.inside.index.items c.self.inside.births c.self.invariant.1 refl
+
+pub put-requires-clause-fits : goal.put-requires-clause-fits
+put-requires-clause-fits c =
+    let d = c.self.inside in
+    let there : birth_place (device_of d.holes d.slab.slots d.index.items d.births (room_of d)) (length c.args.given.now) ≡ None → ⊥ = subst (λ (x : DeviceState). birth_place x (length c.args.given.now) ≡ None → ⊥) (sym c.self.view_is) c.requires.fits in
+    rw (given_is c.self.inside c.in-Some.bytes c.pop_front.new.self.items c.args.given.now c.extend_from_slice.new.self.items c.self.invariant.2 c.in-Some.ensures.items c.in-Ok.ensures.items)
+    (fits_there d.holes d.slab.slots d.index.items d.births (length c.args.given.now) (room_of d) c.self.invariant.0 there)
+
+pub invariant_of-self : goal.invariant_of-self
+invariant_of-self c =
+    let r = c.self.invariant.2 in
+    let items = c.in-Some.ensures.items in
+    let longer = ap length items in
+    let empty = subst (λ (vs : List (Vec ℕ Global)). AllByRecursion (λ v. v.items ≡ []) vs) items r.empty in
+    let births = rw (← c.self.view_is) at c.requires.births in
+    let put = c.put.ensures in (
+      put.kept,
+      born_counted c.self.inside.index.items c.put.new.index.items c.self.inside.births put.index.0 c.self.invariant.1 births put.index.1,
+      record {
+        few = omega (arith, r.few, longer);
+        empty = empty.1;
+        holes = omega (arith, r.holes, longer, put.spare);
+        slots = omega (arith, r.slots, longer, put.slots, put.slab_capacity);
+        entries = omega (arith, r.entries, longer, put.entries, put.capacity);
+      },
+    )
+
+pub returns-clause-born : goal.returns-clause-born
+returns-clause-born c =
+    let d = c.self.inside in
+    let left = map (λ v. vec_capacity v) c.pop_front.new.self.items in
+    let is = given_is c.self.inside c.in-Some.bytes c.pop_front.new.self.items c.args.given.now c.extend_from_slice.new.self.items c.self.invariant.2 c.in-Some.ensures.items c.in-Ok.ensures.items in
+    let born = born_with d.holes c.put.new.holes d.slab.slots d.slab.slots c.put.new.slab.slots d.index.items d.index.items c.put.new.index.items d.births (length c.args.given.now) c.put.result c.extend_from_slice.new.self.items (room_of d) left
+    c.self.invariant.0 c.requires.len.0 refl refl c.put.ensures.size (ap length is) c.put.ensures.place c.put.ensures.blocks c.put.ensures.memories in
+    subst (λ (x : DeviceState). IsBornWith x (device_of c.put.new.holes c.put.new.slab.slots c.put.new.index.items (d.births + 1) left) (length c.args.given.now) c.args.given.now (d.births + 1)) c.self.view_is
+    (subst (λ (b : List ℕ). IsBornWith (device_of d.holes d.slab.slots d.index.items d.births (room_of d)) (device_of c.put.new.holes c.put.new.slab.slots c.put.new.index.items (d.births + 1) left) (length c.args.given.now) b (d.births + 1)) is born)

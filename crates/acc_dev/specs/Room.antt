@@ -1,0 +1,17 @@
+-- How a device keeps room for births to come: an empty vector of bytes for each, and places in its lists. No public clause cites this module.
+use Rattle.std.specs.Prelude.{ℕ, ◌≡◌, ◌+◌, ◌^◌, ◌≤◌, List, [], map, length, vec_len, vec_capacity}
+use Rattle.std.specs.List.{AllByRecursion}
+use Rattle.slab.specs.Slab.{slab_len}
+use Rattle.acc_dev.specs.declared.devices.Device.TheInside.{Inside}
+
+-- the lengths for which there is room
+abbrev pub room_of : Inside → List ℕ
+room_of d = map (λ v. vec_capacity v) d.ready.items
+
+-- there are not too many, each vector is empty, and for each there is room in the holes, the slots and the index
+pub record HasRoom (d : Inside) : Type 0 where
+  pub few : length d.ready.items ≤ 2 ^ 16
+  pub empty : AllByRecursion (λ v. v.items ≡ []) d.ready.items
+  pub holes : length d.ready.items ≤ d.holes.spare
+  pub slots : slab_len d.slab + length d.ready.items ≤ d.slab.capacity
+  pub entries : vec_len d.index + length d.ready.items ≤ vec_capacity d.index

@@ -1,0 +1,6 @@
+pub mod Keyed
+pub mod Finding
+pub mod Indexing
+pub mod Mapping
+pub mod Registering
+pub mod Limits

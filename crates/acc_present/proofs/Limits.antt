@@ -1,0 +1,61 @@
+-- No counter is above the limit, as mappings begin, change and end.
+use Rattle.std.proofs.Common.{ℕ, zero, suc, ◌≡◌, ◌+◌, ◌<◌, ◌≤◌, refl, Bool, true, false, cond, List, [], ◌∷◌, length, get_or, set, Some, arith}
+use Rattle.std.specs.Prelude.{◌==◌, map, nat_lt, option_map, unwrap_or}
+use Rattle.std.specs.List.{AllByRecursion}
+use Rattle.acc_base.specs.declared.mappings.Range.{Range}
+use Rattle.acc_base.specs.declared.mappings.Counter.{Counter}
+use Rattle.acc_base.specs.declared.mappings.Counter.TheVariants.{Structured, Dynamic}
+use Rattle.acc_base.specs.Ranges.{with_range, changed_at, risen, fallen, cleared, counter_in, counter_of, range_of, bare_range}
+use Rattle.acc_base.specs.declared.items.Section.{Section}
+use Rattle.acc_present.specs.Present.{IsWithinLimit}
+
+pub limit_with : (m : ℕ) (new : Range) (rs : List Range) → IsWithinLimit m new → AllByRecursion (IsWithinLimit m) rs → AllByRecursion (IsWithinLimit m) (with_range new rs)
+limit_with m new [] p h = (p, tt)
+limit_with m new (r ∷ rs) p h = go (limit_with m new rs p h.1) (nat_lt new.section.start r.section.start)
+  where
+    go : AllByRecursion (IsWithinLimit m) (with_range new rs) → (b : Bool) → AllByRecursion (IsWithinLimit m) (cond b (new ∷ r ∷ rs) (r ∷ with_range new rs))
+    go rest true = (p, h)
+    go rest false = (h.0, rest)
+
+pub limit_changed : (m block : ℕ) (f : Range → Range) (rs : List Range) → ((r : Range) → IsWithinLimit m r → IsWithinLimit m (f r)) → AllByRecursion (IsWithinLimit m) rs → AllByRecursion (IsWithinLimit m) (changed_at block f rs)
+limit_changed m block f [] keeps h = tt
+limit_changed m block f (r ∷ rs) keeps h = (go (r.block == block), limit_changed m block f rs keeps h.1)
+  where
+    go : (b : Bool) → IsWithinLimit m (cond b (f r) r)
+    go true = keeps r h.0
+    go false = h.0
+
+pub limit_fallen : (m : ℕ) (counter : Counter) (r : Range) → IsWithinLimit m r → IsWithinLimit m (fallen counter r)
+limit_fallen m Structured r h = record { structured = omega (arith, h.structured); dynamic = h.dynamic }
+limit_fallen m Dynamic r h = record { structured = h.structured; dynamic = omega (arith, h.dynamic) }
+
+pub limit_cleared : (m : ℕ) (r : Range) → IsWithinLimit m r → IsWithinLimit m (cleared r)
+limit_cleared m r h = record { structured = h.structured; dynamic = omega arith }
+
+pub limit_risen : (m : ℕ) (counter : Counter) (r : Range) → counter_in counter r < m → IsWithinLimit m r → IsWithinLimit m (risen counter r)
+limit_risen m Structured r less h = record { structured = omega arith; dynamic = h.dynamic }
+limit_risen m Dynamic r less h = record { structured = h.structured; dynamic = omega arith }
+
+pub limit_set : (m : ℕ) (rs : List Range) (i : ℕ) (new d : Range) → (IsWithinLimit m (get_or rs i d) → IsWithinLimit m new) → AllByRecursion (IsWithinLimit m) rs → AllByRecursion (IsWithinLimit m) (set rs i new)
+limit_set m [] i new d keeps h = tt
+limit_set m (r ∷ rs) zero new d keeps h = (keeps h.0, h.1)
+limit_set m (r ∷ rs) (suc i) new d keeps h = (h.0, limit_set m rs i new d keeps h.1)
+
+-- the counter of a block is not above the limit
+counter_limit : (m : ℕ) (counter : Counter) (block : ℕ) (rs : List Range) → AllByRecursion (IsWithinLimit m) rs → counter_of counter block rs ≤ m
+counter_limit m counter block [] h = omega arith
+counter_limit m counter block (r ∷ rs) h = go (counter_limit m counter block rs h.1) (r.block == block)
+  where
+    own : counter_in counter r ≤ m
+    own = elim counter as (λ k. counter_in k r ≤ m) [ Structured ↦ h.0.structured | Dynamic ↦ h.0.dynamic ]
+
+    go : counter_of counter block rs ≤ m → (b : Bool) → unwrap_or (option_map (counter_in counter) (cond b (Some r) (range_of block rs))) 0 ≤ m
+    go rest true = own
+    go rest false = rest
+
+-- so it has reached it where it is not below
+pub counter_full : (m : ℕ) (counter : Counter) (block : ℕ) (rs : List Range) → AllByRecursion (IsWithinLimit m) rs → m ≤ counter_of counter block rs → counter_of counter block rs ≡ m
+counter_full m counter block rs h full = let most = counter_limit m counter block rs h in omega arith
+
+pub limit_bare : (m : ℕ) (s : Section) (block : ℕ) → IsWithinLimit m (bare_range s block)
+limit_bare m s block = record { structured = omega arith; dynamic = omega arith }

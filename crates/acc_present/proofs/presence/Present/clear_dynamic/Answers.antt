@@ -1,0 +1,12 @@
+use Rattle.std.proofs.Common.{List, sym, subst}
+use Rattle.std.specs.List.{AllByRecursion}
+use Rattle.acc_base.specs.declared.mappings.Range.{Range}
+use Rattle.acc_base.specs.Ranges.{cleared}
+use Rattle.acc_present.specs.Present.{IsWithinLimit}
+use Rattle.acc_present.proofs.Limits.{limit_changed, limit_cleared}
+use Rattle.acc_present.proofs.presence.Present.clear_dynamic.Goals as goal
+
+pub invariant_of-self : goal.invariant_of-self
+invariant_of-self c =
+    let P : List Range → Type 0 = λ rs. AllByRecursion (IsWithinLimit c.self.inside.counter_max) rs in
+    (c.self.invariant.0, subst P (sym c.clear.ensures.ranges) (limit_changed c.self.inside.counter_max c.args.block cleared c.self.inside.mappings.ranges (limit_cleared c.self.inside.counter_max) c.self.invariant.1))

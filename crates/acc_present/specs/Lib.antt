@@ -1,0 +1,2 @@
+pub mod Present
+pub mod Kept

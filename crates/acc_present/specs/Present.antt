@@ -1,0 +1,76 @@
+-- What contracts see of the present table: the mapped ranges, the open data regions, and the room for more (OpenACC 3.3, sections 2.6.5 and 2.6.7).
+use Rattle.std.specs.Prelude.{ℕ, ◌≡◌, ◌^◌, ◌<◌, ◌≤◌, List, [], Option, IsSome}
+use Rattle.std.specs.List.{AllByRecursion}
+use Rattle.acc_base.specs.declared.mappings.Range.{Range}
+use Rattle.acc_base.specs.Ranges.{range_of}
+use Rattle.acc_base.specs.Register.{Region, region_at}
+use Rattle.acc_base.specs.Accounts.{EachPair, IsBelow}
+
+-- the limit of the reference counters, the mapped ranges by rising start, and the open regions by rising number
+pub record PresentTable : Type 0 where
+  pub counter_max : ℕ
+  pub ranges : List Range
+  pub regions : List Region
+
+-- how many more ranges, how many more regions, and how many holdings of the next region can be taken in without memory
+pub record Room : Type 0 where
+  pub ranges : ℕ
+  pub regions : ℕ
+  pub holdings : ℕ
+
+-- a present table and its room
+pub record PresentState : Type 0 where
+  pub table : PresentTable
+  pub room : Room
+
+-- nothing is mapped, and no region is open
+abbrev pub new_table : ℕ → PresentTable
+new_table counter_max = record { counter_max = counter_max; ranges = []; regions = [] }
+
+-- the table with these ranges
+abbrev pub with_ranges : PresentTable → List Range → PresentTable
+with_ranges t ranges = record { counter_max = t.counter_max; ranges = ranges; regions = t.regions }
+
+-- the table with these regions
+abbrev pub with_regions : PresentTable → List Region → PresentTable
+with_regions t regions = record { counter_max = t.counter_max; ranges = t.ranges; regions = regions }
+
+-- a range is mapped to the block
+abbrev pub HasRange : PresentTable → ℕ → Type 0
+HasRange t block = IsSome (range_of block t.ranges)
+
+-- a region of the number is open
+abbrev pub HasRegion : PresentTable → ℕ → Type 0
+HasRegion t number = IsSome (region_at number t.regions)
+
+-- ---- room
+
+-- no room has shrunk
+pub record IsRoomKept (old new : Room) : Type 0 where
+  pub ranges : old.ranges ≤ new.ranges
+  pub regions : old.regions ≤ new.regions
+  pub holdings : old.holdings ≤ new.holdings
+
+-- ---- what holds of every present table
+
+-- mapped ranges are not empty, rise without overlap, and have a block each of its own
+pub record AreMapped (ranges : List Range) : Type 0 where
+  pub some : AllByRecursion (λ r. 0 < r.section.len) ranges
+  pub rising : EachPair (λ (r : Range) (t : Range). IsBelow r.section t.section) ranges
+  pub own_block : EachPair (λ (r : Range) (t : Range). r.block ≡ t.block → ⊥) ranges
+
+-- no counter of the range is above the limit
+pub record IsWithinLimit (counter_max : ℕ) (r : Range) : Type 0 where
+  pub structured : r.structured ≤ counter_max
+  pub dynamic : r.dynamic ≤ counter_max
+
+-- the numbers of open regions rise
+abbrev pub AreNumbered : List Region → Type 0
+AreNumbered regions = EachPair (λ (r : Region) (t : Region). r.number < t.number) regions
+
+-- the ranges and regions are as above, and no counter is over its limit, which is small
+pub record IsLawful (t : PresentTable) : Type 0 where
+  pub limit : t.counter_max < 2 ^ 32
+  pub mapped : AreMapped t.ranges
+  pub counted : AllByRecursion (IsWithinLimit t.counter_max) t.ranges
+  pub numbered : AreNumbered t.regions

@@ -1,0 +1,307 @@
+//! The present table as one value.
+
+ghost use Rattle.std.specs.Prelude.{◌≡◌, ◌+◌, ◌^◌, ◌<◌, ◌≤◌, ◌↔◌, length, MatchResult, None, Some, Err, IfErr, OnOk, OnErr, MatchOption};
+ghost use Rattle.acc_base.specs.declared.mappings.Counter.TheVariants.{Structured, Dynamic};
+ghost use Rattle.acc_base.specs.Ranges.{where_is, where_is_apart, range_of, range_from, structured_of, dynamic_of, counter_of, with_range, without_range, changed_at, bare_range, risen, fallen, cleared};
+ghost use Rattle.acc_base.specs.Register.{region_at, holdings_at, with_region, without_region};
+ghost use Rattle.acc_present.specs.Present.{new_table, with_ranges, with_regions, HasRange, HasRegion, IsRoomKept, IsLawful};
+
+use crate::ranges::Mappings;
+use crate::register::Register;
+use acc_base::{Counter, Counters, Fault, Found, Holding, Range, Section};
+use std::alloc::Global;
+use std::marker::Model;
+
+/// The present table of a device (OpenACC 3.3, section 2.6): the ranges of host memory that are mapped to blocks of
+/// device memory, each with its two reference counters, and the register of open data regions.
+///
+/// Contracts see the table, and the room that was made for more beside it. A refused call leaves the table as it was.
+/// Only `new`, `add`, `enter` and `reserve` take memory.
+///
+/// A section and a block number are searched for by halves. Adding and removing move entries beside that: of the ranges
+/// those that start behind, of the index of blocks those of higher numbers.
+#[derive(Drop)]
+pub struct Present {
+    counter_max: u64,
+    mappings: Mappings,
+    register: Register,
+}
+
+impl Model for Present {
+    ghost use Rattle.std.specs.Prelude.{◌^◌, ◌<◌};
+    ghost use Rattle.std.specs.List.{AllByRecursion};
+    ghost use Rattle.acc_present.specs.Present.{PresentState, IsWithinLimit};
+
+    ghost Value = { PresentState };
+
+    ghost view = { λ p. record {
+      table = record { counter_max = p.counter_max; ranges = p.mappings.ranges; regions = p.register.regions };
+      room = record { ranges = p.mappings.room; regions = p.register.room; holdings = p.register.holdings };
+    } };
+
+    ghost invariant = { λ p. (p.counter_max < 2 ^ 32) × AllByRecursion (IsWithinLimit p.counter_max) p.mappings.ranges };
+}
+
+impl Present {
+    /// A table on which nothing is mapped and no region is open. `counter_max` is the greatest value of a reference
+    /// counter, below 2^32.
+    pub fn new(alloc: Global, counter_max: u64) -> Present
+        requires { counter_max < 2 ^ 32 }
+        ensures { result.table ≡ new_table counter_max }
+    {
+        Present {
+            counter_max,
+            mappings: Mappings::new(alloc),
+            register: Register::new(alloc),
+        }
+    }
+
+    /// What holds of every present table: mapped ranges are not empty, rise without overlap and have a block each of
+    /// its own, no counter is above the limit, and the numbers of open regions rise.
+    pub fn laws(&self)
+        ensures { IsLawful self.now.table }
+    {
+        self.mappings.laws();
+        self.register.laws();
+    }
+
+    // ---- mapped ranges
+
+    /// Where a section lies among the mapped ranges: it is empty, inside one of them, absent, or partly present. Any
+    /// section may be asked for, one that reaches past the last `u64` too.
+    pub fn find(&self, section: Section) -> Found
+        ensures { result ≡ where_is section self.now.table.ranges }
+    {
+        self.mappings.find(section, &[])
+    }
+
+    /// Where a section would lie if the mappings to the listed blocks had ended.
+    pub fn find_apart(&self, section: Section, blocks: &[u64]) -> Found
+        ensures { result ≡ where_is_apart section blocks.now self.now.table.ranges }
+    {
+        self.mappings.find(section, blocks)
+    }
+
+    /// The range that is mapped to a block. One is.
+    pub fn range_at(&self, block: u64) -> Range
+        requires { HasRange self.now.table block }
+        ensures { range_of block self.now.table.ranges ≡ Some result }
+    {
+        self.mappings.range_at(block)
+    }
+
+    /// The mapped range of least start at or above an address.
+    pub fn next_range(&self, from: u64) -> Option<Range>
+        ensures { result ≡ range_from from self.now.table.ranges }
+    {
+        self.mappings.next_range(from)
+    }
+
+    /// Maps a section to a block. The section is absent, and no range is mapped to the block. Both counters of the new
+    /// range are 0.
+    ///
+    /// # Errors
+    ///
+    /// [`Fault::Memory`] alone. The table is then as before.
+    pub fn add(&mut self, section: Section, block: u64) -> Result<(), Fault>
+        requires absent { where_is section self.old.table.ranges ≡ Found.Absent }
+        requires new { range_of block self.old.table.ranges ≡ None }
+        ensures ok { OnOk result (self.new.table ≡ with_ranges self.old.table (with_range (bare_range section block) self.old.table.ranges)) }
+        ensures only { IfErr result (λ fault. fault ≡ Fault.Memory) }
+        ensures unchanged { OnErr result (self.new.table ≡ self.old.table) }
+    {
+        self.mappings.reserve(1)?;
+        self.mappings.map(section, block);
+        Ok(())
+    }
+
+    /// As [`Present::add`], where there is room for one more range: it takes no memory and is not refused. It takes one
+    /// from the room of ranges.
+    pub fn add_reserved(&mut self, section: Section, block: u64)
+        requires room { 1 ≤ self.old.room.ranges }
+        requires absent { where_is section self.old.table.ranges ≡ Found.Absent }
+        requires new { range_of block self.old.table.ranges ≡ None }
+        ensures table { self.new.table ≡ with_ranges self.old.table (with_range (bare_range section block) self.old.table.ranges) }
+        ensures room_ranges { self.old.room.ranges ≤ self.new.room.ranges + 1 }
+        ensures room_regions { self.old.room.regions ≤ self.new.room.regions }
+        ensures room_holdings { self.old.room.holdings ≤ self.new.room.holdings }
+    {
+        self.mappings.map(section, block);
+    }
+
+    /// Ends the mapping to a block. A range is mapped to it, and both counters of the range are 0.
+    pub fn remove(&mut self, block: u64)
+        requires there { HasRange self.old.table block }
+        requires structured { structured_of block self.old.table.ranges ≡ 0 }
+        requires dynamic { dynamic_of block self.old.table.ranges ≡ 0 }
+        ensures table { self.new.table ≡ with_ranges self.old.table (without_range block self.old.table.ranges) }
+        ensures room { IsRoomKept self.old.room self.new.room }
+    {
+        self.mappings.unmap(block);
+    }
+
+    // ---- reference counters
+
+    /// The two reference counters of the range that is mapped to a block. One is.
+    pub fn counters(&self, block: u64) -> Counters
+        requires { HasRange self.now.table block }
+        ensures structured { result.structured ≡ structured_of block self.now.table.ranges }
+        ensures dynamic { result.dynamic ≡ dynamic_of block self.now.table.ranges }
+    {
+        let range = self.mappings.range_at(block);
+        Counters {
+            structured: range.structured,
+            dynamic: range.dynamic,
+        }
+    }
+
+    /// Raises the structured counter of the range that is mapped to a block. One is.
+    ///
+    /// # Errors
+    ///
+    /// [`Fault::CounterFull`] with item 0, exactly where the counter has its greatest value. The table is then as
+    /// before.
+    pub fn count_structured(&mut self, block: u64) -> Result<(), Fault>
+        requires { HasRange self.old.table block }
+        ensures ok { OnOk result (self.new.table ≡ with_ranges self.old.table (changed_at block (risen Structured) self.old.table.ranges)) }
+        ensures full { (result ≡ Err (Fault.CounterFull 0)) ↔ (structured_of block self.old.table.ranges ≡ self.old.table.counter_max) }
+        ensures only { IfErr result (λ fault. fault ≡ Fault.CounterFull 0) }
+        ensures unchanged { OnErr result (self.new.table ≡ self.old.table) }
+        ensures room { IsRoomKept self.old.room self.new.room }
+    {
+        self.count(Counter::Structured, block)
+    }
+
+    /// Raises the dynamic counter of the range that is mapped to a block. One is.
+    ///
+    /// # Errors
+    ///
+    /// [`Fault::CounterFull`] with item 0, exactly where the counter has its greatest value. The table is then as
+    /// before.
+    pub fn count_dynamic(&mut self, block: u64) -> Result<(), Fault>
+        requires { HasRange self.old.table block }
+        ensures ok { OnOk result (self.new.table ≡ with_ranges self.old.table (changed_at block (risen Dynamic) self.old.table.ranges)) }
+        ensures full { (result ≡ Err (Fault.CounterFull 0)) ↔ (dynamic_of block self.old.table.ranges ≡ self.old.table.counter_max) }
+        ensures only { IfErr result (λ fault. fault ≡ Fault.CounterFull 0) }
+        ensures unchanged { OnErr result (self.new.table ≡ self.old.table) }
+        ensures room { IsRoomKept self.old.room self.new.room }
+    {
+        self.count(Counter::Dynamic, block)
+    }
+
+    /// Raises one of the counters of the range that is mapped to a block.
+    fn count(&mut self, counter: Counter, block: u64) -> Result<(), Fault>
+        requires { HasRange self.old.table block }
+        ensures ok { OnOk result (self.new.table ≡ with_ranges self.old.table (changed_at block (risen counter) self.old.table.ranges)) }
+        ensures below { OnOk result (counter_of counter block self.old.table.ranges < self.old.table.counter_max) }
+        ensures full { OnErr result (counter_of counter block self.old.table.ranges ≡ self.old.table.counter_max) }
+        ensures only { IfErr result (λ fault. fault ≡ Fault.CounterFull 0) }
+        ensures unchanged { OnErr result (self.new.table ≡ self.old.table) }
+        ensures room { IsRoomKept self.old.room self.new.room }
+    {
+        if self.mappings.raise(counter, block, self.counter_max) {
+            Ok(())
+        } else {
+            Err(Fault::CounterFull { item: 0 })
+        }
+    }
+
+    /// Lowers the structured counter of the range that is mapped to a block. One is. Zero stays zero.
+    pub fn drop_structured(&mut self, block: u64)
+        requires { HasRange self.old.table block }
+        ensures table { self.new.table ≡ with_ranges self.old.table (changed_at block (fallen Structured) self.old.table.ranges) }
+        ensures room { IsRoomKept self.old.room self.new.room }
+    {
+        self.mappings.lower(Counter::Structured, block);
+    }
+
+    /// Lowers the dynamic counter of the range that is mapped to a block. One is. Zero stays zero.
+    pub fn drop_dynamic(&mut self, block: u64)
+        requires { HasRange self.old.table block }
+        ensures table { self.new.table ≡ with_ranges self.old.table (changed_at block (fallen Dynamic) self.old.table.ranges) }
+        ensures room { IsRoomKept self.old.room self.new.room }
+    {
+        self.mappings.lower(Counter::Dynamic, block);
+    }
+
+    /// Sets the dynamic counter of the range that is mapped to a block to 0 (OpenACC 3.3, the finalize clause). One is.
+    pub fn clear_dynamic(&mut self, block: u64)
+        requires { HasRange self.old.table block }
+        ensures table { self.new.table ≡ with_ranges self.old.table (changed_at block cleared self.old.table.ranges) }
+        ensures room { IsRoomKept self.old.room self.new.room }
+    {
+        self.mappings.clear(block);
+    }
+
+    // ---- open data regions
+
+    /// Opens a data region of a number that no open region has, with what the items of its entry counted.
+    ///
+    /// # Errors
+    ///
+    /// [`Fault::Memory`] alone. The table is then as before.
+    pub fn enter(&mut self, number: u64, holdings: Vec<Holding>) -> Result<(), Fault>
+        requires { region_at number self.old.table.regions ≡ None }
+        ensures ok { OnOk result (self.new.table ≡ with_regions self.old.table (with_region (record { number = number; holdings = holdings.items }) self.old.table.regions)) }
+        ensures only { IfErr result (λ fault. fault ≡ Fault.Memory) }
+        ensures unchanged { OnErr result (self.new.table ≡ self.old.table) }
+    {
+        self.register.enter(number, holdings)
+    }
+
+    /// As [`Present::enter`], where there is room for one more region and for its holdings: it takes no memory and is
+    /// not refused. It leaves no room for holdings of a further region.
+    pub fn enter_reserved(&mut self, number: u64, holdings: &[Holding])
+        requires room { 1 ≤ self.old.room.regions }
+        requires room_holdings { length holdings.now ≤ self.old.room.holdings }
+        requires new { region_at number self.old.table.regions ≡ None }
+        ensures table { self.new.table ≡ with_regions self.old.table (with_region (record { number = number; holdings = holdings.now }) self.old.table.regions) }
+        ensures room_ranges { self.old.room.ranges ≤ self.new.room.ranges }
+    {
+        self.register.enter_reserved(number, holdings);
+    }
+
+    /// What an open region holds, in the written order of its items, or `None` where no region of that number is open.
+    pub fn holdings(&self, number: u64) -> Option<&[Holding]>
+        ensures { MatchOption result (holdings_at number self.now.table.regions ≡ None) (λ h. holdings_at number self.now.table.regions ≡ Some h.now) }
+    {
+        self.register.holdings(number)
+    }
+
+    /// The region of a number, which is open, is open no longer.
+    pub fn leave(&mut self, number: u64)
+        requires { HasRegion self.old.table number }
+        ensures table { self.new.table ≡ with_regions self.old.table (without_region number self.old.table.regions) }
+        ensures room { IsRoomKept self.old.room self.new.room }
+    {
+        self.register.leave(number);
+    }
+
+    /// How many regions are open.
+    pub fn regions(&self) -> u64
+        ensures { result ≡ length self.now.table.regions }
+    {
+        self.register.len()
+    }
+
+    // ---- room
+
+    /// Makes room for so many more ranges, and for one more region with so many holdings, so that
+    /// [`Present::add_reserved`] and [`Present::enter_reserved`] take no memory.
+    ///
+    /// # Errors
+    ///
+    /// [`Fault::Memory`] alone. No room has shrunk then.
+    pub fn reserve(&mut self, ranges: u64, holdings: u64) -> Result<(), Fault>
+        ensures table { self.new.table ≡ self.old.table }
+        ensures ranges { OnOk result (ranges ≤ self.new.room.ranges) }
+        ensures regions { OnOk result (1 ≤ self.new.room.regions) }
+        ensures holdings { OnOk result (holdings ≤ self.new.room.holdings) }
+        ensures only { IfErr result (λ fault. fault ≡ Fault.Memory) }
+        ensures room { IsRoomKept self.old.room self.new.room }
+    {
+        self.mappings.reserve(ranges as usize)?;
+        self.register.reserve(holdings as usize)?;
+        Ok(())
+    }
+}

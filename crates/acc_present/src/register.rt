@@ -1,0 +1,183 @@
+//! The register of open data regions.
+
+ghost use Rattle.std.specs.Prelude.{◌≡◌, ◌+◌, ◌<◌, ◌≤◌, [], ◌∷◌, ◌++◌, length, map, None, Some, IsSome, IfErr, OnOk, OnErr, MatchOption, vec_len, vec_capacity};
+ghost use Rattle.acc_base.specs.Register.{region_at, holdings_at, with_region, without_region};
+ghost use Rattle.acc_present.specs.Present.{AreNumbered};
+ghost use Rattle.acc_present.specs.Kept.{AreNumbersRising, IsSplitBy, region_of};
+
+use acc_base::{Fault, Holding};
+use std::alloc::Global;
+use std::marker::Model;
+use std::mem;
+
+/// An open region.
+#[derive(Drop)]
+pub struct OpenRegion {
+    /// The number of the region.
+    pub number: u64,
+    /// What each item of its entry counted, in written order.
+    pub holdings: Vec<Holding>,
+}
+
+/// The place of a region, or the place at which it would stand.
+fn place_of(regions: &[OpenRegion], number: u64) -> usize
+    requires { AreNumbersRising regions.now }
+    ensures { IsSplitBy (λ o. o.number) number regions.now result }
+{
+    regions.partition_point(|o| o.number < number)
+}
+
+/// What an open region holds, or `None` where there is none of that number.
+fn holdings_of<'a>(regions: &'a [OpenRegion], number: u64) -> Option<&'a [Holding]>
+    requires { AreNumbersRising regions.now }
+    ensures { MatchOption result (holdings_at number (map region_of regions.now) ≡ None) (λ h. holdings_at number (map region_of regions.now) ≡ Some h.now) }
+{
+    let at = place_of(regions, number);
+    if at < regions.len() && regions[at].number == number {
+        Some(&regions[at].holdings)
+    } else {
+        None
+    }
+}
+
+/// One region more, where there is room for it and none has its number.
+fn put(regions: &mut Vec<OpenRegion>, new: OpenRegion)
+    requires rising { AreNumbersRising regions.old.items }
+    requires new { region_at new.number (map region_of regions.old.items) ≡ None }
+    requires room { vec_len regions.old < vec_capacity regions.old }
+    ensures rising { AreNumbersRising regions.new.items }
+    ensures regions { map region_of regions.new.items ≡ with_region (region_of new) (map region_of regions.old.items) }
+    ensures len { vec_len regions.new ≡ vec_len regions.old + 1 }
+    ensures capacity { vec_capacity regions.old ≤ vec_capacity regions.new }
+{
+    let at = place_of(regions, new.number);
+    let _ = regions.insert(at, new);
+}
+
+/// One region less. It is open.
+fn take_out(regions: &mut Vec<OpenRegion>, number: u64)
+    requires rising { AreNumbersRising regions.old.items }
+    requires there { IsSome (region_at number (map region_of regions.old.items)) }
+    ensures rising { AreNumbersRising regions.new.items }
+    ensures regions { map region_of regions.new.items ≡ without_region number (map region_of regions.old.items) }
+    ensures len { vec_len regions.new + 1 ≡ vec_len regions.old }
+    ensures capacity { vec_capacity regions.new ≡ vec_capacity regions.old }
+{
+    let at = place_of(regions, number);
+    regions.remove(at);
+}
+
+/// The open regions.
+///
+/// A number is searched for by halves. A region that is opened or left moves those of higher numbers.
+#[derive(Drop)]
+pub struct Register {
+    alloc: Global,
+    // By rising number.
+    regions: Vec<OpenRegion>,
+    // Empty, with room for the holdings of the next region.
+    spare: Vec<Holding>,
+}
+
+impl Model for Register {
+    ghost use Rattle.std.specs.Prelude.{◌≡◌, ◌-◌, [], map, vec_len, vec_capacity};
+    ghost use Rattle.acc_present.specs.Kept.{RegisterState, AreNumbersRising, region_of};
+
+    ghost Value = { RegisterState };
+
+    ghost view = { λ r. record {
+      regions = map region_of r.regions.items;
+      room = vec_capacity r.regions - vec_len r.regions;
+      holdings = vec_capacity r.spare;
+    } };
+
+    ghost invariant = { λ r. AreNumbersRising r.regions.items × (r.spare.items ≡ []) };
+}
+
+impl Register {
+    /// No region.
+    pub fn new(alloc: Global) -> Register
+        ensures { result.regions ≡ [] }
+    {
+        Register {
+            alloc,
+            regions: Vec::new(alloc),
+            spare: Vec::new(alloc),
+        }
+    }
+
+    /// What holds of all open regions.
+    pub fn laws(&self)
+        ensures { AreNumbered self.now.regions }
+    {
+        let _ = &self.regions;
+    }
+
+    /// How many regions are open.
+    pub fn len(&self) -> u64
+        ensures { result ≡ length self.now.regions }
+    {
+        self.regions.len() as u64
+    }
+
+    /// What an open region holds, or `None` where there is none of that number.
+    pub fn holdings(&self, number: u64) -> Option<&[Holding]>
+        ensures { MatchOption result (holdings_at number self.now.regions ≡ None) (λ h. holdings_at number self.now.regions ≡ Some h.now) }
+    {
+        holdings_of(&self.regions, number)
+    }
+
+    /// Makes room for one more region with so many holdings.
+    pub fn reserve(&mut self, holdings: usize) -> Result<(), Fault>
+        ensures regions { self.new.regions ≡ self.old.regions }
+        ensures ok { OnOk result (1 ≤ self.new.room) }
+        ensures ok_holdings { OnOk result (holdings ≤ self.new.holdings) }
+        ensures only { IfErr result (λ fault. fault ≡ Fault.Memory) }
+        ensures room { self.old.room ≤ self.new.room }
+        ensures room_holdings { self.old.holdings ≤ self.new.holdings }
+    {
+        self.regions.reserve(1)?;
+        self.spare.reserve(holdings)?;
+        Ok(())
+    }
+
+    /// Opens a region.
+    pub fn enter(&mut self, number: u64, holdings: Vec<Holding>) -> Result<(), Fault>
+        requires { region_at number self.old.regions ≡ None }
+        ensures ok { OnOk result (self.new.regions ≡ with_region (record { number = number; holdings = holdings.items }) self.old.regions) }
+        ensures only { IfErr result (λ fault. fault ≡ Fault.Memory) }
+        ensures unchanged { OnErr result (self.new.regions ≡ self.old.regions) }
+    {
+        self.regions.reserve(1)?;
+        put(&mut self.regions, OpenRegion { number, holdings });
+        Ok(())
+    }
+
+    /// Opens a region, where there is room for it.
+    pub fn enter_reserved(&mut self, number: u64, holdings: &[Holding])
+        requires room { 1 ≤ self.old.room }
+        requires room_holdings { length holdings.now ≤ self.old.holdings }
+        requires new { region_at number self.old.regions ≡ None }
+        ensures { self.new.regions ≡ with_region (record { number = number; holdings = holdings.now }) self.old.regions }
+    {
+        let mut own = mem::replace(&mut self.spare, Vec::new(self.alloc));
+        let _ = own.extend_from_slice(holdings);
+        put(
+            &mut self.regions,
+            OpenRegion {
+                number,
+                holdings: own,
+            },
+        );
+    }
+
+    /// The region is no longer open.
+    pub fn leave(&mut self, number: u64)
+        requires { IsSome (region_at number self.old.regions) }
+        ensures regions { self.new.regions ≡ without_region number self.old.regions }
+        ensures room { self.old.room ≤ self.new.room }
+        ensures room_holdings { self.old.holdings ≤ self.new.holdings }
+    {
+        take_out(&mut self.regions, number);
+    }
+}

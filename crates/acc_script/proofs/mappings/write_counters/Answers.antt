@@ -1,4 +1,0 @@
-use Rattle.acc_script.proofs.mappings.write_counters.Goals as goal
-
-pub returns : goal.returns
-returns g c = rw (c.as_bytes.ensures.value, c.format-structured.ensures.text, c.as_bytes-2.ensures.value, c.format-dynamic.ensures.text) at c.write_pieces.ensures

@@ -1,0 +1,57 @@
+use Rattle.std.proofs.Common.{◌+◌, ap, subst, arith}
+use Rattle.std.specs.List.{flat_map}
+use Rattle.acc_base.specs.Ranges.{range_from}
+use Rattle.acc_table.specs.declared.calls.Mapped.{Mapped}
+use Rattle.acc_table.specs.Queries.{mapped_as}
+use Rattle.acc_script.specs.Told.{Took}
+use Rattle.acc_script.specs.Texts.{mapped_text}
+use Rattle.acc_script.proofs.Fronts.{took_nothing}
+use Rattle.acc_script.proofs.RisingRanges.{below, none_below_zero, all_below, found_view, found_none, found_start, took_found, lost_found}
+use Rattle.acc_script.proofs.print.reports.write_ranges.Goals as goal
+
+pub each-init : goal.each-init
+each-init g c = rw (none_below_zero c.args.table.now.state.records.ranges) (took_nothing (g.W.Sink.told c.args.writer.now))
+
+pub returns-then-not-write_mapped : goal.returns-then-not-write_mapped
+returns-then-not-write_mapped g c =
+    let told = g.W.Sink.told in
+    let w = c.args.table.now in
+    let ranges = w.state.records.ranges in
+    let view = mapped_as w.state.records.blocks in
+    let found = found_view view (range_from c.each.from ranges) c.in-Some.mapped c.in-Some.ensures in
+    lost_found w.limits c.each.from found.0 (λ r. mapped_text (view r)) ranges (told c.args.writer.now) (told c.each.writer) (told c.write_mapped.new.writer) c.laws.ensures.accounted.ranges_apart.rising found.1 c.each.invariant (rw found.2 c.if-not-write_mapped.ensures)
+
+pub overflow_add-from : goal.overflow_add-from
+overflow_add-from g c =
+    let w = c.args.table.now in
+    let ranges = w.state.records.ranges in
+    let found = found_view (mapped_as w.state.records.blocks) (range_from c.each.from ranges) c.in-Some.mapped c.in-Some.ensures in
+    let start = found_start w.limits c.each.from found.0 ranges c.laws.ensures.bounds c.laws.ensures.accounted.ranges_apart.in_host found.1 in
+    let same = ap (λ (m : Mapped). m.start) found.2 in
+    omega (arith, start.1, same)
+
+pub each-smaller : goal.each-smaller
+each-smaller g c =
+    let w = c.args.table.now in
+    let ranges = w.state.records.ranges in
+    let found = found_view (mapped_as w.state.records.blocks) (range_from c.each.from ranges) c.in-Some.mapped c.in-Some.ensures in
+    let start = found_start w.limits c.each.from found.0 ranges c.laws.ensures.bounds c.laws.ensures.accounted.ranges_apart.in_host found.1 in
+    let same = ap (λ (m : Mapped). m.start) found.2 in
+    omega (arith, start.0, start.1, same)
+
+pub each-preserved : goal.each-preserved
+each-preserved g c =
+    let told = g.W.Sink.told in
+    let w = c.args.table.now in
+    let ranges = w.state.records.ranges in
+    let view = mapped_as w.state.records.blocks in
+    let found = found_view view (range_from c.each.from ranges) c.in-Some.mapped c.in-Some.ensures in
+    let took = took_found w.limits c.each.from found.0 (λ r. mapped_text (view r)) ranges (told c.args.writer.now) (told c.each.writer) (told c.write_mapped.new.writer) c.laws.ensures.accounted.ranges_apart.in_host c.laws.ensures.accounted.ranges_apart.rising found.1 c.each.invariant (rw found.2 c.if-not-write_mapped.ensures) in
+    subst (λ (m : Mapped). Took (told c.args.writer.now) (told c.write_mapped.new.writer) (flat_map (λ r. mapped_text (view r)) (below (m.start + 1) ranges))) found.2 took
+
+pub returns : goal.returns
+returns g c =
+    let w = c.args.table.now in
+    let ranges = w.state.records.ranges in
+    let none = found_none (mapped_as w.state.records.blocks) (range_from c.each.from ranges) c.in_default.ensures in
+    rw (← all_below c.each.from ranges none) c.each.invariant

@@ -1,0 +1,37 @@
+//! Where a script comes from, and where its output goes.
+
+ghost use Rattle.std.specs.Prelude.{◌≤◌, length, Option, None, IfSome};
+ghost use Rattle.acc_script.specs.Told.{Given, Taken, after_read, after_write, Becomes};
+
+pub mod memory;
+pub mod streams;
+pub mod whole;
+
+/// Gives bytes.
+///
+/// Contracts see, where it tells, what it has given so far, whether its last read into a piece that was not empty told
+/// the end, and how often it failed, modulo 2^64.
+pub trait Source {
+    /// What it has given so far, where it tells.
+    ghost told: { Self → Option Given } = { λ _. None };
+
+    /// Gives bytes at the front of the piece, and answers how many. No byte into a piece that is not empty tells the
+    /// end; `None` is a failure.
+    fn read(&mut self, piece: &mut [u8]) -> Option<usize>
+        ensures bound { IfSome result (λ n. n ≤ length piece.old) }
+        ensures tells { Becomes (told self.old) (told self.new) (λ g. after_read g result piece.new) };
+}
+
+/// Takes bytes.
+///
+/// Contracts see, where it tells, what it has taken so far, and how often it failed, modulo 2^64.
+pub trait Sink {
+    /// What it has taken so far, where it tells.
+    ghost told: { Self → Option Taken } = { λ _. None };
+
+    /// Takes bytes from the front of the piece, and answers how many. `None` is a failure, and so is no byte of a
+    /// piece that is not empty.
+    fn write(&mut self, piece: &[u8]) -> Option<usize>
+        ensures bound { IfSome result (λ n. n ≤ length piece.now) }
+        ensures tells { Becomes (told self.old) (told self.new) (λ t. after_write t result piece.now) };
+}

@@ -1,0 +1,97 @@
+//! The words of the clauses of each directive.
+
+ghost use Rattle.std.specs.Prelude.{◌≡◌};
+ghost use Rattle.acc_script.specs.Grammar.{Grammar, enter_grammar, exit_grammar, update_grammar};
+
+use crate::read::tokens::is_text;
+use acc_base::{EnterClause, ExitClause, UpdateClause};
+
+/// The clauses of a directive.
+pub trait Clause: Copy {
+    /// The words of the clauses, their modifiers, and the options.
+    ghost grammar: { Grammar Self };
+
+    /// The clause of a word, where the directive has one.
+    fn from_word(word: &[u8]) -> Option<Self>
+        ensures { result ≡ grammar.clause_of word.now };
+
+    /// The clause with the modifier of a word, where it has such a one.
+    fn with_modifier(self, word: &[u8]) -> Option<Self>
+        ensures { result ≡ grammar.modified self word.now };
+
+    /// The directive has the option `if_present`.
+    fn has_if_present() -> bool
+        ensures { result ≡ grammar.has_if_present };
+}
+
+impl Clause for EnterClause {
+    ghost grammar = { enter_grammar };
+
+    fn from_word(word: &[u8]) -> Option<EnterClause> {
+        if is_text(word, "copyin") {
+            Some(EnterClause::Copyin)
+        } else if is_text(word, "create") {
+            Some(EnterClause::Create { zero: false })
+        } else {
+            None
+        }
+    }
+
+    fn with_modifier(self, word: &[u8]) -> Option<EnterClause> {
+        match self {
+            EnterClause::Copyin if is_text(word, "readonly") => Some(EnterClause::Copyin),
+            EnterClause::Create { .. } if is_text(word, "zero") => {
+                Some(EnterClause::Create { zero: true })
+            }
+            _ => None,
+        }
+    }
+
+    fn has_if_present() -> bool {
+        false
+    }
+}
+
+impl Clause for ExitClause {
+    ghost grammar = { exit_grammar };
+
+    fn from_word(word: &[u8]) -> Option<ExitClause> {
+        if is_text(word, "copyout") {
+            Some(ExitClause::Copyout)
+        } else if is_text(word, "delete") {
+            Some(ExitClause::Delete)
+        } else {
+            None
+        }
+    }
+
+    fn with_modifier(self, _word: &[u8]) -> Option<ExitClause> {
+        None
+    }
+
+    fn has_if_present() -> bool {
+        false
+    }
+}
+
+impl Clause for UpdateClause {
+    ghost grammar = { update_grammar };
+
+    fn from_word(word: &[u8]) -> Option<UpdateClause> {
+        if is_text(word, "self") || is_text(word, "host") {
+            Some(UpdateClause::ToSelf)
+        } else if is_text(word, "device") {
+            Some(UpdateClause::ToDevice)
+        } else {
+            None
+        }
+    }
+
+    fn with_modifier(self, _word: &[u8]) -> Option<UpdateClause> {
+        None
+    }
+
+    fn has_if_present() -> bool {
+        true
+    }
+}

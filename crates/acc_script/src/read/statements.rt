@@ -1,0 +1,226 @@
+//! What a line of a script says.
+
+ghost use Rattle.std.specs.Prelude.{◌≡◌, ◌≤◌, ◌==◌, not, length, IsOk, MatchResult};
+ghost use Rattle.std.specs.List.{list_all, prefix_len};
+ghost use Rattle.acc_script.specs.Reading.{Reads, Gives};
+ghost use Rattle.acc_script.specs.Statements.{length_at, array_at, write_at, last_bytes_at, last_section_at, last_address_at, question_at, statement_at, takes_memory, is_text_byte, hash, before_comment, line_at};
+ghost use Rattle.acc_script.specs.Meanings.{meaning_of};
+ghost use Rattle.acc_script.specs.Bytes.{bytes_of};
+
+use crate::arrays::{Array, Arrays};
+use crate::read::Trouble;
+use crate::read::directives::{enter_at, exit_at, update_at};
+use crate::read::places::{address_at, section_at};
+use crate::read::tokens::{bytes_of, check_bytes, is_at_end, is_text, name_at, number_at, word_at};
+use acc_base::{List, ScriptFault, Section};
+use acc_table::Directive;
+use std::alloc::Global;
+
+/// How many bytes a line may have.
+const LINE_LIMIT: usize = 4096;
+
+/// What a line asks for.
+#[derive(Debug, Drop)]
+pub enum Statement<'a> {
+    /// Nothing.
+    Blank,
+    /// A new array.
+    Declare {
+        /// Its name.
+        name: &'a [u8],
+        /// Where it lies.
+        array: Array,
+    },
+    /// A directive.
+    Direct(Directive),
+    /// A write into host memory, as the host does it.
+    Write {
+        /// The first host address.
+        addr: u64,
+        /// The bytes.
+        bytes: List<u8>,
+    },
+    /// The bytes of a section of host memory.
+    Show(Section),
+    /// The bytes that the device has of a section.
+    Peek(Section),
+    /// Whether a section is present.
+    Present(Section),
+    /// The device address of a host address.
+    Address(u64),
+    /// The report.
+    Report,
+}
+
+/// What a line asks for, or its first fault.
+#[tactic(auto, unfolding(crate::specs::Statements::line_at))]
+pub fn line_at<'a>(alloc: Global, arrays: &Arrays, line: &'a [u8]) -> Result<Statement<'a>, Trouble>
+    ensures { Gives takes_memory meaning_of result (line_at arrays.now line.now) }
+{
+    if line.len() > LINE_LIMIT {
+        return Err(Trouble::Line(ScriptFault::TooLong));
+    }
+    let text = before_comment(line);
+    if !has_text_bytes(text) {
+        return Err(Trouble::Line(ScriptFault::NotText));
+    }
+    if is_at_end(text) {
+        return Ok(Statement::Blank);
+    }
+    statement_at(alloc, arrays, text)
+}
+
+/// What stands before a comment.
+fn before_comment(line: &[u8]) -> &[u8]
+    ensures { result.now ≡ before_comment line.now }
+{
+    let (text, _) = line.split_at(comment_place(line));
+    text
+}
+
+/// How many bytes stand before a comment.
+fn comment_place(line: &[u8]) -> usize
+    ensures count { result ≡ prefix_len (λ b. not (b == hash)) line.now }
+    ensures bound { result ≤ length line.now }
+{
+    line.iter().take_while(|b| **b != b'#').count()
+}
+
+/// The byte may stand before a comment.
+fn is_text_byte(b: u8) -> bool
+    ensures { result ≡ is_text_byte b }
+{
+    b == b'\t' || (b' ' <= b && b <= b'~')
+}
+
+/// Each of the bytes may stand before a comment.
+fn has_text_bytes(bytes: &[u8]) -> bool
+    ensures { result ≡ list_all is_text_byte bytes.now }
+{
+    bytes.iter().all(|b| is_text_byte(*b))
+}
+
+/// A statement, by its first word.
+#[tactic(auto, unfolding(crate::specs::Statements::statement_at))]
+fn statement_at<'a>(
+    alloc: Global,
+    arrays: &Arrays,
+    text: &'a [u8],
+) -> Result<Statement<'a>, Trouble>
+    ensures { Gives takes_memory meaning_of result (statement_at arrays.now text.now) }
+{
+    let (word, rest) = word_at(text)?;
+    if is_text(word, "array") {
+        Ok(array_at(arrays, rest)?)
+    } else if is_text(word, "enter") {
+        enter_at(alloc, arrays, rest)
+    } else if is_text(word, "exit") {
+        exit_at(alloc, arrays, rest)
+    } else if is_text(word, "update") {
+        update_at(alloc, arrays, rest)
+    } else if is_text(word, "write") {
+        write_at(alloc, arrays, rest)
+    } else {
+        Ok(question_at(word, arrays, rest)?)
+    }
+}
+
+/// A question, by its word.
+#[tactic(auto, unfolding(crate::specs::Statements::question_at))]
+fn question_at(word: &[u8], arrays: &Arrays, text: &[u8]) -> Result<Statement<'static>, ScriptFault>
+    ensures { Reads meaning_of result (question_at word.now arrays.now text.now) }
+{
+    if is_text(word, "show") {
+        Ok(Statement::Show(last_section_at(arrays, text)?))
+    } else if is_text(word, "peek") {
+        Ok(Statement::Peek(last_section_at(arrays, text)?))
+    } else if is_text(word, "present") {
+        Ok(Statement::Present(last_section_at(arrays, text)?))
+    } else if is_text(word, "address") {
+        Ok(Statement::Address(last_address_at(arrays, text)?))
+    } else if is_text(word, "report") && is_at_end(text) {
+        Ok(Statement::Report)
+    } else {
+        Err(ScriptFault::Syntax)
+    }
+}
+
+/// A section, up to the end of the line.
+#[tactic(auto, unfolding(crate::specs::Statements::last_section_at))]
+fn last_section_at(arrays: &Arrays, text: &[u8]) -> Result<Section, ScriptFault>
+    ensures { Reads (λ x. x) result (last_section_at arrays.now text.now) }
+{
+    let (section, rest) = section_at(arrays, text)?;
+    if !is_at_end(rest) {
+        return Err(ScriptFault::Syntax);
+    }
+    Ok(section)
+}
+
+/// An address, up to the end of the line.
+#[tactic(auto, unfolding(crate::specs::Statements::last_address_at))]
+fn last_address_at(arrays: &Arrays, text: &[u8]) -> Result<u64, ScriptFault>
+    ensures { Reads (λ x. x) result (last_address_at arrays.now text.now) }
+{
+    let (addr, rest) = address_at(arrays, text)?;
+    if !is_at_end(rest) {
+        return Err(ScriptFault::Syntax);
+    }
+    Ok(addr)
+}
+
+/// The name and the length of a new array.
+#[tactic(auto, unfolding(crate::specs::Statements::array_at))]
+fn array_at<'a>(arrays: &Arrays, text: &'a [u8]) -> Result<Statement<'a>, ScriptFault>
+    ensures { Reads meaning_of result (array_at arrays.now text.now) }
+{
+    let (name, rest) = name_at(text)?;
+    if arrays.get(name).is_some() {
+        return Err(ScriptFault::NameTaken);
+    }
+    length_at(name, arrays, rest)
+}
+
+/// The length of a new array, up to the end of the line.
+#[tactic(auto, unfolding(crate::specs::Statements::length_at))]
+fn length_at<'a>(name: &'a [u8], arrays: &Arrays, text: &[u8]) -> Result<Statement<'a>, ScriptFault>
+    ensures { Reads meaning_of result (length_at name.now arrays.now text.now) }
+{
+    let (len, rest) = number_at(u32::MAX, text)?;
+    if len == 0 {
+        return Err(ScriptFault::Number);
+    }
+    if !is_at_end(rest) {
+        return Err(ScriptFault::Syntax);
+    }
+    match arrays.next_array(len) {
+        None => Err(ScriptFault::HostFull),
+        Some(array) => Ok(Statement::Declare { name, array }),
+    }
+}
+
+/// The address and the bytes of a write.
+#[tactic(auto, unfolding(crate::specs::Statements::write_at), using(crate::proofs::ByteWords::write_wants))]
+fn write_at(alloc: Global, arrays: &Arrays, text: &[u8]) -> Result<Statement<'static>, Trouble>
+    ensures { Gives takes_memory meaning_of result (write_at arrays.now text.now) }
+{
+    let (addr, rest) = address_at(arrays, text)?;
+    let word = last_bytes_at(rest)?;
+    let bytes = bytes_of(alloc, word)?;
+    Ok(Statement::Write { addr, bytes })
+}
+
+/// A word that says bytes, up to the end of the line.
+#[tactic(auto, using(crate::proofs::ByteWords::last_faulty, crate::proofs::ByteWords::last_open, crate::proofs::ByteWords::last_said, crate::proofs::ByteWords::no_word))]
+fn last_bytes_at(text: &[u8]) -> Result<&[u8], ScriptFault>
+    ensures { MatchResult result
+        (λ word. IsOk (bytes_of word.now) × (last_bytes_at text.now ≡ bytes_of word.now))
+        (λ kind. last_bytes_at text.now ≡ Err kind) }
+{
+    let (word, rest) = word_at(text)?;
+    check_bytes(word)?;
+    if !is_at_end(rest) {
+        return Err(ScriptFault::Syntax);
+    }
+    Ok(word)
+}

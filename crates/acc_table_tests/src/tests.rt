@@ -1,0 +1,278 @@
+//! What no clause says: that calls succeed, that the definitions say what is meant, and that a refused growth leaves
+//! the table as it was. What a script can say is a row of the script tests.
+
+use acc_base::{
+    Config, Counters, Did, EnterClause, ExitClause, Fault, Found, Item, List, Section, Step,
+    UpdateClause,
+};
+use acc_table::{Answer, Call, Directive, Event, Mapped, Table, Turn};
+use rows::{LIFE, ROWS, WIDE};
+use std::alloc::{AllocError, Global};
+use std::fmt::Debug;
+use std::process::Abort;
+use std::test::Fail;
+
+mod rows;
+
+/// The limits in which rows differ. Both memories have 64 bytes, and one data region may be open.
+#[derive(Clone, Copy)]
+struct Limits {
+    tickets: u64,
+    counter_max: u64,
+    trace_cap: u64,
+}
+
+/// The items of one data clause each: the clause, the first host address and the length.
+type Items<C> = &'static [(C, u64, u64)];
+
+/// What a row asks of a table.
+#[derive(Clone, Copy)]
+enum Ask {
+    Enter(Items<EnterClause>),
+    Exit(Items<ExitClause>),
+    Update(Items<UpdateClause>),
+    UpdateIfPresent(Items<UpdateClause>),
+    Write(u64, &'static [u8]),
+}
+
+/// A query with its answer. A section is given by its first host address and its length.
+#[derive(Clone, Copy)]
+enum Check {
+    Found((u64, u64), Found),
+    Present((u64, u64), bool),
+    Address(u64, Option<u64>),
+    Counted((u64, u64), Option<Counters>),
+    MappedFrom(u64, Option<Mapped>),
+    Host((u64, u64), Option<&'static [u8]>),
+    Device((u64, u64), Option<&'static [u8]>),
+    /// What the first item of the event of this number did.
+    Step(usize, Option<Step>),
+    Used(u64),
+    Events(u64),
+    TicketBook(u64),
+    Regions(u64),
+    RegionBook(u64),
+}
+
+/// Turns on a new table with their answers, and what the table says then.
+struct Row {
+    name: &'static str,
+    limits: Limits,
+    turns: &'static [(Ask, Answer)],
+    checks: &'static [Check],
+}
+
+fn section(at: (u64, u64)) -> Section {
+    let (start, len) = at;
+    Section { start, len }
+}
+
+fn items<C: Copy + Drop>(
+    alloc: Global,
+    listed: &[(C, u64, u64)],
+) -> Result<List<Item<C>>, AllocError> {
+    let mut items = Vec::with_capacity(alloc, listed.len())?;
+    for &(clause, start, len) in listed {
+        let section = Section { start, len };
+        items.push(Item { clause, section })?;
+    }
+    Ok(List::from_vec(items))
+}
+
+fn update(
+    alloc: Global,
+    listed: &[(UpdateClause, u64, u64)],
+    if_present: bool,
+) -> Result<Call, AllocError> {
+    let items = items(alloc, listed)?;
+    Ok(Call::Do(Directive::Update { items, if_present }))
+}
+
+fn write(alloc: Global, addr: u64, bytes: &[u8]) -> Result<Call, AllocError> {
+    let bytes = List::from_vec(Vec::from_slice(alloc, bytes)?);
+    Ok(Call::HostWrite { addr, bytes })
+}
+
+fn enter(alloc: Global, listed: &[(EnterClause, u64, u64)]) -> Result<Call, AllocError> {
+    let items = items(alloc, listed)?;
+    Ok(Call::Do(Directive::EnterData { items }))
+}
+
+fn exit(alloc: Global, listed: &[(ExitClause, u64, u64)]) -> Result<Call, AllocError> {
+    let items = items(alloc, listed)?;
+    Ok(Call::Do(Directive::ExitData { items }))
+}
+
+fn call_of(alloc: Global, ask: Ask) -> Result<Call, AllocError> {
+    match ask {
+        Ask::Enter(listed) => enter(alloc, listed),
+        Ask::Exit(listed) => exit(alloc, listed),
+        Ask::Update(listed) => update(alloc, listed, false),
+        Ask::UpdateIfPresent(listed) => update(alloc, listed, true),
+        Ask::Write(addr, bytes) => write(alloc, addr, bytes),
+    }
+}
+
+fn turn_from(call: Call) -> Turn {
+    match call {
+        Call::Do(directive) => Turn::Do(directive),
+        Call::HostWrite { addr, bytes } => Turn::HostWrite { addr, bytes },
+    }
+}
+
+fn turn_of(alloc: Global, ask: Ask) -> Result<Turn, AllocError> {
+    let call = call_of(alloc, ask)?;
+    Ok(turn_from(call))
+}
+
+fn turns_of(alloc: Global, asked: &[(Ask, Answer)]) -> Result<Vec<Turn>, AllocError> {
+    let mut turns = Vec::new(alloc);
+    for &(ask, _) in asked {
+        turns.push(turn_of(alloc, ask)?)?;
+    }
+    Ok(turns)
+}
+
+fn table_of(alloc: Global, limits: Limits) -> Result<Table, Fault> {
+    let Limits {
+        tickets,
+        counter_max,
+        trace_cap,
+    } = limits;
+    let config = Config::new(64, 64, 1, tickets, counter_max, 1, trace_cap)?;
+    Table::new(alloc, config)
+}
+
+fn did_first(event: &Event) -> Option<Step> {
+    let did: &List<Did> = match event {
+        Event::EnteredData { did, .. } => did,
+        Event::ExitedData { did, .. } => did,
+        Event::Updated { did, .. } => did,
+        Event::HostWritten { .. } => return None,
+    };
+    match did.as_slice() {
+        [] => None,
+        [first, ..] => Some(first.step),
+    }
+}
+
+fn step_at(trace: &[Event], number: usize) -> Option<Step> {
+    match trace.get(number) {
+        Some(event) => did_first(event),
+        None => None,
+    }
+}
+
+/// Ends the test where the answer is not the one that is wanted.
+fn same<T: PartialEq + Debug + Copy>(rt: &impl Abort, row: &str, found: T, wanted: T) {
+    assert_eq!(rt; found, wanted, "{row}");
+}
+
+fn same_bytes(rt: &impl Abort, row: &str, found: Option<&[u8]>, wanted: Option<&[u8]>) {
+    assert_eq!(rt; found, wanted, "{row}");
+}
+
+fn answered(rt: &impl Abort, row: &Row, answers: &[Answer]) {
+    same(rt, row.name, answers.len(), row.turns.len());
+    for (&answer, &(_, wanted)) in answers.iter().zip(row.turns) {
+        same(rt, row.name, answer, wanted);
+    }
+}
+
+fn check_one(rt: &impl Abort, row: &str, table: &Table, check: Check) {
+    match check {
+        Check::Found(at, wanted) => same(rt, row, table.find(section(at)), wanted),
+        Check::Present(at, wanted) => same(rt, row, table.is_present(section(at)), wanted),
+        Check::Address(address, wanted) => same(rt, row, table.device_address(address), wanted),
+        Check::Counted(at, wanted) => same(rt, row, table.counters(section(at)), wanted),
+        Check::MappedFrom(from, wanted) => same(rt, row, table.mapped(from), wanted),
+        Check::Step(number, wanted) => same(rt, row, step_at(table.trace(), number), wanted),
+        Check::Host(at, wanted) => same_bytes(rt, row, table.host_read(section(at)), wanted),
+        Check::Device(at, wanted) => same_bytes(rt, row, table.device_read(section(at)), wanted),
+        Check::Used(wanted) => same(rt, row, table.used(), wanted),
+        Check::Events(wanted) => same(rt, row, table.events(), wanted),
+        Check::TicketBook(wanted) => same(rt, row, table.ticket_book(), wanted),
+        Check::Regions(wanted) => same(rt, row, table.regions(), wanted),
+        Check::RegionBook(wanted) => same(rt, row, table.region_book(), wanted),
+    }
+}
+
+fn check_all(rt: &impl Abort, row: &Row, table: &Table) {
+    for &check in row.checks {
+        check_one(rt, row.name, table, check);
+    }
+}
+
+/// Takes the turns of a row on a new table, and compares what the table answers and says.
+fn run_row(rt: &(impl Abort + AllocGlobal), row: &Row) -> Result<(), Fault> {
+    let mut table = table_of(rt.alloc(), row.limits)?;
+    let turns = turns_of(rt.alloc(), row.turns)?;
+    let answers = table.run(turns)?;
+    answered(rt, row, &answers);
+    check_all(rt, row, &table);
+    Ok(())
+}
+
+#[test]
+fn each_row_is_answered_and_reported(rt: HostRuntime) -> Result<(), Fail> {
+    for row in &ROWS {
+        run_row(&rt, row)?;
+    }
+    Ok(())
+}
+
+/// Makes what may want memory, and once more where the first time wanted it.
+fn twice(alloc: Global, ask: Ask) -> Result<Call, AllocError> {
+    match call_of(alloc, ask) {
+        Ok(call) => Ok(call),
+        Err(_) => call_of(alloc, ask),
+    }
+}
+
+/// What a refused call may not change.
+fn told(table: &Table) -> (u64, u64, Option<Mapped>) {
+    (table.events(), table.used(), table.mapped(0))
+}
+
+/// The call came back for want of memory: nothing changed, and it is accepted now.
+fn retry(
+    rt: &impl Abort,
+    table: &mut Table,
+    before: (u64, u64, Option<Mapped>),
+    back: (Call, Fault),
+) {
+    let (call, fault) = back;
+    same(rt, "a refused growth", fault, Fault::Memory);
+    same(rt, "a refused growth", told(table), before);
+    let accepted = table.apply(call).is_ok();
+    same(rt, "a refused growth", accepted, true);
+}
+
+/// Makes a call, and once more where memory is refused.
+fn apply_twice(rt: &impl Abort, table: &mut Table, call: Call) {
+    let before = told(table);
+    if let Err(back) = table.apply(call) {
+        retry(rt, table, before, back);
+    }
+}
+
+fn live(rt: &(impl Abort + AllocGlobal), table: &mut Table) -> Result<(), AllocError> {
+    for &ask in LIFE {
+        let call = twice(rt.alloc(), ask)?;
+        apply_twice(rt, table, call);
+    }
+    Ok(())
+}
+
+/// To be run with each allocation failing in turn: what is made here is made a second time where the first failed.
+#[test]
+fn a_refused_growth_changes_nothing(rt: HostRuntime) -> Result<(), Fail> {
+    let mut table = match table_of(rt.alloc(), WIDE) {
+        Ok(table) => table,
+        Err(_) => table_of(rt.alloc(), WIDE)?,
+    };
+    live(&rt, &mut table)?;
+    same(&rt, "a refused growth", table.events(), 6);
+    same(&rt, "a refused growth", table.used(), 0);
+    Ok(())
+}

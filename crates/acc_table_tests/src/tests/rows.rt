@@ -1,0 +1,262 @@
+//! Rows: turns on a new table with their answers, and what the table says then. Each value is worked out by hand from
+//! OpenACC 3.3, sections 2.6 and 2.7, and the documents of this project.
+
+use crate::tests::Ask::{Enter, Exit, Update, UpdateIfPresent, Write};
+use crate::tests::Check::{
+    Address, Counted, Device, Events, Found as Finds, Host, MappedFrom, Present, RegionBook,
+    Regions, Step as Did, TicketBook, Used,
+};
+use crate::tests::{Ask, Limits, Row};
+use Answer::Refused;
+use acc_base::EnterClause::{Copyin, Create};
+use acc_base::ExitClause::{Copyout, Delete};
+use acc_base::UpdateClause::{ToDevice, ToSelf};
+use acc_base::{Counters, DEVICE_BASE, Fault, Found, HOST_BASE, Step};
+use acc_table::{Answer, Mapped};
+
+/// Limits that no turn reaches.
+pub const WIDE: Limits = Limits {
+    tickets: 100,
+    counter_max: 100,
+    trace_cap: 100,
+};
+
+const A: u64 = HOST_BASE;
+
+const DEVICE: u64 = DEVICE_BASE;
+
+const DONE: Answer = Answer::Replied {
+    number: 0,
+    count: 0,
+};
+
+/// A whole life of an array, and of a second one.
+pub const LIFE: &[Ask] = &[
+    Write(A, &[1, 2]),
+    Enter(&[(Copyin, A, 16)]),
+    Enter(&[(Create { zero: true }, A + 16, 16)]),
+    Update(&[(ToSelf, A + 16, 2)]),
+    Exit(&[(Copyout, A + 16, 16)]),
+    Exit(&[(Delete, A, 16)]),
+];
+
+pub const ROWS: [Row; 8] = [
+    Row {
+        name: "one ticket makes one event, and is told before the items are counted",
+        limits: Limits { tickets: 1, ..WIDE },
+        turns: &[
+            (Enter(&[(Copyin, A, 16)]), DONE),
+            (
+                Enter(&[(Copyin, A, 16)]),
+                Refused(Fault::NoTickets { left: 0 }),
+            ),
+            (
+                Exit(&[(Delete, A, 16), (Delete, A, 16)]),
+                Refused(Fault::NoTickets { left: 0 }),
+            ),
+            (Write(0, &[]), Refused(Fault::NoTickets { left: 0 })),
+        ],
+        checks: &[Events(1), TicketBook(0), Used(16)],
+    },
+    Row {
+        name: "a full trace takes no event, and is told before the items are judged",
+        limits: Limits {
+            trace_cap: 2,
+            ..WIDE
+        },
+        turns: &[
+            (Enter(&[(Copyin, A, 16)]), DONE),
+            (Enter(&[(Copyin, A, 16)]), DONE),
+            (
+                Enter(&[(Copyin, A + 8, 16)]),
+                Refused(Fault::TraceFull { len: 2 }),
+            ),
+            (Write(A, &[1]), Refused(Fault::TraceFull { len: 2 })),
+        ],
+        checks: &[Events(2), TicketBook(98), Host((A, 1), Some(&[0]))],
+    },
+    Row {
+        name: "a directive has one item at most, which is told before a full trace",
+        limits: Limits {
+            trace_cap: 1,
+            ..WIDE
+        },
+        turns: &[
+            (
+                Enter(&[(Copyin, A, 16), (Copyin, A, 16)]),
+                Refused(Fault::TooManyItems { n: 2 }),
+            ),
+            (Exit(&[]), DONE),
+            (
+                Update(&[(ToSelf, A, 1), (ToSelf, A, 1), (ToSelf, A, 1)]),
+                Refused(Fault::TooManyItems { n: 3 }),
+            ),
+            (Exit(&[]), Refused(Fault::TraceFull { len: 1 })),
+        ],
+        checks: &[Events(1), Did(0, None), Used(0)],
+    },
+    Row {
+        name: "a counter stops at its limit",
+        limits: Limits {
+            counter_max: 2,
+            ..WIDE
+        },
+        turns: &[
+            (Enter(&[(Copyin, A, 16)]), DONE),
+            (Enter(&[(Create { zero: false }, A + 4, 4)]), DONE),
+            (
+                Enter(&[(Copyin, A, 16)]),
+                Refused(Fault::CounterFull { item: 0 }),
+            ),
+        ],
+        checks: &[
+            Counted(
+                (A, 16),
+                Some(Counters {
+                    structured: 0,
+                    dynamic: 2,
+                }),
+            ),
+            Events(2),
+        ],
+    },
+    Row {
+        name: "the trace has the step of each event",
+        limits: WIDE,
+        turns: &[
+            (Enter(&[(Copyin, A, 16)]), DONE),
+            (Enter(&[(Create { zero: false }, A + 32, 4)]), DONE),
+            (Enter(&[(Copyin, A + 8, 8)]), DONE),
+            (Update(&[(ToDevice, A + 32, 4)]), DONE),
+            (UpdateIfPresent(&[(ToSelf, A + 48, 4)]), DONE),
+            (Exit(&[(Delete, A, 16)]), DONE),
+            (Exit(&[(Copyout, A, 1)]), DONE),
+            (Exit(&[(Copyout, A, 16)]), DONE),
+            (Write(A, &[1, 2]), DONE),
+        ],
+        checks: &[
+            Did(
+                0,
+                Some(Step::Born {
+                    block: 1,
+                    place: DEVICE,
+                }),
+            ),
+            Did(
+                1,
+                Some(Step::Born {
+                    block: 2,
+                    place: DEVICE + 16,
+                }),
+            ),
+            Did(2, Some(Step::Counted { block: 1 })),
+            Did(3, Some(Step::Moved { block: 2 })),
+            Did(4, Some(Step::Nothing)),
+            Did(
+                5,
+                Some(Step::Dropped {
+                    block: 1,
+                    ended: false,
+                }),
+            ),
+            Did(
+                6,
+                Some(Step::Dropped {
+                    block: 1,
+                    ended: true,
+                }),
+            ),
+            Did(7, Some(Step::Nothing)),
+            Did(8, None),
+            Events(9),
+        ],
+    },
+    Row {
+        name: "each query answers for a mapped section",
+        limits: WIDE,
+        turns: &[
+            (Write(A + 8, &[1, 2, 3, 4]), DONE),
+            (Enter(&[(Copyin, A + 8, 24)]), DONE),
+        ],
+        checks: &[
+            Finds(
+                (A + 10, 2),
+                Found::Inside {
+                    block: 1,
+                    offset: 2,
+                },
+            ),
+            Present((A + 31, 1), true),
+            Address(A + 31, Some(DEVICE + 23)),
+            Counted(
+                (A + 8, 24),
+                Some(Counters {
+                    structured: 0,
+                    dynamic: 1,
+                }),
+            ),
+            MappedFrom(
+                0,
+                Some(Mapped {
+                    start: A + 8,
+                    len: 24,
+                    place: DEVICE,
+                    structured: 0,
+                    dynamic: 1,
+                }),
+            ),
+            Host((A + 7, 3), Some(&[0, 1, 2])),
+            Device((A + 10, 3), Some(&[3, 4, 0])),
+            Used(32),
+            Regions(0),
+            RegionBook(1),
+            TicketBook(98),
+        ],
+    },
+    Row {
+        name: "no query answers for a section that is not inside one range",
+        limits: WIDE,
+        turns: &[
+            (Enter(&[(Copyin, A, 16)]), DONE),
+            (Enter(&[(Copyin, A + 16, 16)]), DONE),
+        ],
+        checks: &[
+            Finds((A + 8, 16), Found::Partly),
+            Finds((A + 32, 16), Found::Absent),
+            Finds((A + 8, 0), Found::Empty),
+            Present((A + 8, 16), false),
+            Present((A + 8, 0), false),
+            Address(A + 32, None),
+            Address(A - 1, None),
+            Counted((A + 8, 16), None),
+            Counted((A + 40, 1), None),
+            MappedFrom(A + 17, None),
+            Device((A + 8, 16), None),
+            Device((A + 8, 0), None),
+            Device((A + 32, 1), None),
+        ],
+    },
+    Row {
+        name: "host memory is read within its ends, and an empty section anywhere",
+        limits: WIDE,
+        turns: &[
+            (
+                Write(A + 61, &[1, 2, 3, 4]),
+                Refused(Fault::OutOfHost { item: 0 }),
+            ),
+            (Write(0, &[]), DONE),
+            (
+                Enter(&[(Copyin, A + 63, 2)]),
+                Refused(Fault::OutOfHost { item: 0 }),
+            ),
+        ],
+        checks: &[
+            Host((A + 60, 4), Some(&[0, 0, 0, 0])),
+            Host((A + 61, 4), None),
+            Host((A - 1, 1), None),
+            Host((0, 0), Some(&[])),
+            Events(1),
+            Did(0, None),
+        ],
+    },
+];

@@ -1,0 +1,35 @@
+//! The words of the command line.
+
+use std::alloc::AllocError;
+use std::env::{self, Env};
+use std::io;
+
+/// Why the words of the command line cannot be had.
+#[derive(Clone, Copy, Debug, PartialEq, Eq)]
+pub enum WordsFault {
+    /// No memory could be had for them.
+    Memory,
+    /// A word is not UTF-8.
+    NotText,
+}
+
+impl From<AllocError> for WordsFault {
+    fn from(_: AllocError) -> WordsFault {
+        WordsFault::Memory
+    }
+}
+
+impl From<io::Error> for WordsFault {
+    fn from(error: io::Error) -> WordsFault {
+        match error.kind() {
+            io::ErrorKind::OutOfMemory => WordsFault::Memory,
+            _ => WordsFault::NotText,
+        }
+    }
+}
+
+/// The words of the command line; the first is the program's name.
+pub fn read_words<R: Env + AllocGlobal>(rt: &R) -> Result<Vec<String>, WordsFault> {
+    let args = env::args(rt)?;
+    Ok(args.collect(rt.alloc())?)
+}

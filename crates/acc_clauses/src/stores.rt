@@ -1,27 +1,27 @@
 //! Everything that a table keeps beside its trace, as one value.
 
-ghost use Rattle.std.specs.Prelude.{◌≡◌, ◌<◌, ◌^◌, [], MatchResult, Ok, Err, IfOk, IfErr, OnOk, MatchOption, IfSome, IfNone, Some, None, length};
+ghost use Rattle.std.specs.Prelude.{◌≡◌, ◌<◌, ◌^◌, [], IfOk, IfErr, OnOk, MatchResult, Ok, Err, IfSome, IfNone, Some, None, length};
 ghost use Rattle.acc_base.specs.declared.faults.Fault.TheVariants.{Memory};
 ghost use Rattle.acc_base.specs.Limits.{IsWithinBounds};
 ghost use Rattle.acc_base.specs.Ranges.{where_is, range_from, structured_of, dynamic_of};
 ghost use Rattle.acc_base.specs.Blocks.{place_of, used_bytes};
 ghost use Rattle.acc_base.specs.Bytes.{bytes_of, host_after_write, after};
+ghost use Rattle.acc_base.specs.Judge.{event_of, plan_of};
+ghost use Rattle.acc_base.specs.Records.{layout_of};
 ghost use Rattle.acc_base.specs.declared.directives.Directive.{Directive};
 ghost use Rattle.acc_base.specs.Accounts.{IsSound};
 ghost use Rattle.acc_host.specs.Host.{bytes_in, IsOutOfHost};
 ghost use Rattle.acc_clauses.specs.Contents.{AreNew};
-ghost use Rattle.acc_base.specs.Records.{layout_of};
-ghost use Rattle.acc_base.specs.Judge.{event_of, plan_of};
-ghost use Rattle.acc_clauses.specs.Planned.{IsPlannedOn};
 ghost use Rattle.acc_clauses.specs.Stored.{IsPlan};
+ghost use Rattle.acc_clauses.specs.Planned.{IsPlannedOn};
 ghost use Rattle.acc_clauses.specs.Acts.{CanWrite, HasPlanRoom};
 
 use crate::heads::finish;
 use crate::parts::Parts;
-use crate::planning;
+use crate::planning::plan;
 use crate::plans::Plan;
 use crate::running::{act_all, lens_of};
-use acc_base::{Config, Counters, Fault, Found, Range, Section};
+use acc_base::{Config, Counters, Directive, Fault, Found, Range, Section};
 use std::alloc::Global;
 use std::marker::Model;
 
@@ -66,21 +66,19 @@ impl Store {
         self.parts.laws();
     }
 
-    /// Judges a directive whole: its first refusal, or what each of its items will do, each judged in what those before
-    /// it leave. On a region's exit the last item acts first. It takes no memory, and nothing changes.
+    /// Judges a directive whole: its first refusal, or the plan of what each of its items will do. It takes no memory, and
+    /// nothing changes.
     ///
     /// # Errors
     ///
-    /// [`Fault::TooManyItems`] above 64 items; [`Fault::NoRegion`] where the region that is left is not open; else the
-    /// first refusal of an item: [`Fault::OutOfHost`], [`Fault::PartlyPresent`], [`Fault::NotPresent`],
-    /// [`Fault::CounterFull`] or [`Fault::DeviceFull`], with the item's place in the directive, counted
-    /// from 0.
-    pub fn plan(&self, directive: &acc_base::Directive) -> Result<Plan, Fault>
-        requires { self.now.state.records.births < 2 ^ 48 }
+    /// `TooManyItems` above 64 items; `NoRegion` where the region is not open; then the first refusal of the items in the
+    /// order in which they act: `OutOfHost`, `PartlyPresent`, `NotPresent`, `CounterFull` or `DeviceFull`.
+    pub fn plan(&self, directive: &Directive) -> Result<Plan, Fault>
+        requires births { self.now.state.records.births < 2 ^ 48 }
         ensures judged { let lay = layout_of self.now.state in MatchResult result (λ p. plan_of self.now.limits directive.now lay ≡ Ok (event_of directive.now lay.register p.dids)) (λ fault. plan_of self.now.limits directive.now lay ≡ Err fault) }
         ensures planned { IfOk result (λ p. IsPlannedOn self.now.limits directive.now (layout_of self.now.state) p) }
     {
-        planning::plan(&self.parts, directive)
+        plan(&self.parts, directive)
     }
 
     /// Makes all room that a plan of this store needs. Nothing else changes, also where it is refused.

@@ -1,6 +1,6 @@
 //! What an open data region holds.
 
-use crate::{Item, RegionClause};
+use crate::{Item, RegionClause, Section};
 
 /// What one item of an open data region counted on entry (OpenACC 3.3, sections 2.6.5 and 2.6.7). The region's exit
 /// undoes that and nothing else.
@@ -10,4 +10,17 @@ pub struct Holding {
     pub item: Item<RegionClause>,
     /// The number of the block whose structured counter it raised, or `None` where it raised none.
     pub block: Option<u64>,
+}
+
+// It stands in the unused places of a list of fixed size: it counted nothing.
+impl Default for Holding {
+    fn default() -> Self {
+        Holding {
+            item: Item {
+                clause: RegionClause::NoCreate,
+                section: Section { start: 0, len: 0 },
+            },
+            block: None,
+        }
+    }
 }

@@ -15,3 +15,4 @@ mod Holding
 mod Entering
 mod Storing
 mod Finishing
+mod Committing

@@ -18,6 +18,8 @@ use Rattle.acc_base.specs.Tasks.{act, records_after_birth, records_after_end, wi
 use Rattle.acc_base.specs.Bytes.{act_state, act_all_state}
 use Rattle.acc_base.specs.History.{AreJudged}
 use Rattle.acc_clauses.specs.declared.acted.Acted.{Acted}
+use Rattle.acc_base.specs.declared.regions.Holding.{Holding}
+use Rattle.acc_clauses.specs.Planned.{holdings_by}
 use Rattle.acc_clauses.specs.Overlays.{tasks_in, dids_in}
 use Rattle.acc_clauses.specs.Contents.{Contents}
 use Rattle.acc_clauses.specs.Acts.{IsJudged, AreKnown, HasRoomFor, IsRoomLeft, birth_of, lens_born}
@@ -93,6 +95,10 @@ rest_done acts i s u h e = let none : drop i acts ≡ [] = drop_all i acts h in 
 -- all lengths are noted behind the last task
 pub lens_done : (acts : List Acted) (i : ℕ) (lens all : List ℕ) → length acts ≤ i → lens ++ lens_born (tasks_in (drop i acts)) (dids_in (drop i acts)) ≡ all → lens ≡ all
 lens_done acts i lens all h e = let none : drop i acts ≡ [] = drop_all i acts h in let same : lens ++ [] ≡ all = rw none at e in sym (append-nil lens) ∙ same
+
+-- all holdings are noted behind the last task
+pub holdings_done : (acts : List Acted) (i : ℕ) (holdings all : List Holding) → length acts ≤ i → holdings ++ holdings_by (tasks_in (drop i acts)) (dids_in (drop i acts)) ≡ all → holdings ≡ all
+holdings_done acts i holdings all h e = let none : drop i acts ≡ [] = drop_all i acts h in let same : holdings ++ [] ≡ all = rw none at e in sym (append-nil holdings) ∙ same
 
 -- ---- the lengths of blocks
 

@@ -7,7 +7,6 @@ use Rattle.acc_base.specs.declared.items.Item.{Item}
 use Rattle.acc_base.specs.declared.items.RegionClause.{RegionClause}
 use Rattle.acc_base.specs.declared.mappings.Range.{Range}
 use Rattle.acc_base.specs.declared.mappings.Found.TheVariants.{Absent}
-use Rattle.acc_base.specs.declared.regions.Holding.{Holding}
 use Rattle.acc_base.specs.declared.tasks.Task.{Task}
 use Rattle.acc_base.specs.declared.tasks.Task.TheVariants.{Enter, Leave, Exit, Move}
 use Rattle.acc_base.specs.declared.events.Step.{Step}
@@ -186,11 +185,17 @@ CanWrite section host = 0 < section.len → is_within section (host_memory (leng
 
 -- ---- the register
 
--- what the head of a plan needs of the register and its room, with what the region of an entry holds
-abbrev pub CanFinish : Head → List Holding → Contents → Type 0
-CanFinish Plain holdings c = ⊤
-CanFinish Entry holdings c = (c.state.register.next < 2 ^ 48) × (region_at c.state.register.next c.state.register.regions ≡ None) × HasRegionRoom (length holdings) c.room
-CanFinish (Leaving number) holdings c = IsSome (region_at number c.state.register.regions)
+-- a region of the next number can be opened with so many holdings
+pub record CanOpen (holdings : ℕ) (c : Contents) : Type 0 where
+  pub next : c.state.register.next < 2 ^ 48
+  pub new : region_at c.state.register.next c.state.register.regions ≡ None
+  pub room : HasRegionRoom holdings c.room
+
+-- what the head of a plan of so many tasks needs of the register and its room
+abbrev pub CanFinish : Head → ℕ → Contents → Type 0
+CanFinish Plain tasks c = ⊤
+CanFinish Entry tasks c = CanOpen tasks c
+CanFinish (Leaving number) tasks c = IsSome (region_at number c.state.register.regions)
 
 -- there is room for all that a plan takes in
 pub record HasPlanRoom (p : Planned) (room : Room) : Type 0 where

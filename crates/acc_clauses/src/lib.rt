@@ -9,6 +9,7 @@ mod acting;
 mod copies;
 mod drafts;
 mod effects;
+mod heads;
 mod judging;
 mod parts;
 mod planning;

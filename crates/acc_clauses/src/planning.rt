@@ -97,8 +97,11 @@ fn head_of(directive: &Directive) -> Head
 /// Judges a directive whole: its first refusal, or what each of its items will do. It takes no memory, and nothing
 /// changes.
 ///
-/// Errors: `TooManyItems` above 64 items; `NoRegion` where the region is not open; then the first refusal of the items in
-/// the order in which they act: `OutOfHost`, `PartlyPresent`, `NotPresent`, `CounterFull` or `DeviceFull`.
+/// # Errors
+///
+/// [`Fault::TooManyItems`] above 64 items; [`Fault::NoRegion`] where the region that is left is not open; else the first
+/// refusal of an item: [`Fault::OutOfHost`], [`Fault::PartlyPresent`], [`Fault::NotPresent`], [`Fault::CounterFull`] or
+/// [`Fault::DeviceFull`], with the item's place in the directive, counted from 0.
 #[tactic(auto, using(crate::proofs::Asking::event_laws))]
 pub(crate) fn plan(parts: &Parts, directive: &Directive) -> Result<Plan, Fault>
     requires births { parts.now.state.records.births < 2 ^ 48 }

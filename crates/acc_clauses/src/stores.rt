@@ -1,21 +1,27 @@
 //! Everything that a table keeps beside its trace, as one value.
 
-ghost use Rattle.std.specs.Prelude.{◌≡◌, IfOk, IfErr, OnOk, MatchOption, IfSome, IfNone, Some, None, length};
+ghost use Rattle.std.specs.Prelude.{◌≡◌, ◌<◌, ◌^◌, [], IfOk, IfErr, OnOk, MatchResult, Ok, Err, IfSome, IfNone, Some, None, length};
 ghost use Rattle.acc_base.specs.declared.faults.Fault.TheVariants.{Memory};
 ghost use Rattle.acc_base.specs.Limits.{IsWithinBounds};
 ghost use Rattle.acc_base.specs.Ranges.{where_is, range_from, structured_of, dynamic_of};
 ghost use Rattle.acc_base.specs.Blocks.{place_of, used_bytes};
-ghost use Rattle.acc_base.specs.Bytes.{bytes_of, host_after_write};
+ghost use Rattle.acc_base.specs.Bytes.{bytes_of, host_after_write, after};
+ghost use Rattle.acc_base.specs.Judge.{event_of, plan_of};
+ghost use Rattle.acc_base.specs.Records.{layout_of};
+ghost use Rattle.acc_base.specs.declared.directives.Directive.{Directive};
 ghost use Rattle.acc_base.specs.Accounts.{IsSound};
 ghost use Rattle.acc_host.specs.Host.{bytes_in, IsOutOfHost};
 ghost use Rattle.acc_clauses.specs.Contents.{AreNew};
 ghost use Rattle.acc_clauses.specs.Stored.{IsPlan};
+ghost use Rattle.acc_clauses.specs.Planned.{IsPlannedOn};
 ghost use Rattle.acc_clauses.specs.Acts.{CanWrite, HasPlanRoom};
 
+use crate::heads::finish;
 use crate::parts::Parts;
+use crate::planning::plan;
 use crate::plans::Plan;
-use crate::running::lens_of;
-use acc_base::{Config, Counters, Fault, Found, Range, Section};
+use crate::running::{act_all, lens_of};
+use acc_base::{Config, Counters, Directive, Fault, Found, Range, Section};
 use std::alloc::Global;
 use std::marker::Model;
 
@@ -60,6 +66,21 @@ impl Store {
         self.parts.laws();
     }
 
+    /// Judges a directive whole: its first refusal, or the plan of what each of its items will do. It takes no memory, and
+    /// nothing changes.
+    ///
+    /// # Errors
+    ///
+    /// `TooManyItems` above 64 items; `NoRegion` where the region is not open; then the first refusal of the items in the
+    /// order in which they act: `OutOfHost`, `PartlyPresent`, `NotPresent`, `CounterFull` or `DeviceFull`.
+    pub fn plan(&self, directive: &Directive) -> Result<Plan, Fault>
+        requires births { self.now.state.records.births < 2 ^ 48 }
+        ensures judged { let lay = layout_of self.now.state in MatchResult result (λ p. plan_of self.now.limits directive.now lay ≡ Ok (event_of directive.now lay.register p.dids)) (λ fault. plan_of self.now.limits directive.now lay ≡ Err fault) }
+        ensures planned { IfOk result (λ p. IsPlannedOn self.now.limits directive.now (layout_of self.now.state) p) }
+    {
+        plan(&self.parts, directive)
+    }
+
     /// Makes all room that a plan of this store needs. Nothing else changes, also where it is refused.
     ///
     /// # Errors
@@ -75,6 +96,24 @@ impl Store {
         self.parts.laws();
         let acts = plan.acts();
         self.parts.reserve(&lens_of(acts), acts.len() as u64)
+    }
+
+    /// Does a plan of this store, for which room was made. It takes no memory and is never refused.
+    pub fn commit(&mut self, plan: &Plan)
+        requires planned { IsPlan self.old plan.now }
+        requires births { self.old.state.records.births < 2 ^ 47 }
+        requires next { self.old.state.register.next < 2 ^ 48 }
+        requires room { HasPlanRoom plan.now self.old.room }
+        ensures limits { self.new.limits ≡ self.old.limits }
+
+        // The state is that after the event of the directive.
+        ensures state { (d : Directive) → IsPlannedOn self.old.limits d (layout_of self.old.state) plan.now → self.new.state ≡ after (event_of d self.old.state.register plan.now.dids) [] self.old.state }
+    {
+        self.parts.laws();
+        let acts = plan.acts();
+        act_all(&mut self.parts, acts);
+        finish(&mut self.parts, plan.head(), acts);
+        self.parts.laws();
     }
 
     /// Writes bytes into host memory from an address on. An empty write may stand anywhere; else each address that is

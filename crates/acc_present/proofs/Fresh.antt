@@ -1,5 +1,5 @@
 -- Blocks above those of all ranges, and blocks that a look-up names.
-use Rattle.std.proofs.Common.{ℕ, ◌≡◌, ◌+◌, ◌<◌, refl, Bool, true, false, cond, List, [], ◌∷◌, Option, Some, None, IsSome, arith}
+use Rattle.std.proofs.Common.{ℕ, ◌≡◌, ◌+◌, ◌<◌, refl, Bool, true, false, cond, List, [], ◌∷◌, Some, None, IsSome, arith}
 use Rattle.std.specs.Prelude.{◌==◌, not, find, nat_lt}
 use Rattle.std.specs.List.{AllByRecursion}
 use Rattle.std.proofs.lemmas.Bool.Decides.{nat_tests}

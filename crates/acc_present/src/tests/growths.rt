@@ -19,6 +19,7 @@ struct View {
     regions: u64,
 }
 
+/// What the table says, with where a section lies.
 fn look(present: &Present, asked: Section) -> View {
     View {
         found: present.find(asked),
@@ -47,7 +48,7 @@ fn maps(present: &mut Present, asked: Section, block: u64) -> bool
     }
 }
 
-/// Maps as many sections of 16 bytes as said, below 64, each apart from the others, and answers whether all were.
+/// Maps so many sections of 16 bytes, at most 64, each apart from the others, and answers whether all were.
 fn maps_all(alloc: Global, count: u64) -> bool {
     let mut present = Present::new(alloc, 2);
     let mut all = true;

@@ -1,4 +1,3 @@
-use Rattle.std.proofs.Common.{◌≡◌}
 use Rattle.acc_present.proofs.Fresh.{fresh_added}
 use Rattle.acc_present.proofs.tests.map.Goals as goal
 

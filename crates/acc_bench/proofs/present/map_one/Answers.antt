@@ -15,5 +15,5 @@ returns-in-Absent c =
     let section : Section = record { start = c.start_at.result; len = 16 } in
     on_ok c.add.result _ _
     (λ (e : c.add.new.self.table ≡ with_ranges old (with_range (bare_range section c.args.index) old.ranges)).
-        subst (λ (t : PresentTable). AllByRecursion (λ r. r.block ≤ c.args.index) t.ranges) (sym e) (one_mapped section c.args.index old.ranges c.requires))
+    subst (λ (t : PresentTable). AllByRecursion (λ r. r.block ≤ c.args.index) t.ranges) (sym e) (one_mapped section c.args.index old.ranges c.requires))
     c.add.ensures.ok

@@ -171,6 +171,20 @@ impl Store {
         self.parts.used()
     }
 
+    /// How many blocks were born so far, of which [`Store::plan`] and [`Store::commit`] say how many may be.
+    pub fn births(&self) -> u64
+        ensures { result ≡ self.now.state.records.births }
+    {
+        self.parts.next_block() - 1
+    }
+
+    /// The number that the next data region gets.
+    pub fn next_region(&self) -> u64
+        ensures { result ≡ self.now.state.register.next }
+    {
+        self.parts.next_region()
+    }
+
     /// How many data regions are open.
     pub fn regions(&self) -> u64
         ensures { result ≡ length self.now.state.register.regions }

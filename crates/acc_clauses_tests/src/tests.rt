@@ -1,0 +1,277 @@
+//! What no clause says: that directives succeed, that the definitions say what is meant, and that a refused growth leaves
+//! the store as it was.
+
+ghost use Rattle.std.specs.Prelude.{◌≡◌, ◌<◌, ◌^◌};
+ghost use Rattle.acc_clauses.specs.Acts.{HasPlanRoom};
+ghost use Rattle.acc_clauses.specs.Stored.{IsPlan};
+
+use acc_base::{
+    Config, Counters, Directive, EnterClause, ExitClause, Fault, Found, Item, List, RegionClause,
+    Section, Step, UpdateClause,
+};
+use acc_clauses::{Plan, Store};
+use rows::{GROWING, ROWS};
+use std::alloc::{AllocError, Global};
+use std::process::Abort;
+use std::test::Fail;
+
+mod rows;
+
+/// The items of one data clause each: the clause, the first host address and the length.
+type Items<C> = &'static [(C, u64, u64)];
+
+/// What a row asks of a store.
+#[derive(Clone, Copy)]
+enum Ask {
+    Enter(Items<RegionClause>),
+    Leave(u64),
+    EnterData(Items<EnterClause>),
+    ExitData(Items<ExitClause>, bool),
+    Update(Items<UpdateClause>),
+}
+
+/// A directive with its answer, or a query with its answer.
+#[derive(Clone, Copy)]
+enum Turn {
+    /// The directive is carried out, and its items did this, in written order.
+    Does(Ask, &'static [Step]),
+    /// The directive is refused.
+    Refused(Ask, Fault),
+    /// Where a section lies, by its first host address and its length.
+    Lies(u64, u64, Found),
+    /// The structured and the dynamic counter of a block's range.
+    Counted(u64, u64, u64),
+    /// How many regions are open.
+    Regions(u64),
+    /// The bytes of the device that blocks take.
+    Used(u64),
+    /// The bytes of host memory from an address on.
+    Host(u64, &'static [u8]),
+}
+
+/// Turns on a new store.
+struct Row {
+    name: &'static str,
+    counter_max: u64,
+    turns: &'static [Turn],
+}
+
+fn items<C: Copy + Drop>(
+    alloc: Global,
+    listed: &[(C, u64, u64)],
+) -> Result<List<Item<C>>, AllocError> {
+    let mut items = Vec::with_capacity(alloc, listed.len())?;
+    for &(clause, start, len) in listed {
+        let section = Section { start, len };
+        items.push(Item { clause, section })?;
+    }
+    Ok(List::from_vec(items))
+}
+
+fn enter(alloc: Global, listed: &[(RegionClause, u64, u64)]) -> Result<Directive, AllocError> {
+    let items = items(alloc, listed)?;
+    Ok(Directive::Enter { items })
+}
+
+fn enter_data(alloc: Global, listed: &[(EnterClause, u64, u64)]) -> Result<Directive, AllocError> {
+    let items = items(alloc, listed)?;
+    Ok(Directive::EnterData { items })
+}
+
+fn exit_data(
+    alloc: Global,
+    listed: &[(ExitClause, u64, u64)],
+    finalize: bool,
+) -> Result<Directive, AllocError> {
+    let items = items(alloc, listed)?;
+    Ok(Directive::ExitData { items, finalize })
+}
+
+fn update(alloc: Global, listed: &[(UpdateClause, u64, u64)]) -> Result<Directive, AllocError> {
+    let items = items(alloc, listed)?;
+    let if_present = false;
+    Ok(Directive::Update { items, if_present })
+}
+
+fn directive_of(alloc: Global, ask: Ask) -> Result<Directive, AllocError> {
+    match ask {
+        Ask::Enter(listed) => enter(alloc, listed),
+        Ask::Leave(number) => Ok(Directive::Exit { number }),
+        Ask::EnterData(listed) => enter_data(alloc, listed),
+        Ask::ExitData(listed, finalize) => exit_data(alloc, listed, finalize),
+        Ask::Update(listed) => update(alloc, listed),
+    }
+}
+
+/// Judges a directive, makes room for it and does it.
+fn carry_out(store: &mut Store, directive: &Directive) -> Result<Plan, Fault>
+    requires births { store.old.state.records.births < 2 ^ 47 }
+    requires next { store.old.state.register.next < 2 ^ 48 }
+{
+    let plan = store.plan(directive)?;
+    store.reserve(&plan)?;
+    store.commit(&plan);
+    Ok(plan)
+}
+
+/// What carrying a directive out answers, where the store has born few enough blocks.
+fn answer(store: &mut Store, directive: &Directive) -> Option<Result<Plan, Fault>> {
+    if store.births() < 1_000 && store.next_region() < 1_000 {
+        Some(carry_out(store, directive))
+    } else {
+        None
+    }
+}
+
+/// The plan has these steps.
+fn has_steps(plan: &Plan, wanted: &[Step]) -> bool {
+    let did = plan.did();
+    did.len() == wanted.len() && did.iter().zip(wanted).all(|(did, step)| did.step == *step)
+}
+
+fn does(store: &mut Store, directive: &Directive, wanted: &[Step]) -> bool {
+    match answer(store, directive) {
+        Some(Ok(plan)) => has_steps(&plan, wanted),
+        Some(Err(_)) => false,
+        None => false,
+    }
+}
+
+fn refuses(store: &mut Store, directive: &Directive, wanted: Fault) -> bool {
+    match answer(store, directive) {
+        Some(Err(fault)) => fault == wanted,
+        Some(Ok(_)) => false,
+        None => false,
+    }
+}
+
+fn has_counted(store: &Store, block: u64, structured: u64, dynamic: u64) -> bool {
+    let wanted = Counters {
+        structured,
+        dynamic,
+    };
+    store.counters(block) == wanted
+}
+
+fn host_has(store: &Store, start: u64, wanted: &[u8]) -> bool {
+    let len = wanted.len() as u64;
+    match store.host_read(Section { start, len }) {
+        Some(bytes) => bytes == wanted,
+        None => false,
+    }
+}
+
+/// The store answers as the turn says.
+fn agrees(alloc: Global, store: &mut Store, turn: Turn) -> Result<bool, AllocError> {
+    match turn {
+        Turn::Does(ask, steps) => {
+            let directive = directive_of(alloc, ask)?;
+            Ok(does(store, &directive, steps))
+        }
+        Turn::Refused(ask, fault) => {
+            let directive = directive_of(alloc, ask)?;
+            Ok(refuses(store, &directive, fault))
+        }
+        Turn::Lies(start, len, found) => Ok(store.find(Section { start, len }) == found),
+        Turn::Counted(block, structured, dynamic) => {
+            Ok(has_counted(store, block, structured, dynamic))
+        }
+        Turn::Regions(regions) => Ok(store.regions() == regions),
+        Turn::Used(used) => Ok(store.used() == used),
+        Turn::Host(start, bytes) => Ok(host_has(store, start, bytes)),
+    }
+}
+
+/// A store whose memories have 64 bytes of host memory and 4096 of device memory.
+fn store_of(alloc: Global, counter_max: u64) -> Result<Store, Fault> {
+    let config = Config::new(64, 4_096, 64, 100, counter_max, 256, 100)?;
+    Store::new(alloc, &config)
+}
+
+/// The first turn that the store does not answer as the row says.
+fn first_difference(alloc: Global, row: &Row) -> Result<Option<usize>, Fault> {
+    let mut store = store_of(alloc, row.counter_max)?;
+    for (place, turn) in row.turns.iter().enumerate() {
+        if !agrees(alloc, &mut store, *turn)? {
+            return Ok(Some(place));
+        }
+    }
+    Ok(None)
+}
+
+#[test]
+fn stores_answer_as_the_rows_say(rt: HostRuntime) -> Result<(), Fail> {
+    for row in &ROWS {
+        assert_eq!(rt; first_difference(rt.alloc(), row)?, None, "{}", row.name);
+    }
+    Ok(())
+}
+
+/// What a refused growth may not change.
+fn told(store: &Store) -> (u64, u64, u64, u64) {
+    (
+        store.births(),
+        store.used(),
+        store.regions(),
+        store.next_region(),
+    )
+}
+
+/// Makes room for a plan, and once more where memory is refused: then nothing may have changed before.
+fn reserve_twice(rt: &impl Abort, store: &mut Store, plan: &Plan)
+    requires { IsPlan store.old plan.now }
+    ensures state { store.new.state ≡ store.old.state }
+    ensures limits { store.new.limits ≡ store.old.limits }
+    ensures room { HasPlanRoom plan.now store.new.room }
+{
+    let before = told(store);
+    let Err(fault) = store.reserve(plan) else {
+        return;
+    };
+    assert_eq!(rt; fault, Fault::Memory);
+    assert_eq!(rt; told(store), before);
+    if store.reserve(plan).is_err() {
+        panic!(rt; "no memory twice");
+    }
+}
+
+/// Carries a directive out, where its room may be refused once.
+fn carry_out_twice(
+    rt: &impl Abort,
+    store: &mut Store,
+    directive: &Directive,
+) -> Result<Plan, Fault>
+    requires births { store.old.state.records.births < 2 ^ 47 }
+    requires next { store.old.state.register.next < 2 ^ 48 }
+{
+    let plan = store.plan(directive)?;
+    reserve_twice(rt, store, &plan);
+    store.commit(&plan);
+    Ok(plan)
+}
+
+/// Carries out a directive of a row, whose list may be refused once, too.
+fn grow(rt: &(impl Abort + AllocGlobal), store: &mut Store, ask: Ask) -> Result<(), Fail> {
+    let directive = match directive_of(rt.alloc(), ask) {
+        Ok(directive) => directive,
+        Err(_) => directive_of(rt.alloc(), ask)?,
+    };
+    assert!(rt; store.births() < 1_000);
+    assert!(rt; store.next_region() < 1_000);
+    carry_out_twice(rt, store, &directive)?;
+    Ok(())
+}
+
+/// To be run with each allocation failing in turn: what is made here is made a second time where the first failed.
+#[test]
+fn a_refused_growth_changes_nothing(rt: HostRuntime) -> Result<(), Fail> {
+    let mut store = match store_of(rt.alloc(), 100) {
+        Ok(store) => store,
+        Err(_) => store_of(rt.alloc(), 100)?,
+    };
+    for ask in GROWING {
+        grow(&rt, &mut store, *ask)?;
+    }
+    assert_eq!(rt; told(&store), (3, 48, 2, 3));
+    Ok(())
+}

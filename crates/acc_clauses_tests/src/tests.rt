@@ -236,11 +236,7 @@ fn reserve_twice(rt: &impl Abort, store: &mut Store, plan: &Plan)
 }
 
 /// Carries a directive out, where its room may be refused once.
-fn carry_out_twice(
-    rt: &impl Abort,
-    store: &mut Store,
-    directive: &Directive,
-) -> Result<Plan, Fault>
+fn carry_out_twice(rt: &impl Abort, store: &mut Store, directive: &Directive) -> Result<Plan, Fault>
     requires births { store.old.state.records.births < 2 ^ 47 }
     requires next { store.old.state.register.next < 2 ^ 48 }
 {

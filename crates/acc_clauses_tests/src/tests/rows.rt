@@ -113,10 +113,7 @@ pub const ROWS: [Row; 9] = [
             ),
             Counters(1, 0, 3),
             Does(Enter(&[(Present, A, 16)]), &[COUNTED_1]),
-            Does(
-                ExitData(&[(ExitClause::Delete, A, 16)], true),
-                &[DROPPED_1],
-            ),
+            Does(ExitData(&[(ExitClause::Delete, A, 16)], true), &[DROPPED_1]),
             Counters(1, 1, 0),
             Does(Leave(1), &[ENDED_1]),
             Used(0),

@@ -20,6 +20,12 @@ new_register = record { regions = []; next = 1 }
 abbrev pub region_at : ℕ → List Region → Option Region
 region_at number regions = find (λ r. r.number == number) regions
 
+-- the number of the open region that was entered last: numbers rise, so it stands last
+abbrev pub newest_region : List Region → Option ℕ
+newest_region [] = None
+newest_region (r ∷ []) = Some r.number
+newest_region (r ∷ s ∷ regions) = newest_region (s ∷ regions)
+
 -- what an open region holds, or nothing where no region of that number is open
 abbrev pub holdings_at : ℕ → List Region → Option (List Holding)
 holdings_at number regions = option_map (λ r. r.holdings) (region_at number regions)

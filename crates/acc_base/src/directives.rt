@@ -1,5 +1,8 @@
 //! What a program asks of the data environment.
 
+ghost use Rattle.std.specs.Prelude.{◌≡◌};
+ghost use Rattle.acc_base.specs.Judge.{item_count};
+
 use crate::{EnterClause, ExitClause, Item, List, RegionClause, UpdateClause};
 
 /// A directive, with the items of its data clauses in written order. They act in that order; on a region's exit they act
@@ -36,4 +39,19 @@ pub enum Directive {
         /// The `if_present` clause: a section that is absent is passed over, and not refused.
         if_present: bool,
     },
+}
+
+impl Directive {
+    /// How many items its clauses name; the exit from a region names none.
+    pub fn item_count(&self) -> usize
+        ensures { result ≡ item_count self.now }
+    {
+        match self {
+            Directive::Enter { items } => items.as_slice().len(),
+            Directive::Exit { .. } => 0,
+            Directive::EnterData { items } => items.as_slice().len(),
+            Directive::ExitData { items, .. } => items.as_slice().len(),
+            Directive::Update { items, .. } => items.as_slice().len(),
+        }
+    }
 }

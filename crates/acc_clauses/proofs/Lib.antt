@@ -8,7 +8,7 @@ pub mod Events
 mod Copying
 mod Moving
 mod Steps
-mod Legal
+pub mod Legal
 mod Changes
 mod Remaining
 mod Holding

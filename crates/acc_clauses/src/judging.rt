@@ -21,8 +21,8 @@ use acc_base::{
     UpdateClause,
 };
 
-// A section that is not empty lies in host memory. Nothing of an empty one is checked.
-fn in_host(parts: &Parts, n: u64, section: Section) -> Result<(), Fault>
+/// A section that is not empty lies in host memory. Nothing of an empty one is checked.
+pub(crate) fn in_host(parts: &Parts, n: u64, section: Section) -> Result<(), Fault>
     ensures { result ≡ in_host parts.now.limits n section }
 {
     let host = Section {

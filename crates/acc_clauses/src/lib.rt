@@ -22,5 +22,6 @@ mod stores;
 mod tasks;
 
 pub use acted::Acted;
+pub use planning::check_items;
 pub use plans::{Head, Plan};
 pub use stores::Store;

@@ -1,13 +1,14 @@
 //! Host memory, the device and the present table as one value.
 
-ghost use Rattle.std.specs.Prelude.{◌≡◌, ◌+◌, ◌++◌, ◌^◌, ◌<◌, ◌≤◌, All, IfOk, IfErr, OnOk, OnErr, IfSome, IfNone, MatchOption, IsSome, None, Some, length};
+ghost use Rattle.std.specs.Prelude.{◌≡◌, ◌+◌, ◌++◌, ◌^◌, ◌<◌, ◌≤◌, ◌↔◌, All, IfOk, IfErr, OnOk, OnErr, IfSome, IfNone, MatchOption, IsSome, None, Some, length};
 ghost use Rattle.acc_base.specs.declared.faults.Fault.TheVariants.{Memory};
 ghost use Rattle.acc_base.specs.Limits.{IsFromOne, IsWithinBounds};
 ghost use Rattle.acc_base.specs.declared.addresses.TheConstants.{MEMORY_MAX};
 ghost use Rattle.acc_base.specs.Section.{device_base};
+ghost use Rattle.acc_base.specs.Holes.{IsDevice};
 ghost use Rattle.acc_base.specs.Ranges.{where_is, where_is_apart, range_of, range_from, structured_of, dynamic_of, counter_of, start_of};
-ghost use Rattle.acc_base.specs.Blocks.{rounded, place_of, place_for, used_bytes};
-ghost use Rattle.acc_base.specs.Register.{holdings_at, region_at, opened, closed};
+ghost use Rattle.acc_base.specs.Blocks.{rounded, block_at, place_of, place_for, used_bytes};
+ghost use Rattle.acc_base.specs.Register.{holdings_at, region_at, newest_region, opened, closed};
 ghost use Rattle.acc_base.specs.Bytes.{bytes_of, act_state, host_after_write};
 ghost use Rattle.acc_host.specs.Host.{bytes_in, IsOutOfHost};
 ghost use Rattle.acc_placement.specs.Ranges.{IsTakeBelow};
@@ -189,6 +190,13 @@ impl Parts {
         self.present.regions()
     }
 
+    /// The number of the open region that was entered last, if one is open.
+    pub(crate) fn newest_region(&self) -> Option<u64>
+        ensures { result ≡ newest_region self.now.state.register.regions }
+    {
+        self.present.newest_region()
+    }
+
     /// The number that the next region gets.
     pub(crate) fn next_region(&self) -> u64
         ensures { result ≡ self.now.state.register.next }
@@ -208,7 +216,8 @@ impl Parts {
 
     /// The bytes of a block. `None` exactly where there is no such block.
     pub(crate) fn bytes(&self, block: u64) -> Option<&[u8]>
-        ensures { IfSome result (λ bytes. bytes.now ≡ bytes_of block self.now.state.memories) }
+        ensures there { IsSome result ↔ IsSome (block_at block self.now.state.records.blocks) }
+        ensures bytes { IfSome result (λ bytes. bytes.now ≡ bytes_of block self.now.state.memories) }
     {
         if self.device.has(block) {
             self.device.bytes(block)
@@ -229,6 +238,7 @@ impl Parts {
         ensures sound { AreContentsSound self.now }
         ensures limits { IsWithinBounds self.now.limits }
         ensures used { used_bytes self.now.state.records.blocks ≤ self.now.limits.device }
+        ensures holes { IsDevice self.now.limits.device self.now.state.records.blocks }
     {
         self.config.laws();
         self.device.laws();

@@ -1,12 +1,10 @@
 //! A directive is judged whole, without memory and without a change.
 
-ghost use Rattle.std.specs.Prelude.{◌≡◌, ◌<◌, ◌≤◌, ◌^◌, nat_lt, MatchResult, IfOk, length, Ok, Err};
+ghost use Rattle.std.specs.Prelude.{◌≡◌, ◌<◌, ◌≤◌, ◌^◌, MatchResult, IfOk, length, Ok, Err};
 ghost use Rattle.std.specs.List.{AllByRecursion};
-ghost use Rattle.acc_base.specs.declared.faults.Fault.TheVariants.{TooManyItems};
-ghost use Rattle.acc_base.specs.Results.{refuse_if};
 ghost use Rattle.acc_base.specs.Records.{layout_of};
 ghost use Rattle.acc_base.specs.Tasks.{judge_all};
-ghost use Rattle.acc_base.specs.Judge.{item_limit, event_of, plan_of};
+ghost use Rattle.acc_base.specs.Judge.{few_items, event_of, plan_of};
 ghost use Rattle.acc_clauses.specs.Overlays.{IsPlanned, AreUnmixed, tasks_in, dids_in};
 ghost use Rattle.acc_clauses.specs.Planned.{HasFewHoldings, asked_of, head_of, IsPlannedOn};
 
@@ -39,11 +37,19 @@ fn judge_all(parts: &Parts, tasks: &[Task]) -> Result<Draft, Fault>
     Ok(draft)
 }
 
-// No more than 64 items.
-fn few(n: usize) -> Result<(), Fault>
-    ensures { result ≡ refuse_if (nat_lt item_limit n) (TooManyItems n) }
+/// How many items a directive may name.
+const ITEM_LIMIT: usize = 64;
+
+/// The directive names no more items than it may. [`crate::Store::plan`] tells this before all else.
+///
+/// # Errors
+///
+/// [`Fault::TooManyItems`] above 64 items.
+pub fn check_items(directive: &Directive) -> Result<(), Fault>
+    ensures { result ≡ few_items directive.now }
 {
-    if n > 64 {
+    let n = directive.item_count();
+    if n > ITEM_LIMIT {
         return Err(Fault::TooManyItems { n: n as u64 });
     }
     Ok(())
@@ -57,27 +63,16 @@ fn tasks_of(parts: &Parts, directive: &Directive) -> Result<ArrayVec<Task, 64>, 
     ensures unmixed { IfOk result (λ tasks. AreUnmixed tasks.items) }
     ensures few { IfOk result (λ tasks. length tasks.items ≤ 64) }
 {
+    check_items(directive)?;
     match directive {
-        Directive::Enter { items } => {
-            few(items.as_slice().len())?;
-            Ok(enter_tasks(items.as_slice()))
-        }
+        Directive::Enter { items } => Ok(enter_tasks(items.as_slice())),
         Directive::Exit { number } => match parts.holdings(*number) {
             Some(holdings) => Ok(leaving_tasks(holdings)),
             None => Err(Fault::NoRegion { number: *number }),
         },
-        Directive::EnterData { items } => {
-            few(items.as_slice().len())?;
-            Ok(enter_data_tasks(items.as_slice()))
-        }
-        Directive::ExitData { items, finalize } => {
-            few(items.as_slice().len())?;
-            Ok(exit_tasks(items.as_slice(), *finalize))
-        }
-        Directive::Update { items, if_present } => {
-            few(items.as_slice().len())?;
-            Ok(move_tasks(items.as_slice(), *if_present))
-        }
+        Directive::EnterData { items } => Ok(enter_data_tasks(items.as_slice())),
+        Directive::ExitData { items, finalize } => Ok(exit_tasks(items.as_slice(), *finalize)),
+        Directive::Update { items, if_present } => Ok(move_tasks(items.as_slice(), *if_present)),
     }
 }
 

@@ -1,13 +1,16 @@
 //! Everything that a table keeps beside its trace, as one value.
 
-ghost use Rattle.std.specs.Prelude.{◌≡◌, ◌<◌, ◌^◌, [], IfOk, IfErr, OnOk, MatchResult, Ok, Err, IfSome, IfNone, Some, None, length};
+ghost use Rattle.std.specs.Prelude.{◌≡◌, ◌<◌, ◌^◌, ◌↔◌, [], IfOk, IfErr, OnOk, MatchResult, Ok, Err, IfSome, IfNone, IsSome, length};
 ghost use Rattle.acc_base.specs.declared.faults.Fault.TheVariants.{Memory};
 ghost use Rattle.acc_base.specs.Limits.{IsWithinBounds};
+ghost use Rattle.acc_base.specs.Clauses.{in_host};
+ghost use Rattle.acc_base.specs.Holes.{IsDevice};
 ghost use Rattle.acc_base.specs.Ranges.{where_is, range_from, structured_of, dynamic_of};
-ghost use Rattle.acc_base.specs.Blocks.{place_of, used_bytes};
+ghost use Rattle.acc_base.specs.Blocks.{block_at, place_of, used_bytes};
 ghost use Rattle.acc_base.specs.Bytes.{bytes_of, host_after_write, after};
 ghost use Rattle.acc_base.specs.Judge.{event_of, plan_of};
 ghost use Rattle.acc_base.specs.Records.{layout_of};
+ghost use Rattle.acc_base.specs.Register.{newest_region};
 ghost use Rattle.acc_base.specs.declared.directives.Directive.{Directive};
 ghost use Rattle.acc_base.specs.Accounts.{IsSound};
 ghost use Rattle.acc_host.specs.Host.{bytes_in, IsOutOfHost};
@@ -17,6 +20,7 @@ ghost use Rattle.acc_clauses.specs.Planned.{IsPlannedOn};
 ghost use Rattle.acc_clauses.specs.Acts.{CanWrite, HasPlanRoom};
 
 use crate::heads::finish;
+use crate::judging::in_host;
 use crate::parts::Parts;
 use crate::planning::plan;
 use crate::plans::Plan;
@@ -58,10 +62,12 @@ impl Store {
         Ok(Store { parts })
     }
 
-    /// The state is sound, and the limits lie within their bounds. Nothing is done.
+    /// The state is sound, the limits lie within their bounds, and blocks and holes are the device, with no address in two
+    /// of them. Nothing is done.
     pub fn laws(&self)
         ensures sound { IsSound self.now.limits self.now.state }
         ensures limits { IsWithinBounds self.now.limits }
+        ensures holes { IsDevice self.now.limits.device self.now.state.records.blocks }
     {
         self.parts.laws();
     }
@@ -114,6 +120,17 @@ impl Store {
         act_all(&mut self.parts, acts);
         finish(&mut self.parts, plan.head(), acts);
         self.parts.laws();
+    }
+
+    /// What the item at place `n` of a list, or a write of the host with place 0, is refused for before all else.
+    ///
+    /// # Errors
+    ///
+    /// [`Fault::OutOfHost`] where the section is not empty and some address of it is outside of host memory.
+    pub fn check_host(&self, n: u64, section: Section) -> Result<(), Fault>
+        ensures { result ≡ in_host self.now.limits n section }
+    {
+        in_host(&self.parts, n, section)
     }
 
     /// Writes bytes into host memory from an address on. An empty write may stand anywhere; else each address that is
@@ -192,6 +209,13 @@ impl Store {
         self.parts.regions()
     }
 
+    /// The number of the open data region that was entered last, if one is open.
+    pub fn newest_region(&self) -> Option<u64>
+        ensures { result ≡ newest_region self.now.state.register.regions }
+    {
+        self.parts.newest_region()
+    }
+
     /// The bytes of a section of host memory. `None` exactly where some address of it is outside of host memory.
     pub fn host_read(&self, section: Section) -> Option<&[u8]>
         ensures part { IfSome result (λ bytes. bytes.now ≡ bytes_in self.now.state.host section) }
@@ -200,9 +224,10 @@ impl Store {
         self.parts.host_read(section)
     }
 
-    /// The bytes of a block, if there is such a block.
+    /// The bytes of a block. `None` exactly where there is no such block.
     pub fn bytes(&self, block: u64) -> Option<&[u8]>
-        ensures { IfSome result (λ bytes. bytes.now ≡ bytes_of block self.now.state.memories) }
+        ensures there { IsSome result ↔ IsSome (block_at block self.now.state.records.blocks) }
+        ensures bytes { IfSome result (λ bytes. bytes.now ≡ bytes_of block self.now.state.memories) }
     {
         self.parts.bytes(block)
     }

@@ -4,7 +4,7 @@ use Rattle.std.specs.Prelude.{◌==◌, not, map, find, filter, option_map, nat_
 use Rattle.std.specs.List.{AllByRecursion, remove}
 use Rattle.std.proofs.lemmas.Bool.Decides.{nat_tests}
 use Rattle.acc_base.specs.declared.regions.Holding.{Holding}
-use Rattle.acc_base.specs.Register.{Region, region_at, holdings_at, with_region, without_region}
+use Rattle.acc_base.specs.Register.{Region, region_at, newest_region, holdings_at, with_region, without_region}
 use Rattle.acc_base.specs.Accounts.{EachPair}
 use Rattle.acc_base.proofs.Elements.{EachPair-filter}
 use Rattle.acc_present.specs.declared.register.OpenRegion.{OpenRegion}
@@ -71,6 +71,14 @@ holdings_past number xs i parts past = holdings_map number xs ∙ ap (option_map
         let less : y.number < number = below.0 in
         let t : (y.number == number) ≡ false = grind (arith, nat_tests) in
         rw t (go ys j below.1 (omega arith))
+
+-- the region that stands last was entered last
+pub newest_last : (xs : List OpenRegion) (i : ℕ) (d : OpenRegion) → suc i ≡ length xs → newest_region (map region_of xs) ≡ Some ((get_or xs i d).number)
+newest_last [] i d e = absurd (omega (arith, e))
+newest_last (x ∷ []) zero d e = refl
+newest_last (x ∷ []) (suc i) d e = absurd (omega (arith, e))
+newest_last (x ∷ y ∷ xs) zero d e = absurd (omega (arith, e))
+newest_last (x ∷ y ∷ xs) (suc i) d e = newest_last (y ∷ xs) i d (omega (arith, e))
 
 -- ---- a region more
 

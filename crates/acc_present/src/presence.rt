@@ -3,7 +3,7 @@
 ghost use Rattle.std.specs.Prelude.{◌≡◌, ◌+◌, ◌^◌, ◌<◌, ◌≤◌, ◌↔◌, length, MatchResult, None, Some, Err, IfErr, OnOk, OnErr, MatchOption};
 ghost use Rattle.acc_base.specs.declared.mappings.Counter.TheVariants.{Structured, Dynamic};
 ghost use Rattle.acc_base.specs.Ranges.{where_is, where_is_apart, range_of, range_from, structured_of, dynamic_of, counter_of, with_range, without_range, changed_at, bare_range, risen, fallen, cleared};
-ghost use Rattle.acc_base.specs.Register.{region_at, holdings_at, with_region, without_region};
+ghost use Rattle.acc_base.specs.Register.{region_at, newest_region, holdings_at, with_region, without_region};
 ghost use Rattle.acc_present.specs.Present.{new_table, with_ranges, with_regions, HasRange, HasRegion, IsRoomKept, IsLawful};
 
 use crate::ranges::Mappings;
@@ -282,6 +282,13 @@ impl Present {
         ensures { result ≡ length self.now.table.regions }
     {
         self.register.len()
+    }
+
+    /// The number of the open region that was entered last, if one is open.
+    pub fn newest_region(&self) -> Option<u64>
+        ensures { result ≡ newest_region self.now.table.regions }
+    {
+        self.register.newest()
     }
 
     // ---- room

@@ -1,7 +1,7 @@
 //! The register of open data regions.
 
 ghost use Rattle.std.specs.Prelude.{◌≡◌, ◌+◌, ◌<◌, ◌≤◌, [], ◌∷◌, ◌++◌, length, map, None, Some, IsSome, IfErr, OnOk, OnErr, MatchOption, vec_len, vec_capacity};
-ghost use Rattle.acc_base.specs.Register.{region_at, holdings_at, with_region, without_region};
+ghost use Rattle.acc_base.specs.Register.{region_at, newest_region, holdings_at, with_region, without_region};
 ghost use Rattle.acc_present.specs.Present.{AreNumbered};
 ghost use Rattle.acc_present.specs.Kept.{AreNumbersRising, IsSplitBy, region_of};
 
@@ -38,6 +38,14 @@ fn holdings_of<'a>(regions: &'a [OpenRegion], number: u64) -> Option<&'a [Holdin
     } else {
         None
     }
+}
+
+/// The number of the open region that was entered last, if one is open.
+fn newest_of(regions: &[OpenRegion]) -> Option<u64>
+    ensures { result ≡ newest_region (map region_of regions.now) }
+{
+    let last = regions.len().checked_sub(1)?;
+    Some(regions[last].number)
 }
 
 /// One region more, where there is room for it and none has its number.
@@ -118,6 +126,13 @@ impl Register {
         ensures { result ≡ length self.now.regions }
     {
         self.regions.len() as u64
+    }
+
+    /// The number of the open region that was entered last, if one is open.
+    pub fn newest(&self) -> Option<u64>
+        ensures { result ≡ newest_region self.now.regions }
+    {
+        newest_of(&self.regions)
     }
 
     /// What an open region holds, or `None` where there is none of that number.

@@ -1,27 +1,32 @@
--- What a call asks, and what it may do.
+-- What a call may do, and what it answers.
 use Rattle.std.specs.Prelude.{◌≡◌, MatchResult}
+use Rattle.acc_base.specs.declared.calls.Call.{Call}
+use Rattle.acc_base.specs.declared.events.Event.{Event}
+use Rattle.acc_base.specs.declared.events.Event.TheVariants as events
 use Rattle.acc_base.specs.declared.faults.Fault.{Fault}
 use Rattle.acc_base.specs.declared.faults.Fault.TheVariants.{Memory}
-use Rattle.acc_table.specs.Single.Calls.{World, Request, Do, HostWrite, judge, world_after}
-use Rattle.acc_table.specs.declared.events.Event.{Event}
-use Rattle.acc_table.specs.declared.calls.Call.{Call}
-use Rattle.acc_table.specs.declared.calls.Call.TheVariants as calls
+use Rattle.acc_base.specs.Calls.{World, Verdict, Makes, Idle, judge, world_after}
 use Rattle.acc_table.specs.declared.calls.Reply.{Reply}
-use Rattle.acc_table.specs.declared.calls.Reply.TheVariants.{Done}
+use Rattle.acc_table.specs.declared.calls.Reply.TheVariants.{Done, Entered}
 
--- what the call asks for
-abbrev pub request_of : Call → Request
-request_of (calls.Do directive) = Do directive
-request_of (calls.HostWrite addr bytes) = HostWrite addr bytes
-
--- what a call that made this event answers: no event opens anything
+-- what a call that made this event answers: an entry to a region, its number
 abbrev pub reply_of : Event → Reply
-reply_of e = Done
+reply_of (events.Entered number items did) = Entered number
+reply_of (events.Left number did) = Done
+reply_of (events.EnteredData items did) = Done
+reply_of (events.ExitedData items finalize did) = Done
+reply_of (events.Updated items if_present did) = Done
+reply_of (events.HostWritten addr len) = Done
 
--- the call was judged to make an event, the reply is that event's, and the world is that after it
-abbrev pub IsDone : World → Request → Reply → World → Type 0
-IsDone w request reply v = MatchResult (judge w request) (λ e. (reply ≡ reply_of e) × (v ≡ world_after request e w)) (λ fault. ⊥)
+-- the reply is that of the event, and the world is that after it; no call is idle so far
+abbrev pub IsCarriedOut : World → Call → Verdict → Reply → World → Type 0
+IsCarriedOut w call (Makes e) reply v = (reply ≡ reply_of e) × (v ≡ world_after call e w)
+IsCarriedOut w call Idle reply v = ⊥
+
+-- the call was accepted, and carried out
+abbrev pub IsDone : World → Call → Reply → World → Type 0
+IsDone w call reply v = MatchResult (judge w call) (λ verdict. IsCarriedOut w call verdict reply v) (λ fault. ⊥)
 
 -- the fault is the call's first refusal, or want of memory where there is none
-abbrev pub IsRefusal : World → Request → Fault → Type 0
-IsRefusal w request fault = MatchResult (judge w request) (λ e. fault ≡ Memory) (λ refusal. fault ≡ refusal)
+abbrev pub IsRefusal : World → Call → Fault → Type 0
+IsRefusal w call fault = MatchResult (judge w call) (λ verdict. fault ≡ Memory) (λ refusal. fault ≡ refusal)

@@ -1,12 +1,18 @@
 -- What a table keeps from call to call.
-use Rattle.std.specs.Prelude.{ℕ, ◌≡◌, ◌≤◌}
+use Rattle.std.specs.Prelude.{◌≤◌, ◌*◌, ◌+◌, List}
+use Rattle.acc_base.specs.declared.events.Event.{Event}
 use Rattle.acc_base.specs.Limits.{IsWithinBounds}
-use Rattle.acc_table.specs.Single.Calls.{World, event_count}
-use Rattle.acc_table.specs.Single.Accounts.{IsAccounted}
+use Rattle.acc_base.specs.Accounts.{IsAccounted}
+use Rattle.acc_base.specs.Calls.{World, event_count}
+use Rattle.acc_clauses.specs.Contents.{Contents}
 
--- the limits are within their bounds, the device has the size that they say, the world is accounted for, and there were no more births than events
-pub record IsKept (size : ℕ) (w : World) : Type 0 where
-  pub size_is : size ≡ w.limits.device
+-- the world of a store and a trace
+abbrev pub world_of : Contents → List Event → World
+world_of c trace = record { limits = c.limits; history = record { trace = trace }; state = c.state }
+
+-- the limits are within their bounds, the world is accounted for, and there were at most 64 births and one region to an event
+pub record IsKept (w : World) : Type 0 where
   pub bounds : IsWithinBounds w.limits
   pub accounted : IsAccounted w
-  pub births : w.state.records.births ≤ event_count w.history
+  pub births : w.state.records.births ≤ 64 * event_count w.history
+  pub regions : w.state.register.next ≤ event_count w.history + 1

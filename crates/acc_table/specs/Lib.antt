@@ -1,8 +1,5 @@
-pub mod Single
-pub mod Bounds
-pub mod Stored
-pub mod Planned
 pub mod Kept
 pub mod Calls
+pub mod Making
 pub mod Queries
 pub mod Turns

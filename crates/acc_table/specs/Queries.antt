@@ -10,8 +10,7 @@ use Rattle.acc_base.specs.declared.mappings.Found.TheVariants.{Inside}
 use Rattle.acc_base.specs.Section.{IsWithin, is_empty, is_within, host_memory, host_base, only}
 use Rattle.acc_base.specs.Ranges.{where_is, range_from, dynamic_of, structured_of}
 use Rattle.acc_base.specs.Blocks.{place_of}
-use Rattle.acc_base.specs.Records.{Records, Memory}
-use Rattle.acc_table.specs.Single.Records.{State}
+use Rattle.acc_base.specs.Records.{Records, Memory, State}
 use Rattle.acc_base.specs.Bytes.{bytes_of}
 use Rattle.acc_table.specs.declared.calls.Mapped.{Mapped}
 

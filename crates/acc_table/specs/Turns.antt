@@ -1,29 +1,28 @@
 -- A list of turns, one after the other, with its answers.
 use Rattle.std.specs.Prelude.{◌≡◌, ◌⊎◌, List, [], ◌∷◌, Result, Ok, Err}
-use Rattle.acc_table.specs.declared.events.Event.{Event}
+use Rattle.acc_base.specs.declared.calls.Call.{Call}
+use Rattle.acc_base.specs.declared.calls.Call.TheVariants.{Do, HostWrite}
+use Rattle.acc_base.specs.declared.events.Event.{Event}
 use Rattle.acc_base.specs.declared.faults.Fault.{Fault}
 use Rattle.acc_base.specs.declared.faults.Fault.TheVariants.{Memory}
-use Rattle.acc_table.specs.Single.Calls.{World, Request, Do, HostWrite, judge, world_after}
+use Rattle.acc_base.specs.Calls.{World, Verdict, Makes, Idle, judge, world_after}
 use Rattle.acc_table.specs.declared.calls.Turn.{Turn}
 use Rattle.acc_table.specs.declared.calls.Turn.TheVariants as turns
 use Rattle.acc_table.specs.declared.calls.Reply.{Reply}
-use Rattle.acc_table.specs.declared.calls.Reply.TheVariants.{Done}
+use Rattle.acc_table.specs.declared.calls.Reply.TheVariants.{Done, Entered}
 use Rattle.acc_table.specs.declared.calls.Answer.{Answer}
 use Rattle.acc_table.specs.declared.calls.Answer.TheVariants.{Replied, Refused}
 use Rattle.acc_table.specs.Calls.{reply_of}
 
--- what the turn asks for
-abbrev pub asked_by : Turn → Request
+-- the call that the turn makes
+abbrev pub asked_by : Turn → Call
 asked_by (turns.Do directive) = Do directive
 asked_by (turns.HostWrite addr bytes) = HostWrite addr bytes
 
--- the answer to a turn whose call was replied to so: it opened nothing, and waited for no transfer
+-- the answer to a turn whose call was replied to so: the number of the region that it entered; it waited for no transfer
 abbrev pub answer_to : Reply → Answer
 answer_to Done = Replied 0 0
-
--- the answer to a turn that made this event
-abbrev pub answer_of : Event → Answer
-answer_of e = answer_to (reply_of e)
+answer_to (Entered number) = Replied number 0
 
 -- the turn was refused, and the world stayed
 pub record StaysRefused (w : World) (fault : Fault) (answer : Answer) (next : World) : Type 0 where
@@ -31,14 +30,19 @@ pub record StaysRefused (w : World) (fault : Fault) (answer : Answer) (next : Wo
   pub same : next ≡ w
 
 -- the turn made this event
-pub record IsMade (w : World) (request : Request) (e : Event) (answer : Answer) (next : World) : Type 0 where
-  pub answer_is : answer ≡ answer_of e
-  pub next_is : next ≡ world_after request e w
+pub record IsMade (w : World) (call : Call) (e : Event) (answer : Answer) (next : World) : Type 0 where
+  pub answer_is : answer ≡ answer_to (reply_of e)
+  pub next_is : next ≡ world_after call e w
+
+-- the turn was accepted; no call is idle so far
+abbrev pub IsAccepted : World → Call → Verdict → Answer → World → Type 0
+IsAccepted w call (Makes e) answer next = IsMade w call e answer next
+IsAccepted w call Idle answer next = ⊥
 
 -- the refusal is the answer; where there is none, want of memory may be
-abbrev pub MayAnswer : World → Request → Result Event Fault → Answer → World → Type 0
-MayAnswer w request (Err fault) answer next = StaysRefused w fault answer next
-MayAnswer w request (Ok e) answer next = StaysRefused w Memory answer next ⊎ IsMade w request e answer next
+abbrev pub MayAnswer : World → Call → Result Verdict Fault → Answer → World → Type 0
+MayAnswer w call (Err fault) answer next = StaysRefused w fault answer next
+MayAnswer w call (Ok verdict) answer next = StaysRefused w Memory answer next ⊎ IsAccepted w call verdict answer next
 
 -- the turns lead from one world to another, one after the other, with these answers
 abbrev pub IsRun : World → List Turn → List Answer → World → Type 0

@@ -1,27 +1,17 @@
-//! What a table is asked, and what it answers.
+//! What a table answers, and lists of turns.
 
-use crate::Directive;
-use acc_base::{Fault, List};
-
-/// A call on a table.
-#[derive(Debug, Drop)]
-pub enum Call {
-    /// Carry out a directive.
-    Do(Directive),
-    /// Write into host memory, as the host does. No bytes are accepted at every address.
-    HostWrite {
-        /// The first host address.
-        addr: u64,
-        /// The bytes.
-        bytes: List<u8>,
-    },
-}
+use acc_base::{Directive, Fault, List};
 
 /// What an accepted call answers.
 #[derive(Clone, Copy, Debug, PartialEq, Eq)]
 pub enum Reply {
     /// It is done, and there is nothing more to say.
     Done,
+    /// A data region was entered.
+    Entered {
+        /// The number of the region, by which it is exited. Numbers rise from 1, and none is used twice.
+        number: u64,
+    },
 }
 
 /// One of a list of calls that are made one after the other.
@@ -43,7 +33,7 @@ pub enum Turn {
 pub enum Answer {
     /// It was accepted.
     Replied {
-        /// The number of what it opened, and else 0.
+        /// The number of the region that it entered, and else 0.
         number: u64,
         /// How many transfers it made, where it waited for transfers, and else 0.
         count: u64,

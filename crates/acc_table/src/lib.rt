@@ -1,21 +1,14 @@
 //! The table of an OpenACC 3.3 data runtime on one device with memory of its own: one call is one event or no change.
 //!
 //! A [`Table`] holds both memories, the mapped ranges with their reference counters (OpenACC 3.3, section 2.6.7), the
-//! device blocks, and the trace of all events. Its contracts say what `acc_base` defines.
+//! open data regions, the device blocks, and the trace of all events. Its contracts say what `acc_base` defines.
 #![tactic(auto)]
 
 mod calls;
-mod decisions;
-mod directives;
-mod events;
-mod plans;
+mod making;
 mod queries;
-mod ranges;
 mod runs;
-mod stores;
 mod tables;
 
-pub use calls::{Answer, Call, Mapped, Reply, Turn};
-pub use directives::Directive;
-pub use events::Event;
+pub use calls::{Answer, Mapped, Reply, Turn};
 pub use tables::Table;

@@ -2,14 +2,14 @@
 
 ghost use Rattle.std.specs.Prelude.{◌≡◌, ◌-◌, ◌↔◌, IsTrue, option_map};
 ghost use Rattle.acc_base.specs.Blocks.{used_bytes};
-ghost use Rattle.acc_table.specs.Single.Calls.{event_count};
+ghost use Rattle.acc_base.specs.Calls.{event_count, open_regions};
+ghost use Rattle.acc_base.specs.Register.{newest_region};
 ghost use Rattle.acc_base.specs.Ranges.{where_is, IsPlacedAt};
 ghost use Rattle.acc_table.specs.Queries.{is_inside, IsInsideOne, counters_at, device_address_of, mapped_from, IsLeastFrom, host_read_of, device_read_of};
 
 use crate::calls::Mapped;
 use crate::tables::Table;
-use crate::{Event, ranges};
-use acc_base::{Config, Counters, Found, Section};
+use acc_base::{Config, Counters, Event, Found, Section};
 
 /// The section is inside one range.
 fn is_inside(found: Found) -> bool
@@ -25,7 +25,7 @@ impl Table {
         ensures value { result ≡ where_is section self.now.state.records.ranges }
         ensures addresses { IsPlacedAt section self.now.state.records.ranges result }
     {
-        ranges::locate(&self.store.ranges, section)
+        self.store.find(section)
     }
 
     /// Whether the section is not empty and each of its addresses is in one mapped range.
@@ -33,7 +33,7 @@ impl Table {
         ensures value { result ≡ is_inside (where_is section self.now.state.records.ranges) }
         ensures addresses { IsTrue result ↔ IsInsideOne section self.now.state.records.ranges }
     {
-        is_inside(ranges::locate(&self.store.ranges, section))
+        is_inside(self.store.find(section))
     }
 
     /// The device address that a host address is mapped to, if it is.
@@ -44,8 +44,8 @@ impl Table {
             start: address,
             len: 1,
         };
-        match ranges::locate(&self.store.ranges, only) {
-            Found::Inside { block, offset } => { Some(self.store.place_at(block) + offset) }
+        match self.store.find(only) {
+            Found::Inside { block, offset } => { Some(self.store.place(block) + offset) }
             Found::Empty | Found::Partly | Found::Absent => None,
         }
     }
@@ -55,12 +55,8 @@ impl Table {
     pub fn counters(&self, section: Section) -> Option<Counters>
         ensures { result ≡ counters_at section self.now.state.records }
     {
-        let ranges = &self.store.ranges;
-        match ranges::locate(ranges, section) {
-            Found::Inside { block, .. } => Some(Counters {
-                structured: ranges::structured_at(ranges, block),
-                dynamic: ranges::dynamic_at(ranges, block),
-            }),
+        match self.store.find(section) {
+            Found::Inside { block, .. } => Some(self.store.counters(block)),
             Found::Empty | Found::Partly | Found::Absent => None,
         }
     }
@@ -70,11 +66,11 @@ impl Table {
         ensures value { result ≡ mapped_from from self.now.state.records }
         ensures least { IsLeastFrom from self.now.state.records.ranges result }
     {
-        match ranges::first_from(&self.store.ranges, from) {
+        match self.store.next_range(from) {
             Some(range) => Some(Mapped {
                 start: range.section.start,
                 len: range.section.len,
-                place: self.store.place_at(range.block),
+                place: self.store.place(range.block),
                 structured: range.structured,
                 dynamic: range.dynamic,
             }),
@@ -87,7 +83,7 @@ impl Table {
     pub fn host_read(&self, section: Section) -> Option<&[u8]>
         ensures { option_map (λ bytes. bytes.now) result ≡ host_read_of section self.now.state.host }
     {
-        self.store.host.read(section)
+        self.store.host_read(section)
     }
 
     /// The bytes that the device has of a section, as many as it is long. `None` where the section is not inside one
@@ -95,9 +91,9 @@ impl Table {
     pub fn device_read(&self, section: Section) -> Option<&[u8]>
         ensures { option_map (λ bytes. bytes.now) result ≡ device_read_of section self.now.state }
     {
-        match ranges::locate(&self.store.ranges, section) {
+        match self.store.find(section) {
             Found::Inside { block, offset } => {
-                let bytes = self.store.device.bytes(block)?;
+                let bytes = self.store.bytes(block)?;
                 let from = offset as usize;
                 Some(&bytes[from..from + section.len as usize])
             }
@@ -109,21 +105,28 @@ impl Table {
     pub fn used(&self) -> u64
         ensures { result ≡ used_bytes self.now.state.records.blocks }
     {
-        self.store.device.used()
+        self.store.used()
     }
 
-    /// How many data regions are open: none yet, since no directive opens one.
+    /// How many data regions are open.
     pub fn regions(&self) -> u64
-        ensures { result ≡ 0 }
+        ensures { result ≡ open_regions self.now.state }
     {
-        0
+        self.store.regions()
     }
 
     /// How many more data regions may be opened.
     pub fn region_book(&self) -> u64
-        ensures { result ≡ self.now.limits.regions }
+        ensures { result ≡ self.now.limits.regions - open_regions self.now.state }
     {
-        self.config.regions()
+        self.store.config().regions() - self.store.regions()
+    }
+
+    /// The number of the open data region that was entered last, if one is open.
+    pub fn newest_region(&self) -> Option<u64>
+        ensures { result ≡ newest_region self.now.state.register.regions }
+    {
+        self.store.newest_region()
     }
 
     /// How many events there were in all.
@@ -137,7 +140,7 @@ impl Table {
     pub fn ticket_book(&self) -> u64
         ensures { result ≡ self.now.limits.tickets - event_count self.now.history }
     {
-        self.config.tickets() - self.events()
+        self.store.config().tickets() - self.events()
     }
 
     /// The stored events, in the order in which they came.
@@ -148,9 +151,9 @@ impl Table {
     }
 
     /// The limits.
-    pub fn config(&self) -> &Config
-        ensures { result.now ≡ self.now.limits }
+    pub fn config(&self) -> Config
+        ensures { result ≡ self.now.limits }
     {
-        &self.config
+        self.store.config()
     }
 }

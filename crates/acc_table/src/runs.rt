@@ -2,12 +2,12 @@
 
 ghost use Rattle.std.specs.Prelude.{◌≡◌, IfOk, IfErr};
 ghost use Rattle.acc_base.specs.declared.faults.Fault.TheVariants.{Memory};
-ghost use Rattle.acc_table.specs.Single.Calls.{judge};
+ghost use Rattle.acc_base.specs.Calls.{judge};
 ghost use Rattle.acc_table.specs.Turns.{asked_by, answer_to, MayAnswer, IsRun};
 
-use crate::calls::{Answer, Call, Reply, Turn};
+use crate::calls::{Answer, Reply, Turn};
 use crate::tables::Table;
-use acc_base::Fault;
+use acc_base::{Call, Fault};
 
 /// The answer to a turn whose call was replied to so.
 fn answer_to(reply: Reply) -> Answer
@@ -18,6 +18,7 @@ fn answer_to(reply: Reply) -> Answer
             number: 0,
             count: 0,
         },
+        Reply::Entered { number } => Answer::Replied { number, count: 0 },
     }
 }
 

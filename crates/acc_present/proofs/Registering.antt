@@ -72,6 +72,10 @@ holdings_past number xs i parts past = holdings_map number xs ∙ ap (option_map
         let t : (y.number == number) ≡ false = grind (arith, nat_tests) in
         rw t (go ys j below.1 (omega arith))
 
+pub newest_none : (xs : List OpenRegion) → length xs ≡ 0 → newest_region (map region_of xs) ≡ None
+newest_none [] e = refl
+newest_none (x ∷ xs) e = absurd (omega (arith, e))
+
 -- the region that stands last was entered last
 pub newest_last : (xs : List OpenRegion) (i : ℕ) (d : OpenRegion) → suc i ≡ length xs → newest_region (map region_of xs) ≡ Some ((get_or xs i d).number)
 newest_last [] i d e = absurd (omega (arith, e))

@@ -41,6 +41,7 @@ fn holdings_of<'a>(regions: &'a [OpenRegion], number: u64) -> Option<&'a [Holdin
 }
 
 /// The number of the open region that was entered last, if one is open.
+#[tactic(auto, using(crate::proofs::Registering::newest_last, crate::proofs::Registering::newest_none))]
 fn newest_of(regions: &[OpenRegion]) -> Option<u64>
     ensures { result ≡ newest_region (map region_of regions.now) }
 {

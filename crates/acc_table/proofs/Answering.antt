@@ -1,23 +1,26 @@
 -- What the queries answer, by sets of addresses and within the machine's numbers.
-use Rattle.std.proofs.Common.{ℕ, ◌≡◌, ◌<◌, ◌≤◌, ◌^◌, refl, Bool, true, false, cond, List, [], ◌∷◌, Option, Some, None, arith}
-use Rattle.std.specs.Prelude.{◌↔◌, ◌==◌, nat_le, IsTrue, All, unwrap_or, option_map}
+use Rattle.std.proofs.Common.{ℕ, ◌≡◌, ◌<◌, ◌≤◌, ◌^◌, ◌+◌, ◌-◌, refl, ◌∙◌, ap, subst, Bool, true, false, cond, List, [], ◌∷◌, length, Option, Some, None, arith}
+use Rattle.std.specs.Prelude.{◌↔◌, ◌==◌, nat_le, IsTrue, IsSome, unwrap_or, option_map}
 use Rattle.std.specs.List.{AllByRecursion}
 use Rattle.std.proofs.lemmas.Bool.Decides.{nat_tests}
-use Rattle.std.proofs.lemmas.List.Elements.{recursion_from_All}
 use Rattle.acc_base.specs.declared.items.Section.{Section}
 use Rattle.acc_base.specs.declared.mappings.Range.{Range}
 use Rattle.acc_base.specs.declared.mappings.Block.{Block}
 use Rattle.acc_base.specs.declared.mappings.Found.{Found}
 use Rattle.acc_base.specs.declared.mappings.Found.TheVariants.{Empty, Inside, Partly, Absent}
-use Rattle.acc_base.specs.Section.{is_within, end_of}
-use Rattle.acc_base.specs.Ranges.{where_is, range_from, IsPlacedAt}
+use Rattle.acc_base.specs.Limits.{IsWithinBounds}
+use Rattle.acc_base.specs.Section.{is_within, end_of, host_memory, host_base}
+use Rattle.acc_base.specs.Ranges.{where_is, range_of, range_from, IsPlacedAt}
+use Rattle.acc_base.specs.Records.{State}
+use Rattle.acc_base.specs.Bytes.{bytes_of}
 use Rattle.acc_base.specs.Blocks.{block_at, place_of}
-use Rattle.acc_table.specs.Single.Calls.{World}
-use Rattle.acc_base.specs.Accounts.{EachPair, IsInHost, IsBelow}
-use Rattle.acc_table.specs.Single.Accounts.{IsAccounted}
+use Rattle.acc_base.specs.Calls.{World}
+use Rattle.acc_base.specs.Accounts.{EachPair, IsInHost, IsBelow, IsOnDevice, AreRecordsSound, IsAccounted}
 use Rattle.acc_base.proofs.Elements.{AllByRecursion-weaker, found_has}
+use Rattle.acc_base.proofs.Lookups.{at-own}
 use Rattle.acc_base.proofs.Where.{IsInside, where_is-placed, inside_exactly, IsInsideOf, inside_says}
-use Rattle.acc_table.specs.Bounds.{IsShort, IsLow}
+use Rattle.acc_clauses.specs.Acts.{CanMove}
+use Rattle.acc_clauses.proofs.Legal.{can_move}
 use Rattle.acc_table.specs.declared.calls.Mapped.{Mapped}
 use Rattle.acc_table.specs.Queries.{is_inside, IsInsideOne, mapped_as, mapped_from, IsLeastFrom}
 
@@ -28,7 +31,7 @@ never h = cc
 
 -- no mapped range is empty
 filled : (w : World) → IsAccounted w → AllByRecursion (λ (r : Range). 0 < r.section.len) w.state.records.ranges
-filled w a = AllByRecursion-weaker (λ r. IsInHost w.limits r.section) (λ r. 0 < r.section.len) w.state.records.ranges (λ r i. i.some) a.ranges_apart.in_host
+filled w a = AllByRecursion-weaker (λ r. IsInHost w.limits r.section) (λ r. 0 < r.section.len) w.state.records.ranges (λ r i. i.some) a.sound.layout.records.ranges_apart.in_host
 
 -- in every table a section lies where its addresses say
 pub placed : (w : World) (s : Section) → IsAccounted w → IsPlacedAt s w.state.records.ranges (where_is s w.state.records.ranges)
@@ -65,21 +68,52 @@ first_least address blocks (r ∷ rs) h = go (nat_le address r.section.start) re
 
 -- in every table the first range from an address on is the one of least start
 pub least_from : (w : World) (address : ℕ) → IsAccounted w → IsLeastFrom address w.state.records.ranges (mapped_from address w.state.records)
-least_from w address a = first_least address w.state.records.blocks w.state.records.ranges a.ranges_apart.rising
+least_from w address a = first_least address w.state.records.blocks w.state.records.ranges a.sound.layout.records.ranges_apart.rising
 
 -- ---- device addresses
 
-pub offset_low : (s : Section) (ranges : List Range) (block offset : ℕ) → 0 < s.len → All IsShort ranges → where_is s ranges ≡ Inside block offset → offset < 2 ^ 40
-offset_low s ranges block offset some short e =
-    let found : (r : Range) × IsInsideOf s ranges block offset r = inside_says s ranges block offset e in
-    let has : IsShort found.0 × (is_within s found.0.section ≡ true) = found_has IsShort (λ r. is_within s r.section) ranges found.0 (recursion_from_All IsShort ranges short) found.1.around in
-    let end_low : end_of found.0.section < 2 ^ 40 = has.0.0 in
+pub offset_low : (w : World) (s : Section) (block offset : ℕ) → IsWithinBounds w.limits → IsAccounted w → 0 < s.len → where_is s w.state.records.ranges ≡ Inside block offset → offset < 2 ^ 40
+offset_low w s block offset bounds a some e =
+    let found : (r : Range) × IsInsideOf s w.state.records.ranges block offset r = inside_says s w.state.records.ranges block offset e in
+    let has : IsInHost w.limits found.0.section × (is_within s found.0.section ≡ true) = found_has (λ r. IsInHost w.limits r.section) (λ r. is_within s r.section) w.state.records.ranges found.0 a.sound.layout.records.ranges_apart.in_host found.1.around in
+    let end_low : end_of found.0.section ≤ host_base + w.limits.host = (let t : is_within found.0.section (host_memory w.limits.host) ≡ true = has.0.within in grind (arith, nat_tests)) in
     let within : end_of s ≤ end_of found.0.section = (let t : is_within s found.0.section ≡ true = has.1 in grind (arith, nat_tests)) in
-    omega (arith, found.1.offset_is)
+    omega (arith, found.1.offset_is, bounds.host.1)
 
-pub place_low : (number : ℕ) (blocks : List Block) → All IsLow blocks → place_of number blocks < 2 ^ 41
-place_low number blocks low = go (block_at number blocks) refl
+pub place_low : (w : World) (number : ℕ) → IsWithinBounds w.limits → IsAccounted w → place_of number w.state.records.blocks < 2 ^ 41
+place_low w number bounds a = go (block_at number w.state.records.blocks) refl
   where
-    go : (o : Option Block) → block_at number blocks ≡ o → unwrap_or (option_map (λ b. b.place) o) 0 < 2 ^ 41
+    go : (o : Option Block) → block_at number w.state.records.blocks ≡ o → unwrap_or (option_map (λ b. b.place) o) 0 < 2 ^ 41
     go None e = omega arith
-    go (Some b) e = (found_has IsLow (λ b. b.number == number) blocks b (recursion_from_All IsLow blocks low) e).0.0
+    go (Some b) e =
+        let on : IsOnDevice w.limits.device b = (found_has (IsOnDevice w.limits.device) (λ b. b.number == number) w.state.records.blocks b a.sound.layout.records.blocks_apart.on_device e).0 in
+        omega (arith, on.last, bounds.device.1)
+
+-- ---- the bytes of a block
+
+-- the section's bytes are at that offset of the block's
+pub record IsPartOf (section : Section) (block offset : ℕ) (s : State) : Type 0 where
+  pub there : IsSome (block_at block s.records.blocks)
+  pub fits : offset + section.len ≤ length (bytes_of block s.memories)
+  pub short : length (bytes_of block s.memories) < 2 ^ 40
+
+pub part_of : (w : World) (section : Section) (block offset : ℕ) → IsWithinBounds w.limits → IsAccounted w → where_is section w.state.records.ranges ≡ Inside block offset → IsPartOf section block offset w.state
+part_of w section block offset bounds a e =
+    let ranges : List Range = w.state.records.ranges in
+    let records : AreRecordsSound w.limits w.state.records = a.sound.layout.records in
+    let found : (r : Range) × IsInsideOf section ranges block offset r = inside_says section ranges block offset e in
+    let own : (range_of found.0.block ranges ≡ Some found.0) × (is_within section found.0.section ≡ true) =
+    found_has (λ r. range_of r.block ranges ≡ Some r) (λ r. is_within section r.section) ranges found.0 (at-own (λ (r : Range). r.block) ranges records.one_block_each.distinct) found.1.around in
+    let host : IsInHost w.limits found.0.section × (is_within section found.0.section ≡ true) =
+    found_has (λ r. IsInHost w.limits r.section) (λ r. is_within section r.section) ranges found.0 records.ranges_apart.in_host found.1.around in
+    let is : range_of block ranges ≡ Some found.0 = subst (λ n. range_of n ranges ≡ Some found.0) found.1.block_is own.0 in
+    let move : CanMove section block w.state = can_move w.limits w.state section block records a.sound.memories_sized (record { range = found.0; range_is = is; within = own.1 }) in
+    let same : move.range ≡ found.0 = (let r : range_of block ranges ≡ Some move.range = move.range_is in cc) in
+    let len : length (bytes_of block w.state.memories) ≡ found.0.section.len = move.len ∙ ap (λ (r : Range). r.section.len) same in
+    let bounds_of : (found.0.section.start ≤ section.start) × (end_of section ≤ end_of found.0.section) = (let t : is_within section found.0.section ≡ true = own.1 in grind (arith, nat_tests)) in
+    let in_memory : found.0.section.len ≤ w.limits.host = (let t : is_within found.0.section (host_memory w.limits.host) ≡ true = host.0.within in grind (arith, nat_tests)) in
+    record {
+      there = move.there;
+      fits = omega (arith, len, found.1.offset_is, bounds_of.0, bounds_of.1);
+      short = omega (arith, len, in_memory, bounds.host.1);
+    }

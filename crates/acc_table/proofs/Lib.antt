@@ -1,9 +1,4 @@
-pub mod Single
-pub mod Searches
-pub mod Copying
-pub mod Storing
-pub mod Inside
 pub mod Keeping
-pub mod Planning
+pub mod Making
 pub mod Answering
 pub mod Running

@@ -1,6 +1,6 @@
 -- One turn after the other.
 use Rattle.std.proofs.Common.{refl, subst, List, [], ◌∷◌, ◌++◌}
-use Rattle.acc_table.specs.Single.Calls.{World, judge}
+use Rattle.acc_base.specs.Calls.{World, judge}
 use Rattle.acc_table.specs.declared.calls.Turn.{Turn}
 use Rattle.acc_table.specs.declared.calls.Answer.{Answer}
 use Rattle.acc_table.specs.Turns.{asked_by, MayAnswer, IsRun}

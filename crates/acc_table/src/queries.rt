@@ -119,7 +119,7 @@ impl Table {
     pub fn region_book(&self) -> u64
         ensures { result ≡ self.now.limits.regions - open_regions self.now.state }
     {
-        self.store.config().regions() - self.store.regions()
+        self.config().regions() - self.regions()
     }
 
     /// The number of the open data region that was entered last, if one is open.
@@ -140,7 +140,7 @@ impl Table {
     pub fn ticket_book(&self) -> u64
         ensures { result ≡ self.now.limits.tickets - event_count self.now.history }
     {
-        self.store.config().tickets() - self.events()
+        self.config().tickets() - self.events()
     }
 
     /// The stored events, in the order in which they came.

@@ -2,10 +2,10 @@
 //! the table as it was. What a script can say is a row of the script tests.
 
 use acc_base::{
-    Config, Counters, Did, EnterClause, ExitClause, Fault, Found, Item, List, Section, Step,
-    UpdateClause,
+    Call, Config, Counters, Did, Directive, EnterClause, Event, ExitClause, Fault, Found, Item,
+    List, RegionClause, Section, Step, UpdateClause,
 };
-use acc_table::{Answer, Call, Directive, Event, Mapped, Table, Turn};
+use acc_table::{Answer, Mapped, Table, Turn};
 use rows::{LIFE, ROWS, WIDE};
 use std::alloc::{AllocError, Global};
 use std::fmt::Debug;
@@ -14,9 +14,10 @@ use std::test::Fail;
 
 mod rows;
 
-/// The limits in which rows differ. Both memories have 64 bytes, and one data region may be open.
+/// The limits in which rows differ. Both memories have 64 bytes.
 #[derive(Clone, Copy)]
 struct Limits {
+    regions: u64,
     tickets: u64,
     counter_max: u64,
     trace_cap: u64,
@@ -28,8 +29,11 @@ type Items<C> = &'static [(C, u64, u64)];
 /// What a row asks of a table.
 #[derive(Clone, Copy)]
 enum Ask {
-    Enter(Items<EnterClause>),
-    Exit(Items<ExitClause>),
+    Enter(Items<RegionClause>),
+    Exit(u64),
+    EnterData(Items<EnterClause>),
+    ExitData(Items<ExitClause>),
+    Finalize(Items<ExitClause>),
     Update(Items<UpdateClause>),
     UpdateIfPresent(Items<UpdateClause>),
     Write(u64, &'static [u8]),
@@ -52,6 +56,7 @@ enum Check {
     TicketBook(u64),
     Regions(u64),
     RegionBook(u64),
+    Newest(Option<u64>),
 }
 
 /// Turns on a new table with their answers, and what the table says then.
@@ -93,20 +98,32 @@ fn write(alloc: Global, addr: u64, bytes: &[u8]) -> Result<Call, AllocError> {
     Ok(Call::HostWrite { addr, bytes })
 }
 
-fn enter(alloc: Global, listed: &[(EnterClause, u64, u64)]) -> Result<Call, AllocError> {
+fn enter(alloc: Global, listed: &[(RegionClause, u64, u64)]) -> Result<Call, AllocError> {
+    let items = items(alloc, listed)?;
+    Ok(Call::Do(Directive::Enter { items }))
+}
+
+fn enter_data(alloc: Global, listed: &[(EnterClause, u64, u64)]) -> Result<Call, AllocError> {
     let items = items(alloc, listed)?;
     Ok(Call::Do(Directive::EnterData { items }))
 }
 
-fn exit(alloc: Global, listed: &[(ExitClause, u64, u64)]) -> Result<Call, AllocError> {
+fn exit_data(
+    alloc: Global,
+    listed: &[(ExitClause, u64, u64)],
+    finalize: bool,
+) -> Result<Call, AllocError> {
     let items = items(alloc, listed)?;
-    Ok(Call::Do(Directive::ExitData { items }))
+    Ok(Call::Do(Directive::ExitData { items, finalize }))
 }
 
 fn call_of(alloc: Global, ask: Ask) -> Result<Call, AllocError> {
     match ask {
         Ask::Enter(listed) => enter(alloc, listed),
-        Ask::Exit(listed) => exit(alloc, listed),
+        Ask::Exit(number) => Ok(Call::Do(Directive::Exit { number })),
+        Ask::EnterData(listed) => enter_data(alloc, listed),
+        Ask::ExitData(listed) => exit_data(alloc, listed, false),
+        Ask::Finalize(listed) => exit_data(alloc, listed, true),
         Ask::Update(listed) => update(alloc, listed, false),
         Ask::UpdateIfPresent(listed) => update(alloc, listed, true),
         Ask::Write(addr, bytes) => write(alloc, addr, bytes),
@@ -135,16 +152,19 @@ fn turns_of(alloc: Global, asked: &[(Ask, Answer)]) -> Result<Vec<Turn>, AllocEr
 
 fn table_of(alloc: Global, limits: Limits) -> Result<Table, Fault> {
     let Limits {
+        regions,
         tickets,
         counter_max,
         trace_cap,
     } = limits;
-    let config = Config::new(64, 64, 1, tickets, counter_max, 1, trace_cap)?;
+    let config = Config::new(64, 64, regions, tickets, counter_max, 1, trace_cap)?;
     Table::new(alloc, config)
 }
 
 fn did_first(event: &Event) -> Option<Step> {
     let did: &List<Did> = match event {
+        Event::Entered { did, .. } => did,
+        Event::Left { did, .. } => did,
         Event::EnteredData { did, .. } => did,
         Event::ExitedData { did, .. } => did,
         Event::Updated { did, .. } => did,
@@ -194,6 +214,7 @@ fn check_one(rt: &impl Abort, row: &str, table: &Table, check: Check) {
         Check::TicketBook(wanted) => same(rt, row, table.ticket_book(), wanted),
         Check::Regions(wanted) => same(rt, row, table.regions(), wanted),
         Check::RegionBook(wanted) => same(rt, row, table.region_book(), wanted),
+        Check::Newest(wanted) => same(rt, row, table.newest_region(), wanted),
     }
 }
 
@@ -272,7 +293,7 @@ fn a_refused_growth_changes_nothing(rt: HostRuntime) -> Result<(), Fail> {
         Err(_) => table_of(rt.alloc(), WIDE)?,
     };
     live(&rt, &mut table)?;
-    same(&rt, "a refused growth", table.events(), 6);
+    same(&rt, "a refused growth", table.events(), 10);
     same(&rt, "a refused growth", table.used(), 0);
     Ok(())
 }

@@ -1,21 +1,24 @@
 //! Rows: turns on a new table with their answers, and what the table says then. Each value is worked out by hand from
 //! OpenACC 3.3, sections 2.6 and 2.7, and the documents of this project.
 
-use crate::tests::Ask::{Enter, Exit, Update, UpdateIfPresent, Write};
+use crate::tests::Ask::{
+    Enter, EnterData, Exit, ExitData, Finalize, Update, UpdateIfPresent, Write,
+};
 use crate::tests::Check::{
-    Address, Counted, Device, Events, Found as Finds, Host, MappedFrom, Present, RegionBook,
-    Regions, Step as Did, TicketBook, Used,
+    Address, Counted, Device, Events, Found as Finds, Host, MappedFrom, Newest, Present,
+    RegionBook, Regions, Step as Did, TicketBook, Used,
 };
 use crate::tests::{Ask, Limits, Row};
 use Answer::Refused;
 use acc_base::EnterClause::{Copyin, Create};
 use acc_base::ExitClause::{Copyout, Delete};
 use acc_base::UpdateClause::{ToDevice, ToSelf};
-use acc_base::{Counters, DEVICE_BASE, Fault, Found, HOST_BASE, Step};
+use acc_base::{Counters, DEVICE_BASE, Fault, Found, HOST_BASE, RegionClause, Step};
 use acc_table::{Answer, Mapped};
 
 /// Limits that no turn reaches.
 pub const WIDE: Limits = Limits {
+    regions: 2,
     tickets: 100,
     counter_max: 100,
     trace_cap: 100,
@@ -30,28 +33,43 @@ const DONE: Answer = Answer::Replied {
     count: 0,
 };
 
-/// A whole life of an array, and of a second one.
+const fn counters(structured: u64, dynamic: u64) -> Counters {
+    Counters {
+        structured,
+        dynamic,
+    }
+}
+
+const fn entered(number: u64) -> Answer {
+    Answer::Replied { number, count: 0 }
+}
+
+/// A whole life of an array, and of a second one, and of two regions.
 pub const LIFE: &[Ask] = &[
     Write(A, &[1, 2]),
-    Enter(&[(Copyin, A, 16)]),
-    Enter(&[(Create { zero: true }, A + 16, 16)]),
+    EnterData(&[(Copyin, A, 16)]),
+    EnterData(&[(Create { zero: true }, A + 16, 16)]),
     Update(&[(ToSelf, A + 16, 2)]),
-    Exit(&[(Copyout, A + 16, 16)]),
-    Exit(&[(Delete, A, 16)]),
+    ExitData(&[(Copyout, A + 16, 16)]),
+    Enter(&[(RegionClause::Present, A, 16), (RegionClause::Copy, A + 16, 16)]),
+    Enter(&[(RegionClause::NoCreate, A, 16)]),
+    Exit(2),
+    Exit(1),
+    ExitData(&[(Delete, A, 16)]),
 ];
 
-pub const ROWS: [Row; 8] = [
+pub const ROWS: [Row; 13] = [
     Row {
         name: "one ticket makes one event, and is told before the items are counted",
         limits: Limits { tickets: 1, ..WIDE },
         turns: &[
-            (Enter(&[(Copyin, A, 16)]), DONE),
+            (EnterData(&[(Copyin, A, 16)]), DONE),
             (
-                Enter(&[(Copyin, A, 16)]),
+                EnterData(&[(Copyin, A, 16)]),
                 Refused(Fault::NoTickets { left: 0 }),
             ),
             (
-                Exit(&[(Delete, A, 16), (Delete, A, 16)]),
+                ExitData(&[(Delete, A, 16), (Delete, A, 16)]),
                 Refused(Fault::NoTickets { left: 0 }),
             ),
             (Write(0, &[]), Refused(Fault::NoTickets { left: 0 })),
@@ -65,10 +83,10 @@ pub const ROWS: [Row; 8] = [
             ..WIDE
         },
         turns: &[
-            (Enter(&[(Copyin, A, 16)]), DONE),
-            (Enter(&[(Copyin, A, 16)]), DONE),
+            (EnterData(&[(Copyin, A, 16)]), DONE),
+            (EnterData(&[(Copyin, A, 16)]), DONE),
             (
-                Enter(&[(Copyin, A + 8, 16)]),
+                EnterData(&[(Copyin, A + 8, 16)]),
                 Refused(Fault::TraceFull { len: 2 }),
             ),
             (Write(A, &[1]), Refused(Fault::TraceFull { len: 2 })),
@@ -76,24 +94,126 @@ pub const ROWS: [Row; 8] = [
         checks: &[Events(2), TicketBook(98), Host((A, 1), Some(&[0]))],
     },
     Row {
-        name: "a directive has one item at most, which is told before a full trace",
+        name: "64 items count 64 times, and 65 are too many, which is told before a full trace",
         limits: Limits {
             trace_cap: 1,
             ..WIDE
         },
         turns: &[
+            (EnterData(&[(Copyin, A, 16); 64]), DONE),
             (
-                Enter(&[(Copyin, A, 16), (Copyin, A, 16)]),
-                Refused(Fault::TooManyItems { n: 2 }),
+                EnterData(&[(Copyin, A, 16); 65]),
+                Refused(Fault::TooManyItems { n: 65 }),
             ),
-            (Exit(&[]), DONE),
             (
-                Update(&[(ToSelf, A, 1), (ToSelf, A, 1), (ToSelf, A, 1)]),
-                Refused(Fault::TooManyItems { n: 3 }),
+                Update(&[(ToSelf, A, 1); 66]),
+                Refused(Fault::TooManyItems { n: 66 }),
             ),
-            (Exit(&[]), Refused(Fault::TraceFull { len: 1 })),
+            (ExitData(&[]), Refused(Fault::TraceFull { len: 1 })),
         ],
-        checks: &[Events(1), Did(0, None), Used(0)],
+        checks: &[
+            Counted((A, 16), Some(counters(0, 64))),
+            Events(1),
+            Used(16),
+        ],
+    },
+    Row {
+        name: "a counter that an earlier item of the directive filled refuses the whole directive",
+        limits: Limits {
+            counter_max: 2,
+            ..WIDE
+        },
+        turns: &[(
+            EnterData(&[(Copyin, A, 16); 3]),
+            Refused(Fault::CounterFull { item: 2 }),
+        )],
+        checks: &[Present((A, 16), false), Events(0), Used(0)],
+    },
+    Row {
+        name: "as many regions are open as the limit says, and a refused entry uses no number",
+        limits: Limits { regions: 1, ..WIDE },
+        turns: &[
+            (Enter(&[]), entered(1)),
+            (Enter(&[]), Refused(Fault::NoAllowance { left: 0 })),
+            (
+                Enter(&[(RegionClause::Present, A, 16); 65]),
+                Refused(Fault::NoAllowance { left: 0 }),
+            ),
+            (Exit(2), Refused(Fault::NoRegion { number: 2 })),
+            (Exit(1), DONE),
+            (
+                Enter(&[(RegionClause::Present, A, 16)]),
+                Refused(Fault::NotPresent { item: 0 }),
+            ),
+            (Enter(&[]), entered(2)),
+        ],
+        checks: &[
+            Regions(1),
+            RegionBook(0),
+            Newest(Some(2)),
+            Events(3),
+            TicketBook(97),
+        ],
+    },
+    Row {
+        name: "a region that counted nothing leaves what another one mapped",
+        limits: WIDE,
+        turns: &[
+            (Enter(&[(RegionClause::NoCreate, A, 16)]), entered(1)),
+            (Enter(&[(RegionClause::Copyin, A, 16)]), entered(2)),
+            (Exit(1), DONE),
+        ],
+        checks: &[
+            Counted((A, 16), Some(counters(1, 0))),
+            Newest(Some(2)),
+            Regions(1),
+            Did(0, Some(Step::Nothing)),
+            Did(2, Some(Step::Nothing)),
+        ],
+    },
+    Row {
+        name: "a region is exited once",
+        limits: WIDE,
+        turns: &[
+            (Enter(&[(RegionClause::NoCreate, A, 16)]), entered(1)),
+            (Enter(&[(RegionClause::Copyin, A, 16)]), entered(2)),
+            (Exit(1), DONE),
+            (Exit(2), DONE),
+            (Exit(2), Refused(Fault::NoRegion { number: 2 })),
+        ],
+        checks: &[
+            Present((A, 16), false),
+            Newest(None),
+            Regions(0),
+            RegionBook(2),
+            Did(
+                3,
+                Some(Step::Dropped {
+                    block: 1,
+                    ended: true,
+                }),
+            ),
+        ],
+    },
+    Row {
+        name: "what is finalized stays mapped while a region holds it",
+        limits: WIDE,
+        turns: &[
+            (EnterData(&[(Copyin, A, 16); 3]), DONE),
+            (Enter(&[(RegionClause::Present, A, 4)]), entered(1)),
+            (Finalize(&[(Copyout, A, 16)]), DONE),
+        ],
+        checks: &[
+            Counted((A, 16), Some(counters(1, 0))),
+            Did(
+                2,
+                Some(Step::Dropped {
+                    block: 1,
+                    ended: false,
+                }),
+            ),
+            Used(16),
+        ],
     },
     Row {
         name: "a counter stops at its limit",
@@ -102,21 +222,15 @@ pub const ROWS: [Row; 8] = [
             ..WIDE
         },
         turns: &[
-            (Enter(&[(Copyin, A, 16)]), DONE),
-            (Enter(&[(Create { zero: false }, A + 4, 4)]), DONE),
+            (EnterData(&[(Copyin, A, 16)]), DONE),
+            (EnterData(&[(Create { zero: false }, A + 4, 4)]), DONE),
             (
-                Enter(&[(Copyin, A, 16)]),
+                EnterData(&[(Copyin, A, 16)]),
                 Refused(Fault::CounterFull { item: 0 }),
             ),
         ],
         checks: &[
-            Counted(
-                (A, 16),
-                Some(Counters {
-                    structured: 0,
-                    dynamic: 2,
-                }),
-            ),
+            Counted((A, 16), Some(counters(0, 2))),
             Events(2),
         ],
     },
@@ -124,14 +238,14 @@ pub const ROWS: [Row; 8] = [
         name: "the trace has the step of each event",
         limits: WIDE,
         turns: &[
-            (Enter(&[(Copyin, A, 16)]), DONE),
-            (Enter(&[(Create { zero: false }, A + 32, 4)]), DONE),
-            (Enter(&[(Copyin, A + 8, 8)]), DONE),
+            (EnterData(&[(Copyin, A, 16)]), DONE),
+            (EnterData(&[(Create { zero: false }, A + 32, 4)]), DONE),
+            (EnterData(&[(Copyin, A + 8, 8)]), DONE),
             (Update(&[(ToDevice, A + 32, 4)]), DONE),
             (UpdateIfPresent(&[(ToSelf, A + 48, 4)]), DONE),
-            (Exit(&[(Delete, A, 16)]), DONE),
-            (Exit(&[(Copyout, A, 1)]), DONE),
-            (Exit(&[(Copyout, A, 16)]), DONE),
+            (ExitData(&[(Delete, A, 16)]), DONE),
+            (ExitData(&[(Copyout, A, 1)]), DONE),
+            (ExitData(&[(Copyout, A, 16)]), DONE),
             (Write(A, &[1, 2]), DONE),
         ],
         checks: &[
@@ -176,7 +290,7 @@ pub const ROWS: [Row; 8] = [
         limits: WIDE,
         turns: &[
             (Write(A + 8, &[1, 2, 3, 4]), DONE),
-            (Enter(&[(Copyin, A + 8, 24)]), DONE),
+            (EnterData(&[(Copyin, A + 8, 24)]), DONE),
         ],
         checks: &[
             Finds(
@@ -188,13 +302,7 @@ pub const ROWS: [Row; 8] = [
             ),
             Present((A + 31, 1), true),
             Address(A + 31, Some(DEVICE + 23)),
-            Counted(
-                (A + 8, 24),
-                Some(Counters {
-                    structured: 0,
-                    dynamic: 1,
-                }),
-            ),
+            Counted((A + 8, 24), Some(counters(0, 1))),
             MappedFrom(
                 0,
                 Some(Mapped {
@@ -209,7 +317,7 @@ pub const ROWS: [Row; 8] = [
             Device((A + 10, 3), Some(&[3, 4, 0])),
             Used(32),
             Regions(0),
-            RegionBook(1),
+            RegionBook(2),
             TicketBook(98),
         ],
     },
@@ -217,8 +325,8 @@ pub const ROWS: [Row; 8] = [
         name: "no query answers for a section that is not inside one range",
         limits: WIDE,
         turns: &[
-            (Enter(&[(Copyin, A, 16)]), DONE),
-            (Enter(&[(Copyin, A + 16, 16)]), DONE),
+            (EnterData(&[(Copyin, A, 16)]), DONE),
+            (EnterData(&[(Copyin, A + 16, 16)]), DONE),
         ],
         checks: &[
             Finds((A + 8, 16), Found::Partly),
@@ -246,7 +354,7 @@ pub const ROWS: [Row; 8] = [
             ),
             (Write(0, &[]), DONE),
             (
-                Enter(&[(Copyin, A + 63, 2)]),
+                EnterData(&[(Copyin, A + 63, 2)]),
                 Refused(Fault::OutOfHost { item: 0 }),
             ),
         ],

@@ -1,0 +1,92 @@
+-- Each accepted call keeps what a table keeps.
+use Rattle.std.proofs.Common.{ℕ, ◌≡◌, ◌+◌, ◌*◌, ◌≤◌, refl, sym, ◌∙◌, ap, subst, true, false, List, [], ◌∷◌, ◌++◌, length, Ok, arith, length-append}
+use Rattle.acc_base.specs.declared.directives.Directive.{Directive}
+use Rattle.acc_base.specs.declared.calls.Call.{Call}
+use Rattle.acc_base.specs.declared.calls.Call.TheVariants.{Do, HostWrite}
+use Rattle.acc_base.specs.declared.tasks.Task.{Task}
+use Rattle.acc_base.specs.declared.events.Step.{Step}
+use Rattle.acc_base.specs.declared.events.Step.TheVariants.{Nothing, Counted, Born, Dropped, Moved}
+use Rattle.acc_base.specs.declared.events.Did.{Did}
+use Rattle.acc_base.specs.declared.events.Event.{Event}
+use Rattle.acc_base.specs.declared.events.Event.TheVariants.{Entered, Left, EnteredData, ExitedData, Updated, HostWritten}
+use Rattle.acc_base.specs.Limits.{Limits, IsWithinBounds}
+use Rattle.acc_base.specs.Register.{Register}
+use Rattle.acc_base.specs.Records.{Records, Layout, State, layout_of, new_state}
+use Rattle.acc_base.specs.Tasks.{act, act_all, records_after_birth, records_after_end, with_range_changed}
+use Rattle.acc_base.specs.Walk.{walk, asked_in, done_in, register_after}
+use Rattle.acc_base.specs.Bytes.{after}
+use Rattle.acc_base.specs.Judge.{event_of}
+use Rattle.acc_base.specs.Calls.{World, Makes, judge, world_after, bytes_brought, new_world}
+use Rattle.acc_base.specs.Accounts.{IsAccounted}
+use Rattle.acc_base.proofs.Walked.{layout-after}
+use Rattle.acc_base.proofs.Accounted.{accepted_accounted, new_accounted}
+use Rattle.acc_clauses.specs.Contents.{Contents, AreNew}
+use Rattle.acc_clauses.specs.Planned.{Planned, IsPlannedOn}
+use Rattle.acc_clauses.proofs.Events.{event_done, planned_asked}
+use Rattle.acc_table.specs.Kept.{IsKept, world_of}
+
+-- ---- births, of which a directive has at most 64
+
+act_births : (task : Task) (step : Step) (w : Records) → (act task step w).births ≤ w.births + 1
+unfolding act with_range_changed records_after_birth records_after_end
+act_births task Nothing w = omega arith
+act_births task (Counted k) w = omega arith
+act_births task (Born k p) w = omega arith
+act_births task (Dropped k true) w = omega arith
+act_births task (Dropped k false) w = omega arith
+act_births task (Moved k) w = omega arith
+
+all_births : (tasks : List Task) (dids : List Did) (w : Records) → (act_all tasks dids w).births ≤ w.births + length tasks
+unfolding act_all
+all_births [] [] w = omega arith
+all_births [] (d ∷ ds) w = omega arith
+all_births (t ∷ ts) [] w = omega arith
+all_births (t ∷ ts) (d ∷ ds) w = omega (arith, act_births t d.step w, all_births ts ds (act t d.step w))
+
+walk_births : (e : Event) (lay : Layout) (tasks : List Task) → asked_in e lay.register ≡ tasks → (walk e lay).records.births ≤ lay.records.births + length tasks
+unfolding walk
+walk_births e lay tasks is = subst (λ ts. (act_all ts (done_in e) lay.records).births ≤ lay.records.births + length tasks) (sym is) (all_births tasks (done_in e) lay.records)
+
+-- ---- region numbers, of which an event uses at most one
+
+walk_regions : (e : Event) (lay : Layout) → (walk e lay).register.next ≤ lay.register.next + 1
+unfolding walk
+walk_regions (Entered number items did) lay = omega arith
+walk_regions (Left number did) lay = omega arith
+walk_regions (EnteredData items did) lay = omega arith
+walk_regions (ExitedData items finalize did) lay = omega arith
+walk_regions (Updated items if_present did) lay = omega arith
+walk_regions (HostWritten addr len) lay = omega arith
+
+-- ---- a call
+
+kept_after : (w : World) (call : Call) (e : Event) (tasks : List Task) → IsKept w → judge w call ≡ Ok (Makes e) → asked_in e w.state.register ≡ tasks → length tasks ≤ 64 → IsKept (world_after call e w)
+unfolding world_after
+kept_after w call e tasks k h asked few =
+    let is : layout_of (after e (bytes_brought call) w.state) ≡ walk e (layout_of w.state) = layout-after e (bytes_brought call) w.state in
+    let more : length (w.history.trace ++ e ∷ []) ≡ length w.history.trace + 1 = length-append w.history.trace (e ∷ []) in
+    let births : (after e (bytes_brought call) w.state).records.births ≤ w.state.records.births + length tasks = subst (λ (lay : Layout). lay.records.births ≤ w.state.records.births + length tasks) (sym is) (walk_births e (layout_of w.state) tasks asked) in
+    let regions : (after e (bytes_brought call) w.state).register.next ≤ w.state.register.next + 1 = subst (λ (lay : Layout). lay.register.next ≤ w.state.register.next + 1) (sym is) (walk_regions e (layout_of w.state)) in
+    record {
+      bounds = k.bounds;
+      accounted = accepted_accounted w call e k.bounds h k.accounted;
+      births = omega (arith, births, few, more, k.births);
+      regions = omega (arith, regions, more, k.regions);
+    }
+
+pub kept_directive : (w : World) (d : Directive) (p : Planned) → IsKept w → IsPlannedOn w.limits d (layout_of w.state) p → judge w (Do d) ≡ Ok (Makes (event_of d w.state.register p.dids)) → IsKept (world_after (Do d) (event_of d w.state.register p.dids) w)
+kept_directive w d p k planned h = kept_after w (Do d) (event_of d w.state.register p.dids) p.tasks k h (planned_asked w.limits d (layout_of w.state) p planned) planned.few
+
+pub kept_write : (w : World) (addr : ℕ) (bytes : List ℕ) → IsKept w → judge w (HostWrite addr bytes) ≡ Ok (Makes (HostWritten addr (length bytes))) → IsKept (world_after (HostWrite addr bytes) (HostWritten addr (length bytes)) w)
+kept_write w addr bytes k h = kept_after w (HostWrite addr bytes) (HostWritten addr (length bytes)) [] k h refl (omega arith)
+
+-- ---- a new table
+
+new_world_kept : (l : Limits) → IsWithinBounds l → IsKept (new_world l)
+new_world_kept l bounds = record { bounds = bounds; accounted = new_accounted l bounds; births = omega arith; regions = omega arith }
+
+pub new_is : (l : Limits) (c : Contents) → AreNew l c → world_of c [] ≡ new_world l
+new_is l c new = rw (new.limits, new.state) refl
+
+pub new_kept : (l : Limits) (c : Contents) → IsWithinBounds l → AreNew l c → IsKept (world_of c [])
+new_kept l c bounds new = subst (λ (w : World). IsKept w) (sym (new_is l c new)) (new_world_kept l bounds)

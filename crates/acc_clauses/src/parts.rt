@@ -10,7 +10,7 @@ ghost use Rattle.acc_base.specs.Ranges.{where_is, where_is_apart, range_of, rang
 ghost use Rattle.acc_base.specs.Blocks.{rounded, block_at, place_of, place_for, used_bytes};
 ghost use Rattle.acc_base.specs.Register.{holdings_at, region_at, newest_region, opened, closed};
 ghost use Rattle.acc_base.specs.Bytes.{bytes_of, act_state, host_after_write};
-ghost use Rattle.acc_host.specs.Host.{bytes_in, IsOutOfHost};
+ghost use Rattle.acc_host.specs.Host.{bytes_in, IsRead, IsOutOfHost};
 ghost use Rattle.acc_placement.specs.Ranges.{IsTakeBelow};
 ghost use Rattle.acc_dev.specs.Device.{planned_blocks};
 ghost use Rattle.acc_clauses.specs.Contents.{AreNew, AreContentsSound};
@@ -208,6 +208,7 @@ impl Parts {
 
     /// The bytes of a section of host memory. `None` exactly where some address of it is outside of host memory.
     pub(crate) fn host_read(&self, section: Section) -> Option<&[u8]>
+        ensures each { IfSome result (λ bytes. IsRead self.now.state.host section bytes.now) }
         ensures part { IfSome result (λ bytes. bytes.now ≡ bytes_in self.now.state.host section) }
         ensures none { IfNone result (IsOutOfHost self.now.state.host section) }
     {

@@ -13,7 +13,7 @@ ghost use Rattle.acc_base.specs.Records.{layout_of};
 ghost use Rattle.acc_base.specs.Register.{newest_region};
 ghost use Rattle.acc_base.specs.declared.directives.Directive.{Directive};
 ghost use Rattle.acc_base.specs.Accounts.{IsSound};
-ghost use Rattle.acc_host.specs.Host.{bytes_in, IsOutOfHost};
+ghost use Rattle.acc_host.specs.Host.{bytes_in, IsRead, IsOutOfHost};
 ghost use Rattle.acc_clauses.specs.Contents.{AreNew};
 ghost use Rattle.acc_clauses.specs.Stored.{IsPlan};
 ghost use Rattle.acc_clauses.specs.Planned.{IsPlannedOn};
@@ -218,6 +218,7 @@ impl Store {
 
     /// The bytes of a section of host memory. `None` exactly where some address of it is outside of host memory.
     pub fn host_read(&self, section: Section) -> Option<&[u8]>
+        ensures each { IfSome result (λ bytes. IsRead self.now.state.host section bytes.now) }
         ensures part { IfSome result (λ bytes. bytes.now ≡ bytes_in self.now.state.host section) }
         ensures none { IfNone result (IsOutOfHost self.now.state.host section) }
     {

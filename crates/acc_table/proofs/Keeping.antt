@@ -1,5 +1,7 @@
 -- Each accepted call keeps what a table keeps.
-use Rattle.std.proofs.Common.{ℕ, ◌≡◌, ◌+◌, ◌*◌, ◌≤◌, refl, sym, ◌∙◌, ap, subst, true, false, List, [], ◌∷◌, ◌++◌, length, Ok, arith, length-append}
+use Rattle.std.proofs.Common.{ℕ, ◌≡◌, ◌+◌, ◌≤◌, refl, sym, subst, true, false, List, [], ◌∷◌, ◌++◌, length, Result, Ok, Err, arith, length-append}
+use Rattle.std.specs.Prelude.{OnOk, OnErr}
+use Rattle.acc_base.specs.declared.faults.Fault.{Fault}
 use Rattle.acc_base.specs.declared.directives.Directive.{Directive}
 use Rattle.acc_base.specs.declared.calls.Call.{Call}
 use Rattle.acc_base.specs.declared.calls.Call.TheVariants.{Do, HostWrite}
@@ -10,20 +12,21 @@ use Rattle.acc_base.specs.declared.events.Did.{Did}
 use Rattle.acc_base.specs.declared.events.Event.{Event}
 use Rattle.acc_base.specs.declared.events.Event.TheVariants.{Entered, Left, EnteredData, ExitedData, Updated, HostWritten}
 use Rattle.acc_base.specs.Limits.{Limits, IsWithinBounds}
-use Rattle.acc_base.specs.Register.{Register}
-use Rattle.acc_base.specs.Records.{Records, Layout, State, layout_of, new_state}
+use Rattle.acc_base.specs.Records.{Records, Layout, layout_of}
 use Rattle.acc_base.specs.Tasks.{act, act_all, records_after_birth, records_after_end, with_range_changed}
-use Rattle.acc_base.specs.Walk.{walk, asked_in, done_in, register_after}
+use Rattle.acc_base.specs.Walk.{walk, asked_in, done_in}
 use Rattle.acc_base.specs.Bytes.{after}
 use Rattle.acc_base.specs.Judge.{event_of}
 use Rattle.acc_base.specs.Calls.{World, Makes, judge, world_after, bytes_brought, new_world}
-use Rattle.acc_base.specs.Accounts.{IsAccounted}
 use Rattle.acc_base.proofs.Walked.{layout-after}
 use Rattle.acc_base.proofs.Accounted.{accepted_accounted, new_accounted}
 use Rattle.acc_clauses.specs.Contents.{Contents, AreNew}
 use Rattle.acc_clauses.specs.Planned.{Planned, IsPlannedOn}
-use Rattle.acc_clauses.proofs.Events.{event_done, planned_asked}
+use Rattle.acc_clauses.proofs.Events.{planned_asked}
+use Rattle.acc_table.specs.declared.calls.Reply.{Reply}
 use Rattle.acc_table.specs.Kept.{IsKept, world_of}
+use Rattle.acc_table.specs.Making.{planned_event, IsCommitted, IsAsBefore}
+use Rattle.acc_table.proofs.Verdicts.{committed, unchanged}
 
 -- ---- births, of which a directive has at most 64
 
@@ -79,6 +82,12 @@ kept_directive w d p k planned h = kept_after w (Do d) (event_of d w.state.regis
 
 pub kept_write : (w : World) (addr : ℕ) (bytes : List ℕ) → IsKept w → judge w (HostWrite addr bytes) ≡ Ok (Makes (HostWritten addr (length bytes))) → IsKept (world_after (HostWrite addr bytes) (HostWritten addr (length bytes)) w)
 kept_write w addr bytes k h = kept_after w (HostWrite addr bytes) (HostWritten addr (length bytes)) [] k h refl (omega arith)
+
+-- what a store and a trace keep that carried a directive out, or were asked in vain
+pub kept_carried : (d : Directive) (p : Planned) (old new : Contents) (trace longer : List Event) (r : Result Reply (Directive × Fault)) → IsKept (world_of old trace) → IsPlannedOn old.limits d (layout_of old.state) p
+    → judge (world_of old trace) (Do d) ≡ Ok (Makes (planned_event d p old)) → OnOk r (IsCommitted d p old new trace longer) → OnErr r (IsAsBefore old new trace longer) → IsKept (world_of new longer)
+kept_carried d p old new trace longer (Ok reply) k planned h done same = subst (λ (w : World). IsKept w) (sym (committed d p old new trace longer done)) (kept_directive (world_of old trace) d p k planned h)
+kept_carried d p old new trace longer (Err back) k planned h done same = subst (λ (w : World). IsKept w) (sym (unchanged old new trace longer same)) k
 
 -- ---- a new table
 

@@ -1,4 +1,4 @@
+pub mod Verdicts
 pub mod Keeping
-pub mod Making
 pub mod Answering
 pub mod Running

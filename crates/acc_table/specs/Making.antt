@@ -1,6 +1,6 @@
 -- How a directive that was judged becomes an event, and what is refused before its items are judged.
-use Rattle.std.specs.Prelude.{ℕ, ◌≡◌, ◌<◌, ◌++◌, ◌∷◌, [], List, vec_len, vec_capacity, Result, ⊤}
-use Rattle.std.specs.Global.{Vec}
+use Rattle.std.specs.Prelude.{ℕ, ◌≡◌, ◌++◌, ◌∷◌, [], List, Result, ⊤}
+use Rattle.acc_base.specs.declared.items.Section.{Section}
 use Rattle.acc_base.specs.declared.directives.Directive.{Directive}
 use Rattle.acc_base.specs.declared.directives.Directive.TheVariants.{Enter, Exit, EnterData, ExitData, Update}
 use Rattle.acc_base.specs.declared.events.Did.{Did}
@@ -9,6 +9,7 @@ use Rattle.acc_base.specs.declared.events.Event.TheVariants as events
 use Rattle.acc_base.specs.declared.faults.Fault.{Fault}
 use Rattle.acc_base.specs.Results.{◌>>◌}
 use Rattle.acc_base.specs.Bytes.{after}
+use Rattle.acc_base.specs.Clauses.{in_host}
 use Rattle.acc_base.specs.Judge.{few_items, event_of}
 use Rattle.acc_base.specs.Calls.{World, ticket, allowance, trace_room}
 use Rattle.acc_clauses.specs.Contents.{Contents}
@@ -30,11 +31,12 @@ admitted w d = do
   few_items d
   trace_room w
 
--- the refusals of a write that come before those of its section
-unfoldable pub write_admitted : World → Result ⊤ Fault
-write_admitted w = do
+-- the refusals of a write of the host into this section
+unfoldable pub write_admitted : World → Section → Result ⊤ Fault
+write_admitted w section = do
   ticket w
   trace_room w
+  in_host w.limits 0 section
 
 -- the event of a plan for a directive
 abbrev pub planned_event : Directive → Planned → Contents → Event

@@ -66,23 +66,27 @@ fn make_room(store: &mut Store, trace: &mut Vec<Event>, plan: &Plan) -> Result<L
     Ok(List::from_vec(did))
 }
 
-/// Carries out a directive for which this was planned, and answers the reply; or hands it back where memory is refused.
+/// Carries out a directive for which this was planned, and answers the reply.
+///
+/// # Errors
+///
+/// [`Fault::Memory`] alone. The directive comes back.
 pub fn carry_out(
     store: &mut Store,
     trace: &mut Vec<Event>,
     directive: Directive,
     plan: &Plan,
-) -> Result<Reply, Directive>
+) -> Result<Reply, (Directive, Fault)>
     requires planned { IsPlannedOn store.old.limits directive (layout_of store.old.state) plan.now }
     requires births { store.old.state.records.births < 2 ^ 47 }
     requires regions { store.old.state.register.next < 2 ^ 48 }
     ensures ok { IfOk result (λ reply. reply ≡ reply_of (planned_event directive plan.now store.old)) }
     ensures done { OnOk result (IsCommitted directive plan.now store.old store.new trace.old.items trace.new.items) }
-    ensures back { IfErr result (λ back. back ≡ directive) }
+    ensures back { IfErr result (λ back. back ≡ (directive, Memory)) }
     ensures same { OnErr result (IsAsBefore store.old store.new trace.old.items trace.new.items) }
 {
     let Ok(did) = make_room(store, trace, plan) else {
-        return Err(directive);
+        return Err((directive, Fault::Memory));
     };
     let number = store.next_region();
     store.commit(plan);

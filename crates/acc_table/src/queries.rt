@@ -119,6 +119,7 @@ impl Table {
     pub fn region_book(&self) -> u64
         ensures { result ≡ self.now.limits.regions - open_regions self.now.state }
     {
+        self.laws();
         self.config().regions() - self.regions()
     }
 
@@ -140,6 +141,7 @@ impl Table {
     pub fn ticket_book(&self) -> u64
         ensures { result ≡ self.now.limits.tickets - event_count self.now.history }
     {
+        self.laws();
         self.config().tickets() - self.events()
     }
 

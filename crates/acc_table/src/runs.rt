@@ -42,6 +42,7 @@ impl Table {
     }
 
     /// Takes one turn.
+    #[tactic(auto, using(crate::proofs::Running::answered, crate::proofs::Running::refused))]
     fn take_turn(&mut self, turn: Turn) -> Answer
         ensures { MayAnswer self.old (asked_by turn) (judge self.old (asked_by turn)) result self.new }
     {

@@ -117,10 +117,7 @@ impl Table {
         ensures same { IfErr result (λ back. (back.0 ≡ directive) × (self.new ≡ self.old)) }
     {
         match self.plan(&directive) {
-            Ok(plan) => match carry_out(&mut self.store, &mut self.trace, directive, &plan) {
-                Ok(reply) => Ok(reply),
-                Err(directive) => Err((directive, Fault::Memory)),
-            },
+            Ok(plan) => carry_out(&mut self.store, &mut self.trace, directive, &plan),
             Err(fault) => Err((directive, fault)),
         }
     }
@@ -179,6 +176,7 @@ impl Table {
     }
 
     /// What the directive is to do, or its first refusal.
+    #[tactic(auto, using(crate::proofs::Verdicts::judge_directive))]
     fn plan(&self, directive: &Directive) -> Result<Plan, Fault>
         ensures judged { MatchResult result
             (λ p. judge self.now (Do directive.now) ≡ Ok (Makes (event_of directive.now self.now.state.register p.dids)))
@@ -189,27 +187,27 @@ impl Table {
         self.store.plan(directive)
     }
 
-    /// The refusals of a write of the host that come before those of its section.
+    /// What a write of the host into this section is refused for.
     #[tactic(auto, unfolding(crate::specs::Making::write_admitted))]
-    fn admit_write(&self) -> Result<(), Fault>
-        ensures { result ≡ write_admitted self.now }
+    fn admit_write(&self, section: Section) -> Result<(), Fault>
+        ensures { result ≡ write_admitted self.now section }
     {
         self.admit_ticket()?;
-        self.admit_event()
+        self.admit_event()?;
+        self.store.check_host(0, section)
     }
 
     /// Writes into host memory.
+    #[tactic(auto, using(crate::proofs::Verdicts::judge_write))]
     fn write(&mut self, addr: u64, bytes: &[u8]) -> Result<Reply, Fault>
         ensures done { IfOk result (λ reply. IsDone self.old (HostWrite addr bytes.now) reply self.new) }
         ensures refused { IfErr result (IsRefusal self.old (HostWrite addr bytes.now)) }
         ensures same { OnErr result (self.new ≡ self.old) }
     {
-        self.admit_write()?;
-        let section = Section {
+        self.admit_write(Section {
             start: addr,
             len: bytes.len() as u64,
-        };
-        self.store.check_host(0, section)?;
+        })?;
         write_host(&mut self.store, &mut self.trace, addr, bytes)?;
         Ok(Reply::Done)
     }

@@ -1,8 +1,6 @@
 //! The example of the README, as it stands there.
 
-use acc_base::{
-    Call, Config, Directive, EnterClause, Fault, HOST_BASE, Item, List, Section,
-};
+use acc_base::{Call, Config, Directive, EnterClause, Fault, HOST_BASE, Item, List, Section};
 use acc_table::Table;
 use std::alloc::Global;
 use std::test::Fail;

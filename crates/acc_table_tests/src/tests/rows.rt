@@ -51,7 +51,10 @@ pub const LIFE: &[Ask] = &[
     EnterData(&[(Create { zero: true }, A + 16, 16)]),
     Update(&[(ToSelf, A + 16, 2)]),
     ExitData(&[(Copyout, A + 16, 16)]),
-    Enter(&[(RegionClause::Present, A, 16), (RegionClause::Copy, A + 16, 16)]),
+    Enter(&[
+        (RegionClause::Present, A, 16),
+        (RegionClause::Copy, A + 16, 16),
+    ]),
     Enter(&[(RegionClause::NoCreate, A, 16)]),
     Exit(2),
     Exit(1),
@@ -111,11 +114,7 @@ pub const ROWS: [Row; 13] = [
             ),
             (ExitData(&[]), Refused(Fault::TraceFull { len: 1 })),
         ],
-        checks: &[
-            Counted((A, 16), Some(counters(0, 64))),
-            Events(1),
-            Used(16),
-        ],
+        checks: &[Counted((A, 16), Some(counters(0, 64))), Events(1), Used(16)],
     },
     Row {
         name: "a counter that an earlier item of the directive filled refuses the whole directive",
@@ -229,10 +228,7 @@ pub const ROWS: [Row; 13] = [
                 Refused(Fault::CounterFull { item: 0 }),
             ),
         ],
-        checks: &[
-            Counted((A, 16), Some(counters(0, 2))),
-            Events(2),
-        ],
+        checks: &[Counted((A, 16), Some(counters(0, 2))), Events(2)],
     },
     Row {
         name: "the trace has the step of each event",

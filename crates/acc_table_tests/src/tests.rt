@@ -45,7 +45,8 @@ enum Check {
     Found((u64, u64), Found),
     Present((u64, u64), bool),
     Address(u64, Option<u64>),
-    Counted((u64, u64), Option<Counters>),
+    /// The structured and the dynamic counter.
+    Counted((u64, u64), Option<(u64, u64)>),
     MappedFrom(u64, Option<Mapped>),
     Host((u64, u64), Option<&'static [u8]>),
     Device((u64, u64), Option<&'static [u8]>),
@@ -199,12 +200,20 @@ fn answered(rt: &impl Abort, row: &Row, answers: &[Answer]) {
     }
 }
 
+fn counted(table: &Table, section: Section) -> Option<(u64, u64)> {
+    let Counters {
+        structured,
+        dynamic,
+    } = table.counters(section)?;
+    Some((structured, dynamic))
+}
+
 fn check_one(rt: &impl Abort, row: &str, table: &Table, check: Check) {
     match check {
         Check::Found(at, wanted) => same(rt, row, table.find(section(at)), wanted),
         Check::Present(at, wanted) => same(rt, row, table.is_present(section(at)), wanted),
         Check::Address(address, wanted) => same(rt, row, table.device_address(address), wanted),
-        Check::Counted(at, wanted) => same(rt, row, table.counters(section(at)), wanted),
+        Check::Counted(at, wanted) => same(rt, row, counted(table, section(at)), wanted),
         Check::MappedFrom(from, wanted) => same(rt, row, table.mapped(from), wanted),
         Check::Step(number, wanted) => same(rt, row, step_at(table.trace(), number), wanted),
         Check::Host(at, wanted) => same_bytes(rt, row, table.host_read(section(at)), wanted),

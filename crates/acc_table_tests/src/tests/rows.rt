@@ -13,7 +13,7 @@ use Answer::Refused;
 use acc_base::EnterClause::{Copyin, Create};
 use acc_base::ExitClause::{Copyout, Delete};
 use acc_base::UpdateClause::{ToDevice, ToSelf};
-use acc_base::{Counters, DEVICE_BASE, Fault, Found, HOST_BASE, RegionClause, Step};
+use acc_base::{DEVICE_BASE, Fault, Found, HOST_BASE, RegionClause, Step};
 use acc_table::{Answer, Mapped};
 
 /// Limits that no turn reaches.
@@ -33,16 +33,16 @@ const DONE: Answer = Answer::Replied {
     count: 0,
 };
 
-const fn counters(structured: u64, dynamic: u64) -> Counters {
-    Counters {
-        structured,
-        dynamic,
-    }
-}
+/// The answers to entries of the first and of the second region.
+const FIRST: Answer = Answer::Replied {
+    number: 1,
+    count: 0,
+};
 
-const fn entered(number: u64) -> Answer {
-    Answer::Replied { number, count: 0 }
-}
+const SECOND: Answer = Answer::Replied {
+    number: 2,
+    count: 0,
+};
 
 /// A whole life of an array, and of a second one, and of two regions.
 pub const LIFE: &[Ask] = &[
@@ -114,7 +114,7 @@ pub const ROWS: [Row; 13] = [
             ),
             (ExitData(&[]), Refused(Fault::TraceFull { len: 1 })),
         ],
-        checks: &[Counted((A, 16), Some(counters(0, 64))), Events(1), Used(16)],
+        checks: &[Counted((A, 16), Some((0, 64))), Events(1), Used(16)],
     },
     Row {
         name: "a counter that an earlier item of the directive filled refuses the whole directive",
@@ -132,7 +132,7 @@ pub const ROWS: [Row; 13] = [
         name: "as many regions are open as the limit says, and a refused entry uses no number",
         limits: Limits { regions: 1, ..WIDE },
         turns: &[
-            (Enter(&[]), entered(1)),
+            (Enter(&[]), FIRST),
             (Enter(&[]), Refused(Fault::NoAllowance { left: 0 })),
             (
                 Enter(&[(RegionClause::Present, A, 16); 65]),
@@ -144,7 +144,7 @@ pub const ROWS: [Row; 13] = [
                 Enter(&[(RegionClause::Present, A, 16)]),
                 Refused(Fault::NotPresent { item: 0 }),
             ),
-            (Enter(&[]), entered(2)),
+            (Enter(&[]), SECOND),
         ],
         checks: &[
             Regions(1),
@@ -158,12 +158,12 @@ pub const ROWS: [Row; 13] = [
         name: "a region that counted nothing leaves what another one mapped",
         limits: WIDE,
         turns: &[
-            (Enter(&[(RegionClause::NoCreate, A, 16)]), entered(1)),
-            (Enter(&[(RegionClause::Copyin, A, 16)]), entered(2)),
+            (Enter(&[(RegionClause::NoCreate, A, 16)]), FIRST),
+            (Enter(&[(RegionClause::Copyin, A, 16)]), SECOND),
             (Exit(1), DONE),
         ],
         checks: &[
-            Counted((A, 16), Some(counters(1, 0))),
+            Counted((A, 16), Some((1, 0))),
             Newest(Some(2)),
             Regions(1),
             Did(0, Some(Step::Nothing)),
@@ -174,8 +174,8 @@ pub const ROWS: [Row; 13] = [
         name: "a region is exited once",
         limits: WIDE,
         turns: &[
-            (Enter(&[(RegionClause::NoCreate, A, 16)]), entered(1)),
-            (Enter(&[(RegionClause::Copyin, A, 16)]), entered(2)),
+            (Enter(&[(RegionClause::NoCreate, A, 16)]), FIRST),
+            (Enter(&[(RegionClause::Copyin, A, 16)]), SECOND),
             (Exit(1), DONE),
             (Exit(2), DONE),
             (Exit(2), Refused(Fault::NoRegion { number: 2 })),
@@ -199,11 +199,11 @@ pub const ROWS: [Row; 13] = [
         limits: WIDE,
         turns: &[
             (EnterData(&[(Copyin, A, 16); 3]), DONE),
-            (Enter(&[(RegionClause::Present, A, 4)]), entered(1)),
+            (Enter(&[(RegionClause::Present, A, 4)]), FIRST),
             (Finalize(&[(Copyout, A, 16)]), DONE),
         ],
         checks: &[
-            Counted((A, 16), Some(counters(1, 0))),
+            Counted((A, 16), Some((1, 0))),
             Did(
                 2,
                 Some(Step::Dropped {
@@ -228,7 +228,7 @@ pub const ROWS: [Row; 13] = [
                 Refused(Fault::CounterFull { item: 0 }),
             ),
         ],
-        checks: &[Counted((A, 16), Some(counters(0, 2))), Events(2)],
+        checks: &[Counted((A, 16), Some((0, 2))), Events(2)],
     },
     Row {
         name: "the trace has the step of each event",
@@ -298,7 +298,7 @@ pub const ROWS: [Row; 13] = [
             ),
             Present((A + 31, 1), true),
             Address(A + 31, Some(DEVICE + 23)),
-            Counted((A + 8, 24), Some(counters(0, 1))),
+            Counted((A + 8, 24), Some((0, 1))),
             MappedFrom(
                 0,
                 Some(Mapped {

@@ -12,14 +12,25 @@ use std::time::{Duration, Instant};
 /// A comment of 64 bytes with its line feed.
 const COMMENT: &[u8; 64] = b"# nothing is asked for in this line, and nothing is to be done.\n";
 
-/// Prints how long a script of 16 MiB of comments takes, one of 100,000 directives on one array, and growing ones that
-/// declare arrays and use each once.
+/// Prints how long a script of 16 MiB of comments takes, one of 100,000 directives on one array, growing ones that declare
+/// arrays and use each once, and growing ones that map arrays one after the other and report them all.
 pub fn run<R: Print + Clock + Threads + Wait + Sync + AllocGlobal>(rt: &R) -> Result<()> {
     measure(rt, "comments", &comments(rt.alloc())?)?;
     measure(rt, "100000 directives", &directives(rt.alloc())?)?;
     measure(rt, "20000 arrays", arrays(rt.alloc(), 20_000)?.as_bytes())?;
     measure(rt, "80000 arrays", arrays(rt.alloc(), 80_000)?.as_bytes())?;
-    measure(rt, "240000 arrays", arrays(rt.alloc(), 240_000)?.as_bytes())
+    measure(rt, "240000 arrays", arrays(rt.alloc(), 240_000)?.as_bytes())?;
+    measure_mapped(rt, "32000 mapped arrays and a report", 32_000)?;
+    measure_mapped(rt, "64000 mapped arrays and a report", 64_000)
+}
+
+/// Runs a script that maps so many arrays and reports them, and prints how long that took.
+fn measure_mapped<R: Print + Clock + Threads + Wait + Sync + AllocGlobal>(
+    rt: &R,
+    name: &str,
+    count: u32,
+) -> Result<()> {
+    measure(rt, name, mapped(rt.alloc(), count)?.as_bytes())
 }
 
 /// Runs a script, and prints how long that took.
@@ -78,5 +89,15 @@ fn arrays(alloc: Global, count: u32) -> Result<String, AllocError> {
             "array a{number} 1\nenter data copyin(a{number}[0:0])\n"
         )?;
     }
+    Ok(script)
+}
+
+/// So many arrays, each mapped, and a report of them all.
+fn mapped(alloc: Global, count: u32) -> Result<String, AllocError> {
+    let mut script = String::new(alloc);
+    for number in 0..count {
+        write!(script, "array a{number} 16\nenter data copyin(a{number})\n")?;
+    }
+    script.push_str("report\n")?;
     Ok(script)
 }

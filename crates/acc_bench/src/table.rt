@@ -3,8 +3,11 @@
 ghost use Rattle.std.specs.Prelude.{◌<◌};
 
 use crate::limits::largest;
-use acc_base::{EnterClause, ExitClause, Fault, HOST_BASE, Item, List, Section, UpdateClause};
-use acc_table::{Call, Directive, Table};
+use acc_base::{
+    Call, Directive, EnterClause, ExitClause, Fault, HOST_BASE, Item, List, RegionClause, Section,
+    UpdateClause,
+};
+use acc_table::{Reply, Table};
 use anyhow::Result;
 use std::alloc::{AllocError, Global};
 use std::rt::Clock;
@@ -13,8 +16,18 @@ use std::time::{Duration, Instant};
 /// How often a range is mapped and unmapped in one measurement.
 const ROUNDS: u32 = 1_000;
 
-/// Prints how long an `update` of 64 KiB and one of 16 MiB take beside a plain copy of as many bytes, and how long it
-/// takes to map and unmap 16 bytes beside growing numbers of other ranges.
+/// What is made again and again in one measurement.
+#[derive(Clone, Copy)]
+enum Pair {
+    /// An `enter data copyin`, and an `exit data delete`.
+    Data,
+    /// The entry to a data region with `copyin`, and its exit.
+    Region,
+}
+
+/// Prints how long an `update` of 64 KiB and one of 16 MiB take beside a plain copy of as many bytes, and how long
+/// `enter data` with `exit data`, and a data region, take for 16 bytes beside growing numbers of other ranges: where they
+/// map the bytes, and where the bytes are present.
 pub fn run<R: Print + Clock + AllocGlobal>(rt: &R) -> Result<()> {
     measure_updates(rt, 65_536, 1_000)?;
     measure_updates(rt, 16_777_216, 20)?;
@@ -121,20 +134,55 @@ fn copy_once(source: &mut Vec<u8>, target: &mut Vec<u8>, byte: u8) -> u64 {
     }
 }
 
-/// Measures how long it takes to map and unmap 16 bytes beside so many other ranges.
+/// Measures both pairs of directives beside so many other ranges.
 fn measure_mappings<R: Print + Clock + AllocGlobal>(rt: &R, count: u32) -> Result<()> {
     let mut table = new_table(rt.alloc())?;
     map_others(&mut table, rt.alloc(), count)?;
-    let start = Instant::now(rt)?;
-    map_and_unmap(&mut table, rt.alloc(), sixteen_bytes_at(count))?;
-    let taken = start.elapsed(rt)?;
-    tell_mappings(rt, count, taken / ROUNDS)
+    let section = sixteen_bytes_at(count);
+    let mapped = time_both(rt, &mut table, section)?;
+    apply(&mut table, enter(rt.alloc(), EnterClause::Copyin, section)?)?;
+    let present = time_both(rt, &mut table, section)?;
+    tell_mappings(rt, count, mapped, present)
 }
 
-/// Prints how long it takes to map and unmap 16 bytes beside so many other ranges.
-fn tell_mappings<R: Print>(rt: &R, count: u32, taken: Duration) -> Result<()> {
+/// How long each pair of directives takes for a section.
+fn time_both<R: Clock + AllocGlobal>(
+    rt: &R,
+    table: &mut Table,
+    section: Section,
+) -> Result<[Duration; 2]> {
+    let data = time_pairs(rt, table, Pair::Data, section)?;
+    let region = time_pairs(rt, table, Pair::Region, section)?;
+    Ok([data, region])
+}
+
+/// How long a pair of directives takes for a section.
+fn time_pairs<R: Clock + AllocGlobal>(
+    rt: &R,
+    table: &mut Table,
+    pair: Pair,
+    section: Section,
+) -> Result<Duration> {
+    let start = Instant::now(rt)?;
+    make_pairs(table, rt.alloc(), pair, section)?;
+    let taken = start.elapsed(rt)?;
+    Ok(taken / ROUNDS)
+}
+
+/// Prints how long both pairs of directives take beside so many other ranges.
+fn tell_mappings<R: Print>(
+    rt: &R,
+    count: u32,
+    mapped: [Duration; 2],
+    present: [Duration; 2],
+) -> Result<()> {
+    let [data, region] = mapped;
     println!(rt;
-        "table with {count} other ranges: enter data copyin and exit data delete of 16 bytes {taken:?}"
+        "table with {count} other ranges, 16 absent bytes: enter data and exit data {data:?}, a region {region:?}"
+    )?;
+    let [data, region] = present;
+    println!(rt;
+        "table with {count} other ranges, 16 present bytes: enter data and exit data {data:?}, a region {region:?}"
     )?;
     Ok(())
 }
@@ -156,13 +204,26 @@ fn sixteen_bytes_at(number: u32) -> Section {
     }
 }
 
-/// Maps a section and ends the mapping, again and again.
-fn map_and_unmap(table: &mut Table, alloc: Global, section: Section) -> Result<(), Fault> {
+/// Makes a pair of directives again and again.
+fn make_pairs(table: &mut Table, alloc: Global, pair: Pair, section: Section) -> Result<(), Fault> {
     for _ in 0..ROUNDS {
-        apply(table, enter(alloc, EnterClause::Copyin, section)?)?;
-        apply(table, exit(alloc, section)?)?;
+        make_pair(table, alloc, pair, section)?;
     }
     Ok(())
+}
+
+/// Makes a pair of directives.
+fn make_pair(table: &mut Table, alloc: Global, pair: Pair, section: Section) -> Result<(), Fault> {
+    match pair {
+        Pair::Data => {
+            apply(table, enter(alloc, EnterClause::Copyin, section)?)?;
+            apply(table, exit(alloc, section)?)
+        }
+        Pair::Region => {
+            let number = enter_region(table, region(alloc, section)?)?;
+            apply(table, Directive::Exit { number })
+        }
+    }
 }
 
 /// A table with as much memory as there may be.
@@ -177,11 +238,20 @@ fn enter(alloc: Global, clause: EnterClause, section: Section) -> Result<Directi
     })
 }
 
+/// The entry to a data region with one item.
+fn region(alloc: Global, section: Section) -> Result<Directive, AllocError> {
+    let clause = RegionClause::Copyin;
+    Ok(Directive::Enter {
+        items: List::from_vec(vec![in alloc; Item { clause, section }]?),
+    })
+}
+
 /// An `exit data delete` of one section.
 fn exit(alloc: Global, section: Section) -> Result<Directive, AllocError> {
     let clause = ExitClause::Delete;
     Ok(Directive::ExitData {
         items: List::from_vec(vec![in alloc; Item { clause, section }]?),
+        finalize: false,
     })
 }
 
@@ -196,7 +266,17 @@ fn update(alloc: Global, clause: UpdateClause, section: Section) -> Result<Direc
 /// Carries out a directive.
 fn apply(table: &mut Table, directive: Directive) -> Result<(), Fault> {
     match table.apply(Call::Do(directive)) {
-        Ok(_) => Ok(()),
+        Ok(Reply::Done) => Ok(()),
+        Ok(Reply::Entered { .. }) => Ok(()),
+        Err((_, fault)) => Err(fault),
+    }
+}
+
+/// Enters a data region, and answers its number.
+fn enter_region(table: &mut Table, directive: Directive) -> Result<u64, Fault> {
+    match table.apply(Call::Do(directive)) {
+        Ok(Reply::Done) => Ok(0),
+        Ok(Reply::Entered { number }) => Ok(number),
         Err((_, fault)) => Err(fault),
     }
 }

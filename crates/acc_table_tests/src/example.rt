@@ -1,8 +1,12 @@
-//! The example of the README, as it stands there.
+//! The example of the README, as it stands there, and the sizes that it tells.
 
-use acc_base::{Call, Config, Directive, EnterClause, Fault, HOST_BASE, Item, List, Section};
+use acc_base::{
+    Call, Config, Did, Directive, EnterClause, Event, Fault, HOST_BASE, Item, List, RegionClause,
+    Section,
+};
 use acc_table::Table;
 use std::alloc::Global;
+use std::mem::size_of;
 use std::test::Fail;
 
 /// Maps the first 20 bytes of host memory, and answers how many bytes of the device that takes: 32.
@@ -25,4 +29,11 @@ fn used_by_one_array(alloc: Global) -> Result<u64, Fault> {
 fn an_array_of_20_bytes_takes_32(rt: HostRuntime) -> Result<(), Fail> {
     assert_eq!(rt; used_by_one_array(rt.alloc())?, 32);
     Ok(())
+}
+
+#[test]
+fn an_event_takes_64_bytes_and_each_item_48(rt: HostRuntime) {
+    assert_eq!(&rt; size_of::<Event>(), 64);
+    assert_eq!(&rt; size_of::<Item<RegionClause>>(), 24);
+    assert_eq!(&rt; size_of::<Did>(), 24);
 }

@@ -1,1 +1,1 @@
-pub mod Numbered
+pub mod Blocks

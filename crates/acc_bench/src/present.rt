@@ -1,23 +1,35 @@
 //! How long the calls of `acc_present` take.
 
-ghost use Rattle.std.specs.Prelude.{◌≡◌, ◌<◌, ◌≤◌, ◌^◌, OnOk, IfOk};
+ghost use Rattle.std.specs.Prelude.{◌+◌, ◌*◌, ◌<◌, ◌≤◌, ◌^◌, ℕ, OnOk, IfOk};
 ghost use Rattle.std.specs.List.{AllByRecursion};
+ghost use Rattle.acc_present.specs.Present.{HasRange};
 
-use acc_base::{Fault, Found, HOST_BASE, Section};
+use acc_base::{Counters, Fault, Found, HOST_BASE, Section};
 use acc_present::Present;
 use anyhow::Result;
 use std::alloc::Global;
 use std::rt::Clock;
 use std::time::{Duration, Instant};
 
-/// How often a call is made in one measurement.
+/// How often a look-up is made in one measurement.
 const ROUNDS: u64 = 10_000;
 
-/// How far apart the mapped ranges begin, in bytes; each has half as many.
-const STRIDE: u64 = 32;
+/// How many ranges are added, and then removed, in one measurement.
+const CHANGES: u64 = 100;
+
+/// How far apart the ranges begin among which is measured, in bytes. So between any two there is a place for all that are
+/// added in one measurement.
+const STRIDE: u64 = 4_096;
+
+/// How many bytes each range has.
+const LEN: u64 = 16;
+
+/// How far apart the ranges begin that are added in one measurement, in bytes.
+const STEP: u64 = 32;
 
 /// Prints, for growing numbers of mapped ranges, how long a look-up of a section takes that is inside one of them and of
-/// one that is absent, and beside them a plain search by halves over as many starts.
+/// one that is absent, beside them a plain search by halves over as many starts, and how long it takes to add a range and
+/// to remove one, behind all others and in the middle.
 pub fn run<R: Print + Clock + AllocGlobal>(rt: &R) -> Result<()> {
     for count in [100, 1_000, 10_000, 100_000] {
         measure(rt, count)?;
@@ -25,16 +37,38 @@ pub fn run<R: Print + Clock + AllocGlobal>(rt: &R) -> Result<()> {
     Ok(())
 }
 
-/// Measures the look-ups among so many ranges.
+/// Measures the calls among so many ranges.
 fn measure<R: Print + Clock + AllocGlobal>(rt: &R, count: u64) -> Result<()>
     requires { count ≤ 2 ^ 20 }
 {
-    let present = make_table(rt.alloc(), count)?;
+    let mut present = make_table(rt.alloc(), count)?;
     let starts = make_starts(rt.alloc(), count)?;
-    let inside = time_look_ups(rt, &present, count, 0)?;
-    let absent = time_look_ups(rt, &present, count, STRIDE / 2)?;
-    let plain = time_searches(rt, &starts, count)?;
-    tell(rt, count, inside, absent, plain)
+    measure_look_ups(rt, &present, &starts, count)?;
+    measure_changes(rt, &mut present, count)
+}
+
+/// Measures the look-ups among so many ranges.
+fn measure_look_ups<R: Print + Clock>(
+    rt: &R,
+    present: &Present,
+    starts: &[u64],
+    count: u64,
+) -> Result<()> {
+    let inside = time_look_ups(rt, present, count, 0)?;
+    let absent = time_look_ups(rt, present, count, STRIDE / 2)?;
+    let plain = time_searches(rt, starts, count)?;
+    tell_look_ups(rt, count, inside, absent, plain)
+}
+
+/// Measures additions and removals among so many ranges.
+fn measure_changes<R: Print + Clock>(rt: &R, present: &mut Present, count: u64) -> Result<()>
+    requires few { count ≤ 2 ^ 20 }
+    requires blocks { AllByRecursion (λ r. r.block < count) present.old.table.ranges }
+{
+    let middle = start_at(count / 2).wrapping_add(STEP);
+    let at_end = time_changes(rt, present, start_at(count), count)?;
+    let inside = time_changes(rt, present, middle, count + 2 * CHANGES)?;
+    tell_changes(rt, count, at_end, inside)
 }
 
 /// The host address of the range of this place.
@@ -50,28 +84,124 @@ fn place_of(round: u64, count: u64) -> u64 {
 /// A table with so many ranges.
 fn make_table(alloc: Global, count: u64) -> Result<Present, Fault>
     requires { count ≤ 2 ^ 20 }
+    ensures { IfOk result (λ present. AllByRecursion (λ r. r.block < count) present.table.ranges) }
 {
     let mut present = Present::new(alloc, 1);
     for index in 0..count {
-        map_one(&mut present, index)?;
+        map_one(&mut present, section_at(start_at(index)), index)?;
     }
     Ok(present)
 }
 
-/// Maps the range of this place to the block of this number.
-#[tactic(auto, using(crate::proofs::Numbered::one_mapped, crate::proofs::Numbered::at_most))]
-fn map_one(present: &mut Present, index: u64) -> Result<(), Fault>
-    requires { AllByRecursion (λ r. r.block < index) present.old.table.ranges }
-    ensures { OnOk result (AllByRecursion (λ r. r.block ≤ index) present.new.table.ranges) }
+/// The section of a range that begins at this address.
+fn section_at(start: u64) -> Section {
+    Section { start, len: LEN }
+}
+
+/// Maps a section to the block, where it is absent. No range is mapped to the block or a later one.
+#[tactic(auto, using(crate::proofs::Blocks::block_laws))]
+fn map_one(present: &mut Present, section: Section, block: u64) -> Result<(), Fault>
+    requires { AllByRecursion (λ r. r.block < block) present.old.table.ranges }
+    ensures { AllByRecursion (λ r. r.block < block + 1) present.new.table.ranges }
 {
-    let section = Section {
-        start: start_at(index),
-        len: STRIDE / 2,
+    let Found::Absent = present.find(section) else {
+        return Ok(());
     };
-    match present.find(section) {
-        Found::Absent => present.add(section, index),
-        Found::Empty | Found::Inside { .. } | Found::Partly => Ok(()),
+    present.add(section, block)?;
+    Ok(())
+}
+
+/// Ends the mapping to a block, where no counter is above zero.
+#[tactic(auto, using(crate::proofs::Blocks::block_laws))]
+fn end_mapping(present: &mut Present, block: u64)
+    requires { HasRange present.old.table block }
+    ensures { (most : ℕ) → AllByRecursion (λ r. r.block < most) present.old.table.ranges → AllByRecursion (λ r. r.block < most) present.new.table.ranges }
+{
+    let unused = Counters {
+        structured: 0,
+        dynamic: 0,
+    };
+    if present.counters(block) == unused {
+        present.remove(block);
     }
+}
+
+/// Ends the mapping of a section, if there is one.
+#[tactic(auto, using(crate::proofs::Blocks::found_laws))]
+fn end_one(present: &mut Present, section: Section)
+    ensures { (most : ℕ) → AllByRecursion (λ r. r.block < most) present.old.table.ranges → AllByRecursion (λ r. r.block < most) present.new.table.ranges }
+{
+    match present.find(section) {
+        Found::Inside { block, .. } => end_mapping(present, block),
+        Found::Empty | Found::Absent | Found::Partly => {}
+    }
+}
+
+/// The section of a round, of those from an address on.
+fn section_of(from: u64, round: u64) -> Section {
+    section_at(from.wrapping_add(round.wrapping_mul(STEP)))
+}
+
+/// Maps sections from an address on to blocks from this number on.
+fn add_all(present: &mut Present, from: u64, first: u64) -> Result<(), Fault>
+    requires few { first ≤ 2 ^ 21 }
+    requires blocks { AllByRecursion (λ r. r.block < first) present.old.table.ranges }
+    ensures { OnOk result (AllByRecursion (λ r. r.block < first + CHANGES) present.new.table.ranges) }
+{
+    for round in 0..CHANGES {
+        map_one(present, section_of(from, round), first + round)?;
+    }
+    Ok(())
+}
+
+/// Ends the mappings of the sections from an address on.
+fn remove_all(present: &mut Present, from: u64)
+    ensures { (most : ℕ) → AllByRecursion (λ r. r.block < most) present.old.table.ranges → AllByRecursion (λ r. r.block < most) present.new.table.ranges }
+{
+    for round in 0..CHANGES {
+        end_one(present, section_of(from, round));
+    }
+}
+
+/// How long an addition lasts, with the look-up before it.
+fn time_adds<R: Clock>(rt: &R, present: &mut Present, from: u64, first: u64) -> Result<Duration>
+    requires few { first ≤ 2 ^ 21 }
+    requires blocks { AllByRecursion (λ r. r.block < first) present.old.table.ranges }
+    ensures { OnOk result (AllByRecursion (λ r. r.block < first + CHANGES) present.new.table.ranges) }
+{
+    let start = Instant::now(rt)?;
+    add_all(present, from, first)?;
+    let taken = start.elapsed(rt)?;
+    Ok(taken / CHANGES as u32)
+}
+
+/// How long a removal lasts, with the look-up before it.
+fn time_removes<R: Clock>(rt: &R, present: &mut Present, from: u64) -> Result<Duration>
+    ensures { (most : ℕ) → AllByRecursion (λ r. r.block < most) present.old.table.ranges → OnOk result (AllByRecursion (λ r. r.block < most) present.new.table.ranges) }
+{
+    let start = Instant::now(rt)?;
+    remove_all(present, from);
+    let taken = start.elapsed(rt)?;
+    Ok(taken / CHANGES as u32)
+}
+
+/// How long an addition and a removal last, from an address on. All is done once before, so that room is not made while
+/// it is timed.
+fn time_changes<R: Clock>(
+    rt: &R,
+    present: &mut Present,
+    from: u64,
+    first: u64,
+) -> Result<(Duration, Duration)>
+    requires few { first ≤ 2 ^ 20 + 200 }
+    requires blocks { AllByRecursion (λ r. r.block < first) present.old.table.ranges }
+    ensures { OnOk result (AllByRecursion (λ r. r.block < first + 2 * CHANGES) present.new.table.ranges) }
+{
+    add_all(present, from, first)?;
+    remove_all(present, from);
+    let added = time_adds(rt, present, from, first + CHANGES)?;
+    let removed = time_removes(rt, present, from)?;
+    Ok((added, removed))
 }
 
 /// The starts of as many ranges, by rising address.
@@ -127,8 +257,8 @@ fn search(starts: &[u64], count: u64) -> u64 {
     found
 }
 
-/// Prints one measurement.
-fn tell<R: Print>(
+/// Prints how long look-ups last.
+fn tell_look_ups<R: Print>(
     rt: &R,
     count: u64,
     inside: Duration,
@@ -137,6 +267,21 @@ fn tell<R: Print>(
 ) -> Result<()> {
     println!(rt;
         "present table with {count} ranges: find inside {inside:?}, find absent {absent:?}, a plain search by halves {plain:?}"
+    )?;
+    Ok(())
+}
+
+/// Prints how long additions and removals last, at the end and in the middle.
+fn tell_changes<R: Print>(
+    rt: &R,
+    count: u64,
+    at_end: (Duration, Duration),
+    inside: (Duration, Duration),
+) -> Result<()> {
+    let (added, removed) = at_end;
+    let (put, taken) = inside;
+    println!(rt;
+        "present table with {count} ranges: add behind all {added:?}, remove {removed:?}, add in the middle {put:?}, remove {taken:?}"
     )?;
     Ok(())
 }

@@ -1,6 +1,6 @@
 -- What a directive asks, and the event that it makes.
 use Rattle.std.proofs.Common.{ℕ, ◌≡◌, ◌≤◌, refl, ap, ◌∙◌, Bool, true, false, List, [], ◌∷◌, ◌++◌, length, Option, Some, None, Result, Ok, Err, inl, inr}
-use Rattle.std.specs.Prelude.{◌==◌, map, reverse, option_map, ⊤}
+use Rattle.std.specs.Prelude.{◌==◌, map, reverse, option_map, ⊤, MatchResult}
 use Rattle.std.proofs.lemmas.List.{map-append}
 use mathlib.Core.List.{reverse-cons}
 use Rattle.std.specs.List.{list_any, AllByRecursion}
@@ -91,6 +91,13 @@ plan_refused l d lay tasks fault e f = plan_asked l d lay ∙ rw (e, f) refl
 -- else it is the event of what they do
 pub plan_judged : (l : Limits) (d : Directive) (lay : Layout) (tasks : List Task) (dids : List Did) → asked_of d lay.register ≡ Ok tasks → judge_all l 0 tasks lay.records ≡ Ok dids → plan_of l d lay ≡ Ok (event_of d lay.register dids)
 plan_judged l d lay tasks dids e f = plan_asked l d lay ∙ rw (e, f) refl
+
+-- what judging its tasks answers is what its plan is
+pub plan_told : (l : Limits) (d : Directive) (lay : Layout) (tasks : List Task) (dids : List Did) (r : Result ⊤ Fault) → asked_of d lay.register ≡ Ok tasks
+    → MatchResult r (λ _. judge_all l 0 tasks lay.records ≡ Ok dids) (λ fault. judge_all l 0 tasks lay.records ≡ Err fault)
+    → MatchResult r (λ _. plan_of l d lay ≡ Ok (event_of d lay.register dids)) (λ fault. plan_of l d lay ≡ Err fault)
+plan_told l d lay tasks dids (Ok x) e h = plan_judged l d lay tasks dids e h
+plan_told l d lay tasks dids (Err fault) e h = plan_refused l d lay tasks fault e h
 
 asked_ok : (few : Result ⊤ Fault) (r : Result (List Task) Fault) (tasks : List Task) → (few >> r) ≡ Ok tasks → r ≡ Ok tasks
 asked_ok (Ok x) r tasks e = e

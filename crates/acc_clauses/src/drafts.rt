@@ -68,6 +68,15 @@ impl Draft {
         }
     }
 
+    /// What was judged is forgotten.
+    pub(crate) fn clear(&mut self)
+        ensures { self.new ≡ [] }
+    {
+        self.acts.clear();
+        self.births.clear();
+        self.ended.clear();
+    }
+
     /// One more task was judged.
     pub(crate) fn push(&mut self, x: Acted)
         requires { length self.old < 64 }

@@ -1,6 +1,6 @@
 //! A directive is judged whole, without memory and without a change.
 
-ghost use Rattle.std.specs.Prelude.{◌≡◌, ◌<◌, ◌≤◌, ◌^◌, MatchResult, IfOk, length, Ok, Err};
+ghost use Rattle.std.specs.Prelude.{◌≡◌, ◌<◌, ◌≤◌, ◌^◌, MatchResult, OnOk, length, Ok, Err};
 ghost use Rattle.std.specs.List.{AllByRecursion};
 ghost use Rattle.acc_base.specs.Records.{layout_of};
 ghost use Rattle.acc_base.specs.Tasks.{judge_all};
@@ -12,29 +12,29 @@ use crate::acted::Acted;
 use crate::drafts::Draft;
 use crate::judging::judge;
 use crate::parts::Parts;
-use crate::plans::{Head, Plan};
+use crate::plans::{Head, Plan, tell_written};
 use crate::tasks::{enter_data_tasks, enter_tasks, exit_tasks, leaving_tasks, move_tasks};
 use acc_base::{Directive, Fault, Task};
 use arrayvec::ArrayVec;
 
 /// Judges each task as if those before it had acted.
-fn judge_all(parts: &Parts, tasks: &[Task]) -> Result<Draft, Fault>
+fn judge_all(parts: &Parts, tasks: &[Task], draft: &mut Draft) -> Result<(), Fault>
     requires few { length tasks.now ≤ 64 }
     requires unmixed { AreUnmixed tasks.now }
     requires births { parts.now.state.records.births < 2 ^ 48 }
-    ensures judged { MatchResult result (λ draft. judge_all parts.now.limits 0 tasks.now parts.now.state.records ≡ Ok (dids_in draft)) (λ fault. judge_all parts.now.limits 0 tasks.now parts.now.state.records ≡ Err fault) }
-    ensures asked { IfOk result (λ draft. tasks_in draft ≡ tasks.now) }
-    ensures planned { IfOk result (λ draft. IsPlanned parts.now.limits draft parts.now.state.records) }
+    ensures judged { MatchResult result (λ _. judge_all parts.now.limits 0 tasks.now parts.now.state.records ≡ Ok (dids_in draft.new)) (λ fault. judge_all parts.now.limits 0 tasks.now parts.now.state.records ≡ Err fault) }
+    ensures asked { OnOk result (tasks_in draft.new ≡ tasks.now) }
+    ensures planned { OnOk result (IsPlanned parts.now.limits draft.new parts.now.state.records) }
 {
     parts.laws();
-    let mut draft = Draft::new();
+    draft.clear();
     let mut n = 0;
     for task in tasks {
-        let step = judge(parts, &draft, n, *task)?;
+        let step = judge(parts, draft, n, *task)?;
         draft.push(Acted { task: *task, step });
         n += 1;
     }
-    Ok(draft)
+    Ok(())
 }
 
 /// How many items a directive may name.
@@ -57,23 +57,33 @@ pub fn check_items(directive: &Directive) -> Result<(), Fault>
 
 // What a directive asks, in the order in which it acts.
 #[tactic(auto, using(crate::proofs::Asking::asking_laws))]
-fn tasks_of(parts: &Parts, directive: &Directive) -> Result<ArrayVec<Task, 64>, Fault>
+fn tasks_of(
+    parts: &Parts,
+    directive: &Directive,
+    tasks: &mut ArrayVec<Task, 64>,
+) -> Result<(), Fault>
     requires { AllByRecursion HasFewHoldings parts.now.state.register.regions }
-    ensures asked { let asked = asked_of directive.now parts.now.state.register in MatchResult result (λ tasks. asked ≡ Ok tasks.items) (λ fault. asked ≡ Err fault) }
-    ensures unmixed { IfOk result (λ tasks. AreUnmixed tasks.items) }
-    ensures few { IfOk result (λ tasks. length tasks.items ≤ 64) }
+    ensures asked { let asked = asked_of directive.now parts.now.state.register in MatchResult result (λ _. asked ≡ Ok tasks.new.items) (λ fault. asked ≡ Err fault) }
+    ensures unmixed { OnOk result (AreUnmixed tasks.new.items) }
+    ensures few { OnOk result (length tasks.new.items ≤ 64) }
 {
     check_items(directive)?;
+    tasks.clear();
     match directive {
-        Directive::Enter { items } => Ok(enter_tasks(items.as_slice())),
+        Directive::Enter { items } => enter_tasks(tasks, items.as_slice()),
         Directive::Exit { number } => match parts.holdings(*number) {
-            Some(holdings) => Ok(leaving_tasks(holdings)),
-            None => Err(Fault::NoRegion { number: *number }),
+            Some(holdings) => leaving_tasks(tasks, holdings),
+            None => return Err(Fault::NoRegion { number: *number }),
         },
-        Directive::EnterData { items } => Ok(enter_data_tasks(items.as_slice())),
-        Directive::ExitData { items, finalize } => Ok(exit_tasks(items.as_slice(), *finalize)),
-        Directive::Update { items, if_present } => Ok(move_tasks(items.as_slice(), *if_present)),
+        Directive::EnterData { items } => enter_data_tasks(tasks, items.as_slice()),
+        Directive::ExitData { items, finalize } => {
+            exit_tasks(tasks, items.as_slice(), *finalize);
+        }
+        Directive::Update { items, if_present } => {
+            move_tasks(tasks, items.as_slice(), *if_present);
+        }
     }
+    Ok(())
 }
 
 // What a directive does to the register of open regions.
@@ -98,13 +108,15 @@ fn head_of(directive: &Directive) -> Head
 /// refusal of an item: [`Fault::OutOfHost`], [`Fault::PartlyPresent`], [`Fault::NotPresent`], [`Fault::CounterFull`] or
 /// [`Fault::DeviceFull`], with the item's place in the directive, counted from 0.
 #[tactic(auto, using(crate::proofs::Asking::event_laws))]
-pub(crate) fn plan(parts: &Parts, directive: &Directive) -> Result<Plan, Fault>
+pub(crate) fn plan(parts: &Parts, directive: &Directive, plan: &mut Plan) -> Result<(), Fault>
     requires births { parts.now.state.records.births < 2 ^ 48 }
     requires register { AllByRecursion HasFewHoldings parts.now.state.register.regions }
-    ensures judged { let lay = layout_of parts.now.state in MatchResult result (λ p. plan_of parts.now.limits directive.now lay ≡ Ok (event_of directive.now lay.register p.dids)) (λ fault. plan_of parts.now.limits directive.now lay ≡ Err fault) }
-    ensures planned { IfOk result (λ p. IsPlannedOn parts.now.limits directive.now (layout_of parts.now.state) p) }
+    ensures judged { let lay = layout_of parts.now.state in MatchResult result (λ _. plan_of parts.now.limits directive.now lay ≡ Ok (event_of directive.now lay.register plan.new.dids)) (λ fault. plan_of parts.now.limits directive.now lay ≡ Err fault) }
+    ensures planned { OnOk result (IsPlannedOn parts.now.limits directive.now (layout_of parts.now.state) plan.new) }
 {
-    let tasks = tasks_of(parts, directive)?;
-    let draft = judge_all(parts, &tasks)?;
-    Ok(Plan::new(head_of(directive), draft))
+    tasks_of(parts, directive, &mut plan.asked)?;
+    let judged = judge_all(parts, &plan.asked, &mut plan.draft);
+    plan.head = head_of(directive);
+    tell_written(&mut plan.did, plan.head, plan.draft.acts());
+    judged
 }

@@ -1,12 +1,13 @@
 //! The plan of a directive.
 
-ghost use Rattle.std.specs.Prelude.{◌≡◌, ◌≤◌, length};
+ghost use Rattle.std.specs.Prelude.{◌≡◌, ◌≤◌, [], length};
 ghost use Rattle.acc_clauses.specs.Overlays.{tasks_in, dids_in};
 ghost use Rattle.acc_clauses.specs.Planned.{in_written_order};
+ghost use Rattle.acc_clauses.specs.declared.plans.Head.TheVariants.{Plain};
 
 use crate::acted::Acted;
 use crate::drafts::Draft;
-use acc_base::Did;
+use acc_base::{Did, Task};
 use arrayvec::ArrayVec;
 use std::marker::Model;
 
@@ -22,11 +23,15 @@ pub enum Head {
 }
 
 /// A directive that was judged whole: what each of its items will do.
+///
+/// All of it lies in the value, some 11 KiB for 64 items, so a plan that is used again and again costs nothing to make.
 #[derive(Drop)]
 pub struct Plan {
-    head: Head,
-    draft: Draft,
-    did: ArrayVec<Did, 64>,
+    pub(crate) head: Head,
+    // What the items ask, in the order in which they act.
+    pub(crate) asked: ArrayVec<Task, 64>,
+    pub(crate) draft: Draft,
+    pub(crate) did: ArrayVec<Did, 64>,
 }
 
 impl Model for Plan {
@@ -42,38 +47,40 @@ impl Model for Plan {
 }
 
 // What the tasks do, in the order in which they act.
-fn dids(acts: &[Acted]) -> ArrayVec<Did, 64>
+fn tell(did: &mut ArrayVec<Did, 64>, acts: &[Acted])
     requires { length acts.now ≤ 64 }
-    ensures { result.items ≡ dids_in acts.now }
+    ensures { did.new.items ≡ dids_in acts.now }
 {
-    let mut did = ArrayVec::new();
+    did.clear();
     for x in acts {
         did.push(Did { step: x.step });
     }
-    did
 }
 
-// What the tasks do, in the order in which their items are written.
-fn written(head: Head, acts: &[Acted]) -> ArrayVec<Did, 64>
+/// What the tasks do, in the order in which their items are written.
+pub(crate) fn tell_written(did: &mut ArrayVec<Did, 64>, head: Head, acts: &[Acted])
     requires { length acts.now ≤ 64 }
-    ensures { result.items ≡ in_written_order head (dids_in acts.now) }
+    ensures { did.new.items ≡ in_written_order head (dids_in acts.now) }
 {
-    let mut did = dids(acts);
+    tell(did, acts);
     match head {
         Head::Plain => {}
         Head::Entry => {}
         Head::Leaving(_) => did.as_mut_slice().reverse(),
     }
-    did
 }
 
 impl Plan {
-    /// The plan of what was judged.
-    pub(crate) fn new(head: Head, draft: Draft) -> Self
-        ensures { result ≡ record { head = head; tasks = tasks_in draft; dids = dids_in draft } }
+    /// A plan of nothing, to be filled by [`crate::Store::plan`]. It takes no memory.
+    pub fn new() -> Self
+        ensures { result ≡ record { head = Plain; tasks = []; dids = [] } }
     {
-        let did = written(head, draft.acts());
-        Plan { head, draft, did }
+        Plan {
+            head: Head::Plain,
+            asked: ArrayVec::new(),
+            draft: Draft::new(),
+            did: ArrayVec::new(),
+        }
     }
 
     /// What the directive does to the register of open regions.

@@ -22,7 +22,7 @@ ghost use Rattle.acc_clauses.specs.Acts.{CanWrite, HasPlanRoom};
 use crate::heads::finish;
 use crate::judging::in_host;
 use crate::parts::Parts;
-use crate::planning::plan;
+use crate::planning;
 use crate::plans::Plan;
 use crate::running::{act_all, lens_of};
 use acc_base::{Config, Counters, Directive, Fault, Found, Range, Section};
@@ -72,19 +72,20 @@ impl Store {
         self.parts.laws();
     }
 
-    /// Judges a directive whole: its first refusal, or the plan of what each of its items will do. It takes no memory, and
-    /// nothing changes.
+    /// Judges a directive whole: its first refusal, or the plan of what each of its items will do, which replaces what the
+    /// plan held. It takes no memory, and nothing of the store changes.
     ///
     /// # Errors
     ///
     /// `TooManyItems` above 64 items; `NoRegion` where the region is not open; then the first refusal of the items in the
-    /// order in which they act: `OutOfHost`, `PartlyPresent`, `NotPresent`, `CounterFull` or `DeviceFull`.
-    pub fn plan(&self, directive: &Directive) -> Result<Plan, Fault>
+    /// order in which they act: `OutOfHost`, `PartlyPresent`, `NotPresent`, `CounterFull` or `DeviceFull`. The plan is then
+    /// of no use.
+    pub fn plan(&self, directive: &Directive, plan: &mut Plan) -> Result<(), Fault>
         requires births { self.now.state.records.births < 2 ^ 48 }
-        ensures judged { let lay = layout_of self.now.state in MatchResult result (λ p. plan_of self.now.limits directive.now lay ≡ Ok (event_of directive.now lay.register p.dids)) (λ fault. plan_of self.now.limits directive.now lay ≡ Err fault) }
-        ensures planned { IfOk result (λ p. IsPlannedOn self.now.limits directive.now (layout_of self.now.state) p) }
+        ensures judged { let lay = layout_of self.now.state in MatchResult result (λ _. plan_of self.now.limits directive.now lay ≡ Ok (event_of directive.now lay.register plan.new.dids)) (λ fault. plan_of self.now.limits directive.now lay ≡ Err fault) }
+        ensures planned { OnOk result (IsPlannedOn self.now.limits directive.now (layout_of self.now.state) plan.new) }
     {
-        plan(&self.parts, directive)
+        planning::plan(&self.parts, directive, plan)
     }
 
     /// Makes all room that a plan of this store needs. Nothing else changes, also where it is refused.

@@ -1,7 +1,7 @@
-//! What the items of a directive ask, in the order in which they act.
+//! What the items of a directive ask, in the order in which they act. Each list is put into one that is there and empty.
 
-ghost use Rattle.std.specs.Prelude.{◌≡◌, ◌≤◌, length, map};
-ghost use Rattle.acc_base.specs.declared.tasks.Task.TheVariants as tasks;
+ghost use Rattle.std.specs.Prelude.{◌≡◌, ◌≤◌, [], length, map};
+ghost use Rattle.acc_base.specs.declared.tasks.Task.TheVariants.{Leave, Exit, Move};
 ghost use Rattle.acc_base.specs.Clauses.{as_region};
 ghost use Rattle.acc_base.specs.Walk.{enter_task, enter_data_task, leave_tasks};
 
@@ -9,18 +9,17 @@ use acc_base::{Counter, EnterClause, ExitClause, Holding, Item, RegionClause, Ta
 use arrayvec::ArrayVec;
 
 /// The entry of a region's items.
-pub fn enter_tasks(items: &[Item<RegionClause>]) -> ArrayVec<Task, 64>
-    requires { length items.now ≤ 64 }
-    ensures { result.items ≡ map enter_task items.now }
+pub fn enter_tasks(tasks: &mut ArrayVec<Task, 64>, items: &[Item<RegionClause>])
+    requires none { tasks.old.items ≡ [] }
+    requires few { length items.now ≤ 64 }
+    ensures { tasks.new.items ≡ map enter_task items.now }
 {
-    let mut tasks = ArrayVec::new();
     for x in items {
         tasks.push(Task::Enter {
             counter: Counter::Structured,
             item: *x,
         });
     }
-    tasks
 }
 
 // A clause of `enter data` is the row of this clause of a region.
@@ -34,11 +33,11 @@ fn as_region(clause: EnterClause) -> RegionClause
 }
 
 /// The items of `enter data`.
-pub fn enter_data_tasks(items: &[Item<EnterClause>]) -> ArrayVec<Task, 64>
-    requires { length items.now ≤ 64 }
-    ensures { result.items ≡ map enter_data_task items.now }
+pub fn enter_data_tasks(tasks: &mut ArrayVec<Task, 64>, items: &[Item<EnterClause>])
+    requires none { tasks.old.items ≡ [] }
+    requires few { length items.now ≤ 64 }
+    ensures { tasks.new.items ≡ map enter_data_task items.now }
 {
-    let mut tasks = ArrayVec::new();
     for x in items {
         let item = Item {
             clause: as_region(x.clause),
@@ -49,55 +48,52 @@ pub fn enter_data_tasks(items: &[Item<EnterClause>]) -> ArrayVec<Task, 64>
             item,
         });
     }
-    tasks
 }
 
 /// The items of `exit data`.
-pub fn exit_tasks(items: &[Item<ExitClause>], finalize: bool) -> ArrayVec<Task, 64>
-    requires { length items.now ≤ 64 }
-    ensures { result.items ≡ map (tasks.Exit finalize) items.now }
+pub fn exit_tasks(tasks: &mut ArrayVec<Task, 64>, items: &[Item<ExitClause>], finalize: bool)
+    requires none { tasks.old.items ≡ [] }
+    requires few { length items.now ≤ 64 }
+    ensures { tasks.new.items ≡ map (Exit finalize) items.now }
 {
-    let mut tasks = ArrayVec::new();
     for x in items {
         tasks.push(Task::Exit { finalize, item: *x });
     }
-    tasks
 }
 
 /// The items of `update`.
-pub fn move_tasks(items: &[Item<UpdateClause>], if_present: bool) -> ArrayVec<Task, 64>
-    requires { length items.now ≤ 64 }
-    ensures { result.items ≡ map (tasks.Move if_present) items.now }
+pub fn move_tasks(tasks: &mut ArrayVec<Task, 64>, items: &[Item<UpdateClause>], if_present: bool)
+    requires none { tasks.old.items ≡ [] }
+    requires few { length items.now ≤ 64 }
+    ensures { tasks.new.items ≡ map (Move if_present) items.now }
 {
-    let mut tasks = ArrayVec::new();
     for x in items {
         tasks.push(Task::Move {
             if_present,
             item: *x,
         });
     }
-    tasks
 }
 
 // The undoing of holdings, in the order in which they were written.
-fn holding_tasks(holdings: &[Holding]) -> ArrayVec<Task, 64>
-    requires { length holdings.now ≤ 64 }
-    ensures { result.items ≡ map tasks.Leave holdings.now }
+fn holding_tasks(tasks: &mut ArrayVec<Task, 64>, holdings: &[Holding])
+    requires none { tasks.old.items ≡ [] }
+    requires few { length holdings.now ≤ 64 }
+    ensures { tasks.new.items ≡ map Leave holdings.now }
 {
-    let mut tasks = ArrayVec::new();
     for x in holdings {
         tasks.push(Task::Leave { holding: *x });
     }
-    tasks
 }
 
 /// The exit from a region that holds these: its items are undone from the last to the first.
 #[tactic(auto, using(crate::proofs::Asking::asking_laws))]
-pub fn leaving_tasks(holdings: &[Holding]) -> ArrayVec<Task, 64>
-    requires { length holdings.now ≤ 64 }
-    ensures { result.items ≡ leave_tasks holdings.now }
+pub fn leaving_tasks(tasks: &mut ArrayVec<Task, 64>, holdings: &[Holding])
+    requires none { tasks.old.items ≡ [] }
+    requires few { length holdings.now ≤ 64 }
+    ensures tasks { tasks.new.items ≡ leave_tasks holdings.now }
+    ensures few { length tasks.new.items ≤ 64 }
 {
-    let mut tasks = holding_tasks(holdings);
+    holding_tasks(tasks, holdings);
     tasks.as_mut_slice().reverse();
-    tasks
 }

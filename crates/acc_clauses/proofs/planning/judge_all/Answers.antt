@@ -4,7 +4,7 @@ use Rattle.acc_clauses.proofs.planning.judge_all.Goals as goal
 
 pub loop-task-init : goal.loop-task-init
 loop-task-init c =
-    let none = c.new-draft.ensures in
+    let none = c.clear.ensures in
     record {
       at = refl;
       few = rw none refl;

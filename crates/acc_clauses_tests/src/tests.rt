@@ -108,7 +108,8 @@ fn carry_out(store: &mut Store, directive: &Directive) -> Result<Plan, Fault>
     requires births { store.old.state.records.births < 2 ^ 47 }
     requires next { store.old.state.register.next < 2 ^ 48 }
 {
-    let plan = store.plan(directive)?;
+    let mut plan = Plan::new();
+    store.plan(directive, &mut plan)?;
     store.reserve(&plan)?;
     store.commit(&plan);
     Ok(plan)
@@ -182,7 +183,7 @@ fn agrees(alloc: Global, store: &mut Store, turn: Turn) -> Result<bool, AllocErr
     }
 }
 
-/// A store whose memories have 64 bytes of host memory and 4096 of device memory.
+/// A store of 64 bytes of host memory and 4096 of device memory.
 fn store_of(alloc: Global, counter_max: u64) -> Result<Store, Fault> {
     let config = Config::new(64, 4_096, 64, 100, counter_max, 256, 100)?;
     Store::new(alloc, &config)
@@ -240,7 +241,8 @@ fn carry_out_twice(rt: &impl Abort, store: &mut Store, directive: &Directive) ->
     requires births { store.old.state.records.births < 2 ^ 47 }
     requires next { store.old.state.register.next < 2 ^ 48 }
 {
-    let plan = store.plan(directive)?;
+    let mut plan = Plan::new();
+    store.plan(directive, &mut plan)?;
     reserve_twice(rt, store, &plan);
     store.commit(&plan);
     Ok(plan)

@@ -84,8 +84,8 @@ pub kept_write : (w : World) (addr : ℕ) (bytes : List ℕ) → IsKept w → ju
 kept_write w addr bytes k h = kept_after w (HostWrite addr bytes) (HostWritten addr (length bytes)) [] k h refl (omega arith)
 
 -- what a store and a trace keep that carried a directive out, or were asked in vain
-pub kept_carried : (d : Directive) (p : Planned) (old new : Contents) (trace longer : List Event) (r : Result Reply (Directive × Fault)) → IsKept (world_of old trace) → IsPlannedOn old.limits d (layout_of old.state) p
-    → judge (world_of old trace) (Do d) ≡ Ok (Makes (planned_event d p old)) → OnOk r (IsCommitted d p old new trace longer) → OnErr r (IsAsBefore old new trace longer) → IsKept (world_of new longer)
+pub kept_carried : (d : Directive) (p : Planned) (old new : Contents) (trace longer : List Event) (r : Result Reply (Directive × Fault)) → IsKept (world_of old trace) → OnOk r (IsPlannedOn old.limits d (layout_of old.state) p)
+    → OnOk r (judge (world_of old trace) (Do d) ≡ Ok (Makes (planned_event d p old))) → OnOk r (IsCommitted d p old new trace longer) → OnErr r (IsAsBefore old new trace longer) → IsKept (world_of new longer)
 kept_carried d p old new trace longer (Ok reply) k planned h done same = subst (λ (w : World). IsKept w) (sym (committed d p old new trace longer done)) (kept_directive (world_of old trace) d p k planned h)
 kept_carried d p old new trace longer (Err back) k planned h done same = subst (λ (w : World). IsKept w) (sym (unchanged old new trace longer same)) k
 

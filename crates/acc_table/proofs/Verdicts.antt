@@ -1,6 +1,6 @@
 -- A directive that was judged becomes its event, and a call its verdict.
 use Rattle.std.proofs.Common.{ℕ, ◌≡◌, ◌<◌, Bool, true, false, arith, refl, sym, ◌∙◌, subst, List, [], ◌∷◌, ◌++◌, length, Result, Ok, Err}
-use Rattle.std.specs.Prelude.{⊤, not, ◌&&◌, MatchResult, IfOk, OnOk}
+use Rattle.std.specs.Prelude.{⊤, not, ◌&&◌, IfOk, IfErr, OnOk}
 use Rattle.std.proofs.lemmas.Bool.Decides.{nat_tests}
 use Rattle.acc_base.specs.declared.items.Section.{Section}
 use Rattle.acc_base.specs.Section.{is_empty, is_within, host_memory}
@@ -23,9 +23,9 @@ use Rattle.acc_clauses.specs.Contents.{Contents}
 use Rattle.acc_clauses.specs.Planned.{Planned, head_of, in_written_order}
 use Rattle.acc_table.specs.declared.calls.Reply.{Reply}
 use Rattle.acc_table.specs.declared.calls.Reply.TheVariants.{Done}
-use Rattle.acc_table.specs.Calls.{reply_of, IsDone}
+use Rattle.acc_table.specs.Calls.{reply_of, IsDone, IsRefusal}
 use Rattle.acc_table.specs.Kept.{world_of}
-use Rattle.acc_table.specs.Making.{event_stored, admitted, write_admitted, planned_event, IsCommitted, IsAsBefore}
+use Rattle.acc_table.specs.Making.{event_stored, admitted, write_admitted, planned_event, MayBeToldOf, IsCommitted, IsAsBefore}
 
 -- ---- the event
 
@@ -70,11 +70,20 @@ judge_directive w d = go (ticket w) (allowance w d) (few_items d) (trace_room w)
     go (Ok x) (Ok y) (Ok z) (Ok u) = refl
 
 -- what a plan answers is the verdict, where nothing was told before
-pub planned_verdict : (w : World) (d : Directive) (r : Result Planned Fault) → admitted w d ≡ Ok tt
-    → MatchResult r (λ p. plan_of w.limits d (layout_of w.state) ≡ Ok (event_of d w.state.register p.dids)) (λ fault. plan_of w.limits d (layout_of w.state) ≡ Err fault)
-    → MatchResult r (λ p. judge w (Do d) ≡ Ok (Makes (event_of d w.state.register p.dids))) (λ fault. judge w (Do d) ≡ Err fault)
-planned_verdict w d (Ok p) ok h = judge_directive w d ∙ rw (ok, h) refl
-planned_verdict w d (Err fault) ok h = judge_directive w d ∙ rw (ok, h) refl
+pub judged_plan : (w : World) (d : Directive) (e : Event) → admitted w d ≡ Ok tt → plan_of w.limits d (layout_of w.state) ≡ Ok e → judge w (Do d) ≡ Ok (Makes e)
+judged_plan w d e ok h = judge_directive w d ∙ rw (ok, h) refl
+
+-- so is what is told of a plan
+pub refused_plan : (w : World) (d : Directive) (fault : Fault) → admitted w d ≡ Ok tt → MayBeToldOf (plan_of w.limits d (layout_of w.state)) fault → IsRefusal w (Do d) fault
+refused_plan w d fault ok told = go (plan_of w.limits d (layout_of w.state)) refl told
+  where
+    go : (r : Result Event Fault) → plan_of w.limits d (layout_of w.state) ≡ r → MayBeToldOf r fault → IsRefusal w (Do d) fault
+    go (Ok e) is h = let v : judge w (Do d) ≡ Ok (Makes e) = judged_plan w d e ok is in rw v h
+    go (Err refusal) is h = let v : judge w (Do d) ≡ Err refusal = judge_directive w d ∙ rw (ok, is) refl in rw v h
+
+-- and what is told before
+pub refused_before : (w : World) (d : Directive) (fault : Fault) → admitted w d ≡ Err fault → IsRefusal w (Do d) fault
+refused_before w d fault e = let v : judge w (Do d) ≡ Err fault = judge_directive w d ∙ rw e refl in rw v refl
 
 -- the verdict on a write of the host
 pub judge_write : (w : World) (addr : ℕ) (bytes : List ℕ) → judge w (HostWrite addr bytes) ≡ (write_admitted w (record { start = addr; len = length bytes }) >> Ok (Makes (HostWritten addr (length bytes))))
@@ -106,10 +115,20 @@ can_write w s admitted size some =
 
 -- ---- a call that was carried out
 
-pub directive_done : (d : Directive) (p : Planned) (old new : Contents) (trace longer : List Event) (r : Result Reply (Directive × Fault)) → judge (world_of old trace) (Do d) ≡ Ok (Makes (planned_event d p old))
+pub directive_done : (d : Directive) (p : Planned) (old new : Contents) (trace longer : List Event) (r : Result Reply (Directive × Fault)) → OnOk r (judge (world_of old trace) (Do d) ≡ Ok (Makes (planned_event d p old)))
     → IfOk r (λ reply. reply ≡ reply_of (planned_event d p old)) → OnOk r (IsCommitted d p old new trace longer) → IfOk r (λ reply. IsDone (world_of old trace) (Do d) reply (world_of new longer))
 directive_done d p old new trace longer (Ok reply) h ok done = rw h (ok, committed d p old new trace longer done)
 directive_done d p old new trace longer (Err back) h ok done = tt
+
+pub directive_judged : (d : Directive) (p : Planned) (old : Contents) (trace : List Event) (r : Result Reply (Directive × Fault)) → admitted (world_of old trace) d ≡ Ok tt
+    → OnOk r (plan_of old.limits d (layout_of old.state) ≡ Ok (planned_event d p old)) → OnOk r (judge (world_of old trace) (Do d) ≡ Ok (Makes (planned_event d p old)))
+directive_judged d p old trace (Ok reply) ok h = judged_plan (world_of old trace) d (planned_event d p old) ok h
+directive_judged d p old trace (Err back) ok h = tt
+
+pub directive_refused : (d : Directive) (old : Contents) (trace : List Event) (r : Result Reply (Directive × Fault)) → admitted (world_of old trace) d ≡ Ok tt
+    → IfErr r (λ back. MayBeToldOf (plan_of old.limits d (layout_of old.state)) back.1) → IfErr r (λ back. IsRefusal (world_of old trace) (Do d) back.1)
+directive_refused d old trace (Ok reply) ok h = tt
+directive_refused d old trace (Err back) ok h = refused_plan (world_of old trace) d back.1 ok h
 
 pub write_done : (addr : ℕ) (bytes : List ℕ) (old new : Contents) (trace longer : List Event) → judge (world_of old trace) (HostWrite addr bytes) ≡ Ok (Makes (HostWritten addr (length bytes)))
     → world_of new longer ≡ world_after (HostWrite addr bytes) (HostWritten addr (length bytes)) (world_of old trace) → IsDone (world_of old trace) (HostWrite addr bytes) Done (world_of new longer)

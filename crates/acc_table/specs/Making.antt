@@ -1,5 +1,5 @@
 -- How a directive that was judged becomes an event, and what is refused before its items are judged.
-use Rattle.std.specs.Prelude.{ℕ, ◌≡◌, ◌++◌, ◌∷◌, [], List, Result, ⊤}
+use Rattle.std.specs.Prelude.{ℕ, ◌≡◌, ◌++◌, ◌∷◌, [], List, Result, MatchResult, ⊤}
 use Rattle.acc_base.specs.declared.items.Section.{Section}
 use Rattle.acc_base.specs.declared.directives.Directive.{Directive}
 use Rattle.acc_base.specs.declared.directives.Directive.TheVariants.{Enter, Exit, EnterData, ExitData, Update}
@@ -7,6 +7,7 @@ use Rattle.acc_base.specs.declared.events.Did.{Did}
 use Rattle.acc_base.specs.declared.events.Event.{Event}
 use Rattle.acc_base.specs.declared.events.Event.TheVariants as events
 use Rattle.acc_base.specs.declared.faults.Fault.{Fault}
+use Rattle.acc_base.specs.declared.faults.Fault.TheVariants.{Memory}
 use Rattle.acc_base.specs.Results.{◌>>◌}
 use Rattle.acc_base.specs.Bytes.{after}
 use Rattle.acc_base.specs.Clauses.{in_host}
@@ -41,6 +42,10 @@ write_admitted w section = do
 -- the event of a plan for a directive
 abbrev pub planned_event : Directive → Planned → Contents → Event
 planned_event d p c = event_of d c.state.register p.dids
+
+-- the fault is what a judgement refuses, or want of memory where it refuses nothing
+abbrev pub MayBeToldOf : Result Event Fault → Fault → Type 0
+MayBeToldOf judged fault = MatchResult judged (λ e. fault ≡ Memory) (λ refusal. fault ≡ refusal)
 
 -- a store and a trace after a directive for which this was planned
 pub record IsCommitted (d : Directive) (p : Planned) (old new : Contents) (before after_it : List Event) : Type 0 where

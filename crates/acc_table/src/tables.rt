@@ -1,15 +1,12 @@
 //! A table, and one call on it.
 
-ghost use Rattle.std.specs.Prelude.{◌≡◌, Ok, Err, MatchResult, IfOk, IfErr, OnErr};
+ghost use Rattle.std.specs.Prelude.{◌≡◌, IfOk, IfErr, OnErr};
 ghost use Rattle.acc_base.specs.declared.calls.Call.TheVariants.{Do, HostWrite};
 ghost use Rattle.acc_base.specs.declared.faults.Fault.TheVariants.{Memory};
 ghost use Rattle.acc_base.specs.Limits.{IsWithinBounds};
 ghost use Rattle.acc_base.specs.Holes.{IsDevice};
-ghost use Rattle.acc_base.specs.Judge.{event_of};
-ghost use Rattle.acc_base.specs.Records.{layout_of};
-ghost use Rattle.acc_base.specs.Calls.{Makes, judge, ticket, allowance, trace_room, new_world};
+ghost use Rattle.acc_base.specs.Calls.{ticket, allowance, trace_room, new_world};
 ghost use Rattle.acc_base.specs.Accounts.{IsAccounted};
-ghost use Rattle.acc_clauses.specs.Planned.{IsPlannedOn};
 ghost use Rattle.acc_table.specs.Calls.{IsDone, IsRefusal};
 ghost use Rattle.acc_table.specs.Making.{admitted, write_admitted};
 
@@ -28,6 +25,8 @@ use std::marker::Model;
 pub struct Table {
     pub(crate) store: Store,
     pub(crate) trace: Vec<Event>,
+    // What was planned last; it stands here so that no call has to make one.
+    plan: Plan,
 }
 
 impl Model for Table {
@@ -56,6 +55,7 @@ impl Table {
         Ok(Table {
             store,
             trace: Vec::new(alloc),
+            plan: Plan::new(),
         })
     }
 
@@ -111,13 +111,14 @@ impl Table {
     }
 
     /// Carries out a directive, or hands it back with what it is refused for.
+    #[tactic(auto, using(crate::proofs::Verdicts::refused_before))]
     fn direct(&mut self, directive: Directive) -> Result<Reply, (Directive, Fault)>
         ensures done { IfOk result (λ reply. IsDone self.old (Do directive) reply self.new) }
         ensures refused { IfErr result (λ back. IsRefusal self.old (Do directive) back.1) }
         ensures same { IfErr result (λ back. (back.0 ≡ directive) × (self.new ≡ self.old)) }
     {
-        match self.plan(&directive) {
-            Ok(plan) => carry_out(&mut self.store, &mut self.trace, directive, &plan),
+        match self.admit(&directive) {
+            Ok(()) => carry_out(&mut self.store, &mut self.trace, &mut self.plan, directive),
             Err(fault) => Err((directive, fault)),
         }
     }
@@ -173,18 +174,6 @@ impl Table {
         self.admit_region(directive)?;
         check_items(directive)?;
         self.admit_event()
-    }
-
-    /// What the directive is to do, or its first refusal.
-    #[tactic(auto, using(crate::proofs::Verdicts::judge_directive))]
-    fn plan(&self, directive: &Directive) -> Result<Plan, Fault>
-        ensures judged { MatchResult result
-            (λ p. judge self.now (Do directive.now) ≡ Ok (Makes (event_of directive.now self.now.state.register p.dids)))
-            (λ fault. judge self.now (Do directive.now) ≡ Err fault) }
-        ensures planned { IfOk result (λ p. IsPlannedOn self.now.limits directive.now (layout_of self.now.state) p) }
-    {
-        self.admit(directive)?;
-        self.store.plan(directive)
     }
 
     /// What a write of the host into this section is refused for.

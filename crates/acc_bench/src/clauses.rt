@@ -4,7 +4,7 @@ ghost use Rattle.std.specs.Prelude.{◌≡◌, ◌<◌, ◌≤◌, ◌^◌};
 
 use crate::limits::largest;
 use acc_base::{Directive, EnterClause, ExitClause, Fault, HOST_BASE, Item, List, Section};
-use acc_clauses::Store;
+use acc_clauses::{Plan, Store};
 use anyhow::Result;
 use std::alloc::{AllocError, Global};
 use std::rt::Clock;
@@ -12,6 +12,13 @@ use std::time::{Duration, Instant};
 
 /// How often all items are mapped and unmapped in one measurement.
 const ROUNDS: u32 = 1_000;
+
+/// A store, and a plan that is used for all its directives.
+#[derive(Drop)]
+struct Worker {
+    store: Store,
+    plan: Plan,
+}
 
 /// A directive that maps sections, and the one that unmaps them.
 #[derive(Drop)]
@@ -31,31 +38,31 @@ pub fn run<R: Print + Clock + AllocGlobal>(rt: &R) -> Result<()> {
 
 /// Measures directives beside so many other ranges.
 fn measure<R: Print + Clock + AllocGlobal>(rt: &R, count: u32) -> Result<()> {
-    let mut store = make_store(rt.alloc(), count)?;
-    let one = measure_items(rt, &mut store, count, 1)?;
-    let eight = measure_items(rt, &mut store, count, 8)?;
-    let most = measure_items(rt, &mut store, count, 64)?;
+    let mut worker = make_worker(rt.alloc(), count)?;
+    let one = measure_items(rt, &mut worker, count, 1)?;
+    let eight = measure_items(rt, &mut worker, count, 8)?;
+    let most = measure_items(rt, &mut worker, count, 64)?;
     tell(rt, count, one, eight, most)
 }
 
 /// How long each item takes of directives of so many.
 fn measure_items<R: Clock + AllocGlobal>(
     rt: &R,
-    store: &mut Store,
+    worker: &mut Worker,
     count: u32,
     items: u32,
 ) -> Result<Duration>
     requires { 0 < items }
 {
     let pair = make_pair(rt.alloc(), count, items)?;
-    let taken = time_pairs(rt, store, &pair)?;
+    let taken = time_pairs(rt, worker, &pair)?;
     Ok(taken / ROUNDS / items)
 }
 
 /// How long it takes to carry out a pair so many times.
-fn time_pairs<R: Clock>(rt: &R, store: &mut Store, pair: &Pair) -> Result<Duration> {
+fn time_pairs<R: Clock>(rt: &R, worker: &mut Worker, pair: &Pair) -> Result<Duration> {
     let start = Instant::now(rt)?;
-    carry_out_pairs(store, pair)?;
+    carry_out_pairs(worker, pair)?;
     let taken = start.elapsed(rt)?;
     Ok(taken)
 }
@@ -82,45 +89,49 @@ fn percent(part: Duration, whole: Duration) -> u128 {
 }
 
 /// A store with so many ranges of 16 bytes that do not touch.
-fn make_store(alloc: Global, count: u32) -> Result<Store, Fault> {
-    let mut store = Store::new(alloc, &largest()?)?;
+fn make_worker(alloc: Global, count: u32) -> Result<Worker, Fault> {
+    let mut worker = Worker {
+        store: Store::new(alloc, &largest()?)?,
+        plan: Plan::new(),
+    };
     for number in 0..count {
-        carry_out(&mut store, &enter_data(alloc, number, 1)?)?;
+        carry_out(&mut worker, &enter_data(alloc, number, 1)?)?;
     }
-    Ok(store)
+    Ok(worker)
 }
 
 /// Maps and unmaps the sections of a pair, again and again.
-fn carry_out_pairs(store: &mut Store, pair: &Pair) -> Result<(), Fault> {
+fn carry_out_pairs(worker: &mut Worker, pair: &Pair) -> Result<(), Fault> {
     for _ in 0..ROUNDS {
-        carry_out_pair(store, pair)?;
+        carry_out_pair(worker, pair)?;
     }
     Ok(())
 }
 
 /// Maps the sections of a pair and unmaps them.
-fn carry_out_pair(store: &mut Store, pair: &Pair) -> Result<(), Fault> {
-    carry_out(store, &pair.enter)?;
-    carry_out(store, &pair.exit)
+fn carry_out_pair(worker: &mut Worker, pair: &Pair) -> Result<(), Fault> {
+    carry_out(worker, &pair.enter)?;
+    carry_out(worker, &pair.exit)
 }
 
 /// Carries out a directive where the store has had few enough blocks and regions, as each store here has.
-fn carry_out(store: &mut Store, directive: &Directive) -> Result<(), Fault> {
+fn carry_out(worker: &mut Worker, directive: &Directive) -> Result<(), Fault> {
+    let Worker { store, plan } = worker;
     if store.births() < 0x1000_0000 && store.next_region() < 0x1000_0000 {
-        take(store, directive)
+        take(store, plan, directive)
     } else {
         Ok(())
     }
 }
 
 /// Judges a directive, makes room for it and does it.
-fn take(store: &mut Store, directive: &Directive) -> Result<(), Fault>
+fn take(store: &mut Store, plan: &mut Plan, directive: &Directive) -> Result<(), Fault>
     requires births { store.old.state.records.births < 2 ^ 47 }
     requires next { store.old.state.register.next < 2 ^ 48 }
 {
-    let plan = store.plan(directive)?;
-    store.reserve(&plan)?;
-    store.commit(&plan);
+    store.plan(directive, plan)?;
+    store.reserve(plan)?;
+    store.commit(plan);
     Ok(())
 }
 

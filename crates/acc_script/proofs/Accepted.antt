@@ -1,29 +1,37 @@
 -- A table that wants memory for a call was asked for one that is accepted: no refusal of the definitions is want of memory.
 use Rattle.std.proofs.Common.{◌≡◌, ℕ, suc, Bool, true, false, cond, List, [], ◌∷◌, length, Option, Some, None, Result, Ok, Err, refl}
-use Rattle.std.specs.Prelude.{⊤, not, nat_le, nat_lt, ◌==◌, MatchResult, IsOk}
+use Rattle.std.specs.Prelude.{⊤, not, ◌&&◌, nat_le, nat_lt, ◌==◌, MatchResult, IsOk}
 use Rattle.acc_base.specs.declared.items.Section.{Section}
-use Rattle.acc_base.specs.declared.items.Item.{Item}
-use Rattle.acc_base.specs.declared.items.EnterClause.{EnterClause}
-use Rattle.acc_base.specs.declared.items.ExitClause.{ExitClause}
-use Rattle.acc_base.specs.declared.items.UpdateClause.{UpdateClause}
-use Rattle.acc_table.specs.declared.directives.Directive.{Directive}
-use Rattle.acc_table.specs.declared.directives.Directive.TheVariants.{EnterData, ExitData, Update}
-use Rattle.acc_table.specs.declared.events.Event.{Event}
+use Rattle.acc_base.specs.declared.items.RegionClause.{RegionClause}
+use Rattle.acc_base.specs.declared.items.RegionClause.TheVariants as region
+use Rattle.acc_base.specs.declared.calls.Call.{Call}
+use Rattle.acc_base.specs.declared.calls.Call.TheVariants.{Do, HostWrite}
+use Rattle.acc_base.specs.declared.directives.Directive.{Directive}
+use Rattle.acc_base.specs.declared.directives.Directive.TheVariants.{Enter, Exit, EnterData, ExitData, Update}
+use Rattle.acc_base.specs.declared.events.Did.{Did}
+use Rattle.acc_base.specs.declared.events.Event.{Event}
+use Rattle.acc_base.specs.declared.events.Event.TheVariants.{HostWritten}
 use Rattle.acc_base.specs.declared.events.Step.TheVariants as steps
 use Rattle.acc_base.specs.declared.faults.Fault.{Fault}
-use Rattle.acc_base.specs.declared.faults.Fault.TheVariants.{Memory, NoTickets, TooManyItems, TraceFull, OutOfHost, NotPresent, CounterFull}
+use Rattle.acc_base.specs.declared.faults.Fault.TheVariants.{Memory, NoTickets, NoAllowance, TooManyItems, TraceFull, OutOfHost, NotPresent, CounterFull}
+use Rattle.acc_base.specs.declared.mappings.Counter.{Counter}
 use Rattle.acc_base.specs.declared.mappings.Found.{Found}
 use Rattle.acc_base.specs.declared.mappings.Found.TheVariants.{Empty, Inside, Partly, Absent}
-use Rattle.acc_base.specs.Limits.{Limits}
-use Rattle.acc_base.specs.Records.{Records}
-use Rattle.acc_base.specs.Section.{is_empty, is_within, host_memory}
-use Rattle.acc_base.specs.Ranges.{where_is, dynamic_of}
-use Rattle.acc_base.specs.Blocks.{rounded, place_for}
-use Rattle.acc_table.specs.Single.Walk.{after_entered, after_exited}
+use Rattle.acc_base.specs.declared.mappings.Range.{Range}
+use Rattle.acc_base.specs.declared.regions.Holding.{Holding}
+use Rattle.acc_base.specs.declared.tasks.Task.{Task}
+use Rattle.acc_base.specs.declared.tasks.Task.TheVariants as tasks
 use Rattle.acc_base.specs.Results.{◌>>=◌, ◌>>◌, refuse_if}
-use Rattle.acc_base.specs.Tasks.{did_of}
-use Rattle.acc_table.specs.Single.Judge.{born_at, enter_data_at, ends_after_drop, exit_data_at, update_at, section_checked, enter_data_item, exit_data_item, update_item, enter_data_items, exit_data_items, update_items, item_limit, item_count, few_items, directive_event, write_checked, host_write_event}
-use Rattle.acc_table.specs.Single.Calls.{World, Request, Do, HostWrite, event_count, ticket, trace_room, judge}
+use Rattle.acc_base.specs.Limits.{Limits}
+use Rattle.acc_base.specs.Section.{is_empty, is_within, host_memory}
+use Rattle.acc_base.specs.Ranges.{where_is, counter_of, dynamic_of, ends_by}
+use Rattle.acc_base.specs.Blocks.{rounded, place_for}
+use Rattle.acc_base.specs.Records.{Records, Layout, layout_of}
+use Rattle.acc_base.specs.Register.{Register, holdings_at}
+use Rattle.acc_base.specs.Clauses.{in_host, born_at, enter_absent, counted, enter_row, leave_row, exit_row, move_row}
+use Rattle.acc_base.specs.Tasks.{recounted, judge_task, act, did_of, judge_all}
+use Rattle.acc_base.specs.Judge.{item_limit, item_count, few_items, tasks_of_region, tasks_of, event_of, directive_event, host_write_event}
+use Rattle.acc_base.specs.Calls.{World, Verdict, Makes, event_count, open_regions, ticket, allowance, trace_room, judge}
 use Rattle.acc_table.specs.Calls.{IsRefusal}
 
 -- no want of memory is among the answers
@@ -51,102 +59,120 @@ either_tells false r s h k = k
 
 -- ---- one item
 
+-- the check of a section tells no want of memory
+host_tells : (l : Limits) (n : ℕ) (section : Section) → Tells (in_host l n section)
+host_tells l n section = either_tells (not (is_empty section) && not (is_within section (host_memory l.host))) (Err (OutOfHost n)) (Ok tt) tt tt
+
 -- a birth tells no want of memory
 born_tells : (place : Option ℕ) (n : ℕ) (section : Section) (w : Records) → Tells (born_at place n section w)
 born_tells None n section w = tt
 born_tells (Some place) n section w = tt
 
--- an item of `enter data` tells no want of memory, wherever its section lies
-enter_at_tells : (found : Found) (l : Limits) (n : ℕ) (section : Section) (w : Records) → Tells (enter_data_at found l n section w)
-enter_at_tells Empty l n section w = tt
-enter_at_tells (Inside block offset) l n section w = then_tells (refuse_if (nat_le l.counter_max (dynamic_of block w.ranges)) (CounterFull n)) (Ok (steps.Counted block)) (either_tells (nat_le l.counter_max (dynamic_of block w.ranges)) (Err (CounterFull n)) (Ok tt) tt tt) tt
-enter_at_tells Absent l n section w = born_tells (place_for l.device w.blocks (rounded section.len)) n section w
-enter_at_tells Partly l n section w = tt
+-- the row of an absent section tells no want of memory
+absent_tells : (clause : RegionClause) (l : Limits) (n : ℕ) (section : Section) (w : Records) → Tells (enter_absent clause l n section w)
+absent_tells region.Copy l n section w = born_tells (place_for l.device w.blocks (rounded section.len)) n section w
+absent_tells region.Copyin l n section w = born_tells (place_for l.device w.blocks (rounded section.len)) n section w
+absent_tells (region.Copyout filled) l n section w = born_tells (place_for l.device w.blocks (rounded section.len)) n section w
+absent_tells (region.Create filled) l n section w = born_tells (place_for l.device w.blocks (rounded section.len)) n section w
+absent_tells region.NoCreate l n section w = tt
+absent_tells region.Present l n section w = tt
+
+-- a counter that rises tells no want of memory
+counted_tells : (l : Limits) (counter : Counter) (n block : ℕ) (w : Records) → Tells (counted l counter n block w)
+counted_tells l counter n block w =
+    let full = nat_le l.counter_max (counter_of counter block w.ranges) in
+    then_tells (refuse_if full (CounterFull n)) (Ok (steps.Counted block)) (either_tells full (Err (CounterFull n)) (Ok tt) tt tt) tt
+
+-- an entry tells no want of memory, wherever its section lies
+enter_tells : (found : Found) (l : Limits) (counter : Counter) (clause : RegionClause) (n : ℕ) (section : Section) (w : Records) → Tells (enter_row found l counter clause n section w)
+enter_tells Empty l counter clause n section w = tt
+enter_tells (Inside block offset) l counter clause n section w = counted_tells l counter n block w
+enter_tells Absent l counter clause n section w = absent_tells clause l n section w
+enter_tells Partly l counter clause n section w = tt
+
+-- an exit from a region tells no want of memory
+leave_tells : (block : Option ℕ) (change : Range → Range) (w : Records) → Tells (leave_row block change w)
+leave_tells None change w = tt
+leave_tells (Some block) change w = tt
 
 -- an item of `exit data` tells no want of memory, wherever its section lies
-exit_at_tells : (found : Found) (n : ℕ) (w : Records) → Tells (exit_data_at found n w)
-exit_at_tells Empty n w = tt
-exit_at_tells (Inside block offset) n w = either_tells (dynamic_of block w.ranges == 0) (Ok steps.Nothing) (Ok (steps.Dropped block (ends_after_drop block w))) tt tt
-exit_at_tells Absent n w = tt
-exit_at_tells Partly n w = tt
+exit_tells : (found : Found) (change : Range → Range) (n : ℕ) (w : Records) → Tells (exit_row found change n w)
+exit_tells Empty change n w = tt
+exit_tells (Inside block offset) change n w = either_tells (dynamic_of block w.ranges == 0) (Ok steps.Nothing) (Ok (steps.Dropped block (ends_by change block w.ranges))) tt tt
+exit_tells Absent change n w = tt
+exit_tells Partly change n w = tt
 
 -- an item of `update` tells no want of memory, wherever its section lies
-update_at_tells : (found : Found) (if_present : Bool) (n : ℕ) → Tells (update_at found if_present n)
-update_at_tells Empty if_present n = tt
-update_at_tells (Inside block offset) if_present n = tt
-update_at_tells Absent if_present n = either_tells if_present (Ok steps.Nothing) (Err (NotPresent n)) tt tt
-update_at_tells Partly if_present n = tt
+move_tells : (found : Found) (if_present : Bool) (n : ℕ) → Tells (move_row found if_present n)
+move_tells Empty if_present n = tt
+move_tells (Inside block offset) if_present n = tt
+move_tells Absent if_present n = either_tells if_present (Ok steps.Nothing) (Err (NotPresent n)) tt tt
+move_tells Partly if_present n = tt
 
--- the check of a section tells no want of memory
-section_tells : (l : Limits) (n : ℕ) (section : Section) → Tells (section_checked l n section)
-section_tells l n section = either_tells (not (is_within section (host_memory l.host))) (Err (OutOfHost n)) (Ok tt) tt tt
-
--- an item of `enter data` tells no want of memory
-enter_item_tells : (l : Limits) (n : ℕ) (item : Item EnterClause) (w : Records) → Tells (enter_data_item l n item w)
-unfolding enter_data_item
-enter_item_tells l n item w =
-    let found = enter_data_at (where_is item.section w.ranges) l n item.section w in
-    either_tells (is_empty item.section) (Ok steps.Nothing) (section_checked l n item.section >> found) tt
-    (then_tells (section_checked l n item.section) found (section_tells l n item.section) (enter_at_tells (where_is item.section w.ranges) l n item.section w))
-
--- an item of `exit data` tells no want of memory
-exit_item_tells : (l : Limits) (n : ℕ) (item : Item ExitClause) (w : Records) → Tells (exit_data_item l n item w)
-unfolding exit_data_item
-exit_item_tells l n item w =
-    let found = exit_data_at (where_is item.section w.ranges) n w in
-    either_tells (is_empty item.section) (Ok steps.Nothing) (section_checked l n item.section >> found) tt
-    (then_tells (section_checked l n item.section) found (section_tells l n item.section) (exit_at_tells (where_is item.section w.ranges) n w))
-
--- an item of `update` tells no want of memory
-update_item_tells : (l : Limits) (if_present : Bool) (n : ℕ) (item : Item UpdateClause) (w : Records) → Tells (update_item l if_present n item w)
-unfolding update_item
-update_item_tells l if_present n item w =
-    let found = update_at (where_is item.section w.ranges) if_present n in
-    either_tells (is_empty item.section) (Ok steps.Nothing) (section_checked l n item.section >> found) tt
-    (then_tells (section_checked l n item.section) found (section_tells l n item.section) (update_at_tells (where_is item.section w.ranges) if_present n))
+-- what one item asks tells no want of memory
+task_tells : (l : Limits) (n : ℕ) (task : Task) (w : Records) → Tells (judge_task l n task w)
+unfolding judge_task
+task_tells l n (tasks.Enter counter item) w =
+    let found = where_is item.section w.ranges in
+    then_tells (in_host l n item.section) (enter_row found l counter item.clause n item.section w) (host_tells l n item.section) (enter_tells found l counter item.clause n item.section w)
+task_tells l n (tasks.Leave holding) w = leave_tells holding.block (recounted (tasks.Leave holding)) w
+task_tells l n (tasks.Exit finalize item) w =
+    let found = where_is item.section w.ranges in
+    then_tells (in_host l n item.section) (exit_row found (recounted (tasks.Exit finalize item)) n w) (host_tells l n item.section) (exit_tells found (recounted (tasks.Exit finalize item)) n w)
+task_tells l n (tasks.Move if_present item) w =
+    let found = where_is item.section w.ranges in
+    then_tells (in_host l n item.section) (move_row found if_present n) (host_tells l n item.section) (move_tells found if_present n)
 
 -- ---- all items
 
--- the items of `enter data` tell no want of memory
-enter_items_tells : (l : Limits) (n : ℕ) (items : List (Item EnterClause)) (w : Records) → Tells (enter_data_items l n items w)
-unfolding enter_data_items
-enter_items_tells l n [] w = tt
-enter_items_tells l n (item ∷ items) w = bind_tells (enter_data_item l n item w) (λ step. enter_data_items l (suc n) items (after_entered item.section step w) >>= (λ dids. Ok (did_of step ∷ dids))) (enter_item_tells l n item w)
-    (λ step. bind_tells (enter_data_items l (suc n) items (after_entered item.section step w)) (λ dids. Ok (did_of step ∷ dids)) (enter_items_tells l (suc n) items (after_entered item.section step w)) (λ dids. tt))
-
--- the items of `exit data` tell no want of memory
-exit_items_tells : (l : Limits) (n : ℕ) (items : List (Item ExitClause)) (w : Records) → Tells (exit_data_items l n items w)
-unfolding exit_data_items
-exit_items_tells l n [] w = tt
-exit_items_tells l n (item ∷ items) w = bind_tells (exit_data_item l n item w) (λ step. exit_data_items l (suc n) items (after_exited step w) >>= (λ dids. Ok (did_of step ∷ dids))) (exit_item_tells l n item w)
-    (λ step. bind_tells (exit_data_items l (suc n) items (after_exited step w)) (λ dids. Ok (did_of step ∷ dids)) (exit_items_tells l (suc n) items (after_exited step w)) (λ dids. tt))
-
--- the items of `update` tell no want of memory
-update_items_tells : (l : Limits) (if_present : Bool) (n : ℕ) (items : List (Item UpdateClause)) (w : Records) → Tells (update_items l if_present n items w)
-unfolding update_items
-update_items_tells l if_present n [] w = tt
-update_items_tells l if_present n (item ∷ items) w = bind_tells (update_item l if_present n item w) (λ step. update_items l if_present (suc n) items w >>= (λ dids. Ok (did_of step ∷ dids))) (update_item_tells l if_present n item w)
-    (λ step. bind_tells (update_items l if_present (suc n) items w) (λ dids. Ok (did_of step ∷ dids)) (update_items_tells l if_present (suc n) items w) (λ dids. tt))
+-- what all items ask tells no want of memory
+all_tells : (l : Limits) (n : ℕ) (asked : List Task) (w : Records) → Tells (judge_all l n asked w)
+unfolding judge_all
+all_tells l n [] w = tt
+all_tells l n (task ∷ others) w = bind_tells (judge_task l n task w) (λ step. judge_all l (suc n) others (act task step w) >>= (λ dids. Ok (did_of step ∷ dids))) (task_tells l n task w)
+    (λ step. bind_tells (judge_all l (suc n) others (act task step w)) (λ dids. Ok (did_of step ∷ dids)) (all_tells l (suc n) others (act task step w)) (λ dids. tt))
 
 -- ---- a call
 
+-- a look for a region tells no want of memory
+region_tells : (number : ℕ) (held : Option (List Holding)) → Tells (tasks_of_region number held)
+region_tells number None = tt
+region_tells number (Some holdings) = tt
+
+-- what a directive asks tells no want of memory
+asked_tells : (directive : Directive) (g : Register) → Tells (tasks_of directive g)
+asked_tells (Enter items) g = tt
+asked_tells (Exit number) g = region_tells number (holdings_at number g.regions)
+asked_tells (EnterData items) g = tt
+asked_tells (ExitData items finalize) g = tt
+asked_tells (Update items if_present) g = tt
+
 -- a directive tells no want of memory
-directive_tells : (l : Limits) (directive : Directive) (w : Records) → Tells (directive_event l directive w)
+directive_tells : (l : Limits) (directive : Directive) (lay : Layout) → Tells (directive_event l directive lay)
 unfolding directive_event
-directive_tells l (EnterData items) w = bind_tells (enter_data_items l 0 items w) _ (enter_items_tells l 0 items w) (λ dids. tt)
-directive_tells l (ExitData items) w = bind_tells (exit_data_items l 0 items w) _ (exit_items_tells l 0 items w) (λ dids. tt)
-directive_tells l (Update items if_present) w = bind_tells (update_items l if_present 0 items w) _ (update_items_tells l if_present 0 items w) (λ dids. tt)
+directive_tells l directive lay =
+    let event : List Did → Result Event Fault = λ dids. Ok (event_of directive lay.register dids) in
+    bind_tells (tasks_of directive lay.register) (λ asked. judge_all l 0 asked lay.records >>= event) (asked_tells directive lay.register)
+    (λ asked. bind_tells (judge_all l 0 asked lay.records) event (all_tells l 0 asked lay.records) (λ dids. tt))
 
 -- a write of the host tells no want of memory
 write_tells : (l : Limits) (addr len : ℕ) → Tells (host_write_event l addr len)
 unfolding host_write_event
 write_tells l addr len =
     let section : Section = record { start = addr; len = len } in
-    then_tells (write_checked l section) _ (either_tells (is_empty section) (Ok tt) (section_checked l 0 section) tt (section_tells l 0 section)) tt
+    then_tells (in_host l 0 section) (Ok (HostWritten addr len)) (host_tells l 0 section) tt
 
 -- the check for a ticket tells no want of memory
 ticket_tells : (w : World) → Tells (ticket w)
 ticket_tells w = either_tells (nat_le w.limits.tickets (event_count w.history)) (Err (NoTickets 0)) (Ok tt) tt tt
+
+-- the check for one more region tells no want of memory
+allowance_tells : (w : World) (directive : Directive) → Tells (allowance w directive)
+allowance_tells w (Enter items) = either_tells (nat_le w.limits.regions (open_regions w.state)) (Err (NoAllowance 0)) (Ok tt) tt tt
+allowance_tells w (Exit number) = tt
+allowance_tells w (EnterData items) = tt
+allowance_tells w (ExitData items finalize) = tt
+allowance_tells w (Update items if_present) = tt
 
 -- the check for room in the trace tells no want of memory
 room_tells : (w : World) → Tells (trace_room w)
@@ -156,24 +182,31 @@ room_tells w = either_tells (nat_le w.limits.trace_cap (length w.history.trace))
 few_tells : (directive : Directive) → Tells (few_items directive)
 few_tells directive = either_tells (nat_lt item_limit (item_count directive)) (Err (TooManyItems (item_count directive))) (Ok tt) tt tt
 
+-- what follows the checks of a call tells no want of memory
+makes_tells : (r : Result Event Fault) → Tells r → Tells (r >>= (λ e. Ok (Makes e)))
+makes_tells r h = bind_tells r (λ e. Ok (Makes e)) h (λ e. tt)
+
 -- no call is refused for want of memory by the definitions
-judge_tells : (w : World) (request : Request) → Tells (judge w request)
+judge_tells : (w : World) (call : Call) → Tells (judge w call)
 unfolding judge
 judge_tells w (Do directive) =
-    let event = directive_event w.limits directive w.state.records in
-    then_tells (ticket w) (few_items directive >> (trace_room w >> event)) (ticket_tells w)
+    let event : Result Verdict Fault = directive_event w.limits directive (layout_of w.state) >>= (λ e. Ok (Makes e)) in
+    then_tells (ticket w) (allowance w directive >> (few_items directive >> (trace_room w >> event))) (ticket_tells w)
+    (then_tells (allowance w directive) (few_items directive >> (trace_room w >> event)) (allowance_tells w directive)
     (then_tells (few_items directive) (trace_room w >> event) (few_tells directive)
-    (then_tells (trace_room w) event (room_tells w) (directive_tells w.limits directive w.state.records)))
+    (then_tells (trace_room w) event (room_tells w)
+    (makes_tells (directive_event w.limits directive (layout_of w.state)) (directive_tells w.limits directive (layout_of w.state))))))
 judge_tells w (HostWrite addr bytes) =
-    let event = host_write_event w.limits addr (length bytes) in
+    let event : Result Verdict Fault = host_write_event w.limits addr (length bytes) >>= (λ e. Ok (Makes e)) in
     then_tells (ticket w) (trace_room w >> event) (ticket_tells w)
-    (then_tells (trace_room w) event (room_tells w) (write_tells w.limits addr (length bytes)))
+    (then_tells (trace_room w) event (room_tells w)
+    (makes_tells (host_write_event w.limits addr (length bytes)) (write_tells w.limits addr (length bytes))))
 
 -- a call for which a table wants memory is one that is accepted
-pub accepted : (w : World) (request : Request) → IsRefusal w request Memory → IsOk (judge w request)
-accepted w request refusal = by (judge w request) (judge_tells w request) refusal
+pub accepted : (w : World) (call : Call) → IsRefusal w call Memory → IsOk (judge w call)
+accepted w call refusal = by (judge w call) (judge_tells w call) refusal
   where
-    by : (r : Result Event Fault) → Tells r → MatchResult r (λ e. Memory ≡ Memory) (λ fault. Memory ≡ fault) → IsOk r
-    by (Ok e) told h = refl
+    by : (r : Result Verdict Fault) → Tells r → MatchResult r (λ verdict. Memory ≡ Memory) (λ fault. Memory ≡ fault) → IsOk r
+    by (Ok verdict) told h = refl
     by (Err Memory) told h = absurd told
     by (Err _) told h = absurd cc

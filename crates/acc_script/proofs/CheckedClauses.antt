@@ -1,16 +1,16 @@
 -- Looking for the end of clauses meets the faults of reading them.
 use Rattle.std.proofs.Common.{◌≡◌, ℕ, zero, suc, ◌+◌, Bool, true, false, cond, List, [], ◌∷◌, ◌++◌, length, length-append, Option, Some, None, Result, Ok, Err, refl, arith}
-use Rattle.std.specs.Prelude.{not, ◌==◌, ◌&&◌, codes, if◌then◌else◌}
-use Rattle.std.specs.Str.{bytes_eq}
+use Rattle.std.specs.Prelude.{not, ◌==◌, codes, if◌then◌else◌}
 use Rattle.std.proofs.lemmas.Bool.Decides.{nat_tests}
 use Rattle.acc_base.specs.declared.faults.ScriptFault.{ScriptFault}
 use Rattle.acc_base.specs.declared.faults.ScriptFault.TheVariants.{Syntax}
 use Rattle.acc_base.specs.declared.items.Section.{Section}
 use Rattle.acc_base.specs.declared.items.Item.{Item}
+use Rattle.acc_base.specs.declared.items.RegionClause.{RegionClause}
 use Rattle.acc_base.specs.declared.items.EnterClause.{EnterClause}
 use Rattle.acc_base.specs.declared.items.ExitClause.{ExitClause}
 use Rattle.acc_base.specs.declared.items.UpdateClause.{UpdateClause}
-use Rattle.acc_table.specs.declared.directives.Directive.TheVariants.{EnterData, ExitData, Update}
+use Rattle.acc_base.specs.declared.directives.Directive.TheVariants.{Enter, EnterData, ExitData, Update}
 use Rattle.acc_script.specs.declared.read.checks.Seen.{Seen}
 use Rattle.acc_script.specs.declared.read.clauses.Clauses.{Clauses}
 use Rattle.acc_script.specs.declared.read.Trouble.{Trouble}
@@ -19,11 +19,11 @@ use Rattle.acc_script.specs.Reading.{◌>>=◌, wants, always, Holds, Gives}
 use Rattle.acc_script.specs.Tokens.{word_at, keyword_at, mark_at, is_mark_next, is_at_end, skip_comma, comma, left_parenthesis, right_parenthesis}
 use Rattle.acc_script.specs.Layout.{Layout}
 use Rattle.acc_script.specs.Places.{section_at}
-use Rattle.acc_script.specs.Grammar.{Grammar, enter_grammar, exit_grammar, update_grammar}
+use Rattle.acc_script.specs.Grammar.{Grammar, region_grammar, enter_grammar, exit_grammar, update_grammar}
 use Rattle.acc_script.specs.Clauses.{item_of, items_at, modified_at, group_at, ClausesRead, nothing_read, listed, passed_over, clause_at, with_clause, clauses_at}
 use Rattle.acc_script.specs.Meanings.{read_of}
 use Rattle.acc_script.specs.Checked.{items_end, group_end, nothing_seen, listed_end, option_end, clause_end, seen_clause, clauses_end}
-use Rattle.acc_script.specs.Statements.{Direct, takes_memory, enter_at, exit_at, update_at}
+use Rattle.acc_script.specs.Statements.{Direct, takes_memory, data_at, enter_at, exit_at, update_at}
 use Rattle.acc_script.proofs.HeldClauses.{after_section, after_clause}
 use Rattle.acc_script.proofs.ClauseEnds.{after_section_end, after_clause_end}
 
@@ -80,7 +80,7 @@ module _ {C : Type 0} where
 
   -- what was read, as what was seen of it
   abbrev seen_of : ClausesRead C → Seen
-  seen_of read = record { clause = not (length read.items == 0); if_present = read.if_present }
+  seen_of read = record { clause = not (length read.items == 0); has_option = read.has_option }
 
   -- the same fault, or what was seen of the clause and the same text after it
   abbrev SeenAs : Result (ClausesRead C × List ℕ) ScriptFault → Result (Seen × List ℕ) ScriptFault → Type 0
@@ -89,7 +89,7 @@ module _ {C : Type 0} where
 
   -- the items of a clause, behind those before
   group_seen : (before : ClausesRead C) (items : Result (List (Item C) × List ℕ) ScriptFault) (end : Result (List ℕ) ScriptFault) → EndsAs items end
-      → SeenAs (items >>= (λ read. Ok (record { items = read.0; if_present = before.if_present }, read.1))) (end >>= (λ after. Ok (record { clause = true; if_present = before.if_present }, after)))
+      → SeenAs (items >>= (λ read. Ok (record { items = read.0; has_option = before.has_option }, read.1))) (end >>= (λ after. Ok (record { clause = true; has_option = before.has_option }, after)))
   group_seen before (Err kind) end h = rw h refl
   group_seen before (Ok read) end h = rw (h.0, h.1) refl
 
@@ -98,9 +98,9 @@ module _ {C : Type 0} where
   listed_seen None grammar layout before rest = refl
   listed_seen (Some clause) grammar layout before rest = group_seen before (group_at grammar clause layout before.items rest) (group_end grammar clause layout rest) (group_ends grammar clause layout before.items rest)
 
-  -- the option `if_present`
+  -- the option
   option_seen : (before : ClausesRead C) (rest : List ℕ) (b : Bool)
-      → SeenAs (cond b (Err Syntax) (Ok (record { items = before.items; if_present = true }, rest))) (cond b (Err Syntax) (Ok (record { clause = not (length before.items == 0); if_present = true }, rest)))
+      → SeenAs (cond b (Err Syntax) (Ok (record { items = before.items; has_option = true }, rest))) (cond b (Err Syntax) (Ok (record { clause = not (length before.items == 0); has_option = true }, rest)))
   option_seen before rest true = refl
   option_seen before rest false = refl
 
@@ -110,13 +110,13 @@ module _ {C : Type 0} where
   clause_seen grammar layout before text = by (word_at text)
     where
       turn : (word : List ℕ × List ℕ) (b : Bool) → SeenAs (cond b (passed_over before word.1) (listed (grammar.clause_of word.0) grammar layout before word.1)) (cond b (option_end (seen_of before) word.1) (listed_end (grammar.clause_of word.0) grammar layout (seen_of before) word.1))
-      turn word true = option_seen before word.1 before.if_present
+      turn word true = option_seen before word.1 before.has_option
       turn word false = listed_seen (grammar.clause_of word.0) grammar layout before word.1
 
       by : (r : Result (List ℕ × List ℕ) ScriptFault)
-          → SeenAs (r >>= (λ word. if grammar.has_if_present && bytes_eq word.0 (codes "if_present") then passed_over before word.1 else listed (grammar.clause_of word.0) grammar layout before word.1))
-          (r >>= (λ word. if grammar.has_if_present && bytes_eq word.0 (codes "if_present") then option_end (seen_of before) word.1 else listed_end (grammar.clause_of word.0) grammar layout (seen_of before) word.1))
-      by (Ok word) = turn word (grammar.has_if_present && bytes_eq word.0 (codes "if_present"))
+          → SeenAs (r >>= (λ word. if grammar.is_option word.0 then passed_over before word.1 else listed (grammar.clause_of word.0) grammar layout before word.1))
+          (r >>= (λ word. if grammar.is_option word.0 then option_end (seen_of before) word.1 else listed_end (grammar.clause_of word.0) grammar layout (seen_of before) word.1))
+      by (Ok word) = turn word (grammar.is_option word.0)
       by (Err kind) = refl
 
   -- the same fault, or what was seen of the clauses
@@ -173,6 +173,15 @@ module _ {C : Type 0} where
 
 -- ---- directives
 
+-- the clauses of `data` are right where they want memory
+pub data_wants : (layout : Layout) (text : List ℕ) → wants always (clauses_at (length text) region_grammar layout nothing_read text) ≡ true → wants takes_memory (data_at layout text) ≡ true
+unfolding data_at
+data_wants layout text right = by (clauses_at (length text) region_grammar layout nothing_read text) right
+  where
+    by : (r : Result (ClausesRead RegionClause) ScriptFault) → wants always r ≡ true → wants takes_memory (r >>= (λ read. Ok (Direct (Enter read.items)))) ≡ true
+    by (Ok read) h = refl
+    by (Err kind) h = absurd cc
+
 -- the clauses of `enter data` are right where they want memory
 pub enter_wants : (layout : Layout) (text rest : List ℕ) → keyword_at (codes "data") text ≡ Ok rest → wants always (clauses_at (length rest) enter_grammar layout nothing_read rest) ≡ true → wants takes_memory (enter_at layout text) ≡ true
 unfolding enter_at
@@ -187,7 +196,7 @@ pub exit_wants : (layout : Layout) (text rest : List ℕ) → keyword_at (codes 
 unfolding exit_at
 exit_wants layout text rest e right = rw e (by (clauses_at (length rest) exit_grammar layout nothing_read rest) right)
   where
-    by : (r : Result (ClausesRead ExitClause) ScriptFault) → wants always r ≡ true → wants takes_memory (r >>= (λ read. Ok (Direct (ExitData read.items)))) ≡ true
+    by : (r : Result (ClausesRead ExitClause) ScriptFault) → wants always r ≡ true → wants takes_memory (r >>= (λ read. Ok (Direct (ExitData read.items read.has_option)))) ≡ true
     by (Ok read) h = refl
     by (Err kind) h = absurd cc
 
@@ -196,6 +205,6 @@ pub update_wants : (layout : Layout) (text : List ℕ) → wants always (clauses
 unfolding update_at
 update_wants layout text right = by (clauses_at (length text) update_grammar layout nothing_read text) right
   where
-    by : (r : Result (ClausesRead UpdateClause) ScriptFault) → wants always r ≡ true → wants takes_memory (r >>= (λ read. Ok (Direct (Update read.items read.if_present)))) ≡ true
+    by : (r : Result (ClausesRead UpdateClause) ScriptFault) → wants always r ≡ true → wants takes_memory (r >>= (λ read. Ok (Direct (Update read.items read.has_option)))) ≡ true
     by (Ok read) h = refl
     by (Err kind) h = absurd cc

@@ -1,7 +1,6 @@
 -- The fuel of a repetition is enough: each turn takes a byte at least, so more fuel changes nothing.
 use Rattle.std.proofs.Common.{◌≡◌, ℕ, zero, suc, ◌+◌, ◌<◌, ◌≤◌, Bool, true, false, cond, List, [], ◌∷◌, ◌++◌, length, take, drop, length-drop, Option, Some, None, Result, Ok, Err, refl, sym, ap, subst, ◌∙◌, arith}
-use Rattle.std.specs.Prelude.{◌&&◌, if◌then◌else◌, ◌==◌, codes}
-use Rattle.std.specs.Str.{bytes_eq}
+use Rattle.std.specs.Prelude.{if◌then◌else◌, ◌==◌}
 use Rattle.std.specs.List.{prefix_len}
 use Rattle.std.proofs.lemmas.Bool.{eqb-false}
 use Rattle.std.proofs.lemmas.List.{nil_from_length}
@@ -216,22 +215,22 @@ module _ {C : Type 0} where
   listed_le : (o : Option C) (grammar : Grammar C) (layout : Layout) (before : ClausesRead C) (text : List ℕ) (read : ClausesRead C × List ℕ) → listed o grammar layout before text ≡ Ok read → length read.1 ≤ length text
   listed_le None grammar layout before text read e = absurd cc
   listed_le (Some clause) grammar layout before text read e =
-      let items = bind_is (group_at grammar clause layout before.items text) (λ items. Ok (record { items = items.0; if_present = before.if_present }, items.1)) read e in
-      let same : (record { items = items.0.0; if_present = before.if_present }, items.0.1) ≡ read = cc in
+      let items = bind_is (group_at grammar clause layout before.items text) (λ items. Ok (record { items = items.0; has_option = before.has_option }, items.1)) read e in
+      let same : (record { items = items.0.0; has_option = before.has_option }, items.0.1) ≡ read = cc in
       subst (λ (x : ClausesRead C × List ℕ). length x.1 ≤ length text) same (group_le grammar clause layout before.items text items.0 items.1)
 
   -- reading an option makes no text longer
   passed_le : (before : ClausesRead C) (text : List ℕ) (read : ClausesRead C × List ℕ) → passed_over before text ≡ Ok read → length read.1 ≤ length text
   passed_le before text read e =
-      let parts = then_ok before.if_present Syntax (record { items = before.items; if_present = true }, text) read e in
+      let parts = then_ok before.has_option Syntax (record { items = before.items; has_option = true }, text) read e in
       subst (λ (x : ClausesRead C × List ℕ). length x.1 ≤ length text) parts.1 (omega arith)
 
   -- reading a clause or an option takes a byte at least
   clause_shorter : (grammar : Grammar C) (layout : Layout) (before : ClausesRead C) (text : List ℕ) (read : ClausesRead C × List ℕ) → clause_at grammar layout before text ≡ Ok read → length read.1 < length text
   unfolding clause_at
   clause_shorter grammar layout before text read e =
-      let word = bind_is (word_at text) (λ word. if grammar.has_if_present && bytes_eq word.0 (codes "if_present") then passed_over before word.1 else listed (grammar.clause_of word.0) grammar layout before word.1) read e in
-      by (grammar.has_if_present && bytes_eq word.0.0 (codes "if_present")) (grammar.clause_of word.0.0) word.0.1 (word_shorter text word.0 word.1) word.2
+      let word = bind_is (word_at text) (λ word. if grammar.is_option word.0 then passed_over before word.1 else listed (grammar.clause_of word.0) grammar layout before word.1) read e in
+      by (grammar.is_option word.0.0) (grammar.clause_of word.0.0) word.0.1 (word_shorter text word.0 word.1) word.2
     where
       by : (b : Bool) (o : Option C) (rest : List ℕ) → length rest < length text → cond b (passed_over before rest) (listed o grammar layout before rest) ≡ Ok read → length read.1 < length text
       by true o rest less h = omega (arith, passed_le before rest read h)

@@ -1,21 +1,24 @@
 -- One more line of a script.
-use Rattle.std.proofs.Common.{◌≡◌, ℕ, ◌+◌, Bool, true, false, List, [], ◌∷◌, ◌++◌, length, get_or, take, drop, Option, Result, Ok, Err, refl, sym, ap, subst, ◌∙◌, inr, arith}
-use Rattle.std.specs.Prelude.{◌||◌}
+use Rattle.std.proofs.Common.{◌≡◌, ℕ, ◌+◌, ◌<◌, Bool, true, false, cond, List, [], ◌∷◌, ◌++◌, length, get_or, take, drop, Option, Result, Ok, Err, refl, sym, ap, subst, ◌∙◌, inr, arith}
+use Rattle.std.specs.Prelude.{◌||◌, ◌==◌}
 use Rattle.std.specs.List.{concat}
+use Rattle.std.proofs.lemmas.Bool.Decides.{nat_tests}
 use Rattle.std.proofs.lemmas.List.{append-nil, take-append-drop, drop-drop, nil_from_length, get_or-drop}
 use Rattle.std.proofs.lemmas.List.Folds.{concat-append}
 use Rattle.std.proofs.Math.Seq.{take-add}
 use Rattle.acc_base.specs.declared.faults.Fault.{Fault}
 use Rattle.acc_base.specs.declared.faults.Fault.TheVariants.{Memory, Script, Write}
 use Rattle.acc_base.specs.declared.faults.ScriptFault.{ScriptFault}
+use Rattle.acc_base.specs.declared.faults.ScriptFault.TheVariants.{Unclosed}
+use Rattle.acc_base.specs.Calls.{open_regions}
 use Rattle.acc_script.specs.declared.print.effects.Effect.{Effect}
 use Rattle.acc_script.specs.Told.{Taken, Took, TookFront}
 use Rattle.acc_script.specs.Lines.{lines_of}
 use Rattle.acc_script.specs.Reading.{◌>>=◌, wants}
-use Rattle.acc_script.specs.Statements.{Meaning, Declare, Direct, takes_memory, line_at}
+use Rattle.acc_script.specs.Statements.{Meaning, Declare, Direct, takes_memory}
 use Rattle.acc_script.specs.Statements.{Write as WriteBytes}
 use Rattle.acc_script.specs.Sessions.{MayWant}
-use Rattle.acc_script.specs.Scripts.{State, Turned, turned, is_refused, line_turned, line_wants, line_text, Transcript, Ended, Faulty, noted, transcript_from}
+use Rattle.acc_script.specs.Scripts.{State, Turned, turned, is_refused, meaning_in, line_turned, line_wants, line_text, Transcript, Ended, Faulty, ended, noted, transcript_from}
 use Rattle.acc_script.specs.Runs.{RanLine, LostLine, LineRuns, Played}
 use Rattle.acc_script.proofs.Fronts.{Took_then, Took-then_front}
 
@@ -26,25 +29,25 @@ abbrev some_turn : Turned → Result Turned ScriptFault
 some_turn turn = Ok turn
 
 -- a line that says a statement is run as the statement is
-turn_is : (s : State) (line : List ℕ) (meaning : Meaning) (turn : Turned) → line_at s.layout line ≡ Ok meaning → turned s meaning ≡ turn → line_turned s line ≡ Ok turn
+turn_is : (s : State) (line : List ℕ) (meaning : Meaning) (turn : Turned) → meaning_in s line ≡ Ok meaning → turned s meaning ≡ turn → line_turned s line ≡ Ok turn
 unfolding line_turned
 turn_is s line meaning turn said is = rw said (ap some_turn is)
 
 -- a line that says something was run
 pub line_ran : (number : ℕ) (s after : State) (line : List ℕ) (old new : Option Taken) (meaning : Meaning) (effect : Effect) (refused : Bool)
-    → line_at s.layout line ≡ Ok meaning → turned s meaning ≡ record { state = after; effect = effect } → refused ≡ is_refused effect → Took old new (line_text number (record { state = after; effect = effect }))
+    → meaning_in s line ≡ Ok meaning → turned s meaning ≡ record { state = after; effect = effect } → refused ≡ is_refused effect → Took old new (line_text number (record { state = after; effect = effect }))
     → RanLine number s line old new after refused
 line_ran number s after line old new meaning effect refused said is refused_is wrote =
     record { turn = record { state = after; effect = effect }; is = turn_is s line meaning _ said is; state = refl; refused_is = refused_is; wrote = wrote }
 
 -- a line that was run and whose text could not be written
 pub line_lost : (number : ℕ) (s after : State) (line : List ℕ) (old new : Option Taken) (meaning : Meaning) (effect : Effect)
-    → line_at s.layout line ≡ Ok meaning → turned s meaning ≡ record { state = after; effect = effect } → TookFront old new (line_text number (record { state = after; effect = effect }))
+    → meaning_in s line ≡ Ok meaning → turned s meaning ≡ record { state = after; effect = effect } → TookFront old new (line_text number (record { state = after; effect = effect }))
     → LostLine number s line old new
 line_lost number s after line old new meaning effect said is wrote = record { turn = record { state = after; effect = effect }; is = turn_is s line meaning _ said is; wrote = wrote }
 
 -- a line that was read and could not be run, since there was no memory for it
-pub line_wanted : (number : ℕ) (s after left : State) (line : List ℕ) (old : Option Taken) (meaning : Meaning) (fault : Fault) → line_at s.layout line ≡ Ok meaning → (fault ≡ Memory) × MayWant s meaning × (left ≡ s) → LineRuns number s line old old after (Err fault)
+pub line_wanted : (number : ℕ) (s after left : State) (line : List ℕ) (old : Option Taken) (meaning : Meaning) (fault : Fault) → meaning_in s line ≡ Ok meaning → (fault ≡ Memory) × MayWant s meaning × (left ≡ s) → LineRuns number s line old old after (Err fault)
 line_wanted number s after left line old meaning fault said h = rw (h.0, said) (takes meaning h.1, refl)
   where
     takes : (m : Meaning) → MayWant s m → takes_memory m ≡ true
@@ -56,13 +59,17 @@ line_wanted number s after left line old meaning fault said h = rw (h.0, said) (
 -- a line that takes memory is one that is run
 wanting_runs : (s : State) (line : List ℕ) → line_wants s line ≡ true → (turn : Turned) × (line_turned s line ≡ Ok turn)
 unfolding line_turned
-wanting_runs s line h = by (line_at s.layout line) h
+wanting_runs s line h = by (meaning_in s line) h
   where
     by : (r : Result Meaning ScriptFault) → wants takes_memory r ≡ true → (turn : Turned) × ((r >>= (λ meaning. Ok (turned s meaning))) ≡ Ok turn)
     by (Ok meaning) k = (turned s meaning, refl)
     by (Err kind) k = absurd cc
 
 -- ---- all lines
+
+-- a number above zero is not zero
+not_zero : (n : ℕ) → 0 < n → (n == 0) ≡ false
+not_zero n some = grind (arith, nat_tests)
 
 -- the transcript without the text of the first lines
 abbrev pub rest_of : ℕ → Transcript → Transcript
@@ -74,11 +81,24 @@ all_texts done all none = sym (append-nil (take done all.texts)) ∙ ap (λ (tex
 
 module _ (done : ℕ) (s : State) (refused : Bool) (lines : List (List ℕ)) (all : Transcript) (left : transcript_from (done + 1) s refused lines ≡ rest_of done all) where
   -- no line is left
-  pub ends_well : (a b : Option Taken) → lines ≡ [] → Took a b (concat (take done all.texts)) → (all.ending ≡ Ended refused) × Took a b (concat all.texts)
-  ends_well a b none wrote =
+  none_left : (a b : Option Taken) → lines ≡ [] → Took a b (concat (take done all.texts)) → (all.ending ≡ ended (done + 1) s refused) × Took a b (concat all.texts)
+  none_left a b none wrote =
       let P : List (List ℕ) → Type 0 = λ ls. transcript_from (done + 1) s refused ls ≡ rest_of done all in
-      let now : record { texts = []; wanting = []; ending = Ended refused } ≡ rest_of done all = subst P none left in
+      let now : record { texts = []; wanting = []; ending = ended (done + 1) s refused } ≡ rest_of done all = subst P none left in
       (sym (ap (λ (t : Transcript). t.ending) now), subst (λ (texts : List (List ℕ)). Took a b (concat texts)) (all_texts done all (sym (ap (λ (t : Transcript). t.texts) now))) wrote)
+
+  -- no line is left, and no region is open
+  pub ends_well : (a b : Option Taken) → lines ≡ [] → open_regions s.world.state ≡ 0 → Took a b (concat (take done all.texts)) → (all.ending ≡ Ended refused) × Took a b (concat all.texts)
+  ends_well a b none no_region wrote =
+      let found = none_left a b none wrote in
+      let closed : (open_regions s.world.state == 0) ≡ true = rw no_region refl in
+      (found.0 ∙ ap (λ (b : Bool). cond b (Ended refused) (Faulty (done + 1) Unclosed)) closed, found.1)
+
+  -- no line is left, and a region is open
+  pub ends_unclosed : (a b : Option Taken) → lines ≡ [] → 0 < open_regions s.world.state → Took a b (concat (take done all.texts)) → (all.ending ≡ Faulty (done + 1) Unclosed) × Took a b (concat all.texts)
+  ends_unclosed a b none some_region wrote =
+      let found = none_left a b none wrote in
+      (found.0 ∙ ap (λ (b : Bool). cond b (Ended refused) (Faulty (done + 1) Unclosed)) (not_zero (open_regions s.world.state) some_region), found.1)
 
   module _ (line : List ℕ) (others : List (List ℕ)) (first : lines ≡ line ∷ others) where
     -- what a line leaves of the transcript

@@ -5,7 +5,7 @@ use Rattle.std.specs.Fmt.{decimal}
 use Rattle.acc_base.specs.declared.faults.Fault.{Fault}
 use Rattle.acc_base.specs.Faults.{number_of, name_of, fields_text}
 use Rattle.acc_base.specs.Blocks.{used_bytes}
-use Rattle.acc_table.specs.Single.Calls.{World, event_count}
+use Rattle.acc_base.specs.Calls.{World, event_count, open_regions}
 use Rattle.acc_script.specs.Texts.{refusal_start, refusal_text, sizes_text, ranges_text, totals_text, report_text}
 
 -- the texts of a refusal, grouped as they are written
@@ -29,7 +29,7 @@ ranges_of w = ranges_text w.state.records
 
 -- the line of totals of a world
 abbrev pub totals_of : World → List ℕ
-totals_of w = totals_text 0 (event_count w.history)
+totals_of w = totals_text (open_regions w.state) (event_count w.history)
 
 -- a report as its lines of sizes, ranges and totals
 pub report_parts : (w : World) → report_text w ≡ (sizes_of w ++ ranges_of w) ++ totals_of w

@@ -1,7 +1,6 @@
 -- Where the clauses of a directive end, apart from what they list. That reading them meets the same faults is proved
 -- (`clauses_checked`).
-use Rattle.std.specs.Prelude.{ℕ, zero, suc, true, false, ◌&&◌, List, length, Option, Some, None, Result, Ok, Err, if◌then◌else◌, codes}
-use Rattle.std.specs.Str.{bytes_eq}
+use Rattle.std.specs.Prelude.{ℕ, zero, suc, true, false, List, length, Option, Some, None, Result, Ok, Err, if◌then◌else◌}
 use Rattle.acc_base.specs.declared.faults.ScriptFault.{ScriptFault}
 use Rattle.acc_base.specs.declared.faults.ScriptFault.TheVariants.{Syntax}
 use Rattle.acc_script.specs.declared.read.checks.Seen.{Seen}
@@ -29,24 +28,24 @@ group_end grammar clause layout text = do
 
 -- no clause, and no option
 abbrev pub nothing_seen : Seen
-nothing_seen = record { clause = false; if_present = false }
+nothing_seen = record { clause = false; has_option = false }
 
 -- the text after a clause of a word, if the word is one
 abbrev pub listed_end : {C : Type 0} → Option C → Grammar C → Layout → Seen → List ℕ → Result (Seen × List ℕ) ScriptFault
 listed_end None grammar layout seen rest = Err Syntax
 listed_end (Some clause) grammar layout seen rest = do
   after ← group_end grammar clause layout rest
-  Ok (record { clause = true; if_present = seen.if_present }, after)
+  Ok (record { clause = true; has_option = seen.has_option }, after)
 
--- the text after the option `if_present`, which stands once at most
+-- the text after the option, which stands once at most
 abbrev pub option_end : Seen → List ℕ → Result (Seen × List ℕ) ScriptFault
-option_end seen rest = if seen.if_present then Err Syntax else Ok (record { clause = seen.clause; if_present = true }, rest)
+option_end seen rest = if seen.has_option then Err Syntax else Ok (record { clause = seen.clause; has_option = true }, rest)
 
 -- the text after a clause or an option, and what was seen with it
 unfoldable pub clause_end : {C : Type 0} → Grammar C → Layout → Seen → List ℕ → Result (Seen × List ℕ) ScriptFault
 clause_end grammar layout seen text = do
   word ← word_at text
-  if grammar.has_if_present && bytes_eq word.0 (codes "if_present")
+  if grammar.is_option word.0
       then option_end seen word.1
       else listed_end (grammar.clause_of word.0) grammar layout seen word.1
 

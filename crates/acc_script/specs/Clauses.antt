@@ -1,6 +1,5 @@
 -- The clauses and options of a directive.
-use Rattle.std.specs.Prelude.{ℕ, zero, suc, Bool, true, false, ◌&&◌, List, [], ◌∷◌, ◌++◌, length, Option, Some, None, Result, Ok, Err, ◌==◌, if◌then◌else◌, codes}
-use Rattle.std.specs.Str.{bytes_eq}
+use Rattle.std.specs.Prelude.{ℕ, zero, suc, Bool, true, false, List, [], ◌∷◌, ◌++◌, length, Option, Some, None, Result, Ok, Err, ◌==◌, if◌then◌else◌}
 use Rattle.acc_base.specs.declared.faults.ScriptFault.{ScriptFault}
 use Rattle.acc_base.specs.declared.faults.ScriptFault.TheVariants.{Syntax}
 use Rattle.acc_base.specs.declared.items.Section.{Section}
@@ -56,31 +55,31 @@ group_at grammar clause layout before text = do
 
 -- ---- clauses and options
 
--- the items so far, and whether `if_present` stood before
+-- the items so far, and whether the option stood before
 pub record ClausesRead (C : Type 0) : Type 0 where
   pub items : List (Item C)
-  pub if_present : Bool
+  pub has_option : Bool
 
 -- no clause and no option
 abbrev pub nothing_read : {C : Type 0} → ClausesRead C
-nothing_read = record { items = []; if_present = false }
+nothing_read = record { items = []; has_option = false }
 
 -- the items of the clause of a word, behind those before, if the word is one
 abbrev pub listed : {C : Type 0} → Option C → Grammar C → Layout → ClausesRead C → List ℕ → Result (ClausesRead C × List ℕ) ScriptFault
 listed None grammar layout before rest = Err Syntax
 listed (Some clause) grammar layout before rest = do
   items ← group_at grammar clause layout before.items rest
-  Ok (record { items = items.0; if_present = before.if_present }, items.1)
+  Ok (record { items = items.0; has_option = before.has_option }, items.1)
 
--- the option `if_present`, which stands once at most
+-- the option, which stands once at most
 abbrev pub passed_over : {C : Type 0} → ClausesRead C → List ℕ → Result (ClausesRead C × List ℕ) ScriptFault
-passed_over before rest = if before.if_present then Err Syntax else Ok (record { items = before.items; if_present = true }, rest)
+passed_over before rest = if before.has_option then Err Syntax else Ok (record { items = before.items; has_option = true }, rest)
 
 -- a clause or an option
 unfoldable pub clause_at : {C : Type 0} → Grammar C → Layout → ClausesRead C → List ℕ → Result (ClausesRead C × List ℕ) ScriptFault
 clause_at grammar layout before text = do
   word ← word_at text
-  if grammar.has_if_present && bytes_eq word.0 (codes "if_present")
+  if grammar.is_option word.0
       then passed_over before word.1
       else listed (grammar.clause_of word.0) grammar layout before word.1
 

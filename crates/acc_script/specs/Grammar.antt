@@ -1,6 +1,8 @@
 -- The words of the clauses of each directive.
 use Rattle.std.specs.Prelude.{ℕ, Bool, true, false, List, Option, Some, None, if◌then◌else◌, codes}
 use Rattle.std.specs.Str.{bytes_eq}
+use Rattle.acc_base.specs.declared.items.RegionClause.{RegionClause}
+use Rattle.acc_base.specs.declared.items.RegionClause.TheVariants as region
 use Rattle.acc_base.specs.declared.items.EnterClause.{EnterClause}
 use Rattle.acc_base.specs.declared.items.EnterClause.TheVariants as enter
 use Rattle.acc_base.specs.declared.items.ExitClause.{ExitClause}
@@ -8,11 +10,40 @@ use Rattle.acc_base.specs.declared.items.ExitClause.TheVariants as exit
 use Rattle.acc_base.specs.declared.items.UpdateClause.{UpdateClause}
 use Rattle.acc_base.specs.declared.items.UpdateClause.TheVariants.{ToSelf, ToDevice}
 
--- the clause of a word, a clause with the modifier of a word, and whether the directive has the option `if_present`
+-- the clause of a word, a clause with the modifier of a word, and the words of the option, where the directive has one
 pub record Grammar (C : Type 0) : Type 0 where
   pub clause_of : List ℕ → Option C
   pub modified : C → List ℕ → Option C
-  pub has_if_present : Bool
+  pub is_option : List ℕ → Bool
+
+-- no word is an option
+abbrev pub no_option : List ℕ → Bool
+no_option word = false
+
+-- ---- `data` (OpenACC 3.3, the data construct)
+
+-- the clause of `data` that a word names
+abbrev pub region_clause_of : List ℕ → Option RegionClause
+region_clause_of word = if bytes_eq word (codes "copy") then Some region.Copy
+    else if bytes_eq word (codes "copyin") then Some region.Copyin
+    else if bytes_eq word (codes "copyout") then Some (region.Copyout false)
+    else if bytes_eq word (codes "create") then Some (region.Create false)
+    else if bytes_eq word (codes "no_create") then Some region.NoCreate
+    else if bytes_eq word (codes "present") then Some region.Present
+    else None
+
+-- a clause of `data` with a modifier; `readonly` changes nothing
+abbrev pub region_modified : RegionClause → List ℕ → Option RegionClause
+region_modified region.Copy word = None
+region_modified region.Copyin word = if bytes_eq word (codes "readonly") then Some region.Copyin else None
+region_modified (region.Copyout filled) word = if bytes_eq word (codes "zero") then Some (region.Copyout true) else None
+region_modified (region.Create filled) word = if bytes_eq word (codes "zero") then Some (region.Create true) else None
+region_modified region.NoCreate word = None
+region_modified region.Present word = None
+
+-- the words of `data`
+abbrev pub region_grammar : Grammar RegionClause
+region_grammar = record { clause_of = region_clause_of; modified = region_modified; is_option = no_option }
 
 -- ---- `enter data` (OpenACC 3.3, the enter data directive)
 
@@ -29,7 +60,7 @@ enter_modified (enter.Create filled) word = if bytes_eq word (codes "zero") then
 
 -- the words of `enter data`
 abbrev pub enter_grammar : Grammar EnterClause
-enter_grammar = record { clause_of = enter_clause_of; modified = enter_modified; has_if_present = false }
+enter_grammar = record { clause_of = enter_clause_of; modified = enter_modified; is_option = no_option }
 
 -- ---- `exit data` (OpenACC 3.3, the exit data directive)
 
@@ -39,9 +70,13 @@ exit_clause_of word = if bytes_eq word (codes "copyout") then Some exit.Copyout
     else if bytes_eq word (codes "delete") then Some exit.Delete
     else None
 
+-- the option of `exit data`
+abbrev pub is_finalize : List ℕ → Bool
+is_finalize word = bytes_eq word (codes "finalize")
+
 -- the words of `exit data`
 abbrev pub exit_grammar : Grammar ExitClause
-exit_grammar = record { clause_of = exit_clause_of; modified = λ clause word. None; has_if_present = false }
+exit_grammar = record { clause_of = exit_clause_of; modified = λ clause word. None; is_option = is_finalize }
 
 -- ---- `update` (OpenACC 3.3, the update directive)
 
@@ -52,6 +87,10 @@ update_clause_of word = if bytes_eq word (codes "self") then Some ToSelf
     else if bytes_eq word (codes "device") then Some ToDevice
     else None
 
+-- the option of `update`
+abbrev pub is_if_present : List ℕ → Bool
+is_if_present word = bytes_eq word (codes "if_present")
+
 -- the words of `update`
 abbrev pub update_grammar : Grammar UpdateClause
-update_grammar = record { clause_of = update_clause_of; modified = λ clause word. None; has_if_present = true }
+update_grammar = record { clause_of = update_clause_of; modified = λ clause word. None; is_option = is_if_present }

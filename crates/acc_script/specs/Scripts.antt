@@ -1,12 +1,15 @@
 -- What a script does and prints, line by line, and how it ends.
-use Rattle.std.specs.Prelude.{ℕ, ◌+◌, Bool, true, false, ◌||◌, List, [], ◌∷◌, Option, Some, None, Result, Ok, Err}
-use Rattle.acc_table.specs.declared.events.Event.{Event}
+use Rattle.std.specs.Prelude.{ℕ, ◌+◌, Bool, true, false, ◌||◌, List, [], ◌∷◌, Option, Some, None, Result, Ok, Err, ◌==◌, if◌then◌else◌}
+use Rattle.acc_base.specs.declared.calls.Call.{Call}
+use Rattle.acc_base.specs.declared.calls.Call.TheVariants.{Do, HostWrite}
 use Rattle.acc_base.specs.declared.faults.Fault.{Fault}
 use Rattle.acc_base.specs.declared.faults.Fault.TheVariants.{OutOfHost}
 use Rattle.acc_base.specs.declared.faults.ScriptFault.{ScriptFault}
+use Rattle.acc_base.specs.declared.faults.ScriptFault.TheVariants.{Unclosed}
 use Rattle.acc_base.specs.declared.items.Section.{Section}
 use Rattle.acc_base.specs.Limits.{Limits}
-use Rattle.acc_table.specs.Single.Calls.{World, new_world, Request, Do, HostWrite, judge, world_after}
+use Rattle.acc_base.specs.Calls.{World, new_world, Verdict, Makes, Idle, judge, world_after, open_regions}
+use Rattle.acc_base.specs.Register.{newest_region}
 use Rattle.acc_base.specs.Ranges.{where_is}
 use Rattle.acc_table.specs.Queries.{is_inside, device_address_of, host_read_of, device_read_of}
 use Rattle.acc_script.specs.declared.print.effects.Effect.{Effect}
@@ -36,19 +39,20 @@ pub record Turned : Type 0 where
   pub state : State
   pub effect : Effect
 
--- a call changes the world where the table accepts it
-abbrev pub called : State → Request → Result Event Fault → Turned
-called s request (Ok event) = record { state = record { world = world_after request event s.world; layout = s.layout }; effect = Nothing }
-called s request (Err fault) = record { state = s; effect = Refused fault }
+-- what there is to print, in a state that stays
+abbrev pub answered : State → Effect → Turned
+answered s effect = record { state = s; effect = effect }
+
+-- a call changes the world where the table accepts it and makes an event
+abbrev pub called : State → Call → Result Verdict Fault → Turned
+called s call (Ok (Makes event)) = record { state = record { world = world_after call event s.world; layout = s.layout }; effect = Nothing }
+called s call (Ok Idle) = answered s Nothing
+called s call (Err fault) = answered s (Refused fault)
 
 -- the host's bytes of a section can be shown where host memory has them
 abbrev pub shown : Section → Option (List ℕ) → Effect
 shown section None = Refused (OutOfHost 0)
 shown section (Some bytes) = HostBytes section
-
--- what a question prints, in a state that stays
-abbrev pub answered : State → Effect → Turned
-answered s effect = record { state = s; effect = effect }
 
 -- a state and a statement, as the state after it and what there is to print
 abbrev pub turned : State → Meaning → Turned
@@ -79,15 +83,19 @@ is_refused _ = false
 
 -- ---- a line
 
+-- what a line asks for in a state, or its fault: the innermost open region is the one that was entered last
+abbrev pub meaning_in : State → List ℕ → Result Meaning ScriptFault
+meaning_in s line = line_at s.layout (newest_region s.world.state.register.regions) line
+
 -- a line run in a state, or its fault
 unfoldable pub line_turned : State → List ℕ → Result Turned ScriptFault
 line_turned s line = do
-  meaning ← line_at s.layout line
+  meaning ← meaning_in s line
   Ok (turned s meaning)
 
 -- the line is not at fault, and what it asks for takes memory
 abbrev pub line_wants : State → List ℕ → Bool
-line_wants s line = wants takes_memory (line_at s.layout line)
+line_wants s line = wants takes_memory (meaning_in s line)
 
 -- what the line of a number prints, once it was run
 abbrev pub line_text : ℕ → Turned → List ℕ
@@ -95,7 +103,8 @@ line_text number turn = effect_text number turn.state.world turn.effect
 
 -- ---- all lines
 
--- the last line was run, and some line was refused or none; or the line of a number is at fault
+-- the last line was run, and some line was refused or none; or the line of a number is at fault, or the end of the
+-- input, which has the number behind that of the last line
 pub data Ending : Type 0 where
   Ended : (refused : Bool) → Ending
   Faulty : (number : ℕ) (kind : ScriptFault) → Ending
@@ -111,9 +120,13 @@ abbrev pub noted : ℕ → Bool → Result Turned ScriptFault → (Turned → Tr
 noted number wanting (Err kind) others = record { texts = []; wanting = []; ending = Faulty number kind }
 noted number wanting (Ok turn) others = record { texts = line_text number turn ∷ (others turn).texts; wanting = wanting ∷ (others turn).wanting; ending = (others turn).ending }
 
+-- the end of the input behind all lines: at fault where a region is open
+abbrev pub ended : ℕ → State → Bool → Ending
+ended number s refused = if open_regions s.world.state == 0 then Ended refused else Faulty number Unclosed
+
 -- the lines from that of a number on; refused says whether one before was
 abbrev pub transcript_from : ℕ → State → Bool → List (List ℕ) → Transcript
-transcript_from number s refused [] = record { texts = []; wanting = []; ending = Ended refused }
+transcript_from number s refused [] = record { texts = []; wanting = []; ending = ended number s refused }
 transcript_from number s refused (line ∷ lines) = noted number (line_wants s line) (line_turned s line) (λ turn. transcript_from (number + 1) turn.state (refused || is_refused turn.effect) lines)
 
 -- an input as a script on a new table of these limits

@@ -3,7 +3,9 @@ use Rattle.std.specs.Prelude.{◌≡◌, ⊤, Result, Ok, Err, IsOk}
 use Rattle.acc_base.specs.declared.faults.Fault.{Fault}
 use Rattle.acc_base.specs.declared.faults.Fault.TheVariants.{Memory}
 use Rattle.acc_base.specs.Limits.{Limits}
-use Rattle.acc_table.specs.Single.Calls.{Request, Do, HostWrite, judge}
+use Rattle.acc_base.specs.declared.calls.Call.{Call}
+use Rattle.acc_base.specs.declared.calls.Call.TheVariants.{Do, HostWrite}
+use Rattle.acc_base.specs.Calls.{judge}
 use Rattle.acc_script.specs.declared.print.effects.Effect.{Effect}
 use Rattle.acc_script.specs.declared.sessions.Session.{Session}
 use Rattle.acc_script.specs.Statements.{Meaning, Declare, Direct, Write}
@@ -31,6 +33,6 @@ Performs old meaning new (Ok effect) = turned old meaning ≡ record { state = n
 Performs old meaning new (Err fault) = (fault ≡ Memory) × MayWant old meaning × (new ≡ old)
 
 -- a call was made; or it is one that is accepted, there was no memory for it, and nothing changed
-abbrev pub CallsFor : State → Request → State → Result Effect Fault → Type 0
-CallsFor old request new (Ok effect) = called old request (judge old.world request) ≡ record { state = new; effect = effect }
-CallsFor old request new (Err fault) = (fault ≡ Memory) × IsOk (judge old.world request) × (new ≡ old)
+abbrev pub CallsFor : State → Call → State → Result Effect Fault → Type 0
+CallsFor old call new (Ok effect) = called old call (judge old.world call) ≡ record { state = new; effect = effect }
+CallsFor old call new (Err fault) = (fault ≡ Memory) × IsOk (judge old.world call) × (new ≡ old)

@@ -3,9 +3,9 @@ use Rattle.std.specs.Prelude.{ℕ, ◌||◌, Bool, true, false, not, ◌&&◌, L
 use Rattle.std.specs.List.{list_all, before_first}
 use Rattle.std.specs.Str.{bytes_eq}
 use Rattle.acc_base.specs.declared.faults.ScriptFault.{ScriptFault}
-use Rattle.acc_base.specs.declared.faults.ScriptFault.TheVariants.{TooLong, NotText, Syntax, Number, NameTaken, HostFull}
-use Rattle.acc_table.specs.declared.directives.Directive.{Directive}
-use Rattle.acc_table.specs.declared.directives.Directive.TheVariants.{EnterData, ExitData, Update}
+use Rattle.acc_base.specs.declared.faults.ScriptFault.TheVariants.{TooLong, NotText, Syntax, Number, NameTaken, HostFull, NoOpenRegion}
+use Rattle.acc_base.specs.declared.directives.Directive.{Directive}
+use Rattle.acc_base.specs.declared.directives.Directive.TheVariants.{Enter, Exit, EnterData, ExitData, Update}
 use Rattle.acc_base.specs.declared.items.Section.{Section}
 use Rattle.acc_script.specs.declared.arrays.Array.{Array}
 use Rattle.acc_script.specs.Reading.{◌>>=◌}
@@ -13,7 +13,7 @@ use Rattle.acc_script.specs.Tokens.{word_at, keyword_at, name_at, number_at, num
 use Rattle.acc_script.specs.Layout.{Layout, array_of, next_array}
 use Rattle.acc_script.specs.Places.{address_at, section_at}
 use Rattle.acc_script.specs.Bytes.{bytes_of}
-use Rattle.acc_script.specs.Grammar.{enter_grammar, exit_grammar, update_grammar}
+use Rattle.acc_script.specs.Grammar.{region_grammar, enter_grammar, exit_grammar, update_grammar}
 use Rattle.acc_script.specs.Clauses.{nothing_read, clauses_at}
 
 -- what a line asks for
@@ -56,6 +56,23 @@ array_at layout text = do
 
 -- ---- directives
 
+-- `data CLAUSES` (OpenACC 3.3, the data construct)
+unfoldable pub data_at : Layout → List ℕ → Result Meaning ScriptFault
+data_at layout text = do
+  read ← clauses_at (length text) region_grammar layout nothing_read text
+  Ok (Direct (Enter read.items))
+
+-- the exit from the innermost open region, where one is open
+abbrev pub exited : Option ℕ → Result Meaning ScriptFault
+exited None = Err NoOpenRegion
+exited (Some number) = Ok (Direct (Exit number))
+
+-- `end data`, of the innermost open region; a fault of syntax is told before there is none
+unfoldable pub end_at : Option ℕ → List ℕ → Result Meaning ScriptFault
+end_at innermost text = do
+  rest ← keyword_at (codes "data") text
+  if is_at_end rest then exited innermost else Err Syntax
+
 -- `enter data CLAUSES` (OpenACC 3.3, the enter data directive)
 unfoldable pub enter_at : Layout → List ℕ → Result Meaning ScriptFault
 enter_at layout text = do
@@ -63,18 +80,18 @@ enter_at layout text = do
   read ← clauses_at (length rest) enter_grammar layout nothing_read rest
   Ok (Direct (EnterData read.items))
 
--- `exit data CLAUSES` (OpenACC 3.3, the exit data directive)
+-- `exit data CLAUSES`, with the option `finalize` (OpenACC 3.3, the exit data directive)
 unfoldable pub exit_at : Layout → List ℕ → Result Meaning ScriptFault
 exit_at layout text = do
   rest ← keyword_at (codes "data") text
   read ← clauses_at (length rest) exit_grammar layout nothing_read rest
-  Ok (Direct (ExitData read.items))
+  Ok (Direct (ExitData read.items read.has_option))
 
--- `update CLAUSES` (OpenACC 3.3, the update directive)
+-- `update CLAUSES`, with the option `if_present` (OpenACC 3.3, the update directive)
 unfoldable pub update_at : Layout → List ℕ → Result Meaning ScriptFault
 update_at layout text = do
   read ← clauses_at (length text) update_grammar layout nothing_read text
-  Ok (Direct (Update read.items read.if_present))
+  Ok (Direct (Update read.items read.has_option))
 
 -- ---- bytes, sections and addresses up to the end of the line
 
@@ -126,10 +143,12 @@ question_at word layout text =
     else Err Syntax
 
 -- a statement, by its first word
-unfoldable pub statement_at : Layout → List ℕ → Result Meaning ScriptFault
-statement_at layout text = do
+unfoldable pub statement_at : Layout → Option ℕ → List ℕ → Result Meaning ScriptFault
+statement_at layout innermost text = do
   word ← word_at text
   if bytes_eq word.0 (codes "array") then array_at layout word.1
+      else if bytes_eq word.0 (codes "data") then data_at layout word.1
+      else if bytes_eq word.0 (codes "end") then end_at innermost word.1
       else if bytes_eq word.0 (codes "enter") then enter_at layout word.1
       else if bytes_eq word.0 (codes "exit") then exit_at layout word.1
       else if bytes_eq word.0 (codes "update") then update_at layout word.1
@@ -154,9 +173,10 @@ before_comment line = before_first (λ b. b == hash) line
 abbrev pub line_limit : ℕ
 line_limit = 4096
 
--- what a line asks for; a line that is too long is told first, then a byte that is no text
-unfoldable pub line_at : Layout → List ℕ → Result Meaning ScriptFault
-line_at layout line = if nat_lt line_limit (length line) then Err TooLong
+-- what a line asks for, where the innermost open region has a number, if one is open; a line that is too long is told
+-- first, then a byte that is no text
+unfoldable pub line_at : Layout → Option ℕ → List ℕ → Result Meaning ScriptFault
+line_at layout innermost line = if nat_lt line_limit (length line) then Err TooLong
     else if not (list_all is_text_byte (before_comment line)) then Err NotText
     else if is_at_end (before_comment line) then Ok Blank
-    else statement_at layout (before_comment line)
+    else statement_at layout innermost (before_comment line)

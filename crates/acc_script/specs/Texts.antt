@@ -6,7 +6,7 @@ use Rattle.acc_base.specs.declared.faults.Fault.{Fault}
 use Rattle.acc_base.specs.Faults.{number_of, name_of, fault_text}
 use Rattle.acc_base.specs.Blocks.{used_bytes}
 use Rattle.acc_base.specs.Records.{Records}
-use Rattle.acc_table.specs.Single.Calls.{World, event_count}
+use Rattle.acc_base.specs.Calls.{World, event_count, open_regions}
 use Rattle.acc_table.specs.declared.calls.Mapped.{Mapped}
 use Rattle.acc_table.specs.Queries.{mapped_as}
 
@@ -54,9 +54,9 @@ totals_text regions events = codes "regions " ++ (decimal regions ++ (codes " ev
 abbrev pub ranges_text : Records → List ℕ
 ranges_text w = flat_map (λ r. mapped_text (mapped_as w.blocks r)) w.ranges
 
--- the report of a table; no directive opens a region yet, so none is open
+-- the report of a table
 unfoldable pub report_text : World → List ℕ
 report_text w =
     sizes_text w.limits.host w.limits.device (used_bytes w.state.records.blocks)
     ++ ranges_text w.state.records
-    ++ totals_text 0 (event_count w.history)
+    ++ totals_text (open_regions w.state) (event_count w.history)

@@ -12,7 +12,7 @@ use crate::read::Trouble;
 use crate::read::statements::line_at;
 use crate::sessions::Session;
 use crate::{Sink, Source};
-use acc_base::{Config, Fault};
+use acc_base::{Config, Fault, ScriptFault};
 use std::alloc::Global;
 use std::sync::Wait;
 use std::thread::Threads;
@@ -37,7 +37,8 @@ pub enum Status {
 /// # Errors
 ///
 /// - [`Fault::Read`] where the reader fails or gives more than 16,777,216 bytes. Nothing was written.
-/// - [`Fault::Script`] at the first line that is at fault. What the lines before print was written.
+/// - [`Fault::Script`] at the first line that is at fault, or behind the last line where a data region is then open. What
+///   the lines before print was written.
 /// - [`Fault::Write`] where the writer fails. It has then taken a front of what the script prints.
 /// - [`Fault::Memory`]. What some first lines print was written; the line after them is not at fault, and declares,
 ///   directs or writes. Nothing was written where memory was wanting for the input or for the table.
@@ -78,6 +79,12 @@ fn play<W: Sink>(
         rest = after;
         done += 1;
     }
+    if session.table.regions() > 0 {
+        return Err(Fault::Script {
+            line: done + 1,
+            kind: ScriptFault::Unclosed,
+        });
+    }
     Ok(status_of(refused))
 }
 
@@ -92,7 +99,8 @@ fn run_line<W: Sink>(
 ) -> Result<bool, Fault>
     ensures { LineRuns number (state_of session.old) line.now (W.told writer.old) (W.told writer.new) (state_of session.new) result }
 {
-    let statement = match line_at(alloc, &session.arrays, line) {
+    let innermost = session.table.newest_region();
+    let statement = match line_at(alloc, &session.arrays, innermost, line) {
         Ok(statement) => statement,
         Err(Trouble::Memory) => return Err(Fault::Memory),
         Err(Trouble::Line(kind)) => return Err(Fault::Script { line: number, kind }),

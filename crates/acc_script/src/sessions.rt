@@ -4,14 +4,13 @@ ghost use Rattle.std.specs.Prelude.{◌≡◌};
 ghost use Rattle.acc_script.specs.Meanings.{meaning_of};
 ghost use Rattle.acc_script.specs.Sessions.{state_of, Opens, Performs, CallsFor};
 ghost use Rattle.acc_script.specs.Scripts.{shown};
-ghost use Rattle.acc_table.specs.Calls.{request_of};
 ghost use Rattle.acc_table.specs.Queries.{host_read_of};
 
 use crate::arrays::Arrays;
 use crate::print::effects::Effect;
 use crate::read::statements::Statement;
-use acc_base::{Config, Fault, Section};
-use acc_table::{Call, Table};
+use acc_base::{Call, Config, Fault, Section};
+use acc_table::{Reply, Table};
 use std::alloc::Global;
 
 /// A table, and the arrays that the script has declared.
@@ -66,10 +65,10 @@ impl Session {
     /// Makes a call on the table.
     #[tactic(auto, using(crate::proofs::Accepted::accepted))]
     fn call(&mut self, call: Call) -> Result<Effect, Fault>
-        ensures { CallsFor (state_of self.old) (request_of call) (state_of self.new) result }
+        ensures { CallsFor (state_of self.old) call (state_of self.new) result }
     {
         match self.table.apply(call) {
-            Ok(_) => Ok(Effect::Nothing),
+            Ok(Reply::Done | Reply::Entered { .. }) => Ok(Effect::Nothing),
             Err((_, Fault::Memory)) => Err(Fault::Memory),
             Err((_, fault)) => Ok(Effect::Refused(fault)),
         }

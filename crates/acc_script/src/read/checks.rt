@@ -8,7 +8,7 @@ use crate::arrays::Arrays;
 use crate::read::clauses::modified_at;
 use crate::read::grammar::Clause;
 use crate::read::places::section_at;
-use crate::read::tokens::{is_at_end, is_mark_next, is_text, mark_at, skip_comma, word_at};
+use crate::read::tokens::{is_at_end, is_mark_next, mark_at, skip_comma, word_at};
 use acc_base::ScriptFault;
 
 /// What stood so far among the clauses and options of a directive.
@@ -16,8 +16,8 @@ use acc_base::ScriptFault;
 pub struct Seen {
     /// A clause.
     pub clause: bool,
-    /// The option `if_present`.
-    pub if_present: bool,
+    /// The option.
+    pub has_option: bool,
 }
 
 /// The text after one section or more, separated by commas.
@@ -61,13 +61,13 @@ fn clause_end<'a, C: Clause>(
     ensures { Reads (λ x. (x.0, x.1.now)) result (clause_end C.grammar arrays.now seen text.now) }
 {
     let (word, rest) = word_at(text)?;
-    if C::has_if_present() && is_text(word, "if_present") {
-        if seen.if_present {
+    if C::is_option(word) {
+        if seen.has_option {
             return Err(ScriptFault::Syntax);
         }
         let seen = Seen {
             clause: seen.clause,
-            if_present: true,
+            has_option: true,
         };
         return Ok((seen, rest));
     }
@@ -76,7 +76,7 @@ fn clause_end<'a, C: Clause>(
         Some(clause) => {
             let seen = Seen {
                 clause: true,
-                if_present: seen.if_present,
+                has_option: seen.has_option,
             };
             Ok((seen, group_end(clause, arrays, rest)?))
         }
@@ -101,7 +101,7 @@ pub fn clauses_end<C: Clause>(arrays: &Arrays, text: &[u8]) -> Result<Seen, Scri
 {
     let mut seen = Seen {
         clause: false,
-        if_present: false,
+        has_option: false,
     };
     let mut rest = text;
     for _ in 0..text.len() {

@@ -10,9 +10,7 @@ use crate::read::Trouble;
 use crate::read::checks::clauses_end;
 use crate::read::grammar::Clause;
 use crate::read::places::section_at;
-use crate::read::tokens::{
-    is_at_end, is_mark_next, is_text, is_word_before, mark_at, skip_comma, word_at,
-};
+use crate::read::tokens::{is_at_end, is_mark_next, is_word_before, mark_at, skip_comma, word_at};
 use acc_base::{Item, ScriptFault};
 use std::alloc::Global;
 
@@ -21,8 +19,8 @@ use std::alloc::Global;
 pub struct Clauses<C> {
     /// The items, in written order.
     pub items: Vec<Item<C>>,
-    /// The option `if_present` stands among them.
-    pub if_present: bool,
+    /// The option stands among them.
+    pub has_option: bool,
 }
 
 /// One section or more, separated by commas, behind the items before; the text after them.
@@ -100,11 +98,11 @@ fn clause_at<'a, C: Clause>(
     ensures { Holds (λ x. (read_of clauses.new, x.now)) result (clause_at C.grammar arrays.now (read_of clauses.old) text.now) }
 {
     let (word, rest) = word_at(text)?;
-    if C::has_if_present() && is_text(word, "if_present") {
-        if clauses.if_present {
+    if C::is_option(word) {
+        if clauses.has_option {
             return Err(Trouble::Line(ScriptFault::Syntax));
         }
-        clauses.if_present = true;
+        clauses.has_option = true;
         return Ok(rest);
     }
     match C::from_word(word) {
@@ -113,13 +111,14 @@ fn clause_at<'a, C: Clause>(
     }
 }
 
-/// What was read, if a clause was among it.
-fn with_clause<C: Copy>(clauses: Clauses<C>) -> Result<Clauses<C>, Trouble>
+/// What was read, if a clause was among it, in a list as long as the items are many.
+fn with_clause<C: Copy>(mut clauses: Clauses<C>) -> Result<Clauses<C>, Trouble>
     ensures { Holds read_of result (with_clause (read_of clauses)) }
 {
     if clauses.items.is_empty() {
         return Err(Trouble::Line(ScriptFault::Syntax));
     }
+    clauses.items.shrink_to_fit();
     Ok(clauses)
 }
 
@@ -134,7 +133,7 @@ fn held_clauses<C: Clause>(
 {
     let mut clauses = Clauses {
         items: Vec::new(alloc),
-        if_present: false,
+        has_option: false,
     };
     let mut rest = text;
     for _ in 0..text.len() {

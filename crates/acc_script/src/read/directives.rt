@@ -1,17 +1,40 @@
 //! The directives of a script.
 
-ghost use Rattle.acc_script.specs.Reading.{Gives};
-ghost use Rattle.acc_script.specs.Statements.{enter_at, exit_at, update_at, takes_memory};
+ghost use Rattle.acc_script.specs.Reading.{Reads, Gives};
+ghost use Rattle.acc_script.specs.Statements.{data_at, end_at, enter_at, exit_at, update_at, takes_memory};
 ghost use Rattle.acc_script.specs.Meanings.{meaning_of};
 
 use crate::arrays::Arrays;
 use crate::read::Trouble;
 use crate::read::clauses::clauses_at;
 use crate::read::statements::Statement;
-use crate::read::tokens::keyword_at;
-use acc_base::List;
-use acc_table::Directive;
+use crate::read::tokens::{is_at_end, keyword_at};
+use acc_base::{Directive, List, ScriptFault};
 use std::alloc::Global;
+
+/// The start of a `data` construct.
+#[tactic(auto, unfolding(crate::specs::Statements::data_at), using(crate::proofs::CheckedClauses::data_wants))]
+pub fn data_at(alloc: Global, arrays: &Arrays, text: &[u8]) -> Result<Statement<'static>, Trouble>
+    ensures { Gives takes_memory meaning_of result (data_at arrays.now text.now) }
+{
+    let items = List::from_vec(clauses_at(alloc, arrays, text)?.items);
+    Ok(Statement::Direct(Directive::Enter { items }))
+}
+
+/// The end of the `data` construct whose region is the innermost open one.
+#[tactic(auto, unfolding(crate::specs::Statements::end_at))]
+pub fn end_at(innermost: Option<u64>, text: &[u8]) -> Result<Statement<'static>, ScriptFault>
+    ensures { Reads meaning_of result (end_at innermost text.now) }
+{
+    let rest = keyword_at("data", text)?;
+    if !is_at_end(rest) {
+        return Err(ScriptFault::Syntax);
+    }
+    match innermost {
+        None => Err(ScriptFault::NoOpenRegion),
+        Some(number) => Ok(Statement::Direct(Directive::Exit { number })),
+    }
+}
 
 /// The `enter data` directive.
 #[tactic(auto, unfolding(crate::specs::Statements::enter_at), using(crate::proofs::CheckedClauses::enter_wants))]
@@ -29,8 +52,11 @@ pub fn exit_at(alloc: Global, arrays: &Arrays, text: &[u8]) -> Result<Statement<
     ensures { Gives takes_memory meaning_of result (exit_at arrays.now text.now) }
 {
     let rest = keyword_at("data", text)?;
-    let items = List::from_vec(clauses_at(alloc, arrays, rest)?.items);
-    Ok(Statement::Direct(Directive::ExitData { items }))
+    let clauses = clauses_at(alloc, arrays, rest)?;
+    Ok(Statement::Direct(Directive::ExitData {
+        finalize: clauses.has_option,
+        items: List::from_vec(clauses.items),
+    }))
 }
 
 /// The `update` directive.
@@ -40,7 +66,7 @@ pub fn update_at(alloc: Global, arrays: &Arrays, text: &[u8]) -> Result<Statemen
 {
     let clauses = clauses_at(alloc, arrays, text)?;
     Ok(Statement::Direct(Directive::Update {
-        if_present: clauses.if_present,
+        if_present: clauses.has_option,
         items: List::from_vec(clauses.items),
     }))
 }

@@ -1,14 +1,14 @@
 //! The words of the clauses of each directive.
 
 ghost use Rattle.std.specs.Prelude.{◌≡◌};
-ghost use Rattle.acc_script.specs.Grammar.{Grammar, enter_grammar, exit_grammar, update_grammar};
+ghost use Rattle.acc_script.specs.Grammar.{Grammar, region_grammar, enter_grammar, exit_grammar, update_grammar};
 
 use crate::read::tokens::is_text;
-use acc_base::{EnterClause, ExitClause, UpdateClause};
+use acc_base::{EnterClause, ExitClause, RegionClause, UpdateClause};
 
 /// The clauses of a directive.
 pub trait Clause: Copy {
-    /// The words of the clauses, their modifiers, and the options.
+    /// The words of the clauses, their modifiers, and the option.
     ghost grammar: { Grammar Self };
 
     /// The clause of a word, where the directive has one.
@@ -19,9 +19,53 @@ pub trait Clause: Copy {
     fn with_modifier(self, word: &[u8]) -> Option<Self>
         ensures { result ≡ grammar.modified self word.now };
 
-    /// The directive has the option `if_present`.
-    fn has_if_present() -> bool
-        ensures { result ≡ grammar.has_if_present };
+    /// The word is the option of the directive, where it has one.
+    fn is_option(word: &[u8]) -> bool
+        ensures { result ≡ grammar.is_option word.now };
+}
+
+impl Clause for RegionClause {
+    ghost grammar = { region_grammar };
+
+    fn from_word(word: &[u8]) -> Option<RegionClause> {
+        if is_text(word, "copy") {
+            Some(RegionClause::Copy)
+        } else if is_text(word, "copyin") {
+            Some(RegionClause::Copyin)
+        } else if is_text(word, "copyout") {
+            Some(RegionClause::Copyout { zero: false })
+        } else if is_text(word, "create") {
+            Some(RegionClause::Create { zero: false })
+        } else if is_text(word, "no_create") {
+            Some(RegionClause::NoCreate)
+        } else if is_text(word, "present") {
+            Some(RegionClause::Present)
+        } else {
+            None
+        }
+    }
+
+    fn with_modifier(self, word: &[u8]) -> Option<RegionClause> {
+        match self {
+            RegionClause::Copyin if is_text(word, "readonly") => Some(RegionClause::Copyin),
+            RegionClause::Copyout { .. } if is_text(word, "zero") => {
+                Some(RegionClause::Copyout { zero: true })
+            }
+            RegionClause::Create { .. } if is_text(word, "zero") => {
+                Some(RegionClause::Create { zero: true })
+            }
+            RegionClause::Copy
+            | RegionClause::Copyin
+            | RegionClause::Copyout { .. }
+            | RegionClause::Create { .. }
+            | RegionClause::NoCreate
+            | RegionClause::Present => None,
+        }
+    }
+
+    fn is_option(_word: &[u8]) -> bool {
+        false
+    }
 }
 
 impl Clause for EnterClause {
@@ -43,11 +87,11 @@ impl Clause for EnterClause {
             EnterClause::Create { .. } if is_text(word, "zero") => {
                 Some(EnterClause::Create { zero: true })
             }
-            _ => None,
+            EnterClause::Copyin | EnterClause::Create { .. } => None,
         }
     }
 
-    fn has_if_present() -> bool {
+    fn is_option(_word: &[u8]) -> bool {
         false
     }
 }
@@ -69,8 +113,8 @@ impl Clause for ExitClause {
         None
     }
 
-    fn has_if_present() -> bool {
-        false
+    fn is_option(word: &[u8]) -> bool {
+        is_text(word, "finalize")
     }
 }
 
@@ -91,7 +135,7 @@ impl Clause for UpdateClause {
         None
     }
 
-    fn has_if_present() -> bool {
-        true
+    fn is_option(word: &[u8]) -> bool {
+        is_text(word, "if_present")
     }
 }

@@ -9,11 +9,10 @@ ghost use Rattle.acc_script.specs.Bytes.{bytes_of};
 
 use crate::arrays::{Array, Arrays};
 use crate::read::Trouble;
-use crate::read::directives::{enter_at, exit_at, update_at};
+use crate::read::directives::{data_at, end_at, enter_at, exit_at, update_at};
 use crate::read::places::{address_at, section_at};
 use crate::read::tokens::{bytes_of, check_bytes, is_at_end, is_text, name_at, number_at, word_at};
-use acc_base::{List, ScriptFault, Section};
-use acc_table::Directive;
+use acc_base::{Directive, List, ScriptFault, Section};
 use std::alloc::Global;
 
 /// How many bytes a line may have.
@@ -52,10 +51,15 @@ pub enum Statement<'a> {
     Report,
 }
 
-/// What a line asks for, or its first fault.
+/// What a line asks for, or its first fault. `innermost` is the number of the innermost open region, if one is open.
 #[tactic(auto, unfolding(crate::specs::Statements::line_at))]
-pub fn line_at<'a>(alloc: Global, arrays: &Arrays, line: &'a [u8]) -> Result<Statement<'a>, Trouble>
-    ensures { Gives takes_memory meaning_of result (line_at arrays.now line.now) }
+pub fn line_at<'a>(
+    alloc: Global,
+    arrays: &Arrays,
+    innermost: Option<u64>,
+    line: &'a [u8],
+) -> Result<Statement<'a>, Trouble>
+    ensures { Gives takes_memory meaning_of result (line_at arrays.now innermost line.now) }
 {
     if line.len() > LINE_LIMIT {
         return Err(Trouble::Line(ScriptFault::TooLong));
@@ -67,7 +71,7 @@ pub fn line_at<'a>(alloc: Global, arrays: &Arrays, line: &'a [u8]) -> Result<Sta
     if is_at_end(text) {
         return Ok(Statement::Blank);
     }
-    statement_at(alloc, arrays, text)
+    statement_at(alloc, arrays, innermost, text)
 }
 
 /// What stands before a comment.
@@ -105,13 +109,18 @@ fn has_text_bytes(bytes: &[u8]) -> bool
 fn statement_at<'a>(
     alloc: Global,
     arrays: &Arrays,
+    innermost: Option<u64>,
     text: &'a [u8],
 ) -> Result<Statement<'a>, Trouble>
-    ensures { Gives takes_memory meaning_of result (statement_at arrays.now text.now) }
+    ensures { Gives takes_memory meaning_of result (statement_at arrays.now innermost text.now) }
 {
     let (word, rest) = word_at(text)?;
     if is_text(word, "array") {
         Ok(array_at(arrays, rest)?)
+    } else if is_text(word, "data") {
+        data_at(alloc, arrays, rest)
+    } else if is_text(word, "end") {
+        Ok(end_at(innermost, rest)?)
     } else if is_text(word, "enter") {
         enter_at(alloc, arrays, rest)
     } else if is_text(word, "exit") {

@@ -1,10 +1,11 @@
-use Rattle.std.proofs.Common.{sym, ◌∙◌, arith}
+use Rattle.std.proofs.Common.{◌≡◌, ◌<◌, sym, ◌∙◌, arith}
 use Rattle.std.proofs.lemmas.Result.{err_from_is_err_and}
 use Rattle.std.proofs.lemmas.Bool.{eqb-true}
+use Rattle.acc_base.specs.Calls.{open_regions}
 use Rattle.acc_script.specs.Lines.{lines_of}
 use Rattle.acc_script.specs.Sessions.{state_of}
 use Rattle.acc_script.specs.Scripts.{transcript}
-use Rattle.acc_script.proofs.LineByLine.{line_fails, left_more, took_line, ends_well, lines_none}
+use Rattle.acc_script.proofs.LineByLine.{line_fails, left_more, took_line, ends_well, ends_unclosed, lines_none}
 use Rattle.acc_script.proofs.runs.play.Goals as goal
 
 pub returns-in_err-is_refused : goal.returns-in_err-is_refused
@@ -32,9 +33,19 @@ lines-preserved g c =
       count = omega (arith, c.lines.invariant.count, c.next_line.ensures.shorter);
     }
 
+pub returns-then-regions-gt0 : goal.returns-then-regions-gt0
+returns-then-regions-gt0 g c =
+    let told = g.W.Sink.told in
+    let s = state_of c.lines.session in
+    let empty = lines_none c.lines.rest.now (eqb-true _ _ (sym c.is_empty.ensures ∙ c.lines-test.false)) in
+    let some_region : 0 < open_regions s.world.state = omega (arith, c.regions.ensures, c.if-regions-gt0.true) in
+    ends_unclosed c.lines.done s c.lines.refused (lines_of c.lines.rest.now) (transcript c.args.config c.args.input.now) c.lines.invariant.left (told c.args.writer.now) (told c.lines.writer) empty some_region c.lines.invariant.wrote
+
 pub returns : goal.returns
 returns g c =
     let told = g.W.Sink.told in
+    let s = state_of c.lines.session in
     let empty = lines_none c.lines.rest.now (eqb-true _ _ (sym c.is_empty.ensures ∙ c.lines-test.false)) in
-    let ended = ends_well c.lines.done (state_of c.lines.session) c.lines.refused (lines_of c.lines.rest.now) (transcript c.args.config c.args.input.now) c.lines.invariant.left (told c.args.writer.now) (told c.lines.writer) empty c.lines.invariant.wrote in
+    let no_region : open_regions s.world.state ≡ 0 = omega (arith, c.regions.ensures, c.if-regions-gt0.false) in
+    let ended = ends_well c.lines.done s c.lines.refused (lines_of c.lines.rest.now) (transcript c.args.config c.args.input.now) c.lines.invariant.left (told c.args.writer.now) (told c.lines.writer) empty no_region c.lines.invariant.wrote in
     (c.lines.refused, ended.0, c.status_of.ensures, ended.1)

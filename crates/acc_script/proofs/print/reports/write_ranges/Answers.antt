@@ -19,14 +19,14 @@ returns-then-not-write_mapped g c =
     let ranges = w.state.records.ranges in
     let view = mapped_as w.state.records.blocks in
     let found = found_view view (range_from c.each.from ranges) c.in-Some.mapped c.in-Some.ensures.value in
-    lost_found w.limits c.each.from found.0 (λ r. mapped_text (view r)) ranges (told c.args.writer.now) (told c.each.writer) (told c.write_mapped.new.writer) c.laws.ensures.accounted.ranges_apart.rising found.1 c.each.invariant (rw found.2 c.if-not-write_mapped.ensures)
+    lost_found w.limits c.each.from found.0 (λ r. mapped_text (view r)) ranges (told c.args.writer.now) (told c.each.writer) (told c.write_mapped.new.writer) c.laws.ensures.accounted.sound.layout.records.ranges_apart.rising found.1 c.each.invariant (rw found.2 c.if-not-write_mapped.ensures)
 
 pub overflow_add-from : goal.overflow_add-from
 overflow_add-from g c =
     let w = c.args.table.now in
     let ranges = w.state.records.ranges in
     let found = found_view (mapped_as w.state.records.blocks) (range_from c.each.from ranges) c.in-Some.mapped c.in-Some.ensures.value in
-    let start = found_start w.limits c.each.from found.0 ranges c.laws.ensures.bounds c.laws.ensures.accounted.ranges_apart.in_host found.1 in
+    let start = found_start w.limits c.each.from found.0 ranges c.laws.ensures.bounds c.laws.ensures.accounted.sound.layout.records.ranges_apart.in_host found.1 in
     let same = ap (λ (m : Mapped). m.start) found.2 in
     omega (arith, start.1, same)
 
@@ -35,7 +35,7 @@ each-smaller g c =
     let w = c.args.table.now in
     let ranges = w.state.records.ranges in
     let found = found_view (mapped_as w.state.records.blocks) (range_from c.each.from ranges) c.in-Some.mapped c.in-Some.ensures.value in
-    let start = found_start w.limits c.each.from found.0 ranges c.laws.ensures.bounds c.laws.ensures.accounted.ranges_apart.in_host found.1 in
+    let start = found_start w.limits c.each.from found.0 ranges c.laws.ensures.bounds c.laws.ensures.accounted.sound.layout.records.ranges_apart.in_host found.1 in
     let same = ap (λ (m : Mapped). m.start) found.2 in
     omega (arith, start.0, start.1, same)
 
@@ -46,7 +46,7 @@ each-preserved g c =
     let ranges = w.state.records.ranges in
     let view = mapped_as w.state.records.blocks in
     let found = found_view view (range_from c.each.from ranges) c.in-Some.mapped c.in-Some.ensures.value in
-    let took = took_found w.limits c.each.from found.0 (λ r. mapped_text (view r)) ranges (told c.args.writer.now) (told c.each.writer) (told c.write_mapped.new.writer) c.laws.ensures.accounted.ranges_apart.in_host c.laws.ensures.accounted.ranges_apart.rising found.1 c.each.invariant (rw found.2 c.if-not-write_mapped.ensures) in
+    let took = took_found w.limits c.each.from found.0 (λ r. mapped_text (view r)) ranges (told c.args.writer.now) (told c.each.writer) (told c.write_mapped.new.writer) c.laws.ensures.accounted.sound.layout.records.ranges_apart.in_host c.laws.ensures.accounted.sound.layout.records.ranges_apart.rising found.1 c.each.invariant (rw found.2 c.if-not-write_mapped.ensures) in
     subst (λ (m : Mapped). Took (told c.args.writer.now) (told c.write_mapped.new.writer) (flat_map (λ r. mapped_text (view r)) (below (m.start + 1) ranges))) found.2 took
 
 pub returns : goal.returns

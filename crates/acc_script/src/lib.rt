@@ -18,6 +18,3 @@ pub use ends::whole::write_all;
 pub use ends::{Sink, Source};
 pub use print::reports::report;
 pub use runs::{Status, run};
-
-#[cfg(test)]
-mod tests;

@@ -59,26 +59,41 @@ Statements, one to a line, with comments after '#':
   array NAME BYTES         an array in host memory
   write PLACE DIGITS       write bytes to host memory, two hexadecimal digits
                            each
-  enter data copyin(REF)   map it, with its bytes, or count it once more
-  enter data create(REF)   the same without its bytes; create(zero: REF) fills
-                           a new block with zero
-  exit data delete(REF)    count it once less; at zero the mapping ends
-  exit data copyout(REF)   the same, and its bytes are copied to host memory
+  data CLAUSES             enter a region, which counts its sections:
+    copy(REFS)             as copyin here, and as copyout at the region's end
+    copyin(REFS)           where absent, map it to a new block with its bytes
+    copyout(REFS)          where absent, map it to a new block; where the region
+                           ends the mapping, its bytes are first copied to host
+                           memory
+    create(REFS)           where absent, map it to a new block
+    no_create(REFS)        where absent, pass it over
+    present(REFS)          where absent, refuse it
+  end data                 exit the region that was entered last: what its own
+                           entry counted is taken back; at zero the mapping ends
+  enter data copyin(REFS)  map it, with its bytes, or count it once more
+  enter data create(REFS)  the same without its bytes
+  exit data delete(REFS)   count it once less; at zero the mapping ends
+  exit data copyout(REFS)  the same, and its bytes are copied to host memory
                            before the mapping ends
-  update self(REF)         copy its bytes from the device to host memory;
-                           host(REF) says the same
-  update device(REF)       copy its bytes from host memory to the device
+  update self(REFS)        copy its bytes from the device to host memory;
+                           host(REFS) says the same
+  update device(REFS)      copy its bytes from host memory to the device
   show REF                 its bytes in host memory
   peek REF                 its bytes on the device, or none
   present REF              whether all of it lies in one mapped range: yes or no
   address PLACE            its device address, or none
   report                   the sizes, the mapped ranges with their counters, the
-                           numbers of regions and events
+                           numbers of open regions and of events
 NAME is a lower-case letter, then lower-case letters, digits and '_', 32 at
-most. REF is NAME, or NAME[OFFSET:LENGTH], in bytes from the start of the array;
-a directive has one. PLACE is NAME[OFFSET]. An update with the option if_present
-passes over what is absent, and not over what is partly mapped.
-copyin(readonly: REF) is copyin(REF).
+most. REF is NAME, or NAME[OFFSET:LENGTH], in bytes from the start of the array.
+REFS is one REF or more, separated by commas. PLACE is NAME[OFFSET].
+
+A directive has one clause or more, and 64 REFs at most. create(zero: REFS), and
+copyout(zero: REFS) of a region, fill a new block with zero; copyin(readonly:
+REFS) is copyin(REFS). An exit data with the option finalize takes all counts of
+enter data. An update with the option if_present passes over what is absent, and
+not over what is partly mapped. A region that is open at the end of the script
+is a fault.
 
 A statement that is refused changes nothing and prints 'line L: refused ..'; the
 script goes on. A line that is at fault ends the script.

@@ -15,7 +15,7 @@ use std::thread::Threads;
 type Row = (&'static str, &'static str, &'static str, &'static str, u8);
 
 /// Whole lives of arrays, and what the report says of them.
-const LIVES: [Row; 7] = [
+const LIVES: [Row; 10] = [
     ("", "", "", "", 0),
     (
         "",
@@ -30,6 +30,27 @@ const LIVES: [Row; 7] = [
         "line 3: refused 10 PartlyPresent item 0\nhost 65536 device 65536 used 16\nmap 0x1000 16 at 0x100000000 structured 0 dynamic 2\nregions 0 events 2\n",
         "",
         1,
+    ),
+    (
+        "",
+        "array a 16\nenter data copyin(a) copyin(a) copyin(a)\nreport\nexit data delete(a) finalize\nreport\n",
+        "host 65536 device 65536 used 16\nmap 0x1000 16 at 0x100000000 structured 0 dynamic 3\nregions 0 events 1\nhost 65536 device 65536 used 0\nregions 0 events 2\n",
+        "",
+        0,
+    ),
+    (
+        "",
+        "array a 4\nwrite a[0] 0a0b0c0d\nenter data copyin(a)\ndata present(a)\nexit data copyout(a) finalize\nreport\nend data\nshow a\nreport\n",
+        "host 65536 device 65536 used 16\nmap 0x1000 4 at 0x100000000 structured 1 dynamic 0\nregions 1 events 4\n0a0b0c0d\nhost 65536 device 65536 used 0\nregions 0 events 5\n",
+        "",
+        0,
+    ),
+    (
+        "",
+        "array a 16\ndata present(a[0:0]) copy(a[99999:0])\nend data\nreport\n",
+        "host 65536 device 65536 used 0\nregions 0 events 2\n",
+        "",
+        0,
     ),
     (
         "",
@@ -118,8 +139,8 @@ const COPIES: [Row; 7] = [
 const REFUSALS: [Row; 5] = [
     (
         "",
-        "array a 16\nenter data copyin(a, a)\n",
-        "line 2: refused 5 TooManyItems n 2\n",
+        "array a 32\nenter data copyin(a[0:16], a[16:16])\ndata present(a)\n",
+        "line 3: refused 10 PartlyPresent item 0\n",
         "",
         1,
     ),
@@ -154,7 +175,7 @@ const REFUSALS: [Row; 5] = [
 ];
 
 /// Lines at fault, which end the script.
-const FAULTS: [Row; 15] = [
+const FAULTS: [Row; 17] = [
     ("", "array a 0", "", "accrun: line 1: Number\n", 2),
     ("", "array a 4294967296", "", "accrun: line 1: Number\n", 2),
     (
@@ -193,7 +214,21 @@ const FAULTS: [Row; 15] = [
         "accrun: line 2: Number\n",
         2,
     ),
-    ("", "end data\n", "", "accrun: line 1: Syntax\n", 2),
+    ("", "end data\n", "", "accrun: line 1: NoOpenRegion\n", 2),
+    (
+        "",
+        "array a 16\ndata create(a)\n",
+        "",
+        "accrun: line 3: Unclosed\n",
+        2,
+    ),
+    (
+        "",
+        "array a 1\ndata present(a)\ndata create(a)\nshow a",
+        "line 2: refused 11 NotPresent item 0\n00\n",
+        "accrun: line 5: Unclosed\n",
+        2,
+    ),
     ("", "\n\n\x7f", "", "accrun: line 3: NotText\n", 2),
     (
         "",
@@ -317,17 +352,26 @@ fn command_lines_are_read(rt: HostRuntime) -> Result<(), Fail> {
 }
 
 /// What the help has to name.
-const HELP_WORDS: [&str; 15] = [
+const HELP_WORDS: [&str; 24] = [
     "< SCRIPT",
     "read whole",
     "array NAME",
     "write PLACE",
-    "enter data copyin(REF)",
-    "enter data create(REF)",
-    "exit data delete(REF)",
-    "exit data copyout(REF)",
-    "update self(REF)",
-    "update device(REF)",
+    "data CLAUSES",
+    "copy(REFS)",
+    "copyin(REFS)",
+    "copyout(REFS)",
+    "create(REFS)",
+    "no_create(REFS)",
+    "present(REFS)",
+    "end data",
+    "enter data copyin(REFS)",
+    "enter data create(REFS)",
+    "exit data delete(REFS)",
+    "exit data copyout(REFS)",
+    "finalize",
+    "update self(REFS)",
+    "update device(REFS)",
     "show REF",
     "peek REF",
     "present REF",

@@ -41,9 +41,9 @@ LineRuns number s line old new after (Err _) = ⊥
 
 -- ---- a script
 
--- what was written is what the transcript says: all of it; the lines before one at fault; nothing where there was no
--- memory for a table, and the lines before one that takes memory where there was none for it; or a front of it where
--- the sink failed
+-- what was written is what the transcript says: all of it; the lines before one at fault, which are all where the end
+-- of the input is at fault; nothing where there was no memory for a table, and the lines before one that takes memory
+-- where there was none for it; or a front of it where the sink failed
 abbrev pub Played : Transcript → Option Taken → Option Taken → Result Status Fault → Type 0
 Played t old new (Ok status) = (refused : Bool) × (t.ending ≡ Ended refused) × (status ≡ status_of refused) × Took old new (concat t.texts)
 Played t old new (Err (Script number kind)) = (t.ending ≡ Faulty number kind) × Took old new (concat t.texts)

@@ -111,7 +111,7 @@ fn clause_at<'a, C: Clause>(
     }
 }
 
-/// What was read, if a clause was among it, in a list as long as the items are many.
+/// What was read, if a clause was among it. Its list gives back the places that no item needs.
 fn with_clause<C: Copy>(mut clauses: Clauses<C>) -> Result<Clauses<C>, Trouble>
     ensures { Holds read_of result (with_clause (read_of clauses)) }
 {

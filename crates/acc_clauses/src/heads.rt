@@ -6,6 +6,7 @@ ghost use Rattle.acc_base.specs.Walk.{block_counted};
 ghost use Rattle.acc_clauses.specs.Overlays.{tasks_in, dids_in};
 ghost use Rattle.acc_clauses.specs.Planned.{holding_by, holdings_by, register_by};
 ghost use Rattle.acc_clauses.specs.Acts.{CanFinish};
+ghost use Rattle.acc_clauses.specs.declared.plans.Head.TheVariants.{Entry};
 
 use crate::acted::Acted;
 use crate::parts::Parts;
@@ -56,6 +57,17 @@ fn holdings_by(acts: &[Acted]) -> ArrayVec<Holding, 64>
     holdings
 }
 
+/// Opens a region with what the tasks of its entry hold, where there is room for it.
+// A function of its own, so that other directives don't pay for the list.
+fn enter(parts: &mut Parts, acts: &[Acted])
+    requires few { length acts.now ≤ 64 }
+    requires can { CanFinish Entry (length acts.now) parts.old }
+    ensures limits { parts.new.limits ≡ parts.old.limits }
+    ensures state { parts.new.state ≡ record parts.old.state { register = register_by Entry (holdings_by (tasks_in acts.now) (dids_in acts.now)) parts.old.state.register } }
+{
+    parts.enter(&holdings_by(acts));
+}
+
 /// Does to the register what a plan says, where there is room for it. It takes no memory and is never refused.
 pub fn finish(parts: &mut Parts, head: Head, acts: &[Acted])
     requires few { length acts.now ≤ 64 }
@@ -65,7 +77,7 @@ pub fn finish(parts: &mut Parts, head: Head, acts: &[Acted])
 {
     match head {
         Head::Plain => {}
-        Head::Entry => parts.enter(&holdings_by(acts)),
+        Head::Entry => enter(parts, acts),
         Head::Leaving(number) => parts.leave(number),
     }
 }

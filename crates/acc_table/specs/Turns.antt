@@ -30,19 +30,19 @@ pub record StaysRefused (w : World) (fault : Fault) (answer : Answer) (next : Wo
   pub same : next ≡ w
 
 -- the turn made this event
-pub record IsMade (w : World) (call : Call) (e : Event) (answer : Answer) (next : World) : Type 0 where
+pub record IsTurnDone (w : World) (call : Call) (e : Event) (answer : Answer) (next : World) : Type 0 where
   pub answer_is : answer ≡ answer_to (reply_of e)
   pub next_is : next ≡ world_after call e w
 
 -- the turn was accepted; no call is idle so far
-abbrev pub IsAccepted : World → Call → Verdict → Answer → World → Type 0
-IsAccepted w call (Makes e) answer next = IsMade w call e answer next
-IsAccepted w call Idle answer next = ⊥
+abbrev pub IsTurnAccepted : World → Call → Verdict → Answer → World → Type 0
+IsTurnAccepted w call (Makes e) answer next = IsTurnDone w call e answer next
+IsTurnAccepted w call Idle answer next = ⊥
 
 -- the refusal is the answer; where there is none, want of memory may be
 abbrev pub MayAnswer : World → Call → Result Verdict Fault → Answer → World → Type 0
 MayAnswer w call (Err fault) answer next = StaysRefused w fault answer next
-MayAnswer w call (Ok verdict) answer next = StaysRefused w Memory answer next ⊎ IsAccepted w call verdict answer next
+MayAnswer w call (Ok verdict) answer next = StaysRefused w Memory answer next ⊎ IsTurnAccepted w call verdict answer next
 
 -- the turns lead from one world to another, one after the other, with these answers
 abbrev pub IsRun : World → List Turn → List Answer → World → Type 0

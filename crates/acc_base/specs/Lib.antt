@@ -3,6 +3,7 @@ pub mod Faults
 pub mod Results
 pub mod Section
 pub mod Ranges
+pub mod Attachments
 pub mod Blocks
 pub mod Holes
 pub mod Register

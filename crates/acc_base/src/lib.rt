@@ -6,6 +6,7 @@
 #![tactic(auto)]
 
 mod addresses;
+mod attachments;
 mod calls;
 mod configs;
 mod directives;
@@ -18,6 +19,7 @@ mod regions;
 mod tasks;
 
 pub use addresses::{DEVICE_BASE, HOST_BASE, MEMORY_MAX};
+pub use attachments::{Aim, Attachment};
 pub use calls::Call;
 pub use configs::Config;
 pub use directives::Directive;

@@ -23,7 +23,7 @@ use Rattle.acc_base.proofs.Runs.{ran_with, ran, small, at, item, enter_data_of, 
 abbrev a : ℕ → Call
 a len = enter_data_of (item enter.Copyin (at 0x1000 len) ∷ [])
 
-mapped : (ran (a 32 ∷ [])).world.state.records ≡ record { ranges = range (at 0x1000 32) 1 0 1 ∷ []; blocks = block 1 0x1_0000_0000 32 ∷ []; births = 1 }
+mapped : (ran (a 32 ∷ [])).world.state.records ≡ record { ranges = range (at 0x1000 32) 1 0 1 ∷ []; blocks = block 1 0x1_0000_0000 32 ∷ []; attached = []; births = 1 }
 unfolding ran
 mapped = refl
 
@@ -34,7 +34,7 @@ mapped_bytes = refl
 abbrev mapped_and_deleted : List Call
 mapped_and_deleted = a 32 ∷ exit_data_of (item exit.Delete (at 0x1000 32) ∷ []) ∷ []
 
-deleted : (ran mapped_and_deleted).world.state.records ≡ record { ranges = []; blocks = []; births = 1 }
+deleted : (ran mapped_and_deleted).world.state.records ≡ record { ranges = []; blocks = []; attached = []; births = 1 }
 unfolding ran
 deleted = refl
 
@@ -66,7 +66,7 @@ over_the_end_refused : (ran over_the_end).refused ≡ None ∷ Some (PartlyPrese
 unfolding ran
 over_the_end_refused = refl
 
-over_the_end_counted : (ran over_the_end).world.state.records ≡ record { ranges = range (at 0x1000 16) 1 0 2 ∷ []; blocks = block 1 0x1_0000_0000 16 ∷ []; births = 1 }
+over_the_end_counted : (ran over_the_end).world.state.records ≡ record { ranges = range (at 0x1000 16) 1 0 2 ∷ []; blocks = block 1 0x1_0000_0000 16 ∷ []; attached = []; births = 1 }
 unfolding ran
 over_the_end_counted = refl
 
@@ -86,7 +86,7 @@ fall_told = refl
 abbrev counted_once : List Call
 counted_once = a 16 ∷ exit_data_of (item exit.Delete (at 0x1004 4) ∷ []) ∷ exit_data_of (item exit.Delete (at 0x1000 16) ∷ []) ∷ []
 
-ends : (ran counted_once).world.state.records ≡ record { ranges = []; blocks = []; births = 1 }
+ends : (ran counted_once).world.state.records ≡ record { ranges = []; blocks = []; attached = []; births = 1 }
 unfolding ran
 ends = refl
 
@@ -102,7 +102,7 @@ few = record { host = 96; device = 64; regions = 4; tickets = 100; counter_max =
 abbrev three_counts : Call
 three_counts = enter_data_of (item enter.Copyin (at 0x1000 16) ∷ item enter.Copyin (at 0x1000 16) ∷ item (enter.Create true) (at 0x1004 4) ∷ [])
 
-three_counted : (ran_with few (three_counts ∷ [])).world.state.records ≡ record { ranges = range (at 0x1000 16) 1 0 3 ∷ []; blocks = block 1 0x1_0000_0000 16 ∷ []; births = 1 }
+three_counted : (ran_with few (three_counts ∷ [])).world.state.records ≡ record { ranges = range (at 0x1000 16) 1 0 3 ∷ []; blocks = block 1 0x1_0000_0000 16 ∷ []; attached = []; births = 1 }
 unfolding ran_with
 three_counted = refl
 
@@ -133,7 +133,7 @@ dropped_in = refl
 abbrev finalized : List Call
 finalized = three_counts ∷ finalize_of (item exit.Delete (at 0x1000 16) ∷ item exit.Delete (at 0x1000 16) ∷ []) ∷ []
 
-finalized_records : (ran_with few finalized).world.state.records ≡ record { ranges = []; blocks = []; births = 1 }
+finalized_records : (ran_with few finalized).world.state.records ≡ record { ranges = []; blocks = []; attached = []; births = 1 }
 unfolding ran_with
 finalized_records = refl
 
@@ -160,7 +160,7 @@ overlapping_left = refl
 abbrev two_births : List Call
 two_births = HostWrite 0x1000 (1 ∷ 2 ∷ 3 ∷ []) ∷ enter_data_of (item enter.Copyin (at 0x1001 2) ∷ item (enter.Create false) (at 0x1000 1) ∷ []) ∷ []
 
-two_births_records : (ran two_births).world.state.records ≡ record { ranges = range (at 0x1000 1) 2 0 1 ∷ range (at 0x1001 2) 1 0 1 ∷ []; blocks = block 1 0x1_0000_0000 2 ∷ block 2 0x1_0000_0010 1 ∷ []; births = 2 }
+two_births_records : (ran two_births).world.state.records ≡ record { ranges = range (at 0x1000 1) 2 0 1 ∷ range (at 0x1001 2) 1 0 1 ∷ []; blocks = block 1 0x1_0000_0000 2 ∷ block 2 0x1_0000_0010 1 ∷ []; attached = []; births = 2 }
 unfolding ran
 two_births_records = refl
 
@@ -206,7 +206,7 @@ unfolding ran_with
 device_filled_refused = refl
 
 -- the first item of the refused directive was not mapped
-device_filled_left : (ran_with few device_filled).world.state.records ≡ record { ranges = range (at 0x1010 16) 2 0 1 ∷ range (at 0x1020 32) 3 0 1 ∷ []; blocks = block 2 0x1_0000_0010 16 ∷ block 3 0x1_0000_0020 32 ∷ []; births = 3 }
+device_filled_left : (ran_with few device_filled).world.state.records ≡ record { ranges = range (at 0x1010 16) 2 0 1 ∷ range (at 0x1020 32) 3 0 1 ∷ []; blocks = block 2 0x1_0000_0010 16 ∷ block 3 0x1_0000_0020 32 ∷ []; attached = []; births = 3 }
 unfolding ran_with
 device_filled_left = refl
 
@@ -253,7 +253,7 @@ all_refused : (ran refusals).refused ≡ Some (OutOfHost 0) ∷ Some (OutOfHost 
 unfolding ran
 all_refused = refl
 
-all_left : (ran refusals).world.state.records ≡ record { ranges = range (at 0x1000 33) 1 0 2 ∷ []; blocks = block 1 0x1_0000_0000 33 ∷ []; births = 1 }
+all_left : (ran refusals).world.state.records ≡ record { ranges = range (at 0x1000 33) 1 0 2 ∷ []; blocks = block 1 0x1_0000_0000 33 ∷ []; attached = []; births = 1 }
 unfolding ran
 all_left = refl
 
@@ -342,7 +342,7 @@ unfolding ran
 to_device_told = refl
 
 -- the counter is neither raised nor lowered
-to_device_counted : (ran to_device).world.state.records ≡ record { ranges = range (at 0x1004 4) 1 0 1 ∷ []; blocks = block 1 0x1_0000_0000 4 ∷ []; births = 1 }
+to_device_counted : (ran to_device).world.state.records ≡ record { ranges = range (at 0x1004 4) 1 0 1 ∷ []; blocks = block 1 0x1_0000_0000 4 ∷ []; attached = []; births = 1 }
 unfolding ran
 to_device_counted = refl
 
@@ -409,7 +409,7 @@ copied_out_host : (ran copied_out).world.state.host ≡ host_of (5 ∷ 2 ∷ 3 �
 unfolding ran
 copied_out_host = refl
 
-copied_out_records : (ran copied_out).world.state.records ≡ record { ranges = []; blocks = []; births = 1 }
+copied_out_records : (ran copied_out).world.state.records ≡ record { ranges = []; blocks = []; attached = []; births = 1 }
 unfolding ran
 copied_out_records = refl
 
@@ -425,7 +425,7 @@ still_mapped_host : (ran still_mapped).world.state.host ≡ host_of (5 ∷ 6 ∷
 unfolding ran
 still_mapped_host = refl
 
-still_mapped_records : (ran still_mapped).world.state.records ≡ record { ranges = range (at 0x1000 2) 1 0 1 ∷ []; blocks = block 1 0x1_0000_0000 2 ∷ []; births = 1 }
+still_mapped_records : (ran still_mapped).world.state.records ≡ record { ranges = range (at 0x1000 2) 1 0 1 ∷ []; blocks = block 1 0x1_0000_0000 2 ∷ []; attached = []; births = 1 }
 unfolding ran
 still_mapped_records = refl
 

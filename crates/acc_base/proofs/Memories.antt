@@ -7,6 +7,7 @@ use Rattle.acc_base.specs.declared.items.Section.{Section}
 use Rattle.acc_base.specs.declared.mappings.Range.{Range}
 use Rattle.acc_base.specs.declared.mappings.Counter.TheVariants.{Structured, Dynamic}
 use Rattle.acc_base.specs.declared.mappings.Block.{Block}
+use Rattle.acc_base.specs.declared.attachments.Attachment.{Attachment}
 use Rattle.acc_base.specs.declared.tasks.Task.{Task}
 use Rattle.acc_base.specs.declared.tasks.Task.TheVariants.{Enter, Leave, Exit, Move}
 use Rattle.acc_base.specs.declared.tasks.Transfer.{Transfer}
@@ -22,7 +23,7 @@ use Rattle.acc_base.specs.Ranges.{bare_range}
 use Rattle.acc_base.specs.Blocks.{without_block}
 use Rattle.acc_base.specs.Tasks.{section_of, recounted, act, records_after_birth, records_after_end, with_range_changed}
 use Rattle.acc_base.specs.Walk.{asked_in, done_in}
-use Rattle.acc_base.specs.Bytes.{host_byte, bytes_of, written_bytes, bytes_moved_in, bytes_moved_out, memory_changed, host_made, memories_made, first_address, transfer_of, fill_of, host_after_write, host_after, act_state, act_all_state, after}
+use Rattle.acc_base.specs.Bytes.{host_byte, bytes_of, written_bytes, is_moved, bytes_moved_in, bytes_moved_out, memory_changed, host_made, memories_made, first_address, transfer_of, fill_of, host_after_write, host_after, act_state, act_all_state, after}
 use Rattle.acc_base.specs.Accounts.{IsMemoryOf, AreMemoriesSized}
 
 -- ---- memories of blocks that are there
@@ -46,11 +47,11 @@ pub length-written_bytes : (taken : ℕ → Bool) (source : ℕ → ℕ) (addres
 length-written_bytes taken source address [] = refl
 length-written_bytes taken source address (byte ∷ bytes) = ap suc (length-written_bytes taken source (suc address) bytes)
 
-pub length-moved_in : (section : Section) (host : List ℕ) (start : ℕ) (bytes : List ℕ) → length (bytes_moved_in section host start bytes) ≡ length bytes
-length-moved_in section host start bytes = length-written_bytes (covers section) (host_byte host) start bytes
+pub length-moved_in : (moved : ℕ → Bool) (host : List ℕ) (start : ℕ) (bytes : List ℕ) → length (bytes_moved_in moved host start bytes) ≡ length bytes
+length-moved_in moved host start bytes = length-written_bytes moved (host_byte host) start bytes
 
-pub length-moved_out : (section : Section) (bytes : List ℕ) (start : ℕ) (host : List ℕ) → length (bytes_moved_out section bytes start host) ≡ length host
-length-moved_out section bytes start host = length-written_bytes (covers section) (λ a. slice_index bytes (a - start)) host_base host
+pub length-moved_out : (moved : ℕ → Bool) (bytes : List ℕ) (start : ℕ) (host : List ℕ) → length (bytes_moved_out moved bytes start host) ≡ length host
+length-moved_out moved bytes start host = length-written_bytes moved (λ a. slice_index bytes (a - start)) host_base host
 
 pub length-host_after_write : (addr len : ℕ) (bytes host : List ℕ) → length (host_after_write addr len bytes host) ≡ length host
 length-host_after_write addr len bytes host = length-written_bytes (covers (record { start = addr; len = len })) (λ a. slice_index bytes (a - addr)) host_base host
@@ -81,22 +82,25 @@ changed_sized k change (m ∷ ms) (b ∷ bs) keeps h = (memory_changed_sized k c
 -- ---- a transfer
 
 -- a transfer keeps the length of host memory
-pub length-host_made : (o : Option Transfer) (ms : List Memory) (host : List ℕ) → length (host_made o ms host) ≡ length host
-length-host_made None ms host = refl
-length-host_made (Some t) ms host = go t.out
+pub length-host_made : (o : Option Transfer) (attached : List Attachment) (ms : List Memory) (host : List ℕ) → length (host_made o attached ms host) ≡ length host
+length-host_made None attached ms host = refl
+length-host_made (Some t) attached ms host = go t.out
   where
-    go : (b : Bool) → length (cond b (bytes_moved_out t.section (bytes_of t.block ms) (first_address t) host) host) ≡ length host
-    go true = length-moved_out t.section (bytes_of t.block ms) (first_address t) host
+    go : (b : Bool) → length (cond b (bytes_moved_out (is_moved t.section t.block attached) (bytes_of t.block ms) (first_address t) host) host) ≡ length host
+    go true = length-moved_out (is_moved t.section t.block attached) (bytes_of t.block ms) (first_address t) host
     go false = refl
 
 -- and those of the blocks' memories
-pub made_sized : (o : Option Transfer) (host : List ℕ) (ms : List Memory) (bs : List Block) → AllZip IsMemoryOf ms bs → AllZip IsMemoryOf (memories_made o host ms) bs
-made_sized None host ms bs h = h
-made_sized (Some t) host ms bs h = go t.out
+pub made_sized : (o : Option Transfer) (attached : List Attachment) (host : List ℕ) (ms : List Memory) (bs : List Block) → AllZip IsMemoryOf ms bs → AllZip IsMemoryOf (memories_made o attached host ms) bs
+made_sized None attached host ms bs h = h
+made_sized (Some t) attached host ms bs h = go t.out
   where
-    go : (b : Bool) → AllZip IsMemoryOf (cond b ms (map (memory_changed t.block (bytes_moved_in t.section host (first_address t))) ms)) bs
+    moved : ℕ → Bool
+    moved = is_moved t.section t.block attached
+
+    go : (b : Bool) → AllZip IsMemoryOf (cond b ms (map (memory_changed t.block (bytes_moved_in moved host (first_address t))) ms)) bs
     go true = h
-    go false = changed_sized t.block (bytes_moved_in t.section host (first_address t)) ms bs (length-moved_in t.section host (first_address t)) h
+    go false = changed_sized t.block (bytes_moved_in moved host (first_address t)) ms bs (length-moved_in moved host (first_address t)) h
 
 -- ---- a task
 
@@ -143,21 +147,21 @@ act_sized l task (Born k p) s h =
     let r : Range = recounted task (bare_range (section_of task) k) in
     let b : Block = record { number = r.block; place = p; len = r.section.len } in
     record {
-      host = length-host_made o s.memories s.host ∙ h.host;
-      blocks = made_sized o s.host (s.memories ++ new ∷ []) (s.records.blocks ++ b ∷ []) (sized-push s.memories s.records.blocks new b h.blocks (is_born_memory task k p));
+      host = length-host_made o s.records.attached s.memories s.host ∙ h.host;
+      blocks = made_sized o s.records.attached s.host (s.memories ++ new ∷ []) (s.records.blocks ++ b ∷ []) (sized-push s.memories s.records.blocks new b h.blocks (is_born_memory task k p));
     }
 act_sized l task (Dropped k true) s h =
     let o : Option Transfer = transfer_of task (Dropped k true) s.records.ranges in
     record {
-      host = length-host_made o s.memories s.host ∙ h.host;
-      blocks = without_sized k (memories_made o s.host s.memories) s.records.blocks (made_sized o s.host s.memories s.records.blocks h.blocks);
+      host = length-host_made o s.records.attached s.memories s.host ∙ h.host;
+      blocks = without_sized k (memories_made o s.records.attached s.host s.memories) s.records.blocks (made_sized o s.records.attached s.host s.memories s.records.blocks h.blocks);
     }
 act_sized l task (Dropped k false) s h = record { host = h.host; blocks = h.blocks }
 act_sized l task (Moved k) s h =
     let o : Option Transfer = transfer_of task (Moved k) s.records.ranges in
     record {
-      host = length-host_made o s.memories s.host ∙ h.host;
-      blocks = made_sized o s.host s.memories s.records.blocks h.blocks;
+      host = length-host_made o s.records.attached s.memories s.host ∙ h.host;
+      blocks = made_sized o s.records.attached s.host s.memories s.records.blocks h.blocks;
     }
 
 -- and after a list of tasks

@@ -67,7 +67,7 @@ mapped_later_left_told : (ran_with limits mapped_later_left).world.history.trace
 unfolding ran_with
 mapped_later_left_told = refl
 
-mapped_later_left_records : (ran_with limits mapped_later_left).world.state.records ≡ record { ranges = []; blocks = []; births = 1 }
+mapped_later_left_records : (ran_with limits mapped_later_left).world.state.records ≡ record { ranges = []; blocks = []; attached = []; births = 1 }
 unfolding ran_with
 mapped_later_left_records = refl
 
@@ -87,7 +87,7 @@ counted_without_create_ranges : (ran_with limits counted_without_create).world.s
 unfolding ran_with
 counted_without_create_ranges = refl
 
-counted_without_create_left : (ran_with limits (counted_without_create ++ exit_of 2 ∷ [])).world.state.records ≡ record { ranges = []; blocks = []; births = 1 }
+counted_without_create_left : (ran_with limits (counted_without_create ++ exit_of 2 ∷ [])).world.state.records ≡ record { ranges = []; blocks = []; attached = []; births = 1 }
 unfolding ran_with
 counted_without_create_left = refl
 
@@ -196,7 +196,7 @@ part_copied_host : (ran_with limits part_copied).world.state.host ≡ host_of (5
 unfolding ran_with
 part_copied_host = refl
 
-part_copied_records : (ran_with limits part_copied).world.state.records ≡ record { ranges = []; blocks = []; births = 1 }
+part_copied_records : (ran_with limits part_copied).world.state.records ≡ record { ranges = []; blocks = []; attached = []; births = 1 }
 unfolding ran_with
 part_copied_records = refl
 
@@ -275,7 +275,7 @@ finalized_left_host : (ran_with limits (finalized_inside ++ exit_of 1 ∷ [])).w
 unfolding ran_with
 finalized_left_host = refl
 
-finalized_left_records : (ran_with limits (finalized_inside ++ exit_of 1 ∷ [])).world.state.records ≡ record { ranges = []; blocks = []; births = 1 }
+finalized_left_records : (ran_with limits (finalized_inside ++ exit_of 1 ∷ [])).world.state.records ≡ record { ranges = []; blocks = []; attached = []; births = 1 }
 unfolding ran_with
 finalized_left_records = refl
 
@@ -304,7 +304,7 @@ sixty_four_counted : (ran_with limits (enter_of (replicate 64 (item Copyin a)) �
 unfolding ran_with
 sixty_four_counted = refl
 
-sixty_four_left : (ran_with limits (enter_of (replicate 64 (item Copyin a)) ∷ exit_of 1 ∷ [])).world.state.records ≡ record { ranges = []; blocks = []; births = 1 }
+sixty_four_left : (ran_with limits (enter_of (replicate 64 (item Copyin a)) ∷ exit_of 1 ∷ [])).world.state.records ≡ record { ranges = []; blocks = []; attached = []; births = 1 }
 unfolding ran_with
 sixty_four_left = refl
 
@@ -320,7 +320,7 @@ counters_full_refused : (ran_with (record limits { counter_max = 2 }) counters_f
 unfolding ran_with
 counters_full_refused = refl
 
-counters_full_ranges : (ran_with (record limits { counter_max = 2 }) counters_full).world.state.records ≡ record { ranges = range a 1 2 2 ∷ []; blocks = block 1 0x1_0000_0000 16 ∷ []; births = 1 }
+counters_full_ranges : (ran_with (record limits { counter_max = 2 }) counters_full).world.state.records ≡ record { ranges = range a 1 2 2 ∷ []; blocks = block 1 0x1_0000_0000 16 ∷ []; attached = []; births = 1 }
 unfolding ran_with
 counters_full_ranges = refl
 

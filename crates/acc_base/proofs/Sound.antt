@@ -10,6 +10,7 @@ use Rattle.acc_base.specs.declared.mappings.Counter.{Counter}
 use Rattle.acc_base.specs.declared.mappings.Counter.TheVariants.{Structured, Dynamic}
 use Rattle.acc_base.specs.declared.mappings.Range.{Range}
 use Rattle.acc_base.specs.declared.mappings.Block.{Block}
+use Rattle.acc_base.specs.declared.attachments.Attachment.{Attachment}
 use Rattle.acc_base.specs.declared.tasks.Task.{Task}
 use Rattle.acc_base.specs.declared.tasks.Task.TheVariants.{Enter, Leave, Exit, Move}
 use Rattle.acc_base.specs.declared.events.Step.{Step}
@@ -19,8 +20,9 @@ use Rattle.acc_base.specs.Section.{is_empty, is_apart, end_of, device_base}
 use Rattle.acc_base.specs.Records.{Records, new_records}
 use Rattle.acc_base.specs.Ranges.{range_of, counter_in, counter_of, with_range, without_range, changed_at, bare_range, risen, is_unused, ends_by}
 use Rattle.acc_base.specs.Blocks.{rounded, fits_at, is_clear_of, block_end, block_at, without_block}
+use Rattle.acc_base.specs.Attachments.{IsBefore, without_attachments}
 use Rattle.acc_base.specs.Tasks.{recounted, judge_task, records_after_birth, records_after_end, with_range_changed, act}
-use Rattle.acc_base.specs.Accounts.{EachPair, IsInHost, IsBelow, AreRangesApart, IsOnDevice, IsClearOf, AreBlocksApart, IsMapped, HasOneBlockEach, IsCounted, AreRecordsSound}
+use Rattle.acc_base.specs.Accounts.{EachPair, IsInHost, IsBelow, AreRangesApart, IsOnDevice, IsClearOf, AreBlocksApart, IsMapped, HasOneBlockEach, IsCounted, IsAttached, AreAttached, AreRecordsSound}
 use Rattle.acc_base.proofs.Results.{and_true, equal}
 use Rattle.acc_base.proofs.Elements.{AllByRecursion-weaker, AllByRecursion-both, AllByRecursion-filter, AllByRecursion-passed, AllByRecursion-map, AllByRecursion-append, EachPair-filter, EachPair-push, EachPair-map, list_all-from, found_has}
 use Rattle.acc_base.proofs.Lookups.{change_at, number-change, at-changed, at-without_other, at-push_there, at-push_new, at-own, at-none}
@@ -110,6 +112,7 @@ changed_sound l k f w keeps h counts = record {
   blocks_apart = record { on_device = h.blocks_apart.on_device; apart = h.blocks_apart.apart; born = h.blocks_apart.born };
   one_block_each = changed_each k f w keeps h.one_block_each;
   counted = changed_counted l k f w h counts;
+  attached = h.attached;
 }
 
 risen_counted : (l : Limits) (counter : Counter) (r : Range) → counter_in counter r < l.counter_max → IsCounted l r → IsCounted l (risen counter r)
@@ -139,6 +142,15 @@ number_of_block b = b.number
 differs : (a k : ℕ) → not (a == k) ≡ true → (a == k) ≡ false
 differs a k e = grind (arith, nat_tests)
 
+-- the attachment counters of the other blocks stay
+ended_attached : (l : Limits) (k : ℕ) (bs : List Block) (xs : List Attachment) → AreAttached l bs xs → AreAttached l (without_block k bs) (without_attachments k xs)
+unfolding number_of_block
+ended_attached l k bs xs h = record {
+  rising = EachPair-filter IsBefore (λ a. not (a.block == k)) xs h.rising;
+  each = AllByRecursion-passed (IsAttached l bs) (IsAttached l (without_block k bs)) (λ a. not (a.block == k)) xs
+      (λ a e p. record { some = p.some; most = p.most; there = rw (at-without_other number_of_block k a.block bs (differs _ _ e)) p.there }) h.each;
+}
+
 ended_sound : (l : Limits) (k : ℕ) (w : Records) → AreRecordsSound l w → AreRecordsSound l (records_after_end k w)
 unfolding records_after_end number_of_block
 ended_sound l k w h = record {
@@ -157,6 +169,7 @@ ended_sound l k w h = record {
     in_use = AllByRecursion-passed (λ b. IsSome (range_of b.number w.ranges)) (λ b. IsSome (range_of b.number (without_range k w.ranges))) (λ b. not (b.number == k)) w.blocks (λ b e p. rw (at-without_other block_of k b.number w.ranges (differs _ _ e)) p) h.one_block_each.in_use;
   };
   counted = AllByRecursion-filter (IsCounted l) (λ r. not (r.block == k)) w.ranges h.counted;
+  attached = ended_attached l k w.blocks w.attached h.attached;
 }
 
 -- ---- a birth
@@ -247,6 +260,22 @@ birth_ranges l new p w some birth h = record {
   rising = rising_with new w.ranges some (AllByRecursion-weaker (λ r. IsInHost l r.section) (λ r. 0 < r.section.len) w.ranges (λ r i. i.some) h.in_host) (list_all-from (λ r. is_apart new.section r.section) w.ranges (absent_says new.section w.ranges birth.absent).0) h.rising;
 }
 
+-- a block that is there stays, where another one is born
+there_still : (j : ℕ) (bs : List Block) (b : Block) → IsSome (block_at j bs) → IsSome (block_at j (bs ++ b ∷ []))
+unfolding number_of_block
+there_still j bs b = go (block_at j bs) refl
+  where
+    go : (o : Option Block) → block_at j bs ≡ o → IsSome o → IsSome (block_at j (bs ++ b ∷ []))
+    go None e some = cc
+    go (Some c) e some = rw (at-push_there number_of_block j bs b c e) refl
+
+-- and so do the attachment counters
+birth_attached : (l : Limits) (bs : List Block) (xs : List Attachment) (b : Block) → AreAttached l bs xs → AreAttached l (bs ++ b ∷ []) xs
+birth_attached l bs xs b h = record {
+  rising = h.rising;
+  each = AllByRecursion-weaker (IsAttached l bs) (IsAttached l (bs ++ b ∷ [])) xs (λ a p. record { some = p.some; most = p.most; there = there_still a.block bs b p.there }) h.each;
+}
+
 birth_sound : (l : Limits) (new : Range) (p : ℕ) (w : Records) → IsCounted l new → IsBirth l new.section new.block p w → AreRecordsSound l w → AreRecordsSound l (records_after_birth new p w)
 unfolding records_after_birth
 birth_sound l new p w counted birth h =
@@ -256,6 +285,7 @@ birth_sound l new p w counted birth h =
       blocks_apart = birth_blocks l new p w some birth h.blocks_apart;
       one_block_each = birth_each l new p w birth h;
       counted = all_with (IsCounted l) new w.ranges counted h.counted;
+      attached = birth_attached l w.blocks w.attached (born_block new.block p new.section.len) h.attached;
     }
 
 -- the range of a birth by entry has one count
@@ -301,4 +331,5 @@ new_sound l = record {
   blocks_apart = record { on_device = tt; apart = tt; born = tt };
   one_block_each = record { mapped = tt; distinct = tt; in_use = tt };
   counted = tt;
+  attached = record { rising = tt; each = tt };
 }

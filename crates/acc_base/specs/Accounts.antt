@@ -4,10 +4,12 @@ use Rattle.std.specs.List.{AllByRecursion, AllZip}
 use Rattle.acc_base.specs.declared.items.Section.{Section}
 use Rattle.acc_base.specs.declared.mappings.Range.{Range}
 use Rattle.acc_base.specs.declared.mappings.Block.{Block}
+use Rattle.acc_base.specs.declared.attachments.Attachment.{Attachment}
 use Rattle.acc_base.specs.Limits.{Limits}
 use Rattle.acc_base.specs.Section.{end_of, is_within, host_memory, device_base}
 use Rattle.acc_base.specs.Ranges.{range_of, structured_of}
 use Rattle.acc_base.specs.Blocks.{block_at, block_end, used_bytes}
+use Rattle.acc_base.specs.Attachments.{IsBefore}
 use Rattle.acc_base.specs.Register.{Region, Register, held_in}
 use Rattle.acc_base.specs.Records.{Records, Memory, Layout, State, new_layout, layout_of}
 use Rattle.acc_base.specs.Walk.{walk_all}
@@ -67,6 +69,19 @@ pub record HasOneBlockEach (w : Records) : Type 0 where
   pub distinct : EachPair (λ (r : Range) (t : Range). r.block ≡ t.block → ⊥) w.ranges
   pub in_use : AllByRecursion (λ b. IsSome (range_of b.number w.ranges)) w.blocks
 
+-- ---- attachment counters
+
+-- the counter is above zero and at most the limit, and its block is there
+pub record IsAttached (l : Limits) (blocks : List Block) (a : Attachment) : Type 0 where
+  pub some : 0 < a.count
+  pub most : a.count ≤ l.counter_max
+  pub there : IsSome (block_at a.block blocks)
+
+-- attachment counters stand by rising block and then by rising pointer
+pub record AreAttached (l : Limits) (blocks : List Block) (attached : List Attachment) : Type 0 where
+  pub rising : EachPair IsBefore attached
+  pub each : AllByRecursion (IsAttached l blocks) attached
+
 -- ---- counters and the register
 
 -- the counters of a range are at most the limit, and not both zero
@@ -106,6 +121,7 @@ pub record AreRecordsSound (l : Limits) (w : Records) : Type 0 where
   pub blocks_apart : AreBlocksApart l.device w.blocks w.births
   pub one_block_each : HasOneBlockEach w
   pub counted : AllByRecursion (IsCounted l) w.ranges
+  pub attached : AreAttached l w.blocks w.attached
 
 -- records and register together, which a directive keeps as a whole
 pub record IsLayoutSound (l : Limits) (lay : Layout) : Type 0 where

@@ -1,9 +1,10 @@
 -- What an event leaves of the bytes: the host's, and those of the blocks.
-use Rattle.std.specs.Prelude.{ℕ, suc, ◌-◌, Bool, true, false, not, if◌then◌else◌, ◌==◌, List, [], ◌∷◌, ◌++◌, map, replicate, filter, find, Option, Some, None, unwrap_or, option_map, slice_index}
+use Rattle.std.specs.Prelude.{ℕ, suc, ◌-◌, Bool, true, false, not, ◌&&◌, if◌then◌else◌, ◌==◌, List, [], ◌∷◌, ◌++◌, map, replicate, filter, find, Option, Some, None, unwrap_or, option_map, slice_index}
 use Rattle.std.specs.List.{list_any}
 use Rattle.acc_base.specs.declared.items.Section.{Section}
 use Rattle.acc_base.specs.declared.mappings.Range.{Range}
 use Rattle.acc_base.specs.declared.mappings.Block.{Block}
+use Rattle.acc_base.specs.declared.attachments.Attachment.{Attachment}
 use Rattle.acc_base.specs.declared.tasks.Task.{Task}
 use Rattle.acc_base.specs.declared.tasks.Task.TheVariants.{Enter, Leave, Exit, Move}
 use Rattle.acc_base.specs.declared.tasks.Transfer.{Transfer}
@@ -14,6 +15,7 @@ use Rattle.acc_base.specs.declared.events.Event.{Event}
 use Rattle.acc_base.specs.declared.events.Event.TheVariants.{Entered, Left, EnteredData, ExitedData, Updated, HostWritten}
 use Rattle.acc_base.specs.Section.{covers, host_base}
 use Rattle.acc_base.specs.Ranges.{start_of}
+use Rattle.acc_base.specs.Attachments.{is_skipped}
 use Rattle.acc_base.specs.Records.{Memory, State}
 use Rattle.acc_base.specs.Clauses.{copies_in, copies_out, is_copyout, is_to_self, is_zeroed}
 use Rattle.acc_base.specs.Tasks.{section_of, act}
@@ -43,29 +45,39 @@ memories_kept blocks memories = filter (λ m. list_any (λ b. b.number == m.bloc
 abbrev pub without_memory : ℕ → List Memory → List Memory
 without_memory block memories = filter (λ m. not (m.block == block)) memories
 
--- ---- transfers: they copy the section only, and every other byte stays
+-- ---- transfers: they copy the section but for the bytes of attached pointers, and every other byte stays (OpenACC 3.3, section 2.6.8)
 
 -- the host address of the block's first byte
 abbrev pub first_address : Transfer → ℕ
 first_address t = t.section.start - t.offset
 
--- the bytes of a block that is mapped from an address on, where those of a section come from the host
-abbrev pub bytes_moved_in : Section → List ℕ → ℕ → List ℕ → List ℕ
-bytes_moved_in section host start bytes = written_bytes (covers section) (host_byte host) start bytes
+-- the address is one of those that are copied
+abbrev pub is_moved : Section → ℕ → List Attachment → ℕ → Bool
+is_moved section block attached address = covers section address && not (is_skipped block attached address)
 
--- the bytes of the host, where those of a section come from a block that is mapped from an address on
-abbrev pub bytes_moved_out : Section → List ℕ → ℕ → List ℕ → List ℕ
-bytes_moved_out section bytes start host = written_bytes (covers section) (λ a. slice_index bytes (a - start)) host_base host
+-- the bytes of a block that is mapped from an address on, where those at some addresses come from the host
+abbrev pub bytes_moved_in : (ℕ → Bool) → List ℕ → ℕ → List ℕ → List ℕ
+bytes_moved_in moved host start bytes = written_bytes moved (host_byte host) start bytes
+
+-- the bytes of the host, where those at some addresses come from a block that is mapped from an address on
+abbrev pub bytes_moved_out : (ℕ → Bool) → List ℕ → ℕ → List ℕ → List ℕ
+bytes_moved_out moved bytes start host = written_bytes moved (λ a. slice_index bytes (a - start)) host_base host
 
 -- the host's bytes after a transfer, if there is one
-abbrev pub host_made : Option Transfer → List Memory → List ℕ → List ℕ
-host_made None memories host = host
-host_made (Some t) memories host = if t.out then bytes_moved_out t.section (bytes_of t.block memories) (first_address t) host else host
+abbrev pub host_made : Option Transfer → List Attachment → List Memory → List ℕ → List ℕ
+host_made None attached memories host = host
+host_made (Some t) attached memories host =
+    if t.out
+    then bytes_moved_out (is_moved t.section t.block attached) (bytes_of t.block memories) (first_address t) host
+    else host
 
 -- the blocks' bytes after a transfer, if there is one
-abbrev pub memories_made : Option Transfer → List ℕ → List Memory → List Memory
-memories_made None host memories = memories
-memories_made (Some t) host memories = if t.out then memories else map (memory_changed t.block (bytes_moved_in t.section host (first_address t))) memories
+abbrev pub memories_made : Option Transfer → List Attachment → List ℕ → List Memory → List Memory
+memories_made None attached host memories = memories
+memories_made (Some t) attached host memories =
+    if t.out
+    then memories
+    else map (memory_changed t.block (bytes_moved_in (is_moved t.section t.block attached) host (first_address t))) memories
 
 -- ---- the transfer of one item (OpenACC 3.3, section 2.7 and the update directive)
 
@@ -132,11 +144,11 @@ memories_ended (Moved block) memories = memories
 
 -- the host's bytes after a task
 abbrev pub host_acted : Task → Step → State → List ℕ
-host_acted task step s = host_made (transfer_of task step s.records.ranges) s.memories s.host
+host_acted task step s = host_made (transfer_of task step s.records.ranges) s.records.attached s.memories s.host
 
 -- the blocks' bytes after a task
 abbrev pub memories_acted : Task → Step → State → List Memory
-memories_acted task step s = memories_ended step (memories_made (transfer_of task step s.records.ranges) s.host (memories_begun task step s.memories))
+memories_acted task step s = memories_ended step (memories_made (transfer_of task step s.records.ranges) s.records.attached s.host (memories_begun task step s.memories))
 
 unfoldable pub act_state : Task → Step → State → State
 act_state task step s = record {

@@ -2,12 +2,14 @@
 use Rattle.std.specs.Prelude.{ℕ, List, [], replicate}
 use Rattle.acc_base.specs.declared.mappings.Range.{Range}
 use Rattle.acc_base.specs.declared.mappings.Block.{Block}
+use Rattle.acc_base.specs.declared.attachments.Attachment.{Attachment}
 use Rattle.acc_base.specs.Register.{Register, new_register}
 
--- everything of a device but bytes: the mapped ranges by rising start, the blocks by rising number, and how many blocks were ever born
+-- everything of a device but bytes: the mapped ranges by rising start, the blocks by rising number, the attachment counters above zero by rising block and pointer, and how many blocks were ever born
 pub record Records : Type 0 where
   pub ranges : List Range
   pub blocks : List Block
+  pub attached : List Attachment
   pub births : ℕ
 
 -- the bytes of a block, each at its offset
@@ -33,7 +35,7 @@ layout_of s = record { records = s.records; register = s.register }
 
 -- nothing is mapped, and no block was born
 abbrev pub new_records : Records
-new_records = record { ranges = []; blocks = []; births = 0 }
+new_records = record { ranges = []; blocks = []; attached = []; births = 0 }
 
 -- nothing is mapped, and no region is open
 abbrev pub new_layout : Layout

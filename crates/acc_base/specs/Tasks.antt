@@ -14,6 +14,7 @@ use Rattle.acc_base.specs.Limits.{Limits}
 use Rattle.acc_base.specs.Records.{Records}
 use Rattle.acc_base.specs.Ranges.{where_is, with_range, without_range, changed_at, bare_range, risen, fallen, cleared}
 use Rattle.acc_base.specs.Blocks.{without_block}
+use Rattle.acc_base.specs.Attachments.{without_attachments}
 use Rattle.acc_base.specs.Clauses.{in_host, enter_row, leave_row, exit_row, move_row}
 
 -- the section that the task names
@@ -43,15 +44,19 @@ judge_task l n (Move if_present item) w = in_host l n item.section >> move_row (
 
 -- a section is mapped to a new block of its length
 unfoldable pub records_after_birth : Range → ℕ → Records → Records
-records_after_birth r place w = record {
+records_after_birth r place w = record w {
   ranges = with_range r w.ranges;
   blocks = w.blocks ++ record { number = r.block; place = place; len = r.section.len } ∷ [];
   births = w.births + 1;
 }
 
--- the mapping to a block ends, and the block is given back
+-- the mapping to a block ends, and the block is given back with its attachment counters
 unfoldable pub records_after_end : ℕ → Records → Records
-records_after_end block w = record w { ranges = without_range block w.ranges; blocks = without_block block w.blocks }
+records_after_end block w = record w {
+  ranges = without_range block w.ranges;
+  blocks = without_block block w.blocks;
+  attached = without_attachments block w.attached;
+}
 
 -- the counters of a range change
 unfoldable pub with_range_changed : ℕ → (Range → Range) → Records → Records

@@ -2,6 +2,7 @@ pub mod Results
 pub mod Elements
 pub mod Lookups
 pub mod Where
+pub mod Pointers
 pub mod Places
 pub mod Counting
 pub mod Judged

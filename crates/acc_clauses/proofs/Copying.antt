@@ -1,13 +1,15 @@
 -- A copy is a part of a list that is replaced.
-use Rattle.std.proofs.Common.{ℕ, zero, suc, ◌≡◌, ◌+◌, ◌-◌, ◌<◌, ◌≤◌, refl, sym, ◌∙◌, ap, subst, Bool, true, false, cond, List, [], ◌∷◌, ◌++◌, length, take, drop, replicate, map, append-nil, arith}
+use Rattle.std.proofs.Common.{ℕ, zero, suc, ◌≡◌, ◌+◌, ◌-◌, ◌<◌, ◌≤◌, refl, sym, ◌∙◌, ap, subst, Bool, true, false, cond, List, [], ◌∷◌, ◌++◌, ◌&&◌, length, take, drop, replicate, map, append-nil, arith}
 use Rattle.std.specs.Prelude.{◌==◌, slice_index}
 use Rattle.std.specs.List.{AllByRecursion}
 use Rattle.std.proofs.lemmas.Bool.Decides.{nat_tests}
 use Rattle.std.proofs.lemmas.List.{get_or-take, get_or-drop, length-drop, length-take-le, length-replicate, take-append-drop}
 use Rattle.acc_base.specs.declared.items.Section.{Section}
+use Rattle.acc_base.specs.declared.attachments.Attachment.{Attachment}
 use Rattle.acc_base.specs.Section.{covers, end_of, is_within, host_memory, host_base}
+use Rattle.acc_base.specs.Attachments.{is_skipped}
 use Rattle.acc_base.specs.Records.{Memory}
-use Rattle.acc_base.specs.Bytes.{written_bytes, host_byte, memory_changed, bytes_moved_in, bytes_moved_out, host_after_write}
+use Rattle.acc_base.specs.Bytes.{written_bytes, host_byte, memory_changed, is_moved, bytes_moved_in, bytes_moved_out, host_after_write}
 use Rattle.acc_base.proofs.Results.{equal, equal_self}
 use Rattle.acc_host.specs.Host.{bytes_in, with_bytes}
 use Rattle.acc_dev.specs.Device.{overwritten}
@@ -55,6 +57,21 @@ written-overwritten s source (suc n) a (x ∷ xs) bytes at fits len is =
     let rest : written_bytes (covers s) source (suc a) xs ≡ overwritten n bytes xs = written-overwritten s source n (suc a) xs bytes (omega (arith, at)) (omega (arith, fits)) len is in
     rw (covers_before s a (omega (arith, at)), rest) (ap (λ m. take (suc n) (x ∷ xs) ++ bytes ++ drop m (x ∷ xs)) (let same : suc (n + length bytes) ≡ suc n + length bytes = omega arith in same))
 
+-- ---- which addresses are written
+
+-- the same bytes are written where the same addresses are
+pub written-same : (p q : ℕ → Bool) (source : ℕ → ℕ) (a : ℕ) (old : List ℕ) → ((x : ℕ) → p x ≡ q x) → written_bytes p source a old ≡ written_bytes q source a old
+written-same p q source a [] h = refl
+written-same p q source a (x ∷ xs) h = rw (h a, written-same p q source (suc a) xs h) refl
+
+-- no attached pointer has the address
+pub moved-clear : (s : Section) (block : ℕ) (attached : List Attachment) (a : ℕ) → is_skipped block attached a ≡ false → is_moved s block attached a ≡ covers s a
+moved-clear s block attached a e = rw e (and-true (covers s a))
+  where
+    and-true : (b : Bool) → (b && true) ≡ b
+    and-true true = refl
+    and-true false = refl
+
 -- ---- a part of a list
 
 -- so many elements from an index on
@@ -87,7 +104,7 @@ from_part s first xs low fits k below =
     ∙ ap (slice_index xs) (let same : s.start - first + k ≡ s.start + k - first = omega (arith, low) in same)
 
 pub moved_in : (s : Section) (host : List ℕ) (start : ℕ) (bytes : List ℕ) → is_within s (host_memory (length host)) ≡ true → is_within s (record { start = start; len = length bytes }) ≡ true
-    → bytes_moved_in s host start bytes ≡ overwritten (s.start - start) (bytes_in host s) bytes
+    → bytes_moved_in (covers s) host start bytes ≡ overwritten (s.start - start) (bytes_in host s) bytes
 moved_in s host start bytes in_host inside =
     let from : IsPartAt s host_base (length host) (s.start - host_base) = part_at s (host_memory (length host)) in_host in
     let to : IsPartAt s start (length bytes) (s.start - start) = part_at s (record { start = start; len = length bytes }) inside in
@@ -99,7 +116,7 @@ with_bytes_by : (host bytes : List ℕ) (s : Section) → length bytes ≡ s.len
 with_bytes_by host bytes s h = ap (λ n. take (s.start - host_base) host ++ bytes ++ drop (s.start - host_base + n) host) h
 
 pub moved_out : (s : Section) (bytes : List ℕ) (start : ℕ) (host : List ℕ) → is_within s (host_memory (length host)) ≡ true → is_within s (record { start = start; len = length bytes }) ≡ true
-    → bytes_moved_out s bytes start host ≡ with_bytes host s (part bytes (s.start - start) s.len)
+    → bytes_moved_out (covers s) bytes start host ≡ with_bytes host s (part bytes (s.start - start) s.len)
 moved_out s bytes start host in_host inside =
     let to : IsPartAt s host_base (length host) (s.start - host_base) = part_at s (host_memory (length host)) in_host in
     let from : IsPartAt s start (length bytes) (s.start - start) = part_at s (record { start = start; len = length bytes }) inside in
@@ -143,7 +160,7 @@ drop-replicate zero fill = refl
 drop-replicate (suc n) fill = drop-replicate n fill
 
 -- a new block that is copied whole has the host's bytes, whatever filled it
-pub born_copied : (s : Section) (start fill : ℕ) (host : List ℕ) → is_within s (host_memory (length host)) ≡ true → start ≡ s.start → bytes_moved_in s host start (replicate s.len fill) ≡ bytes_in host s
+pub born_copied : (s : Section) (start fill : ℕ) (host : List ℕ) → is_within s (host_memory (length host)) ≡ true → start ≡ s.start → bytes_moved_in (covers s) host start (replicate s.len fill) ≡ bytes_in host s
 born_copied s start fill host in_host e =
     let len : length (replicate s.len fill) ≡ s.len = length-replicate s.len fill in
     let from : IsPartAt s host_base (length host) (s.start - host_base) = part_at s (host_memory (length host)) in_host in

@@ -18,7 +18,7 @@ use Rattle.acc_base.specs.Records.{Records, Memory, State}
 use Rattle.acc_base.specs.Ranges.{where_is, range_of}
 use Rattle.acc_base.specs.Blocks.{block_at}
 use Rattle.acc_base.specs.Bytes.{act_state}
-use Rattle.acc_base.specs.Accounts.{IsInHost, IsMapped, IsCounted, HasOneBlockEach, IsMemoryOf, AreRecordsSound, AreMemoriesSized}
+use Rattle.acc_base.specs.Accounts.{IsInHost, IsMapped, IsCounted, IsAttached, HasOneBlockEach, IsMemoryOf, AreRecordsSound, AreMemoriesSized}
 use Rattle.acc_base.proofs.Results.{equal}
 use Rattle.acc_base.proofs.Elements.{AllByRecursion-weaker, AllByRecursion-both, found_has}
 use Rattle.acc_base.proofs.Lookups.{at-own}
@@ -26,8 +26,7 @@ use Rattle.acc_base.proofs.Where.{IsInsideOf, inside_says, absent_says}
 use Rattle.acc_base.proofs.Judged.{IsBirth, IsInRangeOf, IsJudgedTo, task_says}
 use Rattle.acc_base.proofs.Sound.{ranges_born, acted_sound}
 use Rattle.acc_base.proofs.Memories.{act_sized}
-use Rattle.acc_present.specs.Present.{PresentState}
-use Rattle.acc_dev.specs.Device.{DeviceState}
+use Rattle.acc_clauses.specs.declared.environments.Environment.{Environment}
 use Rattle.acc_clauses.specs.Contents.{state_of, ArePartsSound}
 use Rattle.acc_clauses.specs.Acts.{IsJudged, IsMappedAround, IsKnown, CanMove, CanBear, CanAct, IsActedBy}
 use Rattle.acc_clauses.proofs.Moving.{bytes_of-len, some_of}
@@ -101,6 +100,14 @@ no_memory k births (m ∷ ms) (b ∷ bs) h low e = (
   no_memory k births ms bs h.1 low.1 e,
 )
 
+-- nor has it an attachment counter
+no_pointer : (l : Limits) (k : ℕ) (w : Records) → AreRecordsSound l w → k ≡ w.births + 1 → AllByRecursion (λ a. a.block ≡ k → ⊥) w.attached
+no_pointer l k w h e = AllByRecursion-weaker (IsAttached l w.blocks) (λ a. a.block ≡ k → ⊥) w.attached (λ a p same.
+    let b : (b : Block) × (block_at a.block w.blocks ≡ Some b) = some_of (block_at a.block w.blocks) p.there in
+    let has : (b.0.number ≤ w.births) × ((b.0.number == a.block) ≡ true) = found_has (λ b. b.number ≤ w.births) (λ b. b.number == a.block) w.blocks b.0 h.blocks_apart.born b.1 in
+    let own : b.0.number ≡ a.block = equal b.0.number a.block has.1 in
+    omega (arith, e, own, same, has.0)) h.attached.each
+
 -- a look-up that does not find nothing finds something
 not_none : {X : Type 0} (o : Option X) → (o ≡ None → ⊥) → IsSome o
 not_none None h = absurd (h refl)
@@ -131,6 +138,7 @@ can_bear l s section k place bounds h m few says =
       few = few;
       no_range = AllByRecursion-weaker (λ (r : Range). r.block ≤ s.records.births) (λ r. r.block ≡ k → ⊥) s.records.ranges (λ r n same. let number : k ≡ s.records.births + 1 = says.number in omega arith) (ranges_born l s.records h);
       no_memory = no_memory k s.records.births s.memories s.records.blocks m.blocks h.blocks_apart.born says.number;
+      no_pointer = no_pointer l k s.records h says.number;
       counted = bounds.counter_max.0;
     }
 
@@ -157,11 +165,11 @@ can_by l s (Move if_present item) (Born k p) bounds h m few known says = absurd 
 can_by l s (Move if_present item) (Dropped k ended) bounds h m few known says = absurd says
 can_by l s (Move if_present item) (Moved k) bounds h m few known says = can_range l s item.section k h m says
 
-pub can_act : (l : Limits) (p : PresentState) (d : DeviceState) (host : List ℕ) (next : ℕ) (task : Task) (step : Step) → IsWithinBounds l → ArePartsSound l p d host next → d.births < 2 ^ 48
-    → IsKnown (state_of p d host next).records task → IsJudged l task step (state_of p d host next).records → CanAct p.table.counter_max d.size task step (state_of p d host 0)
-can_act l p d host next task step bounds sound few known judged =
-    let at : CanAct l.counter_max l.device task step (state_of p d host 0) = can_by l (state_of p d host 0) task step bounds sound.sound.records (record { host = sound.sound.memories.host; blocks = sound.sound.memories.blocks }) few known (task_says l judged.item task (state_of p d host next).records step judged.judged) in
-    subst (λ n. CanAct p.table.counter_max n task step (state_of p d host 0)) (sym sound.sized.device) (subst (λ n. CanAct n l.device task step (state_of p d host 0)) (sym sound.sized.counters) at)
+pub can_act : (l : Limits) (x : Environment) (next : ℕ) (task : Task) (step : Step) → IsWithinBounds l → ArePartsSound l x next → x.device.births < 2 ^ 48
+    → IsKnown (state_of x next).records task → IsJudged l task step (state_of x next).records → CanAct x.present.table.counter_max x.device.size task step (state_of x 0)
+can_act l x next task step bounds sound few known judged =
+    let at : CanAct l.counter_max l.device task step (state_of x 0) = can_by l (state_of x 0) task step bounds sound.sound.records (record { host = sound.sound.memories.host; blocks = sound.sound.memories.blocks }) few known (task_says l judged.item task (state_of x next).records step judged.judged) in
+    subst (λ n. CanAct x.present.table.counter_max n task step (state_of x 0)) (sym sound.sized.device) (subst (λ n. CanAct n l.device task step (state_of x 0)) (sym sound.sized.counters) at)
 
 -- ---- what a step leaves
 
@@ -171,12 +179,11 @@ pub acts_sound : (l : Limits) (s : State) (task : Task) (step : Step) → IsWith
 unfolding act_state
 acts_sound l s task step bounds h m judged = (acted_sound l task step s.records bounds (task_says l judged.item task s.records step judged.judged) h, act_sized l task step s m)
 
-pub parts_sound : (l : Limits) (p q : PresentState) (d e : DeviceState) (host host2 : List ℕ) (next : ℕ) (task : Task) (step : Step) → IsWithinBounds l → ArePartsSound l p d host next → IsJudged l task step (state_of p d host next).records
-    → IsActedBy task step p d host q e host2 → ArePartsSound l q e host2 next
-parts_sound l p q d e host host2 next task step bounds sound judged acted =
-    let after : AreRecordsSound l (act_state task step (state_of p d host next)).records × AreMemoriesSized l (act_state task step (state_of p d host next)) =
-    acts_sound l (state_of p d host next) task step bounds sound.sound.records sound.sound.memories judged in
-    let there : AreRecordsSound l (state_of q e host2 next).records × AreMemoriesSized l (state_of q e host2 next) =
+pub parts_sound : (l : Limits) (x y : Environment) (next : ℕ) (task : Task) (step : Step) → IsWithinBounds l → ArePartsSound l x next → IsJudged l task step (state_of x next).records → IsActedBy task step x y → ArePartsSound l y next
+parts_sound l x y next task step bounds sound judged acted =
+    let after : AreRecordsSound l (act_state task step (state_of x next)).records × AreMemoriesSized l (act_state task step (state_of x next)) =
+    acts_sound l (state_of x next) task step bounds sound.sound.records sound.sound.memories judged in
+    let there : AreRecordsSound l (state_of y next).records × AreMemoriesSized l (state_of y next) =
     subst (λ (s : State). AreRecordsSound l s.records × AreMemoriesSized l s) (sym (acted.state next)) after in
     record {
       sized = record { counters = acted.counter_max ∙ sound.sized.counters; device = acted.size ∙ sound.sized.device };

@@ -9,7 +9,6 @@ mod Copying
 mod Moving
 mod Steps
 pub mod Legal
-mod Changes
 mod Remaining
 mod Holding
 mod Entering

@@ -4,7 +4,7 @@ use Rattle.std.specs.Prelude.{◌==◌, find, IsSome, unwrap_or, option_map, tak
 use Rattle.std.specs.List.{AllByRecursion, AllZip}
 use Rattle.acc_base.specs.declared.items.Section.{Section}
 use Rattle.acc_base.specs.declared.mappings.Block.{Block}
-use Rattle.acc_base.specs.Section.{is_within, host_memory}
+use Rattle.acc_base.specs.Section.{covers, is_within, host_memory}
 use Rattle.acc_base.specs.Records.{Memory}
 use Rattle.acc_base.specs.Blocks.{block_at}
 use Rattle.acc_base.specs.Bytes.{bytes_of, memory_changed, bytes_moved_in, bytes_moved_out}
@@ -25,7 +25,7 @@ slice_is : (s : Section) (start : ℕ) (bytes : List ℕ) → slice s start byte
 slice_is s start bytes = ap (λ n. take n (drop (s.start - start) bytes)) (let same : s.start - start + s.len - (s.start - start) ≡ s.len = omega arith in same)
 
 pub copied_out : (s : Section) (start : ℕ) (bytes host : List ℕ) → is_within s (host_memory (length host)) ≡ true → is_within s (record { start = start; len = length bytes }) ≡ true
-    → with_bytes host (record { start = s.start; len = length (slice s start bytes) }) (slice s start bytes) ≡ bytes_moved_out s bytes start host
+    → with_bytes host (record { start = s.start; len = length (slice s start bytes) }) (slice s start bytes) ≡ bytes_moved_out (covers s) bytes start host
 copied_out s start bytes host in_host within =
     let fits : IsPartAt s start (length bytes) (s.start - start) = part_at s (record { start = start; len = length bytes }) within in
     let len : length (slice s start bytes) ≡ s.len = ap length (slice_is s start bytes) ∙ part-length bytes (s.start - start) s.len (omega (arith, fits.at_is, fits.fits)) in
@@ -86,8 +86,8 @@ device_written old new block offset bytes ms h e = remade new (record old { memo
 
 pub copied_in : (s : Section) (start : ℕ) (host bytes : List ℕ) (d new : DeviceState) (block : ℕ) → HasBlocksApart d → AllZip IsMemoryOf d.memories d.blocks → IsSome (block_at block d.blocks)
     → is_within s (host_memory (length host)) ≡ true → is_within s (record { start = start; len = length (bytes_of block d.memories) }) ≡ true → bytes ≡ bytes_in host s → IsWritten d new block (s.start - start) bytes
-    → new ≡ record d { memories = map (memory_changed block (bytes_moved_in s host start)) d.memories }
+    → new ≡ record d { memories = map (memory_changed block (bytes_moved_in (covers s) host start)) d.memories }
 copied_in s start host bytes d new block apart sized there in_host within bytes_are h =
-    device_written d new block (s.start - start) bytes _ h (rw bytes_are (changed-same block (overwritten (s.start - start) (bytes_in host s)) (bytes_moved_in s host start) d.memories
-    (AllByRecursion-weaker (λ y. y.block ≡ block → length y.bytes ≡ length (bytes_of block d.memories)) (λ y. y.block ≡ block → overwritten (s.start - start) (bytes_in host s) y.bytes ≡ bytes_moved_in s host start y.bytes) d.memories
+    device_written d new block (s.start - start) bytes _ h (rw bytes_are (changed-same block (overwritten (s.start - start) (bytes_in host s)) (bytes_moved_in (covers s) host start) d.memories
+    (AllByRecursion-weaker (λ y. y.block ≡ block → length y.bytes ≡ length (bytes_of block d.memories)) (λ y. y.block ≡ block → overwritten (s.start - start) (bytes_in host s) y.bytes ≡ bytes_moved_in (covers s) host start y.bytes) d.memories
     (λ y len e. sym (moved_in s host start y.bytes in_host (rw (len e) within))) (lens_by d block apart sized there))))

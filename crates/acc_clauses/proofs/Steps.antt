@@ -11,16 +11,17 @@ use Rattle.acc_base.specs.declared.mappings.Counter.{Counter}
 use Rattle.acc_base.specs.declared.mappings.Counter.TheVariants.{Structured, Dynamic}
 use Rattle.acc_base.specs.declared.mappings.Range.{Range}
 use Rattle.acc_base.specs.declared.mappings.Block.{Block}
+use Rattle.acc_base.specs.declared.attachments.Attachment.{Attachment}
 use Rattle.acc_base.specs.declared.tasks.Task.{Task}
 use Rattle.acc_base.specs.declared.tasks.Task.TheVariants.{Enter, Leave, Exit, Move}
 use Rattle.acc_base.specs.declared.tasks.Transfer.{Transfer}
 use Rattle.acc_base.specs.declared.events.Step.TheVariants.{Nothing, Counted, Born, Dropped, Moved}
-use Rattle.acc_base.specs.Section.{is_within, host_memory}
+use Rattle.acc_base.specs.Section.{covers, is_within, host_memory}
 use Rattle.acc_base.specs.Records.{Memory, State}
 use Rattle.acc_base.specs.Ranges.{range_of, start_of, changed_at, with_range, without_range, bare_range, risen, counter_in, counter_of, is_unused, ends_by}
 use Rattle.acc_base.specs.Clauses.{copies_in, copies_out, is_copyout, is_zeroed}
 use Rattle.acc_base.specs.Tasks.{section_of, recounted, act, records_after_birth, records_after_end, with_range_changed}
-use Rattle.acc_base.specs.Bytes.{bytes_of, fill_byte, gives_bytes, goes_out, bytes_moved_in, bytes_moved_out, memory_changed, memories_kept, without_memory, memories_begun, memories_made, host_made, first_address, transfer_at, transfer_of, act_state}
+use Rattle.acc_base.specs.Bytes.{bytes_of, fill_byte, gives_bytes, goes_out, host_byte, is_moved, bytes_moved_in, bytes_moved_out, memory_changed, memories_kept, without_memory, memories_begun, memories_made, host_made, first_address, transfer_at, transfer_of, act_state}
 use Rattle.acc_base.specs.Accounts.{IsMemoryOf}
 use Rattle.acc_base.proofs.Results.{equal, equal_self, and_true}
 use Rattle.acc_base.proofs.Lookups.{at-none, at-changed}
@@ -28,13 +29,15 @@ use Rattle.acc_base.proofs.Counting.{with_same, with_new}
 use Rattle.acc_base.proofs.Sound.{counter_is}
 use Rattle.acc_base.proofs.KeptMemories.{memories_kept-without}
 use Rattle.acc_base.proofs.Memories.{recounted-block, recounted-section}
+use Rattle.acc_base.proofs.Pointers.{fresh-clear}
 use Rattle.acc_host.specs.Host.{bytes_in}
 use Rattle.acc_present.specs.Present.{PresentTable, PresentState, with_ranges}
 use Rattle.acc_present.specs.Present as present
 use Rattle.acc_dev.specs.Device.{DeviceState, IsRetired}
+use Rattle.acc_clauses.specs.declared.environments.Environment.{Environment}
 use Rattle.acc_clauses.specs.Contents.{state_of, room_of}
 use Rattle.acc_clauses.specs.Acts.{CanMove, CanBear, IsMade, bytes_made, IsRoomLeft, IsActedBy}
-use Rattle.acc_clauses.proofs.Copying.{born_copied, changed-last}
+use Rattle.acc_clauses.proofs.Copying.{written-same, moved-clear, born_copied, changed-last}
 
 -- ---- ranges
 
@@ -88,9 +91,10 @@ without-changed k f (r ∷ rs) h = go (without-changed k f rs h) (r.block == k) 
 -- ---- memories
 
 -- the new block's memory, with the bytes that a birth by entry gives it
-born_memories : (counter : Counter) (item : Item RegionClause) (k place : ℕ) (ranges : List Range) (host : List ℕ) (ms : List Memory) → is_within item.section (host_memory (length host)) ≡ true → AllByRecursion (λ m. m.block ≡ k → ⊥) ms
-    → ms ++ record { block = k; bytes = bytes_made item host } ∷ [] ≡ memories_made (transfer_of (Enter counter item) (Born k place) ranges) host (memories_begun (Enter counter item) (Born k place) ms)
-born_memories counter item k place ranges host ms in_host new = go (copies_in item.clause)
+born_memories : (counter : Counter) (item : Item RegionClause) (k place : ℕ) (ranges : List Range) (attached : List Attachment) (host : List ℕ) (ms : List Memory) → is_within item.section (host_memory (length host)) ≡ true
+    → AllByRecursion (λ m. m.block ≡ k → ⊥) ms → AllByRecursion (λ a. a.block ≡ k → ⊥) attached
+    → ms ++ record { block = k; bytes = bytes_made item host } ∷ [] ≡ memories_made (transfer_of (Enter counter item) (Born k place) ranges) attached host (memories_begun (Enter counter item) (Born k place) ms)
+born_memories counter item k place ranges attached host ms in_host new bare = go (copies_in item.clause)
   where
     fill : ℕ
     fill = fill_byte (is_zeroed item.clause)
@@ -98,51 +102,47 @@ born_memories counter item k place ranges host ms in_host new = go (copies_in it
     t : Transfer
     t = record { block = k; offset = 0; section = item.section; out = false }
 
-    go : (b : Bool) → ms ++ record { block = k; bytes = cond b (bytes_in host item.section) (replicate item.section.len fill) } ∷ [] ≡ memories_made (cond b (Some t) None) host (ms ++ record { block = k; bytes = replicate item.section.len fill } ∷ [])
-    go true = sym (changed-last k (bytes_moved_in item.section host (item.section.start - 0)) (replicate item.section.len fill) ms new
-        ∙ ap (λ x. ms ++ record { block = k; bytes = x } ∷ []) (born_copied item.section (item.section.start - 0) fill host in_host (omega arith)))
+    go : (b : Bool) → ms ++ record { block = k; bytes = cond b (bytes_in host item.section) (replicate item.section.len fill) } ∷ [] ≡ memories_made (cond b (Some t) None) attached host (ms ++ record { block = k; bytes = replicate item.section.len fill } ∷ [])
+    go true = sym (changed-last k (bytes_moved_in (is_moved item.section k attached) host (item.section.start - 0)) (replicate item.section.len fill) ms new
+        ∙ ap (λ x. ms ++ record { block = k; bytes = x } ∷ []) (
+        written-same (is_moved item.section k attached) (covers item.section) (host_byte host) (item.section.start - 0) (replicate item.section.len fill) (λ a. moved-clear item.section k attached a (fresh-clear k attached bare a))
+        ∙ born_copied item.section (item.section.start - 0) fill host in_host (omega arith)))
     go false = refl
 
 -- a birth leaves host memory
-born_host : (counter : Counter) (item : Item RegionClause) (k place : ℕ) (ranges : List Range) (host : List ℕ) (ms : List Memory) → host ≡ host_made (transfer_of (Enter counter item) (Born k place) ranges) ms host
-born_host counter item k place ranges host ms = go (copies_in item.clause)
+born_host : (counter : Counter) (item : Item RegionClause) (k place : ℕ) (ranges : List Range) (attached : List Attachment) (host : List ℕ) (ms : List Memory) → host ≡ host_made (transfer_of (Enter counter item) (Born k place) ranges) attached ms host
+born_host counter item k place ranges attached host ms = go (copies_in item.clause)
   where
-    go : (b : Bool) → host ≡ host_made (cond b (Some (record { block = k; offset = 0; section = item.section; out = false })) None) ms host
+    go : (b : Bool) → host ≡ host_made (cond b (Some (record { block = k; offset = 0; section = item.section; out = false })) None) attached ms host
     go true = refl
     go false = refl
 
 -- the end of a mapping copies to no block
-ended_memories : (task : Task) (k : ℕ) (ranges : List Range) (host : List ℕ) (ms : List Memory) → ms ≡ memories_made (transfer_of task (Dropped k true) ranges) host ms
-ended_memories (Enter counter item) k ranges host ms = refl
-ended_memories (Leave holding) k ranges host ms = go (copies_out holding.item.clause)
+ended_memories : (task : Task) (k : ℕ) (ranges : List Range) (attached : List Attachment) (host : List ℕ) (ms : List Memory) → ms ≡ memories_made (transfer_of task (Dropped k true) ranges) attached host ms
+ended_memories (Enter counter item) k ranges attached host ms = refl
+ended_memories (Leave holding) k ranges attached host ms = go (copies_out holding.item.clause)
   where
-    go : (b : Bool) → ms ≡ memories_made (cond b (Some (transfer_at (Leave holding) k ranges)) None) host ms
+    go : (b : Bool) → ms ≡ memories_made (cond b (Some (transfer_at (Leave holding) k ranges)) None) attached host ms
     go true = refl
     go false = refl
-ended_memories (Exit finalize item) k ranges host ms = go (is_copyout item.clause)
+ended_memories (Exit finalize item) k ranges attached host ms = go (is_copyout item.clause)
   where
-    go : (b : Bool) → ms ≡ memories_made (cond b (Some (transfer_at (Exit finalize item) k ranges)) None) host ms
+    go : (b : Bool) → ms ≡ memories_made (cond b (Some (transfer_at (Exit finalize item) k ranges)) None) attached host ms
     go true = refl
     go false = refl
-ended_memories (Move if_present item) k ranges host ms = refl
+ended_memories (Move if_present item) k ranges attached host ms = refl
 
 -- ---- transfers of a section that is inside the range of a block
 
--- the range begins at or below the section, at the address of which a look-up by block tells
-record IsFirst (section : Section) (k start : ℕ) (ranges : List Range) : Type 0 where
-  start_is : start ≡ start_of k ranges
-  low : start ≤ section.start
-
-first_is : (task : Task) (k start : ℕ) (ranges : List Range) → IsFirst (section_of task) k start ranges → first_address (transfer_at task k ranges) ≡ start
-first_is task k start ranges h =
-    ap (λ n. (section_of task).start - ((section_of task).start - n)) (sym h.start_is) ∙ (let same : (section_of task).start - ((section_of task).start - start) ≡ start = omega (arith, h.low) in same)
-
-starts_at : (section : Section) (k start : ℕ) (x : State) → CanMove section k x → start ≡ start_of k x.records.ranges → IsFirst section k start x.records.ranges
-starts_at section k start x m e =
+-- the range of the block begins at or below the section
+first_low : (section : Section) (k : ℕ) (x : State) → CanMove section k x → start_of k x.records.ranges ≤ section.start
+first_low section k x m =
     let at : start_of k x.records.ranges ≡ m.range.section.start = ap (λ o. unwrap_or (option_map (λ (t : Range). t.section.start) o) 0) m.range_is in
     let inside : is_within section m.range.section ≡ true = m.within in
-    let low : m.range.section.start ≤ section.start = grind (arith, nat_tests) in
-    record { start_is = e; low = omega (arith, e, at, low) }
+    grind (arith, nat_tests)
+
+first_is : (task : Task) (k : ℕ) (x : State) → CanMove (section_of task) k x → first_address (transfer_at task k x.records.ranges) ≡ start_of k x.records.ranges
+first_is task k x m = let low : start_of k x.records.ranges ≤ (section_of task).start = first_low (section_of task) k x m in omega (arith, low)
 
 -- the section is within the bytes of the block
 pub within_block : (section : Section) (k start : ℕ) (x : State) → CanMove section k x → start ≡ start_of k x.records.ranges → is_within section (record { start = start; len = length (bytes_of k x.memories) }) ≡ true
@@ -165,100 +165,106 @@ gives_out (Exit finalize item) e = refl
 gives_out (Move if_present item) e = cc
 
 -- host memory after the end of a mapping that copies
-pub given : (task : Task) (k start : ℕ) (x : State) → CanMove (section_of task) k x → start ≡ start_of k x.records.ranges → gives_bytes task ≡ true
-    → bytes_moved_out (section_of task) (bytes_of k x.memories) start x.host ≡ host_made (transfer_of task (Dropped k true) x.records.ranges) x.memories x.host
-given task k start x m e gives = rw (gives, gives_out task gives, first_is task k start x.records.ranges (starts_at (section_of task) k start x m e)) refl
+pub given : (task : Task) (k : ℕ) (x : State) → CanMove (section_of task) k x → gives_bytes task ≡ true
+    → bytes_moved_out (is_moved (section_of task) k x.records.attached) (bytes_of k x.memories) (start_of k x.records.ranges) x.host ≡ host_made (transfer_of task (Dropped k true) x.records.ranges) x.records.attached x.memories x.host
+given task k x m gives = rw (gives, gives_out task gives, first_is task k x m) refl
 
 -- and after one that does not
-pub given_none : (task : Task) (k : ℕ) (x : State) → gives_bytes task ≡ false → x.host ≡ host_made (transfer_of task (Dropped k true) x.records.ranges) x.memories x.host
+pub given_none : (task : Task) (k : ℕ) (x : State) → gives_bytes task ≡ false → x.host ≡ host_made (transfer_of task (Dropped k true) x.records.ranges) x.records.attached x.memories x.host
 given_none task k x gives = rw gives refl
 
 -- host memory and the memories after an update
-pub updated_out : (task : Task) (k start : ℕ) (x : State) → CanMove (section_of task) k x → start ≡ start_of k x.records.ranges → goes_out task ≡ true
-    → bytes_moved_out (section_of task) (bytes_of k x.memories) start x.host ≡ host_made (transfer_of task (Moved k) x.records.ranges) x.memories x.host
-updated_out task k start x m e out = rw (out, first_is task k start x.records.ranges (starts_at (section_of task) k start x m e)) refl
+pub updated_out : (task : Task) (k : ℕ) (x : State) → CanMove (section_of task) k x → goes_out task ≡ true
+    → bytes_moved_out (is_moved (section_of task) k x.records.attached) (bytes_of k x.memories) (start_of k x.records.ranges) x.host ≡ host_made (transfer_of task (Moved k) x.records.ranges) x.records.attached x.memories x.host
+updated_out task k x m out = rw (out, first_is task k x m) refl
 
-pub updated_out_memories : (task : Task) (k : ℕ) (x : State) → goes_out task ≡ true → x.memories ≡ memories_made (transfer_of task (Moved k) x.records.ranges) x.host x.memories
+pub updated_out_memories : (task : Task) (k : ℕ) (x : State) → goes_out task ≡ true → x.memories ≡ memories_made (transfer_of task (Moved k) x.records.ranges) x.records.attached x.host x.memories
 updated_out_memories task k x out = rw out refl
 
-pub updated_in : (task : Task) (k start : ℕ) (x : State) → CanMove (section_of task) k x → start ≡ start_of k x.records.ranges → goes_out task ≡ false
-    → map (memory_changed k (bytes_moved_in (section_of task) x.host start)) x.memories ≡ memories_made (transfer_of task (Moved k) x.records.ranges) x.host x.memories
-updated_in task k start x m e out = rw (out, first_is task k start x.records.ranges (starts_at (section_of task) k start x m e)) refl
+pub updated_in : (task : Task) (k : ℕ) (x : State) → CanMove (section_of task) k x → goes_out task ≡ false
+    → map (memory_changed k (bytes_moved_in (is_moved (section_of task) k x.records.attached) x.host (start_of k x.records.ranges))) x.memories ≡ memories_made (transfer_of task (Moved k) x.records.ranges) x.records.attached x.host x.memories
+updated_in task k x m out = rw (out, first_is task k x m) refl
 
-pub updated_in_host : (task : Task) (k : ℕ) (x : State) → goes_out task ≡ false → x.host ≡ host_made (transfer_of task (Moved k) x.records.ranges) x.memories x.host
+pub updated_in_host : (task : Task) (k : ℕ) (x : State) → goes_out task ≡ false → x.host ≡ host_made (transfer_of task (Moved k) x.records.ranges) x.records.attached x.memories x.host
 updated_in_host task k x out = rw out refl
 
 -- ---- the state of the parts
 
 -- the parts come to a state that has the same fields
-state_by : (p : PresentState) (d : DeviceState) (host : List ℕ) (next : ℕ) (s : State) → p.table.ranges ≡ s.records.ranges → d.blocks ≡ s.records.blocks → d.births ≡ s.records.births
-    → p.table.regions ≡ s.register.regions → next ≡ s.register.next → host ≡ s.host → d.memories ≡ s.memories → state_of p d host next ≡ s
-state_by p d host next s a b c e f g h = rw (a, b, c, e, f, g, h) refl
+state_by : (x : Environment) (next : ℕ) (s : State) → x.present.table.ranges ≡ s.records.ranges → x.device.blocks ≡ s.records.blocks → [] ≡ s.records.attached → x.device.births ≡ s.records.births
+    → x.present.table.regions ≡ s.register.regions → next ≡ s.register.next → x.host ≡ s.host → x.device.memories ≡ s.memories → state_of x next ≡ s
+state_by x next s a b p c e f g h = rw (a, b, p, c, e, f, g, h) refl
 
 -- ---- room
 
 -- no room was taken, and the device has what it had
-room_same : (p q : PresentState) (d e : DeviceState) → present.IsRoomKept p.room q.room → e.room ≡ d.room → IsRoomLeft [] (room_of p d) (room_of q e)
-room_same p q d e h same = record { births_are = sym same; ranges = omega (arith, h.ranges); regions = h.regions; holdings = h.holdings }
+room_same : (x y : Environment) → present.IsRoomKept x.present.room y.present.room → y.device.room ≡ x.device.room → IsRoomLeft [] (room_of x) (room_of y)
+room_same x y h same = record { births_are = sym same; ranges = omega (arith, h.ranges); regions = h.regions; holdings = h.holdings }
 
 -- ---- steps
 
-pub nothing_acts : (task : Task) (p : PresentState) (d : DeviceState) (host : List ℕ) → IsActedBy task Nothing p d host p d host
+pub nothing_acts : (task : Task) (x : Environment) → IsActedBy task Nothing x x
 unfolding act_state act
-nothing_acts task p d host = record {
+nothing_acts task x = record {
   state = λ next. refl;
   counter_max = refl;
   size = refl;
   room = record { births_are = refl; ranges = omega arith; regions = omega arith; holdings = omega arith };
 }
 
-pub counted_acts : (task : Task) (k : ℕ) (p q : PresentState) (d : DeviceState) (host : List ℕ) → q.table ≡ with_ranges p.table (changed_at k (recounted task) p.table.ranges) → present.IsRoomKept p.room q.room
-    → IsActedBy task (Counted k) p d host q d host
+pub counted_acts : (task : Task) (k : ℕ) (x : Environment) (q : PresentState) → q.table ≡ with_ranges x.present.table (changed_at k (recounted task) x.present.table.ranges) → present.IsRoomKept x.present.room q.room
+    → IsActedBy task (Counted k) x (record x { present = q })
 unfolding act_state act with_range_changed
-counted_acts task k p q d host e room = record {
-  state = λ next. state_by q d host next (act_state task (Counted k) (state_of p d host next)) (ap (λ t. t.ranges) e) refl refl (ap (λ t. t.regions) e) refl refl refl;
+counted_acts task k x q e room = record {
+  state = λ next. state_by (record x { present = q }) next (act_state task (Counted k) (state_of x next)) (ap (λ t. t.ranges) e) refl refl refl (ap (λ t. t.regions) e) refl refl refl;
   counter_max = ap (λ t. t.counter_max) e;
   size = refl;
-  room = room_same p q d d room refl;
+  room = room_same x (record x { present = q }) room refl;
 }
 
-pub dropped_acts : (task : Task) (k : ℕ) (p q : PresentState) (d : DeviceState) (host : List ℕ) → q.table ≡ with_ranges p.table (changed_at k (recounted task) p.table.ranges) → present.IsRoomKept p.room q.room
-    → IsActedBy task (Dropped k false) p d host q d host
+pub dropped_acts : (task : Task) (k : ℕ) (x : Environment) (q : PresentState) → q.table ≡ with_ranges x.present.table (changed_at k (recounted task) x.present.table.ranges) → present.IsRoomKept x.present.room q.room
+    → IsActedBy task (Dropped k false) x (record x { present = q })
 unfolding act_state act with_range_changed
-dropped_acts task k p q d host e room = record {
-  state = λ next. state_by q d host next (act_state task (Dropped k false) (state_of p d host next)) (ap (λ t. t.ranges) e) refl refl (ap (λ t. t.regions) e) refl refl refl;
+dropped_acts task k x q e room = record {
+  state = λ next. state_by (record x { present = q }) next (act_state task (Dropped k false) (state_of x next)) (ap (λ t. t.ranges) e) refl refl refl (ap (λ t. t.regions) e) refl refl refl;
   counter_max = ap (λ t. t.counter_max) e;
   size = refl;
-  room = room_same p q d d room refl;
+  room = room_same x (record x { present = q }) room refl;
 }
 
-pub moved_acts : (task : Task) (k : ℕ) (p : PresentState) (d e : DeviceState) (host host2 : List ℕ) → host2 ≡ host_made (transfer_of task (Moved k) p.table.ranges) d.memories host
-    → e ≡ record d { memories = memories_made (transfer_of task (Moved k) p.table.ranges) host d.memories } → IsActedBy task (Moved k) p d host p e host2
+pub moved_acts : (task : Task) (k : ℕ) (x y : Environment)
+    → (let s : State = state_of x 0 in let t : Option Transfer = transfer_of task (Moved k) s.records.ranges in y ≡ record x { host = host_made t s.records.attached s.memories s.host; device = record x.device { memories = memories_made t s.records.attached s.host s.memories } })
+    → IsActedBy task (Moved k) x y
 unfolding act_state act
-moved_acts task k p d e host host2 h is = record {
-  state = λ next. state_by p e host2 next (act_state task (Moved k) (state_of p d host next)) refl (ap (λ x. x.blocks) is) (ap (λ x. x.births) is) refl refl h (ap (λ x. x.memories) is);
-  counter_max = refl;
-  size = ap (λ x. x.size) is;
-  room = record { births_are = sym (ap (λ x. x.room) is); ranges = omega arith; regions = omega arith; holdings = omega arith };
+moved_acts task k x y is = record {
+  state = λ next. rw is refl;
+  counter_max = rw is refl;
+  size = rw is refl;
+  room = rw is (record { births_are = refl; ranges = omega arith; regions = omega arith; holdings = omega arith });
 }
 
 -- two rooms one after the other
 kept_twice : (a b c : present.Room) → present.IsRoomKept a b → present.IsRoomKept b c → present.IsRoomKept a c
 kept_twice a b c h k = record { ranges = omega (arith, h.ranges, k.ranges); regions = omega (arith, h.regions, k.regions); holdings = omega (arith, h.holdings, k.holdings) }
 
-pub ended_acts : (task : Task) (k : ℕ) (p q r : PresentState) (d e : DeviceState) (host host2 : List ℕ) → AllZip IsMemoryOf d.memories d.blocks → host2 ≡ host_made (transfer_of task (Dropped k true) p.table.ranges) d.memories host
-    → q.table ≡ with_ranges p.table (changed_at k (recounted task) p.table.ranges) → present.IsRoomKept p.room q.room → r.table ≡ with_ranges q.table (without_range k q.table.ranges) → present.IsRoomKept q.room r.room
-    → IsRetired d e k → IsActedBy task (Dropped k true) p d host r e host2
+pub ended_acts : (task : Task) (k : ℕ) (x given : Environment) (q r : PresentState) (e : DeviceState) → AllZip IsMemoryOf x.device.memories x.device.blocks
+    → (let s : State = state_of x 0 in given ≡ record x { host = host_made (transfer_of task (Dropped k true) s.records.ranges) s.records.attached s.memories s.host })
+    → q.table ≡ with_ranges given.present.table (changed_at k (recounted task) given.present.table.ranges) → present.IsRoomKept given.present.room q.room → r.table ≡ with_ranges q.table (without_range k q.table.ranges) → present.IsRoomKept q.room r.room
+    → IsRetired given.device e k → IsActedBy task (Dropped k true) x (record given { present = r; device = e })
 unfolding act_state act records_after_end
-ended_acts task k p q r d e host host2 sized h counted room1 removed room2 gone =
-    let ranges : r.table.ranges ≡ without_range k p.table.ranges = ap (λ t. t.ranges) removed ∙ (ap (λ t. without_range k t.ranges) counted ∙ without-changed k (recounted task) p.table.ranges (recounted-block task)) in
-    let memories : e.memories ≡ without_memory k (memories_made (transfer_of task (Dropped k true) p.table.ranges) host d.memories) =
-    gone.memories ∙ (ap (λ bs. memories_kept bs d.memories) gone.blocks ∙ (memories_kept-without k d.memories d.blocks sized ∙ ap (without_memory k) (ended_memories task k p.table.ranges host d.memories))) in
+ended_acts task k x given q r e sized h count room1 removed room2 end =
+    let s : State = state_of x 0 in
+    let counted : q.table ≡ with_ranges x.present.table (changed_at k (recounted task) x.present.table.ranges) = rw h at count in
+    let gone : IsRetired x.device e k = rw h at end in
+    let first_room : present.IsRoomKept x.present.room q.room = rw h at room1 in
+    let ranges : r.table.ranges ≡ without_range k x.present.table.ranges = ap (λ t. t.ranges) removed ∙ (ap (λ t. without_range k t.ranges) counted ∙ without-changed k (recounted task) x.present.table.ranges (recounted-block task)) in
+    let memories : e.memories ≡ without_memory k (memories_made (transfer_of task (Dropped k true) s.records.ranges) s.records.attached s.host s.memories) =
+    gone.memories ∙ (ap (λ bs. memories_kept bs x.device.memories) gone.blocks ∙ (memories_kept-without k x.device.memories x.device.blocks sized ∙ ap (without_memory k) (ended_memories task k s.records.ranges s.records.attached s.host s.memories))) in
     record {
-      state = λ next. state_by r e host2 next (act_state task (Dropped k true) (state_of p d host next)) ranges gone.blocks gone.births (ap (λ t. t.regions) removed ∙ ap (λ t. t.regions) counted) refl h memories;
+      state = λ next. state_by (record given { present = r; device = e }) next (act_state task (Dropped k true) (state_of x next)) ranges gone.blocks refl gone.births (ap (λ t. t.regions) removed ∙ ap (λ t. t.regions) counted) refl (ap (λ (g : Environment). g.host) h) memories;
       counter_max = ap (λ t. t.counter_max) removed ∙ ap (λ t. t.counter_max) counted;
       size = gone.size;
-      room = room_same p r d e (kept_twice p.room q.room r.room room1 room2) gone.room;
+      room = room_same x (record given { present = r; device = e }) (kept_twice x.present.room q.room r.room first_room room2) gone.room;
     }
 
 -- a new range with one count
@@ -277,18 +283,21 @@ born_block : (counter : Counter) (item : Item RegionClause) (k n p q : ℕ) → 
     → ◌≡◌ {A = Block} (record { number = n; place = q; len = item.section.len }) (record { number = (recounted (Enter counter item) (bare_range item.section k)).block; place = p; len = (recounted (Enter counter item) (bare_range item.section k)).section.len })
 born_block counter item k n p q e h = rw (recounted-block (Enter counter item) (bare_range item.section k), recounted-section (Enter counter item) (bare_range item.section k), e, h) refl
 
-pub born_acts : (counter : Counter) (item : Item RegionClause) (k place : ℕ) (p q r : PresentState) (d e : DeviceState) (host : List ℕ) → CanBear p.table.counter_max d.size item.section k place (state_of p d host 0) → IsMade d e item host
-    → q.table ≡ with_ranges p.table (with_range (bare_range item.section k) p.table.ranges) → p.room.ranges ≤ q.room.ranges + 1 → p.room.regions ≤ q.room.regions → p.room.holdings ≤ q.room.holdings
-    → r.table ≡ with_ranges q.table (changed_at k (risen counter) q.table.ranges) → present.IsRoomKept q.room r.room → IsActedBy (Enter counter item) (Born k place) p d host r e host
+pub born_acts : (counter : Counter) (item : Item RegionClause) (k place : ℕ) (x : Environment) (q r : PresentState) (e : DeviceState) → CanBear x.present.table.counter_max x.device.size item.section k place (state_of x 0) → IsMade x.device e item x.host
+    → q.table ≡ with_ranges x.present.table (with_range (bare_range item.section k) x.present.table.ranges) → x.present.room.ranges ≤ q.room.ranges + 1 → x.present.room.regions ≤ q.room.regions → x.present.room.holdings ≤ q.room.holdings
+    → r.table ≡ with_ranges q.table (changed_at k (risen counter) q.table.ranges) → present.IsRoomKept q.room r.room → IsActedBy (Enter counter item) (Born k place) x (record x { present = r; device = e })
 unfolding act_state act records_after_birth
-born_acts counter item k place p q r d e host can made put ranges regions holdings raised room =
+born_acts counter item k place x q r e can made put ranges regions holdings raised room =
+    let s : State = state_of x 0 in
+    let new : Environment = record x { present = r; device = e } in
     let where_it_is : place ≡ made.place = some_same place made.place _ can.place_is made.place_is in
-    let blocks : e.blocks ≡ (act (Enter counter item) (Born k place) (state_of p d host 0).records).blocks = made.blocks ∙ ap (λ b. d.blocks ++ b ∷ []) (born_block counter item k (d.births + 1) place made.place can.number where_it_is) in
-    let memories : e.memories ≡ memories_made (transfer_of (Enter counter item) (Born k place) p.table.ranges) host (memories_begun (Enter counter item) (Born k place) d.memories) =
-    made.memories ∙ (ap (λ n. d.memories ++ record { block = n; bytes = bytes_made item host } ∷ []) (sym can.number) ∙ born_memories counter item k place p.table.ranges host d.memories can.in_host can.no_memory) in
+    let blocks : e.blocks ≡ (act (Enter counter item) (Born k place) s.records).blocks = made.blocks ∙ ap (λ b. x.device.blocks ++ b ∷ []) (born_block counter item k (x.device.births + 1) place made.place can.number where_it_is) in
+    let memories : e.memories ≡ memories_made (transfer_of (Enter counter item) (Born k place) s.records.ranges) s.records.attached x.host (memories_begun (Enter counter item) (Born k place) x.device.memories) =
+    made.memories ∙ (ap (λ n. x.device.memories ++ record { block = n; bytes = bytes_made item x.host } ∷ []) (sym can.number)
+    ∙ born_memories counter item k place s.records.ranges s.records.attached x.host x.device.memories can.in_host can.no_memory can.no_pointer) in
     record {
-      state = λ next. state_by r e host next (act_state (Enter counter item) (Born k place) (state_of p d host next)) (born_ranges counter item k p q r can.no_range put raised) blocks made.births
-          (ap (λ t. t.regions) raised ∙ ap (λ t. t.regions) put) refl (born_host counter item k place p.table.ranges host d.memories) memories;
+      state = λ next. state_by new next (act_state (Enter counter item) (Born k place) (state_of x next)) (born_ranges counter item k x.present q r can.no_range put raised) blocks refl made.births
+          (ap (λ t. t.regions) raised ∙ ap (λ t. t.regions) put) refl (born_host counter item k place s.records.ranges s.records.attached x.host x.device.memories) memories;
       counter_max = ap (λ t. t.counter_max) raised ∙ ap (λ t. t.counter_max) put;
       size = made.size;
       room = record { births_are = made.room; ranges = omega (arith, ranges, room.ranges); regions = omega (arith, regions, room.regions); holdings = omega (arith, holdings, room.holdings) };

@@ -22,8 +22,8 @@ use Rattle.acc_base.specs.Clauses.{copies_in, is_zeroed}
 use Rattle.acc_base.specs.Register.{region_at}
 use Rattle.acc_base.specs.Bytes.{bytes_of, fill_byte, act_state}
 use Rattle.acc_host.specs.Host.{bytes_in}
-use Rattle.acc_present.specs.Present.{PresentState}
 use Rattle.acc_dev.specs.Device.{DeviceState, birth_place}
+use Rattle.acc_clauses.specs.declared.environments.Environment.{Environment}
 use Rattle.acc_clauses.specs.declared.plans.Head.{Head}
 use Rattle.acc_clauses.specs.declared.plans.Head.TheVariants.{Plain, Entry, Leaving}
 use Rattle.acc_clauses.specs.Planned.{Planned}
@@ -94,6 +94,7 @@ pub record CanBear (counter_max device : ℕ) (section : Section) (block place :
   pub few : s.records.births < 2 ^ 48
   pub no_range : AllByRecursion (λ r. r.block ≡ block → ⊥) s.records.ranges
   pub no_memory : AllByRecursion (λ m. m.block ≡ block → ⊥) s.memories
+  pub no_pointer : AllByRecursion (λ a. a.block ≡ block → ⊥) s.records.attached
   pub counted : 0 < counter_max
 
 -- a counter of the block's range can fall, for which no task that enters asks; and the mapping ends by it exactly if the step says so
@@ -145,12 +146,12 @@ pub record IsRoomLeft (births : List ℕ) (old new : Room) : Type 0 where
 
 -- ---- what a step makes of the parts
 
--- the present table, the device and host memory before a step and after it
-pub record IsActedBy (task : Task) (step : Step) (old_present : PresentState) (old_device : DeviceState) (old_host : List ℕ) (new_present : PresentState) (new_device : DeviceState) (new_host : List ℕ) : Type 0 where
-  pub state : (next : ℕ) → state_of new_present new_device new_host next ≡ act_state task step (state_of old_present old_device old_host next)
-  pub counter_max : new_present.table.counter_max ≡ old_present.table.counter_max
-  pub size : new_device.size ≡ old_device.size
-  pub room : IsRoomLeft (birth_of task step) (room_of old_present old_device) (room_of new_present new_device)
+-- the parts before a step and after it
+pub record IsActedBy (task : Task) (step : Step) (old new : Environment) : Type 0 where
+  pub state : (next : ℕ) → state_of new next ≡ act_state task step (state_of old next)
+  pub counter_max : new.present.table.counter_max ≡ old.present.table.counter_max
+  pub size : new.device.size ≡ old.device.size
+  pub room : IsRoomLeft (birth_of task step) (room_of old) (room_of new)
 
 -- ---- a new block
 

@@ -1,10 +1,9 @@
 -- What contracts see of a store and of its parts: the limits, the state, and the room for more.
-use Rattle.std.specs.Prelude.{ℕ, ◌≡◌, List}
+use Rattle.std.specs.Prelude.{ℕ, ◌≡◌, List, []}
 use Rattle.acc_base.specs.Limits.{Limits}
 use Rattle.acc_base.specs.Records.{State, new_state}
 use Rattle.acc_base.specs.Accounts.{AreRecordsSound, AreMemoriesSized}
-use Rattle.acc_present.specs.Present.{PresentState}
-use Rattle.acc_dev.specs.Device.{DeviceState}
+use Rattle.acc_clauses.specs.declared.environments.Environment.{Environment}
 
 -- what can be taken in without memory: births of blocks of these lengths, in this order; so many ranges; so many regions; and so many holdings of the next region
 pub record Room : Type 0 where
@@ -21,26 +20,26 @@ pub record Contents : Type 0 where
 
 -- ---- what the parts come to
 
--- the state that a present table, a device and host memory come to, with the number of the next region
-abbrev pub state_of : PresentState → DeviceState → List ℕ → ℕ → State
-state_of present device host next = record {
-  records = record { ranges = present.table.ranges; blocks = device.blocks; births = device.births };
-  register = record { regions = present.table.regions; next = next };
-  host = host;
-  memories = device.memories;
+-- the state that the parts come to, with the number of the next region
+abbrev pub state_of : Environment → ℕ → State
+state_of x next = record {
+  records = record { ranges = x.present.table.ranges; blocks = x.device.blocks; attached = []; births = x.device.births };
+  register = record { regions = x.present.table.regions; next = next };
+  host = x.host;
+  memories = x.device.memories;
 }
 
 -- and their room
-abbrev pub room_of : PresentState → DeviceState → Room
-room_of present device = record { births = device.room; ranges = present.room.ranges; regions = present.room.regions; holdings = present.room.holdings }
+abbrev pub room_of : Environment → Room
+room_of x = record { births = x.device.room; ranges = x.present.room.ranges; regions = x.present.room.regions; holdings = x.present.room.holdings }
 
-abbrev pub contents_of : Limits → PresentState → DeviceState → List ℕ → ℕ → Contents
-contents_of l present device host next = record { limits = l; state = state_of present device host next; room = room_of present device }
+abbrev pub contents_of : Limits → Environment → ℕ → Contents
+contents_of l x next = record { limits = l; state = state_of x next; room = room_of x }
 
--- the present table and the device have the sizes that the limits say
-pub record AreSizedBy (l : Limits) (p : PresentState) (d : DeviceState) : Type 0 where
-  pub counters : p.table.counter_max ≡ l.counter_max
-  pub device : d.size ≡ l.device
+-- the parts have the sizes that the limits say
+pub record AreSizedBy (l : Limits) (x : Environment) : Type 0 where
+  pub counters : x.present.table.counter_max ≡ l.counter_max
+  pub device : x.device.size ≡ l.device
 
 -- what each step of a directive keeps: records that are sound, and memories in step with them
 pub record AreContentsSound (c : Contents) : Type 0 where
@@ -48,9 +47,9 @@ pub record AreContentsSound (c : Contents) : Type 0 where
   pub memories : AreMemoriesSized c.limits c.state
 
 -- the parts fit one another, and what they come to is sound
-pub record ArePartsSound (l : Limits) (present : PresentState) (device : DeviceState) (host : List ℕ) (next : ℕ) : Type 0 where
-  pub sized : AreSizedBy l present device
-  pub sound : AreContentsSound (contents_of l present device host next)
+pub record ArePartsSound (l : Limits) (x : Environment) (next : ℕ) : Type 0 where
+  pub sized : AreSizedBy l x
+  pub sound : AreContentsSound (contents_of l x next)
 
 -- nothing is mapped, no region is open, and host memory is zero
 pub record AreNew (l : Limits) (c : Contents) : Type 0 where

@@ -3,3 +3,4 @@ pub mod Overlays
 pub mod Planned
 pub mod Acts
 pub mod Stored
+pub mod Copies

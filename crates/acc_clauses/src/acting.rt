@@ -11,8 +11,9 @@ ghost use Rattle.acc_clauses.specs.Contents.{state_of, room_of};
 ghost use Rattle.acc_clauses.specs.Acts.{CanAct, CanCount, CanBear, CanMove, CanDrop, HasRoomFor, IsRoomLeft, IsActedBy, CanMake, IsMade, birth_of};
 
 use crate::copies::{copy_in, copy_out};
+use crate::environments::Environment;
 use crate::rows::{copies_in, gives_bytes, goes_out, is_zeroed, section_of};
-use acc_base::{Counter, Item, RegionClause, Section, Step, Task};
+use acc_base::{Counter, Item, RegionClause, Step, Task};
 use acc_dev::Device;
 use acc_host::HostMem;
 use acc_present::Present;
@@ -49,14 +50,6 @@ fn recount(present: &mut Present, task: Task, block: u64)
     }
 }
 
-/// The host address at which the range that is mapped to a block begins.
-fn start_of(present: &Present, block: u64) -> u64
-    requires { HasRange present.now.table block }
-    ensures { result ≡ start_of block present.now.table.ranges }
-{
-    present.range_at(block).section.start
-}
-
 /// A new block for an item that enters, with its bytes.
 fn make_block(device: &mut Device, host: &HostMem, item: Item<RegionClause>)
     requires can { CanMake device.old host.now item.section }
@@ -74,106 +67,83 @@ fn make_block(device: &mut Device, host: &HostMem, item: Item<RegionClause>)
 
 /// Maps the section of an item to a new block, with a counter of one.
 fn bear(
-    present: &mut Present,
-    device: &mut Device,
-    host: &HostMem,
+    environment: &mut Environment,
     counter: Counter,
     item: Item<RegionClause>,
     block: u64,
     place: u64,
 )
-    requires can { CanBear present.old.table.counter_max device.old.size item.section block place (state_of present.old device.old host.now 0) }
-    requires room { HasRoomFor (item.section.len ∷ []) (room_of present.old device.old) }
-    ensures acted { IsActedBy (Enter counter item) (Born block place) present.old device.old host.now present.new device.new host.now }
+    requires can { CanBear environment.old.present.table.counter_max environment.old.device.size item.section block place (state_of environment.old 0) }
+    requires room { HasRoomFor (item.section.len ∷ []) (room_of environment.old) }
+    ensures acted { IsActedBy (Enter counter item) (Born block place) environment.old environment.new }
 {
-    make_block(device, host, item);
-    present.add_reserved(item.section, block);
-    raise(present, counter, block);
+    make_block(&mut environment.device, &environment.host, item);
+    environment.present.add_reserved(item.section, block);
+    raise(&mut environment.present, counter, block);
 }
 
 /// Where the task copies at the end of a mapping, host memory gets the bytes of the section.
-fn give_bytes(present: &Present, device: &Device, host: &mut HostMem, task: Task, block: u64)
-    requires can { CanMove (section_of task) block (state_of present.now device.now host.old 0) }
-    ensures { host.new ≡ host_made (transfer_of task (Dropped block true) present.now.table.ranges) device.now.memories host.old }
+fn give_bytes(environment: &mut Environment, task: Task, block: u64)
+    requires can { CanMove (section_of task) block (state_of environment.old 0) }
+    ensures { let s = state_of environment.old 0 in environment.new ≡ record environment.old { host = host_made (transfer_of task (Dropped block true) s.records.ranges) s.records.attached s.memories s.host } }
 {
     if gives_bytes(task) {
-        copy_out(
-            device,
-            host,
-            section_of(task),
-            block,
-            start_of(present, block),
-        );
+        copy_out(environment, section_of(task), block);
     }
 }
 
 /// Ends the mapping to a block.
-fn end(present: &mut Present, device: &mut Device, host: &mut HostMem, task: Task, block: u64)
-    requires can { CanDrop task block true (state_of present.old device.old host.old 0) }
-    ensures acted { IsActedBy task (Dropped block true) present.old device.old host.old present.new device.new host.new }
+fn end(environment: &mut Environment, task: Task, block: u64)
+    requires can { CanDrop task block true (state_of environment.old 0) }
+    ensures acted { IsActedBy task (Dropped block true) environment.old environment.new }
 {
-    device.laws();
-    give_bytes(present, device, host, task, block);
-    recount(present, task, block);
-    present.remove(block);
-    device.retire(block);
+    environment.device.laws();
+    give_bytes(environment, task, block);
+    recount(&mut environment.present, task, block);
+    environment.present.remove(block);
+    environment.device.retire(block);
 }
 
 /// Lowers the counters of a range, or ends its mapping where none is above zero then.
-fn lower(
-    present: &mut Present,
-    device: &mut Device,
-    host: &mut HostMem,
-    task: Task,
-    block: u64,
-    ended: bool,
-)
-    requires can { CanDrop task block ended (state_of present.old device.old host.old 0) }
-    ensures acted { IsActedBy task (Dropped block ended) present.old device.old host.old present.new device.new host.new }
+fn lower(environment: &mut Environment, task: Task, block: u64, ended: bool)
+    requires can { CanDrop task block ended (state_of environment.old 0) }
+    ensures acted { IsActedBy task (Dropped block ended) environment.old environment.new }
 {
     if ended {
-        end(present, device, host, task, block);
+        end(environment, task, block);
     } else {
-        recount(present, task, block);
+        recount(&mut environment.present, task, block);
     }
 }
 
 /// Copies the section of an update.
-fn update(present: &Present, device: &mut Device, host: &mut HostMem, task: Task, block: u64)
-    requires can { CanMove (section_of task) block (state_of present.now device.old host.old 0) }
-    ensures host { host.new ≡ host_made (transfer_of task (Moved block) present.now.table.ranges) device.old.memories host.old }
-    ensures device { device.new ≡ record device.old { memories = memories_made (transfer_of task (Moved block) present.now.table.ranges) host.old device.old.memories } }
+fn update(environment: &mut Environment, task: Task, block: u64)
+    requires can { CanMove (section_of task) block (state_of environment.old 0) }
+    ensures { let s = state_of environment.old 0 in environment.new ≡ record environment.old { host = host_made (transfer_of task (Moved block) s.records.ranges) s.records.attached s.memories s.host; device = record environment.old.device { memories = memories_made (transfer_of task (Moved block) s.records.ranges) s.records.attached s.host s.memories } } }
 {
-    let start = start_of(present, block);
     if goes_out(task) {
-        copy_out(device, host, section_of(task), block, start);
+        copy_out(environment, section_of(task), block);
     } else {
-        copy_in(device, host, section_of(task), block, start);
+        copy_in(environment, section_of(task), block);
     }
 }
 
 /// Does the step of a task.
-pub fn act_on(
-    present: &mut Present,
-    device: &mut Device,
-    host: &mut HostMem,
-    task: Task,
-    step: Step,
-)
-    requires can { CanAct present.old.table.counter_max device.old.size task step (state_of present.old device.old host.old 0) }
-    requires room { HasRoomFor (birth_of task step) (room_of present.old device.old) }
-    ensures acted { IsActedBy task step present.old device.old host.old present.new device.new host.new }
+pub(crate) fn act_on(environment: &mut Environment, task: Task, step: Step)
+    requires can { CanAct environment.old.present.table.counter_max environment.old.device.size task step (state_of environment.old 0) }
+    requires room { HasRoomFor (birth_of task step) (room_of environment.old) }
+    ensures acted { IsActedBy task step environment.old environment.new }
 {
     match step {
         Step::Nothing => {}
-        Step::Counted { block } => recount(present, task, block),
+        Step::Counted { block } => recount(&mut environment.present, task, block),
         Step::Born { block, place } => {
             let Task::Enter { counter, item } = task else {
                 unreachable!()
             };
-            bear(present, device, host, counter, item, block, place);
+            bear(environment, counter, item, block, place);
         }
-        Step::Dropped { block, ended } => lower(present, device, host, task, block, ended),
-        Step::Moved { block } => update(present, device, host, task, block),
+        Step::Dropped { block, ended } => lower(environment, task, block, ended),
+        Step::Moved { block } => update(environment, task, block),
     }
 }

@@ -1,40 +1,84 @@
 //! Copies between host memory and a block: one slice over another, with no buffer between.
 
 ghost use Rattle.std.specs.Prelude.{◌≡◌, length, map, true};
-ghost use Rattle.acc_base.specs.Section.{is_within, host_memory};
-ghost use Rattle.acc_base.specs.Bytes.{bytes_of, bytes_moved_in, bytes_moved_out, memory_changed};
+ghost use Rattle.acc_base.specs.Section.{covers, is_within, host_memory};
+ghost use Rattle.acc_base.specs.Ranges.{start_of};
+ghost use Rattle.acc_base.specs.Bytes.{bytes_of, is_moved, bytes_moved_in, bytes_moved_out, memory_changed};
 ghost use Rattle.acc_dev.specs.Device.{HasBlock};
+ghost use Rattle.acc_present.specs.Present.{HasRange};
+ghost use Rattle.acc_clauses.specs.Contents.{state_of};
+ghost use Rattle.acc_clauses.specs.Acts.{CanMove};
 
+use crate::environments::Environment;
 use acc_base::Section;
 use acc_dev::Device;
 use acc_host::HostMem;
+use acc_present::Present;
 
-/// Copies a section to host memory from a block that is mapped from the host address `start` on.
-pub fn copy_out(device: &Device, host: &mut HostMem, section: Section, block: u64, start: u64)
-    requires in_host { is_within section (host_memory (length host.old)) ≡ true }
+/// Copies a run of bytes to host memory from a block that is mapped from the host address `start` on.
+fn run_out(device: &Device, host: &mut HostMem, run: Section, block: u64, start: u64)
+    requires in_host { is_within run (host_memory (length host.old)) ≡ true }
     requires there { HasBlock device.now block }
-    requires within { is_within section (record { start = start; len = length (bytes_of block device.now.memories) }) ≡ true }
-    ensures { host.new ≡ bytes_moved_out section (bytes_of block device.now.memories) start host.old }
+    requires within { is_within run (record { start = start; len = length (bytes_of block device.now.memories) }) ≡ true }
+    ensures { host.new ≡ bytes_moved_out (covers run) (bytes_of block device.now.memories) start host.old }
 {
-    let from = (section.start - start) as usize;
+    let from = (run.start - start) as usize;
     let Some(bytes) = device.bytes(block) else {
         unreachable!()
     };
-    let Ok(()) = host.write(section.start, &bytes[from..from + section.len as usize]) else {
+    let Ok(()) = host.write(run.start, &bytes[from..from + run.len as usize]) else {
         unreachable!()
     };
 }
 
-/// Copies a section of host memory to a block that is mapped from the host address `start` on.
-pub fn copy_in(device: &mut Device, host: &HostMem, section: Section, block: u64, start: u64)
-    requires in_host { is_within section (host_memory (length host.now)) ≡ true }
+/// Copies a run of bytes of host memory to a block that is mapped from the host address `start` on.
+fn run_in(device: &mut Device, host: &HostMem, run: Section, block: u64, start: u64)
+    requires in_host { is_within run (host_memory (length host.now)) ≡ true }
     requires there { HasBlock device.old block }
-    requires within { is_within section (record { start = start; len = length (bytes_of block device.old.memories) }) ≡ true }
-    ensures { device.new ≡ record device.old { memories = map (memory_changed block (bytes_moved_in section host.now start)) device.old.memories } }
+    requires within { is_within run (record { start = start; len = length (bytes_of block device.old.memories) }) ≡ true }
+    ensures { device.new ≡ record device.old { memories = map (memory_changed block (bytes_moved_in (covers run) host.now start)) device.old.memories } }
 {
     device.laws();
-    let Some(bytes) = host.read(section) else {
+    let Some(bytes) = host.read(run) else {
         unreachable!()
     };
-    device.write(block, section.start - start, bytes);
+    device.write(block, run.start - start, bytes);
+}
+
+/// The host address at which the range that is mapped to a block begins.
+fn start_of(present: &Present, block: u64) -> u64
+    requires { HasRange present.now.table block }
+    ensures { result ≡ start_of block present.now.table.ranges }
+{
+    present.range_at(block).section.start
+}
+
+/// Copies a section to host memory from the block that it is mapped to, but for the bytes of attached pointers.
+pub(crate) fn copy_out(environment: &mut Environment, section: Section, block: u64)
+    requires can { CanMove section block (state_of environment.old 0) }
+    ensures { let s = state_of environment.old 0 in environment.new ≡ record environment.old { host = bytes_moved_out (is_moved section block s.records.attached) (bytes_of block s.memories) (start_of block s.records.ranges) s.host } }
+{
+    let start = start_of(&environment.present, block);
+    run_out(
+        &environment.device,
+        &mut environment.host,
+        section,
+        block,
+        start,
+    );
+}
+
+/// Copies a section of host memory to the block that it is mapped to, but for the bytes of attached pointers.
+pub(crate) fn copy_in(environment: &mut Environment, section: Section, block: u64)
+    requires can { CanMove section block (state_of environment.old 0) }
+    ensures { let s = state_of environment.old 0 in environment.new ≡ record environment.old { device = record environment.old.device { memories = map (memory_changed block (bytes_moved_in (is_moved section block s.records.attached) s.host (start_of block s.records.ranges))) s.memories } } }
+{
+    let start = start_of(&environment.present, block);
+    run_in(
+        &mut environment.device,
+        &environment.host,
+        section,
+        block,
+        start,
+    );
 }

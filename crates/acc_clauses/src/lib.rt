@@ -9,6 +9,7 @@ mod acting;
 mod copies;
 mod drafts;
 mod effects;
+mod environments;
 mod heads;
 mod judging;
 mod parts;

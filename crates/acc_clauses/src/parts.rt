@@ -1,4 +1,4 @@
-//! Host memory, the device and the present table as one value.
+//! The parts of a data environment as one value.
 
 ghost use Rattle.std.specs.Prelude.{◌≡◌, ◌+◌, ◌++◌, ◌^◌, ◌<◌, ◌≤◌, ◌↔◌, All, IfOk, IfErr, OnOk, OnErr, IfSome, IfNone, MatchOption, IsSome, None, Some, length};
 ghost use Rattle.acc_base.specs.declared.faults.Fault.TheVariants.{Memory};
@@ -17,6 +17,7 @@ ghost use Rattle.acc_clauses.specs.Contents.{AreNew, AreContentsSound};
 ghost use Rattle.acc_clauses.specs.Acts.{IsJudged, IsKnown, HasRoomFor, HasRegionRoom, CanWrite, IsRoomLeft, birth_of};
 
 use crate::acting::act_on;
+use crate::environments::Environment;
 use acc_base::{Config, Counter, Counters, Fault, Found, Holding, Range, Section, Step, Task};
 use acc_dev::Device;
 use acc_host::HostMem;
@@ -24,13 +25,11 @@ use acc_present::Present;
 use std::alloc::Global;
 use std::marker::Model;
 
-/// Host memory, the device and the present table, with the number of the next region.
+/// The parts of a data environment, which fit one another, with the limits and the number of the next region.
 #[derive(Drop)]
 pub(crate) struct Parts {
     config: Config,
-    present: Present,
-    device: Device,
-    host: HostMem,
+    environment: Environment,
     next: u64,
 }
 
@@ -39,9 +38,9 @@ impl Model for Parts {
 
     ghost Value = { Contents };
 
-    ghost view = { λ p. contents_of p.config p.present p.device p.host p.next };
+    ghost view = { λ p. contents_of p.config p.environment p.next };
 
-    ghost invariant = { λ p. ArePartsSound p.config p.present p.device p.host p.next };
+    ghost invariant = { λ p. ArePartsSound p.config p.environment p.next };
 }
 
 impl Parts {
@@ -50,11 +49,14 @@ impl Parts {
         ensures ok { IfOk result (AreNew config.now) }
         ensures only { IfErr result (λ fault. fault ≡ Memory) }
     {
-        Ok(Parts {
-            config: *config,
+        let environment = Environment {
             present: Present::new(alloc, config.counter_max()),
             device: Device::new(alloc, config.device())?,
             host: HostMem::new(alloc, config.host())?,
+        };
+        Ok(Parts {
+            config: *config,
+            environment,
             next: 1,
         })
     }
@@ -65,22 +67,22 @@ impl Parts {
     pub(crate) fn find(&self, section: Section) -> Found
         ensures { result ≡ where_is section self.now.state.records.ranges }
     {
-        self.present.find(section)
+        self.environment.present.find(section)
     }
 
     /// Where a section lies once the mappings to these blocks have ended.
     pub(crate) fn find_apart(&self, section: Section, blocks: &[u64]) -> Found
         ensures { result ≡ where_is_apart section blocks.now self.now.state.records.ranges }
     {
-        self.present.find_apart(section, blocks)
+        self.environment.present.find_apart(section, blocks)
     }
 
     /// The range that is mapped to a block, if one is.
     pub(crate) fn range(&self, block: u64) -> Option<Range>
         ensures { result ≡ range_of block self.now.state.records.ranges }
     {
-        if self.device.has(block) {
-            Some(self.present.range_at(block))
+        if self.environment.device.has(block) {
+            Some(self.environment.present.range_at(block))
         } else {
             None
         }
@@ -90,7 +92,7 @@ impl Parts {
     pub(crate) fn next_range(&self, from: u64) -> Option<Range>
         ensures { result ≡ range_from from self.now.state.records.ranges }
     {
-        self.present.next_range(from)
+        self.environment.present.next_range(from)
     }
 
     /// The reference counters of the range that is mapped to a block; both are 0 where none is.
@@ -143,15 +145,15 @@ impl Parts {
     pub(crate) fn next_block(&self) -> u64
         ensures { result ≡ self.now.state.records.births + 1 }
     {
-        self.device.next_block()
+        self.environment.device.next_block()
     }
 
     /// The device address of a block's first byte; 0 where there is no such block.
     pub(crate) fn place(&self, block: u64) -> u64
         ensures { result ≡ place_of block self.now.state.records.blocks }
     {
-        if self.device.has(block) {
-            self.device.place(block).0
+        if self.environment.device.has(block) {
+            self.environment.device.place(block).0
         } else {
             0
         }
@@ -164,14 +166,14 @@ impl Parts {
         requires listed { All (IsTakeBelow (device_base + self.now.limits.device)) listed.now }
         ensures { result ≡ place_for self.now.limits.device (self.now.state.records.blocks ++ planned_blocks (self.now.state.records.births + 1) listed.now) (rounded len) }
     {
-        self.device.would_take(listed, len)
+        self.environment.device.would_take(listed, len)
     }
 
     /// The bytes of device memory that all blocks take, each rounded up to a multiple of 16.
     pub(crate) fn used(&self) -> u64
         ensures { result ≡ used_bytes self.now.state.records.blocks }
     {
-        self.device.used()
+        self.environment.device.used()
     }
 
     // ---- regions
@@ -180,21 +182,21 @@ impl Parts {
     pub(crate) fn holdings(&self, number: u64) -> Option<&[Holding]>
         ensures { MatchOption result (holdings_at number self.now.state.register.regions ≡ None) (λ holdings. holdings_at number self.now.state.register.regions ≡ Some holdings.now) }
     {
-        self.present.holdings(number)
+        self.environment.present.holdings(number)
     }
 
     /// How many data regions are open.
     pub(crate) fn regions(&self) -> u64
         ensures { result ≡ length self.now.state.register.regions }
     {
-        self.present.regions()
+        self.environment.present.regions()
     }
 
     /// The number of the open region that was entered last, if one is open.
     pub(crate) fn newest_region(&self) -> Option<u64>
         ensures { result ≡ newest_region self.now.state.register.regions }
     {
-        self.present.newest_region()
+        self.environment.present.newest_region()
     }
 
     /// The number that the next region gets.
@@ -212,7 +214,7 @@ impl Parts {
         ensures part { IfSome result (λ bytes. bytes.now ≡ bytes_in self.now.state.host section) }
         ensures none { IfNone result (IsOutOfHost self.now.state.host section) }
     {
-        self.host.read(section)
+        self.environment.host.read(section)
     }
 
     /// The bytes of a block. `None` exactly where there is no such block.
@@ -220,8 +222,8 @@ impl Parts {
         ensures there { IsSome result ↔ IsSome (block_at block self.now.state.records.blocks) }
         ensures bytes { IfSome result (λ bytes. bytes.now ≡ bytes_of block self.now.state.memories) }
     {
-        if self.device.has(block) {
-            self.device.bytes(block)
+        if self.environment.device.has(block) {
+            self.environment.device.bytes(block)
         } else {
             None
         }
@@ -242,7 +244,7 @@ impl Parts {
         ensures holes { IsDevice self.now.limits.device self.now.state.records.blocks }
     {
         self.config.laws();
-        self.device.laws();
+        self.environment.device.laws();
     }
 
     // ---- changes
@@ -258,13 +260,7 @@ impl Parts {
         ensures room { IsRoomLeft (birth_of task step) self.old.room self.new.room }
     {
         self.config.laws();
-        act_on(
-            &mut self.present,
-            &mut self.device,
-            &mut self.host,
-            task,
-            step,
-        );
+        act_on(&mut self.environment, task, step);
     }
 
     /// Makes room for births of blocks of these lengths, in this order, and for one region with so many holdings.
@@ -282,8 +278,10 @@ impl Parts {
         ensures room_region { OnOk result (HasRegionRoom holdings self.new.room) }
         ensures only { IfErr result (λ fault. fault ≡ Memory) }
     {
-        self.device.reserve(lens)?;
-        self.present.reserve(lens.len() as u64, holdings)?;
+        self.environment.device.reserve(lens)?;
+        self.environment
+            .present
+            .reserve(lens.len() as u64, holdings)?;
         Ok(())
     }
 
@@ -295,7 +293,7 @@ impl Parts {
         ensures limits { self.new.limits ≡ self.old.limits }
         ensures state { self.new.state ≡ record self.old.state { register = opened holdings.now self.old.state.register } }
     {
-        self.present.enter_reserved(self.next, holdings);
+        self.environment.present.enter_reserved(self.next, holdings);
         self.next += 1;
     }
 
@@ -305,7 +303,7 @@ impl Parts {
         ensures limits { self.new.limits ≡ self.old.limits }
         ensures state { self.new.state ≡ record self.old.state { register = closed number self.old.state.register } }
     {
-        self.present.leave(number);
+        self.environment.present.leave(number);
     }
 
     /// Writes bytes into host memory. An empty write may stand anywhere; else each address that is written is in host
@@ -315,7 +313,7 @@ impl Parts {
         ensures limits { self.new.limits ≡ self.old.limits }
         ensures state { self.new.state ≡ record self.old.state { host = host_after_write addr (length bytes.now) bytes.now self.old.state.host } }
     {
-        let Ok(()) = self.host.write(addr, bytes) else {
+        let Ok(()) = self.environment.host.write(addr, bytes) else {
             unreachable!()
         };
     }

@@ -2,16 +2,16 @@ use Rattle.acc_clauses.proofs.Steps.{new_absent, new_there, new_below, born_acts
 use Rattle.acc_clauses.proofs.acting.bear.Goals as goal
 
 pub add_reserved-requires-clause-new : goal.add_reserved-requires-clause-new
-add_reserved-requires-clause-new c = new_absent c.args.block c.args.present.now.table.ranges c.requires.can.no_range
+add_reserved-requires-clause-new c = new_absent c.args.block c.args.environment.now.present.table.ranges c.requires.can.no_range
 
 pub raise-requires-clause-there : goal.raise-requires-clause-there
-raise-requires-clause-there c = new_there c.args.item.section c.args.block c.args.present.now.table c.add_reserved.new.self.table c.add_reserved.ensures.table
+raise-requires-clause-there c = new_there c.args.item.section c.args.block c.args.environment.now.present.table c.add_reserved.new.self.table c.add_reserved.ensures.table
 
 pub raise-requires-clause-below : goal.raise-requires-clause-below
-raise-requires-clause-below c = new_below c.args.counter c.args.item.section c.args.block c.args.present.now.table c.add_reserved.new.self.table c.requires.can.no_range c.requires.can.counted c.add_reserved.ensures.table
+raise-requires-clause-below c = new_below c.args.counter c.args.item.section c.args.block c.args.environment.now.present.table c.add_reserved.new.self.table c.requires.can.no_range c.requires.can.counted c.add_reserved.ensures.table
 
 pub returns : goal.returns
 returns c = record {
-  acted = born_acts c.args.counter c.args.item c.args.block c.args.place c.args.present.now c.add_reserved.new.self c.raise.new.present c.args.device.now c.make_block.new.device c.args.host.now
+  acted = born_acts c.args.counter c.args.item c.args.block c.args.place c.args.environment.now c.add_reserved.new.self c.raise.new.present c.make_block.new.device
       c.requires.can c.make_block.ensures c.add_reserved.ensures.table c.add_reserved.ensures.room_ranges c.add_reserved.ensures.room_regions c.add_reserved.ensures.room_holdings c.raise.ensures.table c.raise.ensures.room;
 }

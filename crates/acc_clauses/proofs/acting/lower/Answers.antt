@@ -5,10 +5,12 @@ use Rattle.acc_clauses.proofs.Steps.{dropped_acts}
 use Rattle.acc_clauses.proofs.acting.lower.Goals as goal
 
 pub returns-then-ended : goal.returns-then-ended
-returns-then-ended c = record { acted = subst (λ (b : Bool). IsActedBy c.args.task (Dropped c.args.block b) c.args.present.now c.args.device.now c.args.host.now c.end.new.present c.end.new.device c.end.new.host) (sym c.if-ended.true) c.end.ensures.acted }
+returns-then-ended c = record { acted = subst (λ (b : Bool). IsActedBy c.args.task (Dropped c.args.block b) c.args.environment.now c.end.new.environment) (sym c.if-ended.true) c.end.ensures.acted }
 
 pub returns-else-ended : goal.returns-else-ended
-returns-else-ended c = record {
-  acted = subst (λ (b : Bool). IsActedBy c.args.task (Dropped c.args.block b) c.args.present.now c.args.device.now c.args.host.now c.recount.new.present c.args.device.now c.args.host.now) (sym c.if-ended.false)
-      (dropped_acts c.args.task c.args.block c.args.present.now c.recount.new.present c.args.device.now c.args.host.now c.recount.ensures.table c.recount.ensures.room);
-}
+returns-else-ended c =
+    let x = c.args.environment.now in
+    record {
+      acted = subst (λ (b : Bool). IsActedBy c.args.task (Dropped c.args.block b) x (record x { present = c.recount.new.present })) (sym c.if-ended.false)
+          (dropped_acts c.args.task c.args.block x c.recount.new.present c.recount.ensures.table c.recount.ensures.room);
+    }

@@ -8,7 +8,7 @@ use Rattle.acc_clauses.proofs.parts.Parts.act.Goals as goal
 pub act_on-requires-clause-can : goal.act_on-requires-clause-can
 act_on-requires-clause-can c =
     let p = c.self.inside in
-    can_act p.config p.present p.device p.host p.next c.args.task c.args.step c.laws.ensures c.self.invariant
+    can_act p.config p.environment p.next c.args.task c.args.step c.laws.ensures c.self.invariant
     (subst (λ (k : Contents). k.state.records.births < 2 ^ 48) (sym c.self.view_is) c.requires.births)
     (subst (λ (k : Contents). IsKnown k.state.records c.args.task) (sym c.self.view_is) c.requires.known)
     (subst (λ (k : Contents). IsJudged k.limits c.args.task c.args.step k.state.records) (sym c.self.view_is) c.requires.judged)
@@ -19,12 +19,12 @@ act_on-requires-clause-room c = subst (λ (k : Contents). HasRoomFor (birth_of c
 pub invariant_of-self : goal.invariant_of-self
 invariant_of-self c =
     let p = c.self.inside in
-    parts_sound p.config p.present c.act_on.new.present p.device c.act_on.new.device p.host c.act_on.new.host p.next c.args.task c.args.step c.laws.ensures c.self.invariant
+    parts_sound p.config p.environment c.act_on.new.environment p.next c.args.task c.args.step c.laws.ensures c.self.invariant
     (subst (λ (k : Contents). IsJudged k.limits c.args.task c.args.step k.state.records) (sym c.self.view_is) c.requires.judged) c.act_on.ensures.acted
 
 pub returns : goal.returns
 returns c = record {
   limits = ap (λ (k : Contents). k.limits) c.self.view_is;
   state = c.act_on.ensures.acted.state c.self.inside.next ∙ ap (λ (k : Contents). act_state c.args.task c.args.step k.state) c.self.view_is;
-  room = subst (λ (k : Contents). IsRoomLeft (birth_of c.args.task c.args.step) k.room (room_of c.act_on.new.present c.act_on.new.device)) c.self.view_is c.act_on.ensures.acted.room;
+  room = subst (λ (k : Contents). IsRoomLeft (birth_of c.args.task c.args.step) k.room (room_of c.act_on.new.environment)) c.self.view_is c.act_on.ensures.acted.room;
 }

@@ -14,6 +14,7 @@ pub mod Memories
 pub mod KeptMemories
 pub mod AllTasks
 pub mod Registers
+pub mod Attached
 pub mod Told
 pub mod Accounted
 pub mod Runs

@@ -28,6 +28,11 @@ IsBefore a b = (a.block < b.block) ⊎ ((a.block ≡ b.block) × (a.pointer < b.
 abbrev pub is_before : Attachment → Attachment → Bool
 is_before a b = nat_lt a.block b.block || (a.block == b.block && nat_lt a.pointer b.pointer)
 
+-- the counter is above zero, and at most so high
+pub record IsCountWithin (counter_max : ℕ) (a : Attachment) : Type 0 where
+  pub some : 0 < a.count
+  pub limit : a.count ≤ counter_max
+
 -- how often a pointer in a block is attached
 abbrev pub count_at : ℕ → ℕ → List Attachment → ℕ
 count_at block pointer attached = unwrap_or (option_map (λ a. a.count) (find (is_of block pointer) attached)) 0
@@ -76,6 +81,14 @@ attached_by (aims.New pointer block target) attached = with_count block pointer 
 attached_by (aims.Again pointer block) attached = with_count block pointer (count_at block pointer attached + 1) attached
 attached_by (aims.Less pointer block) attached = with_count block pointer (count_at block pointer attached - 1) attached
 attached_by (aims.Cleared pointer block) attached = with_count block pointer 0 attached
+
+-- what it makes of the count of one pointer in a block
+abbrev pub count_after : ℕ → ℕ → Aim → ℕ → ℕ
+count_after block pointer aims.None count = count
+count_after block pointer (aims.New p b target) count = if b == block && p == pointer then 1 else count
+count_after block pointer (aims.Again p b) count = if b == block && p == pointer then count + 1 else count
+count_after block pointer (aims.Less p b) count = if b == block && p == pointer then count - 1 else count
+count_after block pointer (aims.Cleared p b) count = if b == block && p == pointer then 0 else count
 
 -- ---- the bytes that no transfer touches
 

@@ -3,6 +3,7 @@ pub mod Elements
 pub mod Lookups
 pub mod Where
 pub mod Pointers
+pub mod Attached
 pub mod Places
 pub mod Counting
 pub mod Judged
@@ -14,7 +15,6 @@ pub mod Memories
 pub mod KeptMemories
 pub mod AllTasks
 pub mod Registers
-pub mod Attached
 pub mod Told
 pub mod Accounted
 pub mod Runs

@@ -20,15 +20,16 @@ use Rattle.acc_base.specs.Section.{is_empty, is_apart, end_of, device_base}
 use Rattle.acc_base.specs.Records.{Records, new_records}
 use Rattle.acc_base.specs.Ranges.{range_of, counter_in, counter_of, with_range, without_range, changed_at, bare_range, risen, is_unused, ends_by}
 use Rattle.acc_base.specs.Blocks.{rounded, fits_at, is_clear_of, block_end, block_at, without_block}
-use Rattle.acc_base.specs.Attachments.{IsBefore, without_attachments}
+use Rattle.acc_base.specs.Attachments.{without_attachments}
 use Rattle.acc_base.specs.Tasks.{recounted, judge_task, records_after_birth, records_after_end, with_range_changed, act}
-use Rattle.acc_base.specs.Accounts.{EachPair, IsInHost, IsBelow, AreRangesApart, IsOnDevice, IsClearOf, AreBlocksApart, IsMapped, HasOneBlockEach, IsCounted, IsAttached, AreAttached, AreRecordsSound}
+use Rattle.acc_base.specs.Accounts.{EachPair, IsInHost, IsBelow, AreRangesApart, IsOnDevice, IsClearOf, AreBlocksApart, IsMapped, HasOneBlockEach, IsCounted, AreAttachmentsSound, AreRecordsSound}
 use Rattle.acc_base.proofs.Results.{and_true, equal}
 use Rattle.acc_base.proofs.Elements.{AllByRecursion-weaker, AllByRecursion-both, AllByRecursion-filter, AllByRecursion-passed, AllByRecursion-map, AllByRecursion-append, EachPair-filter, EachPair-push, EachPair-map, list_all-from, found_has}
 use Rattle.acc_base.proofs.Lookups.{change_at, number-change, at-changed, at-without_other, at-push_there, at-push_new, at-own, at-none}
 use Rattle.acc_base.proofs.Counting.{with_there, with_new}
 use Rattle.acc_base.proofs.Where.{absent_says}
 use Rattle.acc_base.proofs.Places.{place_for-found, IsFoundPlace, place_for-even}
+use Rattle.acc_base.proofs.Attached.{rising-without, within-without}
 use Rattle.acc_base.proofs.Judged.{IsBirth, IsCount, IsJudgedTo, task_says}
 
 -- ---- a change of the counters of one range
@@ -143,12 +144,12 @@ differs : (a k : ℕ) → not (a == k) ≡ true → (a == k) ≡ false
 differs a k e = grind (arith, nat_tests)
 
 -- the attachment counters of the other blocks stay
-ended_attached : (l : Limits) (k : ℕ) (bs : List Block) (xs : List Attachment) → AreAttached l bs xs → AreAttached l (without_block k bs) (without_attachments k xs)
+ended_attached : (l : Limits) (k : ℕ) (bs : List Block) (xs : List Attachment) → AreAttachmentsSound l bs xs → AreAttachmentsSound l (without_block k bs) (without_attachments k xs)
 unfolding number_of_block
 ended_attached l k bs xs h = record {
-  rising = EachPair-filter IsBefore (λ a. not (a.block == k)) xs h.rising;
-  each = AllByRecursion-passed (IsAttached l bs) (IsAttached l (without_block k bs)) (λ a. not (a.block == k)) xs
-      (λ a e p. record { some = p.some; most = p.most; there = rw (at-without_other number_of_block k a.block bs (differs _ _ e)) p.there }) h.each;
+  rising = rising-without k xs h.rising;
+  counted = within-without l.counter_max k xs h.counted;
+  there = AllByRecursion-passed (λ a. IsSome (block_at a.block bs)) (λ a. IsSome (block_at a.block (without_block k bs))) (λ a. not (a.block == k)) xs (λ a e p. rw (at-without_other number_of_block k a.block bs (differs _ _ e)) p) h.there;
 }
 
 ended_sound : (l : Limits) (k : ℕ) (w : Records) → AreRecordsSound l w → AreRecordsSound l (records_after_end k w)
@@ -270,10 +271,11 @@ there_still j bs b = go (block_at j bs) refl
     go (Some c) e some = rw (at-push_there number_of_block j bs b c e) refl
 
 -- and so do the attachment counters
-birth_attached : (l : Limits) (bs : List Block) (xs : List Attachment) (b : Block) → AreAttached l bs xs → AreAttached l (bs ++ b ∷ []) xs
+birth_attached : (l : Limits) (bs : List Block) (xs : List Attachment) (b : Block) → AreAttachmentsSound l bs xs → AreAttachmentsSound l (bs ++ b ∷ []) xs
 birth_attached l bs xs b h = record {
   rising = h.rising;
-  each = AllByRecursion-weaker (IsAttached l bs) (IsAttached l (bs ++ b ∷ [])) xs (λ a p. record { some = p.some; most = p.most; there = there_still a.block bs b p.there }) h.each;
+  counted = h.counted;
+  there = AllByRecursion-weaker (λ a. IsSome (block_at a.block bs)) (λ a. IsSome (block_at a.block (bs ++ b ∷ []))) xs (λ a p. there_still a.block bs b p) h.there;
 }
 
 birth_sound : (l : Limits) (new : Range) (p : ℕ) (w : Records) → IsCounted l new → IsBirth l new.section new.block p w → AreRecordsSound l w → AreRecordsSound l (records_after_birth new p w)
@@ -331,5 +333,5 @@ new_sound l = record {
   blocks_apart = record { on_device = tt; apart = tt; born = tt };
   one_block_each = record { mapped = tt; distinct = tt; in_use = tt };
   counted = tt;
-  attached = record { rising = tt; each = tt };
+  attached = record { rising = tt; counted = tt; there = tt };
 }

@@ -9,7 +9,7 @@ use Rattle.acc_base.specs.Limits.{Limits}
 use Rattle.acc_base.specs.Section.{end_of, is_within, host_memory, device_base}
 use Rattle.acc_base.specs.Ranges.{range_of, structured_of}
 use Rattle.acc_base.specs.Blocks.{block_at, block_end, used_bytes}
-use Rattle.acc_base.specs.Attachments.{IsBefore}
+use Rattle.acc_base.specs.Attachments.{IsBefore, IsCountWithin}
 use Rattle.acc_base.specs.Register.{Region, Register, held_in}
 use Rattle.acc_base.specs.Records.{Records, Memory, Layout, State, new_layout, layout_of}
 use Rattle.acc_base.specs.Walk.{walk_all}
@@ -71,16 +71,11 @@ pub record HasOneBlockEach (w : Records) : Type 0 where
 
 -- ---- attachment counters
 
--- the counter is above zero and at most the limit, and its block is there
-pub record IsAttached (l : Limits) (blocks : List Block) (a : Attachment) : Type 0 where
-  pub some : 0 < a.count
-  pub most : a.count ≤ l.counter_max
-  pub there : IsSome (block_at a.block blocks)
-
--- attachment counters stand by rising block and then by rising pointer
-pub record AreAttached (l : Limits) (blocks : List Block) (attached : List Attachment) : Type 0 where
+-- attachment counters stand by rising block and then by rising pointer, each from one to the limit, and their blocks are there
+pub record AreAttachmentsSound (l : Limits) (blocks : List Block) (attached : List Attachment) : Type 0 where
   pub rising : EachPair IsBefore attached
-  pub each : AllByRecursion (IsAttached l blocks) attached
+  pub counted : AllByRecursion (IsCountWithin l.counter_max) attached
+  pub there : AllByRecursion (λ a. IsSome (block_at a.block blocks)) attached
 
 -- ---- counters and the register
 
@@ -121,7 +116,7 @@ pub record AreRecordsSound (l : Limits) (w : Records) : Type 0 where
   pub blocks_apart : AreBlocksApart l.device w.blocks w.births
   pub one_block_each : HasOneBlockEach w
   pub counted : AllByRecursion (IsCounted l) w.ranges
-  pub attached : AreAttached l w.blocks w.attached
+  pub attached : AreAttachmentsSound l w.blocks w.attached
 
 -- records and register together, which a directive keeps as a whole
 pub record IsLayoutSound (l : Limits) (lay : Layout) : Type 0 where

@@ -18,7 +18,7 @@ use Rattle.acc_base.specs.Records.{Records, Memory, State}
 use Rattle.acc_base.specs.Ranges.{where_is, range_of}
 use Rattle.acc_base.specs.Blocks.{block_at}
 use Rattle.acc_base.specs.Bytes.{act_state}
-use Rattle.acc_base.specs.Accounts.{IsInHost, IsMapped, IsCounted, IsAttached, HasOneBlockEach, IsMemoryOf, AreRecordsSound, AreMemoriesSized}
+use Rattle.acc_base.specs.Accounts.{IsInHost, IsMapped, IsCounted, HasOneBlockEach, IsMemoryOf, AreRecordsSound, AreMemoriesSized}
 use Rattle.acc_base.proofs.Results.{equal}
 use Rattle.acc_base.proofs.Elements.{AllByRecursion-weaker, AllByRecursion-both, found_has}
 use Rattle.acc_base.proofs.Lookups.{at-own}
@@ -102,11 +102,11 @@ no_memory k births (m ∷ ms) (b ∷ bs) h low e = (
 
 -- nor has it an attachment counter
 no_pointer : (l : Limits) (k : ℕ) (w : Records) → AreRecordsSound l w → k ≡ w.births + 1 → AllByRecursion (λ a. a.block ≡ k → ⊥) w.attached
-no_pointer l k w h e = AllByRecursion-weaker (IsAttached l w.blocks) (λ a. a.block ≡ k → ⊥) w.attached (λ a p same.
-    let b : (b : Block) × (block_at a.block w.blocks ≡ Some b) = some_of (block_at a.block w.blocks) p.there in
+no_pointer l k w h e = AllByRecursion-weaker (λ a. IsSome (block_at a.block w.blocks)) (λ a. a.block ≡ k → ⊥) w.attached (λ a there same.
+    let b : (b : Block) × (block_at a.block w.blocks ≡ Some b) = some_of (block_at a.block w.blocks) there in
     let has : (b.0.number ≤ w.births) × ((b.0.number == a.block) ≡ true) = found_has (λ b. b.number ≤ w.births) (λ b. b.number == a.block) w.blocks b.0 h.blocks_apart.born b.1 in
     let own : b.0.number ≡ a.block = equal b.0.number a.block has.1 in
-    omega (arith, e, own, same, has.0)) h.attached.each
+    omega (arith, e, own, same, has.0)) h.attached.there
 
 -- a look-up that does not find nothing finds something
 not_none : {X : Type 0} (o : Option X) → (o ≡ None → ⊥) → IsSome o
@@ -186,6 +186,6 @@ parts_sound l x y next task step bounds sound judged acted =
     let there : AreRecordsSound l (state_of y next).records × AreMemoriesSized l (state_of y next) =
     subst (λ (s : State). AreRecordsSound l s.records × AreMemoriesSized l s) (sym (acted.state next)) after in
     record {
-      sized = record { counters = acted.counter_max ∙ sound.sized.counters; device = acted.size ∙ sound.sized.device };
+      sized = record { counters = acted.counter_max ∙ sound.sized.counters; device = acted.size ∙ sound.sized.device; pointers = acted.pointer_max ∙ sound.sized.pointers };
       sound = record { records = there.0; memories = there.1 };
     }

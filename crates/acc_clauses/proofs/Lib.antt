@@ -5,6 +5,7 @@ pub mod Drafted
 pub mod Turns
 pub mod Asking
 pub mod Events
+pub mod Runs
 mod Copying
 mod Moving
 mod Steps

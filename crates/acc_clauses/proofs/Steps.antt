@@ -19,6 +19,7 @@ use Rattle.acc_base.specs.declared.events.Step.TheVariants.{Nothing, Counted, Bo
 use Rattle.acc_base.specs.Section.{covers, is_within, host_memory}
 use Rattle.acc_base.specs.Records.{Memory, State}
 use Rattle.acc_base.specs.Ranges.{range_of, start_of, changed_at, with_range, without_range, bare_range, risen, counter_in, counter_of, is_unused, ends_by}
+use Rattle.acc_base.specs.Attachments.{without_attachments}
 use Rattle.acc_base.specs.Clauses.{copies_in, copies_out, is_copyout, is_zeroed}
 use Rattle.acc_base.specs.Tasks.{section_of, recounted, act, records_after_birth, records_after_end, with_range_changed}
 use Rattle.acc_base.specs.Bytes.{bytes_of, fill_byte, gives_bytes, goes_out, host_byte, is_moved, bytes_moved_in, bytes_moved_out, memory_changed, memories_kept, without_memory, memories_begun, memories_made, host_made, first_address, transfer_at, transfer_of, act_state}
@@ -34,6 +35,7 @@ use Rattle.acc_host.specs.Host.{bytes_in}
 use Rattle.acc_present.specs.Present.{PresentTable, PresentState, with_ranges}
 use Rattle.acc_present.specs.Present as present
 use Rattle.acc_dev.specs.Device.{DeviceState, IsRetired}
+use Rattle.acc_attach.specs.Attached.{AttachedState}
 use Rattle.acc_clauses.specs.declared.environments.Environment.{Environment}
 use Rattle.acc_clauses.specs.Contents.{state_of, room_of}
 use Rattle.acc_clauses.specs.Acts.{CanMove, CanBear, IsMade, bytes_made, IsRoomLeft, IsActedBy}
@@ -191,7 +193,7 @@ updated_in_host task k x out = rw out refl
 -- ---- the state of the parts
 
 -- the parts come to a state that has the same fields
-state_by : (x : Environment) (next : ℕ) (s : State) → x.present.table.ranges ≡ s.records.ranges → x.device.blocks ≡ s.records.blocks → [] ≡ s.records.attached → x.device.births ≡ s.records.births
+state_by : (x : Environment) (next : ℕ) (s : State) → x.present.table.ranges ≡ s.records.ranges → x.device.blocks ≡ s.records.blocks → x.attached.attached ≡ s.records.attached → x.device.births ≡ s.records.births
     → x.present.table.regions ≡ s.register.regions → next ≡ s.register.next → x.host ≡ s.host → x.device.memories ≡ s.memories → state_of x next ≡ s
 state_by x next s a b p c e f g h = rw (a, b, p, c, e, f, g, h) refl
 
@@ -209,6 +211,7 @@ nothing_acts task x = record {
   state = λ next. refl;
   counter_max = refl;
   size = refl;
+  pointer_max = refl;
   room = record { births_are = refl; ranges = omega arith; regions = omega arith; holdings = omega arith };
 }
 
@@ -219,6 +222,7 @@ counted_acts task k x q e room = record {
   state = λ next. state_by (record x { present = q }) next (act_state task (Counted k) (state_of x next)) (ap (λ t. t.ranges) e) refl refl refl (ap (λ t. t.regions) e) refl refl refl;
   counter_max = ap (λ t. t.counter_max) e;
   size = refl;
+  pointer_max = refl;
   room = room_same x (record x { present = q }) room refl;
 }
 
@@ -229,6 +233,7 @@ dropped_acts task k x q e room = record {
   state = λ next. state_by (record x { present = q }) next (act_state task (Dropped k false) (state_of x next)) (ap (λ t. t.ranges) e) refl refl refl (ap (λ t. t.regions) e) refl refl refl;
   counter_max = ap (λ t. t.counter_max) e;
   size = refl;
+  pointer_max = refl;
   room = room_same x (record x { present = q }) room refl;
 }
 
@@ -240,6 +245,7 @@ moved_acts task k x y is = record {
   state = λ next. rw is refl;
   counter_max = rw is refl;
   size = rw is refl;
+  pointer_max = rw is refl;
   room = rw is (record { births_are = refl; ranges = omega arith; regions = omega arith; holdings = omega arith });
 }
 
@@ -247,12 +253,13 @@ moved_acts task k x y is = record {
 kept_twice : (a b c : present.Room) → present.IsRoomKept a b → present.IsRoomKept b c → present.IsRoomKept a c
 kept_twice a b c h k = record { ranges = omega (arith, h.ranges, k.ranges); regions = omega (arith, h.regions, k.regions); holdings = omega (arith, h.holdings, k.holdings) }
 
-pub ended_acts : (task : Task) (k : ℕ) (x given : Environment) (q r : PresentState) (e : DeviceState) → AllZip IsMemoryOf x.device.memories x.device.blocks
+pub ended_acts : (task : Task) (k : ℕ) (x given : Environment) (q r : PresentState) (e : DeviceState) (b : AttachedState) → AllZip IsMemoryOf x.device.memories x.device.blocks
     → (let s : State = state_of x 0 in given ≡ record x { host = host_made (transfer_of task (Dropped k true) s.records.ranges) s.records.attached s.memories s.host })
     → q.table ≡ with_ranges given.present.table (changed_at k (recounted task) given.present.table.ranges) → present.IsRoomKept given.present.room q.room → r.table ≡ with_ranges q.table (without_range k q.table.ranges) → present.IsRoomKept q.room r.room
-    → IsRetired given.device e k → IsActedBy task (Dropped k true) x (record given { present = r; device = e })
+    → IsRetired given.device e k → b.attached ≡ without_attachments k given.attached.attached → b.counter_max ≡ given.attached.counter_max
+    → IsActedBy task (Dropped k true) x (record given { present = r; device = e; attached = b })
 unfolding act_state act records_after_end
-ended_acts task k x given q r e sized h count room1 removed room2 end =
+ended_acts task k x given q r e b sized h count room1 removed room2 end forgot forgot_max =
     let s : State = state_of x 0 in
     let counted : q.table ≡ with_ranges x.present.table (changed_at k (recounted task) x.present.table.ranges) = rw h at count in
     let gone : IsRetired x.device e k = rw h at end in
@@ -261,10 +268,11 @@ ended_acts task k x given q r e sized h count room1 removed room2 end =
     let memories : e.memories ≡ without_memory k (memories_made (transfer_of task (Dropped k true) s.records.ranges) s.records.attached s.host s.memories) =
     gone.memories ∙ (ap (λ bs. memories_kept bs x.device.memories) gone.blocks ∙ (memories_kept-without k x.device.memories x.device.blocks sized ∙ ap (without_memory k) (ended_memories task k s.records.ranges s.records.attached s.host s.memories))) in
     record {
-      state = λ next. state_by (record given { present = r; device = e }) next (act_state task (Dropped k true) (state_of x next)) ranges gone.blocks refl gone.births (ap (λ t. t.regions) removed ∙ ap (λ t. t.regions) counted) refl (ap (λ (g : Environment). g.host) h) memories;
+      state = λ next. state_by (record given { present = r; device = e; attached = b }) next (act_state task (Dropped k true) (state_of x next)) ranges gone.blocks (forgot ∙ ap (λ (g : Environment). without_attachments k g.attached.attached) h) gone.births (ap (λ t. t.regions) removed ∙ ap (λ t. t.regions) counted) refl (ap (λ (g : Environment). g.host) h) memories;
       counter_max = ap (λ t. t.counter_max) removed ∙ ap (λ t. t.counter_max) counted;
       size = gone.size;
-      room = room_same x (record given { present = r; device = e }) (kept_twice x.present.room q.room r.room first_room room2) gone.room;
+      pointer_max = forgot_max ∙ ap (λ (g : Environment). g.attached.counter_max) h;
+      room = room_same x (record given { present = r; device = e; attached = b }) (kept_twice x.present.room q.room r.room first_room room2) gone.room;
     }
 
 -- a new range with one count
@@ -300,6 +308,7 @@ born_acts counter item k place x q r e can made put ranges regions holdings rais
           (ap (λ t. t.regions) raised ∙ ap (λ t. t.regions) put) refl (born_host counter item k place s.records.ranges s.records.attached x.host x.device.memories) memories;
       counter_max = ap (λ t. t.counter_max) raised ∙ ap (λ t. t.counter_max) put;
       size = made.size;
+      pointer_max = refl;
       room = record { births_are = made.room; ranges = omega (arith, ranges, room.ranges); regions = omega (arith, regions, room.regions); holdings = omega (arith, holdings, room.holdings) };
     }
 

@@ -151,6 +151,7 @@ pub record IsActedBy (task : Task) (step : Step) (old new : Environment) : Type 
   pub state : (next : ℕ) → state_of new next ≡ act_state task step (state_of old next)
   pub counter_max : new.present.table.counter_max ≡ old.present.table.counter_max
   pub size : new.device.size ≡ old.device.size
+  pub pointer_max : new.attached.counter_max ≡ old.attached.counter_max
   pub room : IsRoomLeft (birth_of task step) (room_of old) (room_of new)
 
 -- ---- a new block

@@ -23,7 +23,7 @@ pub record Contents : Type 0 where
 -- the state that the parts come to, with the number of the next region
 abbrev pub state_of : Environment → ℕ → State
 state_of x next = record {
-  records = record { ranges = x.present.table.ranges; blocks = x.device.blocks; attached = []; births = x.device.births };
+  records = record { ranges = x.present.table.ranges; blocks = x.device.blocks; attached = x.attached.attached; births = x.device.births };
   register = record { regions = x.present.table.regions; next = next };
   host = x.host;
   memories = x.device.memories;
@@ -40,6 +40,7 @@ contents_of l x next = record { limits = l; state = state_of x next; room = room
 pub record AreSizedBy (l : Limits) (x : Environment) : Type 0 where
   pub counters : x.present.table.counter_max ≡ l.counter_max
   pub device : x.device.size ≡ l.device
+  pub pointers : x.attached.counter_max ≡ l.counter_max
 
 -- what each step of a directive keeps: records that are sound, and memories in step with them
 pub record AreContentsSound (c : Contents) : Type 0 where

@@ -1,6 +1,6 @@
 //! Copies between host memory and a block: one slice over another, with no buffer between.
 
-ghost use Rattle.std.specs.Prelude.{◌≡◌, length, map, true};
+ghost use Rattle.std.specs.Prelude.{◌≡◌, ◌-◌, ◌<◌, length, map, true};
 ghost use Rattle.acc_base.specs.Section.{covers, is_within, host_memory};
 ghost use Rattle.acc_base.specs.Ranges.{start_of};
 ghost use Rattle.acc_base.specs.Bytes.{bytes_of, is_moved, bytes_moved_in, bytes_moved_out, memory_changed};
@@ -8,8 +8,10 @@ ghost use Rattle.acc_dev.specs.Device.{HasBlock};
 ghost use Rattle.acc_present.specs.Present.{HasRange};
 ghost use Rattle.acc_clauses.specs.Contents.{state_of};
 ghost use Rattle.acc_clauses.specs.Acts.{CanMove};
+ghost use Rattle.acc_clauses.specs.Copies.{IsRunEnd};
 
 use crate::environments::Environment;
+use acc_attach::Attached;
 use acc_base::Section;
 use acc_dev::Device;
 use acc_host::HostMem;
@@ -53,19 +55,53 @@ fn start_of(present: &Present, block: u64) -> u64
     present.range_at(block).section.start
 }
 
+/// How many bytes a pointer has.
+const POINTER_LEN: u64 = 8;
+
+/// Where the run of bytes from the host address `at` on ends that no attached pointer of the block has: at the next such
+/// pointer, which may begin up to seven bytes below `at`, or at `end`.
+#[tactic(auto, using(crate::proofs::Runs::run_laws))]
+fn run_end(attached: &Attached, block: u64, at: u64, end: u64) -> u64
+    requires { at < end }
+    ensures { IsRunEnd block attached.now.attached at end result }
+{
+    attached.laws();
+    match attached.next_pointer(block, at.saturating_sub(POINTER_LEN - 1)) {
+        Some(pointer) if pointer < end => pointer,
+        _ => end,
+    }
+}
+
+/// The run from `at` to `stop`; it is empty where it stops before.
+fn run_from(at: u64, stop: u64) -> Section
+    ensures start { result.start ≡ at }
+    ensures len { result.len ≡ stop - at }
+{
+    Section {
+        start: at,
+        len: stop.saturating_sub(at),
+    }
+}
+
 /// Copies a section to host memory from the block that it is mapped to, but for the bytes of attached pointers.
 pub(crate) fn copy_out(environment: &mut Environment, section: Section, block: u64)
     requires can { CanMove section block (state_of environment.old 0) }
     ensures { let s = state_of environment.old 0 in environment.new ≡ record environment.old { host = bytes_moved_out (is_moved section block s.records.attached) (bytes_of block s.memories) (start_of block s.records.ranges) s.host } }
 {
     let start = start_of(&environment.present, block);
-    run_out(
-        &environment.device,
-        &mut environment.host,
-        section,
-        block,
-        start,
-    );
+    let end = section.start + section.len;
+    let mut at = section.start;
+    while at < end {
+        let stop = run_end(&environment.attached, block, at, end);
+        run_out(
+            &environment.device,
+            &mut environment.host,
+            run_from(at, stop),
+            block,
+            start,
+        );
+        at = stop + POINTER_LEN;
+    }
 }
 
 /// Copies a section of host memory to the block that it is mapped to, but for the bytes of attached pointers.
@@ -74,11 +110,17 @@ pub(crate) fn copy_in(environment: &mut Environment, section: Section, block: u6
     ensures { let s = state_of environment.old 0 in environment.new ≡ record environment.old { device = record environment.old.device { memories = map (memory_changed block (bytes_moved_in (is_moved section block s.records.attached) s.host (start_of block s.records.ranges))) s.memories } } }
 {
     let start = start_of(&environment.present, block);
-    run_in(
-        &mut environment.device,
-        &environment.host,
-        section,
-        block,
-        start,
-    );
+    let end = section.start + section.len;
+    let mut at = section.start;
+    while at < end {
+        let stop = run_end(&environment.attached, block, at, end);
+        run_in(
+            &mut environment.device,
+            &environment.host,
+            run_from(at, stop),
+            block,
+            start,
+        );
+        at = stop + POINTER_LEN;
+    }
 }

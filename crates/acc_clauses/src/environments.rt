@@ -1,10 +1,11 @@
 //! The parts of a data environment, side by side.
 
+use acc_attach::Attached;
 use acc_dev::Device;
 use acc_host::HostMem;
 use acc_present::Present;
 
-/// The present table, the device and host memory, side by side. How they fit one another is said by what holds them.
+/// The present table, the device, host memory and the attachment counters, side by side. How they fit one another is said by what holds them.
 #[derive(Drop)]
 pub(crate) struct Environment {
     /// The mapped ranges and the open regions.
@@ -13,4 +14,6 @@ pub(crate) struct Environment {
     pub(crate) device: Device,
     /// Host memory.
     pub(crate) host: HostMem,
+    /// The attachment counters of the pointers in the blocks.
+    pub(crate) attached: Attached,
 }

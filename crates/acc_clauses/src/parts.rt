@@ -19,6 +19,7 @@ ghost use Rattle.acc_clauses.specs.Acts.{IsJudged, IsKnown, HasRoomFor, HasRegio
 use crate::acting::act_on;
 use crate::environments::Environment;
 use acc_base::{Config, Counter, Counters, Fault, Found, Holding, Range, Section, Step, Task};
+use acc_attach::Attached;
 use acc_dev::Device;
 use acc_host::HostMem;
 use acc_present::Present;
@@ -53,6 +54,7 @@ impl Parts {
             present: Present::new(alloc, config.counter_max()),
             device: Device::new(alloc, config.device())?,
             host: HostMem::new(alloc, config.host())?,
+            attached: Attached::new(alloc, config.counter_max()),
         };
         Ok(Parts {
             config: *config,

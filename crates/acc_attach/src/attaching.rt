@@ -146,4 +146,91 @@ impl Attached {
             target,
         }
     }
+
+    /// Detaches a pointer of a block (OpenACC 3.3, section 2.7.2): its counter falls by one, or stays zero. `pointer` is
+    /// its host address. Whoever calls this writes the pointer's bytes on the device where the counter became zero.
+    pub fn detach(&mut self, block: u64, pointer: u64) -> Left
+        ensures left { result ≡ left_of false (count_at block pointer self.old.attached) }
+        ensures attached { self.new.attached ≡ attached_by (detach false block pointer self.old.attached) self.old.attached }
+        ensures counter_max { self.new.counter_max ≡ self.old.counter_max }
+        ensures spare { self.old.spare ≤ self.new.spare }
+    {
+        let count = count_of(&self.attached, block, pointer);
+        if count == 0 {
+            return Left::Nothing;
+        }
+        if count == 1 {
+            take_out(&mut self.attached, block, pointer);
+            return Left::Zero;
+        }
+        set(
+            &mut self.attached,
+            Attachment {
+                block,
+                pointer,
+                count: count - 1,
+            },
+        );
+        Left::Less
+    }
+
+    /// As [`Attached::detach`], but the counter is zero at once (OpenACC 3.3, the finalize clause).
+    pub fn detach_now(&mut self, block: u64, pointer: u64) -> Left
+        ensures left { result ≡ left_of true (count_at block pointer self.old.attached) }
+        ensures attached { self.new.attached ≡ attached_by (detach true block pointer self.old.attached) self.old.attached }
+        ensures counter_max { self.new.counter_max ≡ self.old.counter_max }
+        ensures spare { self.old.spare ≤ self.new.spare }
+    {
+        if count_of(&self.attached, block, pointer) == 0 {
+            return Left::Nothing;
+        }
+        take_out(&mut self.attached, block, pointer);
+        Left::Zero
+    }
+
+    /// No pointer of a block is attached any longer, as where the block is freed.
+    pub fn forget(&mut self, block: u64)
+        ensures attached { self.new.attached ≡ without_attachments block self.old.attached }
+        ensures counter_max { self.new.counter_max ≡ self.old.counter_max }
+        ensures spare { self.old.spare ≤ self.new.spare }
+    {
+        take_out_all(&mut self.attached, block);
+    }
+
+    // ---- transfers
+
+    /// A host address is that of one of the eight bytes of an attached pointer of a block, which no transfer touches
+    /// (OpenACC 3.3, section 2.6.8). A pointer may reach past the last `u64`.
+    pub fn is_skipped(&self, block: u64, address: u64) -> bool
+        ensures { result ≡ is_skipped block self.now.attached address }
+    {
+        skips(&self.attached, block, address)
+    }
+
+    /// The least host address, from one on, at which an attached pointer of a block begins, so that a transfer goes from
+    /// pointer to pointer.
+    pub fn next_pointer(&self, block: u64, from: u64) -> Option<u64>
+        ensures { result ≡ next_pointer block from self.now.attached }
+    {
+        next_of(&self.attached, block, from)
+    }
+
+    // ---- room
+
+    /// Makes room for so many more counters above zero, so that [`Attached::attach_reserved`] takes no memory.
+    ///
+    /// # Errors
+    ///
+    /// [`Fault::Memory`] alone. The room has not shrunk then.
+    pub fn reserve(&mut self, count: u64) -> Result<(), Fault>
+        ensures ok { OnOk result (count ≤ self.new.spare) }
+        ensures only { IfErr result (λ fault. fault ≡ Fault.Memory) }
+        ensures needed { OnErr result (self.old.spare < count) }
+        ensures attached { self.new.attached ≡ self.old.attached }
+        ensures counter_max { self.new.counter_max ≡ self.old.counter_max }
+        ensures spare { self.old.spare ≤ self.new.spare }
+    {
+        self.attached.reserve(count as usize)?;
+        Ok(())
+    }
 }

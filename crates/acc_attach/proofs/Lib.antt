@@ -1,0 +1,4 @@
+pub mod Splitting
+pub mod Placed
+pub mod Forgetting
+pub mod Keeping

@@ -1,0 +1,361 @@
+-- Counters by rising block and pointer: searches that begin at a place, and changes there.
+use Rattle.std.proofs.Common.{ℕ, zero, suc, ◌≡◌, ◌-◌, ◌+◌, ◌<◌, ◌≤◌, refl, sym, ap, ◌∙◌, Bool, true, false, cond, ◌&&◌, ◌||◌, List, [], ◌∷◌, length, get_or, set, take, drop, Option, Some, None, arith, rules, inl, inr}
+use Rattle.std.specs.Prelude.{◌⊎◌, ◌==◌, not, nat_le, nat_lt, find, option_map, unwrap_or, slice_get, is_some, IsSome}
+use Rattle.std.specs.List.{AllByRecursion, list_any, insert, remove}
+use Rattle.std.proofs.lemmas.Bool.Decides.{nat_tests}
+use Rattle.acc_base.specs.declared.attachments.Attachment.{Attachment}
+use Rattle.acc_base.specs.Section.{covers}
+use Rattle.acc_base.specs.Accounts.{EachPair}
+use Rattle.acc_base.specs.Attachments.{pointer_at, is_of, IsBefore, is_before, count_at, with_attachment, without_attachment, with_count, is_skipped, next_pointer}
+use Rattle.acc_base.proofs.Results.{equal}
+use Rattle.acc_base.proofs.Elements.{EachPair-weaker, AllByRecursion-weaker, find_none, find-none}
+use Rattle.acc_base.proofs.Attached.{same_block, same_pointer, before, behind, before-trans, before-other}
+use Rattle.acc_attach.specs.Kept.{IsSplitBy, is_below, is_from}
+
+-- a counter with this key
+abbrev pub probe : ℕ → ℕ → Attachment
+probe block pointer = record { block = block; pointer = pointer; count = 0 }
+
+-- what stands before passes the test of standing before
+pub test_before : (a b : Attachment) → IsBefore a b → is_before a b ≡ true
+test_before a b (inl h) = let t : nat_lt a.block b.block ≡ true = grind (arith, nat_tests) in rw t
+test_before a b (inr h) = let s : (a.block == b.block) ≡ true = grind (arith, nat_tests, h.0) in let t : nat_lt a.pointer b.pointer ≡ true = grind (arith, nat_tests, h.1) in go (nat_lt a.block b.block) s t
+  where
+    go : (u : Bool) → (a.block == b.block) ≡ true → nat_lt a.pointer b.pointer ≡ true → (u || (a.block == b.block && nat_lt a.pointer b.pointer)) ≡ true
+    go true s t = refl
+    go false s t = rw (s, t)
+
+-- standing before a pointer parts rising counters
+pub below_parts : (block pointer : ℕ) (xs : List Attachment) → EachPair IsBefore xs → EachPair (λ x y. is_below block pointer y ≡ true → is_below block pointer x ≡ true) xs
+below_parts block pointer xs h = EachPair-weaker IsBefore (λ x y. is_below block pointer y ≡ true → is_below block pointer x ≡ true) xs (λ x y first e. test_before x (probe block pointer) (before-trans x y (probe block pointer) first (before y (probe block pointer) e))) h
+
+-- the first that fails a test stands where those that pass it end
+pub find_split : (test : Attachment → Bool) (xs : List Attachment) (i : ℕ) → IsSplitBy test xs i → find (λ x. not (test x)) xs ≡ slice_get xs i
+find_split test xs i parts = go xs i parts.passed parts.failed
+  where
+    go : (ys : List Attachment) (j : ℕ) → AllByRecursion (λ y. test y ≡ true) (take j ys) → AllByRecursion (λ y. test y ≡ false) (drop j ys) → find (λ y. not (test y)) ys ≡ slice_get ys j
+    go [] zero p f = refl
+    go [] (suc j) p f = refl
+    go (y ∷ ys) zero p f = rw f.0
+    go (y ∷ ys) (suc j) p f = rw p.0 (go ys j p.1 f)
+
+-- ---- where a counter stands that comes at a pointer or behind
+
+-- it is of a later block, or of the pointer's block and begins at the pointer or above
+abbrev pub IsFrom : ℕ → ℕ → Attachment → Type 0
+IsFrom block pointer a = (block < a.block) ⊎ ((a.block ≡ block) × (pointer ≤ a.pointer))
+
+pub from : (block pointer : ℕ) (a : Attachment) → is_below block pointer a ≡ false → IsFrom block pointer a
+from block pointer a e = go (nat_lt a.block block) refl (a.block == block) refl (nat_lt a.pointer pointer) refl e
+  where
+    go : (s : Bool) → nat_lt a.block block ≡ s → (t : Bool) → (a.block == block) ≡ t → (u : Bool) → nat_lt a.pointer pointer ≡ u → (s || (t && u)) ≡ false → IsFrom block pointer a
+    go true f t g u h k = cc
+    go false f true g true h k = cc
+    go false f true g false h k = inr (equal _ _ g, grind (arith, nat_tests))
+    go false f false g u h k = inl (grind (arith, nat_tests))
+
+-- a counter behind one of a later block is of a later block
+later_block : (block : ℕ) (a b : Attachment) → block < a.block → IsBefore a b → (b.block == block) ≡ false
+later_block block a b less (inl h) = let more : block < b.block = omega arith in grind (arith, nat_tests)
+later_block block a b less (inr h) = let more : block < b.block = omega (arith, h.0) in grind (arith, nat_tests)
+
+-- of a later block, or of the same and above
+same_or_later : (block : ℕ) (a b : Attachment) → a.block ≡ block → IsBefore a b → ((b.block == block) ≡ false) ⊎ (a.pointer < b.pointer)
+same_or_later block a b is (inl h) = let more : block < b.block = omega arith in inl (grind (arith, nat_tests))
+same_or_later block a b is (inr h) = inr h.1
+
+-- a counter that a search from a pointer on finds does not stand before it
+is_first : (block pointer : ℕ) (xs : List Attachment) (a : Attachment) → Some a ≡ find (is_from block pointer) xs → is_below block pointer a ≡ false
+is_first block pointer xs a e = not_true (is_below block pointer a) (found_passes xs (sym e))
+  where
+    not_true : (b : Bool) → not b ≡ true → b ≡ false
+    not_true true f = cc
+    not_true false f = refl
+
+    found_passes : (ys : List Attachment) → find (is_from block pointer) ys ≡ Some a → is_from block pointer a ≡ true
+    found_passes [] f = cc
+    found_passes (y ∷ ys) f = go (found_passes ys) (is_from block pointer y) refl f
+      where
+        go : (find (is_from block pointer) ys ≡ Some a → is_from block pointer a ≡ true) → (b : Bool) → is_from block pointer y ≡ b → cond b (Some y) (find (is_from block pointer) ys) ≡ Some a → is_from block pointer a ≡ true
+        go rest true g k = let same : y ≡ a = cc in rw (← same) g
+        go rest false g k = rest k
+
+-- ---- a search by a test that only the first counter from a pointer on can pass
+
+-- what passes the test, if anything does
+abbrev pub passed : (Attachment → Bool) → Option Attachment → Option Attachment
+passed test None = None
+passed test (Some a) = cond (test a) (Some a) None
+
+module _ (block pointer : ℕ) (test : Attachment → Bool) (below : (a : Attachment) → IsBefore a (probe block pointer) → test a ≡ false) (none_after : (a b : Attachment) → IsFrom block pointer a → test a ≡ false → IsBefore a b → test b ≡ false) where
+  pub find_first : (xs : List Attachment) → EachPair IsBefore xs → find test xs ≡ passed test (find (is_from block pointer) xs)
+  find_first [] h = refl
+  find_first (x ∷ xs) h = go (find_first xs h.1) (is_below block pointer x) refl
+    where
+      rest : is_below block pointer x ≡ false → (t : Bool) → test x ≡ t → cond t (Some x) (find test xs) ≡ cond t (Some x) None
+      rest e true f = refl
+      rest e false f = find-none test xs (AllByRecursion-weaker (IsBefore x) (λ y. test y ≡ false) xs (λ y k. none_after x y (from block pointer x e) f k) h.0)
+
+      go : find test xs ≡ passed test (find (is_from block pointer) xs) → (b : Bool) → is_below block pointer x ≡ b → cond (test x) (Some x) (find test xs) ≡ passed test (cond (not b) (Some x) (find (is_from block pointer) xs))
+      go later true e = rw (below x (before x (probe block pointer) e)) later
+      go later false e = rest e (test x) refl
+
+-- ---- the count of a pointer
+
+not_of_below : (block pointer : ℕ) (a : Attachment) → IsBefore a (probe block pointer) → is_of block pointer a ≡ false
+not_of_below block pointer a (inl h) = let t : (a.block == block) ≡ false = grind (arith, nat_tests) in rw t
+not_of_below block pointer a (inr h) = let s : (a.block == block) ≡ true = grind (arith, nat_tests, h.0) in let t : (a.pointer == pointer) ≡ false = grind (arith, nat_tests, h.1) in rw (s, t)
+
+not_of_behind : (block pointer : ℕ) (a b : Attachment) → IsFrom block pointer a → is_of block pointer a ≡ false → IsBefore a b → is_of block pointer b ≡ false
+not_of_behind block pointer a b (inl h) e k = rw (later_block block a b h k)
+not_of_behind block pointer a b (inr h) e k = elim (same_or_later block a b h.0 k) [
+  | inl other ↦ rw other
+  | inr more ↦ let t : (b.pointer == pointer) ≡ false = grind (arith, nat_tests, h.1) in go (b.block == block) t
+]
+  where
+    go : (s : Bool) → (b.pointer == pointer) ≡ false → (s && (b.pointer == pointer)) ≡ false
+    go true t = t
+    go false t = refl
+
+find_of : (block pointer : ℕ) (xs : List Attachment) → EachPair IsBefore xs → find (is_of block pointer) xs ≡ passed (is_of block pointer) (find (is_from block pointer) xs)
+find_of block pointer xs h = find_first block pointer (is_of block pointer) (not_of_below block pointer) (not_of_behind block pointer) xs h
+
+-- the first counter from a pointer on is the pointer's
+pub counted : (block pointer : ℕ) (xs : List Attachment) (a : Attachment) → EachPair IsBefore xs → Some a ≡ find (is_from block pointer) xs → is_of block pointer a ≡ true → a.count ≡ count_at block pointer xs
+counted block pointer xs a h e is =
+    let f : find (is_of block pointer) xs ≡ Some a = find_of block pointer xs h ∙ ap (passed (is_of block pointer)) (sym e) ∙ rw is in
+    sym (ap (λ o. unwrap_or (option_map (λ (x : Attachment). x.count) o) 0) f)
+
+-- it is another's
+pub uncounted : (block pointer : ℕ) (xs : List Attachment) (a : Attachment) → EachPair IsBefore xs → Some a ≡ find (is_from block pointer) xs → is_of block pointer a ≡ false → 0 ≡ count_at block pointer xs
+uncounted block pointer xs a h e is =
+    let f : find (is_of block pointer) xs ≡ None = find_of block pointer xs h ∙ ap (passed (is_of block pointer)) (sym e) ∙ rw is in
+    sym (ap (λ o. unwrap_or (option_map (λ (x : Attachment). x.count) o) 0) f)
+
+-- there is none
+pub uncounted_past : (block pointer : ℕ) (xs : List Attachment) → EachPair IsBefore xs → None ≡ find (is_from block pointer) xs → 0 ≡ count_at block pointer xs
+uncounted_past block pointer xs h e =
+    let f : find (is_of block pointer) xs ≡ None = find_of block pointer xs h ∙ ap (passed (is_of block pointer)) (sym e) in
+    sym (ap (λ o. unwrap_or (option_map (λ (x : Attachment). x.count) o) 0) f)
+
+-- ---- the next pointer
+
+-- it is a pointer of the block that begins at the address or above
+abbrev begins_from : ℕ → ℕ → Attachment → Bool
+begins_from block address a = a.block == block && nat_le address a.pointer
+
+not_next_below : (block address : ℕ) (a : Attachment) → IsBefore a (probe block address) → begins_from block address a ≡ false
+not_next_below block address a (inl h) = let t : (a.block == block) ≡ false = grind (arith, nat_tests) in rw t
+not_next_below block address a (inr h) = let s : (a.block == block) ≡ true = grind (arith, nat_tests, h.0) in let t : nat_le address a.pointer ≡ false = grind (arith, nat_tests, h.1) in rw (s, t)
+
+next_test : (block address : ℕ) (a : Attachment) → a.block ≡ block → address ≤ a.pointer → begins_from block address a ≡ true
+next_test block address a is le = let s : (a.block == block) ≡ true = grind (arith, nat_tests) in let t : nat_le address a.pointer ≡ true = grind (arith, nat_tests) in rw (s, t)
+
+not_next_behind : (block address : ℕ) (a b : Attachment) → IsFrom block address a → begins_from block address a ≡ false → IsBefore a b → begins_from block address b ≡ false
+not_next_behind block address a b (inl h) e k = rw (later_block block a b h k)
+not_next_behind block address a b (inr h) e k = let t = next_test block address a h.0 h.1 in cc
+
+find_next : (block address : ℕ) (xs : List Attachment) → EachPair IsBefore xs → find (begins_from block address) xs ≡ passed (begins_from block address) (find (is_from block address) xs)
+find_next block address xs h = find_first block address (begins_from block address) (not_next_below block address) (not_next_behind block address) xs h
+
+-- the first counter from an address on is of the block
+pub next_there : (block address : ℕ) (xs : List Attachment) (a : Attachment) → EachPair IsBefore xs → Some a ≡ find (is_from block address) xs → a.block ≡ block → Some a.pointer ≡ next_pointer block address xs
+next_there block address xs a h e is = go (from block address a (is_first block address xs a e))
+  where
+    go : IsFrom block address a → Some a.pointer ≡ next_pointer block address xs
+    go (inl less) = absurd (omega arith)
+    go (inr both) =
+        let t = next_test block address a both.0 both.1 in
+        let f : find (begins_from block address) xs ≡ Some a = find_next block address xs h ∙ ap (passed (begins_from block address)) (sym e) ∙ rw t in
+        sym (ap (option_map (λ (x : Attachment). x.pointer)) f)
+
+-- it is of another
+pub next_not : (block address : ℕ) (xs : List Attachment) (a : Attachment) → EachPair IsBefore xs → Some a ≡ find (is_from block address) xs → (a.block ≡ block → ⊥) → None ≡ next_pointer block address xs
+next_not block address xs a h e other =
+    let t : (a.block == block) ≡ false = grind (arith, nat_tests, other) in
+    let f : find (begins_from block address) xs ≡ None = find_next block address xs h ∙ ap (passed (begins_from block address)) (sym e) ∙ rw t in
+    sym (ap (option_map (λ (x : Attachment). x.pointer)) f)
+
+-- there is none
+pub next_past : (block address : ℕ) (xs : List Attachment) → EachPair IsBefore xs → None ≡ find (is_from block address) xs → None ≡ next_pointer block address xs
+next_past block address xs h e =
+    let f : find (begins_from block address) xs ≡ None = find_next block address xs h ∙ ap (passed (begins_from block address)) (sym e) in
+    sym (ap (option_map (λ (x : Attachment). x.pointer)) f)
+
+-- ---- the bytes of pointers
+
+-- the address is one of the bytes of the block's pointer that is attached
+abbrev skips : ℕ → ℕ → Attachment → Bool
+skips block address a = a.block == block && covers (pointer_at a.pointer) address
+
+not_skipped_below : (block address : ℕ) (a : Attachment) → IsBefore a (probe block (address - 7)) → skips block address a ≡ false
+not_skipped_below block address a (inl h) = let t : (a.block == block) ≡ false = grind (arith, nat_tests) in rw t
+not_skipped_below block address a (inr h) = go (a.block == block) (nat_le a.pointer address)
+  where
+    short : nat_lt address (a.pointer + 8) ≡ false
+    short = let less : a.pointer + 8 ≤ address = omega (arith, h.1) in grind (arith, nat_tests)
+
+    go : (s t : Bool) → (s && (t && nat_lt address (a.pointer + 8))) ≡ false
+    go true true = short
+    go true false = refl
+    go false t = refl
+
+-- from seven bytes below on, it is where the pointer does not begin behind the address
+skips_test : (block address : ℕ) (a : Attachment) → IsFrom block (address - 7) a → skips block address a ≡ (a.block == block && nat_le a.pointer address)
+skips_test block address a (inl h) = let t : (a.block == block) ≡ false = grind (arith, nat_tests) in rw t
+skips_test block address a (inr h) = go (a.block == block) (nat_le a.pointer address)
+  where
+    long : nat_lt address (a.pointer + 8) ≡ true
+    long = let less : address < a.pointer + 8 = omega (arith, h.1) in grind (arith, nat_tests)
+
+    go : (s t : Bool) → (s && (t && nat_lt address (a.pointer + 8))) ≡ (s && t)
+    go true true = long
+    go true false = refl
+    go false t = refl
+
+not_skipped_behind : (block address : ℕ) (a b : Attachment) → IsFrom block (address - 7) a → skips block address a ≡ false → IsBefore a b → skips block address b ≡ false
+not_skipped_behind block address a b (inl h) e k = rw (later_block block a b h k)
+not_skipped_behind block address a b (inr h) e k = elim (same_or_later block a b h.0 k) [
+  | inl other ↦ rw other
+  | inr more ↦ go (nat_le a.pointer address) refl more
+]
+  where
+    own_block : (a.block == block) ≡ true
+    own_block = grind (arith, nat_tests, h.0)
+
+    go : (t : Bool) → nat_le a.pointer address ≡ t → a.pointer < b.pointer → skips block address b ≡ false
+    go true f more = let there : skips block address a ≡ true = skips_test block address a (inr h) ∙ rw (own_block, f) in cc
+    go false f more = let t : nat_le b.pointer address ≡ false = grind (arith, nat_tests) in go_and (b.block == block) t
+      where
+        go_and : (s : Bool) → nat_le b.pointer address ≡ false → (s && (nat_le b.pointer address && nat_lt address (b.pointer + 8))) ≡ false
+        go_and true t = rw t
+        go_and false t = refl
+
+-- something passes a test where a search finds it
+any_found : (test : Attachment → Bool) (xs : List Attachment) → list_any test xs ≡ is_some (find test xs)
+any_found test [] = refl
+any_found test (x ∷ xs) = go (any_found test xs) (test x)
+  where
+    go : list_any test xs ≡ is_some (find test xs) → (b : Bool) → (b || list_any test xs) ≡ is_some (cond b (Some x) (find test xs))
+    go rest true = refl
+    go rest false = rest
+
+skipped_found : (block address : ℕ) (xs : List Attachment) → EachPair IsBefore xs → is_skipped block xs address ≡ is_some (passed (skips block address) (find (is_from block (address - 7)) xs))
+skipped_found block address xs h = any_found (skips block address) xs ∙ ap (λ (o : Option Attachment). is_some o) (find_first block (address - 7) (skips block address) (not_skipped_below block address) (not_skipped_behind block address) xs h)
+
+-- the first counter from seven bytes below on tells whether an address is skipped
+pub skipped_first : (block address : ℕ) (xs : List Attachment) (a : Attachment) → EachPair IsBefore xs → Some a ≡ find (is_from block (address - 7)) xs → (a.block == block && nat_le a.pointer address) ≡ is_skipped block xs address
+skipped_first block address xs a h e = sym (skipped_found block address xs h ∙ ap (λ o. is_some (passed (skips block address) o)) (sym e) ∙ go (skips block address a) ∙ skips_test block address a (from block (address - 7) a (is_first block (address - 7) xs a e)))
+  where
+    go : (b : Bool) → is_some (cond b (Some a) None) ≡ b
+    go true = refl
+    go false = refl
+
+-- and none is where there is none
+pub skipped_past : (block address : ℕ) (xs : List Attachment) → EachPair IsBefore xs → None ≡ find (is_from block (address - 7)) xs → false ≡ is_skipped block xs address
+skipped_past block address xs h e = sym (skipped_found block address xs h ∙ ap (λ o. is_some (passed (skips block address) o)) (sym e))
+
+-- ---- changes at a place
+
+same_test : (a b : ℕ) → (a == b) ≡ (b == a)
+same_test a b = go (a == b) refl (b == a) refl
+  where
+    go : (s : Bool) → (a == b) ≡ s → (t : Bool) → (b == a) ≡ t → s ≡ t
+    go true e true f = refl
+    go true e false f = absurd (grind (arith, nat_tests))
+    go false e true f = absurd (grind (arith, nat_tests))
+    go false e false f = refl
+
+-- a counter that does not stand before a pointer and is not its own stands behind it
+test_behind : (new x : Attachment) → is_below new.block new.pointer x ≡ false → is_of new.block new.pointer x ≡ false → is_before new x ≡ true
+test_behind new x e o = test_before new x (behind x new e (go (x.block == new.block) refl o))
+  where
+    go : (s : Bool) → (x.block == new.block) ≡ s → (s && (x.pointer == new.pointer)) ≡ false → is_of x.block x.pointer new ≡ false
+    go true f k = rw (same_test new.block x.block) (rw f (same_test new.pointer x.pointer ∙ k))
+    go false f k = rw (same_test new.block x.block) (rw f)
+
+-- and one that stands before it does not stand behind it
+test_not_behind : (new x : Attachment) → is_below new.block new.pointer x ≡ true → is_before new x ≡ false
+test_not_behind new x e = go (is_before new x) refl
+  where
+    not_self : IsBefore x x → ⊥
+    not_self (inl h) = omega (arith, h)
+    not_self (inr h) = omega (arith, h.1)
+
+    go : (t : Bool) → is_before new x ≡ t → t ≡ false
+    go true f = absurd (not_self (before-trans x new x (before x new e) (before new x f)))
+    go false f = refl
+
+not_of : (block pointer : ℕ) (a : Attachment) → is_below block pointer a ≡ true → is_of block pointer a ≡ false
+not_of block pointer a e = not_of_below block pointer a (before a (probe block pointer) e)
+
+-- taking out what is not there leaves all
+without_none : (block pointer : ℕ) (xs : List Attachment) → AllByRecursion (λ x. is_of block pointer x ≡ false) xs → without_attachment block pointer xs ≡ xs
+without_none block pointer [] h = refl
+without_none block pointer (x ∷ xs) h = rw h.0 (ap (λ ys. x ∷ ys) (without_none block pointer xs h.1))
+
+-- behind the counter of a pointer there is none of it
+none_behind : (block pointer : ℕ) (x : Attachment) (xs : List Attachment) → is_of block pointer x ≡ true → AllByRecursion (IsBefore x) xs → AllByRecursion (λ y. is_of block pointer y ≡ false) xs
+none_behind block pointer x xs e h = AllByRecursion-weaker (IsBefore x) (λ y. is_of block pointer y ≡ false) xs (λ y k. before-other block pointer x y k e) h
+
+insert_at : (new : Attachment) (xs : List Attachment) (i : ℕ) → AllByRecursion (λ x. is_below new.block new.pointer x ≡ true) (take i xs) → AllByRecursion (λ x. is_below new.block new.pointer x ≡ false) (drop i xs) → AllByRecursion (λ x. is_of new.block new.pointer x ≡ false) xs → with_attachment new xs ≡ insert xs i new
+insert_at new [] zero p f h = refl
+insert_at new [] (suc i) p f h = refl
+insert_at new (x ∷ xs) zero p f h = rw (test_behind new x f.0 h.0)
+insert_at new (x ∷ xs) (suc i) p f h = rw (test_not_behind new x p.0) (ap (λ ys. x ∷ ys) (insert_at new xs i p.1 f h.1))
+
+-- a counter that was zero goes in at its place
+pub added : (new : Attachment) (xs : List Attachment) (i : ℕ) → 0 < new.count → find (is_of new.block new.pointer) xs ≡ None → IsSplitBy (is_below new.block new.pointer) xs i → insert xs i new ≡ with_count new.block new.pointer new.count xs
+added new xs i some none parts =
+    let t : (new.count == 0) ≡ false = grind (arith, nat_tests) in
+    let others = find_none (is_of new.block new.pointer) xs none in
+    sym (rw t (ap (with_attachment new) (without_none new.block new.pointer xs others) ∙ insert_at new xs i parts.passed parts.failed others))
+
+-- a counter stands at its place
+pub record IsThere (block pointer : ℕ) (xs : List Attachment) (i : ℕ) (d : Attachment) : Type 0 where
+  pub bound : i < length xs
+  pub its_own : is_of block pointer (get_or xs i d) ≡ true
+
+pub there : (block pointer : ℕ) (xs : List Attachment) (i : ℕ) (d : Attachment) → EachPair IsBefore xs → IsSplitBy (is_below block pointer) xs i → IsSome (find (is_of block pointer) xs) → IsThere block pointer xs i d
+there block pointer xs i d h parts some = go xs i h parts.passed parts.failed some
+  where
+    go : (ys : List Attachment) (j : ℕ) → EachPair IsBefore ys → AllByRecursion (λ y. is_below block pointer y ≡ true) (take j ys) → AllByRecursion (λ y. is_below block pointer y ≡ false) (drop j ys) → IsSome (find (is_of block pointer) ys) → IsThere block pointer ys j d
+    go [] j r p f s = absurd (search (rules, s))
+    go (y ∷ ys) zero r p f s = first (is_of block pointer y) refl s
+      where
+        first : (b : Bool) → is_of block pointer y ≡ b → IsSome (cond b (Some y) (find (is_of block pointer) ys)) → IsThere block pointer (y ∷ ys) zero d
+        first true e k = record { bound = omega arith; its_own = e }
+        first false e k =
+            let none : find (is_of block pointer) ys ≡ None = find-none (is_of block pointer) ys (AllByRecursion-weaker (IsBefore y) (λ z. is_of block pointer z ≡ false) ys (λ z l. not_of_behind block pointer y z (from block pointer y f.0) e l) r.0) in
+            absurd (search (rules, rw none at k))
+    go (y ∷ ys) (suc j) r p f s = let later = go ys j r.1 p.1 f (rw (not_of block pointer y p.0) at s) in record { bound = omega (arith, later.bound); its_own = later.its_own }
+
+-- a counter is taken out at its place
+pub taken_out : (block pointer : ℕ) (xs : List Attachment) (i : ℕ) (d : Attachment) → EachPair IsBefore xs → IsSplitBy (is_below block pointer) xs i → IsThere block pointer xs i d → remove xs i ≡ without_attachment block pointer xs
+taken_out block pointer xs i d h parts is = sym (go xs i h parts.passed is.bound is.its_own)
+  where
+    go : (ys : List Attachment) (j : ℕ) → EachPair IsBefore ys → AllByRecursion (λ y. is_below block pointer y ≡ true) (take j ys) → j < length ys → is_of block pointer (get_or ys j d) ≡ true → without_attachment block pointer ys ≡ remove ys j
+    go [] j r p lt e = absurd (omega arith)
+    go (y ∷ ys) zero r p lt e = rw e (without_none block pointer ys (none_behind block pointer y ys e r.0))
+    go (y ∷ ys) (suc j) r p lt e = rw (not_of block pointer y p.0) (ap (λ zs. y ∷ zs) (go ys j r.1 p.1 (omega arith) e))
+
+first_with : (new : Attachment) (xs : List Attachment) → AllByRecursion (λ x. is_before new x ≡ true) xs → with_attachment new xs ≡ new ∷ xs
+first_with new [] h = refl
+first_with new (x ∷ xs) h = rw h.0
+
+-- what stands behind the counter of a pointer stands behind any other counter of it
+before_same : (new x y : Attachment) → is_of new.block new.pointer x ≡ true → IsBefore x y → is_before new y ≡ true
+before_same new x y e h = test_before new y (go h)
+  where
+    go : IsBefore x y → IsBefore new y
+    go (inl k) = let block = same_block new.block new.pointer x e in inl (omega (arith, k))
+    go (inr k) = let block = same_block new.block new.pointer x e in let pointer = same_pointer new.block new.pointer x e in inr (sym block ∙ k.0, omega (arith, k.1))
+
+-- a counter gets another value at its place
+pub changed : (new : Attachment) (xs : List Attachment) (i : ℕ) (d : Attachment) → 0 < new.count → EachPair IsBefore xs → IsSplitBy (is_below new.block new.pointer) xs i → IsThere new.block new.pointer xs i d → set xs i new ≡ with_count new.block new.pointer new.count xs
+changed new xs i d some h parts is = let t : (new.count == 0) ≡ false = grind (arith, nat_tests) in sym (rw t (go xs i h parts.passed is.bound is.its_own))
+  where
+    go : (ys : List Attachment) (j : ℕ) → EachPair IsBefore ys → AllByRecursion (λ y. is_below new.block new.pointer y ≡ true) (take j ys) → j < length ys → is_of new.block new.pointer (get_or ys j d) ≡ true → with_attachment new (without_attachment new.block new.pointer ys) ≡ set ys j new
+    go [] j r p lt e = absurd (omega arith)
+    go (y ∷ ys) zero r p lt e = rw e (ap (with_attachment new) (without_none new.block new.pointer ys (none_behind new.block new.pointer y ys e r.0)) ∙ first_with new ys (AllByRecursion-weaker (IsBefore y) (λ z. is_before new z ≡ true) ys (λ z k. before_same new y z e k) r.0))
+    go (y ∷ ys) (suc j) r p lt e = rw (not_of new.block new.pointer y p.0) (rw (test_not_behind new y p.0) (ap (λ zs. y ∷ zs) (go ys j r.1 p.1 (omega arith) e)))

@@ -1,0 +1,2 @@
+pub mod Attached
+pub mod Kept

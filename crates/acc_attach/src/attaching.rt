@@ -1,0 +1,236 @@
+//! The attachment counters as one value.
+
+ghost use Rattle.std.specs.Prelude.{◌≡◌, ◌+◌, ◌^◌, ◌<◌, ◌≤◌, ◌↔◌, [], true, false, Ok, Err, IsOk, IfOk, OnOk, OnErr, IfErr, ◌⊎◌};
+ghost use Rattle.acc_base.specs.Attachments.{count_at, attach, detach, attached_by, without_attachments, is_skipped, next_pointer};
+ghost use Rattle.acc_attach.specs.Attached.{AreAttached, left_of};
+
+use crate::counters::{add, count_of, next_of, set, skips, take_out, take_out_all};
+use crate::left::Left;
+use acc_base::{Aim, Attachment, Fault};
+use std::alloc::Global;
+use std::marker::Model;
+
+/// The attachment counters of the pointers in the blocks of a device (OpenACC 3.3, sections 2.6.8 and 2.7.2).
+///
+/// A pointer is named by the number of the block that holds it and by its host address, and is eight bytes long. A
+/// counter is zero until the pointer is attached. Targets are device addresses.
+///
+/// Contracts see the counters above zero, and beside them for how many more of them there is room. A refused call
+/// leaves the counters as they were. Only `attach` and `reserve` take memory.
+///
+/// Counters are searched for by halves. One that becomes one or zero moves those of later pointers.
+#[derive(Drop)]
+pub struct Attached {
+    counter_max: u64,
+    // By rising block, and then by rising pointer.
+    attached: Vec<Attachment>,
+}
+
+impl Model for Attached {
+    ghost use Rattle.std.specs.Prelude.{◌-◌, vec_len, vec_capacity};
+    ghost use Rattle.acc_attach.specs.Attached.{AttachedState, AreAttached};
+
+    ghost Value = { AttachedState };
+
+    ghost view = { λ a. record {
+      counter_max = a.counter_max;
+      attached = a.attached.items;
+      spare = vec_capacity a.attached - vec_len a.attached;
+    } };
+
+    ghost invariant = { λ a. AreAttached a.counter_max a.attached.items };
+}
+
+impl Attached {
+    /// No pointer is attached. `counter_max` is the greatest value of a counter, from 1 to 4,294,967,295. It takes no
+    /// memory.
+    pub fn new(alloc: Global, counter_max: u64) -> Attached
+        requires some { 1 ≤ counter_max }
+        requires limit { counter_max < 2 ^ 32 }
+        ensures counter_max { result.counter_max ≡ counter_max }
+        ensures attached { result.attached ≡ [] }
+    {
+        Attached {
+            counter_max,
+            attached: Vec::new(alloc),
+        }
+    }
+
+    /// What holds of the counters at all times: they stand by rising block and pointer, and each is from one to the
+    /// limit, which is below 2^32.
+    pub fn laws(&self)
+        ensures { AreAttached self.now.counter_max self.now.attached }
+    {
+        let _ = &self.attached;
+    }
+
+    /// How often a pointer of a block is attached. `pointer` is its host address.
+    pub fn count(&self, block: u64, pointer: u64) -> u64
+        ensures { result ≡ count_at block pointer self.now.attached }
+    {
+        count_of(&self.attached, block, pointer)
+    }
+
+    /// Attaches a pointer of a block to a target (OpenACC 3.3, section 2.7.2): where it is attached and aimed there
+    /// already, its counter rises by one, and else its counter becomes one.
+    ///
+    /// `pointer` is its host address, `target` is the device address to aim it at, and `now` is the device address that
+    /// its eight bytes on the device hold. Whoever calls this writes those bytes.
+    ///
+    /// # Errors
+    ///
+    /// [`Fault::CounterFull`] with item 0, exactly where the counter would rise above its limit. Else
+    /// [`Fault::Memory`], only where the pointer's counter is zero and there is no room for one more. The counters are
+    /// then as before.
+    pub fn attach(&mut self, block: u64, pointer: u64, target: u64, now: u64) -> Result<Aim, Fault>
+        ensures aim { IfOk result (λ aim. attach self.old.counter_max 0 block pointer target now self.old.attached ≡ Ok aim) }
+        ensures attached { IfOk result (λ aim. self.new.attached ≡ attached_by aim self.old.attached) }
+        ensures full { (result ≡ Err (Fault.CounterFull 0)) ↔ (attach self.old.counter_max 0 block pointer target now self.old.attached ≡ Err (Fault.CounterFull 0)) }
+        ensures memory { result ≡ Err Fault.Memory → (count_at block pointer self.old.attached ≡ 0) × (self.old.spare ≡ 0) }
+        ensures only { IfErr result (λ fault. (fault ≡ Fault.CounterFull 0) ⊎ (fault ≡ Fault.Memory)) }
+        ensures unchanged { OnErr result (self.new.attached ≡ self.old.attached) }
+        ensures counter_max { self.new.counter_max ≡ self.old.counter_max }
+    {
+        let count = count_of(&self.attached, block, pointer);
+        if count == 0 {
+            self.attached.reserve(1)?;
+        } else if now == target && self.counter_max <= count {
+            return Err(Fault::CounterFull { item: 0 });
+        }
+        Ok(self.attach_reserved(block, pointer, target, now))
+    }
+
+    /// As [`Attached::attach`], where the counter has not reached its limit and there is room for one more if it is
+    /// zero: it takes no memory and is not refused. It takes at most one from the room.
+    pub fn attach_reserved(&mut self, block: u64, pointer: u64, target: u64, now: u64) -> Aim
+        requires room { count_at block pointer self.old.attached ≡ 0 → 1 ≤ self.old.spare }
+        requires not_full { IsOk (attach self.old.counter_max 0 block pointer target now self.old.attached) }
+        ensures aim { attach self.old.counter_max 0 block pointer target now self.old.attached ≡ Ok result }
+        ensures attached { self.new.attached ≡ attached_by result self.old.attached }
+        ensures counter_max { self.new.counter_max ≡ self.old.counter_max }
+        ensures spare { self.old.spare ≤ self.new.spare + 1 }
+    {
+        let count = count_of(&self.attached, block, pointer);
+        if count == 0 {
+            add(
+                &mut self.attached,
+                Attachment {
+                    block,
+                    pointer,
+                    count: 1,
+                },
+            );
+        } else if now == target {
+            set(
+                &mut self.attached,
+                Attachment {
+                    block,
+                    pointer,
+                    count: count + 1,
+                },
+            );
+            return Aim::Again { pointer, block };
+        } else {
+            set(
+                &mut self.attached,
+                Attachment {
+                    block,
+                    pointer,
+                    count: 1,
+                },
+            );
+        }
+        Aim::New {
+            pointer,
+            block,
+            target,
+        }
+    }
+
+    /// Detaches a pointer of a block (OpenACC 3.3, section 2.7.2): its counter falls by one, or stays zero. `pointer` is
+    /// its host address. Whoever calls this writes the pointer's bytes on the device where the counter became zero.
+    pub fn detach(&mut self, block: u64, pointer: u64) -> Left
+        ensures left { result ≡ left_of false (count_at block pointer self.old.attached) }
+        ensures attached { self.new.attached ≡ attached_by (detach false block pointer self.old.attached) self.old.attached }
+        ensures counter_max { self.new.counter_max ≡ self.old.counter_max }
+        ensures spare { self.old.spare ≤ self.new.spare }
+    {
+        let count = count_of(&self.attached, block, pointer);
+        if count == 0 {
+            return Left::Nothing;
+        }
+        if count == 1 {
+            take_out(&mut self.attached, block, pointer);
+            return Left::Zero;
+        }
+        set(
+            &mut self.attached,
+            Attachment {
+                block,
+                pointer,
+                count: count - 1,
+            },
+        );
+        Left::Less
+    }
+
+    /// As [`Attached::detach`], but the counter is zero at once (OpenACC 3.3, the finalize clause).
+    pub fn detach_now(&mut self, block: u64, pointer: u64) -> Left
+        ensures left { result ≡ left_of true (count_at block pointer self.old.attached) }
+        ensures attached { self.new.attached ≡ attached_by (detach true block pointer self.old.attached) self.old.attached }
+        ensures counter_max { self.new.counter_max ≡ self.old.counter_max }
+        ensures spare { self.old.spare ≤ self.new.spare }
+    {
+        if count_of(&self.attached, block, pointer) == 0 {
+            return Left::Nothing;
+        }
+        take_out(&mut self.attached, block, pointer);
+        Left::Zero
+    }
+
+    /// No pointer of a block is attached any longer, as where the block is freed.
+    pub fn forget(&mut self, block: u64)
+        ensures attached { self.new.attached ≡ without_attachments block self.old.attached }
+        ensures counter_max { self.new.counter_max ≡ self.old.counter_max }
+        ensures spare { self.old.spare ≤ self.new.spare }
+    {
+        take_out_all(&mut self.attached, block);
+    }
+
+    // ---- transfers
+
+    /// A host address is that of one of the eight bytes of an attached pointer of a block, which no transfer touches
+    /// (OpenACC 3.3, section 2.6.8). A pointer may reach past the last `u64`.
+    pub fn is_skipped(&self, block: u64, address: u64) -> bool
+        ensures { result ≡ is_skipped block self.now.attached address }
+    {
+        skips(&self.attached, block, address)
+    }
+
+    /// The least host address, from one on, at which an attached pointer of a block begins, so that a transfer goes from
+    /// pointer to pointer.
+    pub fn next_pointer(&self, block: u64, from: u64) -> Option<u64>
+        ensures { result ≡ next_pointer block from self.now.attached }
+    {
+        next_of(&self.attached, block, from)
+    }
+
+    // ---- room
+
+    /// Makes room for so many more counters above zero, so that [`Attached::attach_reserved`] takes no memory.
+    ///
+    /// # Errors
+    ///
+    /// [`Fault::Memory`] alone. The room has not shrunk then.
+    pub fn reserve(&mut self, count: u64) -> Result<(), Fault>
+        ensures ok { OnOk result (count ≤ self.new.spare) }
+        ensures only { IfErr result (λ fault. fault ≡ Fault.Memory) }
+        ensures needed { OnErr result (self.old.spare < count) }
+        ensures attached { self.new.attached ≡ self.old.attached }
+        ensures counter_max { self.new.counter_max ≡ self.old.counter_max }
+        ensures spare { self.old.spare ≤ self.new.spare }
+    {
+        self.attached.reserve(count as usize)?;
+        Ok(())
+    }
+}

@@ -59,11 +59,6 @@ written-overwritten s source (suc n) a (x ∷ xs) bytes at fits len is =
 
 -- ---- which addresses are written
 
--- the same bytes are written where the same addresses are
-pub written-same : (p q : ℕ → Bool) (source : ℕ → ℕ) (a : ℕ) (old : List ℕ) → ((x : ℕ) → p x ≡ q x) → written_bytes p source a old ≡ written_bytes q source a old
-written-same p q source a [] h = refl
-written-same p q source a (x ∷ xs) h = rw (h a, written-same p q source (suc a) xs h) refl
-
 -- no attached pointer has the address
 pub moved-clear : (s : Section) (block : ℕ) (attached : List Attachment) (a : ℕ) → is_skipped block attached a ≡ false → is_moved s block attached a ≡ covers s a
 moved-clear s block attached a e = rw e (and-true (covers s a))

@@ -13,7 +13,7 @@ use Rattle.acc_base.specs.declared.tasks.Task.TheVariants.{Enter, Leave, Exit, M
 use Rattle.acc_base.specs.declared.events.Step.{Step}
 use Rattle.acc_base.specs.declared.events.Step.TheVariants.{Nothing, Counted, Born, Dropped, Moved}
 use Rattle.acc_base.specs.Limits.{Limits, IsWithinBounds, IsFromOne}
-use Rattle.acc_base.specs.Section.{is_within, is_empty, host_memory}
+use Rattle.acc_base.specs.Section.{end_of, is_within, is_empty, host_memory}
 use Rattle.acc_base.specs.Records.{Records, Memory, State}
 use Rattle.acc_base.specs.Ranges.{where_is, range_of}
 use Rattle.acc_base.specs.Blocks.{block_at}
@@ -41,6 +41,10 @@ within_both s t u h k = grind (arith, nat_tests)
 host_len : (s : Section) (n : ℕ) → is_within s (host_memory n) ≡ true → s.len ≤ n
 host_len s n h = grind (arith, nat_tests)
 
+-- and ends below it
+host_end : (s : Section) (n : ℕ) → is_within s (host_memory n) ≡ true → n ≤ MEMORY_MAX → end_of s ≤ 2 ^ 40
+host_end s n h most = grind (arith, nat_tests)
+
 -- the range of the block of a section that is inside a range
 pub mapped_around : (l : Limits) (w : Records) (section : Section) (k o : ℕ) → AreRecordsSound l w → where_is section w.ranges ≡ Inside k o → IsMappedAround w section k
 mapped_around l w section k o h e =
@@ -54,15 +58,17 @@ record IsWhole (l : Limits) (w : Records) (r : Range) : Type 0 where
   mapped : IsMapped w.blocks r
   in_host : IsInHost l r.section
 
-pub can_move : (l : Limits) (s : State) (section : Section) (k : ℕ) → AreRecordsSound l s.records → AreMemoriesSized l s → IsMappedAround s.records section k → CanMove section k s
-can_move l s section k h m around =
+pub can_move : (l : Limits) (s : State) (section : Section) (k : ℕ) → IsWithinBounds l → AreRecordsSound l s.records → AreMemoriesSized l s → IsMappedAround s.records section k → CanMove section k s
+can_move l s section k bounds h m around =
     let has : IsWhole l s.records around.range × ((around.range.block == k) ≡ true) =
     found_has (IsWhole l s.records) (λ r. r.block == k) s.records.ranges around.range
     (AllByRecursion-both (IsMapped s.records.blocks) (λ r. IsInHost l r.section) (IsWhole l s.records) s.records.ranges (λ r a b. record { mapped = a; in_host = b }) h.one_block_each.mapped h.ranges_apart.in_host) around.range_is in
     let b : Block = has.0.mapped.0 in
     let there : block_at k s.records.blocks ≡ Some b = subst (λ n. block_at n s.records.blocks ≡ Some b) (equal around.range.block k has.1) has.0.mapped.1 in
+    let inside : is_within section (host_memory l.host) ≡ true = within_both section around.range.section (host_memory l.host) around.within has.0.in_host.within in
     record {
-      in_host = subst (λ n. is_within section (host_memory n) ≡ true) (sym m.host) (within_both section around.range.section (host_memory l.host) around.within has.0.in_host.within);
+      in_host = subst (λ n. is_within section (host_memory n) ≡ true) (sym m.host) inside;
+      end = host_end section l.host inside bounds.host.1;
       range = around.range;
       range_is = around.range_is;
       within = around.within;
@@ -142,8 +148,8 @@ can_bear l s section k place bounds h m few says =
       counted = bounds.counter_max.0;
     }
 
-can_range : (l : Limits) (s : State) (section : Section) (k : ℕ) → AreRecordsSound l s.records → AreMemoriesSized l s → IsInRangeOf l section k s.records → CanMove section k s
-can_range l s section k h m says = can_move l s section k h m (mapped_around l s.records section k says.offset h says.inside)
+can_range : (l : Limits) (s : State) (section : Section) (k : ℕ) → IsWithinBounds l → AreRecordsSound l s.records → AreMemoriesSized l s → IsInRangeOf l section k s.records → CanMove section k s
+can_range l s section k bounds h m says = can_move l s section k bounds h m (mapped_around l s.records section k says.offset h says.inside)
 
 can_by : (l : Limits) (s : State) (task : Task) (step : Step) → IsWithinBounds l → AreRecordsSound l s.records → AreMemoriesSized l s → s.records.births < 2 ^ 48 → IsKnown s.records task → IsJudgedTo l task step s.records
     → CanAct l.counter_max l.device task step s
@@ -154,16 +160,16 @@ can_by l s (Enter counter item) (Dropped k ended) bounds h m few known says = ab
 can_by l s (Enter counter item) (Moved k) bounds h m few known says = absurd says
 can_by l s (Leave holding) (Counted k) bounds h m few known says = absurd says
 can_by l s (Leave holding) (Born k p) bounds h m few known says = absurd says
-can_by l s (Leave holding) (Dropped k ended) bounds h m few known says = record { move = can_move l s holding.item.section k h m (known k says.0); not_entry = λ x. x; ends = sym says.1 }
+can_by l s (Leave holding) (Dropped k ended) bounds h m few known says = record { move = can_move l s holding.item.section k bounds h m (known k says.0); not_entry = λ x. x; ends = sym says.1 }
 can_by l s (Leave holding) (Moved k) bounds h m few known says = absurd says
 can_by l s (Exit finalize item) (Counted k) bounds h m few known says = absurd says
 can_by l s (Exit finalize item) (Born k p) bounds h m few known says = absurd says
-can_by l s (Exit finalize item) (Dropped k ended) bounds h m few known says = record { move = can_range l s item.section k h m says.range; not_entry = λ x. x; ends = sym says.ended_is }
+can_by l s (Exit finalize item) (Dropped k ended) bounds h m few known says = record { move = can_range l s item.section k bounds h m says.range; not_entry = λ x. x; ends = sym says.ended_is }
 can_by l s (Exit finalize item) (Moved k) bounds h m few known says = absurd says
 can_by l s (Move if_present item) (Counted k) bounds h m few known says = absurd says
 can_by l s (Move if_present item) (Born k p) bounds h m few known says = absurd says
 can_by l s (Move if_present item) (Dropped k ended) bounds h m few known says = absurd says
-can_by l s (Move if_present item) (Moved k) bounds h m few known says = can_range l s item.section k h m says
+can_by l s (Move if_present item) (Moved k) bounds h m few known says = can_range l s item.section k bounds h m says
 
 pub can_act : (l : Limits) (x : Environment) (next : ℕ) (task : Task) (step : Step) → IsWithinBounds l → ArePartsSound l x next → x.device.births < 2 ^ 48
     → IsKnown (state_of x next).records task → IsJudged l task step (state_of x next).records → CanAct x.present.table.counter_max x.device.size task step (state_of x 0)

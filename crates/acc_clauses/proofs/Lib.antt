@@ -5,10 +5,11 @@ pub mod Drafted
 pub mod Turns
 pub mod Asking
 pub mod Events
-pub mod Runs
+mod Runs
 mod Copying
 mod Moving
 mod Steps
+mod Sweeping
 pub mod Legal
 mod Remaining
 mod Holding

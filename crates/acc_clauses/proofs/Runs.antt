@@ -1,10 +1,10 @@
 -- A copy in runs, each up to the next attached pointer, leaves out the bytes of these pointers and copies all others.
-use Rattle.std.proofs.Common.{ℕ, suc, ◌≡◌, ◌+◌, ◌-◌, ◌<◌, ◌≤◌, refl, sym, ◌∙◌, ap, Bool, true, false, cond, List, [], ◌∷◌, ◌&&◌, length, map, Option, Some, None, arith}
-use Rattle.std.specs.Prelude.{◌==◌, ◌||◌, not, nat_le, nat_lt}
+use Rattle.std.proofs.Common.{ℕ, suc, ◌≡◌, ◌+◌, ◌-◌, ◌<◌, ◌≤◌, refl, Bool, true, false, cond, List, [], ◌∷◌, map, Some, None, arith, ⊎_elim}
+use Rattle.std.specs.Prelude.{◌==◌, ◌⊎◌, ◌||◌, nat_lt}
 use Rattle.std.proofs.lemmas.Bool.Decides.{nat_tests}
 use Rattle.acc_base.specs.declared.items.Section.{Section}
 use Rattle.acc_base.specs.declared.attachments.Attachment.{Attachment}
-use Rattle.acc_base.specs.Section.{covers, end_of, is_within, host_memory}
+use Rattle.acc_base.specs.Section.{covers, end_of, is_within}
 use Rattle.acc_base.specs.Attachments.{IsBefore, is_skipped, next_pointer}
 use Rattle.acc_base.specs.Records.{Memory}
 use Rattle.acc_base.specs.Bytes.{written_bytes, memory_changed, is_moved}
@@ -15,23 +15,18 @@ use Rattle.acc_clauses.specs.Copies.{moved_below, IsRunEnd}
 
 -- ---- where a run ends
 
--- at the next pointer, where it begins before the end
-pub ends_at_next : (block : ℕ) (attached : List Attachment) (at end next : ℕ) → EachPair IsBefore attached → next_pointer block (at - 7) attached ≡ Some next → next < end → IsRunEnd block attached at end next
-ends_at_next block attached at end next rising e below = record {
-  most = omega arith;
-  more = let low : at - 7 ≤ next = next_low block (at - 7) attached next e in omega (arith, low);
-  clear = λ a low high. clear_to_next block at a next attached rising e low high;
-  skipped = λ a low first last inside. skipped_at_next block (at - 7) a next attached e first last;
+-- at the next pointer, or at the end where that comes first
+pub ends_at_next : (block : ℕ) (attached : List Attachment) (at end next stop : ℕ) → EachPair IsBefore attached → next_pointer block (at - 7) attached ≡ Some next → at < end → stop ≤ next → stop ≤ end → (stop < end → stop ≡ next)
+    → IsRunEnd block attached at end stop
+ends_at_next block attached at end next stop rising e some below most is = record {
+  most = most;
+  more = let low : at - 7 ≤ next = next_low block (at - 7) attached next e in ⊎_elim (λ (less : stop < end). let same : stop ≡ next = is less in omega (arith, low, same)) (λ (same : stop ≡ end). omega (arith, some, same)) (sides stop end most);
+  clear = λ a low high. clear_to_next block at a next attached rising e low (omega (arith, high, below));
+  skipped = λ a low first last inside. let same : stop ≡ next = is (omega (arith, first, inside)) in skipped_at_next block (at - 7) a next attached e (omega (arith, first, same)) (omega (arith, last, same));
 }
-
--- at the end, where it begins there or behind
-pub ends_before_next : (block : ℕ) (attached : List Attachment) (at end next : ℕ) → EachPair IsBefore attached → next_pointer block (at - 7) attached ≡ Some next → end ≤ next → at < end → IsRunEnd block attached at end end
-ends_before_next block attached at end next rising e behind some = record {
-  most = omega arith;
-  more = omega arith;
-  clear = λ a low high. clear_to_next block at a next attached rising e low (omega (arith, high, behind));
-  skipped = λ a low first last inside. absurd (omega (arith, first, inside));
-}
+  where
+    sides : (a b : ℕ) → a ≤ b → (a < b) ⊎ (a ≡ b)
+    sides a b h = grind (arith, nat_tests)
 
 -- and where there is none
 pub ends_without : (block : ℕ) (attached : List Attachment) (at end : ℕ) → next_pointer block (at - 7) attached ≡ None → at < end → IsRunEnd block attached at end end
@@ -110,6 +105,15 @@ changed-twice block f g h (m ∷ ms) e = go (m.block == block) refl (changed-twi
     go true t rest = rw (t, e m.bytes, rest) refl
     go false t rest = rw (t, rest) refl
 
+-- two changes that agree
+pub changed_same : (block : ℕ) (f g : List ℕ → List ℕ) (ms : List Memory) → ((bytes : List ℕ) → f bytes ≡ g bytes) → map (memory_changed block f) ms ≡ map (memory_changed block g) ms
+changed_same block f g [] e = refl
+changed_same block f g (m ∷ ms) e = go (m.block == block) (changed_same block f g ms e)
+  where
+    go : (b : Bool) → map (memory_changed block f) ms ≡ map (memory_changed block g) ms → cond b (record m { bytes = f m.bytes }) m ∷ map (memory_changed block f) ms ≡ cond b (record m { bytes = g m.bytes }) m ∷ map (memory_changed block g) ms
+    go true rest = rw (e m.bytes, rest) refl
+    go false rest = rw rest refl
+
 pub changed-none : (block : ℕ) (f : List ℕ → List ℕ) (ms : List Memory) → ((bytes : List ℕ) → f bytes ≡ bytes) → map (memory_changed block f) ms ≡ ms
 changed-none block f [] e = refl
 changed-none block f (m ∷ ms) e = go (m.block == block) (changed-none block f ms e)
@@ -118,4 +122,31 @@ changed-none block f (m ∷ ms) e = go (m.block == block) (changed-none block f 
     go true rest = rw (e m.bytes, rest) refl
     go false rest = rw rest refl
 
-pub ruleset run_laws = (ends_at_next, ends_before_next, ends_without)
+-- ---- one more run
+
+-- a run of a section lies within it
+pub run_within : (s run : Section) (at stop : ℕ) → s.start ≤ at → at < end_of s → run.start ≡ at → run.len ≡ stop - at → stop ≤ end_of s → is_within run s ≡ true
+run_within s run at stop low inside first len most = grind (arith, nat_tests)
+
+-- a run at which a copy has arrived, with where it ends
+pub record IsRun (s run : Section) (block : ℕ) (attached : List Attachment) (at stop : ℕ) : Type 0 where
+  pub low : s.start ≤ at
+  pub inside : at < end_of s
+  pub first : run.start ≡ at
+  pub len : run.len ≡ stop - at
+  pub ends : IsRunEnd block attached at (end_of s) stop
+
+-- bytes that were written below an address, and then in the run from it on
+pub written_next : (s run : Section) (block : ℕ) (attached : List Attachment) (at stop : ℕ) (source : ℕ → ℕ) (first : ℕ) (old : List ℕ) → IsRun s run block attached at stop
+    → written_bytes (covers run) source first (written_bytes (moved_below s block attached at) source first old) ≡ written_bytes (moved_below s block attached (stop + 8)) source first old
+written_next s run block attached at stop source first old h = written-twice (moved_below s block attached at) (covers run) (moved_below s block attached (stop + 8)) source first old
+    (λ a. below_next s run block attached at stop a h.low h.inside h.first h.len h.ends)
+
+-- before the first run nothing was written
+pub written_start : (s : Section) (block : ℕ) (attached : List Attachment) (source : ℕ → ℕ) (first : ℕ) (old : List ℕ) → written_bytes (moved_below s block attached s.start) source first old ≡ old
+written_start s block attached source first old = written-none (moved_below s block attached s.start) source first old (below_start s block attached)
+
+-- and behind the last one all was
+pub written_end : (s : Section) (block : ℕ) (attached : List Attachment) (at : ℕ) (source : ℕ → ℕ) (first : ℕ) (old : List ℕ) → end_of s ≤ at
+    → written_bytes (moved_below s block attached at) source first old ≡ written_bytes (is_moved s block attached) source first old
+written_end s block attached at source first old h = written-same (moved_below s block attached at) (is_moved s block attached) source first old (λ a. below_end s block attached at a h)

@@ -39,7 +39,8 @@ use Rattle.acc_attach.specs.Attached.{AttachedState}
 use Rattle.acc_clauses.specs.declared.environments.Environment.{Environment}
 use Rattle.acc_clauses.specs.Contents.{state_of, room_of}
 use Rattle.acc_clauses.specs.Acts.{CanMove, CanBear, IsMade, bytes_made, IsRoomLeft, IsActedBy}
-use Rattle.acc_clauses.proofs.Copying.{written-same, moved-clear, born_copied, changed-last}
+use Rattle.acc_clauses.proofs.Runs.{written-same}
+use Rattle.acc_clauses.proofs.Copying.{moved-clear, born_copied, changed-last}
 
 -- ---- ranges
 

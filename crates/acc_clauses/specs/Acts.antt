@@ -13,7 +13,7 @@ use Rattle.acc_base.specs.declared.events.Step.{Step}
 use Rattle.acc_base.specs.declared.events.Step.TheVariants.{Nothing, Counted, Born, Dropped, Moved}
 use Rattle.acc_base.specs.declared.events.Did.{Did}
 use Rattle.acc_base.specs.Limits.{Limits, IsFromOne}
-use Rattle.acc_base.specs.Section.{is_within, host_memory}
+use Rattle.acc_base.specs.Section.{end_of, is_within, host_memory}
 use Rattle.acc_base.specs.Ranges.{range_of, counter_of, where_is, ends_by}
 use Rattle.acc_base.specs.Blocks.{rounded, place_for, block_at}
 use Rattle.acc_base.specs.Records.{Records, State}
@@ -75,9 +75,10 @@ pub record CanCount (counter_max : ℕ) (task : Task) (block : ℕ) (ranges : Li
   pub there : IsSome (range_of block ranges)
   pub below : IsBelowLimit counter_max task block ranges
 
--- the section can be copied between host memory and a block: it lies in host memory and in the range that is mapped to the block, which is there and as long as that range
+-- the section can be copied between host memory and a block: it lies in host memory, which is not too large, and in the range that is mapped to the block, which is there and as long as that range
 pub record CanMove (section : Section) (block : ℕ) (s : State) : Type 0 where
   pub in_host : is_within section (host_memory (length s.host)) ≡ true
+  pub end : end_of section ≤ 2 ^ 40
   pub range : Range
   pub range_is : range_of block s.records.ranges ≡ Some range
   pub within : is_within section range.section ≡ true

@@ -1,5 +1,5 @@
 -- What contracts see of a store and of its parts: the limits, the state, and the room for more.
-use Rattle.std.specs.Prelude.{ℕ, ◌≡◌, List, []}
+use Rattle.std.specs.Prelude.{ℕ, ◌≡◌, List}
 use Rattle.acc_base.specs.Limits.{Limits}
 use Rattle.acc_base.specs.Records.{State, new_state}
 use Rattle.acc_base.specs.Accounts.{AreRecordsSound, AreMemoriesSized}

@@ -102,6 +102,7 @@ fn end(environment: &mut Environment, task: Task, block: u64)
     recount(&mut environment.present, task, block);
     environment.present.remove(block);
     environment.device.retire(block);
+    environment.attached.forget(block);
 }
 
 /// Lowers the counters of a range, or ends its mapping where none is above zero then.

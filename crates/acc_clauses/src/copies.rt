@@ -60,15 +60,14 @@ const POINTER_LEN: u64 = 8;
 
 /// Where the run of bytes from the host address `at` on ends that no attached pointer of the block has: at the next such
 /// pointer, which may begin up to seven bytes below `at`, or at `end`.
-#[tactic(auto, using(crate::proofs::Runs::run_laws))]
 fn run_end(attached: &Attached, block: u64, at: u64, end: u64) -> u64
     requires { at < end }
     ensures { IsRunEnd block attached.now.attached at end result }
 {
     attached.laws();
     match attached.next_pointer(block, at.saturating_sub(POINTER_LEN - 1)) {
-        Some(pointer) if pointer < end => pointer,
-        _ => end,
+        Some(pointer) => pointer.min(end),
+        None => end,
     }
 }
 

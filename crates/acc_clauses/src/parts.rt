@@ -18,8 +18,8 @@ ghost use Rattle.acc_clauses.specs.Acts.{IsJudged, IsKnown, HasRoomFor, HasRegio
 
 use crate::acting::act_on;
 use crate::environments::Environment;
-use acc_base::{Config, Counter, Counters, Fault, Found, Holding, Range, Section, Step, Task};
 use acc_attach::Attached;
+use acc_base::{Config, Counter, Counters, Fault, Found, Holding, Range, Section, Step, Task};
 use acc_dev::Device;
 use acc_host::HostMem;
 use acc_present::Present;

@@ -1,42 +1,36 @@
-use Rattle.std.proofs.Common.{rules, ◌≡◌, ◌-◌, ◌<◌, length, map, true, ℕ, ◌+◌, ◌*◌, ◌≤◌, ◌/◌, ◌%◌, Bool, false, nat_eq, nat_lt, List, [], ◌∷◌, ◌++◌, slice_index_or, slice_set, bit_and, bit_or, Fits, w8, w32, w64, Bor, MutBor}
-use Rattle.acc_base.specs.Section.{covers, is_within, host_memory}
-use Rattle.acc_base.specs.Ranges.{start_of}
-use Rattle.acc_base.specs.Bytes.{bytes_of, is_moved, bytes_moved_in, bytes_moved_out, memory_changed}
-use Rattle.acc_dev.specs.Device.{HasBlock}
-use Rattle.acc_present.specs.Present.{HasRange}
-use Rattle.acc_clauses.specs.Contents.{state_of}
-use Rattle.acc_clauses.specs.Acts.{CanMove}
-use Rattle.acc_clauses.specs.Copies.{IsRunEnd}
+use Rattle.std.proofs.Common.{◌∙◌, arith}
+use Rattle.acc_clauses.proofs.Sweeping.{out_first, out_next, out_last, out_run, out_in_host, out_within}
 use Rattle.acc_clauses.proofs.copies.copy_out.Goals as goal
 
--- src/copies.rt:92:15
-pub overflow_add-end : goal.overflow_add-end
-overflow_add-end c = ?
-
--- src/copies.rt:94:5
 pub loop-at-init : goal.loop-at-init
-loop-at-init c = ?
+loop-at-init c = record { low = omega arith; most = omega arith; swept = out_first c.args.section c.args.block c.start_of-start.result c.args.environment.now }
 
--- src/copies.rt:96:9
 pub run_out-requires-clause-in_host : goal.run_out-requires-clause-in_host
-run_out-requires-clause-in_host c = ?
+run_out-requires-clause-in_host c =
+    let i = c.loop-at.invariant in
+    let run = out_run c.args.section c.run_from.result c.args.block c.start_of-start.result c.loop-at.at c.run_end-stop.result c.args.environment.now c.loop-at.environment i.swept i.low c.loop-at-test.true c.run_from.ensures.start c.run_from.ensures.len c.run_end-stop.ensures in
+    out_in_host c.args.section c.run_from.result c.args.block c.start_of-start.result c.loop-at.at c.run_end-stop.result c.args.environment.now c.loop-at.environment i.swept run c.requires.can
 
--- src/copies.rt:96:9
 pub run_out-requires-clause-there : goal.run_out-requires-clause-there
-run_out-requires-clause-there c = ?
+run_out-requires-clause-there c = rw c.loop-at.invariant.swept c.requires.can.there
 
--- src/copies.rt:96:9
 pub run_out-requires-clause-within : goal.run_out-requires-clause-within
-run_out-requires-clause-within c = ?
+run_out-requires-clause-within c =
+    let i = c.loop-at.invariant in
+    let run = out_run c.args.section c.run_from.result c.args.block c.start_of-start.result c.loop-at.at c.run_end-stop.result c.args.environment.now c.loop-at.environment i.swept i.low c.loop-at-test.true c.run_from.ensures.start c.run_from.ensures.len c.run_end-stop.ensures in
+    out_within c.args.section c.run_from.result c.args.block c.start_of-start.result c.loop-at.at c.run_end-stop.result c.args.environment.now c.loop-at.environment i.swept run c.requires.can c.start_of-start.ensures
 
--- src/copies.rt:103:14
-pub overflow_add-at : goal.overflow_add-at
-overflow_add-at c = ?
-
--- src/copies.rt:94:5
 pub loop-at-preserved : goal.loop-at-preserved
-loop-at-preserved c = ?
+loop-at-preserved c =
+    let i = c.loop-at.invariant in
+    let run = out_run c.args.section c.run_from.result c.args.block c.start_of-start.result c.loop-at.at c.run_end-stop.result c.args.environment.now c.loop-at.environment i.swept i.low c.loop-at-test.true c.run_from.ensures.start c.run_from.ensures.len c.run_end-stop.ensures in
+    record {
+      low = omega (arith, i.low, c.run_end-stop.ensures.more);
+      most = omega (arith, c.run_end-stop.ensures.most);
+      swept = out_next c.args.section c.run_from.result c.args.block c.start_of-start.result c.loop-at.at c.run_end-stop.result c.args.environment.now c.loop-at.environment c.run_out.new.host i.swept run c.run_out.ensures;
+    }
 
--- src/copies.rt:87:1
 pub returns : goal.returns
-returns c = ?
+returns c =
+    let last = out_last c.args.section c.args.block c.start_of-start.result c.loop-at.at c.args.environment.now (omega arith) in
+    rw (← c.start_of-start.ensures) (c.loop-at.invariant.swept ∙ last)

@@ -1,0 +1,121 @@
+-- A copy in runs, on the parts of a data environment: what holds before each run, and what one more run leaves.
+use Rattle.std.proofs.Common.{ℕ, ◌≡◌, ◌+◌, ◌-◌, ◌<◌, ◌≤◌, refl, sym, ◌∙◌, ap, Bool, true, false, cond, List, [], ◌∷◌, length, map, Some, arith}
+use Rattle.std.specs.Prelude.{◌==◌, find, unwrap_or, option_map, slice_index}
+use Rattle.std.proofs.lemmas.Bool.Decides.{nat_tests}
+use Rattle.acc_base.specs.declared.items.Section.{Section}
+use Rattle.acc_base.specs.declared.attachments.Attachment.{Attachment}
+use Rattle.acc_base.specs.Section.{covers, end_of, is_within, host_memory, host_base}
+use Rattle.acc_base.specs.Ranges.{start_of}
+use Rattle.acc_base.specs.Records.{Memory}
+use Rattle.acc_base.specs.Bytes.{bytes_of, host_byte, memory_changed, is_moved, bytes_moved_in, bytes_moved_out}
+use Rattle.acc_base.proofs.Memories.{length-moved_in, length-moved_out}
+use Rattle.acc_dev.specs.Device.{DeviceState}
+use Rattle.acc_clauses.specs.declared.environments.Environment.{Environment}
+use Rattle.acc_clauses.specs.Contents.{state_of}
+use Rattle.acc_clauses.specs.Acts.{CanMove}
+use Rattle.acc_clauses.specs.Copies.{moved_below, IsRunEnd}
+use Rattle.acc_clauses.proofs.Steps.{within_block}
+use Rattle.acc_clauses.proofs.Runs.{IsRun, run_within, written_next, written_start, written_end, changed-twice, changed-none, changed_same}
+
+-- ---- runs and blocks
+
+within_both : (s t u : Section) → is_within s t ≡ true → is_within t u ≡ true → is_within s u ≡ true
+within_both s t u h k = grind (arith, nat_tests)
+
+-- a run of a section that lies in a memory lies in one as long
+pub run_fits : (section run : Section) (block : ℕ) (attached : List Attachment) (at stop start n m : ℕ) → IsRun section run block attached at stop → is_within section (record { start = start; len = n }) ≡ true → m ≡ n
+    → is_within run (record { start = start; len = m }) ≡ true
+run_fits section run block attached at stop start n m h inside e = rw e (within_both run section (record { start = start; len = n }) (run_within section run at stop h.low h.inside h.first h.len h.ends.most) inside)
+
+-- the bytes of a block stay as many
+pub length-changed : (block : ℕ) (f : List ℕ → List ℕ) (ms : List Memory) → ((bytes : List ℕ) → length (f bytes) ≡ length bytes) → length (bytes_of block (map (memory_changed block f) ms)) ≡ length (bytes_of block ms)
+length-changed block f [] keeps = refl
+length-changed block f (m ∷ ms) keeps = go (m.block == block) refl (length-changed block f ms keeps)
+  where
+    go : (b : Bool) → (m.block == block) ≡ b → length (bytes_of block (map (memory_changed block f) ms)) ≡ length (bytes_of block ms)
+        → length (bytes_of block (cond b (record m { bytes = f m.bytes }) m ∷ map (memory_changed block f) ms)) ≡ length (unwrap_or (option_map (λ (x : Memory). x.bytes) (cond b (Some m) (find (λ x. x.block == block) ms))) [])
+    go true e rest = rw e (keeps m.bytes)
+    go false e rest = rw e rest
+
+-- ---- to host memory
+
+-- the parts once the runs below an address were copied to host memory
+abbrev pub swept_out : Section → ℕ → ℕ → ℕ → Environment → Environment
+swept_out section block start at x = record x { host = bytes_moved_out (moved_below section block x.attached.attached at) (bytes_of block x.device.memories) start x.host }
+
+pub out_first : (section : Section) (block start : ℕ) (x : Environment) → x ≡ swept_out section block start section.start x
+out_first section block start x = ap (λ h. let y : Environment = record x { host = h } in y) (sym (written_start section block x.attached.attached (λ a. slice_index (bytes_of block x.device.memories) (a - start)) host_base x.host))
+
+pub out_next : (section run : Section) (block start at stop : ℕ) (x y : Environment) (host : List ℕ) → y ≡ swept_out section block start at x → IsRun section run block x.attached.attached at stop
+    → host ≡ bytes_moved_out (covers run) (bytes_of block y.device.memories) start y.host → record y { host = host } ≡ swept_out section block start (stop + 8) x
+out_next section run block start at stop x y host e h is =
+    let done : host ≡ bytes_moved_out (covers run) (bytes_of block x.device.memories) start (swept_out section block start at x).host = rw e at is in
+    ap (λ (g : Environment). let z : Environment = record g { host = host } in z) e
+    ∙ ap (λ b. let z : Environment = record x { host = b } in z) (done ∙ written_next section run block x.attached.attached at stop (λ a. slice_index (bytes_of block x.device.memories) (a - start)) host_base x.host h)
+
+pub out_last : (section : Section) (block start at : ℕ) (x : Environment) → end_of section ≤ at
+    → swept_out section block start at x ≡ record x { host = bytes_moved_out (is_moved section block x.attached.attached) (bytes_of block x.device.memories) start x.host }
+out_last section block start at x h = ap (λ b. let z : Environment = record x { host = b } in z) (written_end section block x.attached.attached at (λ a. slice_index (bytes_of block x.device.memories) (a - start)) host_base x.host h)
+
+-- ---- to a block
+
+-- the parts once the runs below an address were copied to the block
+abbrev pub swept_in : Section → ℕ → ℕ → ℕ → Environment → Environment
+swept_in section block start at x = record x { device = record x.device { memories = map (memory_changed block (bytes_moved_in (moved_below section block x.attached.attached at) x.host start)) x.device.memories } }
+
+-- the parts with other memories
+abbrev with_memories : Environment → List Memory → Environment
+with_memories x ms = record x { device = record x.device { memories = ms } }
+
+pub in_first : (section : Section) (block start : ℕ) (x : Environment) → x ≡ swept_in section block start section.start x
+in_first section block start x = ap (with_memories x) (sym (changed-none block (bytes_moved_in (moved_below section block x.attached.attached section.start) x.host start) x.device.memories
+    (λ bytes. written_start section block x.attached.attached (host_byte x.host) start bytes)))
+
+pub in_next : (section run : Section) (block start at stop : ℕ) (x y : Environment) (device : DeviceState) → y ≡ swept_in section block start at x → IsRun section run block x.attached.attached at stop
+    → device ≡ record y.device { memories = map (memory_changed block (bytes_moved_in (covers run) y.host start)) y.device.memories } → record y { device = device } ≡ swept_in section block start (stop + 8) x
+in_next section run block start at stop x y device e h is =
+    let below : List ℕ → List ℕ = bytes_moved_in (moved_below section block x.attached.attached at) x.host start in
+    let next : List ℕ → List ℕ = bytes_moved_in (covers run) x.host start in
+    let done : device ≡ record x.device { memories = map (memory_changed block next) (map (memory_changed block below) x.device.memories) } = rw e at is in
+    ap (λ (g : Environment). let z : Environment = record g { device = device } in z) e
+    ∙ (ap (λ d. let z : Environment = record x { device = d } in z) done
+    ∙ ap (with_memories x) (changed-twice block below next (bytes_moved_in (moved_below section block x.attached.attached (stop + 8)) x.host start) x.device.memories
+    (λ bytes. written_next section run block x.attached.attached at stop (host_byte x.host) start bytes h)))
+
+pub in_last : (section : Section) (block start at : ℕ) (x : Environment) → end_of section ≤ at
+    → swept_in section block start at x ≡ record x { device = record x.device { memories = map (memory_changed block (bytes_moved_in (is_moved section block x.attached.attached) x.host start)) x.device.memories } }
+in_last section block start at x h = ap (with_memories x) (changed_same block (bytes_moved_in (moved_below section block x.attached.attached at) x.host start) (bytes_moved_in (is_moved section block x.attached.attached) x.host start) x.device.memories
+    (λ bytes. written_end section block x.attached.attached at (host_byte x.host) start bytes h))
+
+-- ---- what each run needs of the parts, and what they say of it
+
+-- the run that a copy to host memory makes next
+pub out_run : (section run : Section) (block start at stop : ℕ) (x y : Environment) → y ≡ swept_out section block start at x → section.start ≤ at → at < end_of section → run.start ≡ at → run.len ≡ stop - at
+    → IsRunEnd block y.attached.attached at (end_of section) stop → IsRun section run block x.attached.attached at stop
+out_run section run block start at stop x y e low inside first len ends = record { low = low; inside = inside; first = first; len = len; ends = rw e at ends }
+
+pub out_in_host : (section run : Section) (block start at stop : ℕ) (x y : Environment) → y ≡ swept_out section block start at x → IsRun section run block x.attached.attached at stop → CanMove section block (state_of x 0)
+    → is_within run (host_memory (length y.host)) ≡ true
+out_in_host section run block start at stop x y e h can = run_fits section run block x.attached.attached at stop host_base (length x.host) (length y.host) h can.in_host
+    (ap (λ (g : Environment). length g.host) e ∙ length-moved_out (moved_below section block x.attached.attached at) (bytes_of block x.device.memories) start x.host)
+
+pub out_within : (section run : Section) (block start at stop : ℕ) (x y : Environment) → y ≡ swept_out section block start at x → IsRun section run block x.attached.attached at stop → CanMove section block (state_of x 0)
+    → start ≡ start_of block x.present.table.ranges → is_within run (record { start = start; len = length (bytes_of block y.device.memories) }) ≡ true
+out_within section run block start at stop x y e h can starts = run_fits section run block x.attached.attached at stop start (length (bytes_of block x.device.memories)) (length (bytes_of block y.device.memories)) h
+    (within_block section block start (state_of x 0) can starts) (ap (λ (g : Environment). length (bytes_of block g.device.memories)) e)
+
+-- the run that a copy to a block makes next
+pub in_run : (section run : Section) (block start at stop : ℕ) (x y : Environment) → y ≡ swept_in section block start at x → section.start ≤ at → at < end_of section → run.start ≡ at → run.len ≡ stop - at
+    → IsRunEnd block y.attached.attached at (end_of section) stop → IsRun section run block x.attached.attached at stop
+in_run section run block start at stop x y e low inside first len ends = record { low = low; inside = inside; first = first; len = len; ends = rw e at ends }
+
+pub in_in_host : (section run : Section) (block start at stop : ℕ) (x y : Environment) → y ≡ swept_in section block start at x → IsRun section run block x.attached.attached at stop → CanMove section block (state_of x 0)
+    → is_within run (host_memory (length y.host)) ≡ true
+in_in_host section run block start at stop x y e h can = run_fits section run block x.attached.attached at stop host_base (length x.host) (length y.host) h can.in_host (ap (λ (g : Environment). length g.host) e)
+
+pub in_within : (section run : Section) (block start at stop : ℕ) (x y : Environment) → y ≡ swept_in section block start at x → IsRun section run block x.attached.attached at stop → CanMove section block (state_of x 0)
+    → start ≡ start_of block x.present.table.ranges → is_within run (record { start = start; len = length (bytes_of block y.device.memories) }) ≡ true
+in_within section run block start at stop x y e h can starts = run_fits section run block x.attached.attached at stop start (length (bytes_of block x.device.memories)) (length (bytes_of block y.device.memories)) h
+    (within_block section block start (state_of x 0) can starts)
+    (ap (λ (g : Environment). length (bytes_of block g.device.memories)) e
+    ∙ length-changed block (bytes_moved_in (moved_below section block x.attached.attached at) x.host start) x.device.memories (length-moved_in (moved_below section block x.attached.attached at) x.host start))

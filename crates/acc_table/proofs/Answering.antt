@@ -107,7 +107,7 @@ part_of w section block offset bounds a e =
     let host : IsInHost w.limits found.0.section × (is_within section found.0.section ≡ true) =
     found_has (λ r. IsInHost w.limits r.section) (λ r. is_within section r.section) ranges found.0 records.ranges_apart.in_host found.1.around in
     let is : range_of block ranges ≡ Some found.0 = subst (λ n. range_of n ranges ≡ Some found.0) found.1.block_is own.0 in
-    let move : CanMove section block w.state = can_move w.limits w.state section block records a.sound.memories_sized (record { range = found.0; range_is = is; within = own.1 }) in
+    let move : CanMove section block w.state = can_move w.limits w.state section block bounds records a.sound.memories_sized (record { range = found.0; range_is = is; within = own.1 }) in
     let same : move.range ≡ found.0 = (let r : range_of block ranges ≡ Some move.range = move.range_is in cc) in
     let len : length (bytes_of block w.state.memories) ≡ found.0.section.len = move.len ∙ ap (λ (r : Range). r.section.len) same in
     let bounds_of : (found.0.section.start ≤ section.start) × (end_of section ≤ end_of found.0.section) = (let t : is_within section found.0.section ≡ true = own.1 in grind (arith, nat_tests)) in

@@ -17,6 +17,8 @@ pub mod AllTasks
 pub mod Registers
 pub mod Told
 pub mod Accounted
+pub mod Aimed
 pub mod Runs
 mod Examples
 mod RegionExamples
+mod PointerExamples

@@ -1,5 +1,5 @@
 -- Which bytes of a block are those of attached pointers.
-use Rattle.std.proofs.Common.{ℕ, ◌≡◌, ◌≤◌, refl, Bool, true, false, cond, List, [], ◌∷◌, Option, Some, None, arith}
+use Rattle.std.proofs.Common.{ℕ, ◌≡◌, ◌≤◌, refl, Bool, true, false, cond, List, [], ◌∷◌, Some, arith}
 use Rattle.std.specs.Prelude.{◌==◌, ◌&&◌, ◌||◌, nat_le, find, option_map}
 use Rattle.std.specs.List.{AllByRecursion}
 use Rattle.std.proofs.lemmas.Bool.Decides.{nat_tests}

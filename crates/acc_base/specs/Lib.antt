@@ -12,6 +12,7 @@ pub mod Clauses
 pub mod Tasks
 pub mod Walk
 pub mod Bytes
+pub mod Pointers
 pub mod Judge
 pub mod Calls
 pub mod History

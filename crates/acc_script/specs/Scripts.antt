@@ -11,7 +11,8 @@ use Rattle.acc_base.specs.Limits.{Limits}
 use Rattle.acc_base.specs.Calls.{World, new_world, Verdict, Makes, Idle, judge, world_after, open_regions}
 use Rattle.acc_base.specs.Register.{newest_region}
 use Rattle.acc_base.specs.Ranges.{where_is}
-use Rattle.acc_table.specs.Queries.{is_inside, device_address_of, host_read_of, device_read_of}
+use Rattle.acc_base.specs.Pointers.{device_address_of}
+use Rattle.acc_table.specs.Queries.{is_inside, host_read_of, device_read_of}
 use Rattle.acc_script.specs.declared.print.effects.Effect.{Effect}
 use Rattle.acc_script.specs.declared.print.effects.Effect.TheVariants.{Nothing, Refused, HostBytes, DeviceBytes, Presence, Place, Reported}
 use Rattle.acc_script.specs.declared.runs.Status.{Status}

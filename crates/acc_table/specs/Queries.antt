@@ -1,5 +1,5 @@
 -- What the queries of a table answer.
-use Rattle.std.specs.Prelude.{ℕ, ◌+◌, ◌-◌, ◌<◌, ◌≤◌, Bool, true, false, ◌||◌, if◌then◌else◌, List, length, take, drop, Option, Some, None, option_map, Contains}
+use Rattle.std.specs.Prelude.{ℕ, ◌-◌, ◌<◌, ◌≤◌, Bool, true, false, ◌||◌, if◌then◌else◌, List, length, take, drop, Option, Some, None, option_map, Contains}
 use Rattle.std.specs.List.{AllByRecursion}
 use Rattle.acc_base.specs.declared.items.Section.{Section}
 use Rattle.acc_base.specs.declared.mappings.Range.{Range}
@@ -7,7 +7,7 @@ use Rattle.acc_base.specs.declared.mappings.Block.{Block}
 use Rattle.acc_base.specs.declared.mappings.Counters.{Counters}
 use Rattle.acc_base.specs.declared.mappings.Found.{Found}
 use Rattle.acc_base.specs.declared.mappings.Found.TheVariants.{Inside}
-use Rattle.acc_base.specs.Section.{IsWithin, is_empty, is_within, host_memory, host_base, only}
+use Rattle.acc_base.specs.Section.{IsWithin, is_empty, is_within, host_memory, host_base}
 use Rattle.acc_base.specs.Ranges.{where_is, range_from, dynamic_of, structured_of}
 use Rattle.acc_base.specs.Blocks.{place_of}
 use Rattle.acc_base.specs.Records.{Records, Memory, State}
@@ -31,15 +31,6 @@ counters_in _ ranges = None
 -- the counters of the range that a section of these records is inside
 abbrev pub counters_at : Section → Records → Option Counters
 counters_at s w = counters_in (where_is s w.ranges) w.ranges
-
--- the block's device address, and the offset
-abbrev pub address_in : Found → List Block → Option ℕ
-address_in (Inside block offset) blocks = Some (place_of block blocks + offset)
-address_in _ blocks = None
-
--- the device address that a host address is mapped to
-abbrev pub device_address_of : ℕ → Records → Option ℕ
-device_address_of address w = address_in (where_is (only address) w.ranges) w.blocks
 
 -- a range as it is reported, with the device address of its block
 abbrev pub mapped_as : List Block → Range → Mapped

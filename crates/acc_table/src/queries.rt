@@ -5,7 +5,8 @@ ghost use Rattle.acc_base.specs.Blocks.{used_bytes};
 ghost use Rattle.acc_base.specs.Calls.{event_count, open_regions};
 ghost use Rattle.acc_base.specs.Register.{newest_region};
 ghost use Rattle.acc_base.specs.Ranges.{where_is, IsPlacedAt};
-ghost use Rattle.acc_table.specs.Queries.{is_inside, IsInsideOne, counters_at, device_address_of, mapped_from, IsLeastFrom, host_read_of, device_read_of};
+ghost use Rattle.acc_base.specs.Pointers.{device_address_of};
+ghost use Rattle.acc_table.specs.Queries.{is_inside, IsInsideOne, counters_at, mapped_from, IsLeastFrom, host_read_of, device_read_of};
 
 use crate::calls::Mapped;
 use crate::tables::Table;

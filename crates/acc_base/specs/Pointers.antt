@@ -1,0 +1,118 @@
+-- Pointers: where one lies on the device, what it is to be aimed at, and what attaching and detaching it does (OpenACC 3.3, sections 2.6.8 and 2.7.2).
+use Rattle.std.specs.Prelude.{ℕ, ◌+◌, ◌-◌, ◌%◌, Bool, false, not, if◌then◌else◌, ◌==◌, List, map, take, drop, Option, Some, None, slice_index, Result, Ok, ⊤}
+use Rattle.std.specs.Int.{to_le_bytes, from_le_bytes, w64}
+use Rattle.acc_base.specs.declared.mappings.Range.{Range}
+use Rattle.acc_base.specs.declared.mappings.Block.{Block}
+use Rattle.acc_base.specs.declared.mappings.Found.{Found}
+use Rattle.acc_base.specs.declared.mappings.Found.TheVariants.{Empty, Inside, Partly, Absent}
+use Rattle.acc_base.specs.declared.attachments.Attachment.{Attachment}
+use Rattle.acc_base.specs.declared.attachments.Aim.{Aim}
+use Rattle.acc_base.specs.declared.attachments.Aim.TheVariants as aims
+use Rattle.acc_base.specs.declared.faults.Fault.{Fault}
+use Rattle.acc_base.specs.declared.faults.Fault.TheVariants.{OutOfHost, Misaligned}
+use Rattle.acc_base.specs.Results.{◌>>◌, refuse_if}
+use Rattle.acc_base.specs.Limits.{Limits}
+use Rattle.acc_base.specs.Section.{covers, is_within, host_memory, host_base, only}
+use Rattle.acc_base.specs.Ranges.{where_is, start_of}
+use Rattle.acc_base.specs.Blocks.{place_of}
+use Rattle.acc_base.specs.Attachments.{pointer_at, count_at, attach, detach, attached_by}
+use Rattle.acc_base.specs.Records.{Records, Memory, State}
+use Rattle.acc_base.specs.Bytes.{bytes_of, host_byte, written_bytes, memory_changed}
+
+-- ---- what is refused before all else
+
+-- the eight bytes of an item's pointer, if it has one, lie in host memory, from a multiple of eight on
+abbrev pub pointer_checked : Limits → ℕ → Option ℕ → Result ⊤ Fault
+pointer_checked l n None = Ok tt
+pointer_checked l n (Some pointer) = refuse_if (not (is_within (pointer_at pointer) (host_memory l.host))) (OutOfHost n) >> refuse_if (not (pointer % 8 == 0)) (Misaligned n)
+
+-- ---- where a pointer lies, and what it holds
+
+-- the block of the range that a section is inside
+abbrev pub block_in : Found → Option ℕ
+block_in Empty = None
+block_in (Inside block offset) = Some block
+block_in Partly = None
+block_in Absent = None
+
+-- the block that holds a pointer: its eight bytes are inside one range
+abbrev pub block_with : ℕ → List Range → Option ℕ
+block_with pointer ranges = block_in (where_is (pointer_at pointer) ranges)
+
+-- the number that the eight bytes of a pointer are, in bytes of which the first has this address
+abbrev pub pointer_in : ℕ → ℕ → List ℕ → ℕ
+pointer_in first pointer bytes = from_le_bytes w64 (take 8 (drop (pointer - first) bytes))
+
+-- the address that the host's pointer holds
+abbrev pub host_pointer : ℕ → State → ℕ
+host_pointer pointer s = pointer_in host_base pointer s.host
+
+-- the address that the pointer in a block holds
+abbrev pub device_pointer : ℕ → ℕ → State → ℕ
+device_pointer block pointer s = pointer_in (start_of block s.records.ranges) pointer (bytes_of block s.memories)
+
+-- the device address of the section that lies there
+abbrev pub address_in : Found → List Block → Option ℕ
+address_in Empty blocks = None
+address_in (Inside block offset) blocks = Some (place_of block blocks + offset)
+address_in Partly blocks = None
+address_in Absent blocks = None
+
+-- the device address that a host address is mapped to
+abbrev pub device_address_of : ℕ → Records → Option ℕ
+device_address_of address w = address_in (where_is (only address) w.ranges) w.blocks
+
+-- what a pointer is to be aimed at: the device address of the address that the host's pointer holds; no range has the address of a null pointer
+abbrev pub target_of : ℕ → State → Option ℕ
+target_of pointer s = device_address_of (host_pointer pointer s) s.records
+
+-- ---- attaching and detaching
+
+-- a pointer that lies in a block is aimed at a target; where one of them is missing, nothing is done
+abbrev pub attach_there : Limits → ℕ → ℕ → Option ℕ → Option ℕ → State → Result Aim Fault
+attach_there l n pointer None target s = Ok aims.None
+attach_there l n pointer (Some block) None s = Ok aims.None
+attach_there l n pointer (Some block) (Some target) s = attach l.counter_max n block pointer target (device_pointer block pointer s) s.records.attached
+
+-- attaching the pointer of the item at place n
+unfoldable pub judge_attach : Limits → ℕ → ℕ → State → Result Aim Fault
+judge_attach l n pointer s = attach_there l n pointer (block_with pointer s.records.ranges) (target_of pointer s) s
+
+abbrev pub detach_there : Bool → ℕ → Option ℕ → List Attachment → Aim
+detach_there immediate pointer None attached = aims.None
+detach_there immediate pointer (Some block) attached = detach immediate block pointer attached
+
+-- detaching a pointer where it is present, with `finalize` at once
+unfoldable pub judge_detach : Bool → ℕ → Records → Aim
+judge_detach immediate pointer w = detach_there immediate pointer (block_with pointer w.ranges) w.attached
+
+abbrev pub release_there : ℕ → ℕ → Option ℕ → List Attachment → Aim
+release_there pointer block None attached = aims.None
+release_there pointer block (Some now) attached = if now == block then detach false block pointer attached else aims.None
+
+-- detaching the pointer that an entry to a region attached, where it is still present in the block of then
+unfoldable pub judge_release : Option (ℕ × ℕ) → Records → Aim
+judge_release None w = aims.None
+judge_release (Some aim) w = release_there aim.0 aim.1 (block_with aim.0 w.ranges) w.attached
+
+-- ---- what it leaves
+
+-- the memories with eight bytes from a source written over a pointer in a block
+abbrev pub pointer_written : ℕ → ℕ → (ℕ → ℕ) → State → List Memory
+pointer_written block pointer source s = map (memory_changed block (written_bytes (covers (pointer_at pointer)) source (start_of block s.records.ranges))) s.memories
+
+-- an attachment writes the target's device address, and a detachment to zero the host's bytes
+abbrev pub memories_aimed : Aim → State → List Memory
+memories_aimed aims.None s = s.memories
+memories_aimed (aims.New pointer block target) s = pointer_written block pointer (λ a. slice_index (to_le_bytes w64 target) (a - pointer)) s
+memories_aimed (aims.Again pointer block) s = s.memories
+memories_aimed (aims.Less pointer block) s = if count_at block pointer s.records.attached == 1 then pointer_written block pointer (host_byte s.host) s else s.memories
+memories_aimed (aims.Cleared pointer block) s = pointer_written block pointer (host_byte s.host) s
+
+-- the records after an attachment or a detachment
+abbrev pub records_aimed : Aim → Records → Records
+records_aimed aim w = record w { attached = attached_by aim w.attached }
+
+-- and the state
+unfoldable pub aimed : Aim → State → State
+aimed aim s = record { records = records_aimed aim s.records; register = s.register; host = s.host; memories = memories_aimed aim s }

@@ -11,6 +11,7 @@ mod drafts;
 mod effects;
 mod heads;
 mod judging;
+mod notes;
 mod parts;
 mod planning;
 mod plans;

@@ -28,7 +28,8 @@ use Rattle.acc_base.proofs.Walked.{records-act_all_state, register-act_all_state
 use Rattle.acc_base.proofs.AllTasks.{sum_by-reverse}
 use Rattle.acc_base.proofs.Registers.{IsNumbered, AreFew, next_region, opened_regions, opened_few, closed_few, closed_held}
 use Rattle.acc_clauses.specs.declared.plans.Head.{Head}
-use Rattle.acc_clauses.specs.Planned.{Planned, IsPlannedOn, head_of, holding_by, holdings_by, register_by, register_planned}
+use Rattle.acc_clauses.specs.declared.plans.Head.TheVariants.{Plain, Entry, Leaving}
+use Rattle.acc_clauses.specs.Planned.{Planned, IsPlannedOn, head_of, holding_by, holdings_by, held_by, register_by, register_planned}
 use Rattle.acc_clauses.specs.Contents.{Contents}
 use Rattle.acc_clauses.specs.Acts.{IsKnown, AreKnown, HasRegionRoom, CanFinish}
 use Rattle.acc_clauses.specs.Stored.{IsHoldingWithin, AreHoldingsWithin, IsStoreSound}
@@ -140,6 +141,11 @@ holdings_few (t ∷ ts) (d ∷ ds) =
     let both : length (holding_by t d ++ holdings_by ts ds) ≡ length (holding_by t d) + length (holdings_by ts ds) = length-append (holding_by t d) (holdings_by ts ds) in
     omega (arith, later, both, one_holding t d)
 
+pub held_few : (head : Head) (tasks : List Task) (dids : List Did) → length (held_by head tasks dids) ≤ length tasks
+held_few Plain tasks dids = omega arith
+held_few Entry tasks dids = holdings_few tasks dids
+held_few (Leaving number) tasks dids = omega arith
+
 numbered_of : (c : Contents) → IsStoreSound c → IsNumbered c.state.register
 numbered_of c h = record { first = h.sound.layout.register.first; rising = h.sound.layout.register.rising; known = h.sound.layout.register.known }
 
@@ -189,9 +195,9 @@ within_after d c p bounds h planned = go d planned.head planned.tasks
     go (directives.Update items if_present) x e = subst (IsWithinBy v p g) (sym x) kept
 
 -- what is done to the parts is what the plan says
-pub finished : (p : Planned) (head : Head) (ts : List Task) (ds : List Did) (s t u : State) → ts ≡ p.tasks → ds ≡ p.dids → head ≡ p.head → t ≡ act_all_state ts ds s → u ≡ record t { register = register_by head (holdings_by ts ds) t.register }
+pub finished : (p : Planned) (ts : List Task) (ds : List Did) (s t u : State) → ts ≡ p.tasks → ds ≡ p.dids → t ≡ act_all_state ts ds s → u ≡ record t { register = register_planned p t.register }
     → u ≡ record (act_all_state p.tasks p.dids s) { register = register_planned p s.register }
-finished p head ts ds s t u a b c e f = f ∙ rw (e, a, b, c) (ap (λ (g : Register). record (act_all_state p.tasks p.dids s) { register = register_by p.head (holdings_by p.tasks p.dids) g }) (register-act_all_state p.tasks p.dids s))
+finished p ts ds s t u a b e f = f ∙ rw (e, a, b) (ap (λ (g : Register). record (act_all_state p.tasks p.dids s) { register = register_planned p g }) (register-act_all_state p.tasks p.dids s))
 
 -- a store is sound after a plan
 pub plan_sound : (d : Directive) (c f : Contents) (p : Planned) → IsWithinBounds c.limits → IsStoreSound c → IsPlannedOn c.limits d (layout_of c.state) p → f.limits ≡ c.limits

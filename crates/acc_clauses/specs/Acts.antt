@@ -7,6 +7,7 @@ use Rattle.acc_base.specs.declared.items.Item.{Item}
 use Rattle.acc_base.specs.declared.items.RegionClause.{RegionClause}
 use Rattle.acc_base.specs.declared.mappings.Range.{Range}
 use Rattle.acc_base.specs.declared.mappings.Found.TheVariants.{Absent}
+use Rattle.acc_base.specs.declared.regions.Holding.{Holding}
 use Rattle.acc_base.specs.declared.tasks.Task.{Task}
 use Rattle.acc_base.specs.declared.tasks.Task.TheVariants.{Enter, Leave, Exit, Move}
 use Rattle.acc_base.specs.declared.events.Step.{Step}
@@ -26,7 +27,7 @@ use Rattle.acc_dev.specs.Device.{DeviceState, birth_place}
 use Rattle.acc_clauses.specs.declared.environments.Environment.{Environment}
 use Rattle.acc_clauses.specs.declared.plans.Head.{Head}
 use Rattle.acc_clauses.specs.declared.plans.Head.TheVariants.{Plain, Entry, Leaving}
-use Rattle.acc_clauses.specs.Planned.{Planned}
+use Rattle.acc_clauses.specs.Planned.{Planned, in_written_order, held_by}
 use Rattle.acc_clauses.specs.Contents.{Room, Contents, state_of, room_of}
 
 -- ---- what is known of a task
@@ -204,3 +205,11 @@ CanFinish (Leaving number) tasks c = IsSome (region_at number c.state.register.r
 pub record HasPlanRoom (p : Planned) (room : Room) : Type 0 where
   pub births : HasRoomFor (lens_born p.tasks p.dids) room
   pub region : HasRegionRoom (length p.tasks) room
+
+-- ---- what a plan notes
+
+-- beside the tasks of a plan with this head stand what they do in written order, the lengths of the blocks that they bear, and what a region holds that they enter
+pub record IsNoted (head : Head) (tasks : List Task) (dids did : List Did) (lens : List ℕ) (holdings : List Holding) : Type 0 where
+  pub did_is : did ≡ in_written_order head dids
+  pub lens_are : lens ≡ lens_born tasks dids
+  pub holdings_are : holdings ≡ held_by head tasks dids

@@ -66,6 +66,12 @@ abbrev pub holdings_by : List Task → List Did → List Holding
 holdings_by (task ∷ tasks) (did ∷ dids) = holding_by task did ++ holdings_by tasks dids
 holdings_by _ _ = []
 
+-- what a region holds that is entered by these tasks; nothing where none is entered
+abbrev pub held_by : Head → List Task → List Did → List Holding
+held_by Plain tasks dids = []
+held_by Entry tasks dids = holdings_by tasks dids
+held_by (Leaving number) tasks dids = []
+
 -- the register after a directive, whose entry holds these
 abbrev pub register_by : Head → List Holding → Register → Register
 register_by Plain holdings g = g

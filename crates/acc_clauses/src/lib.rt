@@ -12,6 +12,7 @@ mod effects;
 mod environments;
 mod heads;
 mod judging;
+mod notes;
 mod parts;
 mod planning;
 mod plans;

@@ -11,8 +11,9 @@ ghost use Rattle.acc_clauses.specs.Planned.{HasFewHoldings, asked_of, head_of, I
 use crate::acted::Acted;
 use crate::drafts::Draft;
 use crate::judging::judge;
+use crate::notes::{note_births, note_held, tell_written};
 use crate::parts::Parts;
-use crate::plans::{Head, Plan, tell_written};
+use crate::plans::{Head, Plan};
 use crate::tasks::{enter_data_tasks, enter_tasks, exit_tasks, leaving_tasks, move_tasks};
 use acc_base::{Directive, Fault, Task};
 use arrayvec::ArrayVec;
@@ -117,6 +118,9 @@ pub(crate) fn plan(parts: &Parts, directive: &Directive, plan: &mut Plan) -> Res
     tasks_of(parts, directive, &mut plan.asked)?;
     let judged = judge_all(parts, &plan.asked, &mut plan.draft);
     plan.head = head_of(directive);
-    tell_written(&mut plan.did, plan.head, plan.draft.acts());
+    let acts = plan.draft.acts();
+    tell_written(&mut plan.did, plan.head, acts);
+    note_births(&mut plan.lens, acts);
+    note_held(&mut plan.holdings, plan.head, acts);
     judged
 }

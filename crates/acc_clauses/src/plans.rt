@@ -2,12 +2,13 @@
 
 ghost use Rattle.std.specs.Prelude.{◌≡◌, ◌≤◌, [], length};
 ghost use Rattle.acc_clauses.specs.Overlays.{tasks_in, dids_in};
-ghost use Rattle.acc_clauses.specs.Planned.{in_written_order};
+ghost use Rattle.acc_clauses.specs.Planned.{in_written_order, held_by};
+ghost use Rattle.acc_clauses.specs.Acts.{lens_born};
 ghost use Rattle.acc_clauses.specs.declared.plans.Head.TheVariants.{Plain};
 
 use crate::acted::Acted;
 use crate::drafts::Draft;
-use acc_base::{Did, Task};
+use acc_base::{Did, Holding, Task};
 use arrayvec::ArrayVec;
 use std::marker::Model;
 
@@ -24,50 +25,30 @@ pub enum Head {
 
 /// A directive that was judged whole: what each of its items will do.
 ///
-/// All of it lies in the value, some 11 KiB for 64 items, so a plan that is used again and again costs nothing to make.
+/// All of it lies in the value, some 14 KiB for 64 items, so a plan that is used again and again costs nothing to make.
 #[derive(Drop)]
 pub struct Plan {
     pub(crate) head: Head,
     // What the items ask, in the order in which they act.
     pub(crate) asked: ArrayVec<Task, 64>,
     pub(crate) draft: Draft,
+    // What was noted of its tasks: what they do in written order, the lengths of the blocks that they bear, and what a
+    // region that they enter holds.
     pub(crate) did: ArrayVec<Did, 64>,
+    pub(crate) lens: ArrayVec<u64, 64>,
+    pub(crate) holdings: ArrayVec<Holding, 64>,
 }
 
 impl Model for Plan {
-    ghost use Rattle.std.specs.Prelude.{◌≡◌};
     ghost use Rattle.acc_clauses.specs.Overlays.{tasks_in, dids_in};
-    ghost use Rattle.acc_clauses.specs.Planned.{Planned, in_written_order};
+    ghost use Rattle.acc_clauses.specs.Planned.{Planned};
+    ghost use Rattle.acc_clauses.specs.Acts.{IsNoted};
 
     ghost Value = { Planned };
 
     ghost view = { λ p. record { head = p.head; tasks = tasks_in p.draft; dids = dids_in p.draft } };
 
-    ghost invariant = { λ p. p.did.items ≡ in_written_order p.head (dids_in p.draft) };
-}
-
-// What the tasks do, in the order in which they act.
-fn tell(did: &mut ArrayVec<Did, 64>, acts: &[Acted])
-    requires { length acts.now ≤ 64 }
-    ensures { did.new.items ≡ dids_in acts.now }
-{
-    did.clear();
-    for x in acts {
-        did.push(Did { step: x.step });
-    }
-}
-
-/// What the tasks do, in the order in which their items are written.
-pub(crate) fn tell_written(did: &mut ArrayVec<Did, 64>, head: Head, acts: &[Acted])
-    requires { length acts.now ≤ 64 }
-    ensures { did.new.items ≡ in_written_order head (dids_in acts.now) }
-{
-    tell(did, acts);
-    match head {
-        Head::Plain => {}
-        Head::Entry => {}
-        Head::Leaving(_) => did.as_mut_slice().reverse(),
-    }
+    ghost invariant = { λ p. IsNoted p.head (tasks_in p.draft) (dids_in p.draft) p.did.items p.lens.items p.holdings.items };
 }
 
 impl Plan {
@@ -80,6 +61,8 @@ impl Plan {
             asked: ArrayVec::new(),
             draft: Draft::new(),
             did: ArrayVec::new(),
+            lens: ArrayVec::new(),
+            holdings: ArrayVec::new(),
         }
     }
 
@@ -104,5 +87,20 @@ impl Plan {
         ensures { result.now ≡ in_written_order self.now.head self.now.dids }
     {
         &self.did
+    }
+
+    /// The lengths of the blocks that its tasks bear, one after the other.
+    pub(crate) fn lens(&self) -> &[u64]
+        ensures lens { result.now ≡ lens_born self.now.tasks self.now.dids }
+        ensures few { length result.now ≤ 64 }
+    {
+        &self.lens
+    }
+
+    /// What the region that it enters holds, in written order; nothing where it enters none.
+    pub(crate) fn holdings(&self) -> &[Holding]
+        ensures { result.now ≡ held_by self.now.head self.now.tasks self.now.dids }
+    {
+        &self.holdings
     }
 }

@@ -24,7 +24,7 @@ use crate::judging::in_host;
 use crate::parts::Parts;
 use crate::planning;
 use crate::plans::Plan;
-use crate::running::{act_all, lens_of};
+use crate::running::act_all;
 use acc_base::{Config, Counters, Directive, Fault, Found, Range, Section};
 use std::alloc::Global;
 use std::marker::Model;
@@ -101,8 +101,7 @@ impl Store {
         ensures only { IfErr result (λ fault. fault ≡ Memory) }
     {
         self.parts.laws();
-        let acts = plan.acts();
-        self.parts.reserve(&lens_of(acts), acts.len() as u64)
+        self.parts.reserve(plan.lens(), plan.acts().len() as u64)
     }
 
     /// Does a plan of this store, for which room was made. It takes no memory and is never refused.
@@ -117,9 +116,8 @@ impl Store {
         ensures state { (d : Directive) → IsPlannedOn self.old.limits d (layout_of self.old.state) plan.now → self.new.state ≡ after (event_of d self.old.state.register plan.now.dids) [] self.old.state }
     {
         self.parts.laws();
-        let acts = plan.acts();
-        act_all(&mut self.parts, acts);
-        finish(&mut self.parts, plan.head(), acts);
+        act_all(&mut self.parts, plan.acts());
+        finish(&mut self.parts, plan);
         self.parts.laws();
     }
 

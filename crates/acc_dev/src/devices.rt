@@ -147,8 +147,7 @@ impl Device {
         self.ready.clear();
         let count = lens.len() as u64;
         make_room(&mut self.holes, &mut self.slab, &mut self.index, count)?;
-        self.ready = empty_vectors(self.alloc, lens)?;
-        Ok(())
+        make_vectors(&mut self.ready, self.alloc, lens)
     }
 
     /// Makes a block as [`Device::born`] does, where room for a birth of this length was made by [`Device::reserve`] and
@@ -324,17 +323,32 @@ fn byte_that_fills(zero: bool) -> u8
     if zero { 0 } else { FILL_BYTE }
 }
 
-/// An empty vector for each length, with room for as many bytes.
-fn empty_vectors(alloc: Global, lens: &[u64]) -> Result<VecDeque<Vec<u8>>, Fault>
-    ensures room { IfOk result (λ vectors. map (λ v. vec_capacity v) vectors.items ≡ lens.now) }
-    ensures empty { IfOk result (λ vectors. AllByRecursion (λ v. v.items ≡ []) vectors.items) }
+/// Puts an empty vector for each length, with room for as many bytes, into a list that is empty.
+fn add_vectors(vectors: &mut VecDeque<Vec<u8>>, alloc: Global, lens: &[u64]) -> Result<(), Fault>
+    requires { vectors.old.items ≡ [] }
+    ensures room { OnOk result (map (λ v. vec_capacity v) vectors.new.items ≡ lens.now) }
+    ensures empty { OnOk result (AllByRecursion (λ v. v.items ≡ []) vectors.new.items) }
     ensures only { IfErr result (λ fault. fault ≡ Fault.Memory) }
 {
-    let mut vectors = VecDeque::new(alloc);
     for len in lens {
         vectors.push_back(Vec::with_capacity(alloc, *len as usize)?)?;
     }
-    Ok(vectors)
+    Ok(())
+}
+
+/// As [`add_vectors`], but the list is empty again where memory is refused. It keeps its own room.
+fn make_vectors(vectors: &mut VecDeque<Vec<u8>>, alloc: Global, lens: &[u64]) -> Result<(), Fault>
+    requires { vectors.old.items ≡ [] }
+    ensures room { OnOk result (map (λ v. vec_capacity v) vectors.new.items ≡ lens.now) }
+    ensures empty { OnOk result (AllByRecursion (λ v. v.items ≡ []) vectors.new.items) }
+    ensures none { OnErr result (vectors.new.items ≡ []) }
+    ensures only { IfErr result (λ fault. fault ≡ Fault.Memory) }
+{
+    let made = add_vectors(vectors, alloc, lens);
+    if made.is_err() {
+        vectors.clear();
+    }
+    made
 }
 
 /// Fills an empty vector that has room with the bytes of a new block.

@@ -22,55 +22,53 @@ act_all-requires-clause-judged c =
     let k : Contents = c.self.inside.parts in
     let p = c.args.plan.now in
     let planned : IsPlan k p = subst (λ (x : Contents). IsPlan x p) (sym c.self.view_is) c.requires.planned in
-    subst (λ (ts : List Task). AreJudged k.limits 0 ts (dids_in c.acts-acts.result.now) k.state.records) (sym c.acts-acts.ensures.tasks)
-    (subst (λ (ds : List Did). AreJudged k.limits 0 p.tasks ds k.state.records) (sym c.acts-acts.ensures.dids) planned.1.judged)
+    subst (λ (ts : List Task). AreJudged k.limits 0 ts (dids_in c.acts.result.now) k.state.records) (sym c.acts.ensures.tasks)
+    (subst (λ (ds : List Did). AreJudged k.limits 0 p.tasks ds k.state.records) (sym c.acts.ensures.dids) planned.1.judged)
 
 pub act_all-requires-clause-known : goal.act_all-requires-clause-known
 act_all-requires-clause-known c =
     let k : Contents = c.self.inside.parts in
     let p = c.args.plan.now in
     let planned : IsPlan k p = subst (λ (x : Contents). IsPlan x p) (sym c.self.view_is) c.requires.planned in
-    subst (λ (ts : List Task). AreKnown ts (dids_in c.acts-acts.result.now) k.state.records) (sym c.acts-acts.ensures.tasks)
-    (subst (λ (ds : List Did). AreKnown p.tasks ds k.state.records) (sym c.acts-acts.ensures.dids) (plan_known planned.0 k p c.laws.ensures.limits c.self.invariant planned.1))
+    subst (λ (ts : List Task). AreKnown ts (dids_in c.acts.result.now) k.state.records) (sym c.acts.ensures.tasks)
+    (subst (λ (ds : List Did). AreKnown p.tasks ds k.state.records) (sym c.acts.ensures.dids) (plan_known planned.0 k p c.laws.ensures.limits c.self.invariant planned.1))
 
 pub act_all-requires-clause-room : goal.act_all-requires-clause-room
 act_all-requires-clause-room c =
     let k : Contents = c.self.inside.parts in
     let p = c.args.plan.now in
     let room : HasPlanRoom p k.room = subst (λ (x : Contents). HasPlanRoom p x.room) (sym c.self.view_is) c.requires.room in
-    subst (λ (ts : List Task). HasRoomFor (lens_born ts (dids_in c.acts-acts.result.now)) k.room) (sym c.acts-acts.ensures.tasks)
-    (subst (λ (ds : List Did). HasRoomFor (lens_born p.tasks ds) k.room) (sym c.acts-acts.ensures.dids) room.births)
+    subst (λ (ts : List Task). HasRoomFor (lens_born ts (dids_in c.acts.result.now)) k.room) (sym c.acts.ensures.tasks)
+    (subst (λ (ds : List Did). HasRoomFor (lens_born p.tasks ds) k.room) (sym c.acts.ensures.dids) room.births)
 
-pub finish-requires-clause-can : goal.finish-requires-clause-can
-finish-requires-clause-can c =
+pub finish-requires : goal.finish-requires
+finish-requires c =
     let k : Contents = c.self.inside.parts in
     let f : Contents = c.act_all.new.parts in
     let p = c.args.plan.now in
-    let acts = c.acts-acts.result.now in
+    let acts = c.acts.result.now in
     let planned : IsPlan k p = subst (λ (x : Contents). IsPlan x p) (sym c.self.view_is) c.requires.planned in
     let room : HasPlanRoom p k.room = subst (λ (x : Contents). HasPlanRoom p x.room) (sym c.self.view_is) c.requires.room in
     let next : k.state.register.next < 2 ^ 48 = subst (λ (x : Contents). x.state.register.next < 2 ^ 48) (sym c.self.view_is) c.requires.next in
     let same : f.state.register ≡ k.state.register = ap (λ (s : State). s.register) c.act_all.ensures.state ∙ register-act_all_state (tasks_in acts) (dids_in acts) k.state in
-    let len : length acts ≡ length p.tasks = sym (length-map acts (λ x. x.task)) ∙ ap (λ (ts : List Task). length ts) c.acts-acts.ensures.tasks in
-    subst (λ (h : Head). CanFinish h (length acts) f) (sym c.head.ensures)
-    (subst (λ (n : ℕ). CanFinish p.head n f) (sym len) (plan_can planned.0 k f p c.self.invariant planned.1 next room.region same c.act_all.ensures.room_regions c.act_all.ensures.room_holdings))
+    plan_can planned.0 k f p c.self.invariant planned.1 next room.region same c.act_all.ensures.room_regions c.act_all.ensures.room_holdings
 
 pub invariant_of-self : goal.invariant_of-self
 invariant_of-self c =
     let k : Contents = c.self.inside.parts in
     let p = c.args.plan.now in
-    let acts = c.acts-acts.result.now in
+    let acts = c.acts.result.now in
     let planned : IsPlan k p = subst (λ (x : Contents). IsPlan x p) (sym c.self.view_is) c.requires.planned in
     plan_sound planned.0 k c.finish.new.parts p c.laws.ensures.limits c.self.invariant planned.1 (c.finish.ensures.limits ∙ c.act_all.ensures.limits)
-    (finished p c.head.result (tasks_in acts) (dids_in acts) k.state c.act_all.new.parts.state c.finish.new.parts.state c.acts-acts.ensures.tasks c.acts-acts.ensures.dids c.head.ensures c.act_all.ensures.state c.finish.ensures.state)
+    (finished p (tasks_in acts) (dids_in acts) k.state c.act_all.new.parts.state c.finish.new.parts.state c.acts.ensures.tasks c.acts.ensures.dids c.act_all.ensures.state c.finish.ensures.state)
     c.laws-2.ensures.used
 
 pub returns-clause-state : goal.returns-clause-state
 returns-clause-state c = λ d given.
     let k : Contents = c.self.inside.parts in
     let p = c.args.plan.now in
-    let acts = c.acts-acts.result.now in
+    let acts = c.acts.result.now in
     let P : Contents → Type 0 = λ x. IsPlannedOn x.limits d (layout_of x.state) p → c.finish.new.parts.state ≡ after (event_of d x.state.register p.dids) [] x.state in
     subst P c.self.view_is
-    (λ on. finished p c.head.result (tasks_in acts) (dids_in acts) k.state c.act_all.new.parts.state c.finish.new.parts.state c.acts-acts.ensures.tasks c.acts-acts.ensures.dids c.head.ensures c.act_all.ensures.state c.finish.ensures.state
+    (λ on. finished p (tasks_in acts) (dids_in acts) k.state c.act_all.new.parts.state c.finish.new.parts.state c.acts.ensures.tasks c.acts.ensures.dids c.act_all.ensures.state c.finish.ensures.state
     ∙ sym (after_plan k.limits d k.state p on)) given

@@ -1,7 +1,7 @@
 use Rattle.std.proofs.Common.{◌≡◌, ◌≤◌, ◌++◌, length, drop}
 use Rattle.acc_clauses.specs.Overlays.{tasks_in, dids_in}
 use Rattle.acc_clauses.specs.Acts.{lens_born}
-use Rattle.acc_clauses.proofs.running.lens_of.Given as goal
+use Rattle.acc_clauses.proofs.notes.note_births.Given as goal
 
 -- the lengths so far, before those of the tasks that are left, are those of all tasks
 abbrev pub invariant-loop-x : goal.invariant-loop-x

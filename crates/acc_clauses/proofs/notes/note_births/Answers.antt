@@ -3,7 +3,7 @@ use Rattle.std.proofs.lemmas.List.{drop_more}
 use Rattle.acc_clauses.specs.Overlays.{tasks_in, dids_in}
 use Rattle.acc_clauses.specs.Acts.{lens_born}
 use Rattle.acc_clauses.proofs.Remaining.{lens_done}
-use Rattle.acc_clauses.proofs.running.lens_of.Goals as goal
+use Rattle.acc_clauses.proofs.notes.note_births.Goals as goal
 
 pub loop-x-preserved : goal.loop-x-preserved
 loop-x-preserved c =
@@ -16,5 +16,5 @@ loop-x-preserved c =
       so_far = ap (λ ls. ls ++ rest) c.note_birth.ensures.lens ∙ (append_assoc c.loop-x.lens.items _ rest ∙ so_far);
     }
 
-pub returns-clause-lens : goal.returns-clause-lens
-returns-clause-lens c = lens_done c.args.acts.now c.loop-x.x-index c.loop-x.lens.items _ (omega arith) c.loop-x.invariant.so_far
+pub returns : goal.returns
+returns c = lens_done c.args.acts.now c.loop-x.x-index c.loop-x.lens.items _ (omega arith) c.loop-x.invariant.so_far

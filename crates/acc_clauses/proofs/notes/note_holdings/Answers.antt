@@ -3,7 +3,7 @@ use Rattle.std.proofs.lemmas.List.{drop_more}
 use Rattle.acc_clauses.specs.Overlays.{tasks_in, dids_in}
 use Rattle.acc_clauses.specs.Planned.{holdings_by}
 use Rattle.acc_clauses.proofs.Remaining.{holdings_done}
-use Rattle.acc_clauses.proofs.heads.holdings_by.Goals as goal
+use Rattle.acc_clauses.proofs.notes.note_holdings.Goals as goal
 
 pub loop-x-preserved : goal.loop-x-preserved
 loop-x-preserved c =
@@ -16,5 +16,5 @@ loop-x-preserved c =
       so_far = ap (λ hs. hs ++ rest) c.note_holding.ensures.holdings ∙ (append_assoc c.loop-x.holdings.items _ rest ∙ so_far);
     }
 
-pub returns-clause-holdings : goal.returns-clause-holdings
-returns-clause-holdings c = holdings_done c.args.acts.now c.loop-x.x-index c.loop-x.holdings.items _ (omega arith) c.loop-x.invariant.so_far
+pub returns : goal.returns
+returns c = holdings_done c.args.acts.now c.loop-x.x-index c.loop-x.holdings.items _ (omega arith) c.loop-x.invariant.so_far

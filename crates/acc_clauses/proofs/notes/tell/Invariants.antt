@@ -1,6 +1,6 @@
 use Rattle.std.proofs.Common.{◌≡◌, ◌++◌, drop, length}
 use Rattle.acc_clauses.specs.Overlays.{dids_in}
-use Rattle.acc_clauses.proofs.plans.tell.Given as goal
+use Rattle.acc_clauses.proofs.notes.tell.Given as goal
 
 abbrev pub invariant-loop-x : goal.invariant-loop-x
 invariant-loop-x l = record {

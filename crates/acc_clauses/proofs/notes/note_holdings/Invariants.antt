@@ -1,7 +1,7 @@
 use Rattle.std.proofs.Common.{◌≡◌, ◌≤◌, ◌++◌, length, drop}
 use Rattle.acc_clauses.specs.Overlays.{tasks_in, dids_in}
 use Rattle.acc_clauses.specs.Planned.{holdings_by}
-use Rattle.acc_clauses.proofs.heads.holdings_by.Given as goal
+use Rattle.acc_clauses.proofs.notes.note_holdings.Given as goal
 
 -- the holdings so far, before those of the tasks that are left, are those of all tasks
 abbrev pub invariant-loop-x : goal.invariant-loop-x

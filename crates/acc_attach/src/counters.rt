@@ -85,31 +85,42 @@ pub fn skips(attached: &[Attachment], block: u64, address: u64) -> bool
     }
 }
 
-/// A new counter, where there is room for it.
-pub fn add(attached: &mut Vec<Attachment>, new: Attachment)
+/// A counter that was zero is one, where there is room for it.
+pub fn add(attached: &mut Vec<Attachment>, block: u64, pointer: u64)
     requires rising { EachPair IsBefore attached.old.items }
-    requires some { 0 < new.count }
-    requires new { find (is_of new.block new.pointer) attached.old.items ≡ None }
+    requires new { find (is_of block pointer) attached.old.items ≡ None }
     requires room { vec_len attached.old < vec_capacity attached.old }
-    ensures attached { attached.new.items ≡ with_count new.block new.pointer new.count attached.old.items }
+    ensures attached { attached.new.items ≡ with_count block pointer 1 attached.old.items }
     ensures len { vec_len attached.new ≡ vec_len attached.old + 1 }
     ensures capacity { vec_capacity attached.old ≤ vec_capacity attached.new }
 {
-    let at = place_of(attached, new.block, new.pointer);
-    let _ = attached.insert(at, new);
+    let at = place_of(attached, block, pointer);
+    let count = 1;
+    let _ = attached.insert(
+        at,
+        Attachment {
+            block,
+            pointer,
+            count,
+        },
+    );
 }
 
-/// Gives a counter another value, which is not zero.
-pub fn set(attached: &mut Vec<Attachment>, new: Attachment)
+/// Gives a counter that is not zero another value, which is not zero.
+pub fn set(attached: &mut Vec<Attachment>, block: u64, pointer: u64, count: u64)
     requires rising { EachPair IsBefore attached.old.items }
-    requires some { 0 < new.count }
-    requires there { IsSome (find (is_of new.block new.pointer) attached.old.items) }
-    ensures attached { attached.new.items ≡ with_count new.block new.pointer new.count attached.old.items }
+    requires some { 0 < count }
+    requires there { IsSome (find (is_of block pointer) attached.old.items) }
+    ensures attached { attached.new.items ≡ with_count block pointer count attached.old.items }
     ensures len { vec_len attached.new ≡ vec_len attached.old }
     ensures capacity { vec_capacity attached.new ≡ vec_capacity attached.old }
 {
-    let at = place_of(attached, new.block, new.pointer);
-    attached[at] = new;
+    let at = place_of(attached, block, pointer);
+    attached[at] = Attachment {
+        block,
+        pointer,
+        count,
+    };
 }
 
 /// Takes out a counter, which then is zero.

@@ -2,3 +2,4 @@ pub mod Splitting
 pub mod Placed
 pub mod Forgetting
 pub mod Keeping
+pub mod Leaving

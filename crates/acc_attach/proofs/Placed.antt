@@ -45,6 +45,7 @@ find_split test xs i parts = go xs i parts.passed parts.failed
 abbrev pub IsFrom : ℕ → ℕ → Attachment → Type 0
 IsFrom block pointer a = (block < a.block) ⊎ ((a.block ≡ block) × (pointer ≤ a.pointer))
 
+-- what fails the test of standing before a pointer comes there or behind
 pub from : (block pointer : ℕ) (a : Attachment) → is_below block pointer a ≡ false → IsFrom block pointer a
 from block pointer a e = go (nat_lt a.block block) refl (a.block == block) refl (nat_lt a.pointer pointer) refl e
   where
@@ -88,6 +89,7 @@ passed test None = None
 passed test (Some a) = cond (test a) (Some a) None
 
 module _ (block pointer : ℕ) (test : Attachment → Bool) (below : (a : Attachment) → IsBefore a (probe block pointer) → test a ≡ false) (none_after : (a b : Attachment) → IsFrom block pointer a → test a ≡ false → IsBefore a b → test b ≡ false) where
+  -- the search finds the first one from the pointer on, or nothing
   pub find_first : (xs : List Attachment) → EachPair IsBefore xs → find test xs ≡ passed test (find (is_from block pointer) xs)
   find_first [] h = refl
   find_first (x ∷ xs) h = go (find_first xs h.1) (is_below block pointer x) refl
@@ -102,10 +104,12 @@ module _ (block pointer : ℕ) (test : Attachment → Bool) (below : (a : Attach
 
 -- ---- the count of a pointer
 
+-- a counter that stands before a pointer is not its own
 not_of_below : (block pointer : ℕ) (a : Attachment) → IsBefore a (probe block pointer) → is_of block pointer a ≡ false
 not_of_below block pointer a (inl h) = let t : (a.block == block) ≡ false = grind (arith, nat_tests) in rw t
 not_of_below block pointer a (inr h) = let s : (a.block == block) ≡ true = grind (arith, nat_tests, h.0) in let t : (a.pointer == pointer) ≡ false = grind (arith, nat_tests, h.1) in rw (s, t)
 
+-- nor is one behind the first from it on that is not
 not_of_behind : (block pointer : ℕ) (a b : Attachment) → IsFrom block pointer a → is_of block pointer a ≡ false → IsBefore a b → is_of block pointer b ≡ false
 not_of_behind block pointer a b (inl h) e k = rw (later_block block a b h k)
 not_of_behind block pointer a b (inr h) e k = elim (same_or_later block a b h.0 k) [
@@ -117,6 +121,7 @@ not_of_behind block pointer a b (inr h) e k = elim (same_or_later block a b h.0 
     go true t = t
     go false t = refl
 
+-- so the counter of a pointer is the first one from it on, or there is none
 find_of : (block pointer : ℕ) (xs : List Attachment) → EachPair IsBefore xs → find (is_of block pointer) xs ≡ passed (is_of block pointer) (find (is_from block pointer) xs)
 find_of block pointer xs h = find_first block pointer (is_of block pointer) (not_of_below block pointer) (not_of_behind block pointer) xs h
 
@@ -144,17 +149,21 @@ uncounted_past block pointer xs h e =
 abbrev begins_from : ℕ → ℕ → Attachment → Bool
 begins_from block address a = a.block == block && nat_le address a.pointer
 
+-- a counter that stands before an address passes no such test
 not_next_below : (block address : ℕ) (a : Attachment) → IsBefore a (probe block address) → begins_from block address a ≡ false
 not_next_below block address a (inl h) = let t : (a.block == block) ≡ false = grind (arith, nat_tests) in rw t
 not_next_below block address a (inr h) = let s : (a.block == block) ≡ true = grind (arith, nat_tests, h.0) in let t : nat_le address a.pointer ≡ false = grind (arith, nat_tests, h.1) in rw (s, t)
 
+-- one of the block from there on does
 next_test : (block address : ℕ) (a : Attachment) → a.block ≡ block → address ≤ a.pointer → begins_from block address a ≡ true
 next_test block address a is le = let s : (a.block == block) ≡ true = grind (arith, nat_tests) in let t : nat_le address a.pointer ≡ true = grind (arith, nat_tests) in rw (s, t)
 
+-- and where the first from there on does not, no later one does
 not_next_behind : (block address : ℕ) (a b : Attachment) → IsFrom block address a → begins_from block address a ≡ false → IsBefore a b → begins_from block address b ≡ false
 not_next_behind block address a b (inl h) e k = rw (later_block block a b h k)
 not_next_behind block address a b (inr h) e k = let t = next_test block address a h.0 h.1 in cc
 
+-- so the next pointer is that of the first one, or there is none
 find_next : (block address : ℕ) (xs : List Attachment) → EachPair IsBefore xs → find (begins_from block address) xs ≡ passed (begins_from block address) (find (is_from block address) xs)
 find_next block address xs h = find_first block address (begins_from block address) (not_next_below block address) (not_next_behind block address) xs h
 
@@ -188,6 +197,7 @@ next_past block address xs h e =
 abbrev skips : ℕ → ℕ → Attachment → Bool
 skips block address a = a.block == block && covers (pointer_at a.pointer) address
 
+-- a pointer that begins more than seven bytes below an address does not reach it
 not_skipped_below : (block address : ℕ) (a : Attachment) → IsBefore a (probe block (address - 7)) → skips block address a ≡ false
 not_skipped_below block address a (inl h) = let t : (a.block == block) ≡ false = grind (arith, nat_tests) in rw t
 not_skipped_below block address a (inr h) = go (a.block == block) (nat_le a.pointer address)
@@ -213,6 +223,7 @@ skips_test block address a (inr h) = go (a.block == block) (nat_le a.pointer add
     go true false = refl
     go false t = refl
 
+-- where the first from seven bytes below on does not cover it, no later one does
 not_skipped_behind : (block address : ℕ) (a b : Attachment) → IsFrom block (address - 7) a → skips block address a ≡ false → IsBefore a b → skips block address b ≡ false
 not_skipped_behind block address a b (inl h) e k = rw (later_block block a b h k)
 not_skipped_behind block address a b (inr h) e k = elim (same_or_later block a b h.0 k) [
@@ -240,6 +251,7 @@ any_found test (x ∷ xs) = go (any_found test xs) (test x)
     go rest true = refl
     go rest false = rest
 
+-- so that one alone tells whether an address is skipped
 skipped_found : (block address : ℕ) (xs : List Attachment) → EachPair IsBefore xs → is_skipped block xs address ≡ is_some (passed (skips block address) (find (is_from block (address - 7)) xs))
 skipped_found block address xs h = any_found (skips block address) xs ∙ ap (λ (o : Option Attachment). is_some o) (find_first block (address - 7) (skips block address) (not_skipped_below block address) (not_skipped_behind block address) xs h)
 
@@ -257,6 +269,7 @@ skipped_past block address xs h e = sym (skipped_found block address xs h ∙ ap
 
 -- ---- changes at a place
 
+-- equality is tested either way round
 same_test : (a b : ℕ) → (a == b) ≡ (b == a)
 same_test a b = go (a == b) refl (b == a) refl
   where
@@ -286,6 +299,7 @@ test_not_behind new x e = go (is_before new x) refl
     go true f = absurd (not_self (before-trans x new x (before x new e) (before new x f)))
     go false f = refl
 
+-- a counter that passes the test of standing before a pointer is not its own
 not_of : (block pointer : ℕ) (a : Attachment) → is_below block pointer a ≡ true → is_of block pointer a ≡ false
 not_of block pointer a e = not_of_below block pointer a (before a (probe block pointer) e)
 
@@ -298,6 +312,7 @@ without_none block pointer (x ∷ xs) h = rw h.0 (ap (λ ys. x ∷ ys) (without_
 none_behind : (block pointer : ℕ) (x : Attachment) (xs : List Attachment) → is_of block pointer x ≡ true → AllByRecursion (IsBefore x) xs → AllByRecursion (λ y. is_of block pointer y ≡ false) xs
 none_behind block pointer x xs e h = AllByRecursion-weaker (IsBefore x) (λ y. is_of block pointer y ≡ false) xs (λ y k. before-other block pointer x y k e) h
 
+-- a counter that is new stands at its place
 insert_at : (new : Attachment) (xs : List Attachment) (i : ℕ) → AllByRecursion (λ x. is_below new.block new.pointer x ≡ true) (take i xs) → AllByRecursion (λ x. is_below new.block new.pointer x ≡ false) (drop i xs) → AllByRecursion (λ x. is_of new.block new.pointer x ≡ false) xs → with_attachment new xs ≡ insert xs i new
 insert_at new [] zero p f h = refl
 insert_at new [] (suc i) p f h = refl
@@ -316,6 +331,7 @@ pub record IsThere (block pointer : ℕ) (xs : List Attachment) (i : ℕ) (d : A
   pub bound : i < length xs
   pub its_own : is_of block pointer (get_or xs i d) ≡ true
 
+-- where a pointer has a counter, it stands at its place
 pub there : (block pointer : ℕ) (xs : List Attachment) (i : ℕ) (d : Attachment) → EachPair IsBefore xs → IsSplitBy (is_below block pointer) xs i → IsSome (find (is_of block pointer) xs) → IsThere block pointer xs i d
 there block pointer xs i d h parts some = go xs i h parts.passed parts.failed some
   where
@@ -339,6 +355,7 @@ taken_out block pointer xs i d h parts is = sym (go xs i h parts.passed is.bound
     go (y ∷ ys) zero r p lt e = rw e (without_none block pointer ys (none_behind block pointer y ys e r.0))
     go (y ∷ ys) (suc j) r p lt e = rw (not_of block pointer y p.0) (ap (λ zs. y ∷ zs) (go ys j r.1 p.1 (omega arith) e))
 
+-- a counter that stands before all others goes in first
 first_with : (new : Attachment) (xs : List Attachment) → AllByRecursion (λ x. is_before new x ≡ true) xs → with_attachment new xs ≡ new ∷ xs
 first_with new [] h = refl
 first_with new (x ∷ xs) h = rw h.0

@@ -112,33 +112,12 @@ impl Attached {
     {
         let count = count_of(&self.attached, block, pointer);
         if count == 0 {
-            add(
-                &mut self.attached,
-                Attachment {
-                    block,
-                    pointer,
-                    count: 1,
-                },
-            );
+            add(&mut self.attached, block, pointer);
         } else if now == target {
-            set(
-                &mut self.attached,
-                Attachment {
-                    block,
-                    pointer,
-                    count: count + 1,
-                },
-            );
+            set(&mut self.attached, block, pointer, count + 1);
             return Aim::Again { pointer, block };
         } else {
-            set(
-                &mut self.attached,
-                Attachment {
-                    block,
-                    pointer,
-                    count: 1,
-                },
-            );
+            set(&mut self.attached, block, pointer, 1);
         }
         Aim::New {
             pointer,
@@ -156,21 +135,10 @@ impl Attached {
         ensures spare { self.old.spare ≤ self.new.spare }
     {
         let count = count_of(&self.attached, block, pointer);
-        if count == 0 {
-            return Left::Nothing;
+        if count <= 1 {
+            return self.detach_now(block, pointer);
         }
-        if count == 1 {
-            take_out(&mut self.attached, block, pointer);
-            return Left::Zero;
-        }
-        set(
-            &mut self.attached,
-            Attachment {
-                block,
-                pointer,
-                count: count - 1,
-            },
-        );
+        set(&mut self.attached, block, pointer, count - 1);
         Left::Less
     }
 

@@ -8,24 +8,24 @@ ghost use Rattle.acc_attach.specs.Kept.{IsSplitBy, is_below, is_from};
 use acc_base::Attachment;
 
 /// It is the counter of this pointer in the block.
-fn is_of(a: Attachment, block: u64, pointer: u64) -> bool
-    ensures { result ≡ is_of block pointer a }
+fn is_of(counter: Attachment, block: u64, pointer: u64) -> bool
+    ensures { result ≡ is_of block pointer counter }
 {
-    a.block == block && a.pointer == pointer
+    counter.block == block && counter.pointer == pointer
 }
 
 /// The counter stands before that of this pointer in the block.
-fn is_below(a: Attachment, block: u64, pointer: u64) -> bool
-    ensures { result ≡ is_below block pointer a }
+fn is_below(counter: Attachment, block: u64, pointer: u64) -> bool
+    ensures { result ≡ is_below block pointer counter }
 {
-    a.block < block || a.block == block && a.pointer < pointer
+    counter.block < block || counter.block == block && counter.pointer < pointer
 }
 
 /// The counter is of a pointer of the block that begins at or below an address.
-fn begins_by(a: Attachment, block: u64, address: u64) -> bool
-    ensures { result ≡ (a.block == block && nat_le a.pointer address) }
+fn begins_by(counter: Attachment, block: u64, address: u64) -> bool
+    ensures { result ≡ (counter.block == block && nat_le counter.pointer address) }
 {
-    a.block == block && a.pointer <= address
+    counter.block == block && counter.pointer <= address
 }
 
 /// The place of the counter of a pointer, or the place at which it would stand.
@@ -54,10 +54,14 @@ pub fn count_of(attached: &[Attachment], block: u64, pointer: u64) -> u64
     requires { EachPair IsBefore attached.now }
     ensures { result ≡ count_at block pointer attached.now }
 {
-    let Some(a) = first_from(attached, block, pointer) else {
+    let Some(counter) = first_from(attached, block, pointer) else {
         return 0;
     };
-    if is_of(a, block, pointer) { a.count } else { 0 }
+    if is_of(counter, block, pointer) {
+        counter.count
+    } else {
+        0
+    }
 }
 
 /// The least address, from one on, at which an attached pointer of a block begins.
@@ -65,9 +69,9 @@ pub fn next_of(attached: &[Attachment], block: u64, from: u64) -> Option<u64>
     requires { EachPair IsBefore attached.now }
     ensures { result ≡ next_pointer block from attached.now }
 {
-    let a = first_from(attached, block, from)?;
-    if a.block == block {
-        Some(a.pointer)
+    let counter = first_from(attached, block, from)?;
+    if counter.block == block {
+        Some(counter.pointer)
     } else {
         None
     }
@@ -80,36 +84,44 @@ pub fn skips(attached: &[Attachment], block: u64, address: u64) -> bool
 {
     // A pointer that begins more than seven bytes below ends before the address.
     match first_from(attached, block, address.saturating_sub(7)) {
-        Some(a) => begins_by(a, block, address),
+        Some(counter) => begins_by(counter, block, address),
         None => false,
     }
 }
 
-/// A new counter, where there is room for it.
-pub fn add(attached: &mut Vec<Attachment>, new: Attachment)
+/// A counter that was zero is one, where there is room for it.
+pub fn add(attached: &mut Vec<Attachment>, block: u64, pointer: u64)
     requires rising { EachPair IsBefore attached.old.items }
-    requires some { 0 < new.count }
-    requires new { find (is_of new.block new.pointer) attached.old.items ≡ None }
+    requires new { find (is_of block pointer) attached.old.items ≡ None }
     requires room { vec_len attached.old < vec_capacity attached.old }
-    ensures attached { attached.new.items ≡ with_count new.block new.pointer new.count attached.old.items }
+    ensures attached { attached.new.items ≡ with_count block pointer 1 attached.old.items }
     ensures len { vec_len attached.new ≡ vec_len attached.old + 1 }
     ensures capacity { vec_capacity attached.old ≤ vec_capacity attached.new }
 {
-    let at = place_of(attached, new.block, new.pointer);
+    let at = place_of(attached, block, pointer);
+    let new = Attachment {
+        block,
+        pointer,
+        count: 1,
+    };
     let _ = attached.insert(at, new);
 }
 
-/// Gives a counter another value, which is not zero.
-pub fn set(attached: &mut Vec<Attachment>, new: Attachment)
+/// Gives a counter that is not zero another value, which is not zero.
+pub fn set(attached: &mut Vec<Attachment>, block: u64, pointer: u64, count: u64)
     requires rising { EachPair IsBefore attached.old.items }
-    requires some { 0 < new.count }
-    requires there { IsSome (find (is_of new.block new.pointer) attached.old.items) }
-    ensures attached { attached.new.items ≡ with_count new.block new.pointer new.count attached.old.items }
+    requires some { 0 < count }
+    requires there { IsSome (find (is_of block pointer) attached.old.items) }
+    ensures attached { attached.new.items ≡ with_count block pointer count attached.old.items }
     ensures len { vec_len attached.new ≡ vec_len attached.old }
     ensures capacity { vec_capacity attached.new ≡ vec_capacity attached.old }
 {
-    let at = place_of(attached, new.block, new.pointer);
-    attached[at] = new;
+    let at = place_of(attached, block, pointer);
+    attached[at] = Attachment {
+        block,
+        pointer,
+        count,
+    };
 }
 
 /// Takes out a counter, which then is zero.

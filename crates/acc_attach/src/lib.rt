@@ -8,3 +8,6 @@ mod left;
 
 pub use attaching::Attached;
 pub use left::Left;
+
+#[cfg(test)]
+mod tests;

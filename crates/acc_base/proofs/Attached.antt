@@ -25,6 +25,7 @@ own a = rw (equal_self a.block) (equal_self a.pointer)
 pub same_block : (block pointer : ℕ) (a : Attachment) → is_of block pointer a ≡ true → a.block ≡ block
 same_block block pointer a e = equal a.block block (and_true _ _ e).0
 
+-- and of its address
 pub same_pointer : (block pointer : ℕ) (a : Attachment) → is_of block pointer a ≡ true → a.pointer ≡ pointer
 same_pointer block pointer a e = equal a.pointer pointer (and_true _ _ e).1
 
@@ -50,6 +51,7 @@ behind a b e o = go (nat_lt a.block b.block) refl e (a.block == b.block) refl
         inr (sym block, grind (arith, nat_tests))
     go false f h false g = inl (grind (arith, nat_tests))
 
+-- the order is one
 pub before-trans : (a b c : Attachment) → IsBefore a b → IsBefore b c → IsBefore a c
 before-trans a b c (inl h) (inl k) = inl (omega arith)
 before-trans a b c (inl h) (inr k) = inl (omega (arith, k.0))
@@ -67,6 +69,7 @@ before-other block pointer a b h e = go (is_of block pointer b) refl
 -- ---- searches
 
 module _ (test : Attachment → Bool) where
+  -- a search passes a new counter that does not pass its test
   find-with_other : (new : Attachment) (xs : List Attachment) → test new ≡ false → find test (with_attachment new xs) ≡ find test xs
   find-with_other new [] e = rw e
   find-with_other new (x ∷ xs) e = go (find-with_other new xs e) (is_before new x)
@@ -75,6 +78,7 @@ module _ (test : Attachment → Bool) where
       go rest true = rw e
       go rest false = ap (λ o. cond (test x) (Some x) o) rest
 
+  -- and finds one that does, where no other does
   find-with_new : (new : Attachment) (xs : List Attachment) → test new ≡ true → AllByRecursion (λ x. test x ≡ false) xs → find test (with_attachment new xs) ≡ Some new
   find-with_new new [] e h = rw e
   find-with_new new (x ∷ xs) e h = go (find-with_new new xs e h.1) (is_before new x)
@@ -83,6 +87,7 @@ module _ (test : Attachment → Bool) where
       go rest true = rw e
       go rest false = rw h.0 rest
 
+  -- a search finds what it found where all that passes its test is kept
   find-filter_kept : (keep : Attachment → Bool) (xs : List Attachment) → ((x : Attachment) → test x ≡ true → keep x ≡ true) → find test (filter keep xs) ≡ find test xs
   find-filter_kept keep [] h = refl
   find-filter_kept keep (x ∷ xs) h = go (find-filter_kept keep xs h) (keep x) refl (test x) refl
@@ -184,6 +189,7 @@ count_at-without_other block pointer other xs differs = ap (λ o. unwrap_or (opt
 
 -- ---- the order of the counters
 
+-- what holds of all counters and of a new one holds of all then
 AllByRecursion-with : (P : Attachment → Type 0) (new : Attachment) (xs : List Attachment) → P new → AllByRecursion P xs → AllByRecursion P (with_attachment new xs)
 AllByRecursion-with P new [] p h = (p, tt)
 AllByRecursion-with P new (x ∷ xs) p h = go (AllByRecursion-with P new xs p h.1) (is_before new x)
@@ -192,6 +198,7 @@ AllByRecursion-with P new (x ∷ xs) p h = go (AllByRecursion-with P new xs p h.
     go rest true = (p, h)
     go rest false = (h.0, rest)
 
+-- a new counter goes in where it keeps the order
 rising-with : (new : Attachment) (xs : List Attachment) → AllByRecursion (λ x. is_of new.block new.pointer x ≡ false) xs → EachPair IsBefore xs → EachPair IsBefore (with_attachment new xs)
 rising-with new [] other h = (tt, tt)
 rising-with new (x ∷ xs) other h = go (rising-with new xs other.1 h.1) (is_before new x) refl
@@ -219,6 +226,7 @@ rising-attached_by (aims.Again pointer block) xs h = rising-with_count block poi
 rising-attached_by (aims.Less pointer block) xs h = rising-with_count block pointer (count_at block pointer xs - 1) xs h
 rising-attached_by (aims.Cleared pointer block) xs h = rising-with_count block pointer 0 xs h
 
+-- and after those of a block are forgotten
 pub rising-without : (block : ℕ) (xs : List Attachment) → EachPair IsBefore xs → EachPair IsBefore (without_attachments block xs)
 rising-without block xs h = EachPair-filter IsBefore (λ a. not (a.block == block)) xs h
 
@@ -242,6 +250,7 @@ none_at most block pointer (x ∷ xs) h e = go (none_at most block pointer xs h.
     go rest true k = let some = h.0.some in absurd (omega (arith, k))
     go rest false k = rest k
 
+-- the counters keep their bounds where one is set to a number up to the limit
 pub counted-with_count : (most block pointer count : ℕ) (xs : List Attachment) → count ≤ most → AllByRecursion (IsCountWithin most) xs → AllByRecursion (IsCountWithin most) (with_count block pointer count xs)
 counted-with_count most block pointer count xs le h = go (count == 0) refl
   where
@@ -275,12 +284,13 @@ detached_within most immediate block pointer xs h = go (count_at block pointer x
     go false true = counted-with_count most block pointer 0 xs (omega arith) h
     go false false = let least = count_at-most most block pointer xs h in counted-with_count most block pointer (count_at block pointer xs - 1) xs (omega arith) h
 
+-- the counters that are left of a block that is forgotten keep their bounds
 pub within-without : (most block : ℕ) (xs : List Attachment) → AllByRecursion (IsCountWithin most) xs → AllByRecursion (IsCountWithin most) (without_attachments block xs)
 within-without most block xs h = AllByRecursion-filter (IsCountWithin most) (λ a. not (a.block == block)) xs h
 
 -- ---- the bytes that no transfer touches
 
--- no byte from an address up to the next pointer is one of a pointer
+-- an address is none of a counter's bytes where its pointer, in the block, does not cover it
 skips-false : (block address : ℕ) (a : Attachment) → (a.block ≡ block → covers (pointer_at a.pointer) address ≡ false) → (a.block == block && covers (pointer_at a.pointer) address) ≡ false
 skips-false block address a h = go (a.block == block) refl
   where
@@ -300,6 +310,7 @@ short_of pointer from address e le = go (nat_le pointer address) refl
 past_it : (pointer address : ℕ) → address < pointer → covers (pointer_at pointer) address ≡ false
 past_it pointer address less = let t : nat_le pointer address ≡ false = grind (arith, nat_tests) in rw t
 
+-- where no pointer begins at seven bytes below an address or above, no byte from the address on is skipped
 pub clear_to_end : (block from address : ℕ) (xs : List Attachment) → next_pointer block (from - 7) xs ≡ None → from ≤ address → is_skipped block xs address ≡ false
 clear_to_end block from address [] e le = refl
 clear_to_end block from address (x ∷ xs) e le = go (clear_to_end block from address xs) (x.block == block) refl (nat_le (from - 7) x.pointer) refl e
@@ -310,6 +321,7 @@ clear_to_end block from address (x ∷ xs) e le = go (clear_to_end block from ad
     go rest true f false g h = rw (short_of x.pointer from address g le) (rest h le)
     go rest false f t g h = rest h le
 
+-- nor is one below a pointer skipped for the counters that stand behind it
 clear_behind : (block address : ℕ) (x : Attachment) (xs : List Attachment) → x.block ≡ block → address < x.pointer → AllByRecursion (IsBefore x) xs → is_skipped block xs address ≡ false
 clear_behind block address x [] e less h = refl
 clear_behind block address x (y ∷ ys) e less h = rw (skips-false block address y (λ f. past_it y.pointer address (later f h.0))) (clear_behind block address x ys e less h.1)
@@ -318,6 +330,7 @@ clear_behind block address x (y ∷ ys) e less h = rw (skips-false block address
     later f (inl k) = absurd (omega arith)
     later f (inr k) = omega (arith, k.1)
 
+-- where the next pointer begins above, no byte up to it is skipped
 pub clear_to_next : (block from address next : ℕ) (xs : List Attachment) → EachPair IsBefore xs → next_pointer block (from - 7) xs ≡ Some next → from ≤ address → address < next → is_skipped block xs address ≡ false
 clear_to_next block from address next [] r e le less = cc
 clear_to_next block from address next (x ∷ xs) r e le less = go (clear_to_next block from address next xs r.1) (x.block == block) refl (nat_le (from - 7) x.pointer) refl e

@@ -4,10 +4,10 @@ use Rattle.acc_attach.proofs.counters.set.Goals as goal
 
 pub index_mut-requires : goal.index_mut-requires
 index_mut-requires c =
-    let place = there c.args.new.block c.args.new.pointer c.args.attached.now.items c.place_of-at.result (probe 0 0) c.requires.rising (rw c.deref.ensures.value at c.place_of-at.ensures) c.requires.there in
+    let place = there c.args.block c.args.pointer c.args.attached.now.items c.place_of-at.result (probe 0 0) c.requires.rising (rw c.deref.ensures.value at c.place_of-at.ensures) c.requires.there in
     search (rules, place.bound)
 
 pub returns-clause-attached : goal.returns-clause-attached
 returns-clause-attached c =
     let parts = rw c.deref.ensures.value at c.place_of-at.ensures in
-    changed c.args.new c.args.attached.now.items c.place_of-at.result (probe 0 0) c.requires.some c.requires.rising parts (there c.args.new.block c.args.new.pointer c.args.attached.now.items c.place_of-at.result (probe 0 0) c.requires.rising parts c.requires.there)
+    changed (record { block = c.args.block; pointer = c.args.pointer; count = c.args.count }) c.args.attached.now.items c.place_of-at.result (probe 0 0) c.requires.some c.requires.rising parts (there c.args.block c.args.pointer c.args.attached.now.items c.place_of-at.result (probe 0 0) c.requires.rising parts c.requires.there)

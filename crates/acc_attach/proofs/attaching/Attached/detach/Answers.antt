@@ -3,10 +3,7 @@ use Rattle.acc_attach.proofs.Keeping.{kept_with, count_limit}
 use Rattle.acc_attach.proofs.attaching.Attached.detach.Goals as goal
 
 pub invariant_of-self : goal.invariant_of-self
-invariant_of-self c = rw c.take_out.ensures.attached (kept_with c.self.inside.counter_max c.args.block c.args.pointer 0 c.self.inside.attached.items c.self.invariant (omega arith))
-
-pub invariant_of-self-2 : goal.invariant_of-self-2
-invariant_of-self-2 c =
+invariant_of-self c =
     let count = rw c.deref.ensures.value at c.count_of-count.ensures in
     let most = count_limit c.self.inside.counter_max c.args.block c.args.pointer c.self.inside.attached.items c.self.invariant in
     rw c.set.ensures.attached (kept_with c.self.inside.counter_max c.args.block c.args.pointer _ c.self.inside.attached.items c.self.invariant (omega arith))

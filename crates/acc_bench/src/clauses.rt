@@ -3,6 +3,7 @@
 ghost use Rattle.std.specs.Prelude.{◌<◌, ◌^◌};
 
 use crate::limits::largest;
+use crate::rows::tell;
 use acc_base::{Directive, EnterClause, ExitClause, Fault, HOST_BASE, Item, List, Section};
 use acc_clauses::{Plan, Store};
 use anyhow::Result;
@@ -38,11 +39,31 @@ pub fn run<R: Print + Clock + AllocGlobal>(rt: &R) -> Result<()> {
 
 /// Measures directives beside so many other ranges.
 fn measure<R: Print + Clock + AllocGlobal>(rt: &R, count: u32) -> Result<()> {
-    let mut worker = make_worker(rt.alloc(), count)?;
-    let one = measure_items(rt, &mut worker, count, 1)?;
-    let eight = measure_items(rt, &mut worker, count, 8)?;
-    let most = measure_items(rt, &mut worker, count, 64)?;
-    tell(rt, count, one, eight, most)
+    let mut worker = make_worker(rt.alloc())?;
+    measure_on(rt, &mut worker, count)
+}
+
+/// Maps so many other ranges, and measures directives beside them.
+fn measure_on<R: Print + Clock + AllocGlobal>(
+    rt: &R,
+    worker: &mut Worker,
+    count: u32,
+) -> Result<()> {
+    map_others(worker, rt.alloc(), count)?;
+    let alone = measure_items(rt, worker, count, 1)?;
+    let of_eight = measure_items(rt, worker, count, 8)?;
+    let of_most = measure_items(rt, worker, count, 64)?;
+    let rows = [
+        ("alone", alone),
+        ("each of 8 items", of_eight),
+        ("each of 64 items", of_most),
+    ];
+    tell(
+        rt,
+        "clauses: enter data copyin and exit data delete of 16 bytes, ranges beside",
+        u64::from(count),
+        &rows,
+    )
 }
 
 /// How long each item takes of directives of so many.
@@ -55,49 +76,33 @@ fn measure_items<R: Clock + AllocGlobal>(
     requires { 0 < items }
 {
     let pair = make_pair(rt.alloc(), count, items)?;
-    let taken = time_pairs(rt, worker, &pair)?;
-    Ok(taken / ROUNDS / items)
+    time_pairs(rt, worker, &pair, items)
 }
 
-/// How long it takes to carry out a pair so many times.
-fn time_pairs<R: Clock>(rt: &R, worker: &mut Worker, pair: &Pair) -> Result<Duration> {
+/// How long each of so many items of a pair takes, where the pair is carried out again and again.
+fn time_pairs<R: Clock>(rt: &R, worker: &mut Worker, pair: &Pair, items: u32) -> Result<Duration>
+    requires { 0 < items }
+{
     let start = Instant::now(rt)?;
     carry_out_pairs(worker, pair)?;
     let taken = start.elapsed(rt)?;
-    Ok(taken)
+    Ok(taken / ROUNDS / items)
 }
 
-/// Prints how long an item takes, and how long in percent of what it takes alone.
-fn tell<R: Print>(
-    rt: &R,
-    count: u32,
-    one: Duration,
-    eight: Duration,
-    most: Duration,
-) -> Result<()> {
-    let of_eight = percent(eight, one);
-    let of_most = percent(most, one);
-    println!(rt;
-        "store with {count} other ranges: enter data copyin and exit data delete of 16 bytes: alone {one:?}, each of 8 items {eight:?} ({of_eight} %), each of 64 {most:?} ({of_most} %)"
-    )?;
-    Ok(())
-}
-
-/// How many percent of a duration another is.
-fn percent(part: Duration, whole: Duration) -> u128 {
-    part.as_nanos() * 100 / whole.as_nanos().max(1)
-}
-
-/// A store with so many ranges of 16 bytes that do not touch.
-fn make_worker(alloc: Global, count: u32) -> Result<Worker, Fault> {
-    let mut worker = Worker {
+/// A store on which nothing is mapped.
+fn make_worker(alloc: Global) -> Result<Worker, Fault> {
+    Ok(Worker {
         store: Store::new(alloc, &largest()?)?,
         plan: Plan::new(),
-    };
+    })
+}
+
+/// Maps so many ranges of 16 bytes that do not touch.
+fn map_others(worker: &mut Worker, alloc: Global, count: u32) -> Result<(), Fault> {
     for number in 0..count {
-        carry_out(&mut worker, &enter_data(alloc, number, 1)?)?;
+        carry_out(worker, &enter_data(alloc, number, 1)?)?;
     }
-    Ok(worker)
+    Ok(())
 }
 
 /// Maps and unmaps the sections of a pair, again and again.

@@ -2,6 +2,7 @@
 
 ghost use Rattle.std.specs.Prelude.{◌≡◌, ◌+◌, ◌^◌, ◌≤◌, IfOk, OnOk};
 
+use crate::rows::tell;
 use acc_base::Fault;
 use acc_dev::Device;
 use anyhow::Result;
@@ -26,10 +27,22 @@ fn measure<R: Print + Clock + AllocGlobal>(rt: &R, count: u64) -> Result<()>
     requires { count ≤ 2 ^ 20 }
 {
     let mut device = make_device(rt.alloc(), count)?;
-    let newest = time_newest(rt, &mut device)?;
-    let oldest = time_oldest(rt, &mut device, count)?;
-    let (looked, found) = time_look_ups(rt, &device, count)?;
-    tell(rt, count, newest, oldest, looked, found)
+    measure_on(rt, &mut device, count)
+}
+
+/// Measures the calls on a device with so many other blocks.
+fn measure_on<R: Print + Clock>(rt: &R, device: &mut Device, count: u64) -> Result<()>
+    requires { device.old.births ≤ 2 ^ 20 }
+{
+    let newest = time_newest(rt, device)?;
+    let oldest = time_oldest(rt, device, count)?;
+    let looked = time_look_ups(rt, device, count)?;
+    let rows = [
+        ("born and retire", newest),
+        ("of the oldest", oldest),
+        ("has and bytes", looked),
+    ];
+    tell(rt, "device: blocks beside", count, &rows)
 }
 
 /// How long a birth and the end of that block last.
@@ -53,27 +66,13 @@ fn time_oldest<R: Clock>(rt: &R, device: &mut Device, count: u64) -> Result<Dura
     Ok(taken / ROUNDS as u32)
 }
 
-/// How long a look-up lasts, and how many bytes were found.
-fn time_look_ups<R: Clock>(rt: &R, device: &Device, count: u64) -> Result<(Duration, u64)> {
+/// How long a look-up lasts. It is a nanosecond at least where the number of bytes found is odd, so that no look-up can be
+/// left out.
+fn time_look_ups<R: Clock>(rt: &R, device: &Device, count: u64) -> Result<Duration> {
     let start = Instant::now(rt)?;
     let found = look_up(device, count);
     let taken = start.elapsed(rt)?;
-    Ok((taken / ROUNDS as u32, found))
-}
-
-/// Prints one measurement.
-fn tell<R: Print>(
-    rt: &R,
-    count: u64,
-    newest: Duration,
-    oldest: Duration,
-    looked: Duration,
-    found: u64,
-) -> Result<()> {
-    println!(rt;
-        "device with {count} other blocks: born and retire {newest:?}, of the oldest {oldest:?}, has and bytes {looked:?}, {found} bytes found"
-    )?;
-    Ok(())
+    Ok(taken.max(Duration::from_nanos(found & 1)) / ROUNDS as u32)
 }
 
 /// A device with so many blocks of 16 bytes, and room for one more.

@@ -9,23 +9,41 @@ mod device;
 mod limits;
 mod placement;
 mod present;
+mod rows;
 mod script;
 mod table;
 
 use anyhow::Result;
 use std::env;
+use std::rt::Clock;
+use std::sync::Wait;
+use std::thread::Threads;
 
 fn main(rt: HostRuntime) -> Result<()> {
     match env::args(&rt)?.nth(1) {
-        Some(name) if name.as_str() == "placement" => placement::run(&rt),
-        Some(name) if name.as_str() == "device" => device::run(&rt),
-        Some(name) if name.as_str() == "present" => present::run(&rt),
-        Some(name) if name.as_str() == "clauses" => clauses::run(&rt),
-        Some(name) if name.as_str() == "table" => table::run(&rt),
-        Some(name) if name.as_str() == "script" => script::run(&rt),
-        _ => {
-            println!(rt; "usage: acc_bench placement|device|present|clauses|table|script")?;
-            Ok(())
-        }
+        Some(name) => measure(&rt, &name),
+        None => tell_usage(&rt),
     }
+}
+
+/// Measures the crate of a name, without `acc_`.
+fn measure<R: Print + Clock + Threads + Wait + Sync + AllocGlobal>(
+    rt: &R,
+    name: &str,
+) -> Result<()> {
+    match name {
+        "placement" => placement::run(rt),
+        "device" => device::run(rt),
+        "present" => present::run(rt),
+        "clauses" => clauses::run(rt),
+        "table" => table::run(rt),
+        "script" => script::run(rt),
+        _ => tell_usage(rt),
+    }
+}
+
+/// Prints how the program is called.
+fn tell_usage<R: Print>(rt: &R) -> Result<()> {
+    println!(rt; "usage: acc_bench placement|device|present|clauses|table|script")?;
+    Ok(())
 }

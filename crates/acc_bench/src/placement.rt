@@ -3,6 +3,7 @@
 ghost use Rattle.std.specs.Prelude.{◌≡◌, ◌+◌, ◌^◌, ◌<◌, ◌≤◌, length, IfOk};
 ghost use Rattle.acc_bench.specs.Held.{IsHeld};
 
+use crate::rows::tell;
 use acc_base::{DEVICE_BASE, Fault};
 use acc_placement::Holes;
 use anyhow::Result;
@@ -36,8 +37,9 @@ fn measure<R: Print + Clock + AllocGlobal>(rt: &R, count: u64) -> Result<()>
 {
     let mut sieve = make_sieve(rt.alloc(), count)?;
     let taken = time_takes(rt, &mut sieve)?;
-    let (looked, found) = time_looks(rt, &sieve)?;
-    tell(rt, count, taken, looked, found)
+    let looked = time_looks(rt, &sieve)?;
+    let rows = [("take and give back", taken), ("would_take", looked)];
+    tell(rt, "placement: small holes", count, &rows)
 }
 
 /// How long a take with its give back lasts.
@@ -50,20 +52,13 @@ fn time_takes<R: Clock>(rt: &R, sieve: &mut Sieve) -> Result<Duration>
     Ok(taken / ROUNDS)
 }
 
-/// How long a look lasts, and how many found a place.
-fn time_looks<R: Clock>(rt: &R, sieve: &Sieve) -> Result<(Duration, u32)> {
+/// How long a look lasts. It is a nanosecond at least where the number of places found is odd, so that no look can be left
+/// out.
+fn time_looks<R: Clock>(rt: &R, sieve: &Sieve) -> Result<Duration> {
     let start = Instant::now(rt)?;
     let found = would_take(sieve);
     let looked = start.elapsed(rt)?;
-    Ok((looked / ROUNDS, found))
-}
-
-/// Prints one measurement.
-fn tell<R: Print>(rt: &R, count: u64, taken: Duration, looked: Duration, found: u32) -> Result<()> {
-    println!(rt;
-        "placement with {count} small holes: take and give back {taken:?}, would_take {looked:?}, {found} found"
-    )?;
-    Ok(())
+    Ok(looked.max(Duration::from_nanos(u64::from(found & 1))) / ROUNDS)
 }
 
 /// Takes 32 bytes, which only the last hole has, and gives them back.

@@ -4,6 +4,7 @@ ghost use Rattle.std.specs.Prelude.{◌+◌, ◌*◌, ◌<◌, ◌≤◌, ◌^�
 ghost use Rattle.std.specs.List.{AllByRecursion};
 ghost use Rattle.acc_present.specs.Present.{HasRange};
 
+use crate::rows::tell;
 use acc_base::{Counters, Fault, Found, HOST_BASE, Section};
 use acc_present::Present;
 use anyhow::Result;
@@ -57,7 +58,12 @@ fn measure_look_ups<R: Print + Clock>(
     let inside = time_look_ups(rt, present, count, 0)?;
     let absent = time_look_ups(rt, present, count, STRIDE / 2)?;
     let plain = time_searches(rt, starts, count)?;
-    tell_look_ups(rt, count, inside, absent, plain)
+    let rows = [
+        ("find inside", inside),
+        ("find absent", absent),
+        ("a plain search by halves", plain),
+    ];
+    tell(rt, "present: ranges", count, &rows)
 }
 
 /// Measures additions and removals among so many ranges.
@@ -68,7 +74,13 @@ fn measure_changes<R: Print + Clock>(rt: &R, present: &mut Present, count: u64) 
     let middle = start_at(count / 2).wrapping_add(STEP);
     let at_end = time_changes(rt, present, start_at(count), count)?;
     let inside = time_changes(rt, present, middle, count + 2 * CHANGES)?;
-    tell_changes(rt, count, at_end, inside)
+    let rows = [
+        ("add behind all", at_end.0),
+        ("remove behind all", at_end.1),
+        ("add in the middle", inside.0),
+        ("remove in the middle", inside.1),
+    ];
+    tell(rt, "present: ranges", count, &rows)
 }
 
 /// The host address of the range of this place.
@@ -255,33 +267,4 @@ fn search(starts: &[u64], count: u64) -> u64 {
         found = found.wrapping_add(u64::from(starts.binary_search(&start).is_ok()));
     }
     found
-}
-
-/// Prints how long look-ups last.
-fn tell_look_ups<R: Print>(
-    rt: &R,
-    count: u64,
-    inside: Duration,
-    absent: Duration,
-    plain: Duration,
-) -> Result<()> {
-    println!(rt;
-        "present table with {count} ranges: find inside {inside:?}, find absent {absent:?}, a plain search by halves {plain:?}"
-    )?;
-    Ok(())
-}
-
-/// Prints how long additions and removals last, at the end and in the middle.
-fn tell_changes<R: Print>(
-    rt: &R,
-    count: u64,
-    at_end: (Duration, Duration),
-    inside: (Duration, Duration),
-) -> Result<()> {
-    let (added, removed) = at_end;
-    let (put, taken) = inside;
-    println!(rt;
-        "present table with {count} ranges: add behind all {added:?}, remove {removed:?}, add in the middle {put:?}, remove {taken:?}"
-    )?;
-    Ok(())
 }

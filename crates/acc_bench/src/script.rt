@@ -1,6 +1,7 @@
 //! How long scripts take.
 
 use crate::limits::largest;
+use crate::rows::tell;
 use acc_script::{MemorySink, MemorySource, Status, run as run_script};
 use anyhow::Result;
 use std::alloc::{AllocError, Global};
@@ -15,51 +16,85 @@ const COMMENT: &[u8; 64] = b"# nothing is asked for in this line, and nothing is
 /// Prints how long a script of 16 MiB of comments takes, one of 100,000 directives on one array, growing ones that declare
 /// arrays and use each once, and growing ones that map arrays one after the other and report them all.
 pub fn run<R: Print + Clock + Threads + Wait + Sync + AllocGlobal>(rt: &R) -> Result<()> {
-    measure(rt, "comments", &comments(rt.alloc())?)?;
-    measure(rt, "100000 directives", &directives(rt.alloc())?)?;
-    measure(rt, "20000 arrays", arrays(rt.alloc(), 20_000)?.as_bytes())?;
-    measure(rt, "80000 arrays", arrays(rt.alloc(), 80_000)?.as_bytes())?;
-    measure(rt, "240000 arrays", arrays(rt.alloc(), 240_000)?.as_bytes())?;
-    measure_mapped(rt, "32000 mapped arrays and a report", 32_000)?;
-    measure_mapped(rt, "64000 mapped arrays and a report", 64_000)
+    measure_comments(rt)?;
+    measure_directives(rt)?;
+    for count in [20_000, 80_000, 240_000] {
+        measure_arrays(rt, count)?;
+    }
+    for count in [32_000, 64_000] {
+        measure_mapped(rt, count)?;
+    }
+    Ok(())
 }
 
-/// Runs a script that maps so many arrays and reports them, and prints how long that took.
-fn measure_mapped<R: Print + Clock + Threads + Wait + Sync + AllocGlobal>(
+/// Measures a script of comments.
+fn measure_comments<R: Print + Clock + Threads + Wait + Sync + AllocGlobal>(rt: &R) -> Result<()> {
+    let script = comments(rt.alloc())?;
+    measure(rt, "script: comments of 64 bytes", 262_144, &script)
+}
+
+/// Measures a script of directives on one array.
+fn measure_directives<R: Print + Clock + Threads + Wait + Sync + AllocGlobal>(
     rt: &R,
-    name: &str,
+) -> Result<()> {
+    let script = directives(rt.alloc())?;
+    measure(rt, "script: directives", 100_000, &script)
+}
+
+/// Measures a script that declares so many arrays and uses each once.
+fn measure_arrays<R: Print + Clock + Threads + Wait + Sync + AllocGlobal>(
+    rt: &R,
     count: u32,
 ) -> Result<()> {
-    measure(rt, name, mapped(rt.alloc(), count)?.as_bytes())
+    let script = arrays(rt.alloc(), count)?;
+    measure(rt, "script: arrays", count, script.as_bytes())
+}
+
+/// Measures a script that maps so many arrays and reports them.
+fn measure_mapped<R: Print + Clock + Threads + Wait + Sync + AllocGlobal>(
+    rt: &R,
+    count: u32,
+) -> Result<()> {
+    let script = mapped(rt.alloc(), count)?;
+    measure(
+        rt,
+        "script: mapped arrays and a report",
+        count,
+        script.as_bytes(),
+    )
 }
 
 /// Runs a script, and prints how long that took.
 fn measure<R: Print + Clock + Threads + Wait + Sync + AllocGlobal>(
     rt: &R,
     name: &str,
+    count: u32,
     script: &[u8],
 ) -> Result<()> {
-    let (status, taken) = time_script(rt, script)?;
-    tell(rt, name, script.len(), status, taken)
+    let mut writer = MemorySink::new(rt.alloc());
+    let (status, taken) = time_script(rt, script, &mut writer)?;
+    tell(rt, name, u64::from(count), &[(ending(status), taken)])
 }
 
 /// How a script ends, and how long it takes.
 fn time_script<R: Clock + Threads + Wait + Sync + AllocGlobal>(
     rt: &R,
     script: &[u8],
+    writer: &mut MemorySink,
 ) -> Result<(Status, Duration)> {
     let config = largest()?;
     let mut reader = MemorySource::new(script);
-    let mut writer = MemorySink::new(rt.alloc());
     let start = Instant::now(rt)?;
-    let status = run_script(rt, &mut reader, &mut writer, config, 1)?;
+    let status = run_script(rt, &mut reader, writer, config, 1)?;
     Ok((status, start.elapsed(rt)?))
 }
 
-/// Prints one measurement.
-fn tell<R: Print>(rt: &R, name: &str, size: usize, status: Status, taken: Duration) -> Result<()> {
-    println!(rt; "script of {name}: {size} bytes, {status:?} in {taken:?}")?;
-    Ok(())
+/// How a script ended, in words.
+fn ending(status: Status) -> &'static str {
+    match status {
+        Status::Clean => "run, and no line refused",
+        Status::Refused => "run, and some line refused",
+    }
 }
 
 /// 16 MiB of comment lines.

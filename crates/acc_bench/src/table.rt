@@ -3,6 +3,7 @@
 ghost use Rattle.std.specs.Prelude.{◌<◌};
 
 use crate::limits::largest;
+use crate::rows::tell;
 use acc_base::{
     Call, Directive, EnterClause, ExitClause, Fault, HOST_BASE, Item, List, RegionClause, Section,
     UpdateClause,
@@ -45,28 +46,44 @@ fn measure_updates<R: Print + Clock + AllocGlobal>(rt: &R, len: u64, rounds: u32
         start: HOST_BASE,
         len,
     };
-    let mut table = table_with(rt.alloc(), section)?;
-    let to_device = time_updates(rt, &mut table, UpdateClause::ToDevice, section, rounds)?;
-    let to_self = time_updates(rt, &mut table, UpdateClause::ToSelf, section, rounds)?;
-    let (plain, sum) = time_copies(rt, len, rounds)?;
-    tell_updates(rt, len, [to_device, to_self, plain], sum)
+    let mut table = new_table(rt.alloc())?;
+    measure_updates_on(rt, &mut table, section, rounds)
 }
 
-/// Prints how long updates of so many bytes take, to the device and to the host, and a plain copy.
-fn tell_updates<R: Print>(rt: &R, len: u64, taken: [Duration; 3], sum: u64) -> Result<()> {
-    let [to_device, to_self, plain] = taken;
-    println!(rt;
-        "update of {len} bytes: device {to_device:?}, self {to_self:?}, plain copy {plain:?} ({sum})"
+/// Maps a section, and measures updates of it and a plain copy of as many bytes.
+fn measure_updates_on<R: Print + Clock + AllocGlobal>(
+    rt: &R,
+    table: &mut Table,
+    section: Section,
+    rounds: u32,
+) -> Result<()>
+    requires { 0 < rounds }
+{
+    map(
+        table,
+        rt.alloc(),
+        EnterClause::Create { zero: true },
+        section,
     )?;
-    Ok(())
+    let to_device = time_updates(rt, table, UpdateClause::ToDevice, section, rounds)?;
+    let to_self = time_updates(rt, table, UpdateClause::ToSelf, section, rounds)?;
+    let plain = time_copies(rt, section.len, rounds)?;
+    let rows = [
+        ("device", to_device),
+        ("self", to_self),
+        ("a plain copy", plain),
+    ];
+    tell(rt, "table: update, bytes", section.len, &rows)
 }
 
-/// A table on which a section is mapped.
-fn table_with(alloc: Global, section: Section) -> Result<Table, Fault> {
-    let mut table = new_table(alloc)?;
-    let create = EnterClause::Create { zero: true };
-    apply(&mut table, enter(alloc, create, section)?)?;
-    Ok(table)
+/// Maps a section.
+fn map(
+    table: &mut Table,
+    alloc: Global,
+    clause: EnterClause,
+    section: Section,
+) -> Result<(), Fault> {
+    apply(table, enter(alloc, clause, section)?)
 }
 
 /// How long an update of a section takes.
@@ -85,16 +102,29 @@ fn time_updates<R: Clock + AllocGlobal>(
     Ok(taken / rounds)
 }
 
-/// How long a plain copy of so many bytes takes, and a sum that depends on each copy.
-fn time_copies<R: Clock + AllocGlobal>(rt: &R, len: u64, rounds: u32) -> Result<(Duration, u64)>
+/// How long a plain copy of so many bytes takes.
+fn time_copies<R: Clock + AllocGlobal>(rt: &R, len: u64, rounds: u32) -> Result<Duration>
     requires { 0 < rounds }
 {
     let mut source = vec![in rt.alloc(); 1; len as usize]?;
     let mut target = vec![in rt.alloc(); 2; len as usize]?;
+    time_copies_of(rt, &mut source, &mut target, rounds)
+}
+
+/// How long it takes to copy all bytes. It is a nanosecond at least where the sum of the copies is odd, so that no copy
+/// can be left out.
+fn time_copies_of<R: Clock>(
+    rt: &R,
+    source: &mut Vec<u8>,
+    target: &mut Vec<u8>,
+    rounds: u32,
+) -> Result<Duration>
+    requires { 0 < rounds }
+{
     let start = Instant::now(rt)?;
-    let sum = copy(&mut source, &mut target, rounds);
+    let sum = copy(source, target, rounds);
     let taken = start.elapsed(rt)?;
-    Ok((taken / rounds, sum))
+    Ok(taken.max(Duration::from_nanos(sum & 1)) / rounds)
 }
 
 /// Makes so many updates of a section, one after the other.
@@ -137,23 +167,46 @@ fn copy_once(source: &mut Vec<u8>, target: &mut Vec<u8>, byte: u8) -> u64 {
 /// Measures both pairs of directives beside so many other ranges.
 fn measure_mappings<R: Print + Clock + AllocGlobal>(rt: &R, count: u32) -> Result<()> {
     let mut table = new_table(rt.alloc())?;
-    map_others(&mut table, rt.alloc(), count)?;
-    let section = sixteen_bytes_at(count);
-    let mapped = time_both(rt, &mut table, section)?;
-    apply(&mut table, enter(rt.alloc(), EnterClause::Copyin, section)?)?;
-    let present = time_both(rt, &mut table, section)?;
-    tell_mappings(rt, count, mapped, present)
+    measure_mappings_on(rt, &mut table, count)
 }
 
-/// How long each pair of directives takes for a section.
-fn time_both<R: Clock + AllocGlobal>(
+/// Maps so many other ranges, and measures both pairs of directives for 16 bytes, absent and then present.
+fn measure_mappings_on<R: Print + Clock + AllocGlobal>(
+    rt: &R,
+    table: &mut Table,
+    count: u32,
+) -> Result<()> {
+    map_others(table, rt.alloc(), count)?;
+    let section = sixteen_bytes_at(count);
+    measure_both(
+        rt,
+        table,
+        section,
+        count,
+        "table: 16 absent bytes, ranges beside",
+    )?;
+    map(table, rt.alloc(), EnterClause::Copyin, section)?;
+    measure_both(
+        rt,
+        table,
+        section,
+        count,
+        "table: 16 present bytes, ranges beside",
+    )
+}
+
+/// Measures both pairs of directives for a section.
+fn measure_both<R: Print + Clock + AllocGlobal>(
     rt: &R,
     table: &mut Table,
     section: Section,
-) -> Result<[Duration; 2]> {
+    count: u32,
+    place: &str,
+) -> Result<()> {
     let data = time_pairs(rt, table, Pair::Data, section)?;
     let region = time_pairs(rt, table, Pair::Region, section)?;
-    Ok([data, region])
+    let rows = [("enter data and exit data", data), ("a region", region)];
+    tell(rt, place, u64::from(count), &rows)
 }
 
 /// How long a pair of directives takes for a section.
@@ -169,29 +222,10 @@ fn time_pairs<R: Clock + AllocGlobal>(
     Ok(taken / ROUNDS)
 }
 
-/// Prints how long both pairs of directives take beside so many other ranges.
-fn tell_mappings<R: Print>(
-    rt: &R,
-    count: u32,
-    mapped: [Duration; 2],
-    present: [Duration; 2],
-) -> Result<()> {
-    let [data, region] = mapped;
-    println!(rt;
-        "table with {count} other ranges, 16 absent bytes: enter data and exit data {data:?}, a region {region:?}"
-    )?;
-    let [data, region] = present;
-    println!(rt;
-        "table with {count} other ranges, 16 present bytes: enter data and exit data {data:?}, a region {region:?}"
-    )?;
-    Ok(())
-}
-
 /// Maps so many ranges of 16 bytes that do not touch.
 fn map_others(table: &mut Table, alloc: Global, count: u32) -> Result<(), Fault> {
     for number in 0..count {
-        let section = sixteen_bytes_at(number);
-        apply(table, enter(alloc, EnterClause::Copyin, section)?)?;
+        map(table, alloc, EnterClause::Copyin, sixteen_bytes_at(number))?;
     }
     Ok(())
 }
@@ -216,7 +250,7 @@ fn make_pairs(table: &mut Table, alloc: Global, pair: Pair, section: Section) ->
 fn make_pair(table: &mut Table, alloc: Global, pair: Pair, section: Section) -> Result<(), Fault> {
     match pair {
         Pair::Data => {
-            apply(table, enter(alloc, EnterClause::Copyin, section)?)?;
+            map(table, alloc, EnterClause::Copyin, section)?;
             apply(table, exit(alloc, section)?)
         }
         Pair::Region => {

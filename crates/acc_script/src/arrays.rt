@@ -9,7 +9,7 @@ use std::collections::BTreeMap;
 use std::marker::Model;
 
 /// The host addresses from `start` up to `end`, which is not one of them.
-#[derive(Clone, Copy, Debug, PartialEq, Eq)]
+#[derive(Clone, Copy)]
 pub struct Array {
     /// The first address.
     pub start: u32,

@@ -5,7 +5,7 @@ use acc_base::{Config, Fault, ScriptFault};
 use acc_script::{MemorySink, MemorySource, Status, run};
 use faults::{FAULTS, LONG};
 use rows::{REGIONS, SCRIPTS, SMALL, WIDE};
-use std::alloc::{AllocError, Global};
+use std::alloc::AllocError;
 use std::fmt::Debug;
 use std::process::Abort;
 use std::sync::Wait;
@@ -51,7 +51,7 @@ fn config(limits: &Limits) -> Result<Config, Fault> {
 }
 
 /// Compares what was found at a place with what is wanted there.
-fn same<R: Abort, T: PartialEq + Debug + Drop, P: Debug + Drop>(
+fn same<R: Abort, T: PartialEq + Debug + Copy, P: Debug + Copy>(
     rt: &R,
     found: T,
     wanted: T,
@@ -68,13 +68,21 @@ fn check<R: Abort + Threads + Wait + Sync + AllocGlobal>(
     printed: &str,
     end: End,
 ) -> Result<(), Fault> {
+    let config = config(limits)?;
     let mut reader = MemorySource::new(script);
     let mut writer = MemorySink::new(rt.alloc());
-    let answer = run(rt, &mut reader, &mut writer, config(limits)?, 1);
-    let wanted = end.map_err(|(line, kind)| Fault::Script { line, kind });
+    let answer = run(rt, &mut reader, &mut writer, config, 1);
     same(rt, writer.as_slice(), printed.as_bytes(), script);
-    same(rt, answer, wanted, script);
+    same(rt, answer, answer_of(end), script);
     Ok(())
+}
+
+/// The answer of a run that ends so.
+fn answer_of(end: End) -> Result<Status, Fault> {
+    match end {
+        Ok(status) => Ok(status),
+        Err((line, kind)) => Err(Fault::Script { line, kind }),
+    }
 }
 
 #[test]
@@ -97,27 +105,55 @@ fn small_tables_refuse(rt: HostRuntime) -> Result<(), Fail> {
 }
 
 /// Some text, another so many times, and some text.
-fn joined(
-    alloc: Global,
-    first: &str,
-    piece: &str,
+#[derive(Clone, Copy)]
+pub struct Parts<'a> {
+    first: &'a str,
+    piece: &'a str,
     count: usize,
-    last: &str,
-) -> Result<Vec<u8>, AllocError> {
-    let mut script = Vec::from_slice(alloc, first.as_bytes())?;
-    for _ in 0..count {
-        script.extend_from_slice(piece.as_bytes())?;
+    last: &'a str,
+}
+
+/// Appends the parts to a script.
+fn join(script: &mut Vec<u8>, parts: Parts<'_>) -> Result<(), AllocError> {
+    script.extend_from_slice(parts.first.as_bytes())?;
+    for _ in 0..parts.count {
+        script.extend_from_slice(parts.piece.as_bytes())?;
     }
-    script.extend_from_slice(last.as_bytes())?;
-    Ok(script)
+    script.extend_from_slice(parts.last.as_bytes())
+}
+
+/// Runs the script of some parts within wide limits, and compares what it prints and how it ends.
+fn check_joined<R: Abort + Threads + Wait + Sync + AllocGlobal>(
+    rt: &R,
+    parts: Parts<'_>,
+    printed: &str,
+    end: End,
+) -> Result<(), Fault> {
+    let mut script = Vec::new(rt.alloc());
+    join(&mut script, parts)?;
+    check(rt, &WIDE, &script, printed, end)
+}
+
+/// Runs a line at fault behind the declaration of an array.
+fn check_fault<R: Abort + Threads + Wait + Sync + AllocGlobal>(
+    rt: &R,
+    kind: ScriptFault,
+    line: &str,
+) -> Result<(), Fault> {
+    let parts = Parts {
+        first: "array a 16\n",
+        piece: line,
+        count: 1,
+        last: "",
+    };
+    check_joined(rt, parts, "", Err((2, kind)))
 }
 
 #[test]
 fn lines_at_fault_are_told(rt: HostRuntime) -> Result<(), Fail> {
-    for (kind, lines) in FAULTS {
+    for &(kind, lines) in &FAULTS {
         for line in lines {
-            let script = joined(rt.alloc(), "array a 16\n", line, 1, "")?;
-            check(&rt, &WIDE, &script, "", Err((2, kind)))?;
+            check_fault(&rt, kind, line)?;
         }
     }
     Ok(())
@@ -125,9 +161,8 @@ fn lines_at_fault_are_told(rt: HostRuntime) -> Result<(), Fail> {
 
 #[test]
 fn long_lines_are_read(rt: HostRuntime) -> Result<(), Fail> {
-    for (first, piece, count, last, printed, end) in LONG {
-        let script = joined(rt.alloc(), first, piece, count, last)?;
-        check(&rt, &WIDE, &script, printed, end)?;
+    for &(parts, printed, end) in &LONG {
+        check_joined(&rt, parts, printed, end)?;
     }
     Ok(())
 }

@@ -12,7 +12,7 @@ use acc_base::{Fault, Section};
 use acc_table::Table;
 
 /// What a statement has to print.
-#[derive(Clone, Copy, Debug, PartialEq, Eq)]
+#[derive(Clone, Copy)]
 pub enum Effect {
     /// Nothing.
     Nothing,

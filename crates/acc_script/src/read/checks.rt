@@ -12,7 +12,7 @@ use crate::read::tokens::{is_at_end, is_mark_next, mark_at, skip_comma, word_at}
 use acc_base::ScriptFault;
 
 /// What stood so far among the clauses and options of a directive.
-#[derive(Clone, Copy, Debug, PartialEq, Eq)]
+#[derive(Clone, Copy)]
 pub struct Seen {
     /// A clause.
     pub clause: bool,

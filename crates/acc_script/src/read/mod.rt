@@ -16,7 +16,7 @@ pub mod statements;
 mod tokens;
 
 /// Why a line gave no statement.
-#[derive(Clone, Copy, Debug, PartialEq, Eq)]
+#[derive(Clone, Copy)]
 pub enum Trouble {
     /// No memory could be had for it.
     Memory,

@@ -19,7 +19,7 @@ use std::alloc::Global;
 const LINE_LIMIT: usize = 4096;
 
 /// What a line asks for.
-#[derive(Debug, Drop)]
+#[derive(Drop)]
 pub enum Statement<'a> {
     /// Nothing.
     Blank,

@@ -1,7 +1,7 @@
 //! What is left where a source, a sink or memory fails, and that the ends of std can be used.
 
 use super::rows::WIDE;
-use super::{config, same};
+use super::{Limits, config, same};
 use acc_base::{Config, Fault};
 use acc_script::{FromRead, MemorySink, MemorySource, Sink, Source, Status, ToWrite, report, run};
 use acc_table::Table;
@@ -11,36 +11,45 @@ use std::sync::Wait;
 use std::test::Fail;
 use std::thread::Threads;
 
+/// What a report says of a small table on which nothing was done.
+const SMALL_REPORT: &[u8; 44] = b"host 64 device 32 used 0\nregions 0 events 0\n";
+
+/// The limits of such a table.
+const SMALL_LIMITS: Limits = [64, 32, 1, 1, 1, 1, 1];
+
+/// Reports a table, and compares.
+fn check_report<R: Abort + AllocGlobal>(rt: &R, table: &Table) {
+    let mut writer = MemorySink::new(rt.alloc());
+    let reported = report(table, &mut writer);
+    same(rt, reported, Ok(()), "report");
+    same(rt, writer.as_slice(), SMALL_REPORT.as_slice(), "report");
+}
+
 #[test]
 fn reports_a_table(rt: HostRuntime) -> Result<(), Fail> {
-    let table = Table::new(rt.alloc(), Config::new(64, 32, 1, 1, 1, 1, 1)?)?;
-    let mut writer = MemorySink::new(rt.alloc());
-    report(&table, &mut writer)?;
-    assert_eq!(rt;
-        writer.as_slice(),
-        b"host 64 device 32 used 0\nregions 0 events 0\n".as_slice()
-    );
+    let table = Table::new(rt.alloc(), config(&SMALL_LIMITS)?)?;
+    check_report(&rt, &table);
     Ok(())
+}
+
+/// Runs a script over a reader and a writer of std, and compares the answer.
+fn check_over_std<R: Abort + Threads + Wait + Sync + AllocGlobal>(
+    rt: &R,
+    config: Config,
+    printed: &mut [u8],
+) {
+    let mut reader = FromRead::new(b"report".as_slice());
+    let mut writer = ToWrite::new(printed);
+    let got = run(rt, &mut reader, &mut writer, config, 64);
+    same(rt, writer.flush(), true, "flush");
+    same(rt, got, Ok(Status::Clean), "run");
 }
 
 #[test]
 fn runs_over_readers_and_writers(rt: HostRuntime) -> Result<(), Fail> {
-    let mut reader = FromRead::new(b"report".as_slice());
     let mut printed = [0u8; 44];
-    let mut writer = ToWrite::new(printed.as_mut_slice());
-    let got = run(
-        &rt,
-        &mut reader,
-        &mut writer,
-        Config::new(64, 32, 1, 1, 1, 1, 1)?,
-        64,
-    );
-    assert!(rt; writer.flush());
-    assert_eq!(rt; got, Ok(Status::Clean));
-    assert_eq!(rt;
-        printed.as_slice(),
-        b"host 64 device 32 used 0\nregions 0 events 0\n".as_slice()
-    );
+    check_over_std(&rt, config(&SMALL_LIMITS)?, &mut printed);
+    assert_eq!(rt; printed.as_slice(), SMALL_REPORT.as_slice());
     Ok(())
 }
 
@@ -59,19 +68,31 @@ impl Source for LineFeeds {
     }
 }
 
+/// Runs a script of so many line feeds; compares how many are left, the answer, and that nothing is printed.
+fn check_line_feeds<R: Abort + Threads + Wait + Sync + AllocGlobal>(
+    rt: &R,
+    count: usize,
+    left: usize,
+    answer: Result<Status, Fault>,
+) -> Result<(), Fault> {
+    let config = config(&WIDE)?;
+    let mut reader = LineFeeds { left: count };
+    let mut writer = MemorySink::new(rt.alloc());
+    let got = run(rt, &mut reader, &mut writer, config, 1);
+    same(rt, got, answer, count);
+    same(rt, reader.left, left, count);
+    same(rt, writer.as_slice(), b"".as_slice(), count);
+    Ok(())
+}
+
 #[test]
 fn reads_so_many_bytes_and_no_more(rt: HostRuntime) -> Result<(), Fail> {
-    for (count, left, outcome) in [
+    for (count, left, answer) in [
         (16_777_216, 0, Ok(Status::Clean)),
         (16_777_217, 0, Err(Fault::Read)),
         (20_000_000, 3_222_783, Err(Fault::Read)),
     ] {
-        let mut reader = LineFeeds { left: count };
-        let mut writer = MemorySink::new(rt.alloc());
-        let got = run(&rt, &mut reader, &mut writer, config(&WIDE)?, 1);
-        same(&rt, got, outcome, count);
-        same(&rt, reader.left, left, count);
-        same(&rt, writer.as_slice(), b"".as_slice(), count);
+        check_line_feeds(&rt, count, left, answer)?;
     }
     Ok(())
 }
@@ -161,21 +182,29 @@ const SCRIPT: &[u8; 108] =
 const PRINTED: &[u8; 149] =
     b"0102\nhost 65536 device 65536 used 16\nmap 0x1010 16 at 0x100000000 structured 1 dynamic 0\nregions 1 events 2\nline 7: refused 10 PartlyPresent item 0\n\0";
 
+/// Runs the script from a source that gives its bytes one by one, and compares the answer and how much was printed.
+fn check_trickle<R: Abort + Threads + Wait + Sync + AllocGlobal>(
+    rt: &R,
+    fails: bool,
+    answer: Result<Status, Fault>,
+    len: usize,
+) -> Result<(), Fault> {
+    let config = config(&WIDE)?;
+    let mut reader = Trickle {
+        bytes: SCRIPT,
+        fails,
+    };
+    let mut writer = Narrow::new(256, true);
+    let got = run(rt, &mut reader, &mut writer, config, 1);
+    same(rt, got, answer, fails);
+    same(rt, writer.len, len, fails);
+    Ok(())
+}
+
 #[test]
 fn a_slow_source_is_read(rt: HostRuntime) -> Result<(), Fail> {
-    for (fails, answer, len) in [
-        (false, Ok(Status::Refused), 148),
-        (true, Err(Fault::Read), 0),
-    ] {
-        let mut reader = Trickle {
-            bytes: SCRIPT,
-            fails,
-        };
-        let mut writer = Narrow::new(256, true);
-        let got = run(&rt, &mut reader, &mut writer, config(&WIDE)?, 1);
-        same(&rt, got, answer, fails);
-        same(&rt, writer.len, len, fails);
-    }
+    check_trickle(&rt, false, Ok(Status::Refused), 148)?;
+    check_trickle(&rt, true, Err(Fault::Read), 0)?;
     Ok(())
 }
 
@@ -185,9 +214,10 @@ fn check_narrow<R: Abort + Threads + Wait + Sync + AllocGlobal>(
     room: usize,
     fails: bool,
 ) -> Result<(), Fault> {
+    let config = config(&WIDE)?;
     let mut reader = MemorySource::new(SCRIPT);
     let mut writer = Narrow::new(room, fails);
-    let got = run(rt, &mut reader, &mut writer, config(&WIDE)?, 1);
+    let got = run(rt, &mut reader, &mut writer, config, 1);
     same(rt, got, Err(Fault::Write), room);
     same(rt, writer.len, room, room);
     assert!(rt; room <= 148);
@@ -204,19 +234,26 @@ fn a_sink_may_fail_anywhere(rt: HostRuntime) -> Result<(), Fail> {
     Ok(())
 }
 
-/// With `rt try --test --fail-alloc N` the growth N is refused: then the text of the first lines stands, and else all.
+/// Compares what was printed where memory may have been wanting: then the text of the first lines stands, and else all.
+fn check_front<R: Abort>(rt: &R, got: Result<Status, Fault>, writer: &Narrow) {
+    let len = writer.len;
+    let is_front = match got {
+        Ok(Status::Refused) => len == 148,
+        Err(Fault::Memory) => [0, 5, 108, 148].contains(&len),
+        _ => false,
+    };
+    assert!(rt; is_front, "{got:?} at {len}");
+    assert!(rt; len <= 149);
+    same(rt, &writer.bytes[..len], &PRINTED[..len], len);
+}
+
+/// With `rt try --test --fail-alloc N` the growth N is refused.
 #[test]
 fn each_growth_may_be_refused(rt: HostRuntime) -> Result<(), Fail> {
+    let config = config(&WIDE)?;
     let mut reader = MemorySource::new(SCRIPT);
     let mut writer = Narrow::new(256, true);
-    let got = run(&rt, &mut reader, &mut writer, config(&WIDE)?, 1);
-    let len = writer.len;
-    match got {
-        Ok(Status::Refused) => assert_eq!(rt; len, 148),
-        Err(Fault::Memory) => assert!(rt; [0, 5, 108, 148].contains(&len), "at {len}"),
-        _ => panic!(rt; "{got:?}"),
-    }
-    assert!(rt; len <= 149);
-    assert_eq!(rt; &writer.bytes[..len], &PRINTED[..len]);
+    let got = run(&rt, &mut reader, &mut writer, config, 1);
+    check_front(&rt, got, &writer);
     Ok(())
 }

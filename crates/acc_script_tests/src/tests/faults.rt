@@ -1,6 +1,6 @@
 //! Rows of lines at fault, and of long lines.
 
-use super::{CLEAN, End, REFUSED};
+use super::{CLEAN, End, Parts, REFUSED};
 use acc_base::ScriptFault;
 
 /// Lines at fault, where the array `a` of 16 bytes is declared before: the first fault from the left.
@@ -135,52 +135,89 @@ pub const FAULTS: [(ScriptFault, &[&str]); 6] = [
     ),
 ];
 
-/// Long lines: a first part, a text so many times, a last part, what the script prints, and how it ends.
-pub const LONG: [(&str, &str, usize, &str, &str, End); 8] = [
+/// Long lines: the parts of a script, what it prints, and how it ends.
+pub const LONG: [(Parts<'static>, &str, End); 8] = [
     (
-        "array a 64\nwrite a[0]",
-        "9",
-        128,
-        "\nshow a[62:2]\n",
+        Parts {
+            first: "array a 64\nwrite a[0]",
+            piece: "9",
+            count: 128,
+            last: "\nshow a[62:2]\n",
+        },
         "9999\n",
         CLEAN,
     ),
     (
-        "array a 64\nwrite a[0]",
-        "9",
-        130,
-        "",
+        Parts {
+            first: "array a 64\nwrite a[0]",
+            piece: "9",
+            count: 130,
+            last: "",
+        },
         "",
         Err((2, ScriptFault::Number)),
     ),
     // A directive has 64 items at most.
     (
-        "array a 16\nenter data copyin(a",
-        ", a",
-        63,
-        ")\nreport\n",
+        Parts {
+            first: "array a 16\nenter data copyin(a",
+            piece: ", a",
+            count: 63,
+            last: ")\nreport\n",
+        },
         "host 65536 device 65536 used 16\nmap 0x1000 16 at 0x100000000 structured 0 dynamic 64\nregions 0 events 1\n",
         CLEAN,
     ),
     (
-        "array a 16\ndata create(a)",
-        " present(a)",
-        64,
-        "\nreport\n",
+        Parts {
+            first: "array a 16\ndata create(a)",
+            piece: " present(a)",
+            count: 64,
+            last: "\nreport\n",
+        },
         "line 2: refused 5 TooManyItems n 65\nhost 65536 device 65536 used 0\nregions 0 events 0\n",
         REFUSED,
     ),
     // The carriage return and the line feed do not count.
-    ("", "#", 4096, "", "", CLEAN),
     (
+        Parts {
+            first: "",
+            piece: "#",
+            count: 4096,
+            last: "",
+        },
         "",
-        "#",
-        4096,
-        "\r\nreport!",
+        CLEAN,
+    ),
+    (
+        Parts {
+            first: "",
+            piece: "#",
+            count: 4096,
+            last: "\r\nreport!",
+        },
         "",
         Err((2, ScriptFault::Syntax)),
     ),
     // A line that is too long is told first.
-    ("", "#", 4097, "", "", Err((1, ScriptFault::TooLong))),
-    ("", "\u{80}", 2049, "", "", Err((1, ScriptFault::TooLong))),
+    (
+        Parts {
+            first: "",
+            piece: "#",
+            count: 4097,
+            last: "",
+        },
+        "",
+        Err((1, ScriptFault::TooLong)),
+    ),
+    (
+        Parts {
+            first: "",
+            piece: "\u{80}",
+            count: 2049,
+            last: "",
+        },
+        "",
+        Err((1, ScriptFault::TooLong)),
+    ),
 ];

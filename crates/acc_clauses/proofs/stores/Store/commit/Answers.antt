@@ -1,6 +1,4 @@
-use Rattle.std.proofs.Common.{◌≡◌, ◌∙◌, ◌<◌, ◌^◌, ℕ, [], sym, ap, subst, List, length}
-use Rattle.std.proofs.lemmas.List.{length-map}
-use Rattle.acc_clauses.specs.declared.plans.Head.{Head}
+use Rattle.std.proofs.Common.{◌≡◌, ◌∙◌, ◌<◌, ◌^◌, [], sym, ap, subst, List}
 use Rattle.acc_base.specs.declared.tasks.Task.{Task}
 use Rattle.acc_base.specs.declared.events.Did.{Did}
 use Rattle.acc_base.specs.Records.{State, layout_of}
@@ -11,7 +9,7 @@ use Rattle.acc_base.proofs.Walked.{register-act_all_state}
 use Rattle.acc_clauses.specs.Overlays.{tasks_in, dids_in}
 use Rattle.acc_clauses.specs.Planned.{IsPlannedOn}
 use Rattle.acc_clauses.specs.Contents.{Contents}
-use Rattle.acc_clauses.specs.Acts.{AreKnown, HasRoomFor, HasPlanRoom, CanFinish, lens_born}
+use Rattle.acc_clauses.specs.Acts.{AreKnown, HasRoomFor, HasPlanRoom, lens_born}
 use Rattle.acc_clauses.specs.Stored.{IsPlan}
 use Rattle.acc_clauses.proofs.Finishing.{after_plan}
 use Rattle.acc_clauses.proofs.Committing.{plan_known, plan_can, finished, plan_sound}

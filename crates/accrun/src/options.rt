@@ -8,7 +8,7 @@ use std::alloc::Global;
 const DEFAULT_SIZE: u64 = 65_536;
 
 /// What the command line says.
-#[derive(Clone, Copy, Debug, PartialEq, Eq)]
+#[derive(Clone, Copy)]
 pub struct Options {
     /// The size of host memory in bytes.
     pub host: u64,

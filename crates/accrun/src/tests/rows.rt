@@ -1,0 +1,251 @@
+//! Rows of scripts: options, a script, what it writes on both streams, its status.
+
+/// The options, a script, what it writes on standard output and on standard error, and its status.
+pub type Row = (&'static str, &'static str, &'static str, &'static str, u8);
+
+/// Whole lives of arrays, and what the report says of them.
+pub const LIVES: [Row; 10] = [
+    ("", "", "", "", 0),
+    (
+        "",
+        "array a 32\nenter data copyin(a)\nreport\nexit data delete(a)\nreport\n",
+        "host 65536 device 65536 used 32\nmap 0x1000 32 at 0x100000000 structured 0 dynamic 1\nregions 0 events 1\nhost 65536 device 65536 used 0\nregions 0 events 2\n",
+        "",
+        0,
+    ),
+    (
+        "",
+        "array a 32\nenter data copyin(a[0:16])\nenter data copyin(a[8:16])\nenter data copyin(a[4:4])\nreport\n",
+        "line 3: refused 10 PartlyPresent item 0\nhost 65536 device 65536 used 16\nmap 0x1000 16 at 0x100000000 structured 0 dynamic 2\nregions 0 events 2\n",
+        "",
+        1,
+    ),
+    (
+        "",
+        "array a 16\nenter data copyin(a) copyin(a) copyin(a)\nreport\nexit data delete(a) finalize\nreport\n",
+        "host 65536 device 65536 used 16\nmap 0x1000 16 at 0x100000000 structured 0 dynamic 3\nregions 0 events 1\nhost 65536 device 65536 used 0\nregions 0 events 2\n",
+        "",
+        0,
+    ),
+    (
+        "",
+        "array a 4\nwrite a[0] 0a0b0c0d\nenter data copyin(a)\ndata present(a)\nexit data copyout(a) finalize\nreport\nend data\nshow a\nreport\n",
+        "host 65536 device 65536 used 16\nmap 0x1000 4 at 0x100000000 structured 1 dynamic 0\nregions 1 events 4\n0a0b0c0d\nhost 65536 device 65536 used 0\nregions 0 events 5\n",
+        "",
+        0,
+    ),
+    (
+        "",
+        "array a 16\ndata present(a[0:0]) copy(a[99999:0])\nend data\nreport\n",
+        "host 65536 device 65536 used 0\nregions 0 events 2\n",
+        "",
+        0,
+    ),
+    (
+        "",
+        "array a 16\nexit data delete(a)\nenter data create(zero: a)\npeek a[14:2]\nexit data delete(a)\nexit data delete(a)\nreport\n",
+        "0000\nhost 65536 device 65536 used 0\nregions 0 events 4\n",
+        "",
+        0,
+    ),
+    (
+        "",
+        "array a 32\nwrite a[0] 0102\nenter data copyin(a[0:16])\nreport\nenter data copyin(a[8:16])\nexit data delete(a[0:16])\nreport\n",
+        "host 65536 device 65536 used 16\nmap 0x1000 16 at 0x100000000 structured 0 dynamic 1\nregions 0 events 2\nline 5: refused 10 PartlyPresent item 0\nhost 65536 device 65536 used 0\nregions 0 events 3\n",
+        "",
+        1,
+    ),
+    (
+        "",
+        "array a 16\nenter data copyin(a[0:0])\nexit data copyout(a[99999:0])\nreport\n",
+        "host 65536 device 65536 used 0\nregions 0 events 2\n",
+        "",
+        0,
+    ),
+    (
+        "",
+        "array a 32\nenter data copyin(a[0:16])\nenter data copyin(a[16:16])\nupdate device(a)\npresent a\nreport",
+        "line 4: refused 10 PartlyPresent item 0\nno\nhost 65536 device 65536 used 32\nmap 0x1000 16 at 0x100000000 structured 0 dynamic 1\nmap 0x1010 16 at 0x100000010 structured 0 dynamic 1\nregions 0 events 2\n",
+        "",
+        1,
+    ),
+];
+
+/// Bytes that move between the memories.
+pub const COPIES: [Row; 7] = [
+    (
+        "",
+        "array a 4\nwrite a[0] 01020304\nenter data copyin(a)\nwrite a[0] ffffffff\npeek a\nupdate self(a)\nshow a\n",
+        "01020304\n01020304\n",
+        "",
+        0,
+    ),
+    (
+        "",
+        "array a 2\nwrite a[0] 0102\nenter data create(a)\npeek a\nshow a\n",
+        "a5a5\n0102\n",
+        "",
+        0,
+    ),
+    (
+        "",
+        "array a 3\nenter data copyin(readonly: a)\nwrite a[0] 010203\nupdate device(a[1:1])\npeek a\nwrite a[0] ffffff\nupdate host(a[1:2])\nshow a\n",
+        "000200\nff0200\n",
+        "",
+        0,
+    ),
+    (
+        "",
+        "array a 4\nwrite a[0] 01020304\nenter data copyin(a)\nwrite a[0] ffffffff\nexit data copyout(a[1:2])\nshow a\npeek a\n",
+        "ff0203ff\nnone\n",
+        "",
+        0,
+    ),
+    (
+        "",
+        "array a 1\nenter data create(a)\nenter data create(zero: a)\nexit data copyout(a)\nshow a\nexit data copyout(a)\nshow a\n",
+        "00\na5\n",
+        "",
+        0,
+    ),
+    (
+        "",
+        "array a 32\nwrite a[22] 070809\nenter data copyin(a[8:16])\npeek a[22:2]\npeek a[22:3]\npeek a[9:0]\nshow a[21:4]\nshow a[9:0]\nshow a[4294967295:0]\n",
+        "0708\nnone\nnone\n00070809\n-\n-\n",
+        "",
+        0,
+    ),
+    (
+        "",
+        "array a 32\nenter data copyin(a[8:16])\npresent a[8:16]\npresent a[8:17]\npresent a[24:8]\npresent a[9:0]\naddress a[23]\naddress a[24]\naddress a[4294967295]\n",
+        "yes\nno\nno\nno\n0x10000000f\nnone\nnone\n",
+        "",
+        0,
+    ),
+];
+
+/// Statements that are refused, after which the script goes on.
+pub const REFUSALS: [Row; 5] = [
+    (
+        "",
+        "array a 32\nenter data copyin(a[0:16], a[16:16])\ndata present(a)\n",
+        "line 3: refused 10 PartlyPresent item 0\n",
+        "",
+        1,
+    ),
+    (
+        "",
+        "array s 16\nupdate self(s)\nupdate self(s) if_present\nwrite s[65536] 01\npresent s\naddress s[0]\n",
+        "line 2: refused 11 NotPresent item 0\nline 4: refused 7 OutOfHost item 0\nno\nnone\n",
+        "",
+        1,
+    ),
+    (
+        "--device 64",
+        "array a 16\narray b 16\narray c 32\narray d 17\nenter data copyin(a)\nenter data copyin(b)\nenter data copyin(c)\nexit data delete(a)\nenter data create(d)\nenter data create(d[0:16])\nenter data create(d[16:1])\npresent d[0:16]\naddress d[0]\nreport\n",
+        "line 9: refused 14 DeviceFull item 0 need 32\nline 11: refused 14 DeviceFull item 0 need 16\nyes\n0x100000000\nhost 65536 device 64 used 64\nmap 0x1010 16 at 0x100000010 structured 0 dynamic 1\nmap 0x1020 32 at 0x100000020 structured 0 dynamic 1\nmap 0x1040 16 at 0x100000000 structured 0 dynamic 1\nregions 0 events 5\n",
+        "",
+        1,
+    ),
+    (
+        "--host 64",
+        "array a 64\nenter data copyin(a[60:5])\nexit data delete(a[64:1])\nenter data copyin(a[64:0])\nshow a[63:2]\nreport",
+        "line 2: refused 7 OutOfHost item 0\nline 3: refused 7 OutOfHost item 0\nline 5: refused 7 OutOfHost item 0\nhost 64 device 65536 used 0\nregions 0 events 1\n",
+        "",
+        1,
+    ),
+    (
+        "--host 16 --device 16",
+        "array a 1\nenter data copyin(a)\nenter data copyin(a[1:1])\nenter data copyin(a[0:2])\nreport\n",
+        "line 3: refused 14 DeviceFull item 0 need 16\nline 4: refused 10 PartlyPresent item 0\nhost 16 device 16 used 16\nmap 0x1000 1 at 0x100000000 structured 0 dynamic 1\nregions 0 events 1\n",
+        "",
+        1,
+    ),
+];
+
+/// Lines at fault, which end the script.
+pub const FAULTS: [Row; 17] = [
+    ("", "array a 0", "", "accrun: line 1: Number\n", 2),
+    ("", "array a 4294967296", "", "accrun: line 1: Number\n", 2),
+    (
+        "",
+        "array a 4294967295",
+        "",
+        "accrun: line 1: HostFull\n",
+        2,
+    ),
+    (
+        "",
+        "array a 65536\narray b 1\n",
+        "",
+        "accrun: line 2: HostFull\n",
+        2,
+    ),
+    (
+        "",
+        "array a 16\narray a 16\n",
+        "",
+        "accrun: line 2: NameTaken\n",
+        2,
+    ),
+    (
+        "",
+        "enter data copyin(b)\n",
+        "",
+        "accrun: line 1: UnknownName\n",
+        2,
+    ),
+    ("", "show b\n", "", "accrun: line 1: UnknownName\n", 2),
+    (
+        "",
+        "array a 16\nwrite a[0] 012\n",
+        "",
+        "accrun: line 2: Number\n",
+        2,
+    ),
+    ("", "end data\n", "", "accrun: line 1: NoOpenRegion\n", 2),
+    (
+        "",
+        "array a 16\ndata create(a)\n",
+        "",
+        "accrun: line 3: Unclosed\n",
+        2,
+    ),
+    (
+        "",
+        "array a 1\ndata present(a)\ndata create(a)\nshow a",
+        "line 2: refused 11 NotPresent item 0\n00\n",
+        "accrun: line 5: Unclosed\n",
+        2,
+    ),
+    ("", "\n\n\x7f", "", "accrun: line 3: NotText\n", 2),
+    (
+        "",
+        "report\nenter data copyin(a)\nreport\n",
+        "host 65536 device 65536 used 0\nregions 0 events 0\n",
+        "accrun: line 2: UnknownName\n",
+        2,
+    ),
+    (
+        "",
+        "array a 16\nshow a[0:2]\nenter data copyin(a[0:",
+        "0000\n",
+        "accrun: line 3: Syntax\n",
+        2,
+    ),
+    (
+        "",
+        "array a 16\nupdate self(a)\nshow b\n",
+        "line 2: refused 11 NotPresent item 0\n",
+        "accrun: line 3: UnknownName\n",
+        2,
+    ),
+    ("--host 24", "\x7f", "", "accrun: 2 BadConfig\n", 2),
+    (
+        "--device 67108863",
+        "report\n",
+        "",
+        "accrun: 2 BadConfig\n",
+        2,
+    ),
+];

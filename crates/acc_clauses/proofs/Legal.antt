@@ -30,12 +30,10 @@ use Rattle.acc_clauses.specs.declared.environments.Environment.{Environment}
 use Rattle.acc_clauses.specs.Contents.{state_of, ArePartsSound}
 use Rattle.acc_clauses.specs.Acts.{IsJudged, IsMappedAround, IsKnown, CanMove, CanBear, CanAct, IsActedBy}
 use Rattle.acc_clauses.proofs.Moving.{bytes_of-len, some_of}
+use Rattle.acc_clauses.proofs.Runs.{within_both}
 use Rattle.acc_clauses.proofs.Steps.{is_some}
 
 -- ---- sections
-
-within_both : (s t u : Section) → is_within s t ≡ true → is_within t u ≡ true → is_within s u ≡ true
-within_both s t u h k = grind (arith, nat_tests)
 
 -- a section of host memory is no longer than it
 host_len : (s : Section) (n : ℕ) → is_within s (host_memory n) ≡ true → s.len ≤ n

@@ -124,6 +124,10 @@ changed-none block f (m ∷ ms) e = go (m.block == block) (changed-none block f 
 
 -- ---- one more run
 
+-- what is within a part is within the whole
+pub within_both : (s t u : Section) → is_within s t ≡ true → is_within t u ≡ true → is_within s u ≡ true
+within_both s t u h k = grind (arith, nat_tests)
+
 -- a run of a section lies within it
 pub run_within : (s run : Section) (at stop : ℕ) → s.start ≤ at → at < end_of s → run.start ≡ at → run.len ≡ stop - at → stop ≤ end_of s → is_within run s ≡ true
 run_within s run at stop low inside first len most = grind (arith, nat_tests)

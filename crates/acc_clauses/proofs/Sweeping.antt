@@ -1,7 +1,6 @@
 -- A copy in runs, on the parts of a data environment: what holds before each run, and what one more run leaves.
-use Rattle.std.proofs.Common.{ℕ, ◌≡◌, ◌+◌, ◌-◌, ◌<◌, ◌≤◌, refl, sym, ◌∙◌, ap, Bool, true, false, cond, List, [], ◌∷◌, length, map, Some, arith}
+use Rattle.std.proofs.Common.{ℕ, ◌≡◌, ◌+◌, ◌-◌, ◌<◌, ◌≤◌, refl, sym, ◌∙◌, ap, Bool, true, false, cond, List, [], ◌∷◌, length, map, Some}
 use Rattle.std.specs.Prelude.{◌==◌, find, unwrap_or, option_map, slice_index}
-use Rattle.std.proofs.lemmas.Bool.Decides.{nat_tests}
 use Rattle.acc_base.specs.declared.items.Section.{Section}
 use Rattle.acc_base.specs.declared.attachments.Attachment.{Attachment}
 use Rattle.acc_base.specs.Section.{covers, end_of, is_within, host_memory, host_base}
@@ -15,12 +14,9 @@ use Rattle.acc_clauses.specs.Contents.{state_of}
 use Rattle.acc_clauses.specs.Acts.{CanMove}
 use Rattle.acc_clauses.specs.Copies.{moved_below, IsRunEnd}
 use Rattle.acc_clauses.proofs.Steps.{within_block}
-use Rattle.acc_clauses.proofs.Runs.{IsRun, run_within, written_next, written_start, written_end, changed-twice, changed-none, changed_same}
+use Rattle.acc_clauses.proofs.Runs.{within_both, IsRun, run_within, written_next, written_start, written_end, changed-twice, changed-none, changed_same}
 
 -- ---- runs and blocks
-
-within_both : (s t u : Section) → is_within s t ≡ true → is_within t u ≡ true → is_within s u ≡ true
-within_both s t u h k = grind (arith, nat_tests)
 
 -- a run of a section that lies in a memory lies in one as long
 pub run_fits : (section run : Section) (block : ℕ) (attached : List Attachment) (at stop start n m : ℕ) → IsRun section run block attached at stop → is_within section (record { start = start; len = n }) ≡ true → m ≡ n

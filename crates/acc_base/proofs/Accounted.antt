@@ -24,9 +24,10 @@ use Rattle.acc_base.specs.Records.{Records, Layout, State, layout_of, new_layout
 use Rattle.acc_base.specs.Register.{Register, holdings_at}
 use Rattle.acc_base.specs.Ranges.{range_of, ends_by}
 use Rattle.acc_base.specs.Clauses.{in_host, leave_row}
-use Rattle.acc_base.specs.Tasks.{recounted, judge_task, judge_all, act, did_of}
+use Rattle.acc_base.specs.Tasks.{recounted, judge_step, act}
+use Rattle.acc_base.specs.Pointers.{judge_release}
+use Rattle.acc_base.specs.Acting.{judge_aim, judge_task, judge_all, act_state, after}
 use Rattle.acc_base.specs.Walk.{walk, walk_all, leave_tasks, register_after, holdings_of}
-use Rattle.acc_base.specs.Bytes.{after}
 use Rattle.acc_base.specs.Judge.{few_items, tasks_of, tasks_of_region, event_of, directive_event, host_write_event}
 use Rattle.acc_base.specs.Calls.{History, World, Verdict, Makes, judge, ticket, allowance, trace_room, world_after, new_world, bytes_brought, event_count, open_regions}
 use Rattle.acc_base.specs.History.{AreJudged, IsLegal, AreLegal}
@@ -34,9 +35,11 @@ use Rattle.acc_base.specs.Accounts.{IsRegisterSound, IsTraced, IsHistoryLegal, I
 use Rattle.acc_base.proofs.Results.{bind_ok, then_ok, ok_same, refused_not}
 use Rattle.acc_base.proofs.Elements.{AllByRecursion-weaker}
 use Rattle.acc_base.proofs.Lookups.{at-own}
-use Rattle.acc_base.proofs.Walked.{layout-after}
+use Rattle.acc_base.proofs.Walked.{records-act_state, layout-after}
 use Rattle.acc_base.proofs.Registers.{IsNumbered, AreFew, register_sound, opened_few, opened_count, holdings_short, closed_few, closed_count}
 use Rattle.acc_base.proofs.Told.{IsLedTo, legal_told}
+use Rattle.acc_base.proofs.Legality.{IsJudgedItem, item_judged}
+use Rattle.acc_base.proofs.Traced.{attachments_traced}
 use Rattle.acc_base.proofs.Used.{used_le}
 use Rattle.acc_base.proofs.Memories.{event_sized, new_sized}
 
@@ -60,30 +63,20 @@ history_after l h e lay new legal now is = record {
 
 -- ---- a directive that is not refused makes a legal event
 
--- what a task and the tasks after it were judged to do
-record IsTask (step : Step) (rest dids : List Did) (judged : Result Step Fault) (others : Result (List Did) Fault) : Type 0 where
-  task : judged ≡ Ok step
-  tasks : others ≡ Ok rest
-  dids_are : did_of step ∷ rest ≡ dids
-
-task_parts : (l : Limits) (n : ℕ) (task : Task) (tasks : List Task) (dids : List Did) (w : Records) → judge_all l n (task ∷ tasks) w ≡ Ok dids
-    → (step : Step) × (rest : List Did) × IsTask step rest dids (judge_task l n task w) (judge_all l (suc n) tasks (act task step w))
-unfolding judge_all
-task_parts l n task tasks dids w e =
-    let first : (step : Step) × (judge_task l n task w ≡ Ok step) × ((judge_all l (suc n) tasks (act task step w) >>= λ rest. Ok (did_of step ∷ rest)) ≡ Ok dids) = bind_ok (judge_task l n task w) (λ step. judge_all l (suc n) tasks (act task step w) >>= λ rest. Ok (did_of step ∷ rest)) dids e in
-    let others : (rest : List Did) × (judge_all l (suc n) tasks (act task first.0 w) ≡ Ok rest) × (Ok (did_of first.0 ∷ rest) ≡ Ok dids) = bind_ok (judge_all l (suc n) tasks (act task first.0 w)) (λ rest. Ok (did_of first.0 ∷ rest)) dids first.2 in
-    (first.0, others.0, record { task = first.1; tasks = others.1; dids_are = ok_same _ _ others.2 })
-
 no_dids : (dids : List Did) → ◌≡◌ {A = Result (List Did) Fault} (Ok []) (Ok dids) → [] ≡ dids
 no_dids dids e = ok_same _ _ e
 
-pub judged_all : (l : Limits) (n : ℕ) (tasks : List Task) (dids : List Did) (w : Records) → judge_all l n tasks w ≡ Ok dids → AreJudged l n tasks dids w
+pub judged_all : (l : Limits) (n : ℕ) (tasks : List Task) (dids : List Did) (s : State) → judge_all l n tasks s ≡ Ok dids → AreJudged l n tasks dids s.records
 unfolding judge_all
-judged_all l n [] dids w e = subst (λ ds. AreJudged l n [] ds w) (no_dids dids e) tt
-judged_all l n (task ∷ tasks) dids w e =
-    let parts = task_parts l n task tasks dids w e in
-    let legal : AreJudged l n (task ∷ tasks) (did_of parts.0 ∷ parts.1) w = (parts.2.task, judged_all l (suc n) tasks parts.1 (act task parts.0 w) parts.2.tasks) in
-    subst (λ ds. AreJudged l n (task ∷ tasks) ds w) parts.2.dids_are legal
+judged_all l n [] dids s e = subst (λ ds. AreJudged l n [] ds s.records) (no_dids dids e) tt
+judged_all l n (task ∷ tasks) dids s e =
+    let first : (did : Did) × (judge_task l n task s ≡ Ok did) × ((judge_all l (suc n) tasks (act_state task did s) >>= λ rest. Ok (did ∷ rest)) ≡ Ok dids)
+    = bind_ok (judge_task l n task s) (λ did. judge_all l (suc n) tasks (act_state task did s) >>= λ rest. Ok (did ∷ rest)) dids e in
+    let others : (rest : List Did) × (judge_all l (suc n) tasks (act_state task first.0 s) ≡ Ok rest) × (Ok (first.0 ∷ rest) ≡ Ok dids)
+    = bind_ok (judge_all l (suc n) tasks (act_state task first.0 s)) (λ rest. Ok (first.0 ∷ rest)) dids first.2 in
+    let item : IsJudgedItem l n task first.0 s.records = item_judged l n task first.0 s first.1 in
+    let rest : AreJudged l (suc n) tasks others.0 (act task first.0 s.records) = subst (AreJudged l (suc n) tasks others.0) (records-act_state task first.0 s) (judged_all l (suc n) tasks others.0 (act_state task first.0 s) others.1) in
+    subst (λ ds. AreJudged l n (task ∷ tasks) ds s.records) (ok_same _ _ others.2) (item.step, item.aim, rest)
 
 same_tasks : (xs ys : List Task) → ◌≡◌ {A = Result (List Task) Fault} (Ok xs) (Ok ys) → xs ≡ ys
 same_tasks xs ys e = ok_same _ _ e
@@ -108,18 +101,18 @@ record IsMadeBy (l : Limits) (d : Directive) (lay : Layout) (e : Event) : Type 0
   event_is : event_of d lay.register dids ≡ e
   legal : IsLegal l e lay
 
-made_by : (l : Limits) (d : Directive) (lay : Layout) (e : Event) → directive_event l d lay ≡ Ok e → IsMadeBy l d lay e
+made_by : (l : Limits) (d : Directive) (s : State) (e : Event) → directive_event l d s ≡ Ok e → IsMadeBy l d (layout_of s) e
 unfolding directive_event
-made_by l d lay e h =
-    let found : (ts : List Task) × (tasks_of d lay.register ≡ Ok ts) × ((judge_all l 0 ts lay.records >>= λ dids. Ok (event_of d lay.register dids)) ≡ Ok e)
-    = bind_ok (tasks_of d lay.register) (λ ts. judge_all l 0 ts lay.records >>= λ dids. Ok (event_of d lay.register dids)) e h in
-    let acted : (dids : List Did) × (judge_all l 0 found.0 lay.records ≡ Ok dids) × (Ok (event_of d lay.register dids) ≡ Ok e)
-    = bind_ok (judge_all l 0 found.0 lay.records) (λ dids. Ok (event_of d lay.register dids)) e found.2 in
-    let is : event_of d lay.register acted.0 ≡ e = ok_same _ _ acted.2 in
-    record { dids = acted.0; event_is = is; legal = subst (λ x. IsLegal l x lay) is (event_legal l d lay found.0 acted.0 found.1 (judged_all l 0 found.0 acted.0 lay.records acted.1)) }
+made_by l d s e h =
+    let found : (ts : List Task) × (tasks_of d s.register ≡ Ok ts) × ((judge_all l 0 ts s >>= λ dids. Ok (event_of d s.register dids)) ≡ Ok e)
+    = bind_ok (tasks_of d s.register) (λ ts. judge_all l 0 ts s >>= λ dids. Ok (event_of d s.register dids)) e h in
+    let acted : (dids : List Did) × (judge_all l 0 found.0 s ≡ Ok dids) × (Ok (event_of d s.register dids) ≡ Ok e)
+    = bind_ok (judge_all l 0 found.0 s) (λ dids. Ok (event_of d s.register dids)) e found.2 in
+    let is : event_of d s.register acted.0 ≡ e = ok_same _ _ acted.2 in
+    record { dids = acted.0; event_is = is; legal = subst (λ x. IsLegal l x (layout_of s)) is (event_legal l d (layout_of s) found.0 acted.0 found.1 (judged_all l 0 found.0 acted.0 s acted.1)) }
 
-pub directive_legal : (l : Limits) (d : Directive) (lay : Layout) (e : Event) → directive_event l d lay ≡ Ok e → IsLegal l e lay
-directive_legal l d lay e h = (made_by l d lay e h).legal
+pub directive_legal : (l : Limits) (d : Directive) (s : State) (e : Event) → directive_event l d s ≡ Ok e → IsLegal l e (layout_of s)
+directive_legal l d s e h = (made_by l d s e h).legal
 
 host_write_legal : (l : Limits) (addr len : ℕ) (lay : Layout) (e : Event) → host_write_event l addr len ≡ Ok e → HostWritten addr len ≡ e × IsLegal l e lay
 unfolding host_write_event
@@ -131,27 +124,33 @@ host_write_legal l addr len lay e h =
 
 -- ---- the exit from an open region is not refused
 
-leave_step : (l : Limits) (n : ℕ) (holding : Holding) (w : Records) → (step : Step) × (judge_task l n (Leave holding) w ≡ Ok step)
-unfolding judge_task
+leave_step : (l : Limits) (n : ℕ) (holding : Holding) (w : Records) → (step : Step) × (judge_step l n (Leave holding) w ≡ Ok step)
+unfolding judge_step
 leave_step l n holding w = go holding.block
   where
     go : (o : Option ℕ) → (step : Step) × (leave_row o (recounted (Leave holding)) w ≡ Ok step)
     go None = (Nothing, refl)
     go (Some block) = (Dropped block (ends_by (recounted (Leave holding)) block w.ranges), refl)
 
-leave_all : (l : Limits) (n : ℕ) (holdings : List Holding) (w : Records) → (dids : List Did) × (judge_all l n (map Leave holdings) w ≡ Ok dids)
-unfolding judge_all
-leave_all l n [] w = ([], refl)
-leave_all l n (holding ∷ holdings) w =
-    let first : (step : Step) × (judge_task l n (Leave holding) w ≡ Ok step) = leave_step l n holding w in
-    let others : (dids : List Did) × (judge_all l (suc n) (map Leave holdings) (act (Leave holding) first.0 w) ≡ Ok dids) = leave_all l (suc n) holdings (act (Leave holding) first.0 w) in
-    (did_of first.0 ∷ others.0, rw (first.1, others.1))
+leave_task : (l : Limits) (n : ℕ) (holding : Holding) (s : State) → (did : Did) × (judge_task l n (Leave holding) s ≡ Ok did)
+unfolding judge_task judge_aim
+leave_task l n holding s =
+    let first : (step : Step) × (judge_step l n (Leave holding) s.records ≡ Ok step) = leave_step l n holding s.records in
+    (record { step = first.0; aim = judge_release holding.aim s.records }, rw first.1 refl)
 
-pub exit_accepted : (l : Limits) (number : ℕ) (holdings : List Holding) (lay : Layout) → holdings_at number lay.register.regions ≡ Some holdings → (e : Event) × (directive_event l (Exit number) lay ≡ Ok e)
+leave_all : (l : Limits) (n : ℕ) (holdings : List Holding) (s : State) → (dids : List Did) × (judge_all l n (map Leave holdings) s ≡ Ok dids)
+unfolding judge_all
+leave_all l n [] s = ([], refl)
+leave_all l n (holding ∷ holdings) s =
+    let first : (did : Did) × (judge_task l n (Leave holding) s ≡ Ok did) = leave_task l n holding s in
+    let others : (dids : List Did) × (judge_all l (suc n) (map Leave holdings) (act_state (Leave holding) first.0 s) ≡ Ok dids) = leave_all l (suc n) holdings (act_state (Leave holding) first.0 s) in
+    (first.0 ∷ others.0, rw (first.1, others.1))
+
+pub exit_accepted : (l : Limits) (number : ℕ) (holdings : List Holding) (s : State) → holdings_at number s.register.regions ≡ Some holdings → (e : Event) × (directive_event l (Exit number) s ≡ Ok e)
 unfolding directive_event
-exit_accepted l number holdings lay e =
-    let left : (dids : List Did) × (judge_all l 0 (leave_tasks holdings) lay.records ≡ Ok dids) = leave_all l 0 (reverse holdings) lay.records in
-    (event_of (Exit number) lay.register left.0, rw (e, left.1))
+exit_accepted l number holdings s e =
+    let left : (dids : List Did) × (judge_all l 0 (leave_tasks holdings) s ≡ Ok dids) = leave_all l 0 (reverse holdings) s in
+    (event_of (Exit number) s.register left.0, rw (e, left.1))
 
 -- ---- an accepted call
 
@@ -199,12 +198,12 @@ made r e h =
 pub accepted : (w : World) (call : Call) (e : Event) → judge w call ≡ Ok (Makes e) → IsAccepted w e
 unfolding judge
 accepted w (Do d) e h =
-    let last : Result Verdict Fault = makes (directive_event w.limits d (layout_of w.state)) in
+    let last : Result Verdict Fault = makes (directive_event w.limits d w.state) in
     let first : (ticket w ≡ Ok tt) × ((allowance w d >> (few_items d >> (trace_room w >> last))) ≡ Ok (Makes e)) = then_ok (ticket w) (allowance w d >> (few_items d >> (trace_room w >> last))) (Makes e) h in
     let second : (allowance w d ≡ Ok tt) × ((few_items d >> (trace_room w >> last)) ≡ Ok (Makes e)) = then_ok (allowance w d) (few_items d >> (trace_room w >> last)) (Makes e) first.1 in
     let third : (few_items d ≡ Ok tt) × ((trace_room w >> last) ≡ Ok (Makes e)) = then_ok (few_items d) (trace_room w >> last) (Makes e) second.1 in
     let fourth : (trace_room w ≡ Ok tt) × (last ≡ Ok (Makes e)) = then_ok (trace_room w) last (Makes e) third.1 in
-    let by : IsMadeBy w.limits d (layout_of w.state) e = made_by w.limits d (layout_of w.state) e (made _ e fourth.1) in
+    let by : IsMadeBy w.limits d (layout_of w.state) e = made_by w.limits d w.state e (made _ e fourth.1) in
     record {
       tickets = below_limit w.limits.tickets (event_count w.history) (refused_not _ _ first.0);
       trace = below_limit w.limits.trace_cap (length w.history.trace) (refused_not _ _ fourth.0);
@@ -276,6 +275,7 @@ accounted_after w call e bounds ok h =
         memories_sized = event_sized w.limits e (bytes_brought call) w.state h.sound.memories_sized;
       };
       counters_traced = traced w.limits longer (layout_of next) now;
+      attachments_traced = attachments_traced w.limits longer (layout_of next) bounds history;
       history_legal = history;
       books_counted = record { tickets = omega (arith, ok.tickets); trace = omega (arith, ok.trace); regions = regions };
     }
@@ -296,6 +296,7 @@ new_accounted l bounds =
         memories_sized = new_sized l;
       };
       counters_traced = tt;
+      attachments_traced = attachments_traced l (record { trace = [] }) new_layout bounds history;
       history_legal = history;
       books_counted = record { tickets = omega arith; trace = omega arith; regions = omega arith };
     }

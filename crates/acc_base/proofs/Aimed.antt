@@ -1,8 +1,7 @@
 -- What attaching and detaching a pointer leaves: the records stay sound, and memories keep their lengths.
-use Rattle.std.proofs.Common.{ℕ, ◌≡◌, ◌+◌, ◌-◌, refl, ◌∙◌, ap, subst, Bool, true, false, cond, List, [], ◌∷◌, Option, Some, None, Result, Ok}
-use Rattle.std.specs.Prelude.{◌==◌, ◌&&◌, nat_le, IsSome, not, slice_index}
-use Rattle.std.specs.List.{AllByRecursion, AllZip}
-use Rattle.std.specs.Int.{to_le_bytes, w64}
+use Rattle.std.proofs.Common.{ℕ, ◌≡◌, ◌+◌, ◌-◌, ◌≤◌, refl, sym, ◌∙◌, ap, subst, Bool, true, false, cond, List, [], ◌∷◌, Option, Some, None, arith}
+use Rattle.std.specs.Prelude.{◌==◌, IsSome}
+use Rattle.std.specs.List.{AllByRecursion}
 use Rattle.acc_base.specs.declared.mappings.Range.{Range}
 use Rattle.acc_base.specs.declared.mappings.Block.{Block}
 use Rattle.acc_base.specs.declared.mappings.Found.{Found}
@@ -10,23 +9,33 @@ use Rattle.acc_base.specs.declared.mappings.Found.TheVariants.{Empty, Inside, Pa
 use Rattle.acc_base.specs.declared.attachments.Attachment.{Attachment}
 use Rattle.acc_base.specs.declared.attachments.Aim.{Aim}
 use Rattle.acc_base.specs.declared.attachments.Aim.TheVariants as aims
-use Rattle.acc_base.specs.declared.faults.Fault.{Fault}
-use Rattle.acc_base.specs.declared.faults.Fault.TheVariants.{CounterFull}
-use Rattle.acc_base.specs.Results.{◌>>◌, refuse_if}
+use Rattle.acc_base.specs.declared.items.Item.{Item}
+use Rattle.acc_base.specs.declared.items.ExitClause.{ExitClause}
+use Rattle.acc_base.specs.declared.items.UpdateClause.{UpdateClause}
+use Rattle.acc_base.specs.declared.mappings.Counter.{Counter}
+use Rattle.acc_base.specs.declared.regions.Holding.{Holding}
+use Rattle.acc_base.specs.declared.tasks.Task.{Task}
+use Rattle.acc_base.specs.declared.tasks.Task.TheVariants.{Enter, Leave, Exit, Move}
+use Rattle.acc_base.specs.declared.events.Step.{Step}
+use Rattle.acc_base.specs.declared.events.Step.TheVariants.{Nothing, Counted, Born, Dropped, Moved}
+use Rattle.acc_base.specs.declared.events.Did.{Did}
 use Rattle.acc_base.specs.Limits.{Limits, IsWithinBounds}
-use Rattle.acc_base.specs.Section.{covers}
-use Rattle.acc_base.specs.Ranges.{where_is, start_of}
+use Rattle.acc_base.specs.Ranges.{where_is, counter_of}
 use Rattle.acc_base.specs.Blocks.{block_at}
-use Rattle.acc_base.specs.Attachments.{pointer_at, is_before, count_at, with_attachment, without_attachment, with_count, attach, detach, attached_by}
-use Rattle.acc_base.specs.Records.{Records, State}
-use Rattle.acc_base.specs.Bytes.{host_byte, written_bytes}
-use Rattle.acc_base.specs.Pointers.{block_in, block_with, target_of, device_pointer, attach_there, judge_attach, detach_there, judge_detach, release_there, judge_release, pointer_written, memories_aimed, records_aimed, aimed}
-use Rattle.acc_base.specs.Accounts.{IsMapped, IsMemoryOf, AreAttachmentsSound, AreRecordsSound, AreMemoriesSized}
+use Rattle.acc_base.specs.Attachments.{pointer_at, is_before, count_at, with_attachment, without_attachment, with_count, detach, attached_by}
+use Rattle.acc_base.specs.Records.{Records}
+use Rattle.acc_base.specs.Pointers.{block_in, block_with, detach_there, judge_detach, release_there, judge_release}
+use Rattle.acc_base.specs.Tasks.{pointer_aimed, records_aimed, act_step, act}
+use Rattle.acc_base.specs.Acting.{detach_if}
+use Rattle.acc_base.specs.History.{IsAttachLegal, IsAimLegal}
+use Rattle.acc_base.specs.Accounts.{IsMapped, AreAttachmentsSound, AreRecordsSound}
 use Rattle.acc_base.proofs.Results.{equal}
 use Rattle.acc_base.proofs.Elements.{AllByRecursion-filter, found_has}
 use Rattle.acc_base.proofs.Where.{IsInsideOf, inside_says}
-use Rattle.acc_base.proofs.Attached.{rising-attached_by, attached_within, detached_within}
-use Rattle.acc_base.proofs.Memories.{length-written_bytes, changed_sized}
+use Rattle.acc_base.proofs.Attached.{rising-attached_by, rising-with_count, counted-with_count, detached_within}
+use Rattle.acc_base.proofs.Judged.{IsJudgedTo}
+use Rattle.acc_base.proofs.Sound.{acted_sound}
+use Rattle.acc_base.proofs.Recounted.{moved_by, names, counter-act}
 
 -- ---- the block of a pointer is there
 
@@ -81,7 +90,7 @@ aimed_block (aims.Less pointer block) = Some block
 aimed_block (aims.Cleared pointer block) = Some block
 
 -- it is there
-abbrev IsAimThere : List Block → Aim → Type 0
+abbrev pub IsAimThere : List Block → Aim → Type 0
 IsAimThere blocks aim = (block : ℕ) → aimed_block aim ≡ Some block → IsSome (block_at block blocks)
 
 aimed_there : (blocks : List Block) (aim : Aim) (xs : List Attachment) → IsAimThere blocks aim → AreThere blocks xs → AreThere blocks (attached_by aim xs)
@@ -91,18 +100,6 @@ aimed_there blocks (aims.Again pointer block) xs there h = there-with_count bloc
 aimed_there blocks (aims.Less pointer block) xs there h = there-with_count blocks block pointer (count_at block pointer xs - 1) xs (there block refl) h
 aimed_there blocks (aims.Cleared pointer block) xs there h = there-with_count blocks block pointer 0 xs (there block refl) h
 
--- an attachment names the block that it was asked for
-attach_block : (most n block pointer target now : ℕ) (aim : Aim) (xs : List Attachment) → attach most n block pointer target now xs ≡ Ok aim → aimed_block aim ≡ Some block
-attach_block most n block pointer target now aim xs e = go (not (count_at block pointer xs == 0) && (now == target)) e
-  where
-    again : (b : Bool) → ◌≡◌ {A = Result Aim Fault} (refuse_if b (CounterFull n) >> Ok (aims.Again pointer block)) (Ok aim) → aimed_block aim ≡ Some block
-    again true k = cc
-    again false k = let is : aims.Again pointer block ≡ aim = cc in rw (← is) refl
-
-    go : (b : Bool) → cond b (refuse_if (nat_le most (count_at block pointer xs)) (CounterFull n) >> Ok (aims.Again pointer block)) (Ok (aims.New pointer block target)) ≡ Ok aim → aimed_block aim ≡ Some block
-    go true k = again (nat_le most (count_at block pointer xs)) k
-    go false k = let is : aims.New pointer block target ≡ aim = cc in rw (← is) refl
-
 detach_block : (immediate : Bool) (block pointer k : ℕ) (xs : List Attachment) → aimed_block (detach immediate block pointer xs) ≡ Some k → block ≡ k
 detach_block immediate block pointer k xs e = go (count_at block pointer xs == 0) immediate e
   where
@@ -111,16 +108,7 @@ detach_block immediate block pointer k xs e = go (count_at block pointer xs == 0
     go false true h = cc
     go false false h = cc
 
--- after an attachment the counters are sound
-pub attach_sound : (l : Limits) (n block pointer target now : ℕ) (aim : Aim) (w : Records) → IsWithinBounds l → AreRecordsSound l w → IsSome (block_at block w.blocks) → attach l.counter_max n block pointer target now w.attached ≡ Ok aim
-    → AreRecordsSound l (records_aimed aim w)
-attach_sound l n block pointer target now aim w bounds h there e = with_attached l w (attached_by aim w.attached) h (record {
-  rising = rising-attached_by aim w.attached h.attached.rising;
-  counted = attached_within l.counter_max n block pointer target now aim w.attached bounds.counter_max.0 h.attached.counted e;
-  there = aimed_there w.blocks aim w.attached (λ k is. let named : aimed_block aim ≡ Some block = attach_block l.counter_max n block pointer target now aim w.attached e in let same : block ≡ k = cc in subst (λ b. IsSome (block_at b w.blocks)) same there) h.attached.there;
-})
-
--- and after a detachment
+-- after a detachment the counters are sound
 pub detach_sound : (l : Limits) (immediate : Bool) (block pointer : ℕ) (w : Records) → AreRecordsSound l w → IsSome (block_at block w.blocks) → AreRecordsSound l (records_aimed (detach immediate block pointer w.attached) w)
 detach_sound l immediate block pointer w h there =
     let aim : Aim = detach immediate block pointer w.attached in
@@ -130,20 +118,19 @@ detach_sound l immediate block pointer w h there =
       there = aimed_there w.blocks aim w.attached (λ k is. subst (λ b. IsSome (block_at b w.blocks)) (detach_block immediate block pointer k w.attached is) there) h.attached.there;
     })
 
+-- with one counter set
+counted_sound : (l : Limits) (block pointer count : ℕ) (w : Records) → AreRecordsSound l w → count ≤ l.counter_max → IsSome (block_at block w.blocks) → AreRecordsSound l (record w { attached = with_count block pointer count w.attached })
+counted_sound l block pointer count w h most there = with_attached l w (with_count block pointer count w.attached) h (record {
+  rising = rising-with_count block pointer count w.attached h.attached.rising;
+  counted = counted-with_count l.counter_max block pointer count w.attached most h.attached.counted;
+  there = there-with_count w.blocks block pointer count w.attached there h.attached.there;
+})
+
 -- nothing was attached
 none_sound : (l : Limits) (w : Records) → AreRecordsSound l w → AreRecordsSound l (records_aimed aims.None w)
 none_sound l w h = with_attached l w w.attached h h.attached
 
 -- ---- what is judged keeps them sound
-
-pub judged_attach_sound : (l : Limits) (n pointer : ℕ) (s : State) (aim : Aim) → IsWithinBounds l → AreRecordsSound l s.records → judge_attach l n pointer s ≡ Ok aim → AreRecordsSound l (records_aimed aim s.records)
-unfolding judge_attach
-judged_attach_sound l n pointer s aim bounds h e = go (block_with pointer s.records.ranges) refl (target_of pointer s) e
-  where
-    go : (b : Option ℕ) → block_with pointer s.records.ranges ≡ b → (t : Option ℕ) → attach_there l n pointer b t s ≡ Ok aim → AreRecordsSound l (records_aimed aim s.records)
-    go None is t k = let none : aims.None ≡ aim = cc in rw (← none) (none_sound l s.records h)
-    go (Some block) is None k = let none : aims.None ≡ aim = cc in rw (← none) (none_sound l s.records h)
-    go (Some block) is (Some target) k = attach_sound l n block pointer target (device_pointer block pointer s) aim s.records bounds h (mapped_there l s.records pointer block h is) k
 
 pub judged_detach_sound : (l : Limits) (immediate : Bool) (pointer : ℕ) (w : Records) → AreRecordsSound l w → AreRecordsSound l (records_aimed (judge_detach immediate pointer w) w)
 unfolding judge_detach
@@ -166,24 +153,107 @@ judged_release_sound l (Some aim) w h = go (block_with aim.0 w.ranges) refl
     go None is = none_sound l w h
     go (Some now) is = here now is (now == aim.1) refl
 
--- ---- memories
+-- ---- what is legal keeps them sound
 
--- memories are as long as their blocks after any of them
-pub aimed_sized : (l : Limits) (aim : Aim) (s : State) → AreMemoriesSized l s → AreMemoriesSized l (aimed aim s)
-unfolding aimed
-aimed_sized l aim s h = record { host = h.host; blocks = go aim }
+pub legal_attach_sound : (l : Limits) (named : Option ℕ) (aim : Aim) (w : Records) → IsWithinBounds l → AreRecordsSound l w → IsAttachLegal l named aim w → AreRecordsSound l (records_aimed aim w)
+legal_attach_sound l named aims.None w bounds h legal = none_sound l w h
+legal_attach_sound l named (aims.New pointer block target) w bounds h legal = counted_sound l block pointer 1 w h bounds.counter_max.0 (mapped_there l w pointer block h legal.1)
+legal_attach_sound l named (aims.Again pointer block) w bounds h legal = counted_sound l block pointer (count_at block pointer w.attached + 1) w h (omega (arith, legal.3)) (mapped_there l w pointer block h legal.1)
+legal_attach_sound l named (aims.Less pointer block) w bounds h legal = absurd legal
+legal_attach_sound l named (aims.Cleared pointer block) w bounds h legal = absurd legal
+
+-- an exit detaches before its step
+pub leave_sound : (l : Limits) (holding : Holding) (did : Did) (w : Records) → AreRecordsSound l w → IsAimLegal l (Leave holding) did w → AreRecordsSound l (records_aimed did.aim w)
+leave_sound l holding did w h legal = subst (λ a. AreRecordsSound l (records_aimed a w)) (sym legal) (judged_release_sound l holding.aim w h)
+
+pub exit_sound : (l : Limits) (finalize : Bool) (item : Item ExitClause) (did : Did) (w : Records) → AreRecordsSound l w → IsAimLegal l (Exit finalize item) did w → AreRecordsSound l (records_aimed did.aim w)
+exit_sound l finalize item did w h legal = subst (λ a. AreRecordsSound l (records_aimed a w)) (sym legal) (go (pointer_aimed (Exit finalize item) did.step))
   where
-    written : (block pointer : ℕ) (source : ℕ → ℕ) → AllZip IsMemoryOf (pointer_written block pointer source s) s.records.blocks
-    written block pointer source = changed_sized block (written_bytes (covers (pointer_at pointer)) source (start_of block s.records.ranges)) s.memories s.records.blocks
-        (λ bytes. length-written_bytes (covers (pointer_at pointer)) source (start_of block s.records.ranges) bytes) h.blocks
+    go : (o : Option ℕ) → AreRecordsSound l (records_aimed (detach_if finalize o w) w)
+    go None = none_sound l w h
+    go (Some pointer) = judged_detach_sound l finalize pointer w h
 
-    go : (a : Aim) → AllZip IsMemoryOf (memories_aimed a s) s.records.blocks
-    go aims.None = h.blocks
-    go (aims.New pointer block target) = written block pointer (λ a. slice_index (to_le_bytes w64 target) (a - pointer))
-    go (aims.Again pointer block) = h.blocks
-    go (aims.Less pointer block) = last (count_at block pointer s.records.attached == 1)
-      where
-        last : (b : Bool) → AllZip IsMemoryOf (cond b (pointer_written block pointer (host_byte s.host) s) s.memories) s.records.blocks
-        last true = written block pointer (host_byte s.host)
-        last false = h.blocks
-    go (aims.Cleared pointer block) = written block pointer (host_byte s.host)
+pub move_sound : (l : Limits) (if_present : Bool) (item : Item UpdateClause) (did : Did) (w : Records) → AreRecordsSound l w → IsAimLegal l (Move if_present item) did w → AreRecordsSound l (records_aimed did.aim w)
+move_sound l if_present item did w h legal = subst (λ a. AreRecordsSound l (records_aimed a w)) (sym legal) (none_sound l w h)
+
+-- the block that a legal attachment or detachment names is there
+pub attach_block : (l : Limits) (named : Option ℕ) (aim : Aim) (w : Records) → AreRecordsSound l w → IsAttachLegal l named aim w → IsAimThere w.blocks aim
+attach_block l named aims.None w h legal k e = cc
+attach_block l named (aims.New pointer block target) w h legal k e = let is : block ≡ k = cc in subst (λ b. IsSome (block_at b w.blocks)) is (mapped_there l w pointer block h legal.1)
+attach_block l named (aims.Again pointer block) w h legal k e = let is : block ≡ k = cc in subst (λ b. IsSome (block_at b w.blocks)) is (mapped_there l w pointer block h legal.1)
+attach_block l named (aims.Less pointer block) w h legal k e = absurd legal
+attach_block l named (aims.Cleared pointer block) w h legal k e = absurd legal
+
+detached_block : (l : Limits) (immediate : Bool) (pointer block : ℕ) (w : Records) → AreRecordsSound l w → block_with pointer w.ranges ≡ Some block → IsAimThere w.blocks (detach immediate block pointer w.attached)
+detached_block l immediate pointer block w h is k e = subst (λ b. IsSome (block_at b w.blocks)) (detach_block immediate block pointer k w.attached e) (mapped_there l w pointer block h is)
+
+no_block : (blocks : List Block) → IsAimThere blocks aims.None
+no_block blocks k e = cc
+
+pub leave_block : (l : Limits) (held : Option (ℕ × ℕ)) (w : Records) → AreRecordsSound l w → IsAimThere w.blocks (judge_release held w)
+unfolding judge_release
+leave_block l None w h = no_block w.blocks
+leave_block l (Some held) w h = go (block_with held.0 w.ranges) refl
+  where
+    here : (now : ℕ) → block_with held.0 w.ranges ≡ Some now → (b : Bool) → (now == held.1) ≡ b → IsAimThere w.blocks (cond b (detach false held.1 held.0 w.attached) aims.None)
+    here now is true e = detached_block l false held.0 held.1 w h (is ∙ ap Some (equal now held.1 e))
+    here now is false e = no_block w.blocks
+
+    go : (b : Option ℕ) → block_with held.0 w.ranges ≡ b → IsAimThere w.blocks (release_there held.0 held.1 b w.attached)
+    go None is = no_block w.blocks
+    go (Some now) is = here now is (now == held.1) refl
+
+pub exit_block : (l : Limits) (finalize : Bool) (named : Option ℕ) (w : Records) → AreRecordsSound l w → IsAimThere w.blocks (detach_if finalize named w)
+unfolding judge_detach
+exit_block l finalize None w h = no_block w.blocks
+exit_block l finalize (Some pointer) w h = go (block_with pointer w.ranges) refl
+  where
+    go : (b : Option ℕ) → block_with pointer w.ranges ≡ b → IsAimThere w.blocks (detach_there finalize pointer b w.attached)
+    go None is = no_block w.blocks
+    go (Some block) is = detached_block l finalize pointer block w h is
+
+-- what a step says does not read the attachment counters
+pub says_aimed : (l : Limits) (task : Task) (step : Step) (aim : Aim) (w : Records) → IsJudgedTo l task step w → IsJudgedTo l task step (records_aimed aim w)
+says_aimed l (Enter counter item) Nothing aim w says = tt
+says_aimed l (Enter counter item) (Counted k) aim w says = record { mapped = says.mapped; room = says.room }
+says_aimed l (Enter counter item) (Born k p) aim w says = record { number = says.number; place_is = says.place_is; absent = says.absent; within = says.within }
+says_aimed l (Enter counter item) (Dropped k ended) aim w says = absurd says
+says_aimed l (Enter counter item) (Moved k) aim w says = absurd says
+says_aimed l (Leave holding) Nothing aim w says = says
+says_aimed l (Leave holding) (Counted k) aim w says = absurd says
+says_aimed l (Leave holding) (Born k p) aim w says = absurd says
+says_aimed l (Leave holding) (Dropped k ended) aim w says = says
+says_aimed l (Leave holding) (Moved k) aim w says = absurd says
+says_aimed l (Exit finalize item) Nothing aim w says = tt
+says_aimed l (Exit finalize item) (Counted k) aim w says = absurd says
+says_aimed l (Exit finalize item) (Born k p) aim w says = absurd says
+says_aimed l (Exit finalize item) (Dropped k ended) aim w says =
+    record { range = record { offset = says.range.offset; inside = says.range.inside; within = says.range.within; some = says.range.some; mapped = says.range.mapped }; some = says.some; ended_is = says.ended_is }
+says_aimed l (Exit finalize item) (Moved k) aim w says = absurd says
+says_aimed l (Move if_present item) Nothing aim w says = tt
+says_aimed l (Move if_present item) (Counted k) aim w says = absurd says
+says_aimed l (Move if_present item) (Born k p) aim w says = absurd says
+says_aimed l (Move if_present item) (Dropped k ended) aim w says = absurd says
+says_aimed l (Move if_present item) (Moved k) aim w says = record { offset = says.offset; inside = says.inside; within = says.within; some = says.some; mapped = says.mapped }
+
+-- what a task leaves of sound records: sound records, and both reference counters of every block
+pub record IsLeft (l : Limits) (task : Task) (did : Did) (w v : Records) : Type 0 where
+  pub sound : AreRecordsSound l v
+  pub counter_is : (counter : Counter) (b : ℕ) → counter_of counter b v.ranges ≡ cond (names b did.step) (moved_by counter task (counter_of counter b w.ranges)) (counter_of counter b w.ranges)
+
+-- the step of a task, after a detachment
+then_left : (l : Limits) (task : Task) (did : Did) (w : Records) → IsWithinBounds l → AreRecordsSound l (records_aimed did.aim w) → IsJudgedTo l task did.step w → IsLeft l task did w (act_step task did.step (records_aimed did.aim w))
+then_left l task did w bounds h says = record {
+  sound = acted_sound l task did.step (records_aimed did.aim w) bounds (says_aimed l task did.step did.aim w says) h;
+  counter_is = λ counter b. counter-act l task did.step (records_aimed did.aim w) counter b h (says_aimed l task did.step did.aim w says);
+}
+
+pub task_left : (l : Limits) (task : Task) (did : Did) (w : Records) → IsWithinBounds l → AreRecordsSound l w → IsJudgedTo l task did.step w → IsAimLegal l task did w → IsLeft l task did w (act task did w)
+unfolding act
+task_left l (Enter counter item) did w bounds h says legal = record {
+  sound = legal_attach_sound l (pointer_aimed (Enter counter item) did.step) did.aim (act_step (Enter counter item) did.step w) bounds (acted_sound l (Enter counter item) did.step w bounds says h) legal;
+  counter_is = λ one b. counter-act l (Enter counter item) did.step w one b h says;
+}
+task_left l (Leave holding) did w bounds h says legal = then_left l (Leave holding) did w bounds (leave_sound l holding did w h legal) says
+task_left l (Exit finalize item) did w bounds h says legal = then_left l (Exit finalize item) did w bounds (exit_sound l finalize item did w h legal) says
+task_left l (Move if_present item) did w bounds h says legal = then_left l (Move if_present item) did w bounds (move_sound l if_present item did w h legal) says

@@ -20,12 +20,12 @@ use Rattle.acc_base.specs.Records.{Records}
 use Rattle.acc_base.specs.Register.{is_counted_block, count_held}
 use Rattle.acc_base.specs.Ranges.{counter_of}
 use Rattle.acc_base.specs.Tasks.{act, act_all}
-use Rattle.acc_base.specs.Walk.{enter_task, block_counted, holdings_of}
+use Rattle.acc_base.specs.Walk.{enter_task, block_counted, pointer_attached, holdings_of}
 use Rattle.acc_base.specs.History.{counts, drops, count_counted, count_dropped, dynamic_dropped, AreJudged}
 use Rattle.acc_base.specs.Accounts.{AreRecordsSound}
 use Rattle.acc_base.proofs.Judged.{IsJudgedTo, task_says}
-use Rattle.acc_base.proofs.Sound.{acted_sound}
-use Rattle.acc_base.proofs.Recounted.{moved_by, names, counter-act}
+use Rattle.acc_base.proofs.Recounted.{moved_by, names}
+use Rattle.acc_base.proofs.Aimed.{IsLeft, task_left}
 
 -- ---- any tasks
 
@@ -45,10 +45,9 @@ all_left l n [] [] w bounds h judged = record { sound = h; counter_is = λ count
 all_left l n [] (did ∷ dids) w bounds h judged = absurd judged
 all_left l n (task ∷ tasks) [] w bounds h judged = absurd judged
 all_left l n (task ∷ tasks) (did ∷ dids) w bounds h judged =
-    let says : IsJudgedTo l task did.step w = task_says l n task w did.step judged.0 in
-    let v : Records = act task did.step w in
-    let later : AreLeft l tasks dids v (act_all tasks dids v) = all_left l (suc n) tasks dids v bounds (acted_sound l task did.step w bounds says h) judged.1 in
-    record { sound = later.sound; counter_is = λ counter b. later.counter_is counter b ∙ ap (λ m. recount counter b tasks dids m) (counter-act l task did.step w counter b h says) }
+    let first : IsLeft l task did w (act task did w) = task_left l task did w bounds h (task_says l n task w did.step judged.0) judged.1 in
+    let later : AreLeft l tasks dids (act task did w) (act_all tasks dids (act task did w)) = all_left l (suc n) tasks dids (act task did w) bounds first.sound judged.2 in
+    record { sound = later.sound; counter_is = λ counter b. later.counter_is counter b ∙ ap (λ m. recount counter b tasks dids m) (first.counter_is counter b) }
 
 -- each task was judged to do its step in some records
 abbrev pub AreSaid : Limits → List Task → List Did → Type 0
@@ -58,7 +57,7 @@ pub all_said : (l : Limits) (n : ℕ) (tasks : List Task) (dids : List Did) (w :
 all_said l n [] [] w judged = tt
 all_said l n [] (did ∷ dids) w judged = absurd judged
 all_said l n (task ∷ tasks) [] w judged = absurd judged
-all_said l n (task ∷ tasks) (did ∷ dids) w judged = ((w, task_says l n task w did.step judged.0), all_said l (suc n) tasks dids (act task did.step w) judged.1)
+all_said l n (task ∷ tasks) (did ∷ dids) w judged = ((w, task_says l n task w did.step judged.0), all_said l (suc n) tasks dids (act task did w) judged.2)
 
 -- tasks that leave a counter
 pub recount_same : {X : Type 0} (counter : Counter) (b : ℕ) (f : X → Task) (items : List X) (dids : List Did) (n : ℕ) → ((x : X) (m : ℕ) → moved_by counter (f x) m ≡ m) → recount counter b (map f items) dids n ≡ n
@@ -114,7 +113,7 @@ held-entered l b [] [] said = refl
 held-entered l b [] (did ∷ dids) said = absurd said
 held-entered l b (item ∷ items) [] said = absurd said
 held-entered l b (item ∷ items) (did ∷ dids) said =
-    sum_by-cons (λ (h : Holding). cond (is_counted_block b h.block) 1 0) (record { item = item; block = block_counted did.step }) (holdings_of items dids)
+    sum_by-cons (λ (h : Holding). cond (is_counted_block b h.block) 1 0) (record { item = item; block = block_counted did.step; aim = pointer_attached did.aim }) (holdings_of items dids)
     ∙ (ap (λ t. cond t 1 0 + count_held b (holdings_of items dids)) (counts_held b did.step)
     ∙ (ap (λ m. cond (counts b did.step) 1 0 + m) (held-entered l b items dids said.1) ∙ sym (sum_by-cons (λ (d : Did). cond (counts b d.step) 1 0) did dids)))
 

@@ -13,6 +13,7 @@ use Rattle.acc_base.specs.declared.mappings.Counter.{Counter}
 use Rattle.acc_base.specs.declared.mappings.Range.{Range}
 use Rattle.acc_base.specs.declared.mappings.Found.{Found}
 use Rattle.acc_base.specs.declared.mappings.Found.TheVariants.{Empty, Inside, Partly, Absent}
+use Rattle.acc_base.specs.declared.regions.Holding.{Holding}
 use Rattle.acc_base.specs.declared.tasks.Task.{Task}
 use Rattle.acc_base.specs.declared.tasks.Task.TheVariants.{Enter, Leave, Exit, Move}
 use Rattle.acc_base.specs.declared.events.Step.{Step}
@@ -24,8 +25,8 @@ use Rattle.acc_base.specs.Section.{is_empty, is_within, host_memory}
 use Rattle.acc_base.specs.Records.{Records}
 use Rattle.acc_base.specs.Ranges.{where_is, range_of, counter_of, dynamic_of, ends_by}
 use Rattle.acc_base.specs.Blocks.{rounded, place_for}
-use Rattle.acc_base.specs.Clauses.{in_host, born_at, enter_absent, enter_row, leave_row, exit_row, move_row}
-use Rattle.acc_base.specs.Tasks.{recounted, judge_task}
+use Rattle.acc_base.specs.Clauses.{in_host, pointer_checked, born_at, enter_absent, enter_row, leave_row, exit_row, move_row}
+use Rattle.acc_base.specs.Tasks.{section_of, pointer_of, recounted, checked, judge_step}
 use Rattle.acc_base.proofs.Results.{chosen, then_ok, ok_same, refused_not, equal_self}
 use Rattle.acc_base.proofs.Elements.{find_passes, find_none}
 use Rattle.acc_base.proofs.Where.{IsInsideOf, inside_says, absent_says}
@@ -63,7 +64,7 @@ pub record IsInRangeOf (l : Limits) (section : Section) (block : ℕ) (w : Recor
 
 -- a drop by `exit data`: the dynamic counter was above zero
 pub record IsDrop (l : Limits) (finalize : Bool) (item : Item ExitClause) (block : ℕ) (ended : Bool) (w : Records) : Type 0 where
-  pub range : IsInRangeOf l item.section block w
+  pub range : IsInRangeOf l (section_of (Exit finalize item)) block w
   pub some : 0 < dynamic_of block w.ranges
   pub ended_is : ended ≡ ends_by (recounted (Exit finalize item)) block w.ranges
 
@@ -71,7 +72,7 @@ pub record IsDrop (l : Limits) (finalize : Bool) (item : Item ExitClause) (block
 abbrev pub IsJudgedTo : Limits → Task → Step → Records → Type 0
 IsJudgedTo l (Enter counter item) Nothing w = ⊤
 IsJudgedTo l (Enter counter item) (Counted k) w = IsCount l counter k w
-IsJudgedTo l (Enter counter item) (Born k p) w = IsBirth l item.section k p w
+IsJudgedTo l (Enter counter item) (Born k p) w = IsBirth l (section_of (Enter counter item)) k p w
 IsJudgedTo l (Enter counter item) (Dropped k ended) w = ⊥
 IsJudgedTo l (Enter counter item) (Moved k) w = ⊥
 IsJudgedTo l (Leave holding) Nothing w = holding.block ≡ None
@@ -125,50 +126,51 @@ enter_told : (l : Limits) (counter : Counter) (item : Item RegionClause) (w : Re
 enter_told l counter item w x y e h = subst (λ t. IsJudgedTo l (Enter counter item) t w) e h
 
 born_says : (l : Limits) (counter : Counter) (item : Item RegionClause) (n : ℕ) (w : Records) (step : Step) (place : Option ℕ)
-    → place_for l.device w.blocks (rounded item.section.len) ≡ place → where_is item.section w.ranges ≡ Absent → is_within item.section (host_memory l.host) ≡ true
-    → born_at place n item.section w ≡ Ok step → IsJudgedTo l (Enter counter item) step w
+    → place_for l.device w.blocks (rounded (section_of (Enter counter item)).len) ≡ place → where_is (section_of (Enter counter item)) w.ranges ≡ Absent → is_within (section_of (Enter counter item)) (host_memory l.host) ≡ true
+    → born_at place n (section_of (Enter counter item)) w ≡ Ok step → IsJudgedTo l (Enter counter item) step w
 born_says l counter item n w step None p a h e = cc
 born_says l counter item n w step (Some place) p a h e = enter_told l counter item w _ _ (ok_same _ _ e) (record { number = refl; place_is = p; absent = a; within = h })
 
 absent_entered : (l : Limits) (counter : Counter) (item : Item RegionClause) (n : ℕ) (w : Records) (step : Step) (clause : RegionClause)
-    → where_is item.section w.ranges ≡ Absent → is_within item.section (host_memory l.host) ≡ true
-    → enter_absent clause l n item.section w ≡ Ok step → IsJudgedTo l (Enter counter item) step w
+    → where_is (section_of (Enter counter item)) w.ranges ≡ Absent → is_within (section_of (Enter counter item)) (host_memory l.host) ≡ true
+    → enter_absent clause l n (section_of (Enter counter item)) w ≡ Ok step → IsJudgedTo l (Enter counter item) step w
 absent_entered l counter item n w step region.Copy a h e = born_says l counter item n w step _ refl a h e
 absent_entered l counter item n w step region.Copyin a h e = born_says l counter item n w step _ refl a h e
 absent_entered l counter item n w step (region.Copyout zeroed) a h e = born_says l counter item n w step _ refl a h e
 absent_entered l counter item n w step (region.Create zeroed) a h e = born_says l counter item n w step _ refl a h e
 absent_entered l counter item n w step region.NoCreate a h e = enter_told l counter item w _ _ (ok_same _ _ e) tt
 absent_entered l counter item n w step region.Present a h e = cc
+absent_entered l counter item n w step region.Attach a h e = enter_told l counter item w _ _ (ok_same _ _ e) tt
 
 entered_says : (l : Limits) (counter : Counter) (item : Item RegionClause) (n : ℕ) (w : Records) (step : Step) (found : Found)
-    → where_is item.section w.ranges ≡ found → in_host l n item.section ≡ Ok tt
-    → enter_row found l counter item.clause n item.section w ≡ Ok step → IsJudgedTo l (Enter counter item) step w
+    → where_is (section_of (Enter counter item)) w.ranges ≡ found → in_host l n (section_of (Enter counter item)) ≡ Ok tt
+    → enter_row found l counter item.clause n (section_of (Enter counter item)) w ≡ Ok step → IsJudgedTo l (Enter counter item) step w
 entered_says l counter item n w step Empty f h e = enter_told l counter item w _ _ (ok_same _ _ e) tt
 entered_says l counter item n w step (Inside k o) f h e =
     let both : (refuse_if (nat_le l.counter_max (counter_of counter k w.ranges)) (CounterFull n) ≡ Ok tt) × (Ok (Counted k) ≡ Ok step) = then_ok _ _ step e in
     let full : nat_le l.counter_max (counter_of counter k w.ranges) ≡ false = refused_not _ _ both.0 in
     let room : counter_of counter k w.ranges < l.counter_max = grind (arith, nat_tests) in
-    enter_told l counter item w _ _ (ok_same _ _ both.1) (record { mapped = inside_mapped item.section w.ranges k o f; room = room })
-entered_says l counter item n w step Absent f h e = absent_entered l counter item n w step item.clause f (in_host_says l n item.section h (absent_says item.section w.ranges f).1) e
+    enter_told l counter item w _ _ (ok_same _ _ both.1) (record { mapped = inside_mapped (section_of (Enter counter item)) w.ranges k o f; room = room })
+entered_says l counter item n w step Absent f h e = absent_entered l counter item n w step item.clause f (in_host_says l n (section_of (Enter counter item)) h (absent_says (section_of (Enter counter item)) w.ranges f).1) e
 entered_says l counter item n w step Partly f h e = cc
 
 -- ---- exit from a region
 
-left_says : (l : Limits) (item : Item RegionClause) (w : Records) (step : Step) (block : Option ℕ)
-    → leave_row block (recounted (Leave (record { item = item; block = block }))) w ≡ Ok step → IsJudgedTo l (Leave (record { item = item; block = block })) step w
-left_says l item w step None e = subst (λ t. IsJudgedTo l (Leave (record { item = item; block = None })) t w) (ok_same _ _ e) refl
-left_says l item w step (Some k) e = subst (λ t. IsJudgedTo l (Leave (record { item = item; block = Some k })) t w) (ok_same _ _ e) (refl, refl)
+left_says : (l : Limits) (holding : Holding) (w : Records) (step : Step) (block : Option ℕ) → holding.block ≡ block
+    → leave_row block (recounted (Leave holding)) w ≡ Ok step → IsJudgedTo l (Leave holding) step w
+left_says l holding w step None is e = subst (λ t. IsJudgedTo l (Leave holding) t w) (ok_same _ _ e) is
+left_says l holding w step (Some k) is e = subst (λ t. IsJudgedTo l (Leave holding) t w) (ok_same _ _ e) (is, refl)
 
 -- ---- `exit data`
 
 exited_says : (l : Limits) (finalize : Bool) (item : Item ExitClause) (n : ℕ) (w : Records) (step : Step) (found : Found)
-    → where_is item.section w.ranges ≡ found → in_host l n item.section ≡ Ok tt
+    → where_is (section_of (Exit finalize item)) w.ranges ≡ found → in_host l n (section_of (Exit finalize item)) ≡ Ok tt
     → exit_row found (recounted (Exit finalize item)) n w ≡ Ok step → IsJudgedTo l (Exit finalize item) step w
 exited_says l finalize item n w step Empty f h e = subst (λ t. IsJudgedTo l (Exit finalize item) t w) (ok_same _ _ e) tt
 exited_says l finalize item n w step (Inside k o) f h e = ⊎_elim
     (λ a. subst (λ t. IsJudgedTo l (Exit finalize item) t w) (ok_same _ _ a.1) tt)
     (λ b. let some : 0 < dynamic_of k w.ranges = above (dynamic_of k w.ranges) b.0 in
-    subst (λ t. IsJudgedTo l (Exit finalize item) t w) (ok_same _ _ b.1) (record { range = in_range_of l n item.section k o w h f; some = some; ended_is = refl }))
+    subst (λ t. IsJudgedTo l (Exit finalize item) t w) (ok_same _ _ b.1) (record { range = in_range_of l n (section_of (Exit finalize item)) k o w h f; some = some; ended_is = refl }))
     (chosen (dynamic_of k w.ranges == 0) (Ok Nothing) (Ok (Dropped k (ends_by (recounted (Exit finalize item)) k w.ranges))) (Ok step) e)
   where
     above : (d : ℕ) → (d == 0) ≡ false → 0 < d
@@ -189,15 +191,24 @@ moved_says l if_present item n w step Partly f h e = cc
 
 -- ---- any task
 
-pub task_says : (l : Limits) (n : ℕ) (task : Task) (w : Records) (step : Step) → judge_task l n task w ≡ Ok step → IsJudgedTo l task step w
-unfolding judge_task
+-- section and pointer of a task were checked
+section_checked : (l : Limits) (n : ℕ) (task : Task) → checked l n task ≡ Ok tt → in_host l n (section_of task) ≡ Ok tt
+section_checked l n task e = (then_ok (in_host l n (section_of task)) (pointer_checked l n (pointer_of task)) tt e).0
+
+pub pointer_checked_by : (l : Limits) (n : ℕ) (task : Task) → checked l n task ≡ Ok tt → pointer_checked l n (pointer_of task) ≡ Ok tt
+pointer_checked_by l n task e = (then_ok (in_host l n (section_of task)) (pointer_checked l n (pointer_of task)) tt e).1
+
+pub task_says : (l : Limits) (n : ℕ) (task : Task) (w : Records) (step : Step) → judge_step l n task w ≡ Ok step → IsJudgedTo l task step w
+unfolding judge_step
 task_says l n (Enter counter item) w step e =
-    let both : (in_host l n item.section ≡ Ok tt) × (enter_row (where_is item.section w.ranges) l counter item.clause n item.section w ≡ Ok step) = then_ok _ _ step e in
-    entered_says l counter item n w step (where_is item.section w.ranges) refl both.0 both.1
-task_says l n (Leave holding) w step e = left_says l holding.item w step holding.block e
+    let task : Task = Enter counter item in
+    let both : (checked l n task ≡ Ok tt) × (enter_row (where_is (section_of task) w.ranges) l counter item.clause n (section_of task) w ≡ Ok step) = then_ok (checked l n task) _ step e in
+    entered_says l counter item n w step (where_is (section_of task) w.ranges) refl (section_checked l n task both.0) both.1
+task_says l n (Leave holding) w step e = left_says l holding w step holding.block refl e
 task_says l n (Exit finalize item) w step e =
-    let both : (in_host l n item.section ≡ Ok tt) × (exit_row (where_is item.section w.ranges) (recounted (Exit finalize item)) n w ≡ Ok step) = then_ok _ _ step e in
-    exited_says l finalize item n w step (where_is item.section w.ranges) refl both.0 both.1
+    let task : Task = Exit finalize item in
+    let both : (checked l n task ≡ Ok tt) × (exit_row (where_is (section_of task) w.ranges) (recounted task) n w ≡ Ok step) = then_ok (checked l n task) _ step e in
+    exited_says l finalize item n w step (where_is (section_of task) w.ranges) refl (section_checked l n task both.0) both.1
 task_says l n (Move if_present item) w step e =
     let both : (in_host l n item.section ≡ Ok tt) × (move_row (where_is item.section w.ranges) if_present n ≡ Ok step) = then_ok _ _ step e in
     moved_says l if_present item n w step (where_is item.section w.ranges) refl both.0 both.1

@@ -9,16 +9,20 @@ pub mod Counting
 pub mod Judged
 pub mod Sound
 pub mod Recounted
+pub mod SameMapping
 pub mod Used
 pub mod Walked
 pub mod Memories
 pub mod KeptMemories
+pub mod Aimed
+pub mod Legality
 pub mod AllTasks
 pub mod Registers
 pub mod Told
+pub mod Traced
 pub mod Accounted
-pub mod Aimed
 pub mod Runs
 mod Examples
 mod RegionExamples
 mod PointerExamples
+mod AttachExamples

@@ -2,12 +2,15 @@
 use Rattle.std.proofs.Common.{ℕ, suc, ◌≡◌, refl, sym, ◌∙◌, ap, subst, Bool, true, false, cond, List, [], ◌∷◌, ◌++◌, length, replicate, Option, Some, None}
 use Rattle.std.specs.Prelude.{◌==◌, ◌-◌, filter, map, not, slice_index}
 use Rattle.std.specs.List.{AllZip}
+use Rattle.std.specs.Int.{to_le_bytes, w64}
 use Rattle.std.proofs.lemmas.List.{length-replicate}
 use Rattle.acc_base.specs.declared.items.Section.{Section}
 use Rattle.acc_base.specs.declared.mappings.Range.{Range}
 use Rattle.acc_base.specs.declared.mappings.Counter.TheVariants.{Structured, Dynamic}
 use Rattle.acc_base.specs.declared.mappings.Block.{Block}
 use Rattle.acc_base.specs.declared.attachments.Attachment.{Attachment}
+use Rattle.acc_base.specs.declared.attachments.Aim.{Aim}
+use Rattle.acc_base.specs.declared.attachments.Aim.TheVariants as aims
 use Rattle.acc_base.specs.declared.tasks.Task.{Task}
 use Rattle.acc_base.specs.declared.tasks.Task.TheVariants.{Enter, Leave, Exit, Move}
 use Rattle.acc_base.specs.declared.tasks.Transfer.{Transfer}
@@ -19,11 +22,14 @@ use Rattle.acc_base.specs.declared.events.Event.TheVariants.{Entered, Left, Ente
 use Rattle.acc_base.specs.Limits.{Limits}
 use Rattle.acc_base.specs.Records.{Memory, State, new_state}
 use Rattle.acc_base.specs.Section.{covers, host_base}
-use Rattle.acc_base.specs.Ranges.{bare_range}
+use Rattle.acc_base.specs.Ranges.{start_of, bare_range}
+use Rattle.acc_base.specs.Attachments.{pointer_at, count_at}
 use Rattle.acc_base.specs.Blocks.{without_block}
-use Rattle.acc_base.specs.Tasks.{section_of, recounted, act, records_after_birth, records_after_end, with_range_changed}
+use Rattle.acc_base.specs.Tasks.{section_of, recounted, act_step, records_after_birth, records_after_end, with_range_changed}
 use Rattle.acc_base.specs.Walk.{asked_in, done_in}
-use Rattle.acc_base.specs.Bytes.{host_byte, bytes_of, written_bytes, is_moved, bytes_moved_in, bytes_moved_out, memory_changed, host_made, memories_made, first_address, transfer_of, fill_of, host_after_write, host_after, act_state, act_all_state, after}
+use Rattle.acc_base.specs.Bytes.{host_byte, bytes_of, written_bytes, is_moved, bytes_moved_in, bytes_moved_out, memory_changed, host_made, memories_made, first_address, transfer_of, fill_of, host_after_write, step_state}
+use Rattle.acc_base.specs.Pointers.{pointer_written, memories_aimed, aimed}
+use Rattle.acc_base.specs.Acting.{host_after, act_state, act_all_state, after}
 use Rattle.acc_base.specs.Accounts.{IsMemoryOf, AreMemoriesSized}
 
 -- ---- memories of blocks that are there
@@ -136,12 +142,12 @@ is_born_memory task block place = record {
   len = length-replicate (section_of task).len (fill_of task) ∙ sym (ap (λ (s : Section). s.len) (recounted-section task (bare_range (section_of task) block)));
 }
 
--- memories are as long as their blocks after a task, whatever its step
-pub act_sized : (l : Limits) (task : Task) (step : Step) (s : State) → AreMemoriesSized l s → AreMemoriesSized l (act_state task step s)
-unfolding act_state act records_after_birth records_after_end with_range_changed
-act_sized l task Nothing s h = record { host = h.host; blocks = h.blocks }
-act_sized l task (Counted k) s h = record { host = h.host; blocks = h.blocks }
-act_sized l task (Born k p) s h =
+-- memories are as long as their blocks after a step, whatever the task
+pub step_sized : (l : Limits) (task : Task) (step : Step) (s : State) → AreMemoriesSized l s → AreMemoriesSized l (step_state task step s)
+unfolding step_state act_step records_after_birth records_after_end with_range_changed
+step_sized l task Nothing s h = record { host = h.host; blocks = h.blocks }
+step_sized l task (Counted k) s h = record { host = h.host; blocks = h.blocks }
+step_sized l task (Born k p) s h =
     let o : Option Transfer = transfer_of task (Born k p) s.records.ranges in
     let new : Memory = record { block = k; bytes = replicate (section_of task).len (fill_of task) } in
     let r : Range = recounted task (bare_range (section_of task) k) in
@@ -150,19 +156,47 @@ act_sized l task (Born k p) s h =
       host = length-host_made o s.records.attached s.memories s.host ∙ h.host;
       blocks = made_sized o s.records.attached s.host (s.memories ++ new ∷ []) (s.records.blocks ++ b ∷ []) (sized-push s.memories s.records.blocks new b h.blocks (is_born_memory task k p));
     }
-act_sized l task (Dropped k true) s h =
+step_sized l task (Dropped k true) s h =
     let o : Option Transfer = transfer_of task (Dropped k true) s.records.ranges in
     record {
       host = length-host_made o s.records.attached s.memories s.host ∙ h.host;
       blocks = without_sized k (memories_made o s.records.attached s.host s.memories) s.records.blocks (made_sized o s.records.attached s.host s.memories s.records.blocks h.blocks);
     }
-act_sized l task (Dropped k false) s h = record { host = h.host; blocks = h.blocks }
-act_sized l task (Moved k) s h =
+step_sized l task (Dropped k false) s h = record { host = h.host; blocks = h.blocks }
+step_sized l task (Moved k) s h =
     let o : Option Transfer = transfer_of task (Moved k) s.records.ranges in
     record {
       host = length-host_made o s.records.attached s.memories s.host ∙ h.host;
       blocks = made_sized o s.records.attached s.host s.memories s.records.blocks h.blocks;
     }
+
+-- and after an attachment or a detachment
+pub aimed_sized : (l : Limits) (aim : Aim) (s : State) → AreMemoriesSized l s → AreMemoriesSized l (aimed aim s)
+unfolding aimed
+aimed_sized l aim s h = record { host = h.host; blocks = go aim }
+  where
+    written : (block pointer : ℕ) (source : ℕ → ℕ) → AllZip IsMemoryOf (pointer_written block pointer source s) s.records.blocks
+    written block pointer source = changed_sized block (written_bytes (covers (pointer_at pointer)) source (start_of block s.records.ranges)) s.memories s.records.blocks
+        (λ bytes. length-written_bytes (covers (pointer_at pointer)) source (start_of block s.records.ranges) bytes) h.blocks
+
+    go : (a : Aim) → AllZip IsMemoryOf (memories_aimed a s) s.records.blocks
+    go aims.None = h.blocks
+    go (aims.New pointer block target) = written block pointer (λ a. slice_index (to_le_bytes w64 target) (a - pointer))
+    go (aims.Again pointer block) = h.blocks
+    go (aims.Less pointer block) = last (count_at block pointer s.records.attached == 1)
+      where
+        last : (b : Bool) → AllZip IsMemoryOf (cond b (pointer_written block pointer (host_byte s.host) s) s.memories) s.records.blocks
+        last true = written block pointer (host_byte s.host)
+        last false = h.blocks
+    go (aims.Cleared pointer block) = written block pointer (host_byte s.host)
+
+-- and after a task, whatever it did
+pub act_sized : (l : Limits) (task : Task) (did : Did) (s : State) → AreMemoriesSized l s → AreMemoriesSized l (act_state task did s)
+unfolding act_state
+act_sized l (Enter counter item) did s h = aimed_sized l did.aim (step_state (Enter counter item) did.step s) (step_sized l (Enter counter item) did.step s h)
+act_sized l (Leave holding) did s h = step_sized l (Leave holding) did.step (aimed did.aim s) (aimed_sized l did.aim s h)
+act_sized l (Exit finalize item) did s h = step_sized l (Exit finalize item) did.step (aimed did.aim s) (aimed_sized l did.aim s h)
+act_sized l (Move if_present item) did s h = step_sized l (Move if_present item) did.step (aimed did.aim s) (aimed_sized l did.aim s h)
 
 -- and after a list of tasks
 pub act_all_sized : (l : Limits) (tasks : List Task) (dids : List Did) (s : State) → AreMemoriesSized l s → AreMemoriesSized l (act_all_state tasks dids s)
@@ -170,7 +204,7 @@ unfolding act_all_state
 act_all_sized l [] [] s h = h
 act_all_sized l [] (d ∷ ds) s h = h
 act_all_sized l (t ∷ ts) [] s h = h
-act_all_sized l (t ∷ ts) (d ∷ ds) s h = act_all_sized l ts ds (act_state t d.step s) (act_sized l t d.step s h)
+act_all_sized l (t ∷ ts) (d ∷ ds) s h = act_all_sized l ts ds (act_state t d s) (act_sized l t d s h)
 
 -- ---- an event
 

@@ -11,7 +11,8 @@ use Rattle.acc_base.specs.declared.faults.Fault.TheVariants.{OutOfHost, Misalign
 use Rattle.acc_base.specs.Limits.{Limits}
 use Rattle.acc_base.specs.Records.{State}
 use Rattle.acc_base.specs.Calls.{World}
-use Rattle.acc_base.specs.Pointers.{pointer_checked, device_pointer, block_with, target_of, judge_attach, judge_detach, judge_release, aimed}
+use Rattle.acc_base.specs.Clauses.{pointer_checked}
+use Rattle.acc_base.specs.Pointers.{device_pointer, block_with, target_of, judge_attach, judge_detach, judge_release, aimed}
 use Rattle.acc_base.proofs.Runs.{ran_in, ran_with, at, item, enter_data_of, exit_data_of, update_of, memory}
 
 abbrev limits : Limits

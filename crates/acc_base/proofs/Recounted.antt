@@ -12,7 +12,7 @@ use Rattle.acc_base.specs.declared.events.Step.TheVariants.{Nothing, Counted, Bo
 use Rattle.acc_base.specs.Limits.{Limits}
 use Rattle.acc_base.specs.Records.{Records}
 use Rattle.acc_base.specs.Ranges.{range_of, counter_in, counter_of, with_range, bare_range, is_unused, ends_by}
-use Rattle.acc_base.specs.Tasks.{section_of, recounted, records_after_birth, records_after_end, with_range_changed, act}
+use Rattle.acc_base.specs.Tasks.{section_of, recounted, records_after_birth, records_after_end, with_range_changed, act_step}
 use Rattle.acc_base.specs.Accounts.{AreRecordsSound}
 use Rattle.acc_base.proofs.Results.{and_true, equal}
 use Rattle.acc_base.proofs.Counting.{read_of, changed_read, with_same, with_other, without_read}
@@ -123,8 +123,8 @@ born_read counter task k b ranges none = go (k == b) refl
 
 -- a counter of a block, where the task is judged to do the step
 pub counter-act : (l : Limits) (task : Task) (step : Step) (w : Records) (counter : Counter) (b : ℕ) → AreRecordsSound l w → IsJudgedTo l task step w
-    → counter_of counter b (act task step w).ranges ≡ cond (names b step) (moved_by counter task (counter_of counter b w.ranges)) (counter_of counter b w.ranges)
-unfolding act with_range_changed records_after_birth records_after_end
+    → counter_of counter b (act_step task step w).ranges ≡ cond (names b step) (moved_by counter task (counter_of counter b w.ranges)) (counter_of counter b w.ranges)
+unfolding act_step with_range_changed records_after_birth records_after_end
 counter-act l task Nothing w counter b h says = refl
 counter-act l task (Counted k) w counter b h says =
     changed_read (counter_in counter) (recounted task) (moved_by counter task) (recounted_keeps task).block (counter-recounted counter task) k b w.ranges (λ none. absurd (count_mapped l task k w says none))

@@ -16,8 +16,10 @@ use Rattle.acc_base.specs.declared.regions.Holding.{Holding}
 use Rattle.acc_base.specs.Limits.{Limits}
 use Rattle.acc_base.specs.Records.{Memory}
 use Rattle.acc_base.specs.Register.{Region}
-use Rattle.acc_base.specs.Tasks.{judge_task, judge_all, act, records_after_birth, records_after_end, with_range_changed}
-use Rattle.acc_base.specs.Bytes.{act_state, act_all_state, after}
+use Rattle.acc_base.specs.Tasks.{judge_step, act_step, records_after_birth, records_after_end, with_range_changed}
+use Rattle.acc_base.specs.Bytes.{step_state}
+use Rattle.acc_base.specs.Pointers.{judge_attach, judge_detach, judge_release, aimed}
+use Rattle.acc_base.specs.Acting.{judge_aim, judge_task, judge_all, act_state, act_all_state, after}
 use Rattle.acc_base.specs.Judge.{directive_event, host_write_event}
 use Rattle.acc_base.specs.Calls.{World, Verdict, Makes, Idle, judge, world_after, new_world}
 
@@ -31,13 +33,13 @@ refusal_in (Ok verdict) = None
 refusal_in (Err fault) = Some fault
 
 next_in : Call → World → Result Verdict Fault → World
-unfolding world_after after act_all_state act_state act records_after_birth records_after_end with_range_changed
+unfolding world_after after act_all_state act_state step_state aimed act_step records_after_birth records_after_end with_range_changed
 next_in call w (Ok (Makes e)) = world_after call e w
 next_in call w (Ok Idle) = w
 next_in call w (Err fault) = w
 
 unfoldable pub ran_in : List Call → World → Ran
-unfolding next_in judge directive_event host_write_event judge_all judge_task act records_after_birth records_after_end with_range_changed
+unfolding next_in judge directive_event host_write_event judge_all judge_task judge_step judge_aim judge_attach judge_detach judge_release act_state step_state aimed act_step records_after_birth records_after_end with_range_changed
 ran_in [] w = record { refused = []; world = w }
 ran_in (call ∷ calls) w =
     let judged : Result Verdict Fault = judge w call in
@@ -64,7 +66,7 @@ abbrev pub at : ℕ → ℕ → Section
 at start len = record { start = start; len = len }
 
 abbrev pub item : {C : Type 0} → C → Section → Item C
-item clause s = record { clause = clause; section = s }
+item clause s = record { clause = clause; section = s; pointer = None }
 
 abbrev pub enter_of : List (Item RegionClause) → Call
 enter_of items = Do (Enter items)
@@ -103,7 +105,7 @@ abbrev pub memory : ℕ → List ℕ → Memory
 memory block bytes = record { block = block; bytes = bytes }
 
 abbrev pub holding : RegionClause → Section → Option ℕ → Holding
-holding clause s block = record { item = record { clause = clause; section = s }; block = block }
+holding clause s block = record { item = item clause s; block = block; aim = None }
 
 abbrev pub region : ℕ → List Holding → Region
 region number holdings = record { number = number; holdings = holdings }

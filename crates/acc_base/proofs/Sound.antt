@@ -21,7 +21,7 @@ use Rattle.acc_base.specs.Records.{Records, new_records}
 use Rattle.acc_base.specs.Ranges.{range_of, counter_in, counter_of, with_range, without_range, changed_at, bare_range, risen, is_unused, ends_by}
 use Rattle.acc_base.specs.Blocks.{rounded, fits_at, is_clear_of, block_end, block_at, without_block}
 use Rattle.acc_base.specs.Attachments.{without_attachments}
-use Rattle.acc_base.specs.Tasks.{recounted, judge_task, records_after_birth, records_after_end, with_range_changed, act}
+use Rattle.acc_base.specs.Tasks.{section_of, recounted, judge_step, records_after_birth, records_after_end, with_range_changed, act_step}
 use Rattle.acc_base.specs.Accounts.{EachPair, IsInHost, IsBelow, AreRangesApart, IsOnDevice, IsClearOf, AreBlocksApart, IsMapped, HasOneBlockEach, IsCounted, AreAttachmentsSound, AreRecordsSound}
 use Rattle.acc_base.proofs.Results.{and_true, equal}
 use Rattle.acc_base.proofs.Elements.{AllByRecursion-weaker, AllByRecursion-both, AllByRecursion-filter, AllByRecursion-passed, AllByRecursion-map, AllByRecursion-append, EachPair-filter, EachPair-push, EachPair-map, list_all-from, found_has}
@@ -297,12 +297,12 @@ first_counted l Dynamic section k bounds = record { some = omega arith; structur
 
 -- ---- a task
 
-pub acted_sound : (l : Limits) (task : Task) (step : Step) (w : Records) → IsWithinBounds l → IsJudgedTo l task step w → AreRecordsSound l w → AreRecordsSound l (act task step w)
-unfolding act
+pub acted_sound : (l : Limits) (task : Task) (step : Step) (w : Records) → IsWithinBounds l → IsJudgedTo l task step w → AreRecordsSound l w → AreRecordsSound l (act_step task step w)
+unfolding act_step
 acted_sound l task Nothing w bounds says h = h
 acted_sound l (Enter counter item) (Counted k) w bounds says h = counted_sound l counter item k w h says
-acted_sound l (Enter Structured item) (Born k p) w bounds says h = birth_sound l (risen Structured (bare_range item.section k)) p w (first_counted l Structured item.section k bounds) says h
-acted_sound l (Enter Dynamic item) (Born k p) w bounds says h = birth_sound l (risen Dynamic (bare_range item.section k)) p w (first_counted l Dynamic item.section k bounds) says h
+acted_sound l (Enter Structured item) (Born k p) w bounds says h = birth_sound l (risen Structured (bare_range (section_of (Enter Structured item)) k)) p w (first_counted l Structured (section_of (Enter Structured item)) k bounds) says h
+acted_sound l (Enter Dynamic item) (Born k p) w bounds says h = birth_sound l (risen Dynamic (bare_range (section_of (Enter Dynamic item)) k)) p w (first_counted l Dynamic (section_of (Enter Dynamic item)) k bounds) says h
 acted_sound l (Enter counter item) (Dropped k ended) w bounds says h = absurd says
 acted_sound l (Enter counter item) (Moved k) w bounds says h = h
 acted_sound l (Leave holding) (Counted k) w bounds says h = absurd says
@@ -322,7 +322,7 @@ acted_sound l (Move if_present item) (Dropped k ended) w bounds says h = absurd 
 acted_sound l (Move if_present item) (Moved k) w bounds says h = h
 
 -- a task that was judged keeps the records sound
-pub judged_sound : (l : Limits) (n : ℕ) (task : Task) (step : Step) (w : Records) → IsWithinBounds l → judge_task l n task w ≡ Ok step → AreRecordsSound l w → AreRecordsSound l (act task step w)
+pub judged_sound : (l : Limits) (n : ℕ) (task : Task) (step : Step) (w : Records) → IsWithinBounds l → judge_step l n task w ≡ Ok step → AreRecordsSound l w → AreRecordsSound l (act_step task step w)
 judged_sound l n task step w bounds e h = acted_sound l task step w bounds (task_says l n task w step e) h
 
 -- ---- the start

@@ -56,7 +56,7 @@ recounted_by l (Left number did) g w b said left =
     }
 recounted_by l (EnteredData items did) g w b said left = record {
   structured = left.counter_is Structured b ∙ (recount_same Structured b enter_data_task items did (structured_of b w.ranges) (λ x m. refl) ∙ omega arith);
-  dynamic = left.counter_is Dynamic b ∙ entered_recount l Dynamic b (λ (i : Item EnterClause). record { clause = as_region i.clause; section = i.section }) items did (dynamic_of b w.ranges) said;
+  dynamic = left.counter_is Dynamic b ∙ entered_recount l Dynamic b (λ (i : Item EnterClause). record { clause = as_region i.clause; section = i.section; pointer = i.pointer }) items did (dynamic_of b w.ranges) said;
 }
 recounted_by l (ExitedData items finalize did) g w b said left = record {
   structured = left.counter_is Structured b ∙ (recount_same Structured b (Exit finalize) items did (structured_of b w.ranges) (λ x m. refl) ∙ omega arith);

@@ -1,17 +1,23 @@
 -- The layout after an event is the walk of the event.
 use Rattle.std.proofs.Common.{◌≡◌, refl, ◌∙◌, ap, List, [], ◌∷◌, ℕ}
 use Rattle.acc_base.specs.declared.tasks.Task.{Task}
+use Rattle.acc_base.specs.declared.tasks.Task.TheVariants.{Enter, Leave, Exit, Move}
 use Rattle.acc_base.specs.declared.events.Did.{Did}
 use Rattle.acc_base.specs.declared.events.Event.{Event}
 use Rattle.acc_base.specs.Records.{State, Records, layout_of}
 use Rattle.acc_base.specs.Tasks.{act, act_all}
 use Rattle.acc_base.specs.Walk.{walk, asked_in, done_in, register_after}
-use Rattle.acc_base.specs.Bytes.{act_state, act_all_state, after}
+use Rattle.acc_base.specs.Bytes.{step_state}
+use Rattle.acc_base.specs.Pointers.{aimed}
+use Rattle.acc_base.specs.Acting.{act_state, act_all_state, after}
 
 -- the records after a task of a state are those that the task leaves of its records
-pub records-act_state : (task : Task) (did : Did) (s : State) → (act_state task did.step s).records ≡ act task did.step s.records
-unfolding act_state
-records-act_state task did s = refl
+pub records-act_state : (task : Task) (did : Did) (s : State) → (act_state task did s).records ≡ act task did s.records
+unfolding act_state act step_state aimed
+records-act_state (Enter counter item) did s = refl
+records-act_state (Leave holding) did s = refl
+records-act_state (Exit finalize item) did s = refl
+records-act_state (Move if_present item) did s = refl
 
 -- and the same of a list of tasks
 pub records-act_all_state : (tasks : List Task) (dids : List Did) (s : State) → (act_all_state tasks dids s).records ≡ act_all tasks dids s.records
@@ -19,15 +25,22 @@ unfolding act_all_state act_all
 records-act_all_state [] [] s = refl
 records-act_all_state [] (d ∷ ds) s = refl
 records-act_all_state (t ∷ ts) [] s = refl
-records-act_all_state (t ∷ ts) (d ∷ ds) s = records-act_all_state ts ds (act_state t d.step s) ∙ ap (act_all ts ds) (records-act_state t d s)
+records-act_all_state (t ∷ ts) (d ∷ ds) s = records-act_all_state ts ds (act_state t d s) ∙ ap (act_all ts ds) (records-act_state t d s)
 
 -- tasks leave the register
+register-act_state : (task : Task) (did : Did) (s : State) → (act_state task did s).register ≡ s.register
+unfolding act_state step_state aimed
+register-act_state (Enter counter item) did s = refl
+register-act_state (Leave holding) did s = refl
+register-act_state (Exit finalize item) did s = refl
+register-act_state (Move if_present item) did s = refl
+
 pub register-act_all_state : (tasks : List Task) (dids : List Did) (s : State) → (act_all_state tasks dids s).register ≡ s.register
-unfolding act_all_state act_state
+unfolding act_all_state
 register-act_all_state [] [] s = refl
 register-act_all_state [] (d ∷ ds) s = refl
 register-act_all_state (t ∷ ts) [] s = refl
-register-act_all_state (t ∷ ts) (d ∷ ds) s = register-act_all_state ts ds (act_state t d.step s)
+register-act_all_state (t ∷ ts) (d ∷ ds) s = register-act_all_state ts ds (act_state t d s) ∙ register-act_state t d s
 
 -- the layout after an event, whatever bytes its call brought
 pub layout-after : (e : Event) (brought : List ℕ) (s : State) → layout_of (after e brought s) ≡ walk e (layout_of s)

@@ -9,12 +9,12 @@ use Rattle.acc_base.specs.Limits.{Limits}
 use Rattle.acc_base.specs.Section.{end_of, is_within, host_memory, device_base}
 use Rattle.acc_base.specs.Ranges.{range_of, structured_of}
 use Rattle.acc_base.specs.Blocks.{block_at, block_end, used_bytes}
-use Rattle.acc_base.specs.Attachments.{IsBefore, IsCountWithin}
+use Rattle.acc_base.specs.Attachments.{IsBefore, IsCountWithin, count_at}
 use Rattle.acc_base.specs.Register.{Region, Register, held_in}
 use Rattle.acc_base.specs.Records.{Records, Memory, Layout, State, new_layout, layout_of}
 use Rattle.acc_base.specs.Walk.{walk_all}
 use Rattle.acc_base.specs.Calls.{History, World, event_count, open_regions}
-use Rattle.acc_base.specs.History.{structured_in, dynamic_in, AreLegal}
+use Rattle.acc_base.specs.History.{structured_in, dynamic_in, attached_in, AreLegal}
 
 -- each one is related to each later one
 abbrev pub EachPair : {X : Type 0} → (X → X → Type 0) → List X → Type 0
@@ -136,6 +136,10 @@ pub record IsTraced (h : History) (r : Range) : Type 0 where
   pub structured : r.structured ≡ structured_in r.block h
   pub dynamic : r.dynamic ≡ dynamic_in r.block h
 
+-- the attachment counters of the blocks are those of the history
+abbrev pub AreAttachmentsTraced : History → Records → Type 0
+AreAttachmentsTraced h w = (block pointer : ℕ) → IsSome (block_at block w.blocks) → count_at block pointer w.attached ≡ attached_in block pointer h
+
 -- the history is legal and leads to the layout
 pub record IsHistoryLegal (l : Limits) (h : History) (lay : Layout) : Type 0 where
   pub legal : AreLegal l h.trace new_layout
@@ -150,5 +154,6 @@ pub record AreBooksCounted (w : World) : Type 0 where
 pub record IsAccounted (w : World) : Type 0 where
   pub sound : IsSound w.limits w.state
   pub counters_traced : AllByRecursion (IsTraced w.history) w.state.records.ranges
+  pub attachments_traced : AreAttachmentsTraced w.history w.state.records
   pub history_legal : IsHistoryLegal w.limits w.history (layout_of w.state)
   pub books_counted : AreBooksCounted w

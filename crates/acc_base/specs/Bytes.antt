@@ -1,4 +1,4 @@
--- What an event leaves of the bytes: the host's, and those of the blocks.
+-- What the step of an item leaves of the bytes: the host's, and those of the blocks.
 use Rattle.std.specs.Prelude.{ℕ, suc, ◌-◌, Bool, true, false, not, ◌&&◌, if◌then◌else◌, ◌==◌, List, [], ◌∷◌, ◌++◌, map, replicate, filter, find, Option, Some, None, unwrap_or, option_map, slice_index}
 use Rattle.std.specs.List.{list_any}
 use Rattle.acc_base.specs.declared.items.Section.{Section}
@@ -10,16 +10,12 @@ use Rattle.acc_base.specs.declared.tasks.Task.TheVariants.{Enter, Leave, Exit, M
 use Rattle.acc_base.specs.declared.tasks.Transfer.{Transfer}
 use Rattle.acc_base.specs.declared.events.Step.{Step}
 use Rattle.acc_base.specs.declared.events.Step.TheVariants.{Nothing, Counted, Born, Dropped, Moved}
-use Rattle.acc_base.specs.declared.events.Did.{Did}
-use Rattle.acc_base.specs.declared.events.Event.{Event}
-use Rattle.acc_base.specs.declared.events.Event.TheVariants.{Entered, Left, EnteredData, ExitedData, Updated, HostWritten}
 use Rattle.acc_base.specs.Section.{covers, host_base}
 use Rattle.acc_base.specs.Ranges.{start_of}
 use Rattle.acc_base.specs.Attachments.{is_skipped}
 use Rattle.acc_base.specs.Records.{Memory, State}
 use Rattle.acc_base.specs.Clauses.{copies_in, copies_out, is_copyout, is_to_self, is_zeroed}
-use Rattle.acc_base.specs.Tasks.{section_of, act}
-use Rattle.acc_base.specs.Walk.{asked_in, done_in, register_after}
+use Rattle.acc_base.specs.Tasks.{section_of, act_step}
 
 -- the bytes from an address on, where those at some addresses come from a source
 abbrev pub written_bytes : (ℕ → Bool) → (ℕ → ℕ) → ℕ → List ℕ → List ℕ
@@ -150,36 +146,16 @@ host_acted task step s = host_made (transfer_of task step s.records.ranges) s.re
 abbrev pub memories_acted : Task → Step → State → List Memory
 memories_acted task step s = memories_ended step (memories_made (transfer_of task step s.records.ranges) s.records.attached s.host (memories_begun task step s.memories))
 
-unfoldable pub act_state : Task → Step → State → State
-act_state task step s = record {
-  records = act task step s.records;
+unfoldable pub step_state : Task → Step → State → State
+step_state task step s = record {
+  records = act_step task step s.records;
   register = s.register;
   host = host_acted task step s;
   memories = memories_acted task step s;
 }
 
--- after all tasks of a directive, one after the other
-unfoldable pub act_all_state : List Task → List Did → State → State
-act_all_state (task ∷ tasks) (did ∷ dids) s = act_all_state tasks dids (act_state task did.step s)
-act_all_state _ _ s = s
-
--- ---- an event
+-- ---- a write of the host
 
 -- the host after it wrote bytes from an address on
 abbrev pub host_after_write : ℕ → ℕ → List ℕ → List ℕ → List ℕ
 host_after_write addr len bytes host = written_bytes (covers (record { start = addr; len = len })) (λ a. slice_index bytes (a - addr)) host_base host
-
--- what an event writes into host memory beside its items' transfers, from the bytes that its call brought
-abbrev pub host_after : Event → List ℕ → List ℕ → List ℕ
-host_after (Entered number items did) brought host = host
-host_after (Left number did) brought host = host
-host_after (EnteredData items did) brought host = host
-host_after (ExitedData items finalize did) brought host = host
-host_after (Updated items if_present did) brought host = host
-host_after (HostWritten addr len) brought host = host_after_write addr len brought host
-
--- the state after an event, and with the bytes that its call brought
-unfoldable pub after : Event → List ℕ → State → State
-after e brought s =
-    let acted : State = act_all_state (asked_in e s.register) (done_in e) s in
-    record { records = acted.records; register = register_after e s.register; host = host_after e brought acted.host; memories = acted.memories }

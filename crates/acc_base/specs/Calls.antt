@@ -9,8 +9,8 @@ use Rattle.acc_base.specs.declared.faults.Fault.{Fault}
 use Rattle.acc_base.specs.declared.faults.Fault.TheVariants.{NoTickets, NoAllowance, TraceFull}
 use Rattle.acc_base.specs.Results.{◌>>=◌, ◌>>◌, refuse_if}
 use Rattle.acc_base.specs.Limits.{Limits}
-use Rattle.acc_base.specs.Records.{State, layout_of, new_state}
-use Rattle.acc_base.specs.Bytes.{after}
+use Rattle.acc_base.specs.Records.{State, new_state}
+use Rattle.acc_base.specs.Acting.{after}
 use Rattle.acc_base.specs.Judge.{few_items, directive_event, host_write_event}
 
 -- the events since a table was new
@@ -62,7 +62,7 @@ judge w (Do directive) = do
   allowance w directive
   few_items directive
   trace_room w
-  e ← directive_event w.limits directive (layout_of w.state)
+  e ← directive_event w.limits directive w.state
   Ok (Makes e)
 judge w (HostWrite addr bytes) = do
   ticket w

@@ -1,5 +1,5 @@
 -- The clause tables: which clause is which row, and what a row does by where its section lies (OpenACC 3.3, section 2.7).
-use Rattle.std.specs.Prelude.{ℕ, ◌+◌, Bool, true, false, not, ◌&&◌, if◌then◌else◌, nat_le, ◌==◌, Option, Some, None, Result, Ok, Err, ⊤}
+use Rattle.std.specs.Prelude.{ℕ, ◌+◌, ◌%◌, Bool, true, false, not, ◌&&◌, if◌then◌else◌, nat_le, ◌==◌, Option, Some, None, Result, Ok, Err, ⊤}
 use Rattle.acc_base.specs.declared.items.Section.{Section}
 use Rattle.acc_base.specs.declared.items.RegionClause.{RegionClause}
 use Rattle.acc_base.specs.declared.items.RegionClause.TheVariants as region
@@ -16,12 +16,13 @@ use Rattle.acc_base.specs.declared.mappings.Found.TheVariants.{Empty, Inside, Pa
 use Rattle.acc_base.specs.declared.events.Step.{Step}
 use Rattle.acc_base.specs.declared.events.Step.TheVariants.{Nothing, Counted, Born, Dropped, Moved}
 use Rattle.acc_base.specs.declared.faults.Fault.{Fault}
-use Rattle.acc_base.specs.declared.faults.Fault.TheVariants.{OutOfHost, PartlyPresent, NotPresent, CounterFull, DeviceFull}
+use Rattle.acc_base.specs.declared.faults.Fault.TheVariants.{OutOfHost, Misaligned, PartlyPresent, NotPresent, CounterFull, DeviceFull}
 use Rattle.acc_base.specs.Results.{◌>>◌, refuse_if}
 use Rattle.acc_base.specs.Limits.{Limits}
 use Rattle.acc_base.specs.Section.{is_empty, is_within, host_memory}
 use Rattle.acc_base.specs.Ranges.{counter_of, dynamic_of, ends_by}
 use Rattle.acc_base.specs.Blocks.{rounded, place_for}
+use Rattle.acc_base.specs.Attachments.{pointer_at}
 use Rattle.acc_base.specs.Records.{Records}
 
 -- ---- which bytes a clause moves, and what fills a new block
@@ -30,6 +31,7 @@ use Rattle.acc_base.specs.Records.{Records}
 abbrev pub as_region : EnterClause → RegionClause
 as_region enter.Copyin = region.Copyin
 as_region (enter.Create zeroed) = region.Create zeroed
+as_region enter.Attach = region.Attach
 
 -- a new block gets the bytes of the section
 abbrev pub copies_in : RegionClause → Bool
@@ -39,6 +41,7 @@ copies_in (region.Copyout zeroed) = false
 copies_in (region.Create zeroed) = false
 copies_in region.NoCreate = false
 copies_in region.Present = false
+copies_in region.Attach = false
 
 -- just before the mapping ends, host memory gets the bytes of the section
 abbrev pub copies_out : RegionClause → Bool
@@ -48,11 +51,13 @@ copies_out (region.Copyout zeroed) = true
 copies_out (region.Create zeroed) = false
 copies_out region.NoCreate = false
 copies_out region.Present = false
+copies_out region.Attach = false
 
 -- the same of a clause of `exit data`
 abbrev pub is_copyout : ExitClause → Bool
 is_copyout exit.Copyout = true
 is_copyout exit.Delete = false
+is_copyout exit.Detach = false
 
 -- an `update` copies to host memory, and not to the device
 abbrev pub is_to_self : UpdateClause → Bool
@@ -67,12 +72,42 @@ is_zeroed (region.Copyout zeroed) = zeroed
 is_zeroed (region.Create zeroed) = zeroed
 is_zeroed region.NoCreate = false
 is_zeroed region.Present = false
+is_zeroed region.Attach = false
+
+-- ---- what an item names: `attach` and `detach` name a pointer by the start of their section, and no section
+
+abbrev pub is_attach : RegionClause → Bool
+is_attach region.Copy = false
+is_attach region.Copyin = false
+is_attach (region.Copyout zeroed) = false
+is_attach (region.Create zeroed) = false
+is_attach region.NoCreate = false
+is_attach region.Present = false
+is_attach region.Attach = true
+
+abbrev pub is_detach : ExitClause → Bool
+is_detach exit.Delete = false
+is_detach exit.Copyout = false
+is_detach exit.Detach = true
+
+-- the section that an item names, where its clause names a pointer alone or not
+abbrev pub section_named : Bool → Section → Section
+section_named alone section = if alone then record { start = section.start; len = 0 } else section
+
+-- the pointer that it names; with an empty section it names none
+abbrev pub pointer_named : Bool → Section → Option ℕ → Option ℕ
+pointer_named alone section pointer = if alone then Some section.start else (if is_empty section then None else pointer)
 
 -- ---- what is refused before the tables are asked
 
 -- a section that is not empty lies in host memory; nothing of an empty one is checked
 abbrev pub in_host : Limits → ℕ → Section → Result ⊤ Fault
 in_host l n section = refuse_if (not (is_empty section) && not (is_within section (host_memory l.host))) (OutOfHost n)
+
+-- the eight bytes of an item's pointer, if it names one, lie in host memory, from a multiple of eight on
+abbrev pub pointer_checked : Limits → ℕ → Option ℕ → Result ⊤ Fault
+pointer_checked l n None = Ok tt
+pointer_checked l n (Some pointer) = refuse_if (not (is_within (pointer_at pointer) (host_memory l.host))) (OutOfHost n) >> refuse_if (not (pointer % 8 == 0)) (Misaligned n)
 
 -- ---- entry to a region, on the structured counter, and `enter data`, on the dynamic one
 
@@ -93,6 +128,7 @@ enter_absent (region.Copyout zeroed) l n section w = born l n section w
 enter_absent (region.Create zeroed) l n section w = born l n section w
 enter_absent region.NoCreate l n section w = Ok Nothing
 enter_absent region.Present l n section w = Err (NotPresent n)
+enter_absent region.Attach l n section w = Ok Nothing
 
 -- the counter of a mapped range rises, below its limit
 abbrev pub counted : Limits → Counter → ℕ → ℕ → Records → Result Step Fault

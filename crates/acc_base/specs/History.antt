@@ -1,16 +1,22 @@
--- The reference counters as counts over the events, and which lists of events are legal.
-use Rattle.std.specs.Prelude.{ℕ, suc, ◌+◌, ◌-◌, ◌≡◌, Bool, false, if◌then◌else◌, ◌==◌, List, [], ◌∷◌, Ok, count_by, sum_by, fold, IsSome, ⊤}
+-- The counters as counts over the events, and which lists of events are legal.
+use Rattle.std.specs.Prelude.{ℕ, suc, ◌+◌, ◌-◌, ◌≡◌, ◌<◌, Bool, false, if◌then◌else◌, ◌==◌, List, [], ◌∷◌, Option, Some, Ok, count_by, sum_by, fold, IsSome, ⊤}
 use Rattle.acc_base.specs.declared.events.Step.{Step}
 use Rattle.acc_base.specs.declared.events.Step.TheVariants.{Nothing, Counted, Born, Dropped, Moved}
 use Rattle.acc_base.specs.declared.events.Did.{Did}
 use Rattle.acc_base.specs.declared.events.Event.{Event}
 use Rattle.acc_base.specs.declared.events.Event.TheVariants.{Entered, Left, EnteredData, ExitedData, Updated, HostWritten}
+use Rattle.acc_base.specs.declared.attachments.Aim.{Aim}
+use Rattle.acc_base.specs.declared.attachments.Aim.TheVariants as aims
 use Rattle.acc_base.specs.declared.tasks.Task.{Task}
+use Rattle.acc_base.specs.declared.tasks.Task.TheVariants.{Enter, Leave, Exit, Move}
 use Rattle.acc_base.specs.Limits.{Limits}
 use Rattle.acc_base.specs.Records.{Records, Layout}
 use Rattle.acc_base.specs.Register.{holdings_at}
 use Rattle.acc_base.specs.Clauses.{in_host}
-use Rattle.acc_base.specs.Tasks.{judge_task, act}
+use Rattle.acc_base.specs.Attachments.{count_at, count_after}
+use Rattle.acc_base.specs.Tasks.{pointer_aimed, judge_step, act_step, act}
+use Rattle.acc_base.specs.Pointers.{block_with, device_address_of, judge_release}
+use Rattle.acc_base.specs.Acting.{detach_if}
 use Rattle.acc_base.specs.Walk.{asked_in, done_in, walk}
 use Rattle.acc_base.specs.Calls.{History}
 
@@ -79,14 +85,42 @@ dynamic_after block n (HostWritten addr len) = n
 abbrev pub dynamic_in : ℕ → History → ℕ
 dynamic_in block h = fold (dynamic_after block) 0 h.trace
 
--- ---- legal events
+-- ---- the attachment counter of a pointer in a block (OpenACC 3.3, section 2.6.7): what attaching and detaching makes of it
+
+-- after an event
+abbrev pub attached_after : ℕ → ℕ → ℕ → Event → ℕ
+attached_after block pointer n e = fold (λ m d. count_after block pointer d.aim m) n (done_in e)
+
+abbrev pub attached_in : ℕ → ℕ → History → ℕ
+attached_in block pointer h = fold (attached_after block pointer) 0 h.trace
+
+-- ---- legal events: of bytes, an event tells alone whether an attachment acts, and the target that it writes
+
+-- some mapped host address has this device address
+abbrev pub IsTarget : ℕ → Records → Type 0
+IsTarget target w = (address : ℕ) × (device_address_of address w ≡ Some target)
+
+-- the pointer can have been attached so: it is present in the block, the target is the device address of a mapped address, and it is attached again only where it is attached, below the limit
+abbrev pub IsAttachLegal : Limits → Option ℕ → Aim → Records → Type 0
+IsAttachLegal l named aims.None w = ⊤
+IsAttachLegal l named (aims.New pointer block target) w = (named ≡ Some pointer) × (block_with pointer w.ranges ≡ Some block) × IsTarget target w
+IsAttachLegal l named (aims.Again pointer block) w = (named ≡ Some pointer) × (block_with pointer w.ranges ≡ Some block) × (0 < count_at block pointer w.attached) × (count_at block pointer w.attached < l.counter_max)
+IsAttachLegal l named (aims.Less pointer block) w = ⊥
+IsAttachLegal l named (aims.Cleared pointer block) w = ⊥
+
+-- what became of the pointer of an item is legal in what was there before the item
+abbrev pub IsAimLegal : Limits → Task → Did → Records → Type 0
+IsAimLegal l (Enter counter item) did w = IsAttachLegal l (pointer_aimed (Enter counter item) did.step) did.aim (act_step (Enter counter item) did.step w)
+IsAimLegal l (Leave holding) did w = did.aim ≡ judge_release holding.aim w
+IsAimLegal l (Exit finalize item) did w = did.aim ≡ detach_if finalize (pointer_aimed (Exit finalize item) did.step) w
+IsAimLegal l (Move if_present item) did w = did.aim ≡ aims.None
 
 -- each task did what it is judged to do in what the tasks before it left
 abbrev pub AreJudged : Limits → ℕ → List Task → List Did → Records → Type 0
 AreJudged l n [] [] w = ⊤
 AreJudged l n [] (did ∷ dids) w = ⊥
 AreJudged l n (task ∷ tasks) [] w = ⊥
-AreJudged l n (task ∷ tasks) (did ∷ dids) w = (judge_task l n task w ≡ Ok did.step) × AreJudged l (suc n) tasks dids (act task did.step w)
+AreJudged l n (task ∷ tasks) (did ∷ dids) w = (judge_step l n task w ≡ Ok did.step) × IsAimLegal l task did w × AreJudged l (suc n) tasks dids (act task did w)
 
 -- what an event names is so: a new region has the next number, a region that is left is open, and a write lies in host memory
 abbrev pub NamesRight : Limits → Event → Layout → Type 0

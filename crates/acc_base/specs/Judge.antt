@@ -12,10 +12,10 @@ use Rattle.acc_base.specs.declared.faults.Fault.{Fault}
 use Rattle.acc_base.specs.declared.faults.Fault.TheVariants.{TooManyItems, NoRegion}
 use Rattle.acc_base.specs.Results.{◌>>=◌, ◌>>◌, refuse_if}
 use Rattle.acc_base.specs.Limits.{Limits}
-use Rattle.acc_base.specs.Records.{Layout}
+use Rattle.acc_base.specs.Records.{State}
 use Rattle.acc_base.specs.Register.{Register, holdings_at}
 use Rattle.acc_base.specs.Clauses.{in_host}
-use Rattle.acc_base.specs.Tasks.{judge_all}
+use Rattle.acc_base.specs.Acting.{judge_all}
 use Rattle.acc_base.specs.Walk.{enter_task, enter_data_task, leave_tasks}
 
 -- how many items a directive may have
@@ -55,15 +55,15 @@ event_of (ExitData items finalize) g dids = events.ExitedData items finalize did
 event_of (Update items if_present) g dids = events.Updated items if_present dids
 
 -- the first refusal of a directive's items, or its event
-unfoldable pub directive_event : Limits → Directive → Layout → Result Event Fault
-directive_event l d lay = do
-  tasks ← tasks_of d lay.register
-  dids ← judge_all l 0 tasks lay.records
-  Ok (event_of d lay.register dids)
+unfoldable pub directive_event : Limits → Directive → State → Result Event Fault
+directive_event l d s = do
+  tasks ← tasks_of d s.register
+  dids ← judge_all l 0 tasks s
+  Ok (event_of d s.register dids)
 
 -- what planning a directive answers: too many items are told before all else
-unfoldable pub plan_of : Limits → Directive → Layout → Result Event Fault
-plan_of l d lay = few_items d >> directive_event l d lay
+unfoldable pub plan_of : Limits → Directive → State → Result Event Fault
+plan_of l d s = few_items d >> directive_event l d s
 
 -- the event of a write of so many bytes from a host address on
 unfoldable pub host_write_event : Limits → ℕ → ℕ → Result Event Fault

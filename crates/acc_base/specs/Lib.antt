@@ -13,6 +13,7 @@ pub mod Tasks
 pub mod Walk
 pub mod Bytes
 pub mod Pointers
+pub mod Acting
 pub mod Judge
 pub mod Calls
 pub mod History

@@ -1,5 +1,5 @@
 -- Pointers: where one lies on the device, what it is to be aimed at, and what attaching and detaching it does (OpenACC 3.3, sections 2.6.8 and 2.7.2).
-use Rattle.std.specs.Prelude.{ℕ, ◌+◌, ◌-◌, ◌%◌, Bool, false, not, if◌then◌else◌, ◌==◌, List, map, take, drop, Option, Some, None, slice_index, Result, Ok, ⊤}
+use Rattle.std.specs.Prelude.{ℕ, ◌+◌, ◌-◌, Bool, false, if◌then◌else◌, ◌==◌, List, map, take, drop, Option, Some, None, unwrap_or, option_map, slice_index, Result, Ok}
 use Rattle.std.specs.Int.{to_le_bytes, from_le_bytes, w64}
 use Rattle.acc_base.specs.declared.mappings.Range.{Range}
 use Rattle.acc_base.specs.declared.mappings.Block.{Block}
@@ -9,22 +9,14 @@ use Rattle.acc_base.specs.declared.attachments.Attachment.{Attachment}
 use Rattle.acc_base.specs.declared.attachments.Aim.{Aim}
 use Rattle.acc_base.specs.declared.attachments.Aim.TheVariants as aims
 use Rattle.acc_base.specs.declared.faults.Fault.{Fault}
-use Rattle.acc_base.specs.declared.faults.Fault.TheVariants.{OutOfHost, Misaligned}
-use Rattle.acc_base.specs.Results.{◌>>◌, refuse_if}
 use Rattle.acc_base.specs.Limits.{Limits}
-use Rattle.acc_base.specs.Section.{covers, is_within, host_memory, host_base, only}
+use Rattle.acc_base.specs.Section.{covers, host_base, only}
 use Rattle.acc_base.specs.Ranges.{where_is, start_of}
 use Rattle.acc_base.specs.Blocks.{place_of}
-use Rattle.acc_base.specs.Attachments.{pointer_at, count_at, attach, detach, attached_by}
+use Rattle.acc_base.specs.Attachments.{pointer_at, count_at, attach, detach}
 use Rattle.acc_base.specs.Records.{Records, Memory, State}
+use Rattle.acc_base.specs.Tasks.{records_aimed}
 use Rattle.acc_base.specs.Bytes.{bytes_of, host_byte, written_bytes, memory_changed}
-
--- ---- what is refused before all else
-
--- the eight bytes of an item's pointer, if it has one, lie in host memory, from a multiple of eight on
-abbrev pub pointer_checked : Limits → ℕ → Option ℕ → Result ⊤ Fault
-pointer_checked l n None = Ok tt
-pointer_checked l n (Some pointer) = refuse_if (not (is_within (pointer_at pointer) (host_memory l.host))) (OutOfHost n) >> refuse_if (not (pointer % 8 == 0)) (Misaligned n)
 
 -- ---- where a pointer lies, and what it holds
 
@@ -66,6 +58,10 @@ device_address_of address w = address_in (where_is (only address) w.ranges) w.bl
 abbrev pub target_of : ℕ → State → Option ℕ
 target_of pointer s = device_address_of (host_pointer pointer s) s.records
 
+-- the attachment counter of a pointer in the block that holds it, 0 where it is not present
+abbrev pub attachment_of : ℕ → Records → ℕ
+attachment_of pointer w = unwrap_or (option_map (λ block. count_at block pointer w.attached) (block_with pointer w.ranges)) 0
+
 -- ---- attaching and detaching
 
 -- a pointer that lies in a block is aimed at a target; where one of them is missing, nothing is done
@@ -95,7 +91,7 @@ unfoldable pub judge_release : Option (ℕ × ℕ) → Records → Aim
 judge_release None w = aims.None
 judge_release (Some aim) w = release_there aim.0 aim.1 (block_with aim.0 w.ranges) w.attached
 
--- ---- what it leaves
+-- ---- what it leaves of the bytes
 
 -- the memories with eight bytes from a source written over a pointer in a block
 abbrev pub pointer_written : ℕ → ℕ → (ℕ → ℕ) → State → List Memory
@@ -109,10 +105,6 @@ memories_aimed (aims.Again pointer block) s = s.memories
 memories_aimed (aims.Less pointer block) s = if count_at block pointer s.records.attached == 1 then pointer_written block pointer (host_byte s.host) s else s.memories
 memories_aimed (aims.Cleared pointer block) s = pointer_written block pointer (host_byte s.host) s
 
--- the records after an attachment or a detachment
-abbrev pub records_aimed : Aim → Records → Records
-records_aimed aim w = record w { attached = attached_by aim w.attached }
-
--- and the state
+-- the state after an attachment or a detachment
 unfoldable pub aimed : Aim → State → State
 aimed aim s = record { records = records_aimed aim s.records; register = s.register; host = s.host; memories = memories_aimed aim s }

@@ -7,6 +7,8 @@ use Rattle.acc_base.specs.declared.mappings.Counter.TheVariants.{Structured, Dyn
 use Rattle.acc_base.specs.declared.regions.Holding.{Holding}
 use Rattle.acc_base.specs.declared.tasks.Task.{Task}
 use Rattle.acc_base.specs.declared.tasks.Task.TheVariants.{Enter, Leave, Exit, Move}
+use Rattle.acc_base.specs.declared.attachments.Aim.{Aim}
+use Rattle.acc_base.specs.declared.attachments.Aim.TheVariants as aims
 use Rattle.acc_base.specs.declared.events.Step.{Step}
 use Rattle.acc_base.specs.declared.events.Step.TheVariants.{Nothing, Counted, Born, Dropped, Moved}
 use Rattle.acc_base.specs.declared.events.Did.{Did}
@@ -25,7 +27,7 @@ enter_task item = Enter Structured item
 
 -- an item of `enter data`
 abbrev pub enter_data_task : Item EnterClause → Task
-enter_data_task item = Enter Dynamic (record { clause = as_region item.clause; section = item.section })
+enter_data_task item = Enter Dynamic (record { clause = as_region item.clause; section = item.section; pointer = item.pointer })
 
 -- what a region holds is undone from the last item to the first
 abbrev pub leave_tasks : List Holding → List Task
@@ -58,9 +60,17 @@ block_counted (Born block place) = Some block
 block_counted (Dropped block ended) = None
 block_counted (Moved block) = None
 
+-- the pointer that was attached, and the block that holds it
+abbrev pub pointer_attached : Aim → Option (ℕ × ℕ)
+pointer_attached aims.None = None
+pointer_attached (aims.New pointer block target) = Some (pointer, block)
+pointer_attached (aims.Again pointer block) = Some (pointer, block)
+pointer_attached (aims.Less pointer block) = None
+pointer_attached (aims.Cleared pointer block) = None
+
 -- what each item of an entry holds
 abbrev pub holdings_of : List (Item RegionClause) → List Did → List Holding
-holdings_of (item ∷ items) (did ∷ dids) = record { item = item; block = block_counted did.step } ∷ holdings_of items dids
+holdings_of (item ∷ items) (did ∷ dids) = record { item = item; block = block_counted did.step; aim = pointer_attached did.aim } ∷ holdings_of items dids
 holdings_of _ _ = []
 
 -- entry and exit of a region alone change the register

@@ -1,6 +1,6 @@
 //! What an accepted call did, as it is kept in the trace of a table.
 
-use crate::{EnterClause, ExitClause, Item, List, RegionClause, UpdateClause};
+use crate::{Aim, EnterClause, ExitClause, Item, List, RegionClause, UpdateClause};
 
 /// What an item of a data clause did to mappings, counters and bytes.
 #[derive(Clone, Copy, Debug, Default, PartialEq, Eq)]
@@ -39,6 +39,8 @@ pub enum Step {
 pub struct Did {
     /// What it did to mappings, counters and bytes.
     pub step: Step,
+    /// What it did to its pointer.
+    pub aim: Aim,
 }
 
 /// One accepted call: what the call named, and what each of its items did, in written order.

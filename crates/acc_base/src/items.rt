@@ -16,8 +16,13 @@ pub struct Section {
 pub struct Item<C> {
     /// The clause in which the item stands.
     pub clause: C,
-    /// The section of host memory that it names.
+    /// The section of host memory that it names. In an item of `attach` or `detach` its start is the host address of the
+    /// pointer, and its length is not read.
     pub section: Section,
+    /// The host address of the pointer to the section's data, which is attached after the item was counted on entry and
+    /// detached before it is dropped on exit. It is not read with an empty section, nor in an item of `attach`, `detach`
+    /// or `update`.
+    pub pointer: Option<u64>,
 }
 
 /// The data clauses of a structured region: those of the `data` construct (OpenACC 3.3, sections 2.6.5 and 2.7).
@@ -42,6 +47,8 @@ pub enum RegionClause {
     NoCreate,
     /// The `present` clause: a section that is absent on entry is refused.
     Present,
+    /// The `attach` clause: on entry the pointer is attached, and on exit it is detached.
+    Attach,
 }
 
 /// The clauses of the `enter data` directive (OpenACC 3.3, sections 2.6.6 and 2.7).
@@ -55,6 +62,8 @@ pub enum EnterClause {
         /// The `zero` modifier: each byte of a new block is 0.
         zero: bool,
     },
+    /// The `attach` clause: the pointer is attached.
+    Attach,
 }
 
 /// The clauses of the `exit data` directive (OpenACC 3.3, sections 2.6.6 and 2.7).
@@ -66,6 +75,8 @@ pub enum ExitClause {
     /// The `copyout` clause: as `delete`, but where the mapping ends, the bytes of the section are first copied to host
     /// memory.
     Copyout,
+    /// The `detach` clause: the pointer is detached, with `finalize` at once.
+    Detach,
 }
 
 /// The clauses of the `update` directive (OpenACC 3.3, the update directive).

@@ -10,6 +10,9 @@ pub struct Holding {
     pub item: Item<RegionClause>,
     /// The number of the block whose structured counter it raised, or `None` where it raised none.
     pub block: Option<u64>,
+    /// The host address of the pointer that it attached, and the number of the block that holds it, or `None` where it
+    /// attached none.
+    pub aim: Option<(u64, u64)>,
 }
 
 // It stands in the unused places of a list of fixed size: it counted nothing.
@@ -19,8 +22,10 @@ impl Default for Holding {
             item: Item {
                 clause: RegionClause::NoCreate,
                 section: Section { start: 0, len: 0 },
+                pointer: None,
             },
             block: None,
+            aim: None,
         }
     }
 }

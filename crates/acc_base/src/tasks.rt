@@ -41,6 +41,7 @@ impl Default for Task {
             item: Item {
                 clause: UpdateClause::ToSelf,
                 section: Section { start: 0, len: 0 },
+                pointer: None,
             },
         }
     }

@@ -1,0 +1,192 @@
+-- The attachment counters of every block are those of the history that leads to it.
+use Rattle.std.proofs.Common.{ℕ, suc, ◌≡◌, ◌+◌, ◌-◌, ◌<◌, ◌≤◌, refl, sym, ◌∙◌, ap, subst, Bool, true, false, cond, List, [], ◌∷◌, ◌++◌, Option, Some, None, arith}
+use Rattle.std.specs.Prelude.{◌==◌, ◌&&◌, fold, unwrap_or, option_map, IsSome}
+use Rattle.std.proofs.lemmas.Bool.Decides.{nat_tests}
+use Rattle.acc_base.specs.declared.mappings.Block.{Block}
+use Rattle.acc_base.specs.declared.attachments.Attachment.{Attachment}
+use Rattle.acc_base.specs.declared.attachments.Aim.{Aim}
+use Rattle.acc_base.specs.declared.attachments.Aim.TheVariants as aims
+use Rattle.acc_base.specs.declared.tasks.Task.{Task}
+use Rattle.acc_base.specs.declared.tasks.Task.TheVariants.{Enter, Leave, Exit, Move}
+use Rattle.acc_base.specs.declared.events.Step.{Step}
+use Rattle.acc_base.specs.declared.events.Step.TheVariants.{Nothing, Counted, Born, Dropped, Moved}
+use Rattle.acc_base.specs.declared.events.Did.{Did}
+use Rattle.acc_base.specs.declared.events.Event.{Event}
+use Rattle.acc_base.specs.Limits.{Limits, IsWithinBounds}
+use Rattle.acc_base.specs.Records.{Records, Layout, new_layout}
+use Rattle.acc_base.specs.Ranges.{bare_range}
+use Rattle.acc_base.specs.Blocks.{block_at, without_block}
+use Rattle.acc_base.specs.Attachments.{is_of, count_at, count_after, without_attachments}
+use Rattle.acc_base.specs.Tasks.{section_of, recounted, records_after_birth, records_after_end, with_range_changed, act_step, records_aimed, act, act_all}
+use Rattle.acc_base.specs.Walk.{asked_in, done_in, walk, walk_all}
+use Rattle.acc_base.specs.Calls.{History}
+use Rattle.acc_base.specs.History.{attached_after, IsAimLegal, AreJudged, AreLegal}
+use Rattle.acc_base.specs.Accounts.{AreRecordsSound, AreAttachmentsTraced, IsHistoryLegal}
+use Rattle.acc_base.proofs.Results.{equal}
+use Rattle.acc_base.proofs.Elements.{AllByRecursion-weaker, found_has, find-none}
+use Rattle.acc_base.proofs.Lookups.{at-without_same, at-without_other}
+use Rattle.acc_base.proofs.Attached.{same_block, count_at-attached_by, count_at-without_other}
+use Rattle.acc_base.proofs.Judged.{IsJudgedTo, task_says}
+use Rattle.acc_base.proofs.Memories.{recounted-block}
+use Rattle.acc_base.proofs.Aimed.{IsAimThere, attach_block, leave_block, exit_block, leave_sound, exit_sound, move_sound, says_aimed, IsLeft, task_left}
+use Rattle.acc_base.proofs.Sound.{acted_sound, new_sound}
+use Rattle.acc_base.proofs.AllTasks.{AreLeft, all_left}
+
+number_of : Block → ℕ
+number_of b = b.number
+
+-- a block that is there was born
+born_before : (l : Limits) (w : Records) (k : ℕ) → AreRecordsSound l w → IsSome (block_at k w.blocks) → k ≤ w.births
+born_before l w k h there = go (block_at k w.blocks) refl there
+  where
+    go : (o : Option Block) → block_at k w.blocks ≡ o → IsSome o → k ≤ w.births
+    go None e p = cc
+    go (Some b) e p =
+        let has : (b.number ≤ w.births) × ((b.number == k) ≡ true) = found_has (λ (x : Block). x.number ≤ w.births) (λ x. x.number == k) w.blocks b h.blocks_apart.born e in
+        let is : b.number ≡ k = equal _ _ has.1 in
+        omega (arith, has.0)
+
+-- a block that is not born yet has no attachment counter
+count_at-unborn : (l : Limits) (w : Records) (block pointer : ℕ) → AreRecordsSound l w → w.births < block → count_at block pointer w.attached ≡ 0
+count_at-unborn l w block pointer h later = ap (λ o. unwrap_or (option_map (λ (a : Attachment). a.count) o) 0) (find-none (is_of block pointer) w.attached
+    (AllByRecursion-weaker (λ a. IsSome (block_at a.block w.blocks)) (λ a. is_of block pointer a ≡ false) w.attached (λ a there. go a there (is_of block pointer a) refl) h.attached.there))
+  where
+    go : (a : Attachment) → IsSome (block_at a.block w.blocks) → (b : Bool) → is_of block pointer a ≡ b → is_of block pointer a ≡ false
+    go a there true e = let is : a.block ≡ block = same_block block pointer a e in absurd (omega (arith, born_before l w a.block h there))
+    go a there false e = e
+
+-- the counters of the blocks that are there are these, and a block that is not born yet has none
+record AreTold (pointers : ℕ → ℕ → ℕ) (w : Records) : Type 0 where
+  there : (block pointer : ℕ) → IsSome (block_at block w.blocks) → count_at block pointer w.attached ≡ pointers block pointer
+  unborn : (block pointer : ℕ) → w.births < block → pointers block pointer ≡ 0
+
+-- ---- a step leaves the counters of the blocks that are there after it
+
+-- a block of another number does not hide one
+at-push_other : (block : ℕ) (bs : List Block) (b : Block) → (b.number == block) ≡ false → block_at block (bs ++ b ∷ []) ≡ block_at block bs
+at-push_other block [] b e = rw e refl
+at-push_other block (x ∷ bs) b e = step (x.number == block) (at-push_other block bs b e)
+  where
+    step : (t : Bool) → block_at block (bs ++ b ∷ []) ≡ block_at block bs → cond t (Some x) (block_at block (bs ++ b ∷ [])) ≡ cond t (Some x) (block_at block bs)
+    step true rest = refl
+    step false rest = rest
+
+born_told : (l : Limits) (task : Task) (k p : ℕ) (w : Records) (pointers : ℕ → ℕ → ℕ) → k ≡ w.births + 1 → AreRecordsSound l w → AreTold pointers w → AreTold pointers (records_after_birth (recounted task (bare_range (section_of task) k)) p w)
+unfolding records_after_birth number_of
+born_told l task k p w pointers number sound h = record {
+  there = λ block pointer there. go block pointer there (k == block) refl (block_at block w.blocks) refl;
+  unborn = λ block pointer later. h.unborn block pointer (omega arith);
+}
+  where
+    new : Block
+    new = record { number = (recounted task (bare_range (section_of task) k)).block; place = p; len = (recounted task (bare_range (section_of task) k)).section.len }
+
+    go : (block pointer : ℕ) → IsSome (block_at block (w.blocks ++ new ∷ [])) → (b : Bool) → (k == block) ≡ b → (o : Option Block) → block_at block w.blocks ≡ o → count_at block pointer w.attached ≡ pointers block pointer
+    go block pointer there b same (Some old) e = h.there block pointer (rw e refl)
+    go block pointer there true same None e =
+        let is : k ≡ block = equal _ _ same in
+        let later : w.births < block = omega arith in
+        count_at-unborn l w block pointer sound later ∙ sym (h.unborn block pointer later)
+    go block pointer there false same None e =
+        let other : (new.number == block) ≡ false = ap (λ n. n == block) (recounted-block task (bare_range (section_of task) k)) ∙ same in
+        let none : block_at block (w.blocks ++ new ∷ []) ≡ None = at-push_other block w.blocks new other ∙ e in
+        cc
+
+ended_told : (k : ℕ) (w : Records) (pointers : ℕ → ℕ → ℕ) → AreTold pointers w → AreTold pointers (records_after_end k w)
+unfolding records_after_end number_of
+ended_told k w pointers h = record {
+  there = λ block pointer there. go block pointer there (block == k) refl;
+  unborn = h.unborn;
+}
+  where
+    go : (block pointer : ℕ) → IsSome (block_at block (without_block k w.blocks)) → (b : Bool) → (block == k) ≡ b → count_at block pointer (without_attachments k w.attached) ≡ pointers block pointer
+    go block pointer there true same =
+        let is : block ≡ k = equal _ _ same in
+        let none : block_at block (without_block k w.blocks) ≡ None = ap (λ n. block_at n (without_block k w.blocks)) is ∙ at-without_same number_of k w.blocks in
+        cc
+    go block pointer there false same = count_at-without_other block pointer k w.attached same ∙ h.there block pointer (rw (← at-without_other number_of k block w.blocks same) there)
+
+step_told : (l : Limits) (task : Task) (step : Step) (w : Records) (pointers : ℕ → ℕ → ℕ) → AreRecordsSound l w → IsJudgedTo l task step w → AreTold pointers w → AreTold pointers (act_step task step w)
+unfolding act_step with_range_changed
+step_told l task Nothing w pointers sound says h = h
+step_told l task (Counted k) w pointers sound says h = record { there = h.there; unborn = h.unborn }
+step_told l (Enter counter item) (Born k p) w pointers sound says h = born_told l (Enter counter item) k p w pointers says.number sound h
+step_told l (Leave holding) (Born k p) w pointers sound says h = absurd says
+step_told l (Exit finalize item) (Born k p) w pointers sound says h = absurd says
+step_told l (Move if_present item) (Born k p) w pointers sound says h = absurd says
+step_told l task (Dropped k true) w pointers sound says h = ended_told k w pointers h
+step_told l task (Dropped k false) w pointers sound says h = record { there = h.there; unborn = h.unborn }
+step_told l task (Moved k) w pointers sound says h = h
+
+-- ---- an attachment or a detachment leaves the counters that it says
+
+aim_told : (l : Limits) (aim : Aim) (w : Records) (pointers : ℕ → ℕ → ℕ) → AreRecordsSound l w → IsAimThere w.blocks aim → AreTold pointers w → AreTold (λ block pointer. count_after block pointer aim (pointers block pointer)) (records_aimed aim w)
+aim_told l aim w pointers sound named h = record {
+  there = λ block pointer there. count_at-attached_by block pointer aim w.attached ∙ ap (count_after block pointer aim) (h.there block pointer there);
+  unborn = λ block pointer later. go block pointer later aim named;
+}
+  where
+    other : (block pointer k p count : ℕ) → w.births < block → IsSome (block_at k w.blocks) → cond (k == block && p == pointer) count (pointers block pointer) ≡ 0
+    other block pointer k p count later there =
+        let born : k ≤ w.births = born_before l w k sound there in
+        let differs : (k == block) ≡ false = grind (arith, nat_tests) in
+        rw differs (h.unborn block pointer later)
+
+    go : (block pointer : ℕ) → w.births < block → (a : Aim) → IsAimThere w.blocks a → count_after block pointer a (pointers block pointer) ≡ 0
+    go block pointer later aims.None there = h.unborn block pointer later
+    go block pointer later (aims.New p k target) there = other block pointer k p 1 later (there k refl)
+    go block pointer later (aims.Again p k) there = other block pointer k p (pointers block pointer + 1) later (there k refl)
+    go block pointer later (aims.Less p k) there = other block pointer k p (pointers block pointer - 1) later (there k refl)
+    go block pointer later (aims.Cleared p k) there = other block pointer k p 0 later (there k refl)
+
+-- ---- tasks and events
+
+-- the counters after a task, by what it did
+abbrev told_after : Did → (ℕ → ℕ → ℕ) → ℕ → ℕ → ℕ
+told_after did pointers block pointer = count_after block pointer did.aim (pointers block pointer)
+
+-- a step after a detachment
+then_told : (l : Limits) (task : Task) (did : Did) (w : Records) (pointers : ℕ → ℕ → ℕ) → AreRecordsSound l w → AreRecordsSound l (records_aimed did.aim w) → IsAimThere w.blocks did.aim → IsJudgedTo l task did.step w → AreTold pointers w
+    → AreTold (told_after did pointers) (act_step task did.step (records_aimed did.aim w))
+then_told l task did w pointers sound aimed there says h = step_told l task did.step (records_aimed did.aim w) (told_after did pointers) aimed (says_aimed l task did.step did.aim w says) (aim_told l did.aim w pointers sound there h)
+
+task_told : (l : Limits) (task : Task) (did : Did) (w : Records) (pointers : ℕ → ℕ → ℕ) → IsWithinBounds l → AreRecordsSound l w → IsJudgedTo l task did.step w → IsAimLegal l task did w → AreTold pointers w → AreTold (told_after did pointers) (act task did w)
+unfolding act
+task_told l (Enter counter item) did w pointers bounds sound says legal h =
+    let v : Records = act_step (Enter counter item) did.step w in
+    let stepped : AreRecordsSound l v = acted_sound l (Enter counter item) did.step w bounds says sound in
+    aim_told l did.aim v pointers stepped (attach_block l _ did.aim v stepped legal) (step_told l (Enter counter item) did.step w pointers sound says h)
+task_told l (Leave holding) did w pointers bounds sound says legal h =
+    then_told l (Leave holding) did w pointers sound (leave_sound l holding did w sound legal) (subst (IsAimThere w.blocks) (sym legal) (leave_block l holding.aim w sound)) says h
+task_told l (Exit finalize item) did w pointers bounds sound says legal h =
+    then_told l (Exit finalize item) did w pointers sound (exit_sound l finalize item did w sound legal) (subst (IsAimThere w.blocks) (sym legal) (exit_block l finalize _ w sound)) says h
+task_told l (Move if_present item) did w pointers bounds sound says legal h =
+    then_told l (Move if_present item) did w pointers sound (move_sound l if_present item did w sound legal) (subst (IsAimThere w.blocks) (sym legal) (λ k e. cc)) says h
+
+tasks_told : (l : Limits) (n : ℕ) (tasks : List Task) (dids : List Did) (w : Records) (pointers : ℕ → ℕ → ℕ) → IsWithinBounds l → AreRecordsSound l w → AreJudged l n tasks dids w → AreTold pointers w
+    → AreTold (λ block pointer. fold (λ m d. count_after block pointer d.aim m) (pointers block pointer) dids) (act_all tasks dids w)
+unfolding act_all
+tasks_told l n [] [] w pointers bounds sound judged h = h
+tasks_told l n [] (did ∷ dids) w pointers bounds sound judged h = absurd judged
+tasks_told l n (task ∷ tasks) [] w pointers bounds sound judged h = absurd judged
+tasks_told l n (task ∷ tasks) (did ∷ dids) w pointers bounds sound judged h =
+    let says : IsJudgedTo l task did.step w = task_says l n task w did.step judged.0 in
+    let left : IsLeft l task did w (act task did w) = task_left l task did w bounds sound says judged.1 in
+    tasks_told l (suc n) tasks dids (act task did w) (told_after did pointers) bounds left.sound judged.2 (task_told l task did w pointers bounds sound says judged.1 h)
+
+events_told : (l : Limits) (events : List Event) (lay : Layout) (pointers : ℕ → ℕ → ℕ) → IsWithinBounds l → AreRecordsSound l lay.records → AreLegal l events lay → AreTold pointers lay.records
+    → AreTold (λ block pointer. fold (attached_after block pointer) (pointers block pointer) events) (walk_all events lay).records
+unfolding walk_all walk
+events_told l [] lay pointers bounds sound legal h = h
+events_told l (e ∷ events) lay pointers bounds sound legal h =
+    let left : AreLeft l (asked_in e lay.register) (done_in e) lay.records (walk e lay).records = all_left l 0 (asked_in e lay.register) (done_in e) lay.records bounds sound legal.0.judged in
+    events_told l events (walk e lay) (λ block pointer. attached_after block pointer (pointers block pointer) e) bounds left.sound legal.1 (tasks_told l 0 (asked_in e lay.register) (done_in e) lay.records pointers bounds sound legal.0.judged h)
+
+nothing_told : AreTold (λ block pointer. 0) new_layout.records
+nothing_told = record { there = λ block pointer there. refl; unborn = λ block pointer later. refl }
+
+-- a legal history tells the attachment counters of every block that it leads to
+pub attachments_traced : (l : Limits) (h : History) (lay : Layout) → IsWithinBounds l → IsHistoryLegal l h lay → AreAttachmentsTraced h lay.records
+attachments_traced l h lay bounds history =
+    let told = events_told l h.trace new_layout (λ block pointer. 0) bounds (new_sound l) history.legal nothing_told in
+    subst (λ (x : Layout). AreAttachmentsTraced h x.records) history.leads told.there

@@ -1,0 +1,82 @@
+-- What an item does, its step and what becomes of its pointer: judged, and done. And what a directive and an event leave of the state.
+use Rattle.std.specs.Prelude.{ℕ, suc, Bool, List, [], ◌∷◌, Option, Some, None, Result, Ok}
+use Rattle.acc_base.specs.declared.attachments.Aim.{Aim}
+use Rattle.acc_base.specs.declared.attachments.Aim.TheVariants as aims
+use Rattle.acc_base.specs.declared.tasks.Task.{Task}
+use Rattle.acc_base.specs.declared.tasks.Task.TheVariants.{Enter, Leave, Exit, Move}
+use Rattle.acc_base.specs.declared.events.Step.{Step}
+use Rattle.acc_base.specs.declared.events.Did.{Did}
+use Rattle.acc_base.specs.declared.events.Event.{Event}
+use Rattle.acc_base.specs.declared.events.Event.TheVariants.{Entered, Left, EnteredData, ExitedData, Updated, HostWritten}
+use Rattle.acc_base.specs.declared.faults.Fault.{Fault}
+use Rattle.acc_base.specs.Results.{◌>>=◌}
+use Rattle.acc_base.specs.Limits.{Limits}
+use Rattle.acc_base.specs.Records.{Records, State}
+use Rattle.acc_base.specs.Tasks.{pointer_aimed, judge_step}
+use Rattle.acc_base.specs.Walk.{asked_in, done_in, register_after}
+use Rattle.acc_base.specs.Bytes.{step_state, host_after_write}
+use Rattle.acc_base.specs.Pointers.{judge_attach, judge_detach, judge_release, aimed}
+
+-- ---- one item
+
+-- attaching a pointer, if there is one
+abbrev pub attach_if : Limits → ℕ → Option ℕ → State → Result Aim Fault
+attach_if l n None s = Ok aims.None
+attach_if l n (Some pointer) s = judge_attach l n pointer s
+
+-- detaching a pointer, if there is one
+abbrev pub detach_if : Bool → Option ℕ → Records → Aim
+detach_if immediate None w = aims.None
+detach_if immediate (Some pointer) w = judge_detach immediate pointer w
+
+-- what becomes of the pointer of the item at place n, whose step is this: on entry it is attached in what the step left, on exit it is detached before the step
+unfoldable pub judge_aim : Limits → ℕ → Task → Step → State → Result Aim Fault
+judge_aim l n (Enter counter item) step s = attach_if l n (pointer_aimed (Enter counter item) step) (step_state (Enter counter item) step s)
+judge_aim l n (Leave holding) step s = Ok (judge_release holding.aim s.records)
+judge_aim l n (Exit finalize item) step s = Ok (detach_if finalize (pointer_aimed (Exit finalize item) step) s.records)
+judge_aim l n (Move if_present item) step s = Ok aims.None
+
+-- its refusal, or what it does
+unfoldable pub judge_task : Limits → ℕ → Task → State → Result Did Fault
+judge_task l n task s = do
+  step ← judge_step l n task s.records
+  aim ← judge_aim l n task step s
+  Ok (record { step = step; aim = aim })
+
+-- the state after it
+unfoldable pub act_state : Task → Did → State → State
+act_state (Enter counter item) did s = aimed did.aim (step_state (Enter counter item) did.step s)
+act_state (Leave holding) did s = step_state (Leave holding) did.step (aimed did.aim s)
+act_state (Exit finalize item) did s = step_state (Exit finalize item) did.step (aimed did.aim s)
+act_state (Move if_present item) did s = step_state (Move if_present item) did.step (aimed did.aim s)
+
+-- ---- all items of a directive: each is judged in what those before it left
+
+unfoldable pub judge_all : Limits → ℕ → List Task → State → Result (List Did) Fault
+judge_all l n [] s = Ok []
+judge_all l n (task ∷ tasks) s = do
+  did ← judge_task l n task s
+  dids ← judge_all l (suc n) tasks (act_state task did s)
+  Ok (did ∷ dids)
+
+-- the state after them, one after the other
+unfoldable pub act_all_state : List Task → List Did → State → State
+act_all_state (task ∷ tasks) (did ∷ dids) s = act_all_state tasks dids (act_state task did s)
+act_all_state _ _ s = s
+
+-- ---- an event
+
+-- what an event writes into host memory beside its items' transfers, from the bytes that its call brought
+abbrev pub host_after : Event → List ℕ → List ℕ → List ℕ
+host_after (Entered number items did) brought host = host
+host_after (Left number did) brought host = host
+host_after (EnteredData items did) brought host = host
+host_after (ExitedData items finalize did) brought host = host
+host_after (Updated items if_present did) brought host = host
+host_after (HostWritten addr len) brought host = host_after_write addr len brought host
+
+-- the state after an event, and with the bytes that its call brought
+unfoldable pub after : Event → List ℕ → State → State
+after e brought s =
+    let acted : State = act_all_state (asked_in e s.register) (done_in e) s in
+    record { records = acted.records; register = register_after e s.register; host = host_after e brought acted.host; memories = acted.memories }

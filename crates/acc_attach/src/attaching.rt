@@ -1,7 +1,7 @@
 //! The attachment counters as one value.
 
 ghost use Rattle.std.specs.Prelude.{◌≡◌, ◌+◌, ◌^◌, ◌<◌, ◌≤◌, ◌↔◌, [], true, false, Ok, Err, IsOk, IfOk, OnOk, OnErr, IfErr, ◌⊎◌};
-ghost use Rattle.acc_base.specs.Attachments.{count_at, attach, detach, attached_by, without_attachments, is_skipped, next_pointer};
+ghost use Rattle.acc_base.specs.Attachments.{count_at, with_count, attach, detach, attached_by, without_attachments, is_skipped, next_pointer};
 ghost use Rattle.acc_attach.specs.Attached.{AreAttached, left_of};
 
 use crate::counters::{add, count_of, next_of, set, skips, take_out, take_out_all};
@@ -110,20 +110,43 @@ impl Attached {
         ensures counter_max { self.new.counter_max ≡ self.old.counter_max }
         ensures spare { self.old.spare ≤ self.new.spare + 1 }
     {
-        let count = count_of(&self.attached, block, pointer);
-        if count == 0 {
-            add(&mut self.attached, block, pointer);
-        } else if now == target {
-            set(&mut self.attached, block, pointer, count + 1);
+        if count_of(&self.attached, block, pointer) > 0 && now == target {
+            self.aim_again(block, pointer);
             return Aim::Again { pointer, block };
-        } else {
-            set(&mut self.attached, block, pointer, 1);
         }
+        self.aim_reserved(block, pointer);
         Aim::New {
             pointer,
             block,
             target,
         }
+    }
+
+    /// The counter of a pointer of a block becomes one, as where it is aimed at another target, where there is room for
+    /// one more if the counter is zero. It takes no memory, and at most one from the room.
+    pub fn aim_reserved(&mut self, block: u64, pointer: u64)
+        requires room { count_at block pointer self.old.attached ≡ 0 → 1 ≤ self.old.spare }
+        ensures attached { self.new.attached ≡ with_count block pointer 1 self.old.attached }
+        ensures counter_max { self.new.counter_max ≡ self.old.counter_max }
+        ensures spare { self.old.spare ≤ self.new.spare + 1 }
+    {
+        if count_of(&self.attached, block, pointer) == 0 {
+            add(&mut self.attached, block, pointer);
+        } else {
+            set(&mut self.attached, block, pointer, 1);
+        }
+    }
+
+    /// The counter of an attached pointer of a block rises by one, where it has not reached its limit.
+    pub fn aim_again(&mut self, block: u64, pointer: u64)
+        requires some { 0 < count_at block pointer self.old.attached }
+        requires below { count_at block pointer self.old.attached < self.old.counter_max }
+        ensures attached { self.new.attached ≡ with_count block pointer (count_at block pointer self.old.attached + 1) self.old.attached }
+        ensures counter_max { self.new.counter_max ≡ self.old.counter_max }
+        ensures spare { self.old.spare ≤ self.new.spare }
+    {
+        let count = count_of(&self.attached, block, pointer);
+        set(&mut self.attached, block, pointer, count + 1);
     }
 
     /// Detaches a pointer of a block (OpenACC 3.3, section 2.7.2): its counter falls by one, or stays zero. `pointer` is

@@ -3,7 +3,7 @@ use Rattle.std.proofs.Common.{ℕ, ◌≡◌, ◌≤◌, refl, ap, ◌∙◌, Bo
 use Rattle.std.specs.Prelude.{◌==◌, map, reverse, option_map, ⊤, MatchResult}
 use Rattle.std.proofs.lemmas.List.{map-append}
 use mathlib.Core.List.{reverse-cons}
-use Rattle.std.specs.List.{list_any, AllByRecursion}
+use Rattle.std.specs.List.{list_all, list_any, AllByRecursion}
 use Rattle.acc_base.specs.declared.directives.Directive.{Directive}
 use Rattle.acc_base.specs.declared.items.Item.{Item}
 use Rattle.acc_base.specs.declared.items.RegionClause.{RegionClause}
@@ -17,35 +17,39 @@ use Rattle.acc_base.specs.declared.events.Did.{Did}
 use Rattle.acc_base.specs.declared.faults.Fault.{Fault}
 use Rattle.acc_base.specs.Results.{◌>>=◌, ◌>>◌}
 use Rattle.acc_base.specs.Limits.{Limits}
-use Rattle.acc_base.specs.Records.{Layout}
+use Rattle.acc_base.specs.Records.{State}
 use Rattle.acc_base.specs.Register.{Region, Register, holdings_at, region_at}
-use Rattle.acc_base.specs.Tasks.{judge_all}
+use Rattle.acc_base.specs.Acting.{judge_all}
 use Rattle.acc_base.specs.Walk.{enter_task, enter_data_task, leave_tasks}
 use Rattle.acc_base.specs.Judge.{few_items, tasks_of, event_of, directive_event, plan_of}
 use Rattle.acc_base.proofs.Elements.{found_has}
-use Rattle.acc_clauses.specs.Overlays.{AreUnmixed, may_bear, may_end}
+use Rattle.acc_clauses.specs.Overlays.{AreUnmixed, enters}
 use Rattle.acc_clauses.specs.Planned.{HasFewHoldings, asked_of}
 
 -- ---- tasks of one kind
 
-any_map : {X : Type 0} (p : Task → Bool) (f : X → Task) (xs : List X) → ((x : X) → p (f x) ≡ false) → list_any p (map f xs) ≡ false
-any_map p f [] none = refl
-any_map p f (x ∷ xs) none = rw (none x, any_map p f xs none) refl
+all_map : {X : Type 0} (f : X → Task) (xs : List X) → ((x : X) → enters (f x) ≡ true) → list_all enters (map f xs) ≡ true
+all_map f [] all = refl
+all_map f (x ∷ xs) all = rw (all x, all_map f xs all) refl
+
+none_map : {X : Type 0} (f : X → Task) (xs : List X) → ((x : X) → enters (f x) ≡ false) → list_any enters (map f xs) ≡ false
+none_map f [] none = refl
+none_map f (x ∷ xs) none = rw (none x, none_map f xs none) refl
 
 pub unmixed_enter : (items : List (Item RegionClause)) → AreUnmixed (map enter_task items)
-unmixed_enter items = inl (any_map may_end enter_task items (λ x. refl))
+unmixed_enter items = inl (all_map enter_task items (λ x. refl))
 
 pub unmixed_enter_data : (items : List (Item EnterClause)) → AreUnmixed (map enter_data_task items)
-unmixed_enter_data items = inl (any_map may_end enter_data_task items (λ x. refl))
+unmixed_enter_data items = inl (all_map enter_data_task items (λ x. refl))
 
 pub unmixed_exit : (finalize : Bool) (items : List (Item ExitClause)) → AreUnmixed (map (Exit finalize) items)
-unmixed_exit finalize items = inr (any_map may_bear (Exit finalize) items (λ x. refl))
+unmixed_exit finalize items = inr (none_map (Exit finalize) items (λ x. refl))
 
 pub unmixed_move : (if_present : Bool) (items : List (Item UpdateClause)) → AreUnmixed (map (Move if_present) items)
-unmixed_move if_present items = inr (any_map may_bear (Move if_present) items (λ x. refl))
+unmixed_move if_present items = inr (none_map (Move if_present) items (λ x. refl))
 
 pub unmixed_leave : (holdings : List Holding) → AreUnmixed (leave_tasks holdings)
-unmixed_leave holdings = inr (any_map may_bear Leave (reverse holdings) (λ x. refl))
+unmixed_leave holdings = inr (none_map Leave (reverse holdings) (λ x. refl))
 
 -- a reversed list of tasks is that of the reversed list
 pub map-reversed : {X Y : Type 0} (f : X → Y) (xs : List X) → map f (reverse xs) ≡ reverse (map f xs)
@@ -71,33 +75,33 @@ pub ruleset asking_laws = (few_holdings, unmixed_enter, unmixed_enter_data, unmi
 
 -- ---- the event
 
-plan_asked : (l : Limits) (d : Directive) (lay : Layout) → plan_of l d lay ≡ (asked_of d lay.register >>= λ tasks. judge_all l 0 tasks lay.records >>= λ dids. Ok (event_of d lay.register dids))
+plan_asked : (l : Limits) (d : Directive) (s : State) → plan_of l d s ≡ (asked_of d s.register >>= λ tasks. judge_all l 0 tasks s >>= λ dids. Ok (event_of d s.register dids))
 unfolding plan_of directive_event
-plan_asked l d lay = go (few_items d)
+plan_asked l d s = go (few_items d)
   where
-    go : (few : Result ⊤ Fault) → (few >> (tasks_of d lay.register >>= λ tasks. judge_all l 0 tasks lay.records >>= λ dids. Ok (event_of d lay.register dids)))
-        ≡ ((few >> tasks_of d lay.register) >>= λ tasks. judge_all l 0 tasks lay.records >>= λ dids. Ok (event_of d lay.register dids))
+    go : (few : Result ⊤ Fault) → (few >> (tasks_of d s.register >>= λ tasks. judge_all l 0 tasks s >>= λ dids. Ok (event_of d s.register dids)))
+        ≡ ((few >> tasks_of d s.register) >>= λ tasks. judge_all l 0 tasks s >>= λ dids. Ok (event_of d s.register dids))
     go (Ok x) = refl
     go (Err fault) = refl
 
 -- the plan of a directive is refused, where it asks for nothing that can be judged
-pub plan_unasked : (l : Limits) (d : Directive) (lay : Layout) (fault : Fault) → asked_of d lay.register ≡ Err fault → plan_of l d lay ≡ Err fault
-plan_unasked l d lay fault e = plan_asked l d lay ∙ rw e refl
+pub plan_unasked : (l : Limits) (d : Directive) (s : State) (fault : Fault) → asked_of d s.register ≡ Err fault → plan_of l d s ≡ Err fault
+plan_unasked l d s fault e = plan_asked l d s ∙ rw e refl
 
 -- it is refused as its tasks are
-pub plan_refused : (l : Limits) (d : Directive) (lay : Layout) (tasks : List Task) (fault : Fault) → asked_of d lay.register ≡ Ok tasks → judge_all l 0 tasks lay.records ≡ Err fault → plan_of l d lay ≡ Err fault
-plan_refused l d lay tasks fault e f = plan_asked l d lay ∙ rw (e, f) refl
+pub plan_refused : (l : Limits) (d : Directive) (s : State) (tasks : List Task) (fault : Fault) → asked_of d s.register ≡ Ok tasks → judge_all l 0 tasks s ≡ Err fault → plan_of l d s ≡ Err fault
+plan_refused l d s tasks fault e f = plan_asked l d s ∙ rw (e, f) refl
 
 -- else it is the event of what they do
-pub plan_judged : (l : Limits) (d : Directive) (lay : Layout) (tasks : List Task) (dids : List Did) → asked_of d lay.register ≡ Ok tasks → judge_all l 0 tasks lay.records ≡ Ok dids → plan_of l d lay ≡ Ok (event_of d lay.register dids)
-plan_judged l d lay tasks dids e f = plan_asked l d lay ∙ rw (e, f) refl
+pub plan_judged : (l : Limits) (d : Directive) (s : State) (tasks : List Task) (dids : List Did) → asked_of d s.register ≡ Ok tasks → judge_all l 0 tasks s ≡ Ok dids → plan_of l d s ≡ Ok (event_of d s.register dids)
+plan_judged l d s tasks dids e f = plan_asked l d s ∙ rw (e, f) refl
 
 -- what judging its tasks answers is what its plan is
-pub plan_told : (l : Limits) (d : Directive) (lay : Layout) (tasks : List Task) (dids : List Did) (r : Result ⊤ Fault) → asked_of d lay.register ≡ Ok tasks
-    → MatchResult r (λ _. judge_all l 0 tasks lay.records ≡ Ok dids) (λ fault. judge_all l 0 tasks lay.records ≡ Err fault)
-    → MatchResult r (λ _. plan_of l d lay ≡ Ok (event_of d lay.register dids)) (λ fault. plan_of l d lay ≡ Err fault)
-plan_told l d lay tasks dids (Ok x) e h = plan_judged l d lay tasks dids e h
-plan_told l d lay tasks dids (Err fault) e h = plan_refused l d lay tasks fault e h
+pub plan_told : (l : Limits) (d : Directive) (s : State) (tasks : List Task) (dids : List Did) (r : Result ⊤ Fault) → asked_of d s.register ≡ Ok tasks
+    → MatchResult r (λ _. judge_all l 0 tasks s ≡ Ok dids) (λ fault. judge_all l 0 tasks s ≡ Err fault)
+    → MatchResult r (λ _. plan_of l d s ≡ Ok (event_of d s.register dids)) (λ fault. plan_of l d s ≡ Err fault)
+plan_told l d s tasks dids (Ok x) e h = plan_judged l d s tasks dids e h
+plan_told l d s tasks dids (Err fault) e h = plan_refused l d s tasks fault e h
 
 asked_ok : (few : Result ⊤ Fault) (r : Result (List Task) Fault) (tasks : List Task) → (few >> r) ≡ Ok tasks → r ≡ Ok tasks
 asked_ok (Ok x) r tasks e = e

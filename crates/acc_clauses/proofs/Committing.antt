@@ -19,8 +19,8 @@ use Rattle.acc_base.specs.Records.{Records, State, layout_of}
 use Rattle.acc_base.specs.Register.{Region, Register, holdings_at, region_at, count_held, is_counted_block}
 use Rattle.acc_base.specs.Blocks.{used_bytes}
 use Rattle.acc_base.specs.Tasks.{act, act_all}
-use Rattle.acc_base.specs.Walk.{enter_task, enter_data_task, leave_tasks, holdings_of, block_counted}
-use Rattle.acc_base.specs.Bytes.{act_all_state}
+use Rattle.acc_base.specs.Walk.{enter_task, enter_data_task, leave_tasks, holdings_of, block_counted, pointer_attached}
+use Rattle.acc_base.specs.Acting.{act_all_state}
 use Rattle.acc_base.specs.Judge.{tasks_of, tasks_of_region, event_of}
 use Rattle.acc_base.specs.History.{AreJudged}
 use Rattle.acc_base.proofs.Elements.{AllByRecursion-append, AllByRecursion-filter, AllByRecursion-weaker, find-none}
@@ -45,7 +45,7 @@ known_map : {X : Type 0} (f : X → Task) (xs : List X) (dids : List Did) (w : R
 known_map f [] [] w h = tt
 known_map f [] (d ∷ ds) w h = tt
 known_map f (x ∷ xs) [] w h = tt
-known_map f (x ∷ xs) (d ∷ ds) w h = (h x w, known_map f xs ds (act (f x) d.step w) h)
+known_map f (x ∷ xs) (d ∷ ds) w h = (h x w, known_map f xs ds (act (f x) d w) h)
 
 tasks_same : (xs ys : List Task) → ◌≡◌ {A = Result (List Task) Fault} (Ok xs) (Ok ys) → xs ≡ ys
 tasks_same xs ys e = cc
@@ -123,7 +123,7 @@ plan_can (directives.Update items if_present) c f p h planned next room same reg
 held_asked : (items : List (Item RegionClause)) (dids : List Did) → holdings_of items dids ≡ holdings_by (map enter_task items) dids
 held_asked [] dids = refl
 held_asked (item ∷ items) [] = refl
-held_asked (item ∷ items) (did ∷ dids) = ap (λ (hs : List Holding). record { item = item; block = block_counted did.step } ∷ hs) (held_asked items dids)
+held_asked (item ∷ items) (did ∷ dids) = ap (λ (hs : List Holding). record { item = item; block = block_counted did.step; aim = pointer_attached did.aim } ∷ hs) (held_asked items dids)
 
 one_holding : (task : Task) (did : Did) → length (holding_by task did) ≤ 1
 one_holding (Enter counter item) did = omega arith

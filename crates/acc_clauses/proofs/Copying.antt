@@ -121,7 +121,7 @@ moved_out s bytes start host in_host inside =
 
 -- ---- a write of the host
 
-from_all : (addr : ℕ) (bytes : List ℕ) → IsFrom (λ a. slice_index bytes (a - addr)) addr bytes
+pub from_all : (addr : ℕ) (bytes : List ℕ) → IsFrom (λ a. slice_index bytes (a - addr)) addr bytes
 from_all addr bytes k below = ap (slice_index bytes) (let same : k ≡ addr + k - addr = omega arith in same)
 
 written-none : (s : Section) (source : ℕ → ℕ) (a : ℕ) (old : List ℕ) → s.len ≡ 0 → written_bytes (covers s) source a old ≡ old

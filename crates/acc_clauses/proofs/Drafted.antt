@@ -2,25 +2,26 @@
 use Rattle.std.proofs.Common.{ℕ, ◌≡◌, ◌+◌, ◌<◌, ◌≤◌, refl, sym, ap, ◌∙◌, true, false, List, [], ◌∷◌, ◌++◌, length, arith}
 use Rattle.std.proofs.lemmas.List.{append-nil, append_assoc, length-append}
 use Rattle.acc_base.specs.declared.tasks.Task.{Task}
+use Rattle.acc_base.specs.declared.attachments.Aim.{Aim}
 use Rattle.acc_base.specs.declared.events.Step.{Step}
 use Rattle.acc_base.specs.declared.events.Step.TheVariants.{Nothing, Counted, Born, Dropped, Moved}
 use Rattle.acc_clauses.specs.declared.acted.Acted.{Acted}
-use Rattle.acc_clauses.specs.Overlays.{IsDraft, birth_by, births_of, end_by, ended_of}
+use Rattle.acc_clauses.specs.Overlays.{IsDraft, birth_by, births_of, end_by, ended_of, with_aim}
 
 births_of-append : (xs ys : List Acted) → births_of (xs ++ ys) ≡ births_of xs ++ births_of ys
 births_of-append [] ys = refl
-births_of-append (x ∷ xs) ys = ap (λ ps. birth_by x.task x.step ++ ps) (births_of-append xs ys) ∙ sym (append_assoc (birth_by x.task x.step) (births_of xs) (births_of ys))
+births_of-append (x ∷ xs) ys = ap (λ ps. birth_by x.task x.did.step ++ ps) (births_of-append xs ys) ∙ sym (append_assoc (birth_by x.task x.did.step) (births_of xs) (births_of ys))
 
 ended_of-append : (xs ys : List Acted) → ended_of (xs ++ ys) ≡ ended_of xs ++ ended_of ys
 ended_of-append [] ys = refl
-ended_of-append (x ∷ xs) ys = ap (λ ps. end_by x.step ++ ps) (ended_of-append xs ys) ∙ sym (append_assoc (end_by x.step) (ended_of xs) (ended_of ys))
+ended_of-append (x ∷ xs) ys = ap (λ ps. end_by x.did.step ++ ps) (ended_of-append xs ys) ∙ sym (append_assoc (end_by x.did.step) (ended_of xs) (ended_of ys))
 
 -- the births of one more task stand last
-pub births_of-push : (xs : List Acted) (x : Acted) → births_of (xs ++ x ∷ []) ≡ births_of xs ++ birth_by x.task x.step
-births_of-push xs x = births_of-append xs (x ∷ []) ∙ ap (λ ps. births_of xs ++ ps) (append-nil (birth_by x.task x.step))
+pub births_of-push : (xs : List Acted) (x : Acted) → births_of (xs ++ x ∷ []) ≡ births_of xs ++ birth_by x.task x.did.step
+births_of-push xs x = births_of-append xs (x ∷ []) ∙ ap (λ ps. births_of xs ++ ps) (append-nil (birth_by x.task x.did.step))
 
-pub ended_of-push : (xs : List Acted) (x : Acted) → ended_of (xs ++ x ∷ []) ≡ ended_of xs ++ end_by x.step
-ended_of-push xs x = ended_of-append xs (x ∷ []) ∙ ap (λ ps. ended_of xs ++ ps) (append-nil (end_by x.step))
+pub ended_of-push : (xs : List Acted) (x : Acted) → ended_of (xs ++ x ∷ []) ≡ ended_of xs ++ end_by x.did.step
+ended_of-push xs x = ended_of-append xs (x ∷ []) ∙ ap (λ ps. ended_of xs ++ ps) (append-nil (end_by x.did.step))
 
 length-birth_by : (task : Task) (step : Step) → length (birth_by task step) ≤ 1
 length-birth_by task Nothing = omega arith
@@ -40,20 +41,28 @@ length-end_by (Moved b) = omega arith
 -- a task bears one block at most
 pub length-births_of : (xs : List Acted) → length (births_of xs) ≤ length xs
 length-births_of [] = omega arith
-length-births_of (x ∷ xs) = omega (arith, length-births_of xs, length-birth_by x.task x.step, length-append (birth_by x.task x.step) (births_of xs))
+length-births_of (x ∷ xs) = omega (arith, length-births_of xs, length-birth_by x.task x.did.step, length-append (birth_by x.task x.did.step) (births_of xs))
 
 -- a task ends one mapping at most
 pub length-ended_of : (xs : List Acted) → length (ended_of xs) ≤ length xs
 length-ended_of [] = omega arith
-length-ended_of (x ∷ xs) = omega (arith, length-ended_of xs, length-end_by x.step, length-append (end_by x.step) (ended_of xs))
+length-ended_of (x ∷ xs) = omega (arith, length-ended_of xs, length-end_by x.did.step, length-append (end_by x.did.step) (ended_of xs))
 
 -- a draft with one more task
-pub drafted : (xs : List Acted) (x : Acted) (births births' : List (ℕ × ℕ)) (ended ended' : List ℕ) (step : Step) → IsDraft xs births ended → length xs < 64 → x.step ≡ step
+pub drafted : (xs : List Acted) (x : Acted) (births births' : List (ℕ × ℕ)) (ended ended' : List ℕ) (step : Step) → IsDraft xs births ended → length xs < 64 → x.did.step ≡ step
     → births' ≡ births ++ birth_by x.task step → ended' ≡ ended ++ end_by step → IsDraft (xs ++ x ∷ []) births' ended'
 drafted xs x births births' ended ended' step draft few is b e = record {
   births_are = b ∙ (ap (λ ps. ps ++ birth_by x.task step) draft.births_are ∙ (ap (λ t. births_of xs ++ birth_by x.task t) (sym is) ∙ sym (births_of-push xs x)));
   ended_are = e ∙ (ap (λ ps. ps ++ end_by step) draft.ended_are ∙ (ap (λ t. ended_of xs ++ end_by t) (sym is) ∙ sym (ended_of-push xs x)));
   few = omega (arith, length-append xs (x ∷ []));
+}
+
+-- its births and ends are those of its steps, whatever became of the last pointer
+pub drafted_aimed : (xs : List Acted) (x : Acted) (aim : Aim) (births : List (ℕ × ℕ)) (ended : List ℕ) → IsDraft (xs ++ x ∷ []) births ended → IsDraft (xs ++ with_aim aim x ∷ []) births ended
+drafted_aimed xs x aim births ended draft = record {
+  births_are = draft.births_are ∙ (births_of-push xs x ∙ sym (births_of-push xs (with_aim aim x)));
+  ended_are = draft.ended_are ∙ (ended_of-push xs x ∙ sym (ended_of-push xs (with_aim aim x)));
+  few = omega (arith, draft.few, length-append xs (x ∷ []), length-append xs (with_aim aim x ∷ []));
 }
 
 pub ruleset tally_laws = (births_of-push, ended_of-push, length-births_of, length-ended_of, append-nil)

@@ -1,5 +1,5 @@
 -- What an entry to a region counts lies within the ranges of the blocks that it counted, after all of its tasks.
-use Rattle.std.proofs.Common.{ℕ, suc, ◌≡◌, ◌+◌, ◌≤◌, refl, ◌∙◌, ap, subst, Bool, true, false, cond, List, [], ◌∷◌, map, Option, Some, None, Result, Ok, arith}
+use Rattle.std.proofs.Common.{ℕ, suc, ◌≡◌, ◌+◌, ◌≤◌, refl, sym, ◌∙◌, ap, subst, Bool, true, false, cond, List, [], ◌∷◌, map, Option, Some, None, Result, Ok, arith}
 use Rattle.std.specs.Prelude.{◌==◌, nat_lt, nat_le}
 use Rattle.std.specs.List.{AllByRecursion}
 use Rattle.std.proofs.lemmas.Bool.Decides.{nat_tests}
@@ -25,19 +25,20 @@ use Rattle.acc_base.specs.Records.{Records}
 use Rattle.acc_base.specs.Ranges.{where_is, range_of, counter_of, with_range, bare_range, risen}
 use Rattle.acc_base.specs.Blocks.{rounded, place_for}
 use Rattle.acc_base.specs.Register.{Region}
-use Rattle.acc_base.specs.Clauses.{in_host, born_at, enter_absent, enter_row}
-use Rattle.acc_base.specs.Tasks.{judge_task, act, act_all, records_after_birth}
+use Rattle.acc_base.specs.Clauses.{is_attach, section_named, born_at, enter_absent, enter_row}
+use Rattle.acc_base.specs.Tasks.{section_of, checked, judge_step, act_step, act, act_all, records_after_birth}
 use Rattle.acc_base.specs.Walk.{enter_task, block_counted, holdings_of}
 use Rattle.acc_base.specs.History.{AreJudged}
 use Rattle.acc_base.specs.Accounts.{AreRecordsSound}
 use Rattle.acc_base.proofs.Results.{equal_self, then_ok}
 use Rattle.acc_base.proofs.Elements.{AllByRecursion-weaker}
 use Rattle.acc_base.proofs.Judged.{IsJudgedTo, task_says}
-use Rattle.acc_base.proofs.Sound.{acted_sound, ranges_born, fresh}
+use Rattle.acc_base.proofs.Sound.{ranges_born, fresh}
+use Rattle.acc_base.proofs.Aimed.{task_left}
 use Rattle.acc_clauses.specs.Acts.{IsMappedAround}
 use Rattle.acc_clauses.specs.Stored.{IsHeldWithin, IsHoldingWithin, AreHoldingsWithin}
 use Rattle.acc_clauses.proofs.Legal.{mapped_around}
-use Rattle.acc_clauses.proofs.Holding.{within_act}
+use Rattle.acc_clauses.proofs.Holding.{within_step, held_act, within_act}
 
 -- ---- all tasks
 
@@ -47,7 +48,7 @@ unfolding act_all
 within_all l n [] [] w s b judged h = h
 within_all l n [] (d ∷ ds) w s b judged h = absurd judged
 within_all l n (t ∷ ts) [] w s b judged h = absurd judged
-within_all l n (t ∷ ts) (d ∷ ds) w s b judged h = within_all l (suc n) ts ds (act t d.step w) s b judged.1 (within_act l t d.step w s b (task_says l n t w d.step judged.0) h)
+within_all l n (t ∷ ts) (d ∷ ds) w s b judged h = within_all l (suc n) ts ds (act t d w) s b judged.2 (within_act l t d w s b (task_says l n t w d.step judged.0) h)
 
 -- and so does what open regions hold
 pub regions_within : (l : Limits) (n : ℕ) (tasks : List Task) (dids : List Did) (w : Records) (regions : List Region) → AreJudged l n tasks dids w → AreHoldingsWithin w regions → AreHoldingsWithin (act_all tasks dids w) regions
@@ -71,22 +72,28 @@ absent_not_counted (region.Copyout z) l n k s w e = born_not_counted (place_for 
 absent_not_counted (region.Create z) l n k s w e = born_not_counted (place_for l.device w.blocks (rounded s.len)) n k s w e
 absent_not_counted region.NoCreate l n k s w e = cc
 absent_not_counted region.Present l n k s w e = cc
+absent_not_counted region.Attach l n k s w e = cc
 
 -- a section whose block is counted is inside the block's range
-counted_inside : (l : Limits) (item : Item RegionClause) (n k : ℕ) (w : Records) (found : Found) → enter_row found l Structured item.clause n item.section w ≡ Ok (Counted k) → where_is item.section w.ranges ≡ found
-    → (o : ℕ) × (where_is item.section w.ranges ≡ Inside k o)
-counted_inside l item n k w Empty e f = cc
-counted_inside l item n k w (Inside b o) e f =
+counted_inside : (l : Limits) (clause : RegionClause) (section : Section) (n k : ℕ) (w : Records) (found : Found) → enter_row found l Structured clause n section w ≡ Ok (Counted k) → where_is section w.ranges ≡ found
+    → (o : ℕ) × (where_is section w.ranges ≡ Inside k o)
+counted_inside l clause section n k w Empty e f = cc
+counted_inside l clause section n k w (Inside b o) e f =
     let both : (refuse_if (nat_le l.counter_max (counter_of Structured b w.ranges)) (CounterFull n) ≡ Ok tt) × (Ok (Counted b) ≡ Ok (Counted k)) = then_ok _ _ (Counted k) e in
     let same : Counted b ≡ Counted k = step_same _ _ both.1 in
     let block : b ≡ k = cc in
     (o, f ∙ ap (λ x. Inside x o) block)
-counted_inside l item n k w Absent e f = absurd (absent_not_counted item.clause l n k item.section w e)
-counted_inside l item n k w Partly e f = cc
+counted_inside l clause section n k w Absent e f = absurd (absent_not_counted clause l n k section w e)
+counted_inside l clause section n k w Partly e f = cc
 
-counted_says : (l : Limits) (item : Item RegionClause) (n k : ℕ) (w : Records) → judge_task l n (Enter Structured item) w ≡ Ok (Counted k) → (o : ℕ) × (where_is item.section w.ranges ≡ Inside k o)
-unfolding judge_task
-counted_says l item n k w e = counted_inside l item n k w (where_is item.section w.ranges) (then_ok (in_host l n item.section) _ (Counted k) e).1 refl
+counted_says : (l : Limits) (item : Item RegionClause) (n k : ℕ) (w : Records) → judge_step l n (Enter Structured item) w ≡ Ok (Counted k) → (o : ℕ) × (where_is (section_of (Enter Structured item)) w.ranges ≡ Inside k o)
+unfolding judge_step
+counted_says l item n k w e = counted_inside l item.clause (section_of (Enter Structured item)) n k w (where_is (section_of (Enter Structured item)) w.ranges) (then_ok (checked l n (Enter Structured item)) _ (Counted k) e).1 refl
+
+-- an item whose section is not empty has it whole: it names no pointer alone
+named_whole : (alone : Bool) (s : Section) (ranges : List Range) (found : Found) → where_is (section_named alone s) ranges ≡ found → (found ≡ Empty → ⊥) → section_named alone s ≡ s
+named_whole true s ranges found e some = absurd (some (sym e))
+named_whole false s ranges found e some = refl
 
 -- a new range is the one of its block
 range-with_same : (new : Range) (rs : List Range) → range_of new.block rs ≡ None → range_of new.block (with_range new rs) ≡ Some new
@@ -102,22 +109,22 @@ range-with_same new (r ∷ rs) p = go (range-with_same new rs) (nat_lt new.secti
 within_self : (s : Section) → is_within s s ≡ true
 within_self s = grind (arith, nat_tests)
 
-born_within : (l : Limits) (item : Item RegionClause) (k p : ℕ) (w : Records) → AreRecordsSound l w → k ≡ w.births + 1 → IsHeldWithin (act (Enter Structured item) (Born k p) w) item.section k
-unfolding act records_after_birth
+born_within : (l : Limits) (item : Item RegionClause) (k p : ℕ) (w : Records) → AreRecordsSound l w → k ≡ w.births + 1 → IsHeldWithin (act_step (Enter Structured item) (Born k p) w) (section_of (Enter Structured item)) k
+unfolding act_step records_after_birth
 born_within l item k p w sound number =
-    let new : Range = risen Structured (bare_range item.section k) in
+    let new : Range = risen Structured (bare_range (section_of (Enter Structured item)) k) in
     let there : range_of k (with_range new w.ranges) ≡ Some new = range-with_same new w.ranges (fresh l w k sound number) in
     record {
       born = omega (arith, number);
-      within = λ r e. let same : new ≡ r = cc in subst (λ (x : Range). is_within item.section x.section ≡ true) same (within_self item.section);
+      within = λ r e. let same : new ≡ r = cc in subst (λ (x : Range). is_within (section_of (Enter Structured item)) x.section ≡ true) same (within_self (section_of (Enter Structured item)));
     }
 
-counted_within : (l : Limits) (w : Records) (item : Item RegionClause) (k o : ℕ) → AreRecordsSound l w → where_is item.section w.ranges ≡ Inside k o → IsHeldWithin w item.section k
-counted_within l w item k o sound e =
-    let around : IsMappedAround w item.section k = mapped_around l w item.section k o sound e in
+counted_within : (l : Limits) (w : Records) (section : Section) (k o : ℕ) → AreRecordsSound l w → where_is section w.ranges ≡ Inside k o → IsHeldWithin w section k
+counted_within l w section k o sound e =
+    let around : IsMappedAround w section k = mapped_around l w section k o sound e in
     record {
       born = born_of w.ranges around.range (ranges_born l w sound) around.range_is;
-      within = λ r f. let at : range_of k w.ranges ≡ Some around.range = around.range_is in let same : around.range ≡ r = cc in subst (λ (x : Range). is_within item.section x.section ≡ true) same around.within;
+      within = λ r f. let at : range_of k w.ranges ≡ Some around.range = around.range_is in let same : around.range ≡ r = cc in subst (λ (x : Range). is_within section x.section ≡ true) same around.within;
     }
   where
     born_of : (rs : List Range) (r : Range) → AllByRecursion (λ (x : Range). x.block ≤ w.births) rs → range_of k rs ≡ Some r → k ≤ w.births
@@ -129,18 +136,23 @@ counted_within l w item k o sound e =
         go rest false t q = rest q
 
 -- what one item's entry counts
-first_within : (l : Limits) (n : ℕ) (item : Item RegionClause) (step : Step) (w : Records) → AreRecordsSound l w → judge_task l n (Enter Structured item) w ≡ Ok step → (k : ℕ) → block_counted step ≡ Some k
-    → IsHeldWithin (act (Enter Structured item) step w) item.section k
+first_within : (l : Limits) (n : ℕ) (item : Item RegionClause) (step : Step) (w : Records) → AreRecordsSound l w → judge_step l n (Enter Structured item) w ≡ Ok step → (k : ℕ) → block_counted step ≡ Some k
+    → IsHeldWithin (act_step (Enter Structured item) step w) item.section k
 first_within l n item Nothing w sound e k c = cc
 first_within l n item (Counted b) w sound e k c =
     let says : IsJudgedTo l (Enter Structured item) (Counted b) w = task_says l n (Enter Structured item) w (Counted b) e in
-    let inside : (o : ℕ) × (where_is item.section w.ranges ≡ Inside b o) = counted_says l item n b w e in
+    let inside : (o : ℕ) × (where_is (section_of (Enter Structured item)) w.ranges ≡ Inside b o) = counted_says l item n b w e in
+    let whole : section_of (Enter Structured item) ≡ item.section = named_whole (is_attach item.clause) item.section w.ranges (Inside b inside.0) inside.1 (λ same. cc) in
     let same : b ≡ k = cc in
-    subst (IsHeldWithin (act (Enter Structured item) (Counted b) w) item.section) same (within_act l (Enter Structured item) (Counted b) w item.section b says (counted_within l w item b inside.0 sound inside.1))
+    subst (λ s. IsHeldWithin (act_step (Enter Structured item) (Counted b) w) s k) whole
+    (subst (IsHeldWithin (act_step (Enter Structured item) (Counted b) w) (section_of (Enter Structured item))) same
+    (within_step l (Enter Structured item) (Counted b) w (section_of (Enter Structured item)) b says (counted_within l w (section_of (Enter Structured item)) b inside.0 sound inside.1)))
 first_within l n item (Born b p) w sound e k c =
     let says : IsJudgedTo l (Enter Structured item) (Born b p) w = task_says l n (Enter Structured item) w (Born b p) e in
+    let whole : section_of (Enter Structured item) ≡ item.section = named_whole (is_attach item.clause) item.section w.ranges Absent says.absent (λ same. cc) in
     let same : b ≡ k = cc in
-    subst (IsHeldWithin (act (Enter Structured item) (Born b p) w) item.section) same (born_within l item b p w sound says.number)
+    subst (λ s. IsHeldWithin (act_step (Enter Structured item) (Born b p) w) s k) whole
+    (subst (IsHeldWithin (act_step (Enter Structured item) (Born b p) w) (section_of (Enter Structured item))) same (born_within l item b p w sound says.number))
 first_within l n item (Dropped b ended) w sound e k c = cc
 first_within l n item (Moved b) w sound e k c = cc
 
@@ -152,8 +164,8 @@ entered_within l n [] [] w bounds sound judged = tt
 entered_within l n [] (d ∷ ds) w bounds sound judged = absurd judged
 entered_within l n (i ∷ is) [] w bounds sound judged = absurd judged
 entered_within l n (i ∷ is) (d ∷ ds) w bounds sound judged =
-    let v : Records = act (Enter Structured i) d.step w in
-    let later : AreRecordsSound l v = acted_sound l (Enter Structured i) d.step w bounds (task_says l n (Enter Structured i) w d.step judged.0) sound in (
-      (λ k e. within_all l (suc n) (map enter_task is) ds v i.section k judged.1 (first_within l n i d.step w sound judged.0 k e)),
-      entered_within l (suc n) is ds v bounds later judged.1,
+    let v : Records = act (Enter Structured i) d w in
+    let later : AreRecordsSound l v = (task_left l (Enter Structured i) d w bounds sound (task_says l n (Enter Structured i) w d.step judged.0) judged.1).sound in (
+      (λ k e. within_all l (suc n) (map enter_task is) ds v i.section k judged.2 (held_act (Enter Structured i) d w i.section k (first_within l n i d.step w sound judged.0 k e))),
+      entered_within l (suc n) is ds v bounds later judged.2,
     )

@@ -13,7 +13,7 @@ use Rattle.acc_base.specs.declared.faults.Fault.{Fault}
 use Rattle.acc_base.specs.Limits.{Limits}
 use Rattle.acc_base.specs.Records.{Layout}
 use Rattle.acc_base.specs.Register.{Register, holdings_at}
-use Rattle.acc_base.specs.Walk.{enter_task, leave_tasks, asked_in, done_in, holdings_of, register_after, block_counted}
+use Rattle.acc_base.specs.Walk.{enter_task, leave_tasks, asked_in, done_in, holdings_of, register_after, block_counted, pointer_attached}
 use Rattle.acc_base.specs.Judge.{tasks_of, tasks_of_region, event_of}
 use Rattle.acc_base.specs.History.{NamesRight, IsLegal}
 use Rattle.acc_clauses.specs.Planned.{Planned, head_of, IsPlannedOn, holdings_by, register_by, register_planned}
@@ -63,7 +63,7 @@ planned_legal l d lay p planned = record {
 held_asked : (items : List (Item RegionClause)) (dids : List Did) → holdings_of items dids ≡ holdings_by (map enter_task items) dids
 held_asked [] dids = refl
 held_asked (item ∷ items) [] = refl
-held_asked (item ∷ items) (did ∷ dids) = ap (λ hs. record { item = item; block = block_counted did.step } ∷ hs) (held_asked items dids)
+held_asked (item ∷ items) (did ∷ dids) = ap (λ hs. record { item = item; block = block_counted did.step; aim = pointer_attached did.aim } ∷ hs) (held_asked items dids)
 
 register_asked : (d : Directive) (g : Register) (ts : List Task) (dids : List Did) → tasks_of d g ≡ Ok ts → register_after (event_of d g dids) g ≡ register_by (head_of d) (holdings_by ts dids) g
 register_asked (Enter items) g ts dids e =

@@ -10,7 +10,7 @@ use Rattle.acc_base.specs.Register.{Register}
 use Rattle.acc_base.specs.Ranges.{structured_of, dynamic_of}
 use Rattle.acc_base.specs.Blocks.{used_bytes}
 use Rattle.acc_base.specs.Walk.{asked_in, done_in, register_after, walk}
-use Rattle.acc_base.specs.Bytes.{act_all_state, host_after, after}
+use Rattle.acc_base.specs.Acting.{act_all_state, host_after, after}
 use Rattle.acc_base.specs.Judge.{event_of}
 use Rattle.acc_base.specs.History.{IsLegal}
 use Rattle.acc_base.specs.Accounts.{IsLayoutSound, IsSound}

@@ -18,18 +18,19 @@ use Rattle.acc_base.specs.Section.{is_within}
 use Rattle.acc_base.specs.Records.{Records}
 use Rattle.acc_base.specs.Ranges.{range_of, structured_of, changed_at, with_range, without_range, bare_range}
 use Rattle.acc_base.specs.Register.{is_counted_block, count_held}
-use Rattle.acc_base.specs.Tasks.{section_of, recounted, act, records_after_birth, records_after_end, with_range_changed}
+use Rattle.acc_base.specs.Tasks.{section_of, recounted, act_step, act, records_after_birth, records_after_end, with_range_changed}
 use Rattle.acc_base.specs.History.{AreJudged}
 use Rattle.acc_base.specs.Accounts.{AreRecordsSound}
 use Rattle.acc_base.proofs.Results.{equal}
 use Rattle.acc_base.proofs.Elements.{AllByRecursion-weaker}
 use Rattle.acc_base.proofs.Lookups.{at-changed, at-without_same, at-without_other}
 use Rattle.acc_base.proofs.Judged.{IsJudgedTo, task_says}
-use Rattle.acc_base.proofs.Sound.{acted_sound}
-use Rattle.acc_base.proofs.Recounted.{names, counter-act}
+use Rattle.acc_base.proofs.Recounted.{names}
+use Rattle.acc_base.proofs.Aimed.{IsLeft, task_left}
 use Rattle.acc_base.proofs.Memories.{recounted-block, recounted-section}
 use Rattle.acc_clauses.specs.Acts.{IsKnown, AreKnown}
 use Rattle.acc_clauses.specs.Stored.{IsHeldWithin, IsHoldingWithin}
+use Rattle.acc_base.proofs.SameMapping.{mapping-act}
 
 -- ---- the range of a block after a step
 
@@ -80,18 +81,29 @@ born_number l (Move if_present item) k p w says = absurd says
 above_differs : (k b n : ℕ) → k ≡ n + 1 → b ≤ n → (k == b) ≡ false
 above_differs k b n e h = grind (arith, nat_tests)
 
--- what is held stays within
-pub within_act : (l : Limits) (task : Task) (step : Step) (w : Records) (s : Section) (b : ℕ) → IsJudgedTo l task step w → IsHeldWithin w s b → IsHeldWithin (act task step w) s b
-unfolding act records_after_birth records_after_end with_range_changed
-within_act l task Nothing w s b says h = h
-within_act l task (Counted k) w s b says h = record { born = h.born; within = within_changed task k b w.ranges s h.within }
-within_act l task (Born k p) w s b says h =
+-- what is held stays within after a step
+pub within_step : (l : Limits) (task : Task) (step : Step) (w : Records) (s : Section) (b : ℕ) → IsJudgedTo l task step w → IsHeldWithin w s b → IsHeldWithin (act_step task step w) s b
+unfolding act_step records_after_birth records_after_end with_range_changed
+within_step l task Nothing w s b says h = h
+within_step l task (Counted k) w s b says h = record { born = h.born; within = within_changed task k b w.ranges s h.within }
+within_step l task (Born k p) w s b says h =
     let new : Range = recounted task (bare_range (section_of task) k) in
     let other : (new.block == b) ≡ false = rw (recounted-block task (bare_range (section_of task) k)) (above_differs k b w.births (born_number l task k p w says) h.born) in
     record { born = omega (arith, h.born); within = λ r e. h.within r (sym (range-with_other new b w.ranges other) ∙ e) }
-within_act l task (Dropped k true) w s b says h = record { born = h.born; within = within_without k b w.ranges s h.within }
-within_act l task (Dropped k false) w s b says h = record { born = h.born; within = within_changed task k b w.ranges s h.within }
-within_act l task (Moved k) w s b says h = h
+within_step l task (Dropped k true) w s b says h = record { born = h.born; within = within_without k b w.ranges s h.within }
+within_step l task (Dropped k false) w s b says h = record { born = h.born; within = within_changed task k b w.ranges s h.within }
+within_step l task (Moved k) w s b says h = h
+
+-- the pointer of a task changes nothing of what is held
+pub held_act : (task : Task) (did : Did) (w : Records) (s : Section) (b : ℕ) → IsHeldWithin (act_step task did.step w) s b → IsHeldWithin (act task did w) s b
+held_act task did w s b h = record {
+  born = subst (λ n. b ≤ n) (sym (mapping-act task did w).births) h.born;
+  within = λ r e. h.within r (ap (range_of b) (sym (mapping-act task did w).ranges) ∙ e);
+}
+
+-- so it stays within after a task
+pub within_act : (l : Limits) (task : Task) (did : Did) (w : Records) (s : Section) (b : ℕ) → IsJudgedTo l task did.step w → IsHeldWithin w s b → IsHeldWithin (act task did w) s b
+within_act l task did w s b says h = held_act task did w s b (within_step l task did.step w s b says h)
 
 -- ---- exit from a region
 
@@ -130,13 +142,16 @@ pub leaves_known : (l : Limits) (n : ℕ) (hs : List Holding) (dids : List Did) 
 leaves_known l n [] [] w bounds sound judged within covers = tt
 leaves_known l n [] (d ∷ ds) w bounds sound judged within covers = tt
 leaves_known l n (h ∷ hs) [] w bounds sound judged within covers = tt
-leaves_known l n (h ∷ hs) (d ∷ ds) w bounds sound judged within covers = (known, leaves_known l (suc n) hs ds v bounds (acted_sound l (Leave h) d.step w bounds says sound) judged.1 later covered)
+leaves_known l n (h ∷ hs) (d ∷ ds) w bounds sound judged within covers = (known, leaves_known l (suc n) hs ds v bounds left.sound judged.2 later covered)
   where
     v : Records
-    v = act (Leave h) d.step w
+    v = act (Leave h) d w
 
     says : IsJudgedTo l (Leave h) d.step w
     says = task_says l n (Leave h) w d.step judged.0
+
+    left : IsLeft l (Leave h) d w v
+    left = task_left l (Leave h) d w bounds sound says judged.1
 
     known : IsKnown w (Leave h)
     known k e =
@@ -146,11 +161,11 @@ leaves_known l n (h ∷ hs) (d ∷ ds) w bounds sound judged within covers = (kn
         record { range = mapped.0; range_is = mapped.1; within = (within.0 k e).within mapped.0 mapped.1 }
 
     later : AllByRecursion (IsHoldingWithin v) hs
-    later = AllByRecursion-weaker (IsHoldingWithin w) (IsHoldingWithin v) hs (λ x p k e. within_act l (Leave h) d.step w x.item.section k says (p k e)) within.1
+    later = AllByRecursion-weaker (IsHoldingWithin w) (IsHoldingWithin v) hs (λ x p k e. within_act l (Leave h) d w x.item.section k says (p k e)) within.1
 
     covered : (b : ℕ) → count_held b hs ≤ structured_of b v.ranges
     covered b =
-        let after : structured_of b v.ranges ≡ cond (names b d.step) (structured_of b w.ranges - 1) (structured_of b w.ranges) = counter-act l (Leave h) d.step w Structured b sound says in
+        let after : structured_of b v.ranges ≡ cond (names b d.step) (structured_of b w.ranges - 1) (structured_of b w.ranges) = left.counter_is Structured b in
         let named : structured_of b v.ranges ≡ cond (is_counted_block b h.block) (structured_of b w.ranges - 1) (structured_of b w.ranges) =
         after ∙ ap (λ t. cond t (structured_of b w.ranges - 1) (structured_of b w.ranges)) (leave_names l b h d.step w says) in
         let one : count_held b (h ∷ hs) ≡ cond (is_counted_block b h.block) 1 0 + count_held b hs = held-cons b h hs in

@@ -1,13 +1,12 @@
 -- What look-ups before the tasks of a plan say of the records after them.
 use Rattle.std.proofs.Common.{ℕ, ◌≡◌, ◌+◌, ◌<◌, ◌≤◌, refl, sym, ap, ◌∙◌, Bool, true, false, ◌&&◌, List, [], ◌∷◌, ◌++◌, length, suc, Option, Some, None, Ok, arith, ⊎_elim, inl, inr}
 use Rattle.std.specs.Prelude.{◌==◌, not, nat_le, unwrap_or, option_map, All, IfSome}
-use Rattle.std.specs.List.{list_any, AllByRecursion}
+use Rattle.std.specs.List.{list_all, list_any, AllByRecursion}
+use Rattle.std.proofs.lemmas.List.Folds.{list_all-append, list_any-append}
 use Rattle.std.proofs.lemmas.List.Elements.{All-from_recursion}
 use Rattle.std.proofs.lemmas.Bool.Decides.{nat_tests}
 use Rattle.acc_base.specs.declared.addresses.TheConstants.{MEMORY_MAX}
 use Rattle.acc_base.specs.declared.items.Section.{Section}
-use Rattle.acc_base.specs.declared.items.Item.{Item}
-use Rattle.acc_base.specs.declared.items.RegionClause.{RegionClause}
 use Rattle.acc_base.specs.declared.mappings.Range.{Range}
 use Rattle.acc_base.specs.declared.mappings.Counter.{Counter}
 use Rattle.acc_base.specs.declared.mappings.Counter.TheVariants.{Structured, Dynamic}
@@ -35,48 +34,48 @@ use Rattle.acc_base.proofs.Judged.{IsJudgedTo, IsBirth, task_says, in_host_says}
 use Rattle.acc_placement.specs.Ranges.{IsTakeBelow}
 use Rattle.acc_dev.specs.Device.{planned_blocks}
 use Rattle.acc_clauses.specs.declared.acted.Acted.{Acted}
-use Rattle.acc_clauses.specs.Overlays.{IsPlanned, AreUnmixed, tasks_in, dids_in, records_after, may_bear, may_end, birth_by, births_of, end_by, ended_of, found_by, found_over, counters_in, counters_at, recount, are_zero, counters_over}
+use Rattle.acc_clauses.specs.Overlays.{IsPlanned, AreUnmixed, tasks_in, dids_in, records_after, enters, birth_by, births_of, end_by, ended_of, found_by, found_over, counters_in, counters_at, recount, are_zero, counters_over}
 use Rattle.acc_clauses.proofs.Founds.{apart_none}
 use Rattle.acc_clauses.proofs.Overlaid.{or_false, birth_entry, bears_none, drops_none, sound-after, counters-after, found-entered, found-left, blocks-after, births-after}
 
 -- ---- where a section lies
 
-end_none : (l : Limits) (task : Task) (step : Step) (w : Records) → IsJudgedTo l task step w → may_end task ≡ false → end_by step ≡ []
+end_none : (l : Limits) (task : Task) (step : Step) (w : Records) → IsJudgedTo l task step w → enters task ≡ true → end_by step ≡ []
 end_none l task Nothing w says none = refl
 end_none l task (Counted k) w says none = refl
 end_none l task (Born k p) w says none = refl
 end_none l task (Dropped k ended) w says none = absurd (drops_none l task k ended w says none)
 end_none l task (Moved k) w says none = refl
 
-ended_none : (l : Limits) (n : ℕ) (xs : List Acted) (w : Records) → AreJudged l n (tasks_in xs) (dids_in xs) w → list_any may_end (tasks_in xs) ≡ false → ended_of xs ≡ []
-ended_none l n [] w judged none = refl
-ended_none l n (x ∷ xs) w judged none =
-    let says = task_says l n x.task w x.step judged.0 in
-    let parts : (may_end x.task ≡ false) × (list_any may_end (tasks_in xs) ≡ false) = or_false _ _ none in
-    let first : end_by x.step ≡ [] = end_none l x.task x.step w says parts.0 in
-    let rest : ended_of xs ≡ [] = ended_none l (suc n) xs (act x.task x.step w) judged.1 parts.1 in
+ended_none : (l : Limits) (n : ℕ) (xs : List Acted) (w : Records) → AreJudged l n (tasks_in xs) (dids_in xs) w → list_all enters (tasks_in xs) ≡ true → ended_of xs ≡ []
+ended_none l n [] w judged all = refl
+ended_none l n (x ∷ xs) w judged all =
+    let says = task_says l n x.task w x.did.step judged.0 in
+    let parts : (enters x.task ≡ true) × (list_all enters (tasks_in xs) ≡ true) = and_true _ _ all in
+    let first : end_by x.did.step ≡ [] = end_none l x.task x.did.step w says parts.0 in
+    let rest : ended_of xs ≡ [] = ended_none l (suc n) xs (act x.task x.did w) judged.2 parts.1 in
     rw (first, rest) refl
 
-found_stays : (l : Limits) (task : Task) (step : Step) (w : Records) (s : Section) (f : Found) → IsJudgedTo l task step w → may_bear task ≡ false → found_by s f task step ≡ f
+found_stays : (l : Limits) (task : Task) (step : Step) (w : Records) (s : Section) (f : Found) → IsJudgedTo l task step w → enters task ≡ false → found_by s f task step ≡ f
 found_stays l task Nothing w s f says none = refl
 found_stays l task (Counted k) w s f says none = refl
 found_stays l task (Born k p) w s f says none = absurd (bears_none l task k p w says none)
 found_stays l task (Dropped k ended) w s f says none = refl
 found_stays l task (Moved k) w s f says none = refl
 
-found_same : (l : Limits) (n : ℕ) (xs : List Acted) (w : Records) (s : Section) (f : Found) → AreJudged l n (tasks_in xs) (dids_in xs) w → list_any may_bear (tasks_in xs) ≡ false → found_over s f xs ≡ f
+found_same : (l : Limits) (n : ℕ) (xs : List Acted) (w : Records) (s : Section) (f : Found) → AreJudged l n (tasks_in xs) (dids_in xs) w → list_any enters (tasks_in xs) ≡ false → found_over s f xs ≡ f
 found_same l n [] w s f judged none = refl
 found_same l n (x ∷ xs) w s f judged none =
-    let says = task_says l n x.task w x.step judged.0 in
-    let parts : (may_bear x.task ≡ false) × (list_any may_bear (tasks_in xs) ≡ false) = or_false _ _ none in
-    ap (λ g. found_over s g xs) (found_stays l x.task x.step w s f says parts.0) ∙ found_same l (suc n) xs (act x.task x.step w) s f judged.1 parts.1
+    let says = task_says l n x.task w x.did.step judged.0 in
+    let parts : (enters x.task ≡ false) × (list_any enters (tasks_in xs) ≡ false) = or_false _ _ none in
+    ap (λ g. found_over s g xs) (found_stays l x.task x.did.step w s f says parts.0) ∙ found_same l (suc n) xs (act x.task x.did w) s f judged.2 parts.1
 
 pub found-planned : (l : Limits) (xs : List Acted) (w : Records) (s : Section) → IsPlanned l xs w → AreUnmixed (tasks_in xs)
     → found_over s (where_is_apart s (ended_of xs) w.ranges) xs ≡ where_is s (records_after xs w).ranges
 found-planned l xs w s p unmixed = ⊎_elim
-    (λ none. ap (λ es. found_over s (where_is_apart s es w.ranges) xs) (ended_none l 0 xs w p.judged none)
+    (λ all. ap (λ es. found_over s (where_is_apart s es w.ranges) xs) (ended_none l 0 xs w p.judged all)
     ∙ ap (λ f. found_over s f xs) (apart_none s w.ranges)
-    ∙ found-entered l 0 xs w s p.judged none)
+    ∙ found-entered l 0 xs w s p.judged all)
     (λ none. found_same l 0 xs w s (where_is_apart s (ended_of xs) w.ranges) p.judged none ∙ found-left l 0 xs w s p.judged none)
     unmixed
 
@@ -174,44 +173,30 @@ take_by l task (Moved k) w bounds says = tt
 takes : (l : Limits) (n : ℕ) (xs : List Acted) (w : Records) → IsWithinBounds l → AreJudged l n (tasks_in xs) (dids_in xs) w → AllByRecursion (IsTakeBelow (device_base + l.device)) (births_of xs)
 takes l n [] w bounds judged = tt
 takes l n (x ∷ xs) w bounds judged =
-    AllByRecursion-append (IsTakeBelow (device_base + l.device)) (birth_by x.task x.step) (births_of xs)
-    (take_by l x.task x.step w bounds (task_says l n x.task w x.step judged.0))
-    (takes l (suc n) xs (act x.task x.step w) bounds judged.1)
+    AllByRecursion-append (IsTakeBelow (device_base + l.device)) (birth_by x.task x.did.step) (births_of xs)
+    (take_by l x.task x.did.step w bounds (task_says l n x.task w x.did.step judged.0))
+    (takes l (suc n) xs (act x.task x.did w) bounds judged.2)
 
 -- each block that the tasks bear ends on the device
 pub takes-planned : (l : Limits) (xs : List Acted) (w : Records) → IsPlanned l xs w → All (IsTakeBelow (device_base + l.device)) (births_of xs)
 takes-planned l xs w p = All-from_recursion (IsTakeBelow (device_base + l.device)) (births_of xs) (takes l 0 xs w p.bounds p.judged)
 
-pub place-planned : (l : Limits) (xs : List Acted) (w : Records) (size : ℕ) → IsPlanned l xs w → list_any may_end (tasks_in xs) ≡ false
+pub place-planned : (l : Limits) (xs : List Acted) (w : Records) (size : ℕ) → IsPlanned l xs w → list_all enters (tasks_in xs) ≡ true
     → place_for l.device (w.blocks ++ planned_blocks (w.births + 1) (births_of xs)) size ≡ place_for l.device (records_after xs w).blocks size
 place-planned l xs w size p none = ap (λ bs. place_for l.device bs size) (sym (blocks-after l 0 xs w p.judged none))
 
-pub births-planned : (l : Limits) (xs : List Acted) (w : Records) → IsPlanned l xs w → list_any may_end (tasks_in xs) ≡ false → (records_after xs w).births ≡ w.births + length (births_of xs)
+pub births-planned : (l : Limits) (xs : List Acted) (w : Records) → IsPlanned l xs w → list_all enters (tasks_in xs) ≡ true → (records_after xs w).births ≡ w.births + length (births_of xs)
 births-planned l xs w p none = births-after l 0 xs w p.judged none
 
 pub ruleset plan_laws = (found-planned, counters-planned, ends-planned, takes-planned, place-planned, births-planned)
 
 -- ---- kinds of tasks
 
-any_front : (p : Task → Bool) (ts us : List Task) → list_any p (ts ++ us) ≡ false → list_any p ts ≡ false
-any_front p [] us e = refl
-any_front p (t ∷ ts) us e =
-    let parts : (p t ≡ false) × (list_any p (ts ++ us) ≡ false) = or_false _ _ e in
-    rw (parts.0, any_front p ts us parts.1) refl
-
-any_last : (p : Task → Bool) (ts : List Task) (u : Task) → list_any p (ts ++ u ∷ []) ≡ false → p u ≡ false
-any_last p [] u e = (or_false (p u) false e).0
-any_last p (t ∷ ts) u e = any_last p ts u (or_false (p t) (list_any p (ts ++ u ∷ [])) e).1
-
 -- the first tasks of some that are unmixed
 pub unmixed_front : (ts us : List Task) → AreUnmixed (ts ++ us) → AreUnmixed ts
-unmixed_front ts us unmixed = ⊎_elim (λ e. inl (any_front may_end ts us e)) (λ e. inr (any_front may_bear ts us e)) unmixed
-
--- no task before one of an entry may end a mapping
-pub unmixed_entry : (ts : List Task) (u : Task) (counter : Counter) (item : Item RegionClause) → u ≡ Enter counter item → AreUnmixed (ts ++ u ∷ []) → list_any may_end ts ≡ false
-unmixed_entry ts u counter item is unmixed = ⊎_elim
-    (λ e. any_front may_end ts (u ∷ []) e)
-    (λ e. let last : may_bear u ≡ false = any_last may_bear ts u e in let entry : may_bear u ≡ true = ap may_bear is in absurd cc)
+unmixed_front ts us unmixed = ⊎_elim
+    (λ e. inl (and_true (list_all enters ts) (list_all enters us) (sym (list_all-append enters ts us) ∙ e)).0)
+    (λ e. inr (or_false (list_any enters ts) (list_any enters us) (sym (list_any-append enters ts us) ∙ e)).0)
     unmixed
 
 pub ruleset kind_laws = (unmixed_front)

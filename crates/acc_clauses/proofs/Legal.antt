@@ -1,4 +1,4 @@
--- A step that a task is judged to do can be done, and leaves the parts sound.
+-- A step that a task is judged to do can be done.
 use Rattle.std.proofs.Common.{ℕ, ◌≡◌, ◌+◌, ◌<◌, ◌≤◌, ◌^◌, refl, sym, ◌∙◌, subst, true, false, List, [], ◌∷◌, Option, Some, None, arith}
 use Rattle.std.specs.Prelude.{◌==◌, IsSome}
 use Rattle.std.specs.List.{AllByRecursion, AllZip}
@@ -17,18 +17,15 @@ use Rattle.acc_base.specs.Section.{end_of, is_within, is_empty, host_memory}
 use Rattle.acc_base.specs.Records.{Records, Memory, State}
 use Rattle.acc_base.specs.Ranges.{where_is, range_of}
 use Rattle.acc_base.specs.Blocks.{block_at}
-use Rattle.acc_base.specs.Bytes.{act_state}
+use Rattle.acc_base.specs.Tasks.{section_of}
 use Rattle.acc_base.specs.Accounts.{IsInHost, IsMapped, IsCounted, HasOneBlockEach, IsMemoryOf, AreRecordsSound, AreMemoriesSized}
 use Rattle.acc_base.proofs.Results.{equal}
 use Rattle.acc_base.proofs.Elements.{AllByRecursion-weaker, AllByRecursion-both, found_has}
 use Rattle.acc_base.proofs.Lookups.{at-own}
 use Rattle.acc_base.proofs.Where.{IsInsideOf, inside_says, absent_says}
-use Rattle.acc_base.proofs.Judged.{IsBirth, IsInRangeOf, IsJudgedTo, task_says}
-use Rattle.acc_base.proofs.Sound.{ranges_born, acted_sound}
-use Rattle.acc_base.proofs.Memories.{act_sized}
-use Rattle.acc_clauses.specs.declared.environments.Environment.{Environment}
-use Rattle.acc_clauses.specs.Contents.{state_of, ArePartsSound}
-use Rattle.acc_clauses.specs.Acts.{IsJudged, IsMappedAround, IsKnown, CanMove, CanBear, CanAct, IsActedBy}
+use Rattle.acc_base.proofs.Judged.{IsBirth, IsInRangeOf, IsJudgedTo}
+use Rattle.acc_base.proofs.Sound.{ranges_born}
+use Rattle.acc_clauses.specs.Acts.{IsMappedAround, IsKnown, CanMove, CanBear, CanAct}
 use Rattle.acc_clauses.proofs.Moving.{bytes_of-len, some_of}
 use Rattle.acc_clauses.proofs.Runs.{within_both}
 use Rattle.acc_clauses.proofs.Steps.{is_some}
@@ -149,11 +146,11 @@ can_bear l s section k place bounds h m few says =
 can_range : (l : Limits) (s : State) (section : Section) (k : ℕ) → IsWithinBounds l → AreRecordsSound l s.records → AreMemoriesSized l s → IsInRangeOf l section k s.records → CanMove section k s
 can_range l s section k bounds h m says = can_move l s section k bounds h m (mapped_around l s.records section k says.offset h says.inside)
 
-can_by : (l : Limits) (s : State) (task : Task) (step : Step) → IsWithinBounds l → AreRecordsSound l s.records → AreMemoriesSized l s → s.records.births < 2 ^ 48 → IsKnown s.records task → IsJudgedTo l task step s.records
+pub can_by : (l : Limits) (s : State) (task : Task) (step : Step) → IsWithinBounds l → AreRecordsSound l s.records → AreMemoriesSized l s → s.records.births < 2 ^ 48 → IsKnown s.records task → IsJudgedTo l task step s.records
     → CanAct l.counter_max l.device task step s
 can_by l s task Nothing bounds h m few known says = tt
 can_by l s (Enter counter item) (Counted k) bounds h m few known says = record { there = not_none (range_of k s.records.ranges) says.mapped; below = says.room }
-can_by l s (Enter counter item) (Born k p) bounds h m few known says = (tt, can_bear l s item.section k p bounds h m few says)
+can_by l s (Enter counter item) (Born k p) bounds h m few known says = (tt, can_bear l s (section_of (Enter counter item)) k p bounds h m few says)
 can_by l s (Enter counter item) (Dropped k ended) bounds h m few known says = absurd says
 can_by l s (Enter counter item) (Moved k) bounds h m few known says = absurd says
 can_by l s (Leave holding) (Counted k) bounds h m few known says = absurd says
@@ -162,34 +159,9 @@ can_by l s (Leave holding) (Dropped k ended) bounds h m few known says = record 
 can_by l s (Leave holding) (Moved k) bounds h m few known says = absurd says
 can_by l s (Exit finalize item) (Counted k) bounds h m few known says = absurd says
 can_by l s (Exit finalize item) (Born k p) bounds h m few known says = absurd says
-can_by l s (Exit finalize item) (Dropped k ended) bounds h m few known says = record { move = can_range l s item.section k bounds h m says.range; not_entry = λ x. x; ends = sym says.ended_is }
+can_by l s (Exit finalize item) (Dropped k ended) bounds h m few known says = record { move = can_range l s (section_of (Exit finalize item)) k bounds h m says.range; not_entry = λ x. x; ends = sym says.ended_is }
 can_by l s (Exit finalize item) (Moved k) bounds h m few known says = absurd says
 can_by l s (Move if_present item) (Counted k) bounds h m few known says = absurd says
 can_by l s (Move if_present item) (Born k p) bounds h m few known says = absurd says
 can_by l s (Move if_present item) (Dropped k ended) bounds h m few known says = absurd says
 can_by l s (Move if_present item) (Moved k) bounds h m few known says = can_range l s item.section k bounds h m says
-
-pub can_act : (l : Limits) (x : Environment) (next : ℕ) (task : Task) (step : Step) → IsWithinBounds l → ArePartsSound l x next → x.device.births < 2 ^ 48
-    → IsKnown (state_of x next).records task → IsJudged l task step (state_of x next).records → CanAct x.present.table.counter_max x.device.size task step (state_of x 0)
-can_act l x next task step bounds sound few known judged =
-    let at : CanAct l.counter_max l.device task step (state_of x 0) = can_by l (state_of x 0) task step bounds sound.sound.records (record { host = sound.sound.memories.host; blocks = sound.sound.memories.blocks }) few known (task_says l judged.item task (state_of x next).records step judged.judged) in
-    subst (λ n. CanAct x.present.table.counter_max n task step (state_of x 0)) (sym sound.sized.device) (subst (λ n. CanAct n l.device task step (state_of x 0)) (sym sound.sized.counters) at)
-
--- ---- what a step leaves
-
--- the records and the memories are sound after a step that the task is judged to do
-pub acts_sound : (l : Limits) (s : State) (task : Task) (step : Step) → IsWithinBounds l → AreRecordsSound l s.records → AreMemoriesSized l s → IsJudged l task step s.records
-    → AreRecordsSound l (act_state task step s).records × AreMemoriesSized l (act_state task step s)
-unfolding act_state
-acts_sound l s task step bounds h m judged = (acted_sound l task step s.records bounds (task_says l judged.item task s.records step judged.judged) h, act_sized l task step s m)
-
-pub parts_sound : (l : Limits) (x y : Environment) (next : ℕ) (task : Task) (step : Step) → IsWithinBounds l → ArePartsSound l x next → IsJudged l task step (state_of x next).records → IsActedBy task step x y → ArePartsSound l y next
-parts_sound l x y next task step bounds sound judged acted =
-    let after : AreRecordsSound l (act_state task step (state_of x next)).records × AreMemoriesSized l (act_state task step (state_of x next)) =
-    acts_sound l (state_of x next) task step bounds sound.sound.records sound.sound.memories judged in
-    let there : AreRecordsSound l (state_of y next).records × AreMemoriesSized l (state_of y next) =
-    subst (λ (s : State). AreRecordsSound l s.records × AreMemoriesSized l s) (sym (acted.state next)) after in
-    record {
-      sized = record { counters = acted.counter_max ∙ sound.sized.counters; device = acted.size ∙ sound.sized.device; pointers = acted.pointer_max ∙ sound.sized.pointers };
-      sound = record { records = there.0; memories = there.1 };
-    }

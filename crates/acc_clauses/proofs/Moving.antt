@@ -1,19 +1,19 @@
 -- What a copy between host memory and a block of a device leaves.
 use Rattle.std.proofs.Common.{ℕ, ◌≡◌, ◌+◌, ◌-◌, ◌<◌, refl, sym, ◌∙◌, ap, subst, Bool, true, false, cond, List, [], ◌∷◌, length, map, Option, Some, None, arith}
-use Rattle.std.specs.Prelude.{◌==◌, find, IsSome, unwrap_or, option_map, take, drop, slice_range}
+use Rattle.std.specs.Prelude.{◌==◌, find, IsSome, slice_index, unwrap_or, option_map, take, drop, slice_range}
 use Rattle.std.specs.List.{AllByRecursion, AllZip}
 use Rattle.acc_base.specs.declared.items.Section.{Section}
 use Rattle.acc_base.specs.declared.mappings.Block.{Block}
 use Rattle.acc_base.specs.Section.{covers, is_within, host_memory}
 use Rattle.acc_base.specs.Records.{Memory}
 use Rattle.acc_base.specs.Blocks.{block_at}
-use Rattle.acc_base.specs.Bytes.{bytes_of, memory_changed, bytes_moved_in, bytes_moved_out}
+use Rattle.acc_base.specs.Bytes.{bytes_of, written_bytes, memory_changed, bytes_moved_in, bytes_moved_out}
 use Rattle.acc_base.specs.Accounts.{EachPair, IsClearOf, IsMemoryOf}
 use Rattle.acc_base.proofs.Elements.{AllByRecursion-weaker, EachPair-weaker}
 use Rattle.acc_base.proofs.Lookups.{at-own}
 use Rattle.acc_host.specs.Host.{bytes_in, with_bytes}
 use Rattle.acc_dev.specs.Device.{DeviceState, IsWritten, HasBlocksApart, overwritten}
-use Rattle.acc_clauses.proofs.Copying.{part, part-length, IsPartAt, part_at, moved_in, moved_out, changed-same}
+use Rattle.acc_clauses.proofs.Copying.{from_all, written-overwritten, part, part-length, IsPartAt, part_at, moved_in, moved_out, changed-same}
 
 -- ---- to host memory
 
@@ -91,3 +91,17 @@ copied_in s start host bytes d new block apart sized there in_host within bytes_
     device_written d new block (s.start - start) bytes _ h (rw bytes_are (changed-same block (overwritten (s.start - start) (bytes_in host s)) (bytes_moved_in (covers s) host start) d.memories
     (AllByRecursion-weaker (λ y. y.block ≡ block → length y.bytes ≡ length (bytes_of block d.memories)) (λ y. y.block ≡ block → overwritten (s.start - start) (bytes_in host s) y.bytes ≡ bytes_moved_in (covers s) host start y.bytes) d.memories
     (λ y len e. sym (moved_in s host start y.bytes in_host (rw (len e) within))) (lens_by d block apart sized there))))
+
+-- ---- a pointer in a block
+
+-- bytes that are written over a section of a block
+pub put_in : (s : Section) (start : ℕ) (bytes : List ℕ) (d new : DeviceState) (block : ℕ) → HasBlocksApart d → AllZip IsMemoryOf d.memories d.blocks → IsSome (block_at block d.blocks)
+    → is_within s (record { start = start; len = length (bytes_of block d.memories) }) ≡ true → length bytes ≡ s.len → IsWritten d new block (s.start - start) bytes
+    → new ≡ record d { memories = map (memory_changed block (written_bytes (covers s) (λ a. slice_index bytes (a - s.start)) start)) d.memories }
+put_in s start bytes d new block apart sized there within len h =
+    let n : ℕ = length (bytes_of block d.memories) in
+    let to : IsPartAt s start n (s.start - start) = part_at s (record { start = start; len = n }) within in
+    device_written d new block (s.start - start) bytes _ h (changed-same block (overwritten (s.start - start) bytes) (written_bytes (covers s) (λ a. slice_index bytes (a - s.start)) start) d.memories
+    (AllByRecursion-weaker (λ y. y.block ≡ block → length y.bytes ≡ n) (λ y. y.block ≡ block → overwritten (s.start - start) bytes y.bytes ≡ written_bytes (covers s) (λ a. slice_index bytes (a - s.start)) start y.bytes) d.memories
+    (λ y long e. let same : length y.bytes ≡ n = long e in
+    sym (written-overwritten s (λ a. slice_index bytes (a - s.start)) (s.start - start) start y.bytes bytes to.at_is (omega (arith, to.fits, same)) len (from_all s.start bytes))) (lens_by d block apart sized there)))

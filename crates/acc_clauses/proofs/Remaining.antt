@@ -12,17 +12,19 @@ use Rattle.std.specs.List.{All, AllByRecursion}
 use Rattle.std.proofs.lemmas.List.Elements.{All-from_recursion}
 use Rattle.acc_base.proofs.Elements.{AllByRecursion-append}
 use Rattle.acc_base.proofs.Judged.{IsJudgedTo, task_says}
+use Rattle.acc_base.proofs.Walked.{records-act_state}
+use Rattle.acc_base.proofs.SameMapping.{mapping-act}
 use Rattle.acc_clauses.proofs.Legal.{birth_len}
 use Rattle.acc_base.specs.Records.{Records, State}
-use Rattle.acc_base.specs.Tasks.{act, records_after_birth, records_after_end, with_range_changed}
-use Rattle.acc_base.specs.Bytes.{act_state, act_all_state}
+use Rattle.acc_base.specs.Tasks.{section_of, act_step, act, records_after_birth, records_after_end, with_range_changed}
+use Rattle.acc_base.specs.Acting.{act_state, act_all_state}
 use Rattle.acc_base.specs.History.{AreJudged}
 use Rattle.acc_clauses.specs.declared.acted.Acted.{Acted}
 use Rattle.acc_base.specs.declared.regions.Holding.{Holding}
 use Rattle.acc_clauses.specs.Planned.{holdings_by}
 use Rattle.acc_clauses.specs.Overlays.{tasks_in, dids_in}
 use Rattle.acc_clauses.specs.Contents.{Contents}
-use Rattle.acc_clauses.specs.Acts.{IsJudged, AreKnown, HasRoomFor, IsRoomLeft, birth_of, lens_born}
+use Rattle.acc_clauses.specs.Acts.{IsJudged, AreKnown, HasRoomFor, IsRoomLeft, birth_of, lens_born, pointers_of, pointers_in}
 
 -- these tasks can be done, one after the other
 pub record CanRun (l : Limits) (tasks : List Task) (dids : List Did) (c : Contents) : Type 0 where
@@ -31,10 +33,14 @@ pub record CanRun (l : Limits) (tasks : List Task) (dids : List Did) (c : Conten
   pub judged : AreJudged l item tasks dids c.state.records
   pub known : AreKnown tasks dids c.state.records
   pub room : HasRoomFor (lens_born tasks dids) c.room
+  pub pointers : pointers_in dids ≤ c.room.attachments
 
 -- the first of them
-pub first_judged : (l : Limits) (task : Task) (tasks : List Task) (did : Did) (dids : List Did) (c : Contents) → CanRun l (task ∷ tasks) (did ∷ dids) c → IsJudged c.limits task did.step c.state.records
-first_judged l task tasks did dids c h = record { item = h.item; judged = rw h.limits h.judged.0 }
+pub first_judged : (l : Limits) (task : Task) (tasks : List Task) (did : Did) (dids : List Did) (c : Contents) → CanRun l (task ∷ tasks) (did ∷ dids) c → IsJudged c.limits task did c.state.records
+first_judged l task tasks did dids c h = record { item = h.item; step = rw h.limits h.judged.0; aim = rw h.limits h.judged.1 }
+
+pub first_pointers : (l : Limits) (task : Task) (tasks : List Task) (did : Did) (dids : List Did) (c : Contents) → CanRun l (task ∷ tasks) (did ∷ dids) c → pointers_of did.aim ≤ c.room.attachments
+first_pointers l task tasks did dids c h = omega (arith, h.pointers)
 
 pub first_room : (l : Limits) (task : Task) (tasks : List Task) (did : Did) (dids : List Did) (c : Contents) → CanRun l (task ∷ tasks) (did ∷ dids) c → HasRoomFor (birth_of task did.step) c.room
 first_room l task tasks did dids c h = record {
@@ -43,8 +49,8 @@ first_room l task tasks did dids c h = record {
   ranges = omega (arith, h.room.ranges, length-append (birth_of task did.step) (lens_born tasks dids));
 }
 
-births_step : (task : Task) (step : Step) (w : Records) → (act task step w).births ≤ w.births + 1
-unfolding act records_after_birth records_after_end with_range_changed
+births_step : (task : Task) (step : Step) (w : Records) → (act_step task step w).births ≤ w.births + 1
+unfolding act_step records_after_birth records_after_end with_range_changed
 births_step task Nothing w = omega arith
 births_step task (Counted k) w = omega arith
 births_step task (Born k p) w = omega arith
@@ -58,32 +64,31 @@ same_rest [] ys zs e = e
 same_rest (x ∷ xs) ys zs e = same_rest xs ys zs (cc)
 
 -- the others, after the first
-pub rest_can : (l : Limits) (task : Task) (tasks : List Task) (did : Did) (dids : List Did) (c e : Contents) → CanRun l (task ∷ tasks) (did ∷ dids) c → e.limits ≡ c.limits → e.state ≡ act_state task did.step c.state
-    → IsRoomLeft (birth_of task did.step) c.room e.room → CanRun l tasks dids e
-unfolding act_state
+pub rest_can : (l : Limits) (task : Task) (tasks : List Task) (did : Did) (dids : List Did) (c e : Contents) → CanRun l (task ∷ tasks) (did ∷ dids) c → e.limits ≡ c.limits → e.state ≡ act_state task did c.state
+    → IsRoomLeft (birth_of task did.step) (pointers_of did.aim) c.room e.room → CanRun l tasks dids e
 rest_can l task tasks did dids c e h limits state room =
-    let records : e.state.records ≡ act task did.step c.state.records = ap (λ (s : State). s.records) state in
+    let records : e.state.records ≡ act task did c.state.records = ap (λ (s : State). s.records) state ∙ records-act_state task did c.state in
     record {
       limits = limits ∙ h.limits;
       item = suc h.item;
-      judged = rw records h.judged.1;
+      judged = rw records h.judged.2;
       known = rw records h.known.1;
       room = record {
         rest = h.room.rest;
         births_are = same_rest (birth_of task did.step) e.room.births (lens_born tasks dids ++ h.room.rest) (sym room.births_are ∙ (h.room.births_are ∙ append_assoc (birth_of task did.step) (lens_born tasks dids) h.room.rest));
         ranges = omega (arith, h.room.ranges, room.ranges, length-append (birth_of task did.step) (lens_born tasks dids));
       };
+      pointers = omega (arith, h.pointers, room.attachments);
     }
 
 -- at most one block is born by a step
-pub births_next : (task : Task) (step : Step) (c e : Contents) → e.state ≡ act_state task step c.state → e.state.records.births ≤ c.state.records.births + 1
-unfolding act_state
-births_next task step c e state =
-    let records : e.state.records ≡ act task step c.state.records = ap (λ (s : State). s.records) state in
-    rw records (births_step task step c.state.records)
+pub births_next : (task : Task) (did : Did) (c e : Contents) → e.state ≡ act_state task did c.state → e.state.records.births ≤ c.state.records.births + 1
+births_next task did c e state =
+    let births : e.state.records.births ≡ (act_step task did.step c.state.records).births = ap (λ (s : State). s.records.births) state ∙ (ap (λ (w : Records). w.births) (records-act_state task did c.state) ∙ (mapping-act task did c.state.records).births) in
+    rw births (births_step task did.step c.state.records)
 
 -- what the tasks come to is what the first comes to, and then the others
-pub rest_state : (task : Task) (tasks : List Task) (did : Did) (dids : List Did) (s t u : State) → t ≡ act_state task did.step s → act_all_state (task ∷ tasks) (did ∷ dids) s ≡ u → act_all_state tasks dids t ≡ u
+pub rest_state : (task : Task) (tasks : List Task) (did : Did) (dids : List Did) (s t u : State) → t ≡ act_state task did s → act_all_state (task ∷ tasks) (did ∷ dids) s ≡ u → act_all_state tasks dids t ≡ u
 unfolding act_all_state
 rest_state task tasks did dids s t u e h = ap (act_all_state tasks dids) e ∙ h
 
@@ -106,7 +111,7 @@ holdings_done acts i holdings all h e = let none : drop i acts ≡ [] = drop_all
 birth_fits : (l : Limits) (task : Task) (step : Step) (w : Records) → IsWithinBounds l → IsJudgedTo l task step w → AllByRecursion (IsFromOne MEMORY_MAX) (birth_of task step)
 birth_fits l task Nothing w bounds says = tt
 birth_fits l task (Counted k) w bounds says = tt
-birth_fits l (Enter counter item) (Born k p) w bounds says = (birth_len l item.section k p w bounds says, tt)
+birth_fits l (Enter counter item) (Born k p) w bounds says = (birth_len l (section_of (Enter counter item)) k p w bounds says, tt)
 birth_fits l (Leave holding) (Born k p) w bounds says = absurd says
 birth_fits l (Exit finalize item) (Born k p) w bounds says = absurd says
 birth_fits l (Move if_present item) (Born k p) w bounds says = absurd says
@@ -118,7 +123,7 @@ lens_each l n [] [] w bounds judged = tt
 lens_each l n [] (d ∷ ds) w bounds judged = tt
 lens_each l n (t ∷ ts) [] w bounds judged = tt
 lens_each l n (t ∷ ts) (d ∷ ds) w bounds judged =
-    AllByRecursion-append (IsFromOne MEMORY_MAX) (birth_of t d.step) (lens_born ts ds) (birth_fits l t d.step w bounds (task_says l n t w d.step judged.0)) (lens_each l (suc n) ts ds (act t d.step w) bounds judged.1)
+    AllByRecursion-append (IsFromOne MEMORY_MAX) (birth_of t d.step) (lens_born ts ds) (birth_fits l t d.step w bounds (task_says l n t w d.step judged.0)) (lens_each l (suc n) ts ds (act t d w) bounds judged.2)
 
 -- and so is none of those that tasks are judged to bear
 pub lens_fit : (l : Limits) (n : ℕ) (tasks : List Task) (dids : List Did) (w : Records) → IsWithinBounds l → AreJudged l n tasks dids w → All (IsFromOne MEMORY_MAX) (lens_born tasks dids)

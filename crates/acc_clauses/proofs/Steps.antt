@@ -21,8 +21,8 @@ use Rattle.acc_base.specs.Records.{Memory, State}
 use Rattle.acc_base.specs.Ranges.{range_of, start_of, changed_at, with_range, without_range, bare_range, risen, counter_in, counter_of, is_unused, ends_by}
 use Rattle.acc_base.specs.Attachments.{without_attachments}
 use Rattle.acc_base.specs.Clauses.{copies_in, copies_out, is_copyout, is_zeroed}
-use Rattle.acc_base.specs.Tasks.{section_of, recounted, act, records_after_birth, records_after_end, with_range_changed}
-use Rattle.acc_base.specs.Bytes.{bytes_of, fill_byte, gives_bytes, goes_out, host_byte, is_moved, bytes_moved_in, bytes_moved_out, memory_changed, memories_kept, without_memory, memories_begun, memories_made, host_made, first_address, transfer_at, transfer_of, act_state}
+use Rattle.acc_base.specs.Tasks.{section_of, recounted, act_step, records_after_birth, records_after_end, with_range_changed}
+use Rattle.acc_base.specs.Bytes.{bytes_of, fill_byte, gives_bytes, goes_out, host_byte, is_moved, bytes_moved_in, bytes_moved_out, memory_changed, memories_kept, without_memory, memories_begun, memories_made, host_made, first_address, transfer_at, transfer_of, step_state}
 use Rattle.acc_base.specs.Accounts.{IsMemoryOf}
 use Rattle.acc_base.proofs.Results.{equal, equal_self, and_true}
 use Rattle.acc_base.proofs.Lookups.{at-none, at-changed}
@@ -94,29 +94,32 @@ without-changed k f (r ∷ rs) h = go (without-changed k f rs h) (r.block == k) 
 -- ---- memories
 
 -- the new block's memory, with the bytes that a birth by entry gives it
-born_memories : (counter : Counter) (item : Item RegionClause) (k place : ℕ) (ranges : List Range) (attached : List Attachment) (host : List ℕ) (ms : List Memory) → is_within item.section (host_memory (length host)) ≡ true
+born_memories : (counter : Counter) (item : Item RegionClause) (k place : ℕ) (ranges : List Range) (attached : List Attachment) (host : List ℕ) (ms : List Memory) → is_within (section_of (Enter counter item)) (host_memory (length host)) ≡ true
     → AllByRecursion (λ m. m.block ≡ k → ⊥) ms → AllByRecursion (λ a. a.block ≡ k → ⊥) attached
-    → ms ++ record { block = k; bytes = bytes_made item host } ∷ [] ≡ memories_made (transfer_of (Enter counter item) (Born k place) ranges) attached host (memories_begun (Enter counter item) (Born k place) ms)
+    → ms ++ record { block = k; bytes = bytes_made (section_of (Enter counter item)) item.clause host } ∷ [] ≡ memories_made (transfer_of (Enter counter item) (Born k place) ranges) attached host (memories_begun (Enter counter item) (Born k place) ms)
 born_memories counter item k place ranges attached host ms in_host new bare = go (copies_in item.clause)
   where
+    section : Section
+    section = section_of (Enter counter item)
+
     fill : ℕ
     fill = fill_byte (is_zeroed item.clause)
 
     t : Transfer
-    t = record { block = k; offset = 0; section = item.section; out = false }
+    t = record { block = k; offset = 0; section = section; out = false }
 
-    go : (b : Bool) → ms ++ record { block = k; bytes = cond b (bytes_in host item.section) (replicate item.section.len fill) } ∷ [] ≡ memories_made (cond b (Some t) None) attached host (ms ++ record { block = k; bytes = replicate item.section.len fill } ∷ [])
-    go true = sym (changed-last k (bytes_moved_in (is_moved item.section k attached) host (item.section.start - 0)) (replicate item.section.len fill) ms new
+    go : (b : Bool) → ms ++ record { block = k; bytes = cond b (bytes_in host section) (replicate section.len fill) } ∷ [] ≡ memories_made (cond b (Some t) None) attached host (ms ++ record { block = k; bytes = replicate section.len fill } ∷ [])
+    go true = sym (changed-last k (bytes_moved_in (is_moved section k attached) host (section.start - 0)) (replicate section.len fill) ms new
         ∙ ap (λ x. ms ++ record { block = k; bytes = x } ∷ []) (
-        written-same (is_moved item.section k attached) (covers item.section) (host_byte host) (item.section.start - 0) (replicate item.section.len fill) (λ a. moved-clear item.section k attached a (fresh-clear k attached bare a))
-        ∙ born_copied item.section (item.section.start - 0) fill host in_host (omega arith)))
+        written-same (is_moved section k attached) (covers section) (host_byte host) (section.start - 0) (replicate section.len fill) (λ a. moved-clear section k attached a (fresh-clear k attached bare a))
+        ∙ born_copied section (section.start - 0) fill host in_host (omega arith)))
     go false = refl
 
 -- a birth leaves host memory
 born_host : (counter : Counter) (item : Item RegionClause) (k place : ℕ) (ranges : List Range) (attached : List Attachment) (host : List ℕ) (ms : List Memory) → host ≡ host_made (transfer_of (Enter counter item) (Born k place) ranges) attached ms host
 born_host counter item k place ranges attached host ms = go (copies_in item.clause)
   where
-    go : (b : Bool) → host ≡ host_made (cond b (Some (record { block = k; offset = 0; section = item.section; out = false })) None) attached ms host
+    go : (b : Bool) → host ≡ host_made (cond b (Some (record { block = k; offset = 0; section = section_of (Enter counter item); out = false })) None) attached ms host
     go true = refl
     go false = refl
 
@@ -194,60 +197,60 @@ updated_in_host task k x out = rw out refl
 -- ---- the state of the parts
 
 -- the parts come to a state that has the same fields
-state_by : (x : Environment) (next : ℕ) (s : State) → x.present.table.ranges ≡ s.records.ranges → x.device.blocks ≡ s.records.blocks → x.attached.attached ≡ s.records.attached → x.device.births ≡ s.records.births
+pub state_by : (x : Environment) (next : ℕ) (s : State) → x.present.table.ranges ≡ s.records.ranges → x.device.blocks ≡ s.records.blocks → x.attached.attached ≡ s.records.attached → x.device.births ≡ s.records.births
     → x.present.table.regions ≡ s.register.regions → next ≡ s.register.next → x.host ≡ s.host → x.device.memories ≡ s.memories → state_of x next ≡ s
 state_by x next s a b p c e f g h = rw (a, b, p, c, e, f, g, h) refl
 
 -- ---- room
 
 -- no room was taken, and the device has what it had
-room_same : (x y : Environment) → present.IsRoomKept x.present.room y.present.room → y.device.room ≡ x.device.room → IsRoomLeft [] (room_of x) (room_of y)
-room_same x y h same = record { births_are = sym same; ranges = omega (arith, h.ranges); regions = h.regions; holdings = h.holdings }
+room_same : (x y : Environment) → present.IsRoomKept x.present.room y.present.room → y.device.room ≡ x.device.room → x.attached.spare ≤ y.attached.spare → IsRoomLeft [] 0 (room_of x) (room_of y)
+room_same x y h same spare = record { births_are = sym same; ranges = omega (arith, h.ranges); regions = h.regions; holdings = h.holdings; attachments = omega (arith, spare) }
 
 -- ---- steps
 
 pub nothing_acts : (task : Task) (x : Environment) → IsActedBy task Nothing x x
-unfolding act_state act
+unfolding step_state act_step
 nothing_acts task x = record {
   state = λ next. refl;
   counter_max = refl;
   size = refl;
   pointer_max = refl;
-  room = record { births_are = refl; ranges = omega arith; regions = omega arith; holdings = omega arith };
+  room = record { births_are = refl; ranges = omega arith; regions = omega arith; holdings = omega arith; attachments = omega arith };
 }
 
 pub counted_acts : (task : Task) (k : ℕ) (x : Environment) (q : PresentState) → q.table ≡ with_ranges x.present.table (changed_at k (recounted task) x.present.table.ranges) → present.IsRoomKept x.present.room q.room
     → IsActedBy task (Counted k) x (record x { present = q })
-unfolding act_state act with_range_changed
+unfolding step_state act_step with_range_changed
 counted_acts task k x q e room = record {
-  state = λ next. state_by (record x { present = q }) next (act_state task (Counted k) (state_of x next)) (ap (λ t. t.ranges) e) refl refl refl (ap (λ t. t.regions) e) refl refl refl;
+  state = λ next. state_by (record x { present = q }) next (step_state task (Counted k) (state_of x next)) (ap (λ t. t.ranges) e) refl refl refl (ap (λ t. t.regions) e) refl refl refl;
   counter_max = ap (λ t. t.counter_max) e;
   size = refl;
   pointer_max = refl;
-  room = room_same x (record x { present = q }) room refl;
+  room = room_same x (record x { present = q }) room refl (omega arith);
 }
 
 pub dropped_acts : (task : Task) (k : ℕ) (x : Environment) (q : PresentState) → q.table ≡ with_ranges x.present.table (changed_at k (recounted task) x.present.table.ranges) → present.IsRoomKept x.present.room q.room
     → IsActedBy task (Dropped k false) x (record x { present = q })
-unfolding act_state act with_range_changed
+unfolding step_state act_step with_range_changed
 dropped_acts task k x q e room = record {
-  state = λ next. state_by (record x { present = q }) next (act_state task (Dropped k false) (state_of x next)) (ap (λ t. t.ranges) e) refl refl refl (ap (λ t. t.regions) e) refl refl refl;
+  state = λ next. state_by (record x { present = q }) next (step_state task (Dropped k false) (state_of x next)) (ap (λ t. t.ranges) e) refl refl refl (ap (λ t. t.regions) e) refl refl refl;
   counter_max = ap (λ t. t.counter_max) e;
   size = refl;
   pointer_max = refl;
-  room = room_same x (record x { present = q }) room refl;
+  room = room_same x (record x { present = q }) room refl (omega arith);
 }
 
 pub moved_acts : (task : Task) (k : ℕ) (x y : Environment)
     → (let s : State = state_of x 0 in let t : Option Transfer = transfer_of task (Moved k) s.records.ranges in y ≡ record x { host = host_made t s.records.attached s.memories s.host; device = record x.device { memories = memories_made t s.records.attached s.host s.memories } })
     → IsActedBy task (Moved k) x y
-unfolding act_state act
+unfolding step_state act_step
 moved_acts task k x y is = record {
   state = λ next. rw is refl;
   counter_max = rw is refl;
   size = rw is refl;
   pointer_max = rw is refl;
-  room = rw is (record { births_are = refl; ranges = omega arith; regions = omega arith; holdings = omega arith });
+  room = rw is (record { births_are = refl; ranges = omega arith; regions = omega arith; holdings = omega arith; attachments = omega arith });
 }
 
 -- two rooms one after the other
@@ -257,60 +260,61 @@ kept_twice a b c h k = record { ranges = omega (arith, h.ranges, k.ranges); regi
 pub ended_acts : (task : Task) (k : ℕ) (x given : Environment) (q r : PresentState) (e : DeviceState) (b : AttachedState) → AllZip IsMemoryOf x.device.memories x.device.blocks
     → (let s : State = state_of x 0 in given ≡ record x { host = host_made (transfer_of task (Dropped k true) s.records.ranges) s.records.attached s.memories s.host })
     → q.table ≡ with_ranges given.present.table (changed_at k (recounted task) given.present.table.ranges) → present.IsRoomKept given.present.room q.room → r.table ≡ with_ranges q.table (without_range k q.table.ranges) → present.IsRoomKept q.room r.room
-    → IsRetired given.device e k → b.attached ≡ without_attachments k given.attached.attached → b.counter_max ≡ given.attached.counter_max
+    → IsRetired given.device e k → b.attached ≡ without_attachments k given.attached.attached → b.counter_max ≡ given.attached.counter_max → given.attached.spare ≤ b.spare
     → IsActedBy task (Dropped k true) x (record given { present = r; device = e; attached = b })
-unfolding act_state act records_after_end
-ended_acts task k x given q r e b sized h count room1 removed room2 end forgot forgot_max =
+unfolding step_state act_step records_after_end
+ended_acts task k x given q r e b sized h count room1 removed room2 end forgot forgot_max forgot_spare =
     let s : State = state_of x 0 in
     let counted : q.table ≡ with_ranges x.present.table (changed_at k (recounted task) x.present.table.ranges) = rw h at count in
     let gone : IsRetired x.device e k = rw h at end in
     let first_room : present.IsRoomKept x.present.room q.room = rw h at room1 in
+    let spare : x.attached.spare ≤ b.spare = rw h at forgot_spare in
     let ranges : r.table.ranges ≡ without_range k x.present.table.ranges = ap (λ t. t.ranges) removed ∙ (ap (λ t. without_range k t.ranges) counted ∙ without-changed k (recounted task) x.present.table.ranges (recounted-block task)) in
     let memories : e.memories ≡ without_memory k (memories_made (transfer_of task (Dropped k true) s.records.ranges) s.records.attached s.host s.memories) =
     gone.memories ∙ (ap (λ bs. memories_kept bs x.device.memories) gone.blocks ∙ (memories_kept-without k x.device.memories x.device.blocks sized ∙ ap (without_memory k) (ended_memories task k s.records.ranges s.records.attached s.host s.memories))) in
     record {
-      state = λ next. state_by (record given { present = r; device = e; attached = b }) next (act_state task (Dropped k true) (state_of x next)) ranges gone.blocks (forgot ∙ ap (λ (g : Environment). without_attachments k g.attached.attached) h) gone.births (ap (λ t. t.regions) removed ∙ ap (λ t. t.regions) counted) refl (ap (λ (g : Environment). g.host) h) memories;
+      state = λ next. state_by (record given { present = r; device = e; attached = b }) next (step_state task (Dropped k true) (state_of x next)) ranges gone.blocks (forgot ∙ ap (λ (g : Environment). without_attachments k g.attached.attached) h) gone.births (ap (λ t. t.regions) removed ∙ ap (λ t. t.regions) counted) refl (ap (λ (g : Environment). g.host) h) memories;
       counter_max = ap (λ t. t.counter_max) removed ∙ ap (λ t. t.counter_max) counted;
       size = gone.size;
       pointer_max = forgot_max ∙ ap (λ (g : Environment). g.attached.counter_max) h;
-      room = room_same x (record given { present = r; device = e; attached = b }) (kept_twice x.present.room q.room r.room first_room room2) gone.room;
+      room = room_same x (record given { present = r; device = e; attached = b }) (kept_twice x.present.room q.room r.room first_room room2) gone.room spare;
     }
 
 -- a new range with one count
-born_ranges : (counter : Counter) (item : Item RegionClause) (k : ℕ) (p q r : PresentState) → AllByRecursion (λ x. x.block ≡ k → ⊥) p.table.ranges
-    → q.table ≡ with_ranges p.table (with_range (bare_range item.section k) p.table.ranges) → r.table ≡ with_ranges q.table (changed_at k (risen counter) q.table.ranges)
-    → r.table.ranges ≡ with_range (recounted (Enter counter item) (bare_range item.section k)) p.table.ranges
-born_ranges counter item k p q r new put raised =
+born_ranges : (counter : Counter) (item : Item RegionClause) (section : Section) (k : ℕ) (p q r : PresentState) → AllByRecursion (λ x. x.block ≡ k → ⊥) p.table.ranges
+    → q.table ≡ with_ranges p.table (with_range (bare_range section k) p.table.ranges) → r.table ≡ with_ranges q.table (changed_at k (risen counter) q.table.ranges)
+    → r.table.ranges ≡ with_range (recounted (Enter counter item) (bare_range section k)) p.table.ranges
+born_ranges counter item section k p q r new put raised =
     ap (λ t. t.ranges) raised ∙ (ap (λ t. changed_at k (risen counter) t.ranges) put
-    ∙ changed-with k (risen counter) (bare_range item.section k) p.table.ranges refl (recounted-section (Enter counter item) (bare_range item.section k)) new)
+    ∙ changed-with k (risen counter) (bare_range section k) p.table.ranges refl (recounted-section (Enter counter item) (bare_range section k)) new)
 
 some_same : (a b : ℕ) (o : Option ℕ) → o ≡ Some a → o ≡ Some b → a ≡ b
 some_same a b o e h = cc
 
 -- the block that a birth adds is the one that the definitions name
-born_block : (counter : Counter) (item : Item RegionClause) (k n p q : ℕ) → k ≡ n → p ≡ q
-    → ◌≡◌ {A = Block} (record { number = n; place = q; len = item.section.len }) (record { number = (recounted (Enter counter item) (bare_range item.section k)).block; place = p; len = (recounted (Enter counter item) (bare_range item.section k)).section.len })
-born_block counter item k n p q e h = rw (recounted-block (Enter counter item) (bare_range item.section k), recounted-section (Enter counter item) (bare_range item.section k), e, h) refl
+born_block : (counter : Counter) (item : Item RegionClause) (section : Section) (k n p q : ℕ) → k ≡ n → p ≡ q
+    → ◌≡◌ {A = Block} (record { number = n; place = q; len = section.len }) (record { number = (recounted (Enter counter item) (bare_range section k)).block; place = p; len = (recounted (Enter counter item) (bare_range section k)).section.len })
+born_block counter item section k n p q e h = rw (recounted-block (Enter counter item) (bare_range section k), recounted-section (Enter counter item) (bare_range section k), e, h) refl
 
-pub born_acts : (counter : Counter) (item : Item RegionClause) (k place : ℕ) (x : Environment) (q r : PresentState) (e : DeviceState) → CanBear x.present.table.counter_max x.device.size item.section k place (state_of x 0) → IsMade x.device e item x.host
-    → q.table ≡ with_ranges x.present.table (with_range (bare_range item.section k) x.present.table.ranges) → x.present.room.ranges ≤ q.room.ranges + 1 → x.present.room.regions ≤ q.room.regions → x.present.room.holdings ≤ q.room.holdings
+pub born_acts : (counter : Counter) (item : Item RegionClause) (k place : ℕ) (x : Environment) (q r : PresentState) (e : DeviceState) → CanBear x.present.table.counter_max x.device.size (section_of (Enter counter item)) k place (state_of x 0) → IsMade x.device e (section_of (Enter counter item)) item.clause x.host
+    → q.table ≡ with_ranges x.present.table (with_range (bare_range (section_of (Enter counter item)) k) x.present.table.ranges) → x.present.room.ranges ≤ q.room.ranges + 1 → x.present.room.regions ≤ q.room.regions → x.present.room.holdings ≤ q.room.holdings
     → r.table ≡ with_ranges q.table (changed_at k (risen counter) q.table.ranges) → present.IsRoomKept q.room r.room → IsActedBy (Enter counter item) (Born k place) x (record x { present = r; device = e })
-unfolding act_state act records_after_birth
+unfolding step_state act_step records_after_birth
 born_acts counter item k place x q r e can made put ranges regions holdings raised room =
     let s : State = state_of x 0 in
     let new : Environment = record x { present = r; device = e } in
     let where_it_is : place ≡ made.place = some_same place made.place _ can.place_is made.place_is in
-    let blocks : e.blocks ≡ (act (Enter counter item) (Born k place) s.records).blocks = made.blocks ∙ ap (λ b. x.device.blocks ++ b ∷ []) (born_block counter item k (x.device.births + 1) place made.place can.number where_it_is) in
+    let blocks : e.blocks ≡ (act_step (Enter counter item) (Born k place) s.records).blocks = made.blocks ∙ ap (λ b. x.device.blocks ++ b ∷ []) (born_block counter item (section_of (Enter counter item)) k (x.device.births + 1) place made.place can.number where_it_is) in
     let memories : e.memories ≡ memories_made (transfer_of (Enter counter item) (Born k place) s.records.ranges) s.records.attached x.host (memories_begun (Enter counter item) (Born k place) x.device.memories) =
-    made.memories ∙ (ap (λ n. x.device.memories ++ record { block = n; bytes = bytes_made item x.host } ∷ []) (sym can.number)
+    made.memories ∙ (ap (λ n. x.device.memories ++ record { block = n; bytes = bytes_made (section_of (Enter counter item)) item.clause x.host } ∷ []) (sym can.number)
     ∙ born_memories counter item k place s.records.ranges s.records.attached x.host x.device.memories can.in_host can.no_memory can.no_pointer) in
     record {
-      state = λ next. state_by new next (act_state (Enter counter item) (Born k place) (state_of x next)) (born_ranges counter item k x.present q r can.no_range put raised) blocks refl made.births
+      state = λ next. state_by new next (step_state (Enter counter item) (Born k place) (state_of x next)) (born_ranges counter item (section_of (Enter counter item)) k x.present q r can.no_range put raised) blocks refl made.births
           (ap (λ t. t.regions) raised ∙ ap (λ t. t.regions) put) refl (born_host counter item k place s.records.ranges s.records.attached x.host x.device.memories) memories;
       counter_max = ap (λ t. t.counter_max) raised ∙ ap (λ t. t.counter_max) put;
       size = made.size;
       pointer_max = refl;
-      room = record { births_are = made.room; ranges = omega (arith, ranges, room.ranges); regions = omega (arith, regions, room.regions); holdings = omega (arith, holdings, room.holdings) };
+      room = record { births_are = made.room; ranges = omega (arith, ranges, room.ranges); regions = omega (arith, regions, room.regions); holdings = omega (arith, holdings, room.holdings); attachments = omega arith };
     }
 
 -- ---- what the calls on the present table need

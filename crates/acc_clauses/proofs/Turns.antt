@@ -6,11 +6,15 @@ use Rattle.acc_base.specs.declared.events.Did.{Did}
 use Rattle.acc_base.specs.declared.faults.Fault.{Fault}
 use Rattle.acc_base.specs.Results.{◌>>=◌}
 use Rattle.acc_base.specs.Limits.{Limits}
-use Rattle.acc_base.specs.Records.{Records}
-use Rattle.acc_base.specs.Tasks.{did_of, judge_task, judge_all, act, act_all}
+use Rattle.acc_base.specs.Records.{Records, State}
+use Rattle.acc_base.specs.Tasks.{act, act_all}
+use Rattle.acc_base.specs.Acting.{judge_task, judge_all, act_state, act_all_state}
 use Rattle.acc_base.specs.History.{AreJudged}
+use Rattle.acc_base.proofs.Walked.{records-act_all_state}
+use Rattle.acc_base.proofs.Legality.{IsJudgedItem, item_judged}
 use Rattle.acc_clauses.specs.declared.acted.Acted.{Acted}
-use Rattle.acc_clauses.specs.Overlays.{IsPlanned, AreUnmixed, tasks_in, dids_in, records_after}
+use Rattle.acc_clauses.specs.Overlays.{IsPlanned, AreUnmixed, tasks_in, dids_in, records_after, state_after}
+use Rattle.acc_clauses.specs.Planned.{IsJudgedNext}
 use Rattle.acc_clauses.proofs.Laws.{unmixed_front}
 
 -- what was done before what is still judged
@@ -21,24 +25,34 @@ pub tasks_in-push : (xs : List Acted) (x : Acted) → tasks_in (xs ++ x ∷ []) 
 tasks_in-push [] x = refl
 tasks_in-push (y ∷ ys) x = ap (λ ts. y.task ∷ ts) (tasks_in-push ys x)
 
-pub dids_in-push : (xs : List Acted) (x : Acted) → dids_in (xs ++ x ∷ []) ≡ dids_in xs ++ did_of x.step ∷ []
+pub dids_in-push : (xs : List Acted) (x : Acted) → dids_in (xs ++ x ∷ []) ≡ dids_in xs ++ x.did ∷ []
 dids_in-push [] x = refl
-dids_in-push (y ∷ ys) x = ap (λ ds. did_of y.step ∷ ds) (dids_in-push ys x)
+dids_in-push (y ∷ ys) x = ap (λ ds. y.did ∷ ds) (dids_in-push ys x)
 
-pub records_after-push : (xs : List Acted) (x : Acted) (w : Records) → records_after (xs ++ x ∷ []) w ≡ act x.task x.step (records_after xs w)
-unfolding act_all
-records_after-push [] x w = refl
-records_after-push (y ∷ ys) x w = records_after-push ys x (act y.task y.step w)
+pub state_after-push : (xs : List Acted) (x : Acted) (s : State) → state_after (xs ++ x ∷ []) s ≡ act_state x.task x.did (state_after xs s)
+unfolding act_all_state
+state_after-push [] x s = refl
+state_after-push (y ∷ ys) x s = state_after-push ys x (act_state y.task y.did s)
+
+-- the records of the state after tasks are the records after them
+pub state_after-records : (xs : List Acted) (s : State) → (state_after xs s).records ≡ records_after xs s.records
+state_after-records xs s = records-act_all_state (tasks_in xs) (dids_in xs) s
 
 -- one more task was judged
-pub judged-push : (l : Limits) (n m : ℕ) (xs : List Acted) (x : Acted) (w : Records) → m ≡ n + length xs → AreJudged l n (tasks_in xs) (dids_in xs) w → judge_task l m x.task (records_after xs w) ≡ Ok x.step
+judged-push : (l : Limits) (n m : ℕ) (xs : List Acted) (x : Acted) (w : Records) → m ≡ n + length xs → AreJudged l n (tasks_in xs) (dids_in xs) w → IsJudgedItem l m x.task x.did (records_after xs w)
     → AreJudged l n (tasks_in (xs ++ x ∷ [])) (dids_in (xs ++ x ∷ [])) w
 unfolding act_all
-judged-push l n m [] x w at judged ok = let same : m ≡ n = omega arith in (rw same at ok, tt)
-judged-push l n m (y ∷ ys) x w at judged ok = (judged.0, judged-push l (suc n) m ys x (act y.task y.step w) (omega arith) judged.1 ok)
+judged-push l n m [] x w at judged ok = let same : m ≡ n = omega arith in (rw same at ok.step, ok.aim, tt)
+judged-push l n m (y ∷ ys) x w at judged ok = (judged.0, judged.1, judged-push l (suc n) m ys x (act y.task y.did w) (omega arith) judged.2 ok)
 
-pub IsPlanned-push : (l : Limits) (m : ℕ) (xs : List Acted) (x : Acted) (w : Records) → m ≡ length xs → IsPlanned l xs w → judge_task l m x.task (records_after xs w) ≡ Ok x.step → IsPlanned l (xs ++ x ∷ []) w
+pub IsPlanned-push : (l : Limits) (m : ℕ) (xs : List Acted) (x : Acted) (w : Records) → m ≡ length xs → IsPlanned l xs w → IsJudgedItem l m x.task x.did (records_after xs w) → IsPlanned l (xs ++ x ∷ []) w
 IsPlanned-push l m xs x w at p ok = record { bounds = p.bounds; sound = p.sound; judged = judged-push l 0 m xs x w (omega arith) p.judged ok }
+
+-- one more task was judged in the state
+pub IsPlanned-next : (l : Limits) (m : ℕ) (xs ys : List Acted) (task : Task) (s : State) → m ≡ length xs → IsPlanned l xs s.records → IsJudgedNext l m task s xs ys → IsPlanned l ys s.records
+IsPlanned-next l m xs ys task s at p next =
+    let item = rw (state_after-records xs s) at (item_judged l m task next.did (state_after xs s) next.judged) in
+    rw next.more (IsPlanned-push l m xs (record { task = task; did = next.did }) s.records at p item)
 
 prefixed-push : (done : List Did) (did : Did) (r : Result (List Did) Fault) → prefixed (done ++ did ∷ []) r ≡ prefixed done (r >>= λ rest. Ok (did ∷ rest))
 prefixed-push done did (Ok rest) = ap (λ ds. Ok ds) (append_assoc done (did ∷ []) rest)
@@ -49,41 +63,41 @@ prefixed-nil (Ok rest) = refl
 prefixed-nil (Err fault) = refl
 
 -- before the first turn
-pub turns_begun : (l : Limits) (tasks : List Task) (w : Records) → prefixed (dids_in []) (judge_all l 0 tasks (records_after [] w)) ≡ judge_all l 0 tasks w
-unfolding act_all
-turns_begun l tasks w = prefixed-nil (judge_all l 0 tasks w)
+pub turns_begun : (l : Limits) (tasks : List Task) (s : State) → prefixed (dids_in []) (judge_all l 0 tasks (state_after [] s)) ≡ judge_all l 0 tasks s
+unfolding act_all_state
+turns_begun l tasks s = prefixed-nil (judge_all l 0 tasks s)
 
 -- the first task of some is judged
-judge_all-cons : (l : Limits) (n : ℕ) (task : Task) (tasks : List Task) (w : Records) → judge_all l n (task ∷ tasks) w ≡ (judge_task l n task w >>= λ step. judge_all l (suc n) tasks (act task step w) >>= λ dids. Ok (did_of step ∷ dids))
+judge_all-cons : (l : Limits) (n : ℕ) (task : Task) (tasks : List Task) (s : State) → judge_all l n (task ∷ tasks) s ≡ (judge_task l n task s >>= λ did. judge_all l (suc n) tasks (act_state task did s) >>= λ dids. Ok (did ∷ dids))
 unfolding judge_all
-judge_all-cons l n task tasks w = refl
+judge_all-cons l n task tasks s = refl
 
 -- what is judged goes from the tasks that are left to those that are done
-pub turn : (l : Limits) (n i : ℕ) (xs ys : List Acted) (x : Acted) (tasks : List Task) (d : Task) (w : Records) (all : Result (List Did) Fault)
-    → i < length tasks → x.task ≡ get_or tasks i d → ys ≡ xs ++ x ∷ [] → judge_task l n x.task (records_after xs w) ≡ Ok x.step
-    → prefixed (dids_in xs) (judge_all l n (drop i tasks) (records_after xs w)) ≡ all
-    → prefixed (dids_in ys) (judge_all l (n + 1) (drop (i + 1) tasks) (records_after ys w)) ≡ all
-turn l n i xs ys x tasks d w all within item more ok so =
-    let cons : drop i tasks ≡ x.task ∷ drop (i + 1) tasks = drop_more tasks i d within ∙ ap (λ t. t ∷ drop (i + 1) tasks) (sym item) in
-    let so' = rw (cons, judge_all-cons, ok) at so in
-    rw (more, records_after-push, dids_in-push, add-one) (prefixed-push (dids_in xs) (did_of x.step) (judge_all l (suc n) (drop (i + 1) tasks) (act x.task x.step (records_after xs w))) ∙ so')
+pub turn : (l : Limits) (n i : ℕ) (xs ys : List Acted) (task : Task) (tasks : List Task) (d : Task) (s : State) (all : Result (List Did) Fault)
+    → i < length tasks → task ≡ get_or tasks i d → IsJudgedNext l n task s xs ys
+    → prefixed (dids_in xs) (judge_all l n (drop i tasks) (state_after xs s)) ≡ all
+    → prefixed (dids_in ys) (judge_all l (n + 1) (drop (i + 1) tasks) (state_after ys s)) ≡ all
+turn l n i xs ys task tasks d s all within item next so =
+    let cons : drop i tasks ≡ task ∷ drop (i + 1) tasks = drop_more tasks i d within ∙ ap (λ t. t ∷ drop (i + 1) tasks) (sym item) in
+    let so' = rw (cons, judge_all-cons, next.judged) at so in
+    rw (next.more, state_after-push, dids_in-push, add-one) (prefixed-push (dids_in xs) next.did (judge_all l (suc n) (drop (i + 1) tasks) (act_state task next.did (state_after xs s))) ∙ so')
 
 -- a refused task is the answer
-pub turn_refused : (l : Limits) (n i : ℕ) (xs : List Acted) (task : Task) (tasks : List Task) (d : Task) (w : Records) (fault : Fault) (all : Result (List Did) Fault)
-    → i < length tasks → task ≡ get_or tasks i d → judge_task l n task (records_after xs w) ≡ Err fault
-    → prefixed (dids_in xs) (judge_all l n (drop i tasks) (records_after xs w)) ≡ all → all ≡ Err fault
-turn_refused l n i xs task tasks d w fault all within item refused so =
+pub turn_refused : (l : Limits) (n i : ℕ) (xs : List Acted) (task : Task) (tasks : List Task) (d : Task) (s : State) (fault : Fault) (all : Result (List Did) Fault)
+    → i < length tasks → task ≡ get_or tasks i d → judge_task l n task (state_after xs s) ≡ Err fault
+    → prefixed (dids_in xs) (judge_all l n (drop i tasks) (state_after xs s)) ≡ all → all ≡ Err fault
+turn_refused l n i xs task tasks d s fault all within item refused so =
     let cons : drop i tasks ≡ task ∷ drop (i + 1) tasks = drop_more tasks i d within ∙ ap (λ t. t ∷ drop (i + 1) tasks) (sym item) in
     sym (rw (cons, judge_all-cons, refused) at so)
 
-judge_all-nil : (l : Limits) (n : ℕ) (w : Records) → judge_all l n [] w ≡ Ok []
+judge_all-nil : (l : Limits) (n : ℕ) (s : State) → judge_all l n [] s ≡ Ok []
 unfolding judge_all
-judge_all-nil l n w = refl
+judge_all-nil l n s = refl
 
 -- after the last turn
-pub turns_done : (l : Limits) (n i : ℕ) (xs : List Acted) (tasks : List Task) (w : Records) (all : Result (List Did) Fault) → length tasks ≤ i
-    → prefixed (dids_in xs) (judge_all l n (drop i tasks) (records_after xs w)) ≡ all → all ≡ Ok (dids_in xs)
-turns_done l n i xs tasks w all past so =
+pub turns_done : (l : Limits) (n i : ℕ) (xs : List Acted) (tasks : List Task) (s : State) (all : Result (List Did) Fault) → length tasks ≤ i
+    → prefixed (dids_in xs) (judge_all l n (drop i tasks) (state_after xs s)) ≡ all → all ≡ Ok (dids_in xs)
+turns_done l n i xs tasks s all past so =
     let none : drop i tasks ≡ [] = drop_all i tasks past in
     let so' = rw (none, judge_all-nil) at so in
     sym so' ∙ ap (λ ds. Ok ds) (append-nil (dids_in xs))

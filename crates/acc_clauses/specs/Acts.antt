@@ -3,7 +3,6 @@ use Rattle.std.specs.Prelude.{ℕ, ◌≡◌, ◌+◌, ◌<◌, ◌≤◌, ◌^�
 use Rattle.std.specs.List.{AllByRecursion}
 use Rattle.acc_base.specs.declared.addresses.TheConstants.{MEMORY_MAX}
 use Rattle.acc_base.specs.declared.items.Section.{Section}
-use Rattle.acc_base.specs.declared.items.Item.{Item}
 use Rattle.acc_base.specs.declared.items.RegionClause.{RegionClause}
 use Rattle.acc_base.specs.declared.mappings.Range.{Range}
 use Rattle.acc_base.specs.declared.mappings.Found.TheVariants.{Absent}
@@ -13,15 +12,21 @@ use Rattle.acc_base.specs.declared.tasks.Task.TheVariants.{Enter, Leave, Exit, M
 use Rattle.acc_base.specs.declared.events.Step.{Step}
 use Rattle.acc_base.specs.declared.events.Step.TheVariants.{Nothing, Counted, Born, Dropped, Moved}
 use Rattle.acc_base.specs.declared.events.Did.{Did}
+use Rattle.acc_base.specs.declared.attachments.Aim.{Aim}
+use Rattle.acc_base.specs.declared.attachments.Aim.TheVariants as aims
 use Rattle.acc_base.specs.Limits.{Limits, IsFromOne}
 use Rattle.acc_base.specs.Section.{end_of, is_within, host_memory}
 use Rattle.acc_base.specs.Ranges.{range_of, counter_of, where_is, ends_by}
 use Rattle.acc_base.specs.Blocks.{rounded, place_for, block_at}
+use Rattle.acc_base.specs.Attachments.{pointer_at, count_at}
 use Rattle.acc_base.specs.Records.{Records, State}
-use Rattle.acc_base.specs.Tasks.{section_of, recounted, judge_task, act}
+use Rattle.acc_base.specs.Tasks.{section_of, recounted, judge_step, act}
 use Rattle.acc_base.specs.Clauses.{copies_in, is_zeroed}
 use Rattle.acc_base.specs.Register.{region_at}
-use Rattle.acc_base.specs.Bytes.{bytes_of, fill_byte, act_state}
+use Rattle.acc_base.specs.Bytes.{bytes_of, fill_byte, step_state}
+use Rattle.acc_base.specs.Pointers.{aimed}
+use Rattle.acc_base.specs.Acting.{act_state}
+use Rattle.acc_base.specs.History.{IsAimLegal}
 use Rattle.acc_host.specs.Host.{bytes_in}
 use Rattle.acc_dev.specs.Device.{DeviceState, birth_place}
 use Rattle.acc_clauses.specs.declared.environments.Environment.{Environment}
@@ -32,10 +37,11 @@ use Rattle.acc_clauses.specs.Contents.{Room, Contents, state_of, room_of}
 
 -- ---- what is known of a task
 
--- the task is judged to do this step, at some place of a list
-pub record IsJudged (l : Limits) (task : Task) (step : Step) (w : Records) : Type 0 where
+-- the task is judged to do this, at some place of a list
+pub record IsJudged (l : Limits) (task : Task) (did : Did) (w : Records) : Type 0 where
   pub item : ℕ
-  pub judged : judge_task l item task w ≡ Ok step
+  pub step : judge_step l item task w ≡ Ok did.step
+  pub aim : IsAimLegal l task did w
 
 -- the block is mapped, and its range has each address of the section
 pub record IsMappedAround (w : Records) (section : Section) (block : ℕ) : Type 0 where
@@ -52,7 +58,7 @@ IsKnown w (Move if_present item) = ⊤
 
 -- each task that undoes a holding finds the block that was counted, in what the tasks before it leave
 abbrev pub AreKnown : List Task → List Did → Records → Type 0
-AreKnown (task ∷ tasks) (did ∷ dids) w = IsKnown w task × AreKnown tasks dids (act task did.step w)
+AreKnown (task ∷ tasks) (did ∷ dids) w = IsKnown w task × AreKnown tasks dids (act task did w)
 AreKnown _ _ w = ⊤
 
 -- ---- what each step needs
@@ -105,6 +111,24 @@ pub record CanDrop (task : Task) (block : ℕ) (ended : Bool) (s : State) : Type
   pub not_entry : IsEnter task → ⊥
   pub ends : ends_by (recounted task) block s.records.ranges ≡ ended
 
+-- the counter of a pointer in a block can fall: it is above zero, and the block has the pointer's eight bytes
+pub record CanDetach (pointer block : ℕ) (s : State) : Type 0 where
+  pub some : 0 < count_at block pointer s.records.attached
+  pub move : CanMove (pointer_at pointer) block s
+
+-- and can rise, up to its limit
+pub record CanAgain (pointer_max pointer block : ℕ) (s : State) : Type 0 where
+  pub some : 0 < count_at block pointer s.records.attached
+  pub below : count_at block pointer s.records.attached < pointer_max
+
+-- before an attachment or a detachment, with the limit of the attachment counters
+abbrev pub CanAim : ℕ → Aim → State → Type 0
+CanAim pointer_max aims.None s = ⊤
+CanAim pointer_max (aims.New pointer block target) s = CanMove (pointer_at pointer) block s
+CanAim pointer_max (aims.Again pointer block) s = CanAgain pointer_max pointer block s
+CanAim pointer_max (aims.Less pointer block) s = CanDetach pointer block s
+CanAim pointer_max (aims.Cleared pointer block) s = CanDetach pointer block s
+
 -- before a step, with the limit of the counters and the size of the device
 abbrev pub CanAct : ℕ → ℕ → Task → Step → State → Type 0
 CanAct counter_max device task Nothing s = ⊤
@@ -113,7 +137,22 @@ CanAct counter_max device task (Born block place) s = IsEnter task × CanBear co
 CanAct counter_max device task (Dropped block ended) s = CanDrop task block ended s
 CanAct counter_max device task (Moved block) s = CanMove (section_of task) block s
 
--- ---- what a step takes of the room
+-- before a task: entry attaches after its step, and exit detaches before its step
+pub record CanEnter (x : Environment) (task : Task) (did : Did) : Type 0 where
+  pub step : CanAct x.present.table.counter_max x.device.size task did.step (state_of x 0)
+  pub aim : CanAim x.attached.counter_max did.aim (step_state task did.step (state_of x 0))
+
+pub record CanLeave (x : Environment) (task : Task) (did : Did) : Type 0 where
+  pub aim : CanAim x.attached.counter_max did.aim (state_of x 0)
+  pub step : CanAct x.present.table.counter_max x.device.size task did.step (aimed did.aim (state_of x 0))
+
+abbrev pub CanDo : Environment → Task → Did → Type 0
+CanDo x (Enter counter item) did = CanEnter x (Enter counter item) did
+CanDo x (Leave holding) did = CanLeave x (Leave holding) did
+CanDo x (Exit finalize item) did = CanLeave x (Exit finalize item) did
+CanDo x (Move if_present item) did = CanLeave x (Move if_present item) did
+
+-- ---- what a task takes of the room
 
 -- the length of the block that a step bears, if it bears one
 abbrev pub birth_of : Task → Step → List ℕ
@@ -128,6 +167,19 @@ abbrev pub lens_born : List Task → List Did → List ℕ
 lens_born (task ∷ tasks) (did ∷ dids) = birth_of task did.step ++ lens_born tasks dids
 lens_born _ _ = []
 
+-- how many attachment counters more an attachment takes
+abbrev pub pointers_of : Aim → ℕ
+pointers_of aims.None = 0
+pointers_of (aims.New pointer block target) = 1
+pointers_of (aims.Again pointer block) = 0
+pointers_of (aims.Less pointer block) = 0
+pointers_of (aims.Cleared pointer block) = 0
+
+-- and how many all of these do
+abbrev pub pointers_in : List Did → ℕ
+pointers_in [] = 0
+pointers_in (did ∷ dids) = pointers_of did.aim + pointers_in dids
+
 -- there is room for births of these lengths, which come next
 pub record HasRoomFor (births : List ℕ) (room : Room) : Type 0 where
   pub rest : List ℕ
@@ -139,22 +191,35 @@ pub record HasRegionRoom (holdings : ℕ) (room : Room) : Type 0 where
   pub regions : 1 ≤ room.regions
   pub enough : holdings ≤ room.holdings
 
--- births of these lengths took their room, and nothing else was taken
-pub record IsRoomLeft (births : List ℕ) (old new : Room) : Type 0 where
+-- births of these lengths and so many attachment counters took their room, and nothing else was taken
+pub record IsRoomLeft (births : List ℕ) (pointers : ℕ) (old new : Room) : Type 0 where
   pub births_are : old.births ≡ births ++ new.births
   pub ranges : old.ranges ≤ new.ranges + length births
   pub regions : old.regions ≤ new.regions
   pub holdings : old.holdings ≤ new.holdings
+  pub attachments : old.attachments ≤ new.attachments + pointers
 
--- ---- what a step makes of the parts
+-- ---- what a task makes of the parts
 
--- the parts before a step and after it
-pub record IsActedBy (task : Task) (step : Step) (old new : Environment) : Type 0 where
-  pub state : (next : ℕ) → state_of new next ≡ act_state task step (state_of old next)
+-- the parts before a change of their state and after it, which took this room
+pub record IsChangedBy (change : State → State) (births : List ℕ) (pointers : ℕ) (old new : Environment) : Type 0 where
+  pub state : (next : ℕ) → state_of new next ≡ change (state_of old next)
   pub counter_max : new.present.table.counter_max ≡ old.present.table.counter_max
   pub size : new.device.size ≡ old.device.size
   pub pointer_max : new.attached.counter_max ≡ old.attached.counter_max
-  pub room : IsRoomLeft (birth_of task step) (room_of old) (room_of new)
+  pub room : IsRoomLeft births pointers (room_of old) (room_of new)
+
+-- a step
+abbrev pub IsActedBy : Task → Step → Environment → Environment → Type 0
+IsActedBy task step old new = IsChangedBy (step_state task step) (birth_of task step) 0 old new
+
+-- an attachment or a detachment
+abbrev pub IsAimedBy : Aim → Environment → Environment → Type 0
+IsAimedBy aim old new = IsChangedBy (aimed aim) [] (pointers_of aim) old new
+
+-- both
+abbrev pub IsDoneBy : Task → Did → Environment → Environment → Type 0
+IsDoneBy task did old new = IsChangedBy (act_state task did) (birth_of task did.step) (pointers_of did.aim) old new
 
 -- ---- a new block
 
@@ -168,18 +233,18 @@ pub record CanMake (d : DeviceState) (host : List ℕ) (section : Section) : Typ
   pub room : d.room ≡ section.len ∷ rest
 
 -- the bytes of a new block: those of the section, or the byte that fills it
-abbrev pub bytes_made : Item RegionClause → List ℕ → List ℕ
-bytes_made item host = if copies_in item.clause then bytes_in host item.section else replicate item.section.len (fill_byte (is_zeroed item.clause))
+abbrev pub bytes_made : Section → RegionClause → List ℕ → List ℕ
+bytes_made section clause host = if copies_in clause then bytes_in host section else replicate section.len (fill_byte (is_zeroed clause))
 
 -- the new device is the old one with a block more, which has these bytes
-pub record IsMade (old new : DeviceState) (item : Item RegionClause) (host : List ℕ) : Type 0 where
+pub record IsMade (old new : DeviceState) (section : Section) (clause : RegionClause) (host : List ℕ) : Type 0 where
   pub place : ℕ
-  pub place_is : birth_place old item.section.len ≡ Some place
+  pub place_is : birth_place old section.len ≡ Some place
   pub size : new.size ≡ old.size
-  pub blocks : new.blocks ≡ old.blocks ++ record { number = old.births + 1; place = place; len = item.section.len } ∷ []
-  pub memories : new.memories ≡ old.memories ++ record { block = old.births + 1; bytes = bytes_made item host } ∷ []
+  pub blocks : new.blocks ≡ old.blocks ++ record { number = old.births + 1; place = place; len = section.len } ∷ []
+  pub memories : new.memories ≡ old.memories ++ record { block = old.births + 1; bytes = bytes_made section clause host } ∷ []
   pub births : new.births ≡ old.births + 1
-  pub room : old.room ≡ item.section.len ∷ new.room
+  pub room : old.room ≡ section.len ∷ new.room
 
 -- ---- a write of the host
 
@@ -205,6 +270,7 @@ CanFinish (Leaving number) tasks c = IsSome (region_at number c.state.register.r
 pub record HasPlanRoom (p : Planned) (room : Room) : Type 0 where
   pub births : HasRoomFor (lens_born p.tasks p.dids) room
   pub region : HasRegionRoom (length p.tasks) room
+  pub pointers : pointers_in p.dids ≤ room.attachments
 
 -- ---- what a plan notes
 

@@ -5,12 +5,13 @@ use Rattle.acc_base.specs.Records.{State, new_state}
 use Rattle.acc_base.specs.Accounts.{AreRecordsSound, AreMemoriesSized}
 use Rattle.acc_clauses.specs.declared.environments.Environment.{Environment}
 
--- what can be taken in without memory: births of blocks of these lengths, in this order; so many ranges; so many regions; and so many holdings of the next region
+-- what can be taken in without memory: births of blocks of these lengths, in this order; so many ranges; so many regions; so many holdings of the next region; and so many attachment counters
 pub record Room : Type 0 where
   pub births : List ℕ
   pub ranges : ℕ
   pub regions : ℕ
   pub holdings : ℕ
+  pub attachments : ℕ
 
 -- the limits, which stay; the state; and the room
 pub record Contents : Type 0 where
@@ -31,7 +32,7 @@ state_of x next = record {
 
 -- and their room
 abbrev pub room_of : Environment → Room
-room_of x = record { births = x.device.room; ranges = x.present.room.ranges; regions = x.present.room.regions; holdings = x.present.room.holdings }
+room_of x = record { births = x.device.room; ranges = x.present.room.ranges; regions = x.present.room.regions; holdings = x.present.room.holdings; attachments = x.attached.spare }
 
 abbrev pub contents_of : Limits → Environment → ℕ → Contents
 contents_of l x next = record { limits = l; state = state_of x next; room = room_of x }

@@ -4,3 +4,4 @@ pub mod Planned
 pub mod Acts
 pub mod Stored
 pub mod Copies
+pub mod Aims

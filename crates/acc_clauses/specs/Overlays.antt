@@ -1,6 +1,6 @@
 -- What a plan knows of the records after its tasks: what each look-up answers then, from what it answers before them.
 use Rattle.std.specs.Prelude.{ℕ, ◌-◌, ◌≡◌, ◌⊎◌, Bool, true, false, if◌then◌else◌, ◌==◌, ◌&&◌, ◌≤◌, length, List, [], ◌∷◌, ◌++◌, map, fold}
-use Rattle.std.specs.List.{list_any}
+use Rattle.std.specs.List.{list_all, list_any}
 use Rattle.acc_base.specs.declared.items.Section.{Section}
 use Rattle.acc_base.specs.declared.mappings.Range.{Range}
 use Rattle.acc_base.specs.declared.mappings.Counters.{Counters}
@@ -12,11 +12,13 @@ use Rattle.acc_base.specs.declared.tasks.Task.TheVariants.{Enter, Leave, Exit, M
 use Rattle.acc_base.specs.declared.events.Step.{Step}
 use Rattle.acc_base.specs.declared.events.Step.TheVariants.{Nothing, Counted, Born, Dropped, Moved}
 use Rattle.acc_base.specs.declared.events.Did.{Did}
+use Rattle.acc_base.specs.declared.attachments.Aim.{Aim}
 use Rattle.acc_base.specs.Limits.{Limits, IsWithinBounds}
 use Rattle.acc_base.specs.Section.{is_within, is_apart}
-use Rattle.acc_base.specs.Records.{Records}
+use Rattle.acc_base.specs.Records.{Records, State}
+use Rattle.acc_base.specs.Acting.{act_all_state}
 use Rattle.acc_base.specs.Ranges.{counter_of}
-use Rattle.acc_base.specs.Tasks.{section_of, recounted, did_of, act_all}
+use Rattle.acc_base.specs.Tasks.{section_of, recounted, act_all}
 use Rattle.acc_base.specs.History.{AreJudged}
 use Rattle.acc_base.specs.Accounts.{AreRecordsSound}
 use Rattle.acc_clauses.specs.declared.acted.Acted.{Acted}
@@ -27,11 +29,15 @@ abbrev pub tasks_in : List Acted → List Task
 tasks_in xs = map (λ x. x.task) xs
 
 abbrev pub dids_in : List Acted → List Did
-dids_in xs = map (λ x. did_of x.step) xs
+dids_in xs = map (λ x. x.did) xs
 
 -- the records after these tasks
 abbrev pub records_after : List Acted → Records → Records
 records_after xs w = act_all (tasks_in xs) (dids_in xs) w
+
+-- and the state
+abbrev pub state_after : List Acted → State → State
+state_after xs s = act_all_state (tasks_in xs) (dids_in xs) s
 
 -- each task does what it is judged to do in the records that those before it leave
 abbrev pub ArePlanned : Limits → List Acted → Records → Type 0
@@ -43,25 +49,22 @@ pub record IsPlanned (l : Limits) (xs : List Acted) (w : Records) : Type 0 where
   pub sound : AreRecordsSound l w
   pub judged : ArePlanned l xs w
 
+-- a task with another thing that became of its pointer
+abbrev pub with_aim : Aim → Acted → Acted
+with_aim aim x = record { task = x.task; did = record { step = x.did.step; aim = aim } }
+
 -- ---- entries and exits
 
--- the task may map a section to a new block
-abbrev pub may_bear : Task → Bool
-may_bear (Enter counter item) = true
-may_bear (Leave holding) = false
-may_bear (Exit finalize item) = false
-may_bear (Move if_present item) = false
+-- the task is an entry: it may map a section to a new block, and ends no mapping
+abbrev pub enters : Task → Bool
+enters (Enter counter item) = true
+enters (Leave holding) = false
+enters (Exit finalize item) = false
+enters (Move if_present item) = false
 
--- the task may end a mapping
-abbrev pub may_end : Task → Bool
-may_end (Enter counter item) = false
-may_end (Leave holding) = true
-may_end (Exit finalize item) = true
-may_end (Move if_present item) = false
-
--- no task may end a mapping, or none may make one
+-- all tasks enter, or none does
 abbrev pub AreUnmixed : List Task → Type 0
-AreUnmixed tasks = (list_any may_end tasks ≡ false) ⊎ (list_any may_bear tasks ≡ false)
+AreUnmixed tasks = (list_all enters tasks ≡ true) ⊎ (list_any enters tasks ≡ false)
 
 -- ---- births and ends
 
@@ -76,7 +79,7 @@ birth_by task (Moved block) = []
 -- the places and lengths of the blocks that these tasks bear
 abbrev pub births_of : List Acted → List (ℕ × ℕ)
 births_of [] = []
-births_of (x ∷ xs) = birth_by x.task x.step ++ births_of xs
+births_of (x ∷ xs) = birth_by x.task x.did.step ++ births_of xs
 
 -- the block whose mapping ends by the step, if one does
 abbrev pub end_by : Step → List ℕ
@@ -90,7 +93,7 @@ end_by (Moved block) = []
 -- the blocks whose mappings end by these tasks
 abbrev pub ended_of : List Acted → List ℕ
 ended_of [] = []
-ended_of (x ∷ xs) = end_by x.step ++ ended_of xs
+ended_of (x ∷ xs) = end_by x.did.step ++ ended_of xs
 
 -- what a draft notes beside its tasks: the births and the ends among them
 pub record IsDraft (xs : List Acted) (births : List (ℕ × ℕ)) (ended : List ℕ) : Type 0 where
@@ -117,7 +120,7 @@ found_by s found task (Moved block) = found
 
 -- where it lies after tasks of which none ends a mapping
 abbrev pub found_over : Section → Found → List Acted → Found
-found_over s found xs = fold (λ f x. found_by s f x.task x.step) found xs
+found_over s found xs = fold (λ f x. found_by s f x.task x.did.step) found xs
 
 -- ---- reference counters
 
@@ -151,4 +154,4 @@ counters_by block c task (Moved b) = c
 
 -- the counters of a block's range after tasks
 abbrev pub counters_over : ℕ → Counters → List Acted → Counters
-counters_over block c xs = fold (λ d x. counters_by block d x.task x.step) c xs
+counters_over block c xs = fold (λ d x. counters_by block d x.task x.did.step) c xs

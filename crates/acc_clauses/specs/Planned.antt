@@ -1,5 +1,5 @@
 -- What contracts see of a plan, and what it rests on.
-use Rattle.std.specs.Prelude.{◌≡◌, ◌≤◌, List, [], ◌∷◌, ◌++◌, length, reverse, Result, Ok}
+use Rattle.std.specs.Prelude.{ℕ, ◌≡◌, ◌≤◌, List, [], ◌∷◌, ◌++◌, length, reverse, Result, Ok}
 use Rattle.acc_base.specs.declared.directives.Directive.{Directive}
 use Rattle.acc_base.specs.declared.directives.Directive.TheVariants.{Enter, Exit, EnterData, ExitData, Update}
 use Rattle.acc_base.specs.declared.regions.Holding.{Holding}
@@ -10,10 +10,13 @@ use Rattle.acc_base.specs.declared.faults.Fault.{Fault}
 use Rattle.acc_base.specs.Results.{◌>>◌}
 use Rattle.acc_base.specs.Limits.{Limits}
 use Rattle.acc_base.specs.Register.{Region, Register, opened, closed}
-use Rattle.acc_base.specs.Records.{Layout}
+use Rattle.acc_base.specs.Records.{Layout, State}
 use Rattle.acc_base.specs.Judge.{few_items, tasks_of}
-use Rattle.acc_base.specs.Walk.{block_counted}
+use Rattle.acc_base.specs.Walk.{block_counted, pointer_attached}
+use Rattle.acc_base.specs.Acting.{judge_task}
 use Rattle.acc_base.specs.History.{AreJudged}
+use Rattle.acc_clauses.specs.declared.acted.Acted.{Acted}
+use Rattle.acc_clauses.specs.Overlays.{state_after}
 use Rattle.acc_clauses.specs.declared.plans.Head.{Head}
 use Rattle.acc_clauses.specs.declared.plans.Head.TheVariants.{Plain, Entry, Leaving}
 
@@ -48,6 +51,12 @@ pub record IsPlannedOn (l : Limits) (d : Directive) (lay : Layout) (p : Planned)
   pub judged : AreJudged l 0 p.tasks p.dids lay.records
   pub few : length p.tasks ≤ 64
 
+-- the draft has one task more, which does what it is judged to do in what those before it leave of this state
+pub record IsJudgedNext (l : Limits) (n : ℕ) (task : Task) (s : State) (xs ys : List Acted) : Type 0 where
+  pub did : Did
+  pub judged : judge_task l n task (state_after xs s) ≡ Ok did
+  pub more : ys ≡ xs ++ record { task = task; did = did } ∷ []
+
 -- what a directive asks, in the order in which it acts; too many items are told before all else
 abbrev pub asked_of : Directive → Register → Result (List Task) Fault
 asked_of d g = few_items d >> tasks_of d g
@@ -56,7 +65,7 @@ asked_of d g = few_items d >> tasks_of d g
 
 -- what a task of an entry holds
 abbrev pub holding_by : Task → Did → List Holding
-holding_by (tasks.Enter counter item) did = record { item = item; block = block_counted did.step } ∷ []
+holding_by (tasks.Enter counter item) did = record { item = item; block = block_counted did.step; aim = pointer_attached did.aim } ∷ []
 holding_by (tasks.Leave holding) did = []
 holding_by (tasks.Exit finalize item) did = []
 holding_by (tasks.Move if_present item) did = []

@@ -1,6 +1,6 @@
 //! A task with what it is judged to do.
 
-use acc_base::{Step, Task};
+use acc_base::{Did, Task};
 
 /// A task with what it is judged to do.
 #[derive(Clone, Copy, Default)]
@@ -8,5 +8,5 @@ pub struct Acted {
     /// What an item asks.
     pub task: Task,
     /// What it does.
-    pub step: Step,
+    pub did: Did,
 }

@@ -1,6 +1,6 @@
 //! What a step changes. Nothing is judged here, no memory is taken, and nothing is refused.
 
-ghost use Rattle.std.specs.Prelude.{◌≡◌, ◌++◌, ◌∷◌, ◌<◌, [], ℕ, IsSome, Some, true, false, length};
+ghost use Rattle.std.specs.Prelude.{◌≡◌, ◌++◌, ◌∷◌, ◌<◌, ◌≤◌, [], ℕ, IsSome, Some, true, false, length};
 ghost use Rattle.acc_base.specs.Ranges.{range_of, start_of, counter_of, changed_at, risen};
 ghost use Rattle.acc_base.specs.Tasks.{section_of, recounted};
 ghost use Rattle.acc_base.specs.Bytes.{transfer_of, host_made, memories_made};
@@ -8,12 +8,13 @@ ghost use Rattle.acc_base.specs.declared.tasks.Task.TheVariants.{Enter};
 ghost use Rattle.acc_base.specs.declared.events.Step.TheVariants.{Born, Dropped, Moved};
 ghost use Rattle.acc_present.specs.Present.{HasRange, with_ranges, IsRoomKept};
 ghost use Rattle.acc_clauses.specs.Contents.{state_of, room_of};
-ghost use Rattle.acc_clauses.specs.Acts.{CanAct, CanCount, CanBear, CanMove, CanDrop, HasRoomFor, IsRoomLeft, IsActedBy, CanMake, IsMade, birth_of};
+ghost use Rattle.acc_clauses.specs.Acts.{CanAct, CanCount, CanBear, CanMove, CanDrop, HasRoomFor, IsRoomLeft, IsActedBy, CanMake, IsMade, birth_of, CanDo, IsDoneBy, pointers_of};
 
 use crate::copies::{copy_in, copy_out};
 use crate::environments::Environment;
+use crate::pointers::aim_on;
 use crate::rows::{copies_in, gives_bytes, goes_out, is_zeroed, section_of};
-use acc_base::{Counter, Item, RegionClause, Step, Task};
+use acc_base::{Counter, Did, Item, RegionClause, Section, Step, Task};
 use acc_dev::Device;
 use acc_host::HostMem;
 use acc_present::Present;
@@ -50,18 +51,18 @@ fn recount(present: &mut Present, task: Task, block: u64)
     }
 }
 
-/// A new block for an item that enters, with its bytes.
-fn make_block(device: &mut Device, host: &HostMem, item: Item<RegionClause>)
-    requires can { CanMake device.old host.now item.section }
-    ensures { IsMade device.old device.new item host.now }
+/// A new block for a section that is mapped by a clause, with its bytes.
+fn make_block(device: &mut Device, host: &HostMem, section: Section, clause: RegionClause)
+    requires can { CanMake device.old host.now section }
+    ensures { IsMade device.old device.new section clause host.now }
 {
-    if copies_in(item.clause) {
-        let Some(bytes) = host.read(item.section) else {
+    if copies_in(clause) {
+        let Some(bytes) = host.read(section) else {
             unreachable!()
         };
         device.born_with_reserved(bytes);
     } else {
-        device.born_reserved(item.section.len, is_zeroed(item.clause));
+        device.born_reserved(section.len, is_zeroed(clause));
     }
 }
 
@@ -73,12 +74,18 @@ fn bear(
     block: u64,
     place: u64,
 )
-    requires can { CanBear environment.old.present.table.counter_max environment.old.device.size item.section block place (state_of environment.old 0) }
-    requires room { HasRoomFor (item.section.len ∷ []) (room_of environment.old) }
+    requires can { CanBear environment.old.present.table.counter_max environment.old.device.size (section_of (Enter counter item)) block place (state_of environment.old 0) }
+    requires room { HasRoomFor ((section_of (Enter counter item)).len ∷ []) (room_of environment.old) }
     ensures acted { IsActedBy (Enter counter item) (Born block place) environment.old environment.new }
 {
-    make_block(&mut environment.device, &environment.host, item);
-    environment.present.add_reserved(item.section, block);
+    let section = section_of(Task::Enter { counter, item });
+    make_block(
+        &mut environment.device,
+        &environment.host,
+        section,
+        item.clause,
+    );
+    environment.present.add_reserved(section, block);
     raise(&mut environment.present, counter, block);
 }
 
@@ -130,7 +137,7 @@ fn update(environment: &mut Environment, task: Task, block: u64)
 }
 
 /// Does the step of a task.
-pub(crate) fn act_on(environment: &mut Environment, task: Task, step: Step)
+fn step_on(environment: &mut Environment, task: Task, step: Step)
     requires can { CanAct environment.old.present.table.counter_max environment.old.device.size task step (state_of environment.old 0) }
     requires room { HasRoomFor (birth_of task step) (room_of environment.old) }
     ensures acted { IsActedBy task step environment.old environment.new }
@@ -146,5 +153,24 @@ pub(crate) fn act_on(environment: &mut Environment, task: Task, step: Step)
         }
         Step::Dropped { block, ended } => lower(environment, task, block, ended),
         Step::Moved { block } => update(environment, task, block),
+    }
+}
+
+/// Does what a task does: entry attaches after its step, and exit detaches before its step.
+pub(crate) fn act_on(environment: &mut Environment, task: Task, did: Did)
+    requires can { CanDo environment.old task did }
+    requires room { HasRoomFor (birth_of task did.step) (room_of environment.old) }
+    requires pointers { pointers_of did.aim ≤ (room_of environment.old).attachments }
+    ensures done { IsDoneBy task did environment.old environment.new }
+{
+    match task {
+        Task::Enter { .. } => {
+            step_on(environment, task, did.step);
+            aim_on(environment, did.aim);
+        }
+        Task::Leave { .. } | Task::Exit { .. } | Task::Move { .. } => {
+            aim_on(environment, did.aim);
+            step_on(environment, task, did.step);
+        }
     }
 }

@@ -11,6 +11,7 @@ ghost use Rattle.acc_clauses.specs.Acts.{CanMove};
 ghost use Rattle.acc_clauses.specs.Copies.{IsRunEnd};
 
 use crate::environments::Environment;
+use crate::sections::POINTER_LEN;
 use acc_attach::Attached;
 use acc_base::Section;
 use acc_dev::Device;
@@ -34,7 +35,7 @@ fn run_out(device: &Device, host: &mut HostMem, run: Section, block: u64, start:
 }
 
 /// Copies a run of bytes of host memory to a block that is mapped from the host address `start` on.
-fn run_in(device: &mut Device, host: &HostMem, run: Section, block: u64, start: u64)
+pub(crate) fn run_in(device: &mut Device, host: &HostMem, run: Section, block: u64, start: u64)
     requires in_host { is_within run (host_memory (length host.now)) ≡ true }
     requires there { HasBlock device.old block }
     requires within { is_within run (record { start = start; len = length (bytes_of block device.old.memories) }) ≡ true }
@@ -48,15 +49,12 @@ fn run_in(device: &mut Device, host: &HostMem, run: Section, block: u64, start: 
 }
 
 /// The host address at which the range that is mapped to a block begins.
-fn start_of(present: &Present, block: u64) -> u64
+pub(crate) fn start_of(present: &Present, block: u64) -> u64
     requires { HasRange present.now.table block }
     ensures { result ≡ start_of block present.now.table.ranges }
 {
     present.range_at(block).section.start
 }
-
-/// How many bytes a pointer has.
-const POINTER_LEN: u64 = 8;
 
 /// Where the run of bytes from the host address `at` on ends that no attached pointer of the block has: at the next such
 /// pointer, which may begin up to seven bytes below `at`, or at `end`.

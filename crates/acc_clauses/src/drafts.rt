@@ -1,11 +1,12 @@
 //! What was judged so far of a directive.
 
-ghost use Rattle.std.specs.Prelude.{[], ◌∷◌, ◌++◌, ◌≡◌, ◌<◌, ◌≤◌, length};
-ghost use Rattle.acc_clauses.specs.Overlays.{IsDraft, births_of, ended_of};
+ghost use Rattle.std.specs.Prelude.{List, [], ◌∷◌, ◌++◌, ◌≡◌, ◌<◌, ◌≤◌, length};
+ghost use Rattle.acc_clauses.specs.Overlays.{IsDraft, births_of, ended_of, with_aim};
+ghost use Rattle.acc_clauses.specs.declared.acted.Acted.{Acted};
 
 use crate::acted::Acted;
 use crate::rows::section_of;
-use acc_base::Step;
+use acc_base::{Aim, Did, Step};
 use arrayvec::ArrayVec;
 use std::marker::Model;
 
@@ -43,7 +44,7 @@ fn tally(
     requires few { length acts.now < 64 }
     ensures { IsDraft (acts.now ++ x ∷ []) births.new.items ended.new.items }
 {
-    match x.step {
+    match x.did.step {
         Step::Born { place, .. } => births.push((place, section_of(x.task).len)),
         Step::Dropped { block, ended: over } => {
             if over {
@@ -84,6 +85,19 @@ impl Draft {
     {
         tally(&mut self.births, &mut self.ended, x, &self.acts);
         self.acts.push(x);
+    }
+
+    /// This became of the pointer of the task that was judged last.
+    pub(crate) fn aim(&mut self, aim: Aim)
+        ensures { (xs : List Acted) (x : Acted) → self.old ≡ xs ++ x ∷ [] → self.new ≡ xs ++ with_aim aim x ∷ [] }
+    {
+        if let Some(x) = self.acts.pop() {
+            let step = x.did.step;
+            self.acts.push(Acted {
+                task: x.task,
+                did: Did { step, aim },
+            });
+        }
     }
 
     /// The tasks, each with what it does.

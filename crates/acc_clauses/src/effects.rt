@@ -58,11 +58,11 @@ pub fn are_zero(counters: Counters) -> bool
 fn counters_by(block: u64, counters: Counters, x: Acted) -> Counters
     requires structured { counters.structured < 2 ^ 40 }
     requires dynamic { counters.dynamic < 2 ^ 40 }
-    ensures value { result ≡ counters_by block counters x.task x.step }
+    ensures value { result ≡ counters_by block counters x.task x.did.step }
     ensures structured_most { result.structured ≤ counters.structured + 1 }
     ensures dynamic_most { result.dynamic ≤ counters.dynamic + 1 }
 {
-    let named = match x.step {
+    let named = match x.did.step {
         Step::Counted { block } => Some(block),
         Step::Born { block, .. } => Some(block),
         Step::Dropped { block, .. } => Some(block),
@@ -115,9 +115,9 @@ fn found_beside(section: Section, range: Section, block: u64, found: Found) -> F
 
 // Where a section lies after one task.
 fn found_by(section: Section, found: Found, x: Acted) -> Found
-    ensures { result ≡ found_by section found x.task x.step }
+    ensures { result ≡ found_by section found x.task x.did.step }
 {
-    match x.step {
+    match x.did.step {
         Step::Born { block, .. } => found_beside(section, section_of(x.task), block, found),
         Step::Nothing => found,
         Step::Counted { .. } => found,

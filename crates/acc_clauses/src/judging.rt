@@ -1,21 +1,22 @@
 //! The clause tables: what a task does after those that were judged before it, or why it is refused.
 
-ghost use Rattle.std.specs.Prelude.{ℕ, ◌≡◌, ◌+◌, ◌++◌, ◌∷◌, [], ◌<◌, ◌≤◌, ◌^◌, false};
-ghost use Rattle.std.specs.List.{list_any};
+ghost use Rattle.std.specs.Prelude.{ℕ, ◌≡◌, ◌+◌, ◌++◌, ◌∷◌, [], ◌<◌, ◌≤◌, ◌^◌, true};
+ghost use Rattle.std.specs.List.{list_all};
 ghost use Rattle.acc_base.specs.declared.addresses.TheConstants.{MEMORY_MAX};
 ghost use Rattle.acc_base.specs.Limits.{IsFromOne};
 ghost use Rattle.acc_base.specs.Ranges.{ends_by};
-ghost use Rattle.acc_base.specs.Clauses.{in_host, born, enter_absent, counted, enter_row, leave_row, exit_row, move_row};
-ghost use Rattle.acc_base.specs.Tasks.{recounted, judge_task};
+ghost use Rattle.acc_base.specs.Clauses.{in_host, pointer_checked, born, enter_absent, counted, enter_row, leave_row, exit_row, move_row};
+ghost use Rattle.acc_base.specs.Tasks.{recounted, checked, judge_step};
 ghost use Rattle.acc_base.specs.Blocks.{rounded};
 ghost use Rattle.acc_base.specs.declared.events.Step.TheVariants.{Dropped};
-ghost use Rattle.acc_clauses.specs.Overlays.{IsPlanned, AreUnmixed, tasks_in, records_after, may_end};
+ghost use Rattle.acc_clauses.specs.Overlays.{IsPlanned, AreUnmixed, tasks_in, records_after, enters};
 
 use crate::drafts::Draft;
 use crate::effects::{are_zero, recount};
 use crate::parts::Parts;
 use crate::readings::{counters_after, found_after, number_after, place_after};
-use crate::sections::is_within;
+use crate::rows::{pointer_of, section_of};
+use crate::sections::{POINTER_LEN, is_within, pointer_at};
 use acc_base::{
     Counter, ExitClause, Fault, Found, HOST_BASE, Holding, Item, RegionClause, Section, Step, Task,
     UpdateClause,
@@ -35,6 +36,34 @@ pub(crate) fn in_host(parts: &Parts, n: u64, section: Section) -> Result<(), Fau
     Ok(())
 }
 
+// The eight bytes of an item's pointer, if it names one, lie in host memory, from a multiple of eight on.
+fn pointer_checked(parts: &Parts, n: u64, pointer: Option<u64>) -> Result<(), Fault>
+    ensures { result ≡ pointer_checked parts.now.limits n pointer }
+{
+    let Some(pointer) = pointer else {
+        return Ok(());
+    };
+    let host = Section {
+        start: HOST_BASE,
+        len: parts.config().host(),
+    };
+    if !is_within(pointer_at(pointer), host) {
+        return Err(Fault::OutOfHost { item: n });
+    }
+    if pointer % POINTER_LEN != 0 {
+        return Err(Fault::Misaligned { item: n });
+    }
+    Ok(())
+}
+
+// Section and pointer of a task, if it names them, may stand there.
+fn checked(parts: &Parts, n: u64, task: Task) -> Result<(), Fault>
+    ensures { result ≡ checked parts.now.limits n task }
+{
+    in_host(parts, n, section_of(task))?;
+    pointer_checked(parts, n, pointer_of(task))
+}
+
 // What a block takes of the device: the least multiple of 16 that is at least its length.
 fn rounded(len: u64) -> u64
     requires { len ≤ MEMORY_MAX }
@@ -47,7 +76,7 @@ fn rounded(len: u64) -> u64
 #[tactic(auto, using(crate::proofs::Laws::plan_laws))]
 fn born(parts: &Parts, draft: &Draft, n: u64, section: Section) -> Result<Step, Fault>
     requires planned { IsPlanned parts.now.limits draft.now parts.now.state.records }
-    requires entering { list_any may_end (tasks_in draft.now) ≡ false }
+    requires entering { list_all enters (tasks_in draft.now) ≡ true }
     requires births { parts.now.state.records.births < 2 ^ 48 }
     requires len { IsFromOne MEMORY_MAX section.len }
     ensures { result ≡ born parts.now.limits n section (records_after draft.now parts.now.state.records) }
@@ -69,21 +98,23 @@ fn enter_absent(
     parts: &Parts,
     draft: &Draft,
     n: u64,
-    item: Item<RegionClause>,
+    clause: RegionClause,
+    section: Section,
 ) -> Result<Step, Fault>
     requires planned { IsPlanned parts.now.limits draft.now parts.now.state.records }
-    requires entering { list_any may_end (tasks_in draft.now) ≡ false }
+    requires entering { list_all enters (tasks_in draft.now) ≡ true }
     requires births { parts.now.state.records.births < 2 ^ 48 }
-    requires len { IsFromOne MEMORY_MAX item.section.len }
-    ensures { result ≡ enter_absent item.clause parts.now.limits n item.section (records_after draft.now parts.now.state.records) }
+    requires len { IsFromOne MEMORY_MAX section.len }
+    ensures { result ≡ enter_absent clause parts.now.limits n section (records_after draft.now parts.now.state.records) }
 {
-    match item.clause {
-        RegionClause::Copy => born(parts, draft, n, item.section),
-        RegionClause::Copyin => born(parts, draft, n, item.section),
-        RegionClause::Copyout { .. } => born(parts, draft, n, item.section),
-        RegionClause::Create { .. } => born(parts, draft, n, item.section),
+    match clause {
+        RegionClause::Copy => born(parts, draft, n, section),
+        RegionClause::Copyin => born(parts, draft, n, section),
+        RegionClause::Copyout { .. } => born(parts, draft, n, section),
+        RegionClause::Create { .. } => born(parts, draft, n, section),
         RegionClause::NoCreate => Ok(Step::Nothing),
         RegionClause::Present => Err(Fault::NotPresent { item: n }),
+        RegionClause::Attach => Ok(Step::Nothing),
     }
 }
 
@@ -110,7 +141,7 @@ fn counted(
 }
 
 // An item of a region's entry, or of `enter data`.
-#[tactic(auto, using(crate::proofs::Laws::plan_laws), unfolding(acc_base::specs::Tasks::judge_task))]
+#[tactic(auto, using(crate::proofs::Laws::plan_laws), unfolding(acc_base::specs::Tasks::judge_step))]
 fn enter(
     parts: &Parts,
     draft: &Draft,
@@ -119,15 +150,17 @@ fn enter(
     item: Item<RegionClause>,
 ) -> Result<Step, Fault>
     requires planned { IsPlanned parts.now.limits draft.now parts.now.state.records }
-    requires entering { list_any may_end (tasks_in draft.now) ≡ false }
+    requires entering { list_all enters (tasks_in draft.now) ≡ true }
     requires births { parts.now.state.records.births < 2 ^ 48 }
-    ensures { result ≡ judge_task parts.now.limits n (Task.Enter counter item) (records_after draft.now parts.now.state.records) }
+    ensures { result ≡ judge_step parts.now.limits n (Task.Enter counter item) (records_after draft.now parts.now.state.records) }
 {
-    in_host(parts, n, item.section)?;
-    match found_after(parts, draft, item.section) {
+    let task = Task::Enter { counter, item };
+    checked(parts, n, task)?;
+    let section = section_of(task);
+    match found_after(parts, draft, section) {
         Found::Empty => Ok(Step::Nothing),
         Found::Inside { block, .. } => counted(parts, draft, n, counter, block),
-        Found::Absent => enter_absent(parts, draft, n, item),
+        Found::Absent => enter_absent(parts, draft, n, item.clause, section),
         Found::Partly => Err(Fault::PartlyPresent { item: n }),
     }
 }
@@ -144,10 +177,10 @@ fn dropped(parts: &Parts, draft: &Draft, task: Task, block: u64) -> Step
 }
 
 // Undoes what an item of a region's entry counted, and nothing else.
-#[tactic(auto, unfolding(acc_base::specs::Tasks::judge_task))]
+#[tactic(auto, unfolding(acc_base::specs::Tasks::judge_step))]
 fn leave(parts: &Parts, draft: &Draft, holding: Holding) -> Result<Step, Fault>
     requires { IsPlanned parts.now.limits draft.now parts.now.state.records }
-    ensures { (n : ℕ) → result ≡ judge_task parts.now.limits n (Task.Leave holding) (records_after draft.now parts.now.state.records) }
+    ensures { (n : ℕ) → result ≡ judge_step parts.now.limits n (Task.Leave holding) (records_after draft.now parts.now.state.records) }
 {
     match holding.block {
         Some(block) => Ok(dropped(parts, draft, Task::Leave { holding }, block)),
@@ -156,7 +189,7 @@ fn leave(parts: &Parts, draft: &Draft, holding: Holding) -> Result<Step, Fault>
 }
 
 // An item of `exit data`.
-#[tactic(auto, unfolding(acc_base::specs::Tasks::judge_task))]
+#[tactic(auto, unfolding(acc_base::specs::Tasks::judge_step))]
 fn exit(
     parts: &Parts,
     draft: &Draft,
@@ -166,16 +199,17 @@ fn exit(
 ) -> Result<Step, Fault>
     requires planned { IsPlanned parts.now.limits draft.now parts.now.state.records }
     requires unmixed { AreUnmixed (tasks_in draft.now) }
-    ensures { result ≡ judge_task parts.now.limits n (Task.Exit finalize item) (records_after draft.now parts.now.state.records) }
+    ensures { result ≡ judge_step parts.now.limits n (Task.Exit finalize item) (records_after draft.now parts.now.state.records) }
 {
-    in_host(parts, n, item.section)?;
-    match found_after(parts, draft, item.section) {
+    let task = Task::Exit { finalize, item };
+    checked(parts, n, task)?;
+    match found_after(parts, draft, section_of(task)) {
         Found::Empty => Ok(Step::Nothing),
         Found::Inside { block, .. } => {
             if counters_after(parts, draft, block).dynamic == 0 {
                 return Ok(Step::Nothing);
             }
-            Ok(dropped(parts, draft, Task::Exit { finalize, item }, block))
+            Ok(dropped(parts, draft, task, block))
         }
         Found::Absent => Ok(Step::Nothing),
         Found::Partly => Err(Fault::PartlyPresent { item: n }),
@@ -183,7 +217,7 @@ fn exit(
 }
 
 // An item of `update`.
-#[tactic(auto, unfolding(acc_base::specs::Tasks::judge_task))]
+#[tactic(auto, unfolding(acc_base::specs::Tasks::judge_step))]
 fn copy(
     parts: &Parts,
     draft: &Draft,
@@ -193,7 +227,7 @@ fn copy(
 ) -> Result<Step, Fault>
     requires planned { IsPlanned parts.now.limits draft.now parts.now.state.records }
     requires unmixed { AreUnmixed (tasks_in draft.now) }
-    ensures { result ≡ judge_task parts.now.limits n (Task.Move if_present item) (records_after draft.now parts.now.state.records) }
+    ensures { result ≡ judge_step parts.now.limits n (Task.Move if_present item) (records_after draft.now parts.now.state.records) }
 {
     in_host(parts, n, item.section)?;
     match found_after(parts, draft, item.section) {
@@ -209,13 +243,13 @@ fn copy(
     }
 }
 
-/// What the task of the item at place `n` does after those that were judged before it, or its refusal.
+/// The step of the task of the item at place `n` after those that were judged before it, or its refusal.
 #[tactic(auto, using(crate::proofs::Laws::kind_laws))]
-pub(crate) fn judge(parts: &Parts, draft: &Draft, n: u64, task: Task) -> Result<Step, Fault>
+pub(crate) fn judge_step(parts: &Parts, draft: &Draft, n: u64, task: Task) -> Result<Step, Fault>
     requires planned { IsPlanned parts.now.limits draft.now parts.now.state.records }
     requires unmixed { AreUnmixed (tasks_in draft.now ++ task ∷ []) }
     requires births { parts.now.state.records.births < 2 ^ 48 }
-    ensures { result ≡ judge_task parts.now.limits n task (records_after draft.now parts.now.state.records) }
+    ensures { result ≡ judge_step parts.now.limits n task (records_after draft.now parts.now.state.records) }
 {
     match task {
         Task::Enter { counter, item } => enter(parts, draft, n, counter, item),

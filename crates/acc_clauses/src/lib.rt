@@ -6,21 +6,26 @@
 
 mod acted;
 mod acting;
+mod aim_effects;
+mod aims;
 mod copies;
 mod drafts;
 mod effects;
 mod environments;
 mod heads;
+mod items;
 mod judging;
 mod notes;
 mod parts;
 mod planning;
 mod plans;
+mod pointers;
 mod readings;
 mod rows;
 mod running;
 mod sections;
 mod stores;
+mod targets;
 mod tasks;
 
 pub use acted::Acted;

@@ -1,8 +1,7 @@
 //! What a plan notes of its tasks, so that nothing has to be gathered when it is done.
 
 ghost use Rattle.std.specs.Prelude.{◌≡◌, ◌+◌, ◌++◌, ◌<◌, ◌≤◌, [], length};
-ghost use Rattle.acc_base.specs.Tasks.{did_of};
-ghost use Rattle.acc_base.specs.Walk.{block_counted};
+ghost use Rattle.acc_base.specs.Walk.{block_counted, pointer_attached};
 ghost use Rattle.acc_clauses.specs.Overlays.{tasks_in, dids_in};
 ghost use Rattle.acc_clauses.specs.Planned.{in_written_order, holding_by, holdings_by, held_by};
 ghost use Rattle.acc_clauses.specs.Acts.{birth_of, lens_born};
@@ -10,7 +9,7 @@ ghost use Rattle.acc_clauses.specs.Acts.{birth_of, lens_born};
 use crate::acted::Acted;
 use crate::plans::Head;
 use crate::rows::section_of;
-use acc_base::{Did, Holding, Step, Task};
+use acc_base::{Aim, Did, Holding, Step, Task};
 use arrayvec::ArrayVec;
 
 // What the tasks do, in the order in which they act.
@@ -20,7 +19,7 @@ fn tell(did: &mut ArrayVec<Did, 64>, acts: &[Acted])
 {
     did.clear();
     for x in acts {
-        did.push(Did { step: x.step });
+        did.push(x.did);
     }
 }
 
@@ -40,10 +39,10 @@ pub fn tell_written(did: &mut ArrayVec<Did, 64>, head: Head, acts: &[Acted])
 // Notes the length of the block that a task bears, if it bears one.
 fn note_birth(lens: &mut ArrayVec<u64, 64>, x: &Acted)
     requires { length lens.old.items < 64 }
-    ensures lens { lens.new.items ≡ lens.old.items ++ birth_of x.now.task x.now.step }
+    ensures lens { lens.new.items ≡ lens.old.items ++ birth_of x.now.task x.now.did.step }
     ensures few { length lens.new.items ≤ length lens.old.items + 1 }
 {
-    match x.step {
+    match x.did.step {
         Step::Born { .. } => lens.push(section_of(x.task).len),
         Step::Nothing => {}
         Step::Counted { .. } => {}
@@ -76,16 +75,30 @@ fn block_counted(step: Step) -> Option<u64>
     }
 }
 
+// The pointer that was attached, and the block that holds it.
+fn pointer_attached(aim: Aim) -> Option<(u64, u64)>
+    ensures { result ≡ pointer_attached aim }
+{
+    match aim {
+        Aim::New { pointer, block, .. } => Some((pointer, block)),
+        Aim::Again { pointer, block } => Some((pointer, block)),
+        Aim::None => None,
+        Aim::Less { .. } => None,
+        Aim::Cleared { .. } => None,
+    }
+}
+
 // Notes what a task of an entry holds.
 fn note_holding(holdings: &mut ArrayVec<Holding, 64>, x: &Acted)
     requires { length holdings.old.items < 64 }
-    ensures holdings { holdings.new.items ≡ holdings.old.items ++ holding_by x.now.task (did_of x.now.step) }
+    ensures holdings { holdings.new.items ≡ holdings.old.items ++ holding_by x.now.task x.now.did }
     ensures few { length holdings.new.items ≤ length holdings.old.items + 1 }
 {
     match x.task {
         Task::Enter { item, .. } => holdings.push(Holding {
             item,
-            block: block_counted(x.step),
+            block: block_counted(x.did.step),
+            aim: pointer_attached(x.did.aim),
         }),
         Task::Leave { .. } => {}
         Task::Exit { .. } => {}

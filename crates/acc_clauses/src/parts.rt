@@ -1,25 +1,30 @@
 //! The parts of a data environment as one value.
 
-ghost use Rattle.std.specs.Prelude.{◌≡◌, ◌+◌, ◌++◌, ◌^◌, ◌<◌, ◌≤◌, ◌↔◌, All, IfOk, IfErr, OnOk, OnErr, IfSome, IfNone, MatchOption, IsSome, None, Some, length};
+ghost use Rattle.std.specs.Prelude.{◌≡◌, ◌+◌, ◌++◌, ◌^◌, ◌<◌, ◌≤◌, ◌↔◌, All, IfOk, IfErr, OnOk, OnErr, IfSome, IfNone, MatchOption, IsSome, None, Some, length, true};
 ghost use Rattle.acc_base.specs.declared.faults.Fault.TheVariants.{Memory};
 ghost use Rattle.acc_base.specs.Limits.{IsFromOne, IsWithinBounds};
 ghost use Rattle.acc_base.specs.declared.addresses.TheConstants.{MEMORY_MAX};
-ghost use Rattle.acc_base.specs.Section.{device_base};
+ghost use Rattle.acc_base.specs.Section.{device_base, is_within, host_memory};
 ghost use Rattle.acc_base.specs.Holes.{IsDevice};
 ghost use Rattle.acc_base.specs.Ranges.{where_is, where_is_apart, range_of, range_from, structured_of, dynamic_of, counter_of, start_of};
 ghost use Rattle.acc_base.specs.Blocks.{rounded, block_at, place_of, place_for, used_bytes};
 ghost use Rattle.acc_base.specs.Register.{holdings_at, region_at, newest_region, opened, closed};
-ghost use Rattle.acc_base.specs.Bytes.{bytes_of, act_state, host_after_write};
+ghost use Rattle.acc_base.specs.Bytes.{bytes_of, host_after_write};
+ghost use Rattle.acc_base.specs.Pointers.{attachment_of};
+ghost use Rattle.acc_base.specs.Acting.{act_state};
+ghost use Rattle.acc_base.specs.Attachments.{pointer_at, count_at};
+ghost use Rattle.acc_base.specs.Pointers.{block_with, host_pointer, device_pointer};
 ghost use Rattle.acc_host.specs.Host.{bytes_in, IsRead, IsOutOfHost};
 ghost use Rattle.acc_placement.specs.Ranges.{IsTakeBelow};
 ghost use Rattle.acc_dev.specs.Device.{planned_blocks};
 ghost use Rattle.acc_clauses.specs.Contents.{AreNew, AreContentsSound};
-ghost use Rattle.acc_clauses.specs.Acts.{IsJudged, IsKnown, HasRoomFor, HasRegionRoom, CanWrite, IsRoomLeft, birth_of};
+ghost use Rattle.acc_clauses.specs.Acts.{IsJudged, IsKnown, HasRoomFor, HasRegionRoom, CanWrite, IsRoomLeft, birth_of, pointers_of};
 
 use crate::acting::act_on;
 use crate::environments::Environment;
+use crate::sections::pointer_at;
 use acc_attach::Attached;
-use acc_base::{Config, Counter, Counters, Fault, Found, Holding, Range, Section, Step, Task};
+use acc_base::{Config, Counter, Counters, Did, Fault, Found, Holding, Range, Section, Task};
 use acc_dev::Device;
 use acc_host::HostMem;
 use acc_present::Present;
@@ -141,6 +146,17 @@ impl Parts {
         }
     }
 
+    /// The attachment counter of the pointer at a host address, in the block whose range has its eight bytes; 0 where it
+    /// is not present.
+    pub(crate) fn attachment(&self, pointer: u64) -> u64
+        ensures { result ≡ attachment_of pointer self.now.state.records }
+    {
+        match self.find(pointer_at(pointer)) {
+            Found::Inside { block, .. } => self.count(block, pointer),
+            Found::Empty | Found::Partly | Found::Absent => 0,
+        }
+    }
+
     // ---- device blocks
 
     /// The number that the next block gets.
@@ -251,39 +267,47 @@ impl Parts {
 
     // ---- changes
 
-    /// Does the step that a task is judged to do, where there is room for it. It takes no memory and is never refused.
-    pub(crate) fn act(&mut self, task: Task, step: Step)
-        requires judged { IsJudged self.old.limits task step self.old.state.records }
+    /// Does what a task is judged to do, where there is room for it. It takes no memory and is never refused.
+    pub(crate) fn act(&mut self, task: Task, did: Did)
+        requires judged { IsJudged self.old.limits task did self.old.state.records }
         requires known { IsKnown self.old.state.records task }
         requires births { self.old.state.records.births < 2 ^ 48 }
-        requires room { HasRoomFor (birth_of task step) self.old.room }
+        requires room { HasRoomFor (birth_of task did.step) self.old.room }
+        requires pointers { pointers_of did.aim ≤ self.old.room.attachments }
         ensures limits { self.new.limits ≡ self.old.limits }
-        ensures state { self.new.state ≡ act_state task step self.old.state }
-        ensures room { IsRoomLeft (birth_of task step) self.old.room self.new.room }
+        ensures state { self.new.state ≡ act_state task did self.old.state }
+        ensures room { IsRoomLeft (birth_of task did.step) (pointers_of did.aim) self.old.room self.new.room }
     {
         self.config.laws();
-        act_on(&mut self.environment, task, step);
+        act_on(&mut self.environment, task, did);
     }
 
-    /// Makes room for births of blocks of these lengths, in this order, and for one region with so many holdings.
-    /// Nothing else changes, also where it is refused.
+    /// Makes room for births of blocks of these lengths, in this order, for one region with so many holdings, and for so
+    /// many attachment counters. Nothing else changes, also where it is refused.
     ///
     /// # Errors
     ///
     /// [`Fault::Memory`] alone.
-    pub(crate) fn reserve(&mut self, lens: &[u64], holdings: u64) -> Result<(), Fault>
+    pub(crate) fn reserve(
+        &mut self,
+        lens: &[u64],
+        holdings: u64,
+        pointers: u64,
+    ) -> Result<(), Fault>
         requires few { length lens.now ≤ 64 }
         requires lens { All (IsFromOne MEMORY_MAX) lens.now }
         ensures limits { self.new.limits ≡ self.old.limits }
         ensures state { self.new.state ≡ self.old.state }
         ensures room { OnOk result (HasRoomFor lens.now self.new.room) }
         ensures room_region { OnOk result (HasRegionRoom holdings self.new.room) }
+        ensures room_pointers { OnOk result (pointers ≤ self.new.room.attachments) }
         ensures only { IfErr result (λ fault. fault ≡ Memory) }
     {
         self.environment.device.reserve(lens)?;
         self.environment
             .present
             .reserve(lens.len() as u64, holdings)?;
+        self.environment.attached.reserve(pointers)?;
         Ok(())
     }
 
@@ -318,5 +342,45 @@ impl Parts {
         let Ok(()) = self.environment.host.write(addr, bytes) else {
             unreachable!()
         };
+    }
+
+    // ---- pointers
+
+    /// How often a pointer in a block is attached. `pointer` is its host address.
+    pub(crate) fn count(&self, block: u64, pointer: u64) -> u64
+        ensures value { result ≡ count_at block pointer self.now.state.records.attached }
+        ensures limit { result ≤ self.now.limits.counter_max }
+        ensures bound { self.now.limits.counter_max < 2 ^ 32 }
+    {
+        self.laws();
+        self.environment.attached.count(block, pointer)
+    }
+
+    /// The address that a pointer in host memory holds.
+    pub(crate) fn host_pointer(&self, pointer: u64) -> u64
+        requires { is_within (pointer_at pointer) (host_memory self.now.limits.host) ≡ true }
+        ensures { result ≡ host_pointer pointer self.now.state }
+    {
+        let Some(address) = self.environment.host.pointer_at(pointer) else {
+            unreachable!()
+        };
+        address
+    }
+
+    /// The address that a pointer in a block holds on the device, where the block has its eight bytes.
+    pub(crate) fn device_pointer(&self, block: u64, pointer: u64) -> u64
+        ensures { block_with pointer self.now.state.records.ranges ≡ Some block → result ≡ device_pointer block pointer self.now.state }
+    {
+        self.laws();
+        let Some(bytes) = self.bytes(block) else {
+            return 0;
+        };
+        let from = pointer.saturating_sub(self.start(block)) as usize;
+        if bytes.len().saturating_sub(from) < 8 {
+            return 0;
+        }
+        let mut address = [0; 8];
+        address.copy_from_slice(&bytes[from..from + 8]);
+        u64::from_le_bytes(address)
     }
 }

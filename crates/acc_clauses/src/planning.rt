@@ -3,14 +3,13 @@
 ghost use Rattle.std.specs.Prelude.{◌≡◌, ◌<◌, ◌≤◌, ◌^◌, MatchResult, OnOk, length, Ok, Err};
 ghost use Rattle.std.specs.List.{AllByRecursion};
 ghost use Rattle.acc_base.specs.Records.{layout_of};
-ghost use Rattle.acc_base.specs.Tasks.{judge_all};
+ghost use Rattle.acc_base.specs.Acting.{judge_all};
 ghost use Rattle.acc_base.specs.Judge.{few_items, event_of, plan_of};
 ghost use Rattle.acc_clauses.specs.Overlays.{IsPlanned, AreUnmixed, tasks_in, dids_in};
 ghost use Rattle.acc_clauses.specs.Planned.{HasFewHoldings, asked_of, head_of, IsPlannedOn};
 
-use crate::acted::Acted;
 use crate::drafts::Draft;
-use crate::judging::judge;
+use crate::items::judge;
 use crate::notes::{note_births, note_held, tell_written};
 use crate::parts::Parts;
 use crate::plans::{Head, Plan};
@@ -23,7 +22,7 @@ fn judge_all(parts: &Parts, tasks: &[Task], draft: &mut Draft) -> Result<(), Fau
     requires few { length tasks.now ≤ 64 }
     requires unmixed { AreUnmixed tasks.now }
     requires births { parts.now.state.records.births < 2 ^ 48 }
-    ensures judged { MatchResult result (λ _. judge_all parts.now.limits 0 tasks.now parts.now.state.records ≡ Ok (dids_in draft.new)) (λ fault. judge_all parts.now.limits 0 tasks.now parts.now.state.records ≡ Err fault) }
+    ensures judged { MatchResult result (λ _. judge_all parts.now.limits 0 tasks.now parts.now.state ≡ Ok (dids_in draft.new)) (λ fault. judge_all parts.now.limits 0 tasks.now parts.now.state ≡ Err fault) }
     ensures asked { OnOk result (tasks_in draft.new ≡ tasks.now) }
     ensures planned { OnOk result (IsPlanned parts.now.limits draft.new parts.now.state.records) }
 {
@@ -31,8 +30,7 @@ fn judge_all(parts: &Parts, tasks: &[Task], draft: &mut Draft) -> Result<(), Fau
     draft.clear();
     let mut n = 0;
     for task in tasks {
-        let step = judge(parts, draft, n, *task)?;
-        draft.push(Acted { task: *task, step });
+        judge(parts, draft, n, *task)?;
         n += 1;
     }
     Ok(())
@@ -106,13 +104,13 @@ fn head_of(directive: &Directive) -> Head
 /// # Errors
 ///
 /// [`Fault::TooManyItems`] above 64 items; [`Fault::NoRegion`] where the region that is left is not open; else the first
-/// refusal of an item: [`Fault::OutOfHost`], [`Fault::PartlyPresent`], [`Fault::NotPresent`], [`Fault::CounterFull`] or
-/// [`Fault::DeviceFull`], with the item's place in the directive, counted from 0.
+/// refusal of an item: [`Fault::OutOfHost`], [`Fault::Misaligned`], [`Fault::PartlyPresent`], [`Fault::NotPresent`],
+/// [`Fault::CounterFull`] or [`Fault::DeviceFull`], with the item's place in the directive, counted from 0.
 #[tactic(auto, using(crate::proofs::Asking::event_laws))]
 pub(crate) fn plan(parts: &Parts, directive: &Directive, plan: &mut Plan) -> Result<(), Fault>
     requires births { parts.now.state.records.births < 2 ^ 48 }
     requires register { AllByRecursion HasFewHoldings parts.now.state.register.regions }
-    ensures judged { let lay = layout_of parts.now.state in MatchResult result (λ _. plan_of parts.now.limits directive.now lay ≡ Ok (event_of directive.now lay.register plan.new.dids)) (λ fault. plan_of parts.now.limits directive.now lay ≡ Err fault) }
+    ensures judged { let s = parts.now.state in MatchResult result (λ _. plan_of parts.now.limits directive.now s ≡ Ok (event_of directive.now s.register plan.new.dids)) (λ fault. plan_of parts.now.limits directive.now s ≡ Err fault) }
     ensures planned { OnOk result (IsPlannedOn parts.now.limits directive.now (layout_of parts.now.state) plan.new) }
 {
     tasks_of(parts, directive, &mut plan.asked)?;

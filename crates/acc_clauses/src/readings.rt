@@ -1,12 +1,12 @@
 //! What look-ups answer in the records that the tasks judged so far will leave.
 
-ghost use Rattle.std.specs.Prelude.{◌≡◌, ◌+◌, ◌<◌, ◌^◌, false};
-ghost use Rattle.std.specs.List.{list_any};
+ghost use Rattle.std.specs.Prelude.{◌≡◌, ◌+◌, ◌<◌, ◌^◌, true};
+ghost use Rattle.std.specs.List.{list_all};
 ghost use Rattle.acc_base.specs.declared.addresses.TheConstants.{MEMORY_MAX};
 ghost use Rattle.acc_base.specs.Limits.{IsFromOne};
 ghost use Rattle.acc_base.specs.Ranges.{where_is};
 ghost use Rattle.acc_base.specs.Blocks.{rounded, place_for};
-ghost use Rattle.acc_clauses.specs.Overlays.{IsPlanned, AreUnmixed, tasks_in, records_after, may_end, counters_at};
+ghost use Rattle.acc_clauses.specs.Overlays.{IsPlanned, AreUnmixed, tasks_in, records_after, enters, counters_at};
 
 use crate::drafts::Draft;
 use crate::effects::{counters_over, found_over};
@@ -36,22 +36,22 @@ pub(crate) fn counters_after(parts: &Parts, draft: &Draft, block: u64) -> Counte
     counters_over(block, counters, draft.acts())
 }
 
-/// Where a block of `len` bytes would be born after the tasks, of which none ends a mapping.
+/// Where a block of `len` bytes would be born after the tasks, which all enter.
 #[tactic(auto, using(crate::proofs::Laws::plan_laws))]
 pub(crate) fn place_after(parts: &Parts, draft: &Draft, len: u64) -> Option<u64>
     requires planned { IsPlanned parts.now.limits draft.now parts.now.state.records }
-    requires entering { list_any may_end (tasks_in draft.now) ≡ false }
+    requires entering { list_all enters (tasks_in draft.now) ≡ true }
     requires len { IsFromOne MEMORY_MAX len }
     ensures { result ≡ place_for parts.now.limits.device (records_after draft.now parts.now.state.records).blocks (rounded len) }
 {
     parts.would_take(draft.births(), len)
 }
 
-/// The number of the next block after the tasks, of which none ends a mapping.
+/// The number of the next block after the tasks, which all enter.
 #[tactic(auto, using(crate::proofs::Laws::plan_laws))]
 pub(crate) fn number_after(parts: &Parts, draft: &Draft) -> u64
     requires planned { IsPlanned parts.now.limits draft.now parts.now.state.records }
-    requires entering { list_any may_end (tasks_in draft.now) ≡ false }
+    requires entering { list_all enters (tasks_in draft.now) ≡ true }
     requires births { parts.now.state.records.births < 2 ^ 48 }
     ensures { result ≡ (records_after draft.now parts.now.state.records).births + 1 }
 {

@@ -1,21 +1,118 @@
 //! What a task's row of the clause tables says of its bytes (OpenACC 3.3, section 2.7).
 
 ghost use Rattle.std.specs.Prelude.{◌≡◌};
-ghost use Rattle.acc_base.specs.Tasks.{section_of};
-ghost use Rattle.acc_base.specs.Clauses.{copies_in, copies_out, is_zeroed};
-ghost use Rattle.acc_base.specs.Bytes.{gets_bytes, gives_bytes, goes_out};
+ghost use Rattle.acc_base.specs.Tasks.{section_of, pointer_of, is_action, pointer_aimed};
+ghost use Rattle.acc_base.specs.Clauses.{is_attach, is_detach, section_named, pointer_named, copies_in, copies_out, is_zeroed};
+ghost use Rattle.acc_base.specs.Bytes.{gives_bytes, goes_out};
 
-use acc_base::{ExitClause, RegionClause, Section, Task, UpdateClause};
+use acc_base::{ExitClause, RegionClause, Section, Step, Task, UpdateClause};
+
+// The clause names a pointer alone.
+fn is_attach(clause: RegionClause) -> bool
+    ensures { result ≡ is_attach clause }
+{
+    match clause {
+        RegionClause::Attach => true,
+        RegionClause::Copy
+        | RegionClause::Copyin
+        | RegionClause::Copyout { .. }
+        | RegionClause::Create { .. }
+        | RegionClause::NoCreate
+        | RegionClause::Present => false,
+    }
+}
+
+// The clause names a pointer alone.
+fn is_detach(clause: ExitClause) -> bool
+    ensures { result ≡ is_detach clause }
+{
+    match clause {
+        ExitClause::Detach => true,
+        ExitClause::Copyout | ExitClause::Delete => false,
+    }
+}
+
+// The section that an item names.
+fn section_named(alone: bool, section: Section) -> Section
+    ensures { result ≡ section_named alone section }
+{
+    if alone {
+        Section {
+            start: section.start,
+            len: 0,
+        }
+    } else {
+        section
+    }
+}
+
+// The pointer that an item names; with an empty section it names none.
+fn pointer_named(alone: bool, section: Section, pointer: Option<u64>) -> Option<u64>
+    ensures { result ≡ pointer_named alone section pointer }
+{
+    if alone {
+        Some(section.start)
+    } else if section.len == 0 {
+        None
+    } else {
+        pointer
+    }
+}
 
 /// The section that the task names.
 pub fn section_of(task: Task) -> Section
     ensures { result ≡ section_of task }
 {
     match task {
-        Task::Enter { item, .. } => item.section,
+        Task::Enter { item, .. } => section_named(is_attach(item.clause), item.section),
         Task::Leave { holding } => holding.item.section,
-        Task::Exit { item, .. } => item.section,
+        Task::Exit { item, .. } => section_named(is_detach(item.clause), item.section),
         Task::Move { item, .. } => item.section,
+    }
+}
+
+/// The pointer that it names; the exit from a region takes it from what the entry attached.
+pub fn pointer_of(task: Task) -> Option<u64>
+    ensures { result ≡ pointer_of task }
+{
+    match task {
+        Task::Enter { item, .. } => {
+            pointer_named(is_attach(item.clause), item.section, item.pointer)
+        }
+        Task::Exit { item, .. } => {
+            pointer_named(is_detach(item.clause), item.section, item.pointer)
+        }
+        Task::Leave { .. } | Task::Move { .. } => None,
+    }
+}
+
+// The step did something.
+fn is_action(step: Step) -> bool
+    ensures { result ≡ is_action step }
+{
+    match step {
+        Step::Nothing => false,
+        Step::Counted { .. } => true,
+        Step::Born { .. } => true,
+        Step::Dropped { .. } => true,
+        Step::Moved { .. } => true,
+    }
+}
+
+/// The pointer that an item attaches or detaches beside its step.
+pub fn pointer_aimed(task: Task, step: Step) -> Option<u64>
+    ensures { result ≡ pointer_aimed task step }
+{
+    let alone = match task {
+        Task::Enter { item, .. } => is_attach(item.clause),
+        Task::Exit { item, .. } => is_detach(item.clause),
+        Task::Leave { .. } => false,
+        Task::Move { .. } => false,
+    };
+    if alone || is_action(step) {
+        pointer_of(task)
+    } else {
+        None
     }
 }
 
@@ -28,7 +125,8 @@ pub fn copies_in(clause: RegionClause) -> bool
         RegionClause::Copyout { .. }
         | RegionClause::Create { .. }
         | RegionClause::NoCreate
-        | RegionClause::Present => false,
+        | RegionClause::Present
+        | RegionClause::Attach => false,
     }
 }
 
@@ -41,7 +139,8 @@ fn copies_out(clause: RegionClause) -> bool
         RegionClause::Copyin
         | RegionClause::Create { .. }
         | RegionClause::NoCreate
-        | RegionClause::Present => false,
+        | RegionClause::Present
+        | RegionClause::Attach => false,
     }
 }
 
@@ -54,7 +153,8 @@ pub fn is_zeroed(clause: RegionClause) -> bool
         RegionClause::Copy
         | RegionClause::Copyin
         | RegionClause::NoCreate
-        | RegionClause::Present => false,
+        | RegionClause::Present
+        | RegionClause::Attach => false,
     }
 }
 
@@ -66,7 +166,7 @@ pub fn gives_bytes(task: Task) -> bool
         Task::Leave { holding } => copies_out(holding.item.clause),
         Task::Exit { item, .. } => match item.clause {
             ExitClause::Copyout => true,
-            ExitClause::Delete => false,
+            ExitClause::Delete | ExitClause::Detach => false,
         },
         Task::Enter { .. } | Task::Move { .. } => false,
     }

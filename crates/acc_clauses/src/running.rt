@@ -1,10 +1,10 @@
 //! The steps of a whole directive, one after the other.
 
 ghost use Rattle.std.specs.Prelude.{◌≡◌, ◌<◌, ◌≤◌, ◌^◌, length};
-ghost use Rattle.acc_base.specs.Bytes.{act_all_state};
+ghost use Rattle.acc_base.specs.Acting.{act_all_state};
 ghost use Rattle.acc_base.specs.History.{AreJudged};
 ghost use Rattle.acc_clauses.specs.Overlays.{tasks_in, dids_in};
-ghost use Rattle.acc_clauses.specs.Acts.{AreKnown, HasRoomFor, lens_born};
+ghost use Rattle.acc_clauses.specs.Acts.{AreKnown, HasRoomFor, lens_born, pointers_in};
 
 use crate::acted::Acted;
 use crate::parts::Parts;
@@ -17,12 +17,13 @@ pub fn act_all(parts: &mut Parts, acts: &[Acted])
     requires few { length acts.now ≤ 64 }
     requires births { parts.old.state.records.births < 2 ^ 47 }
     requires room { HasRoomFor (lens_born (tasks_in acts.now) (dids_in acts.now)) parts.old.room }
+    requires pointers { pointers_in (dids_in acts.now) ≤ parts.old.room.attachments }
     ensures limits { parts.new.limits ≡ parts.old.limits }
     ensures state { parts.new.state ≡ act_all_state (tasks_in acts.now) (dids_in acts.now) parts.old.state }
     ensures room_regions { parts.old.room.regions ≤ parts.new.room.regions }
     ensures room_holdings { parts.old.room.holdings ≤ parts.new.room.holdings }
 {
     for x in acts {
-        parts.act(x.task, x.step);
+        parts.act(x.task, x.did);
     }
 }

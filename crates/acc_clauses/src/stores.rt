@@ -7,7 +7,9 @@ ghost use Rattle.acc_base.specs.Clauses.{in_host};
 ghost use Rattle.acc_base.specs.Holes.{IsDevice};
 ghost use Rattle.acc_base.specs.Ranges.{where_is, range_from, structured_of, dynamic_of};
 ghost use Rattle.acc_base.specs.Blocks.{block_at, place_of, used_bytes};
-ghost use Rattle.acc_base.specs.Bytes.{bytes_of, host_after_write, after};
+ghost use Rattle.acc_base.specs.Bytes.{bytes_of, host_after_write};
+ghost use Rattle.acc_base.specs.Pointers.{attachment_of};
+ghost use Rattle.acc_base.specs.Acting.{after};
 ghost use Rattle.acc_base.specs.Judge.{event_of, plan_of};
 ghost use Rattle.acc_base.specs.Records.{layout_of};
 ghost use Rattle.acc_base.specs.Register.{newest_region};
@@ -24,6 +26,7 @@ use crate::judging::in_host;
 use crate::parts::Parts;
 use crate::planning;
 use crate::plans::Plan;
+use crate::pointers::pointers_in;
 use crate::running::act_all;
 use acc_base::{Config, Counters, Directive, Fault, Found, Range, Section};
 use std::alloc::Global;
@@ -78,11 +81,11 @@ impl Store {
     /// # Errors
     ///
     /// `TooManyItems` above 64 items; `NoRegion` where the region is not open; then the first refusal of the items in the
-    /// order in which they act: `OutOfHost`, `PartlyPresent`, `NotPresent`, `CounterFull` or `DeviceFull`. The plan is then
-    /// of no use.
+    /// order in which they act: `OutOfHost`, `Misaligned`, `PartlyPresent`, `NotPresent`, `CounterFull` or `DeviceFull`. The
+    /// plan is then of no use.
     pub fn plan(&self, directive: &Directive, plan: &mut Plan) -> Result<(), Fault>
         requires births { self.now.state.records.births < 2 ^ 48 }
-        ensures judged { let lay = layout_of self.now.state in MatchResult result (λ _. plan_of self.now.limits directive.now lay ≡ Ok (event_of directive.now lay.register plan.new.dids)) (λ fault. plan_of self.now.limits directive.now lay ≡ Err fault) }
+        ensures judged { let s = self.now.state in MatchResult result (λ _. plan_of self.now.limits directive.now s ≡ Ok (event_of directive.now s.register plan.new.dids)) (λ fault. plan_of self.now.limits directive.now s ≡ Err fault) }
         ensures planned { OnOk result (IsPlannedOn self.now.limits directive.now (layout_of self.now.state) plan.new) }
     {
         planning::plan(&self.parts, directive, plan)
@@ -101,7 +104,9 @@ impl Store {
         ensures only { IfErr result (λ fault. fault ≡ Memory) }
     {
         self.parts.laws();
-        self.parts.reserve(plan.lens(), plan.acts().len() as u64)
+        let acts = plan.acts();
+        self.parts
+            .reserve(plan.lens(), acts.len() as u64, pointers_in(acts))
     }
 
     /// Does a plan of this store, for which room was made. It takes no memory and is never refused.
@@ -171,6 +176,14 @@ impl Store {
         ensures dynamic { result.dynamic ≡ dynamic_of block self.now.state.records.ranges }
     {
         self.parts.counters(block)
+    }
+
+    /// The attachment counter of the pointer at a host address, in the block whose range has its eight bytes; 0 where it
+    /// is not present (OpenACC 3.3, section 2.6.8).
+    pub fn attachment(&self, pointer: u64) -> u64
+        ensures { result ≡ attachment_of pointer self.now.state.records }
+    {
+        self.parts.attachment(pointer)
     }
 
     /// The device address of a block's first byte; 0 where there is no such block.

@@ -29,6 +29,7 @@ fn as_region(clause: EnterClause) -> RegionClause
     match clause {
         EnterClause::Copyin => RegionClause::Copyin,
         EnterClause::Create { zero } => RegionClause::Create { zero },
+        EnterClause::Attach => RegionClause::Attach,
     }
 }
 
@@ -42,6 +43,7 @@ pub fn enter_data_tasks(tasks: &mut ArrayVec<Task, 64>, items: &[Item<EnterClaus
         let item = Item {
             clause: as_region(x.clause),
             section: x.section,
+            pointer: x.pointer,
         };
         tasks.push(Task::Enter {
             counter: Counter::Dynamic,

@@ -6,11 +6,11 @@ ghost use Rattle.acc_clauses.specs.Acts.{HasPlanRoom};
 ghost use Rattle.acc_clauses.specs.Stored.{IsPlan};
 
 use acc_base::{
-    Config, Counters, Directive, EnterClause, ExitClause, Fault, Found, Item, List, RegionClause,
-    Section, Step, UpdateClause,
+    Aim, Config, Counters, Directive, EnterClause, ExitClause, Fault, Found, Item, List,
+    RegionClause, Section, Step, UpdateClause,
 };
 use acc_clauses::{Plan, Store};
-use rows::{GROWING, ROWS};
+use rows::{GROWING, P, ROWS, TO_B};
 use std::alloc::{AllocError, Global};
 use std::process::Abort;
 use std::test::Fail;
@@ -27,6 +27,10 @@ enum Ask {
     Leave(u64),
     EnterData(Items<EnterClause>),
     ExitData(Items<ExitClause>, bool),
+    /// With this pointer to the data of each item.
+    EnterVia(Items<RegionClause>, u64),
+    EnterDataVia(Items<EnterClause>, u64),
+    ExitDataVia(Items<ExitClause>, bool, u64),
     Update(Items<UpdateClause>),
 }
 
@@ -35,12 +39,20 @@ enum Ask {
 enum Turn {
     /// The directive is carried out, and its items did this, in written order.
     Does(Ask, &'static [Step]),
+    /// The directive is carried out, and its items did this to pointers, in written order.
+    Aims(Ask, &'static [Aim]),
     /// The directive is refused.
     Refused(Ask, Fault),
     /// Where a section lies, by its first host address and its length.
     Lies(u64, u64, Found),
     /// The structured and the dynamic counter of a block's range.
     Counted(u64, u64, u64),
+    /// How often the pointer at a host address is attached.
+    Attached(u64, u64),
+    /// The bytes of a block.
+    Block(u64, &'static [u8]),
+    /// A write of the host.
+    Writes(u64, &'static [u8]),
     /// How many regions are open.
     Regions(u64),
     /// The bytes of the device that blocks take.
@@ -59,22 +71,34 @@ struct Row {
 fn items<C: Copy + Drop>(
     alloc: Global,
     listed: &[(C, u64, u64)],
+    pointer: Option<u64>,
 ) -> Result<List<Item<C>>, AllocError> {
     let mut items = Vec::with_capacity(alloc, listed.len())?;
     for &(clause, start, len) in listed {
-        let section = Section { start, len };
-        items.push(Item { clause, section })?;
+        items.push(Item {
+            clause,
+            section: Section { start, len },
+            pointer,
+        })?;
     }
     Ok(List::from_vec(items))
 }
 
-fn enter(alloc: Global, listed: &[(RegionClause, u64, u64)]) -> Result<Directive, AllocError> {
-    let items = items(alloc, listed)?;
+fn enter(
+    alloc: Global,
+    listed: &[(RegionClause, u64, u64)],
+    pointer: Option<u64>,
+) -> Result<Directive, AllocError> {
+    let items = items(alloc, listed, pointer)?;
     Ok(Directive::Enter { items })
 }
 
-fn enter_data(alloc: Global, listed: &[(EnterClause, u64, u64)]) -> Result<Directive, AllocError> {
-    let items = items(alloc, listed)?;
+fn enter_data(
+    alloc: Global,
+    listed: &[(EnterClause, u64, u64)],
+    pointer: Option<u64>,
+) -> Result<Directive, AllocError> {
+    let items = items(alloc, listed, pointer)?;
     Ok(Directive::EnterData { items })
 }
 
@@ -82,23 +106,29 @@ fn exit_data(
     alloc: Global,
     listed: &[(ExitClause, u64, u64)],
     finalize: bool,
+    pointer: Option<u64>,
 ) -> Result<Directive, AllocError> {
-    let items = items(alloc, listed)?;
+    let items = items(alloc, listed, pointer)?;
     Ok(Directive::ExitData { items, finalize })
 }
 
 fn update(alloc: Global, listed: &[(UpdateClause, u64, u64)]) -> Result<Directive, AllocError> {
-    let items = items(alloc, listed)?;
+    let items = items(alloc, listed, None)?;
     let if_present = false;
     Ok(Directive::Update { items, if_present })
 }
 
 fn directive_of(alloc: Global, ask: Ask) -> Result<Directive, AllocError> {
     match ask {
-        Ask::Enter(listed) => enter(alloc, listed),
+        Ask::Enter(listed) => enter(alloc, listed, None),
+        Ask::EnterVia(listed, pointer) => enter(alloc, listed, Some(pointer)),
         Ask::Leave(number) => Ok(Directive::Exit { number }),
-        Ask::EnterData(listed) => enter_data(alloc, listed),
-        Ask::ExitData(listed, finalize) => exit_data(alloc, listed, finalize),
+        Ask::EnterData(listed) => enter_data(alloc, listed, None),
+        Ask::EnterDataVia(listed, pointer) => enter_data(alloc, listed, Some(pointer)),
+        Ask::ExitData(listed, finalize) => exit_data(alloc, listed, finalize, None),
+        Ask::ExitDataVia(listed, finalize, pointer) => {
+            exit_data(alloc, listed, finalize, Some(pointer))
+        }
         Ask::Update(listed) => update(alloc, listed),
     }
 }
@@ -128,6 +158,20 @@ fn answer(store: &mut Store, directive: &Directive) -> Option<Result<Plan, Fault
 fn has_steps(plan: &Plan, wanted: &[Step]) -> bool {
     let did = plan.did();
     did.len() == wanted.len() && did.iter().zip(wanted).all(|(did, step)| did.step == *step)
+}
+
+/// The plan has these aims.
+fn has_aims(plan: &Plan, wanted: &[Aim]) -> bool {
+    let did = plan.did();
+    did.len() == wanted.len() && did.iter().zip(wanted).all(|(did, aim)| did.aim == *aim)
+}
+
+fn aims(store: &mut Store, directive: &Directive, wanted: &[Aim]) -> bool {
+    match answer(store, directive) {
+        Some(Ok(plan)) => has_aims(&plan, wanted),
+        Some(Err(_)) => false,
+        None => false,
+    }
 }
 
 fn does(store: &mut Store, directive: &Directive, wanted: &[Step]) -> bool {
@@ -162,12 +206,34 @@ fn host_has(store: &Store, start: u64, wanted: &[u8]) -> bool {
     }
 }
 
+fn block_has(store: &Store, block: u64, wanted: &[u8]) -> bool {
+    match store.bytes(block) {
+        Some(bytes) => bytes == wanted,
+        None => false,
+    }
+}
+
+/// Writes into host memory, where the bytes lie there.
+fn writes(store: &mut Store, start: u64, bytes: &[u8]) -> bool {
+    let len = bytes.len() as u64;
+    if store.check_host(0, Section { start, len }).is_err() {
+        return false;
+    }
+    store.laws();
+    store.host_write(start, bytes);
+    true
+}
+
 /// The store answers as the turn says.
 fn agrees(alloc: Global, store: &mut Store, turn: Turn) -> Result<bool, AllocError> {
     match turn {
         Turn::Does(ask, steps) => {
             let directive = directive_of(alloc, ask)?;
             Ok(does(store, &directive, steps))
+        }
+        Turn::Aims(ask, wanted) => {
+            let directive = directive_of(alloc, ask)?;
+            Ok(aims(store, &directive, wanted))
         }
         Turn::Refused(ask, fault) => {
             let directive = directive_of(alloc, ask)?;
@@ -177,6 +243,9 @@ fn agrees(alloc: Global, store: &mut Store, turn: Turn) -> Result<bool, AllocErr
         Turn::Counted(block, structured, dynamic) => {
             Ok(has_counted(store, block, structured, dynamic))
         }
+        Turn::Attached(pointer, count) => Ok(store.attachment(pointer) == count),
+        Turn::Block(block, bytes) => Ok(block_has(store, block, bytes)),
+        Turn::Writes(start, bytes) => Ok(writes(store, start, bytes)),
         Turn::Regions(regions) => Ok(store.regions() == regions),
         Turn::Used(used) => Ok(store.used() == used),
         Turn::Host(start, bytes) => Ok(host_has(store, start, bytes)),
@@ -267,9 +336,11 @@ fn a_refused_growth_changes_nothing(rt: HostRuntime) -> Result<(), Fail> {
         Ok(store) => store,
         Err(_) => store_of(rt.alloc(), 100)?,
     };
+    assert!(&rt; writes(&mut store, P, TO_B));
     for ask in GROWING {
         grow(&rt, &mut store, *ask)?;
     }
+    assert_eq!(&rt; store.attachment(P), 1);
     assert_eq!(rt; told(&store), (3, 48, 2, 3));
     Ok(())
 }

@@ -1,13 +1,18 @@
 //! Rows: turns on a new store with their answers. Each value is worked out by hand from OpenACC 3.3, sections 2.6 and
 //! 2.7, and the documents of this project.
 
-use crate::tests::Ask::{Enter, EnterData, ExitData, Leave, Update};
-use crate::tests::Turn::{Counted as Counters, Does, Host, Lies, Refused, Regions, Used};
+use crate::tests::Ask::{
+    Enter, EnterData, EnterDataVia, EnterVia, ExitData, ExitDataVia, Leave, Update,
+};
+use crate::tests::Turn::{
+    Aims, Attached, Block, Counted as Counters, Does, Host, Lies, Refused, Regions, Used, Writes,
+};
 use crate::tests::{Ask, Row};
 use acc_base::RegionClause::{Copy, NoCreate, Present};
 use acc_base::Step::{Born, Counted, Dropped, Moved, Nothing};
 use acc_base::{
-    DEVICE_BASE, EnterClause, ExitClause, Fault, Found, HOST_BASE, RegionClause, Step, UpdateClause,
+    Aim, DEVICE_BASE, EnterClause, ExitClause, Fault, Found, HOST_BASE, RegionClause, Step,
+    UpdateClause,
 };
 
 const A: u64 = HOST_BASE;
@@ -46,14 +51,46 @@ const COPYIN_A: (EnterClause, u64, u64) = (EnterClause::Copyin, A, 16);
 
 const CREATE_A: (EnterClause, u64, u64) = (EnterClause::Create { zero: false }, A, 16);
 
-/// Directives each of which wants memory.
+/// The host address of a pointer in A, and the eight bytes that hold B, its device address, and an address that is not
+/// mapped.
+pub const P: u64 = HOST_BASE + 8;
+
+pub const TO_B: &[u8] = &[0x10, 0x10, 0, 0, 0, 0, 0, 0];
+
+const AT_B: &[u8] = &[0, 0, 0, 0, 0, 0, 0, 0, 0x10, 0, 0, 0, 1, 0, 0, 0];
+
+const AS_HOST: &[u8] = &[0, 0, 0, 0, 0, 0, 0, 0, 0x10, 0x10, 0, 0, 0, 0, 0, 0];
+
+const NEW: Aim = Aim::New {
+    pointer: P,
+    block: 1,
+    target: DEVICE_BASE + 16,
+};
+
+const AGAIN: Aim = Aim::Again {
+    pointer: P,
+    block: 1,
+};
+
+const LESS: Aim = Aim::Less {
+    pointer: P,
+    block: 1,
+};
+
+const CLEARED: Aim = Aim::Cleared {
+    pointer: P,
+    block: 1,
+};
+
+/// Directives each of which wants memory, where the pointer at P holds B.
 pub const GROWING: &[Ask] = &[
     EnterData(&[COPYIN_A]),
     Enter(&[(Copy, B, 16), (Present, A, 16)]),
+    EnterData(&[(EnterClause::Attach, P, 8)]),
     Enter(&[(NoCreate, A, 16), (RegionClause::Copyin, A + 32, 16)]),
 ];
 
-pub const ROWS: [Row; 9] = [
+pub const ROWS: [Row; 13] = [
     Row {
         name: "a region maps its sections while it is open, and copies out at its end",
         counter_max: 100,
@@ -186,6 +223,113 @@ pub const ROWS: [Row; 9] = [
                 Update(&[(UpdateClause::ToDevice, A, 16)]),
                 Fault::NotPresent { item: 0 },
             ),
+        ],
+    },
+    Row {
+        name: "each item's pointer is attached in what the items before it leave",
+        counter_max: 3,
+        turns: &[
+            Writes(P, TO_B),
+            Aims(
+                EnterDataVia(
+                    &[
+                        COPYIN_A,
+                        (EnterClause::Copyin, B, 16),
+                        (EnterClause::Attach, P, 0),
+                        (EnterClause::Copyin, B, 16),
+                    ],
+                    P,
+                ),
+                &[Aim::None, NEW, AGAIN, AGAIN],
+            ),
+            Attached(P, 3),
+            Block(1, AT_B),
+            Refused(
+                EnterData(&[(EnterClause::Attach, P, 8)]),
+                Fault::CounterFull { item: 0 },
+            ),
+            Refused(
+                EnterData(&[COPYIN_A, (EnterClause::Attach, P + 1, 8)]),
+                Fault::Misaligned { item: 1 },
+            ),
+        ],
+    },
+    Row {
+        name: "a transfer leaves an attached pointer out, and the last detachment brings the host's bytes",
+        counter_max: 100,
+        turns: &[
+            Writes(P, TO_B),
+            Does(
+                EnterData(&[COPYIN_A, (EnterClause::Copyin, B, 16)]),
+                &[BORN_1, BORN_2],
+            ),
+            Aims(
+                EnterData(&[(EnterClause::Attach, P, 8), (EnterClause::Attach, P, 8)]),
+                &[NEW, AGAIN],
+            ),
+            Does(
+                Update(&[(UpdateClause::ToDevice, A, 16)]),
+                &[Moved { block: 1 }],
+            ),
+            Block(1, AT_B),
+            Aims(
+                ExitData(
+                    &[
+                        (ExitClause::Detach, P, 8),
+                        (ExitClause::Detach, P, 8),
+                        (ExitClause::Detach, P, 8),
+                    ],
+                    false,
+                ),
+                &[LESS, LESS, Aim::None],
+            ),
+            Attached(P, 0),
+            Block(1, AS_HOST),
+        ],
+    },
+    Row {
+        name: "finalize detaches at once, and an exit that is no action does not detach",
+        counter_max: 100,
+        turns: &[
+            Writes(P, TO_B),
+            Aims(
+                EnterData(&[
+                    COPYIN_A,
+                    (EnterClause::Copyin, B, 16),
+                    (EnterClause::Attach, P, 8),
+                    (EnterClause::Attach, P, 8),
+                ]),
+                &[Aim::None, Aim::None, NEW, AGAIN],
+            ),
+            Aims(
+                ExitDataVia(&[(ExitClause::Delete, A + 32, 16)], true, P),
+                &[Aim::None],
+            ),
+            Aims(
+                ExitDataVia(&[(ExitClause::Delete, B, 16)], true, P),
+                &[CLEARED],
+            ),
+            Attached(P, 0),
+            Block(1, AS_HOST),
+        ],
+    },
+    Row {
+        name: "a region detaches what its own items attached",
+        counter_max: 100,
+        turns: &[
+            Writes(P, TO_B),
+            Does(EnterData(&[COPYIN_A]), &[BORN_1]),
+            Aims(
+                EnterVia(&[(Copy, B, 16), (NoCreate, A + 32, 16)], P),
+                &[NEW, Aim::None],
+            ),
+            Aims(Enter(&[(RegionClause::Attach, P, 8)]), &[AGAIN]),
+            Aims(Leave(1), &[LESS, Aim::None]),
+            Attached(P, 1),
+            Aims(Leave(2), &[LESS]),
+            Attached(P, 0),
+            Block(1, AS_HOST),
+            Used(16),
         ],
     },
 ];

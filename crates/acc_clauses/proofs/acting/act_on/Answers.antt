@@ -1,20 +1,8 @@
-use Rattle.std.proofs.Common.{sym, subst}
-use Rattle.acc_base.specs.declared.events.Step.{Step}
-use Rattle.acc_clauses.specs.Acts.{IsActedBy}
-use Rattle.acc_clauses.proofs.Steps.{nothing_acts, counted_acts, moved_acts}
+use Rattle.acc_clauses.proofs.Doing.{not_entry, enters, leaves}
 use Rattle.acc_clauses.proofs.acting.act_on.Goals as goal
 
-pub returns-in-Nothing : goal.returns-in-Nothing
-returns-in-Nothing c =
-    let x = c.args.environment.now in
-    record { acted = subst (λ (s : Step). IsActedBy c.args.task s x x) (sym c.in-Nothing.is) (nothing_acts c.args.task x) }
+pub returns-in-Enter : goal.returns-in-Enter
+returns-in-Enter c = record { done = enters c.args.task c.args.did c.args.environment.now c.step_on.new.environment c.aim_on.new.environment (rw c.in-Enter.is tt) c.step_on.ensures.acted c.aim_on.ensures.aimed }
 
-pub returns-in-Counted : goal.returns-in-Counted
-returns-in-Counted c =
-    let x = c.args.environment.now in
-    record { acted = subst (λ (s : Step). IsActedBy c.args.task s x (record x { present = c.recount.new.present })) (sym c.in-Counted.is) (counted_acts c.args.task c.in-Counted.block x c.recount.new.present c.recount.ensures.table c.recount.ensures.room) }
-
-pub returns-in-Moved : goal.returns-in-Moved
-returns-in-Moved c =
-    let x = c.args.environment.now in
-    record { acted = subst (λ (s : Step). IsActedBy c.args.task s x c.update.new.environment) (sym c.in-Moved.is) (moved_acts c.args.task c.in-Moved.block x c.update.new.environment c.update.ensures) }
+pub returns-in-Leave : goal.returns-in-Leave
+returns-in-Leave c = record { done = leaves c.args.task c.args.did c.args.environment.now c.aim_on-in-Leave.new.environment c.step_on-in-Leave.new.environment (not_entry c.args.task c.in-Leave.is) c.aim_on-in-Leave.ensures.aimed c.step_on-in-Leave.ensures.acted }

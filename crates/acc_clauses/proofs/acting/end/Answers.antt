@@ -14,5 +14,5 @@ remove-requires-clause-dynamic c = let table = rw c.give_bytes.ensures at c.reco
 pub returns : goal.returns
 returns c = record {
   acted = ended_acts c.args.task c.args.block c.args.environment.now c.give_bytes.new.environment c.recount.new.present c.remove.new.self c.retire.new.self c.forget.new.self
-      c.laws.ensures.memories c.give_bytes.ensures c.recount.ensures.table c.recount.ensures.room c.remove.ensures.table c.remove.ensures.room c.retire.ensures c.forget.ensures.attached c.forget.ensures.counter_max;
+      c.laws.ensures.memories c.give_bytes.ensures c.recount.ensures.table c.recount.ensures.room c.remove.ensures.table c.remove.ensures.room c.retire.ensures c.forget.ensures.attached c.forget.ensures.counter_max c.forget.ensures.spare;
 }

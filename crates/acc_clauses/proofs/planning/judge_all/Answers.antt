@@ -1,5 +1,5 @@
-use Rattle.std.proofs.Common.{◌≡◌, ◌<◌, refl, sym, length, arith, rules}
-use Rattle.acc_clauses.proofs.Turns.{turns_begun, turn, turn_refused, turns_done, unmixed_turn, asked_turn, few_turn, IsPlanned-push}
+use Rattle.std.proofs.Common.{◌≡◌, ◌<◌, refl, length, arith, rules}
+use Rattle.acc_clauses.proofs.Turns.{turns_begun, turn, turn_refused, turns_done, unmixed_turn, asked_turn, few_turn, IsPlanned-next}
 use Rattle.acc_clauses.proofs.planning.judge_all.Goals as goal
 
 pub loop-task-init : goal.loop-task-init
@@ -10,7 +10,7 @@ loop-task-init c =
       few = rw none refl;
       asked = rw none refl;
       planned = rw none (record { bounds = c.laws.ensures.limits; sound = c.laws.ensures.sound.records; judged = tt });
-      judged = rw none (turns_begun c.args.parts.now.limits c.args.tasks.now c.args.parts.now.state.records);
+      judged = rw none (turns_begun c.args.parts.now.limits c.args.tasks.now c.args.parts.now.state);
     }
 
 pub judge-requires-clause-unmixed : goal.judge-requires-clause-unmixed
@@ -18,25 +18,25 @@ judge-requires-clause-unmixed c =
     let within : c.loop-task.task-index < length c.args.tasks.now = omega arith in
     unmixed_turn c.loop-task.task-index _ _ c.args.tasks.now _ within refl c.loop-task.invariant.asked c.requires.unmixed
 
-pub returns-in_err-step-clause-judged : goal.returns-in_err-step-clause-judged
-returns-in_err-step-clause-judged c =
+pub returns-in_err-judge-clause-judged : goal.returns-in_err-judge-clause-judged
+returns-in_err-judge-clause-judged c =
     let within : c.loop-task.task-index < length c.args.tasks.now = omega arith in
-    let refused = turn_refused c.args.parts.now.limits c.loop-task.n c.loop-task.task-index c.loop-task.draft _ c.args.tasks.now _ c.args.parts.now.state.records _ _ within refl (sym c.in_err-step.ensures) c.loop-task.invariant.judged in
+    let refused = turn_refused c.args.parts.now.limits c.loop-task.n c.loop-task.task-index c.loop-task.draft _ c.args.tasks.now _ c.args.parts.now.state _ _ within refl c.in_err-judge.ensures c.loop-task.invariant.judged in
     search rules
 
 pub loop-task-preserved : goal.loop-task-preserved
 loop-task-preserved c =
     let r = c.loop-task.invariant in
     let within : c.loop-task.task-index < length c.args.tasks.now = omega arith in
-    let more = c.push.ensures in
+    let next = c.in_ok-judge.ensures in
     let at : c.loop-task.n ≡ length c.loop-task.draft = omega (arith, r.at, r.few) in
     record {
       at = omega arith;
-      few = few_turn _ _ _ _ more r.few;
-      asked = asked_turn c.loop-task.task-index c.loop-task.draft c.push.new.self _ c.args.tasks.now _ within refl more r.asked;
-      planned = rw more (IsPlanned-push c.args.parts.now.limits c.loop-task.n c.loop-task.draft _ c.args.parts.now.state.records at r.planned (sym c.in_ok-step.ensures));
-      judged = turn c.args.parts.now.limits c.loop-task.n c.loop-task.task-index c.loop-task.draft c.push.new.self _ c.args.tasks.now _ c.args.parts.now.state.records _ within refl more (sym c.in_ok-step.ensures) r.judged;
+      few = few_turn _ _ _ _ next.more r.few;
+      asked = asked_turn c.loop-task.task-index c.loop-task.draft c.judge.new.draft _ c.args.tasks.now _ within refl next.more r.asked;
+      planned = IsPlanned-next c.args.parts.now.limits c.loop-task.n c.loop-task.draft c.judge.new.draft _ c.args.parts.now.state at r.planned next;
+      judged = turn c.args.parts.now.limits c.loop-task.n c.loop-task.task-index c.loop-task.draft c.judge.new.draft _ c.args.tasks.now _ c.args.parts.now.state _ within refl next r.judged;
     }
 
 pub returns-clause-judged : goal.returns-clause-judged
-returns-clause-judged c = turns_done c.args.parts.now.limits c.loop-task.n c.loop-task.task-index c.loop-task.draft c.args.tasks.now c.args.parts.now.state.records _ (omega arith) c.loop-task.invariant.judged
+returns-clause-judged c = turns_done c.args.parts.now.limits c.loop-task.n c.loop-task.task-index c.loop-task.draft c.args.tasks.now c.args.parts.now.state _ (omega arith) c.loop-task.invariant.judged

@@ -1,6 +1,6 @@
 use Rattle.std.proofs.Common.{◌≡◌, ◌++◌, length, drop}
-use Rattle.acc_base.specs.Tasks.{judge_all}
-use Rattle.acc_clauses.specs.Overlays.{IsPlanned, tasks_in, dids_in, records_after}
+use Rattle.acc_base.specs.Acting.{judge_all}
+use Rattle.acc_clauses.specs.Overlays.{IsPlanned, tasks_in, dids_in, state_after}
 use Rattle.acc_clauses.proofs.Turns.{prefixed}
 use Rattle.acc_clauses.proofs.planning.judge_all.Given as goal
 
@@ -11,5 +11,5 @@ invariant-loop-task l = record {
   few : length l.draft ≡ l.task-index;
   asked : tasks_in l.draft ++ drop l.task-index l.tasks ≡ l.tasks;
   planned : IsPlanned l.parts.limits l.draft l.parts.state.records;
-  judged : prefixed (dids_in l.draft) (judge_all l.parts.limits l.n (drop l.task-index l.tasks) (records_after l.draft l.parts.state.records)) ≡ judge_all l.parts.limits 0 l.tasks l.parts.state.records;
+  judged : prefixed (dids_in l.draft) (judge_all l.parts.limits l.n (drop l.task-index l.tasks) (state_after l.draft l.parts.state)) ≡ judge_all l.parts.limits 0 l.tasks l.parts.state;
 }

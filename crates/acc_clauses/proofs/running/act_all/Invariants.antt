@@ -1,5 +1,5 @@
 use Rattle.std.proofs.Common.{◌≡◌, ◌+◌, ◌≤◌, drop}
-use Rattle.acc_base.specs.Bytes.{act_all_state}
+use Rattle.acc_base.specs.Acting.{act_all_state}
 use Rattle.acc_clauses.specs.Overlays.{tasks_in, dids_in}
 use Rattle.acc_clauses.proofs.Remaining.{CanRun}
 use Rattle.acc_clauses.proofs.running.act_all.Given as goal

@@ -1,30 +1,33 @@
-use Rattle.std.proofs.Common.{◌∙◌, ◌<◌, ◌^◌, sym, ap, subst}
-use Rattle.acc_base.specs.Bytes.{act_state}
+use Rattle.std.proofs.Common.{◌∙◌, ◌<◌, ◌≤◌, ◌^◌, sym, ap, subst}
+use Rattle.acc_base.specs.Acting.{act_state}
 use Rattle.acc_clauses.specs.Contents.{Contents, room_of}
-use Rattle.acc_clauses.specs.Acts.{IsJudged, IsKnown, HasRoomFor, IsRoomLeft, birth_of}
-use Rattle.acc_clauses.proofs.Legal.{can_act, parts_sound}
+use Rattle.acc_clauses.specs.Acts.{IsJudged, IsKnown, HasRoomFor, IsRoomLeft, birth_of, pointers_of}
+use Rattle.acc_clauses.proofs.Ready.{can_do, parts_sound}
 use Rattle.acc_clauses.proofs.parts.Parts.act.Goals as goal
 
 pub act_on-requires-clause-can : goal.act_on-requires-clause-can
 act_on-requires-clause-can c =
     let p = c.self.inside in
-    can_act p.config p.environment p.next c.args.task c.args.step c.laws.ensures c.self.invariant
+    can_do p.config p.environment p.next c.args.task c.args.did c.laws.ensures c.self.invariant
     (subst (λ (k : Contents). k.state.records.births < 2 ^ 48) (sym c.self.view_is) c.requires.births)
     (subst (λ (k : Contents). IsKnown k.state.records c.args.task) (sym c.self.view_is) c.requires.known)
-    (subst (λ (k : Contents). IsJudged k.limits c.args.task c.args.step k.state.records) (sym c.self.view_is) c.requires.judged)
+    (subst (λ (k : Contents). IsJudged k.limits c.args.task c.args.did k.state.records) (sym c.self.view_is) c.requires.judged)
 
 pub act_on-requires-clause-room : goal.act_on-requires-clause-room
-act_on-requires-clause-room c = subst (λ (k : Contents). HasRoomFor (birth_of c.args.task c.args.step) k.room) (sym c.self.view_is) c.requires.room
+act_on-requires-clause-room c = subst (λ (k : Contents). HasRoomFor (birth_of c.args.task c.args.did.step) k.room) (sym c.self.view_is) c.requires.room
+
+pub act_on-requires-clause-pointers : goal.act_on-requires-clause-pointers
+act_on-requires-clause-pointers c = subst (λ (k : Contents). pointers_of c.args.did.aim ≤ k.room.attachments) (sym c.self.view_is) c.requires.pointers
 
 pub invariant_of-self : goal.invariant_of-self
 invariant_of-self c =
     let p = c.self.inside in
-    parts_sound p.config p.environment c.act_on.new.environment p.next c.args.task c.args.step c.laws.ensures c.self.invariant
-    (subst (λ (k : Contents). IsJudged k.limits c.args.task c.args.step k.state.records) (sym c.self.view_is) c.requires.judged) c.act_on.ensures.acted
+    parts_sound p.config p.environment c.act_on.new.environment p.next c.args.task c.args.did c.laws.ensures c.self.invariant
+    (subst (λ (k : Contents). IsJudged k.limits c.args.task c.args.did k.state.records) (sym c.self.view_is) c.requires.judged) c.act_on.ensures.done
 
 pub returns : goal.returns
 returns c = record {
   limits = ap (λ (k : Contents). k.limits) c.self.view_is;
-  state = c.act_on.ensures.acted.state c.self.inside.next ∙ ap (λ (k : Contents). act_state c.args.task c.args.step k.state) c.self.view_is;
-  room = subst (λ (k : Contents). IsRoomLeft (birth_of c.args.task c.args.step) k.room (room_of c.act_on.new.environment)) c.self.view_is c.act_on.ensures.acted.room;
+  state = c.act_on.ensures.done.state c.self.inside.next ∙ ap (λ (k : Contents). act_state c.args.task c.args.did k.state) c.self.view_is;
+  room = subst (λ (k : Contents). IsRoomLeft (birth_of c.args.task c.args.did.step) (pointers_of c.args.did.aim) k.room (room_of c.act_on.new.environment)) c.self.view_is c.act_on.ensures.done.room;
 }

@@ -1,15 +1,15 @@
-use Rattle.std.proofs.Common.{◌≡◌, ◌∙◌, ◌<◌, ◌^◌, [], sym, ap, subst, List}
+use Rattle.std.proofs.Common.{◌≡◌, ◌∙◌, ◌<◌, ◌≤◌, ◌^◌, [], sym, ap, subst, List}
 use Rattle.acc_base.specs.declared.tasks.Task.{Task}
 use Rattle.acc_base.specs.declared.events.Did.{Did}
 use Rattle.acc_base.specs.Records.{State, layout_of}
-use Rattle.acc_base.specs.Bytes.{after}
+use Rattle.acc_base.specs.Acting.{after}
 use Rattle.acc_base.specs.Judge.{event_of}
 use Rattle.acc_base.specs.History.{AreJudged}
 use Rattle.acc_base.proofs.Walked.{register-act_all_state}
 use Rattle.acc_clauses.specs.Overlays.{tasks_in, dids_in}
 use Rattle.acc_clauses.specs.Planned.{IsPlannedOn}
 use Rattle.acc_clauses.specs.Contents.{Contents}
-use Rattle.acc_clauses.specs.Acts.{AreKnown, HasRoomFor, HasPlanRoom, lens_born}
+use Rattle.acc_clauses.specs.Acts.{AreKnown, HasRoomFor, HasPlanRoom, lens_born, pointers_in}
 use Rattle.acc_clauses.specs.Stored.{IsPlan}
 use Rattle.acc_clauses.proofs.Finishing.{after_plan}
 use Rattle.acc_clauses.proofs.Committing.{plan_known, plan_can, finished, plan_sound}
@@ -38,6 +38,13 @@ act_all-requires-clause-room c =
     let room : HasPlanRoom p k.room = subst (λ (x : Contents). HasPlanRoom p x.room) (sym c.self.view_is) c.requires.room in
     subst (λ (ts : List Task). HasRoomFor (lens_born ts (dids_in c.acts.result.now)) k.room) (sym c.acts.ensures.tasks)
     (subst (λ (ds : List Did). HasRoomFor (lens_born p.tasks ds) k.room) (sym c.acts.ensures.dids) room.births)
+
+pub act_all-requires-clause-pointers : goal.act_all-requires-clause-pointers
+act_all-requires-clause-pointers c =
+    let k : Contents = c.self.inside.parts in
+    let p = c.args.plan.now in
+    let room : HasPlanRoom p k.room = subst (λ (x : Contents). HasPlanRoom p x.room) (sym c.self.view_is) c.requires.room in
+    subst (λ (ds : List Did). pointers_in ds ≤ k.room.attachments) (sym c.acts.ensures.dids) room.pointers
 
 pub finish-requires : goal.finish-requires
 finish-requires c =

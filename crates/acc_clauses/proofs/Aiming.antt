@@ -1,0 +1,120 @@
+-- What attaching and detaching a pointer leaves of the parts.
+use Rattle.std.proofs.Common.{ℕ, ◌≡◌, ◌+◌, ◌<◌, ◌≤◌, refl, ◌∙◌, ap, Bool, true, false, cond, List, inl, inr, arith}
+use Rattle.std.specs.Prelude.{◌==◌, ◌⊎◌, ◌-◌, map, slice_index}
+use Rattle.std.specs.Int.{w64, to_le_bytes}
+use Rattle.std.proofs.lemmas.Bool.Decides.{nat_tests}
+use Rattle.acc_base.specs.declared.attachments.Aim.{Aim}
+use Rattle.acc_base.specs.declared.attachments.Aim.TheVariants as aims
+use Rattle.acc_base.specs.declared.attachments.Attachment.{Attachment}
+use Rattle.acc_base.specs.Section.{covers}
+use Rattle.acc_base.specs.Ranges.{start_of}
+use Rattle.acc_base.specs.Attachments.{pointer_at, count_at, with_count, detach, attached_by}
+use Rattle.acc_base.specs.Records.{Memory}
+use Rattle.acc_base.specs.Bytes.{host_byte, written_bytes, memory_changed}
+use Rattle.acc_base.specs.Pointers.{pointer_written, memories_aimed, aimed}
+use Rattle.acc_dev.specs.Device.{DeviceState}
+use Rattle.acc_attach.specs.Attached.{AttachedState, left_of}
+use Rattle.acc_attach.specs.declared.left.Left.{Left}
+use Rattle.acc_attach.specs.declared.left.Left.TheVariants as left
+use Rattle.acc_clauses.specs.declared.environments.Environment.{Environment}
+use Rattle.acc_clauses.specs.Contents.{state_of}
+use Rattle.acc_clauses.specs.Acts.{CanDetach, pointers_of, IsAimedBy}
+use Rattle.acc_clauses.proofs.Steps.{state_by}
+
+-- the parts with eight bytes written over a pointer in a block that is mapped from an address on
+abbrev with_put : ℕ → ℕ → Environment → ℕ → List ℕ → Environment
+with_put pointer block x start bytes = record x { device = record x.device { memories = map (memory_changed block (written_bytes (covers (pointer_at pointer)) (λ a. slice_index bytes (a - pointer)) start)) x.device.memories } }
+
+-- the eight bytes of a target are written over a pointer
+pub target_put : (pointer block target start : ℕ) (x : Environment) (new : DeviceState) (bytes : List ℕ)
+    → new ≡ record x.device { memories = map (memory_changed block (written_bytes (covers (pointer_at pointer)) (λ a. slice_index bytes (a - pointer)) start)) x.device.memories }
+    → bytes ≡ to_le_bytes w64 target → start ≡ start_of block x.present.table.ranges
+    → record x { device = new } ≡ record x { device = record x.device { memories = pointer_written block pointer (λ a. slice_index (to_le_bytes w64 target) (a - pointer)) (state_of x 0) } }
+target_put pointer block target start x new bytes put eight first =
+    ap (λ (d : DeviceState). let y : Environment = record x { device = d } in y) put
+    ∙ (ap (with_put pointer block x start) eight ∙ ap (λ n. with_put pointer block x n (to_le_bytes w64 target)) first)
+
+-- the parts with these memories of the blocks and these attachment counters
+abbrev pub with_pointers : Environment → List Memory → AttachedState → Environment
+with_pointers x ms b = record x { device = record x.device { memories = ms }; attached = b }
+
+-- they are what an attachment or a detachment leaves
+aims_by : (aim : Aim) (x : Environment) (ms : List Memory) (b : AttachedState) → ((next : ℕ) → ms ≡ memories_aimed aim (state_of x next)) → b.attached ≡ attached_by aim x.attached.attached → b.counter_max ≡ x.attached.counter_max
+    → x.attached.spare ≤ b.spare + pointers_of aim → IsAimedBy aim x (with_pointers x ms b)
+unfolding aimed
+aims_by aim x ms b memories attached limit spare = record {
+  state = λ next. state_by (with_pointers x ms b) next (aimed aim (state_of x next)) refl refl attached refl refl refl refl (memories next);
+  counter_max = refl;
+  size = refl;
+  pointer_max = limit;
+  room = record { births_are = refl; ranges = omega arith; regions = omega arith; holdings = omega arith; attachments = spare };
+}
+
+pub none_aims : (x : Environment) → IsAimedBy aims.None x x
+none_aims x = aims_by aims.None x x.device.memories x.attached (λ next. refl) refl refl (omega arith)
+
+pub new_aims : (pointer block target : ℕ) (x y : Environment) (ms : List Memory) (b : AttachedState) → y ≡ record x { device = record x.device { memories = ms } } → ((next : ℕ) → ms ≡ memories_aimed (aims.New pointer block target) (state_of x next))
+    → b.attached ≡ with_count block pointer 1 y.attached.attached → b.counter_max ≡ y.attached.counter_max → y.attached.spare ≤ b.spare + 1 → IsAimedBy (aims.New pointer block target) x (record y { attached = b })
+new_aims pointer block target x y ms b e memories attached limit spare =
+    let first : b.attached ≡ with_count block pointer 1 x.attached.attached = rw e at attached in
+    let second : b.counter_max ≡ x.attached.counter_max = rw e at limit in
+    let third : x.attached.spare ≤ b.spare + 1 = rw e at spare in
+    rw e (aims_by (aims.New pointer block target) x ms b memories first second third)
+
+pub again_aims : (pointer block : ℕ) (x : Environment) (b : AttachedState) → b.attached ≡ with_count block pointer (count_at block pointer x.attached.attached + 1) x.attached.attached → b.counter_max ≡ x.attached.counter_max → x.attached.spare ≤ b.spare
+    → IsAimedBy (aims.Again pointer block) x (record x { attached = b })
+again_aims pointer block x b attached limit spare = aims_by (aims.Again pointer block) x x.device.memories b (λ next. refl) attached limit (omega (arith, spare))
+
+-- ---- detaching
+
+-- a counter above zero is detached
+detached : (immediate : Bool) (block pointer : ℕ) (xs : List Attachment) → 0 < count_at block pointer xs → detach immediate block pointer xs ≡ cond immediate (aims.Cleared pointer block) (aims.Less pointer block)
+detached immediate block pointer xs some = let more : (count_at block pointer xs == 0) ≡ false = grind (arith, nat_tests) in rw more refl
+
+pub cleared_aims : (pointer block : ℕ) (x y : Environment) (b : AttachedState) → CanDetach pointer block (state_of x 0)
+    → y ≡ record x { device = record x.device { memories = pointer_written block pointer (host_byte x.host) (state_of x 0) } }
+    → b.attached ≡ attached_by (detach true block pointer y.attached.attached) y.attached.attached → b.counter_max ≡ y.attached.counter_max → y.attached.spare ≤ b.spare → IsAimedBy (aims.Cleared pointer block) x (record y { attached = b })
+cleared_aims pointer block x y b can e attached limit spare =
+    let first : b.attached ≡ attached_by (detach true block pointer x.attached.attached) x.attached.attached = rw e at attached in
+    let second : b.counter_max ≡ x.attached.counter_max = rw e at limit in
+    let third : x.attached.spare ≤ b.spare = rw e at spare in
+    rw e (aims_by (aims.Cleared pointer block) x (pointer_written block pointer (host_byte x.host) (state_of x 0)) b (λ next. refl)
+    (first ∙ ap (λ a. attached_by a x.attached.attached) (detached true block pointer x.attached.attached can.some)) second (omega (arith, third)))
+
+-- what is left of a counter tells whether it was one
+was_one : (n : ℕ) → left.Zero ≡ left_of false n → (n == 1) ≡ true
+was_one n e = go (n == 0) (n == 1) e
+  where
+    go : (a b : Bool) → left.Zero ≡ cond a left.Nothing (cond b left.Zero left.Less) → b ≡ true
+    go true b h = cc
+    go false true h = refl
+    go false false h = cc
+
+was_more : (n : ℕ) → 0 < n → (left.Zero ≡ left_of false n → ⊥) → (n == 1) ≡ false
+was_more n some h = let filled : (n == 0) ≡ false = grind (arith, nat_tests) in go (n == 1) refl filled
+  where
+    go : (b : Bool) → (n == 1) ≡ b → (n == 0) ≡ false → b ≡ false
+    go true e f = absurd (h (rw (f, e) refl))
+    go false e f = refl
+
+-- it is not zero
+pub not_zero : (l : Left) → (l ≡ left.Nothing) ⊎ (l ≡ left.Less) → left.Zero ≡ l → ⊥
+not_zero l (inl e) z = cc
+not_zero l (inr e) z = cc
+
+less_attached : (pointer block : ℕ) (x : Environment) (b : AttachedState) → CanDetach pointer block (state_of x 0) → b.attached ≡ attached_by (detach false block pointer x.attached.attached) x.attached.attached
+    → b.attached ≡ attached_by (aims.Less pointer block) x.attached.attached
+less_attached pointer block x b can e = e ∙ ap (λ a. attached_by a x.attached.attached) (detached false block pointer x.attached.attached can.some)
+
+pub zero_aims : (pointer block : ℕ) (x y : Environment) (b : AttachedState) → CanDetach pointer block (state_of x 0) → left.Zero ≡ left_of false (count_at block pointer x.attached.attached)
+    → b.attached ≡ attached_by (detach false block pointer x.attached.attached) x.attached.attached → b.counter_max ≡ x.attached.counter_max → x.attached.spare ≤ b.spare
+    → y ≡ with_pointers x (pointer_written block pointer (host_byte x.host) (state_of x 0)) b → IsAimedBy (aims.Less pointer block) x y
+zero_aims pointer block x y b can zero attached limit spare e =
+    let one : (count_at block pointer x.attached.attached == 1) ≡ true = was_one _ zero in
+    rw e (aims_by (aims.Less pointer block) x (pointer_written block pointer (host_byte x.host) (state_of x 0)) b (λ next. rw one refl) (less_attached pointer block x b can attached) limit (omega (arith, spare)))
+
+pub less_aims : (pointer block : ℕ) (x : Environment) (b : AttachedState) → CanDetach pointer block (state_of x 0) → (left.Zero ≡ left_of false (count_at block pointer x.attached.attached) → ⊥)
+    → b.attached ≡ attached_by (detach false block pointer x.attached.attached) x.attached.attached → b.counter_max ≡ x.attached.counter_max → x.attached.spare ≤ b.spare → IsAimedBy (aims.Less pointer block) x (record x { attached = b })
+less_aims pointer block x b can more attached limit spare =
+    let other : (count_at block pointer x.attached.attached == 1) ≡ false = was_more _ can.some more in
+    aims_by (aims.Less pointer block) x x.device.memories b (λ next. rw other refl) (less_attached pointer block x b can attached) limit (omega (arith, spare))

@@ -1,0 +1,114 @@
+-- What attaching a pointer does after entries, by what is read of them.
+use Rattle.std.proofs.Common.{ℕ, ◌≡◌, ◌+◌, ◌<◌, ◌≤◌, refl, sym, ap, ◌∙◌, Bool, true, false, ◌&&◌, List, length, Option, Some, None, Result, Ok, Err, arith, inl, inr}
+use Rattle.std.specs.Prelude.{◌⊎◌, ◌==◌, not, nat_le, IsSome}
+use Rattle.std.specs.List.{list_all}
+use Rattle.std.proofs.lemmas.Bool.Decides.{nat_tests}
+use Rattle.acc_base.specs.declared.attachments.Attachment.{Attachment}
+use Rattle.acc_base.specs.declared.attachments.Aim.{Aim}
+use Rattle.acc_base.specs.declared.attachments.Aim.TheVariants as aims
+use Rattle.acc_base.specs.declared.faults.Fault.{Fault}
+use Rattle.acc_base.specs.declared.faults.Fault.TheVariants.{CounterFull}
+use Rattle.acc_base.specs.Results.{◌>>◌, refuse_if}
+use Rattle.acc_base.specs.Limits.{Limits}
+use Rattle.acc_base.specs.Section.{host_base}
+use Rattle.acc_base.specs.Records.{Records, State}
+use Rattle.acc_base.specs.Ranges.{start_of}
+use Rattle.acc_base.specs.Blocks.{block_at}
+use Rattle.acc_base.specs.Attachments.{count_at, attach}
+use Rattle.acc_base.specs.Bytes.{bytes_of}
+use Rattle.acc_base.specs.Pointers.{block_with, pointer_in, host_pointer, device_pointer, device_address_of, attach_there, judge_attach}
+use Rattle.acc_base.specs.Accounts.{AreRecordsSound, AreMemoriesSized}
+use Rattle.acc_base.proofs.Walked.{records-act_all_state}
+use Rattle.acc_clauses.specs.declared.acted.Acted.{Acted}
+use Rattle.acc_clauses.specs.Overlays.{tasks_in, dids_in, records_after, state_after, enters, IsPlanned}
+use Rattle.acc_clauses.proofs.Moving.{bytes_of-len}
+use Rattle.acc_clauses.proofs.AimsPlaced.{host-after}
+use Rattle.acc_clauses.proofs.AimsFound.{IsPointerIn, pointer_in_block}
+
+-- ---- a pointer that is read
+
+-- a block that holds a pointer is there
+pub pointer_there : (l : Limits) (w : Records) (block pointer : ℕ) → AreRecordsSound l w → block_with pointer w.ranges ≡ Some block → IsSome (block_at block w.blocks)
+pointer_there l w block pointer h e = let at : IsPointerIn block pointer w = pointer_in_block l w block pointer h e in rw at.there refl
+
+-- and has its eight bytes
+pub pointer_fits : (l : Limits) (s : State) (block pointer : ℕ) → AreRecordsSound l s.records → AreMemoriesSized l s → block_with pointer s.records.ranges ≡ Some block
+    → (start_of block s.records.ranges ≤ pointer) × (pointer + 8 ≤ start_of block s.records.ranges + length (bytes_of block s.memories))
+pointer_fits l s block pointer h sized e =
+    let at : IsPointerIn block pointer s.records = pointer_in_block l s.records block pointer h e in
+    let len = bytes_of-len block s.memories s.records.blocks at.block_there sized.blocks at.there in
+    let high = at.high in
+    (at.low, omega (arith, high, len))
+
+-- ---- attaching
+
+-- what is read after entries
+pub attach-read : (l : Limits) (n pointer : ℕ) (xs : List Acted) (s : State) → IsPlanned l xs s.records → list_all enters (tasks_in xs) ≡ true
+    → judge_attach l n pointer (state_after xs s) ≡ attach_there l n pointer (block_with pointer (records_after xs s.records).ranges) (device_address_of (host_pointer pointer s) (records_after xs s.records)) (state_after xs s)
+unfolding judge_attach
+attach-read l n pointer xs s p entries =
+    let t : State = state_after xs s in
+    let w : Records = records_after xs s.records in
+    let records : t.records ≡ w = records-act_all_state (tasks_in xs) (dids_in xs) s in
+    let host : t.host ≡ s.host = host-after l 0 xs s p.judged entries in
+    ap (λ (v : Records). attach_there l n pointer (block_with pointer v.ranges) (device_address_of (host_pointer pointer t) v) t) records
+    ∙ ap (λ h. attach_there l n pointer (block_with pointer w.ranges) (device_address_of (pointer_in host_base pointer h) w) t) host
+
+module _ (l : Limits) (n pointer : ℕ) (xs : List Acted) (s : State) (p : IsPlanned l xs s.records) (entries : list_all enters (tasks_in xs) ≡ true) where
+  -- the pointer lies in no block
+  pub attach-absent : None ≡ block_with pointer (records_after xs s.records).ranges → ◌≡◌ {A = Result Aim Fault} (Ok aims.None) (judge_attach l n pointer (state_after xs s))
+  attach-absent e = sym (attach-read l n pointer xs s p entries ∙ ap (λ b. attach_there l n pointer b (device_address_of (host_pointer pointer s) (records_after xs s.records)) (state_after xs s)) (sym e))
+
+  -- what it points to is not mapped
+  pub attach-untargeted : (address : ℕ) → address ≡ host_pointer pointer s → None ≡ device_address_of address (records_after xs s.records) → ◌≡◌ {A = Result Aim Fault} (Ok aims.None) (judge_attach l n pointer (state_after xs s))
+  attach-untargeted address read e =
+      let none : None ≡ device_address_of (host_pointer pointer s) (records_after xs s.records) = e ∙ ap (λ a. device_address_of a (records_after xs s.records)) read in
+      sym (attach-read l n pointer xs s p entries ∙ (ap (λ t. attach_there l n pointer (block_with pointer (records_after xs s.records).ranges) t (state_after xs s)) (sym none) ∙ go (block_with pointer (records_after xs s.records).ranges)))
+    where
+      go : (b : Option ℕ) → ◌≡◌ {A = Result Aim Fault} (attach_there l n pointer b None (state_after xs s)) (Ok aims.None)
+      go None = refl
+      go (Some block) = refl
+
+  -- it is aimed at a target
+  pub attach-targeted : (block target address : ℕ) → Some block ≡ block_with pointer (records_after xs s.records).ranges → address ≡ host_pointer pointer s → Some target ≡ device_address_of address (records_after xs s.records)
+      → judge_attach l n pointer (state_after xs s) ≡ attach l.counter_max n block pointer target (device_pointer block pointer (state_after xs s)) (records_after xs s.records).attached
+  attach-targeted block target address e read f =
+      let some : Some target ≡ device_address_of (host_pointer pointer s) (records_after xs s.records) = f ∙ ap (λ a. device_address_of a (records_after xs s.records)) read in
+      attach-read l n pointer xs s p entries
+      ∙ (ap (λ b. attach_there l n pointer b (device_address_of (host_pointer pointer s) (records_after xs s.records)) (state_after xs s)) (sym e)
+      ∙ (ap (λ t. attach_there l n pointer (Some block) t (state_after xs s)) (sym some)
+      ∙ ap (λ (w : Records). attach l.counter_max n block pointer target (device_pointer block pointer (state_after xs s)) w.attached) (records-act_all_state (tasks_in xs) (dids_in xs) s)))
+
+-- a pointer that is not attached, or holds another address
+pub attach-new : (most n block pointer target now : ℕ) (attached : List Attachment) → (count_at block pointer attached ≡ 0) ⊎ (now ≡ target → ⊥) → ◌≡◌ {A = Result Aim Fault} (Ok (aims.New pointer block target)) (attach most n block pointer target now attached)
+attach-new most n block pointer target now attached h = sym (rw (test h) refl)
+  where
+    test : (count_at block pointer attached ≡ 0) ⊎ (now ≡ target → ⊥) → (not (count_at block pointer attached == 0) && (now == target)) ≡ false
+    test (inl e) = rw e refl
+    test (inr e) = let no : (now == target) ≡ false = grind (arith, nat_tests) in rw no (last (not (count_at block pointer attached == 0)))
+      where
+        last : (b : Bool) → (b && false) ≡ false
+        last true = refl
+        last false = refl
+
+-- one that is attached there already
+held : (block pointer target now : ℕ) (attached : List Attachment) → (count_at block pointer attached ≡ 0 → ⊥) → now ≡ target → (not (count_at block pointer attached == 0) && (now == target)) ≡ true
+held block pointer target now attached some same =
+    let yes : (now == target) ≡ true = grind (arith, nat_tests) in
+    rw yes (go (count_at block pointer attached == 0) refl)
+  where
+    go : (b : Bool) → (count_at block pointer attached == 0) ≡ b → (not b && true) ≡ true
+    go true e = absurd (some (grind (arith, nat_tests)))
+    go false e = refl
+
+attach-held : (most n block pointer target now : ℕ) (attached : List Attachment) (full : Bool) → (count_at block pointer attached ≡ 0 → ⊥) → now ≡ target → nat_le most (count_at block pointer attached) ≡ full
+    → attach most n block pointer target now attached ≡ (refuse_if full (CounterFull n) >> Ok (aims.Again pointer block))
+attach-held most n block pointer target now attached full some same e = rw (held block pointer target now attached some same, e) refl
+
+pub attach-full : (most n block pointer target now : ℕ) (attached : List Attachment) → (count_at block pointer attached ≡ 0 → ⊥) → now ≡ target → most ≤ count_at block pointer attached
+    → ◌≡◌ {A = Result Aim Fault} (Err (CounterFull n)) (attach most n block pointer target now attached)
+attach-full most n block pointer target now attached some same high = let yes : nat_le most (count_at block pointer attached) ≡ true = grind (arith, nat_tests) in sym (attach-held most n block pointer target now attached true some same yes)
+
+pub attach-again : (most n block pointer target now : ℕ) (attached : List Attachment) → (count_at block pointer attached ≡ 0 → ⊥) → now ≡ target → count_at block pointer attached < most
+    → ◌≡◌ {A = Result Aim Fault} (Ok (aims.Again pointer block)) (attach most n block pointer target now attached)
+attach-again most n block pointer target now attached some same low = let no : nat_le most (count_at block pointer attached) ≡ false = grind (arith, nat_tests) in sym (attach-held most n block pointer target now attached false some same no)

@@ -1,0 +1,157 @@
+-- Where blocks lie after entries, and what entries leave of host memory.
+use Rattle.std.proofs.Common.{ℕ, ◌≡◌, ◌+◌, ◌≤◌, refl, sym, ap, ◌∙◌, subst, Bool, true, false, cond, List, [], ◌∷◌, ◌++◌, suc, Option, Some, None, arith}
+use Rattle.std.specs.Prelude.{◌==◌, unwrap_or, option_map, IsSome}
+use Rattle.std.specs.List.{list_all}
+use Rattle.std.proofs.lemmas.Bool.{false≢true}
+use Rattle.acc_base.specs.declared.items.Item.{Item}
+use Rattle.acc_base.specs.declared.items.RegionClause.{RegionClause}
+use Rattle.acc_base.specs.declared.mappings.Counter.{Counter}
+use Rattle.acc_base.specs.declared.mappings.Block.{Block}
+use Rattle.acc_base.specs.declared.tasks.Task.{Task}
+use Rattle.acc_base.specs.declared.tasks.Task.TheVariants.{Enter, Leave, Exit, Move}
+use Rattle.acc_base.specs.declared.events.Step.{Step}
+use Rattle.acc_base.specs.declared.events.Step.TheVariants.{Nothing, Counted, Born, Dropped, Moved}
+use Rattle.acc_base.specs.declared.events.Did.{Did}
+use Rattle.acc_base.specs.Limits.{Limits, IsWithinBounds}
+use Rattle.acc_base.specs.Records.{Records, State}
+use Rattle.acc_base.specs.Ranges.{bare_range}
+use Rattle.acc_base.specs.Blocks.{block_at, place_of}
+use Rattle.acc_base.specs.Clauses.{copies_in}
+use Rattle.acc_base.specs.Tasks.{section_of, recounted, records_after_birth, with_range_changed, act_step, act, act_all}
+use Rattle.acc_base.specs.Bytes.{host_made, step_state}
+use Rattle.acc_base.specs.Pointers.{aimed}
+use Rattle.acc_base.specs.Acting.{act_state, act_all_state}
+use Rattle.acc_base.specs.History.{AreJudged}
+use Rattle.acc_base.specs.Accounts.{AreRecordsSound}
+use Rattle.acc_base.proofs.Results.{and_true, equal}
+use Rattle.acc_base.proofs.Elements.{AllByRecursion-weaker}
+use Rattle.acc_base.proofs.Lookups.{at-push_new, at-push_there, at-none}
+use Rattle.acc_base.proofs.Judged.{IsJudgedTo, task_says}
+use Rattle.acc_base.proofs.Sound.{recounted_keeps}
+use Rattle.acc_base.proofs.Aimed.{task_left}
+use Rattle.acc_base.proofs.Walked.{records-act_state}
+use Rattle.acc_clauses.specs.declared.acted.Acted.{Acted}
+use Rattle.acc_clauses.specs.Overlays.{tasks_in, dids_in, records_after, state_after, enters, IsPlanned}
+use Rattle.acc_clauses.specs.Aims.{place_by, place_over}
+
+-- ---- one block more
+
+-- a new number is none of the blocks'
+pub no_block-new : (l : Limits) (w : Records) (k : ℕ) → AreRecordsSound l w → k ≡ w.births + 1 → block_at k w.blocks ≡ None
+no_block-new l w k h e = at-none (λ (b : Block). b.number) k w.blocks
+    (AllByRecursion-weaker (λ b. b.number ≤ w.births) (λ b. b.number ≡ k → ⊥) w.blocks (λ b low same. absurd (omega (arith, low, same, e))) h.blocks_apart.born)
+
+-- the place of a block, where another is added
+place-other : (blocks : List Block) (new : Block) (block : ℕ) → (new.number == block) ≡ false → place_of block (blocks ++ new ∷ []) ≡ place_of block blocks
+place-other [] new block e = rw e refl
+place-other (b ∷ bs) new block e = go (place-other bs new block e) (b.number == block)
+  where
+    go : place_of block (bs ++ new ∷ []) ≡ place_of block bs → (t : Bool)
+        → unwrap_or (option_map (λ (x : Block). x.place) (cond t (Some b) (block_at block (bs ++ new ∷ [])))) 0 ≡ unwrap_or (option_map (λ (x : Block). x.place) (cond t (Some b) (block_at block bs))) 0
+    go rest true = refl
+    go rest false = rest
+
+-- and where it is the one that is added
+place-new : (blocks : List Block) (new : Block) → block_at new.number blocks ≡ None → place_of new.number (blocks ++ new ∷ []) ≡ new.place
+place-new blocks new none = ap (λ o. unwrap_or (option_map (λ (x : Block). x.place) o) 0) (at-push_new (λ (b : Block). b.number) blocks new none)
+
+-- the block that a birth adds
+abbrev new_block : Task → ℕ → ℕ → Block
+new_block task k p = record { number = (recounted task (bare_range (section_of task) k)).block; place = p; len = (recounted task (bare_range (section_of task) k)).section.len }
+
+new_number : (task : Task) (k p : ℕ) → (new_block task k p).number ≡ k
+new_number task k p = (recounted_keeps task).block (bare_range (section_of task) k)
+
+place-born : (task : Task) (k p block : ℕ) (blocks : List Block) → block_at k blocks ≡ None → place_of block (blocks ++ new_block task k p ∷ []) ≡ cond (k == block) p (place_of block blocks)
+place-born task k p block blocks none = go (k == block) refl
+  where
+    go : (t : Bool) → (k == block) ≡ t → place_of block (blocks ++ new_block task k p ∷ []) ≡ cond t p (place_of block blocks)
+    go true e =
+        let is : (new_block task k p).number ≡ block = new_number task k p ∙ equal k block e in
+        let absent : block_at (new_block task k p).number blocks ≡ None = subst (λ n. block_at n blocks ≡ None) (sym (new_number task k p)) none in
+        subst (λ n. place_of n (blocks ++ new_block task k p ∷ []) ≡ p) is (place-new blocks (new_block task k p) absent)
+    go false e = place-other blocks (new_block task k p) block (subst (λ n. (n == block) ≡ false) (sym (new_number task k p)) e)
+
+-- ---- places after entries
+
+place-step : (l : Limits) (counter : Counter) (item : Item RegionClause) (step : Step) (w : Records) (block : ℕ) → AreRecordsSound l w → IsJudgedTo l (Enter counter item) step w
+    → place_of block (act_step (Enter counter item) step w).blocks ≡ place_by block (place_of block w.blocks) step
+unfolding act_step with_range_changed records_after_birth
+place-step l counter item Nothing w block h says = refl
+place-step l counter item (Counted k) w block h says = refl
+place-step l counter item (Born k p) w block h says = place-born (Enter counter item) k p block w.blocks (no_block-new l w k h says.number)
+place-step l counter item (Dropped k ended) w block h says = absurd says
+place-step l counter item (Moved k) w block h says = refl
+
+place-act : (l : Limits) (task : Task) (did : Did) (w : Records) (block : ℕ) → AreRecordsSound l w → IsJudgedTo l task did.step w → enters task ≡ true
+    → place_of block (act task did w).blocks ≡ place_by block (place_of block w.blocks) did.step
+unfolding act
+place-act l (Enter counter item) did w block h says entry = place-step l counter item did.step w block h says
+place-act l (Leave holding) did w block h says entry = absurd (false≢true entry)
+place-act l (Exit finalize item) did w block h says entry = absurd (false≢true entry)
+place-act l (Move if_present item) did w block h says entry = absurd (false≢true entry)
+
+pub place-after : (l : Limits) (n : ℕ) (xs : List Acted) (w : Records) (block : ℕ) → IsWithinBounds l → AreRecordsSound l w → AreJudged l n (tasks_in xs) (dids_in xs) w → list_all enters (tasks_in xs) ≡ true
+    → place_over block (place_of block w.blocks) xs ≡ place_of block (records_after xs w).blocks
+unfolding act_all
+place-after l n [] w block bounds h judged entries = refl
+place-after l n (x ∷ xs) w block bounds h judged entries =
+    let says = task_says l n x.task w x.did.step judged.0 in
+    let kinds = and_true (enters x.task) (list_all enters (tasks_in xs)) entries in
+    ap (λ p. place_over block p xs) (sym (place-act l x.task x.did w block h says kinds.0))
+    ∙ place-after l (suc n) xs (act x.task x.did w) block bounds (task_left l x.task x.did w bounds h says judged.1).sound judged.2 kinds.1
+
+pub place-planned : (l : Limits) (xs : List Acted) (w : Records) (block : ℕ) → IsPlanned l xs w → list_all enters (tasks_in xs) ≡ true
+    → place_over block (place_of block w.blocks) xs ≡ place_of block (records_after xs w).blocks
+place-planned l xs w block p entries = place-after l 0 xs w block p.bounds p.sound p.judged entries
+
+-- a block that is there stays there
+there-step : (l : Limits) (counter : Counter) (item : Item RegionClause) (step : Step) (w : Records) (block : ℕ) → IsJudgedTo l (Enter counter item) step w → IsSome (block_at block w.blocks)
+    → IsSome (block_at block (act_step (Enter counter item) step w).blocks)
+unfolding act_step with_range_changed records_after_birth
+there-step l counter item Nothing w block says there = there
+there-step l counter item (Counted k) w block says there = there
+there-step l counter item (Born k p) w block says there = go (block_at block w.blocks) refl there
+  where
+    go : (o : Option Block) → block_at block w.blocks ≡ o → IsSome o → IsSome (block_at block (w.blocks ++ new_block (Enter counter item) k p ∷ []))
+    go None e t = cc
+    go (Some b) e t = rw (at-push_there (λ (b : Block). b.number) block w.blocks (new_block (Enter counter item) k p) b e) refl
+there-step l counter item (Dropped k ended) w block says there = absurd says
+there-step l counter item (Moved k) w block says there = there
+
+pub there-act : (l : Limits) (task : Task) (did : Did) (w : Records) (block : ℕ) → IsJudgedTo l task did.step w → enters task ≡ true → IsSome (block_at block w.blocks)
+    → IsSome (block_at block (act task did w).blocks)
+unfolding act
+there-act l (Enter counter item) did w block says entry there = there-step l counter item did.step w block says there
+there-act l (Leave holding) did w block says entry there = absurd (false≢true entry)
+there-act l (Exit finalize item) did w block says entry there = absurd (false≢true entry)
+there-act l (Move if_present item) did w block says entry there = absurd (false≢true entry)
+
+-- ---- the host after entries: what an entry copies goes to the device
+
+host-step : (l : Limits) (counter : Counter) (item : Item RegionClause) (step : Step) (s : State) → IsJudgedTo l (Enter counter item) step s.records → (step_state (Enter counter item) step s).host ≡ s.host
+unfolding step_state
+host-step l counter item Nothing s says = refl
+host-step l counter item (Counted k) s says = refl
+host-step l counter item (Born k p) s says = go (copies_in item.clause)
+  where
+    go : (b : Bool) → host_made (cond b (Some (record { block = k; offset = 0; section = section_of (Enter counter item); out = false })) None) s.records.attached s.memories s.host ≡ s.host
+    go true = refl
+    go false = refl
+host-step l counter item (Dropped k ended) s says = absurd says
+host-step l counter item (Moved k) s says = absurd says
+
+host-act : (l : Limits) (task : Task) (did : Did) (s : State) → IsJudgedTo l task did.step s.records → enters task ≡ true → (act_state task did s).host ≡ s.host
+unfolding act_state aimed
+host-act l (Enter counter item) did s says entry = host-step l counter item did.step s says
+host-act l (Leave holding) did s says entry = absurd (false≢true entry)
+host-act l (Exit finalize item) did s says entry = absurd (false≢true entry)
+host-act l (Move if_present item) did s says entry = absurd (false≢true entry)
+
+pub host-after : (l : Limits) (n : ℕ) (xs : List Acted) (s : State) → AreJudged l n (tasks_in xs) (dids_in xs) s.records → list_all enters (tasks_in xs) ≡ true → (state_after xs s).host ≡ s.host
+unfolding act_all_state
+host-after l n [] s judged entries = refl
+host-after l n (x ∷ xs) s judged entries =
+    let kinds = and_true (enters x.task) (list_all enters (tasks_in xs)) entries in
+    host-after l (suc n) xs (act_state x.task x.did s) (subst (AreJudged l (suc n) (tasks_in xs) (dids_in xs)) (sym (records-act_state x.task x.did s)) judged.2) kinds.1
+    ∙ host-act l x.task x.did s (task_says l n x.task s.records x.did.step judged.0) kinds.0

@@ -1,0 +1,120 @@
+-- A task judged whole after others: its step, and what becomes of its pointer.
+use Rattle.std.proofs.Common.{ℕ, ◌≡◌, refl, ap, ◌∙◌, Bool, true, false, cond, List, [], ◌∷◌, ◌++◌, length, Option, Some, None, Result, Ok, Err}
+use Rattle.std.specs.Prelude.{◌||◌}
+use Rattle.std.proofs.lemmas.Bool.{false≢true}
+use Rattle.acc_base.specs.declared.attachments.Aim.{Aim}
+use Rattle.acc_base.specs.declared.attachments.Aim.TheVariants as aims
+use Rattle.acc_base.specs.declared.regions.Holding.{Holding}
+use Rattle.acc_base.specs.declared.items.Item.{Item}
+use Rattle.acc_base.specs.declared.items.ExitClause.{ExitClause}
+use Rattle.acc_base.specs.declared.items.UpdateClause.{UpdateClause}
+use Rattle.acc_base.specs.declared.tasks.Task.{Task}
+use Rattle.acc_base.specs.declared.tasks.Task.TheVariants.{Enter, Leave, Exit, Move}
+use Rattle.acc_base.specs.declared.events.Step.{Step}
+use Rattle.acc_base.specs.declared.faults.Fault.{Fault}
+use Rattle.acc_base.specs.Results.{◌>>=◌}
+use Rattle.acc_base.specs.Limits.{Limits}
+use Rattle.acc_base.specs.Records.{Records, State}
+use Rattle.acc_base.specs.Clauses.{is_attach, pointer_checked}
+use Rattle.acc_base.specs.Tasks.{pointer_of, checked, is_action, pointer_aimed, did_of, judge_step}
+use Rattle.acc_base.specs.Bytes.{step_state}
+use Rattle.acc_base.specs.Pointers.{aimed, judge_release}
+use Rattle.acc_base.specs.Acting.{attach_if, detach_if, judge_aim, judge_task, act_state}
+use Rattle.acc_base.specs.History.{IsAimLegal}
+use Rattle.acc_base.proofs.Results.{then_ok}
+use Rattle.acc_base.proofs.Judged.{pointer_checked_by}
+use Rattle.acc_clauses.specs.declared.acted.Acted.{Acted}
+use Rattle.acc_clauses.specs.Overlays.{IsPlanned, enters, records_after, state_after}
+use Rattle.acc_clauses.specs.Planned.{IsJudgedNext}
+use Rattle.acc_clauses.proofs.Turns.{state_after-push, state_after-records, IsPlanned-push}
+
+judged_by : (l : Limits) (n : ℕ) (task : Task) (step : Step) (s : State) (r : Result Aim Fault) → judge_step l n task s.records ≡ Ok step → judge_aim l n task step s ≡ r → judge_task l n task s ≡ (r >>= λ aim. Ok (record { step = step; aim = aim }))
+unfolding judge_task
+judged_by l n task step s r e f = rw e (ap (λ q. q >>= λ aim. Ok (record { step = step; aim = aim })) f)
+
+-- the step is judged in the records of the state after the tasks before it
+in_state : (l : Limits) (n : ℕ) (xs : List Acted) (task : Task) (s : State) (r : Result Step Fault) → judge_step l n task (records_after xs s.records) ≡ r → judge_step l n task (state_after xs s).records ≡ r
+in_state l n xs task s r e = ap (judge_step l n task) (state_after-records xs s) ∙ e
+
+refused_by : (l : Limits) (n : ℕ) (task : Task) (s : State) (fault : Fault) → judge_step l n task s.records ≡ Err fault → judge_task l n task s ≡ Err fault
+unfolding judge_task
+refused_by l n task s fault e = rw e refl
+
+-- a task is refused as its step is
+pub step_refused : (l : Limits) (n : ℕ) (xs : List Acted) (task : Task) (s : State) (fault : Fault) → judge_step l n task (records_after xs s.records) ≡ Err fault → judge_task l n task (state_after xs s) ≡ Err fault
+step_refused l n xs task s fault e = refused_by l n task (state_after xs s) fault (in_state l n xs task s _ e)
+
+-- and else as its pointer is
+pub aim_refused : (l : Limits) (n : ℕ) (xs : List Acted) (task : Task) (step : Step) (s : State) (fault : Fault)
+    → judge_step l n task (records_after xs s.records) ≡ Ok step → judge_aim l n task step (state_after xs s) ≡ Err fault → judge_task l n task (state_after xs s) ≡ Err fault
+aim_refused l n xs task step s fault e f = judged_by l n task step (state_after xs s) _ (in_state l n xs task s _ e) f
+
+-- its step and its pointer are what it does
+pub both_judged : (l : Limits) (n : ℕ) (xs ys : List Acted) (task : Task) (step : Step) (aim : Aim) (s : State)
+    → judge_step l n task (records_after xs s.records) ≡ Ok step → judge_aim l n task step (state_after xs s) ≡ Ok aim
+    → ys ≡ xs ++ record { task = task; did = record { step = step; aim = aim } } ∷ [] → IsJudgedNext l n task s xs ys
+both_judged l n xs ys task step aim s e f more = record { did = record { step = step; aim = aim }; judged = judged_by l n task step (state_after xs s) _ (in_state l n xs task s _ e) f; more = more }
+
+-- ---- an entry: its step is done before its pointer is judged
+
+-- pointers are left alone so far
+half_state : (task : Task) (step : Step) (s : State) → enters task ≡ true → act_state task (did_of step) s ≡ step_state task step s
+unfolding act_state aimed
+half_state (Enter counter item) step s entry = refl
+half_state (Leave holding) step s entry = absurd (false≢true entry)
+half_state (Exit finalize item) step s entry = absurd (false≢true entry)
+half_state (Move if_present item) step s entry = absurd (false≢true entry)
+
+half_legal : (l : Limits) (task : Task) (step : Step) (w : Records) → enters task ≡ true → IsAimLegal l task (did_of step) w
+half_legal l (Enter counter item) step w entry = tt
+half_legal l (Leave holding) step w entry = absurd (false≢true entry)
+half_legal l (Exit finalize item) step w entry = absurd (false≢true entry)
+half_legal l (Move if_present item) step w entry = absurd (false≢true entry)
+
+pub half_planned : (l : Limits) (n : ℕ) (xs ys : List Acted) (task : Task) (step : Step) (w : Records) → enters task ≡ true → n ≡ length xs → IsPlanned l xs w
+    → judge_step l n task (records_after xs w) ≡ Ok step → ys ≡ xs ++ record { task = task; did = did_of step } ∷ [] → IsPlanned l ys w
+half_planned l n xs ys task step w entry at p e more =
+    rw more (IsPlanned-push l n xs (record { task = task; did = did_of step }) w at p (record { step = e; aim = half_legal l task step (records_after xs w) entry }))
+
+-- the pointer to be attached was checked
+pub aimed_checked : (l : Limits) (n : ℕ) (task : Task) (step : Step) (w : Records) (pointer : ℕ) → enters task ≡ true → judge_step l n task w ≡ Ok step → pointer_aimed task step ≡ Some pointer → pointer_checked l n (Some pointer) ≡ Ok tt
+unfolding judge_step
+aimed_checked l n (Enter counter item) step w pointer entry e named = go (is_attach item.clause || is_action step) named
+  where
+    go : (b : Bool) → cond b (pointer_of (Enter counter item)) None ≡ Some pointer → pointer_checked l n (Some pointer) ≡ Ok tt
+    go true is = let all = pointer_checked_by l n (Enter counter item) (then_ok (checked l n (Enter counter item)) _ step e).0 in rw is at all
+    go false is = cc
+aimed_checked l n (Leave holding) step w pointer entry e named = absurd (false≢true entry)
+aimed_checked l n (Exit finalize item) step w pointer entry e named = absurd (false≢true entry)
+aimed_checked l n (Move if_present item) step w pointer entry e named = absurd (false≢true entry)
+
+aim_entered : (l : Limits) (n : ℕ) (task : Task) (step : Step) (s : State) → enters task ≡ true → judge_aim l n task step s ≡ attach_if l n (pointer_aimed task step) (step_state task step s)
+unfolding judge_aim
+aim_entered l n (Enter counter item) step s entry = refl
+aim_entered l n (Leave holding) step s entry = absurd (false≢true entry)
+aim_entered l n (Exit finalize item) step s entry = absurd (false≢true entry)
+aim_entered l n (Move if_present item) step s entry = absurd (false≢true entry)
+
+-- its pointer is judged in what its step left
+pub entry_aim : (l : Limits) (n : ℕ) (xs ys : List Acted) (task : Task) (step : Step) (named : Option ℕ) (s : State) → enters task ≡ true → ys ≡ xs ++ record { task = task; did = did_of step } ∷ [] → pointer_aimed task step ≡ named
+    → judge_aim l n task step (state_after xs s) ≡ attach_if l n named (state_after ys s)
+entry_aim l n xs ys task step named s entry more is =
+    let left : state_after ys s ≡ step_state task step (state_after xs s) = rw more (state_after-push xs (record { task = task; did = did_of step }) s) ∙ half_state task step (state_after xs s) entry in
+    aim_entered l n task step (state_after xs s) entry ∙ rw (is, left) refl
+
+-- ---- the others: the pointer is judged before the step
+
+pub left_aim : (l : Limits) (n : ℕ) (xs : List Acted) (task : Task) (holding : Holding) (step : Step) (aim : Aim) (s : State)
+    → task ≡ Leave holding → aim ≡ judge_release holding.aim (records_after xs s.records) → judge_aim l n task step (state_after xs s) ≡ Ok aim
+unfolding judge_aim
+left_aim l n xs task holding step aim s is e = rw (is, e, state_after-records xs s) refl
+
+pub exited_aim : (l : Limits) (n : ℕ) (xs : List Acted) (task : Task) (finalize : Bool) (item : Item ExitClause) (step : Step) (aim : Aim) (s : State)
+    → task ≡ Exit finalize item → aim ≡ detach_if finalize (pointer_aimed (Exit finalize item) step) (records_after xs s.records) → judge_aim l n task step (state_after xs s) ≡ Ok aim
+unfolding judge_aim
+exited_aim l n xs task finalize item step aim s is e = rw (e, is, state_after-records xs s) refl
+
+pub moved_aim : (l : Limits) (n : ℕ) (xs : List Acted) (task : Task) (if_present : Bool) (item : Item UpdateClause) (step : Step) (aim : Aim) (s : State)
+    → task ≡ Move if_present item → aim ≡ aims.None → judge_aim l n task step (state_after xs s) ≡ Ok aim
+unfolding judge_aim
+moved_aim l n xs task if_present item step aim s is e = rw (is, e) refl

@@ -1,0 +1,181 @@
+-- What a task is judged to do, its step and what becomes of its pointer, can be done, and leaves the parts sound.
+use Rattle.std.proofs.Common.{ℕ, ◌≡◌, ◌<◌, ◌^◌, refl, sym, ◌∙◌, ap, subst, Bool, true, false, cond, Option, Some, None, arith}
+use Rattle.std.specs.Prelude.{◌==◌}
+use Rattle.std.proofs.lemmas.Bool.Decides.{nat_tests}
+use Rattle.acc_base.specs.declared.mappings.Found.{Found}
+use Rattle.acc_base.specs.declared.mappings.Found.TheVariants.{Empty, Inside, Partly, Absent}
+use Rattle.acc_base.specs.declared.mappings.Counter.{Counter}
+use Rattle.acc_base.specs.declared.items.Item.{Item}
+use Rattle.acc_base.specs.declared.items.RegionClause.{RegionClause}
+use Rattle.acc_base.specs.declared.attachments.Aim.{Aim}
+use Rattle.acc_base.specs.declared.attachments.Aim.TheVariants as aims
+use Rattle.acc_base.specs.declared.events.Did.{Did}
+use Rattle.acc_base.specs.declared.tasks.Task.{Task}
+use Rattle.acc_base.specs.declared.tasks.Task.TheVariants.{Enter, Leave, Exit, Move}
+use Rattle.acc_base.specs.declared.events.Step.{Step}
+use Rattle.acc_base.specs.Limits.{Limits, IsWithinBounds}
+use Rattle.acc_base.specs.Records.{Records, State}
+use Rattle.acc_base.specs.Ranges.{where_is}
+use Rattle.acc_base.specs.Bytes.{step_state}
+use Rattle.acc_base.specs.Attachments.{pointer_at, count_at, detach}
+use Rattle.acc_base.specs.Pointers.{block_in, block_with, detach_there, judge_detach, release_there, judge_release, aimed}
+use Rattle.acc_base.specs.Tasks.{pointer_aimed, records_aimed}
+use Rattle.acc_base.specs.Acting.{detach_if, act_state}
+use Rattle.acc_base.specs.History.{IsAttachLegal}
+use Rattle.acc_base.specs.Accounts.{AreRecordsSound, AreMemoriesSized}
+use Rattle.acc_base.proofs.Results.{equal}
+use Rattle.acc_base.proofs.Judged.{IsJudgedTo, task_says}
+use Rattle.acc_base.proofs.Sound.{acted_sound}
+use Rattle.acc_base.proofs.Aimed.{leave_sound, exit_sound, move_sound, says_aimed, task_left}
+use Rattle.acc_base.proofs.Walked.{records-act_state}
+use Rattle.acc_base.proofs.Memories.{step_sized, aimed_sized, act_sized}
+use Rattle.acc_clauses.specs.declared.environments.Environment.{Environment}
+use Rattle.acc_clauses.specs.Contents.{state_of, AreSizedBy, ArePartsSound}
+use Rattle.acc_clauses.specs.Acts.{IsJudged, IsMappedAround, IsKnown, CanMove, CanAct, CanDetach, CanAim, CanEnter, CanLeave, CanDo, IsDoneBy}
+use Rattle.acc_clauses.proofs.Legal.{mapped_around, can_move, can_by}
+
+-- ---- what each attachment and each detachment needs
+
+-- the block that has a pointer
+with_pointer : (l : Limits) (s : State) (pointer block : ℕ) → IsWithinBounds l → AreRecordsSound l s.records → AreMemoriesSized l s → block_with pointer s.records.ranges ≡ Some block → CanMove (pointer_at pointer) block s
+with_pointer l s pointer block bounds h m e = go (where_is (pointer_at pointer) s.records.ranges) refl e
+  where
+    go : (f : Found) → where_is (pointer_at pointer) s.records.ranges ≡ f → block_in f ≡ Some block → CanMove (pointer_at pointer) block s
+    go Empty is k = cc
+    go (Inside b offset) is k =
+        let same : b ≡ block = cc in
+        subst (λ n. CanMove (pointer_at pointer) n s) same (can_move l s (pointer_at pointer) b bounds h m (mapped_around l s.records (pointer_at pointer) b offset h is))
+    go Partly is k = cc
+    go Absent is k = cc
+
+can_attach : (l : Limits) (s : State) (named : Option ℕ) (aim : Aim) → IsWithinBounds l → AreRecordsSound l s.records → AreMemoriesSized l s → IsAttachLegal l named aim s.records → CanAim l.counter_max aim s
+can_attach l s named aims.None bounds h m legal = tt
+can_attach l s named (aims.New pointer block target) bounds h m legal = with_pointer l s pointer block bounds h m legal.1
+can_attach l s named (aims.Again pointer block) bounds h m legal = record { some = legal.2; below = legal.3 }
+can_attach l s named (aims.Less pointer block) bounds h m legal = absurd legal
+can_attach l s named (aims.Cleared pointer block) bounds h m legal = absurd legal
+
+can_detach : (l : Limits) (s : State) (immediate : Bool) (pointer block : ℕ) → IsWithinBounds l → AreRecordsSound l s.records → AreMemoriesSized l s → block_with pointer s.records.ranges ≡ Some block
+    → CanAim l.counter_max (detach immediate block pointer s.records.attached) s
+can_detach l s immediate pointer block bounds h m e = go (count_at block pointer s.records.attached == 0) immediate refl
+  where
+    can : (count_at block pointer s.records.attached == 0) ≡ false → CanDetach pointer block s
+    can more = record { some = grind (arith, nat_tests); move = with_pointer l s pointer block bounds h m e }
+
+    go : (b i : Bool) → (count_at block pointer s.records.attached == 0) ≡ b → CanAim l.counter_max (cond b aims.None (cond i (aims.Cleared pointer block) (aims.Less pointer block))) s
+    go true i n = tt
+    go false true n = can n
+    go false false n = can n
+
+can_judged : (l : Limits) (s : State) (immediate : Bool) (named : Option ℕ) → IsWithinBounds l → AreRecordsSound l s.records → AreMemoriesSized l s → CanAim l.counter_max (detach_if immediate named s.records) s
+unfolding judge_detach
+can_judged l s immediate None bounds h m = tt
+can_judged l s immediate (Some pointer) bounds h m = go (block_with pointer s.records.ranges) refl
+  where
+    go : (o : Option ℕ) → block_with pointer s.records.ranges ≡ o → CanAim l.counter_max (detach_there immediate pointer o s.records.attached) s
+    go None e = tt
+    go (Some block) e = can_detach l s immediate pointer block bounds h m e
+
+can_release : (l : Limits) (s : State) (held : Option (ℕ × ℕ)) → IsWithinBounds l → AreRecordsSound l s.records → AreMemoriesSized l s → CanAim l.counter_max (judge_release held s.records) s
+unfolding judge_release
+can_release l s None bounds h m = tt
+can_release l s (Some held) bounds h m = go (block_with held.0 s.records.ranges) refl
+  where
+    here : (now : ℕ) → block_with held.0 s.records.ranges ≡ Some now → (b : Bool) → (now == held.1) ≡ b → CanAim l.counter_max (cond b (detach false held.1 held.0 s.records.attached) aims.None) s
+    here now e true same = can_detach l s false held.0 held.1 bounds h m (e ∙ ap Some (equal now held.1 same))
+    here now e false same = tt
+
+    go : (o : Option ℕ) → block_with held.0 s.records.ranges ≡ o → CanAim l.counter_max (release_there held.0 held.1 o s.records.attached) s
+    go None e = tt
+    go (Some now) e = here now e (now == held.1) refl
+
+-- ---- what each task needs
+
+-- before a task: what is known of the state and of the task
+pub record IsReady (l : Limits) (s : State) (task : Task) (did : Did) : Type 0 where
+  pub bounds : IsWithinBounds l
+  pub sound : AreRecordsSound l s.records
+  pub sized : AreMemoriesSized l s
+  pub few : s.records.births < 2 ^ 48
+  pub known : IsKnown s.records task
+  pub judged : IsJudged l task did s.records
+
+says : (l : Limits) (s : State) (task : Task) (did : Did) → IsReady l s task did → IsJudgedTo l task did.step s.records
+says l s task did h = task_says l h.judged.item task s.records did.step h.judged.step
+
+-- with the limits of the parts
+sized_step : (l : Limits) (x : Environment) (s : State) (task : Task) (step : Step) → AreSizedBy l x → CanAct l.counter_max l.device task step s → CanAct x.present.table.counter_max x.device.size task step s
+sized_step l x s task step sized can = subst (λ n. CanAct x.present.table.counter_max n task step s) (sym sized.device) (subst (λ n. CanAct n l.device task step s) (sym sized.counters) can)
+
+sized_aim : (l : Limits) (x : Environment) (s : State) (aim : Aim) → AreSizedBy l x → CanAim l.counter_max aim s → CanAim x.attached.counter_max aim s
+sized_aim l x s aim sized can = subst (λ n. CanAim n aim s) (sym sized.pointers) can
+
+-- what is known of a task does not read the attachment counters
+known_aimed : (w : Records) (aim : Aim) (task : Task) → IsKnown w task → IsKnown (records_aimed aim w) task
+known_aimed w aim (Enter counter item) known = tt
+known_aimed w aim (Leave holding) known = λ k e. let around : IsMappedAround w holding.item.section k = known k e in record { range = around.range; range_is = around.range_is; within = around.within }
+known_aimed w aim (Exit finalize item) known = tt
+known_aimed w aim (Move if_present item) known = tt
+
+-- after a detachment the step can be done
+can_leave : (l : Limits) (x : Environment) (task : Task) (did : Did) → AreSizedBy l x → IsReady l (state_of x 0) task did → CanAim l.counter_max did.aim (state_of x 0) → AreRecordsSound l (records_aimed did.aim (state_of x 0).records) → CanLeave x task did
+unfolding aimed
+can_leave l x task did sized h can later =
+    let s : State = state_of x 0 in
+    record {
+      aim = sized_aim l x s did.aim sized can;
+      step = sized_step l x (aimed did.aim s) task did.step sized
+          (can_by l (aimed did.aim s) task did.step h.bounds later (aimed_sized l did.aim s h.sized) h.few (known_aimed s.records did.aim task h.known) (says_aimed l task did.step did.aim s.records (says l s task did h)));
+    }
+
+can_enter : (l : Limits) (x : Environment) (counter : Counter) (item : Item RegionClause) (did : Did) → AreSizedBy l x → IsReady l (state_of x 0) (Enter counter item) did → CanEnter x (Enter counter item) did
+unfolding step_state
+can_enter l x counter item did sized h =
+    let s : State = state_of x 0 in
+    let task : Task = Enter counter item in
+    record {
+      step = sized_step l x s task did.step sized (can_by l s task did.step h.bounds h.sound h.sized h.few h.known (says l s task did h));
+      aim = sized_aim l x (step_state task did.step s) did.aim sized
+          (can_attach l (step_state task did.step s) (pointer_aimed task did.step) did.aim h.bounds (acted_sound l task did.step s.records h.bounds (says l s task did h) h.sound) (step_sized l task did.step s h.sized) h.judged.aim);
+    }
+
+can_of : (l : Limits) (x : Environment) (task : Task) (did : Did) → AreSizedBy l x → IsReady l (state_of x 0) task did → CanDo x task did
+can_of l x (Enter counter item) did sized h = can_enter l x counter item did sized h
+can_of l x (Leave holding) did sized h = can_leave l x (Leave holding) did sized h
+    (subst (λ a. CanAim l.counter_max a (state_of x 0)) (sym h.judged.aim) (can_release l (state_of x 0) holding.aim h.bounds h.sound h.sized)) (leave_sound l holding did (state_of x 0).records h.sound h.judged.aim)
+can_of l x (Exit finalize item) did sized h = can_leave l x (Exit finalize item) did sized h
+    (subst (λ a. CanAim l.counter_max a (state_of x 0)) (sym h.judged.aim) (can_judged l (state_of x 0) finalize (pointer_aimed (Exit finalize item) did.step) h.bounds h.sound h.sized)) (exit_sound l finalize item did (state_of x 0).records h.sound h.judged.aim)
+can_of l x (Move if_present item) did sized h = can_leave l x (Move if_present item) did sized h
+    (subst (λ a. CanAim l.counter_max a (state_of x 0)) (sym h.judged.aim) tt) (move_sound l if_present item did (state_of x 0).records h.sound h.judged.aim)
+
+pub can_do : (l : Limits) (x : Environment) (next : ℕ) (task : Task) (did : Did) → IsWithinBounds l → ArePartsSound l x next → x.device.births < 2 ^ 48
+    → IsKnown (state_of x next).records task → IsJudged l task did (state_of x next).records → CanDo x task did
+can_do l x next task did bounds sound few known judged = can_of l x task did sound.sized (record {
+  bounds = bounds;
+  sound = sound.sound.records;
+  sized = record { host = sound.sound.memories.host; blocks = sound.sound.memories.blocks };
+  few = few;
+  known = known;
+  judged = judged;
+})
+
+-- ---- what a task leaves
+
+-- the records and the memories are sound after what the task is judged to do
+done_sound : (l : Limits) (s : State) (task : Task) (did : Did) → IsWithinBounds l → AreRecordsSound l s.records → AreMemoriesSized l s → IsJudged l task did s.records
+    → AreRecordsSound l (act_state task did s).records × AreMemoriesSized l (act_state task did s)
+done_sound l s task did bounds h m judged = (
+  subst (AreRecordsSound l) (sym (records-act_state task did s)) (task_left l task did s.records bounds h (task_says l judged.item task s.records did.step judged.step) judged.aim).sound,
+  act_sized l task did s m,
+)
+
+pub parts_sound : (l : Limits) (x y : Environment) (next : ℕ) (task : Task) (did : Did) → IsWithinBounds l → ArePartsSound l x next → IsJudged l task did (state_of x next).records → IsDoneBy task did x y → ArePartsSound l y next
+parts_sound l x y next task did bounds sound judged done =
+    let after : AreRecordsSound l (act_state task did (state_of x next)).records × AreMemoriesSized l (act_state task did (state_of x next)) =
+    done_sound l (state_of x next) task did bounds sound.sound.records sound.sound.memories judged in
+    let there : AreRecordsSound l (state_of y next).records × AreMemoriesSized l (state_of y next) =
+    subst (λ (s : State). AreRecordsSound l s.records × AreMemoriesSized l s) (sym (done.state next)) after in
+    record {
+      sized = record { counters = done.counter_max ∙ sound.sized.counters; device = done.size ∙ sound.sized.device; pointers = done.pointer_max ∙ sound.sized.pointers };
+      sound = record { records = there.0; memories = there.1 };
+    }

@@ -1,0 +1,65 @@
+use Rattle.std.proofs.Common.{◌∙◌, sym, ap, arith, inl, inr}
+use Rattle.acc_base.specs.Limits.{Limits}
+use Rattle.acc_base.specs.Pointers.{device_pointer}
+use Rattle.acc_clauses.specs.Overlays.{records_after, state_after}
+use Rattle.acc_clauses.proofs.AimsValued.{aligned}
+use Rattle.acc_clauses.proofs.AimsJudged.{attach-absent, attach-untargeted, attach-targeted, attach-new, attach-full, attach-again}
+use Rattle.acc_clauses.proofs.aims.attach.Goals.{then-count-eq0-via-then-count-eq0, then-count-eq0-via-else-count-eq0+then-value_after-target}
+use Rattle.acc_clauses.proofs.aims.attach.Goals as goal
+
+pub value_after-requires-clause-aligned : goal.value_after-requires-clause-aligned
+value_after-requires-clause-aligned c = aligned c.args.parts.now.limits c.args.n c.args.pointer c.requires.checked
+
+pub returns-in_default : goal.returns-in_default
+returns-in_default c = attach-absent c.args.parts.now.limits c.args.n c.args.pointer c.args.draft.now c.args.parts.now.state c.requires.planned c.requires.entering c.in_default.ensures
+
+pub returns-in_default-address_after : goal.returns-in_default-address_after
+returns-in_default-address_after c =
+    attach-untargeted c.args.parts.now.limits c.args.n c.args.pointer c.args.draft.now c.args.parts.now.state c.requires.planned c.requires.entering c.host_pointer.result c.host_pointer.ensures c.in_default-address_after.ensures
+
+pub returns-then-count-eq0 : goal.returns-then-count-eq0
+returns-then-count-eq0 c =
+    let p = c.args.parts.now in
+    let xs = c.args.draft.now in
+    let block = c.in-Some.block in
+    let target = c.in-Some-address_after.target in
+    let there = attach-targeted p.limits c.args.n c.args.pointer xs p.state c.requires.planned c.requires.entering block target c.host_pointer.result c.in-Some.ensures c.host_pointer.ensures c.in-Some-address_after.ensures in
+    let count = c.count_after-count.ensures in
+    attach-new p.limits.counter_max c.args.n block c.args.pointer target (device_pointer block c.args.pointer (state_after xs p.state)) (records_after xs p.state.records).attached
+    (elim c.then-count-eq0.branch [
+      | then-count-eq0-via-then-count-eq0 w ↦ (let zero = w.if-count-eq0.true in inl (omega (arith, count, zero)))
+      | then-count-eq0-via-else-count-eq0+then-value_after-target w ↦ (let other = w.if-value_after-target.true in let value = w.value_after.ensures in inr (λ same. other (value ∙ same)))
+    ])
+    ∙ sym there
+
+pub returns-then-counter_max-count : goal.returns-then-counter_max-count
+returns-then-counter_max-count c =
+    let p = c.args.parts.now in
+    let xs = c.args.draft.now in
+    let block = c.in-Some.block in
+    let target = c.in-Some-address_after.target in
+    let there = attach-targeted p.limits c.args.n c.args.pointer xs p.state c.requires.planned c.requires.entering block target c.host_pointer.result c.in-Some.ensures c.host_pointer.ensures c.in-Some-address_after.ensures in
+    let count = c.count_after-count.ensures in
+    let some = c.if-count-eq0.false in
+    let config = ap (λ (l : Limits). l.counter_max) c.config.ensures in
+    let most = c.counter_max.ensures.value in
+    let tested = c.if-counter_max-count.true in
+    attach-full p.limits.counter_max c.args.n block c.args.pointer target (device_pointer block c.args.pointer (state_after xs p.state)) (records_after xs p.state.records).attached
+    (λ none. some (count ∙ none)) (sym c.value_after.ensures ∙ c.if-value_after-target.false) (omega (arith, count, config, most, tested))
+    ∙ sym there
+
+pub returns : goal.returns
+returns c =
+    let p = c.args.parts.now in
+    let xs = c.args.draft.now in
+    let block = c.in-Some.block in
+    let target = c.in-Some-address_after.target in
+    let there = attach-targeted p.limits c.args.n c.args.pointer xs p.state c.requires.planned c.requires.entering block target c.host_pointer.result c.in-Some.ensures c.host_pointer.ensures c.in-Some-address_after.ensures in
+    let count = c.count_after-count.ensures in
+    let some = c.if-count-eq0.false in
+    let config = ap (λ (l : Limits). l.counter_max) c.config.ensures in
+    let most = c.counter_max.ensures.value in
+    let tested = c.if-counter_max-count.false in
+    attach-again p.limits.counter_max c.args.n block c.args.pointer target (device_pointer block c.args.pointer (state_after xs p.state)) (records_after xs p.state.records).attached
+    (λ none. some (count ∙ none)) (sym c.value_after.ensures ∙ c.if-value_after-target.false) (omega (arith, count, config, most, tested))
+    ∙ sym there

@@ -1,0 +1,90 @@
+//! What becomes of an item's pointer after the tasks that were judged before it (OpenACC 3.3, sections 2.6.8 and 2.7.2).
+
+ghost use Rattle.std.specs.Prelude.{◌≡◌, Ok, Some, true};
+ghost use Rattle.std.specs.List.{list_all};
+ghost use Rattle.acc_base.specs.Attachments.{detach};
+ghost use Rattle.acc_base.specs.Clauses.{pointer_checked};
+ghost use Rattle.acc_base.specs.Pointers.{judge_attach, judge_release};
+ghost use Rattle.acc_base.specs.Acting.{detach_if};
+ghost use Rattle.acc_clauses.specs.Overlays.{IsPlanned, AreUnmixed, tasks_in, records_after, state_after, enters};
+
+use crate::drafts::Draft;
+use crate::parts::Parts;
+use crate::targets::{address_after, block_after, count_after, value_after};
+use acc_base::{Aim, Fault};
+
+/// What attaching a pointer does after the tasks, of which each enters.
+pub(crate) fn attach(parts: &Parts, draft: &Draft, n: u64, pointer: u64) -> Result<Aim, Fault>
+    requires planned { IsPlanned parts.now.limits draft.now parts.now.state.records }
+    requires entering { list_all enters (tasks_in draft.now) ≡ true }
+    requires checked { pointer_checked parts.now.limits n (Some pointer) ≡ Ok tt }
+    ensures { result ≡ judge_attach parts.now.limits n pointer (state_after draft.now parts.now.state) }
+{
+    let Some(block) = block_after(parts, draft, pointer) else {
+        return Ok(Aim::None);
+    };
+    let Some(target) = address_after(parts, draft, parts.host_pointer(pointer)) else {
+        return Ok(Aim::None);
+    };
+    let count = count_after(parts, draft, block, pointer);
+    if count == 0 || value_after(parts, draft, block, pointer) != target {
+        return Ok(Aim::New {
+            pointer,
+            block,
+            target,
+        });
+    }
+    if parts.config().counter_max() <= count {
+        return Err(Fault::CounterFull { item: n });
+    }
+    Ok(Aim::Again { pointer, block })
+}
+
+// Detaching a pointer that lies in a block: its counter falls by one, or at once to zero.
+fn detach_from(parts: &Parts, draft: &Draft, immediate: bool, block: u64, pointer: u64) -> Aim
+    requires planned { IsPlanned parts.now.limits draft.now parts.now.state.records }
+    ensures { result ≡ detach immediate block pointer (records_after draft.now parts.now.state.records).attached }
+{
+    if count_after(parts, draft, block, pointer) == 0 {
+        return Aim::None;
+    }
+    if immediate {
+        Aim::Cleared { pointer, block }
+    } else {
+        Aim::Less { pointer, block }
+    }
+}
+
+/// What detaching a pointer does after the tasks, if an item names one.
+#[tactic(auto, unfolding(acc_base::specs::Pointers::judge_detach))]
+pub(crate) fn detach(parts: &Parts, draft: &Draft, immediate: bool, pointer: Option<u64>) -> Aim
+    requires planned { IsPlanned parts.now.limits draft.now parts.now.state.records }
+    requires unmixed { AreUnmixed (tasks_in draft.now) }
+    ensures { result ≡ detach_if immediate pointer (records_after draft.now parts.now.state.records) }
+{
+    let Some(pointer) = pointer else {
+        return Aim::None;
+    };
+    match block_after(parts, draft, pointer) {
+        Some(block) => detach_from(parts, draft, immediate, block, pointer),
+        None => Aim::None,
+    }
+}
+
+/// What detaching the pointer does that an entry to a region attached, after the tasks. `held` is that pointer, and the
+/// block that held it then.
+#[tactic(auto, unfolding(acc_base::specs::Pointers::judge_release))]
+pub(crate) fn release(parts: &Parts, draft: &Draft, held: Option<(u64, u64)>) -> Aim
+    requires planned { IsPlanned parts.now.limits draft.now parts.now.state.records }
+    requires unmixed { AreUnmixed (tasks_in draft.now) }
+    ensures { result ≡ judge_release held (records_after draft.now parts.now.state.records) }
+{
+    let Some((pointer, block)) = held else {
+        return Aim::None;
+    };
+    if block_after(parts, draft, pointer) == Some(block) {
+        detach_from(parts, draft, false, block, pointer)
+    } else {
+        Aim::None
+    }
+}

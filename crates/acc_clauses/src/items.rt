@@ -1,0 +1,62 @@
+//! One task after those that were judged before it: its step, and what becomes of its pointer.
+
+ghost use Rattle.std.specs.Prelude.{[], ◌∷◌, ◌++◌, ◌≡◌, ◌<◌, ◌^◌, true, length, MatchResult, Ok, Err};
+ghost use Rattle.acc_base.specs.Tasks.{judge_step};
+ghost use Rattle.acc_base.specs.Acting.{judge_task};
+ghost use Rattle.acc_clauses.specs.Overlays.{IsPlanned, AreUnmixed, enters, tasks_in, records_after, state_after};
+ghost use Rattle.acc_clauses.specs.Planned.{IsJudgedNext};
+
+use crate::acted::Acted;
+use crate::aims::{attach, detach, release};
+use crate::drafts::Draft;
+use crate::judging::judge_step;
+use crate::parts::Parts;
+use crate::rows::pointer_aimed;
+use acc_base::{Aim, Did, Fault, Step, Task};
+
+// Adds an entry whose step is judged. Its pointer is attached in what the step leaves.
+fn enter(parts: &Parts, draft: &mut Draft, n: u64, task: Task, step: Step) -> Result<(), Fault>
+    requires entry { enters task ≡ true }
+    requires step { judge_step parts.now.limits n task (records_after draft.old parts.now.state.records) ≡ Ok step }
+    requires planned { IsPlanned parts.now.limits draft.old parts.now.state.records }
+    requires unmixed { AreUnmixed (tasks_in draft.old ++ task ∷ []) }
+    requires place { n ≡ length draft.old }
+    requires few { n < 64 }
+    ensures { MatchResult result (λ _. IsJudgedNext parts.now.limits n task parts.now.state draft.old draft.new) (λ fault. judge_task parts.now.limits n task (state_after draft.old parts.now.state) ≡ Err fault) }
+{
+    draft.push(Acted {
+        task,
+        did: Did {
+            step,
+            aim: Aim::None,
+        },
+    });
+    if let Some(pointer) = pointer_aimed(task, step) {
+        let aim = attach(parts, draft, n, pointer)?;
+        draft.aim(aim);
+    }
+    Ok(())
+}
+
+/// Judges the task of the item at place `n` after those before it, and adds it to them.
+pub(crate) fn judge(parts: &Parts, draft: &mut Draft, n: u64, task: Task) -> Result<(), Fault>
+    requires planned { IsPlanned parts.now.limits draft.old parts.now.state.records }
+    requires unmixed { AreUnmixed (tasks_in draft.old ++ task ∷ []) }
+    requires births { parts.now.state.records.births < 2 ^ 48 }
+    requires place { n ≡ length draft.old }
+    requires few { n < 64 }
+    ensures { MatchResult result (λ _. IsJudgedNext parts.now.limits n task parts.now.state draft.old draft.new) (λ fault. judge_task parts.now.limits n task (state_after draft.old parts.now.state) ≡ Err fault) }
+{
+    let step = judge_step(parts, draft, n, task)?;
+    let aim = match task {
+        Task::Enter { .. } => return enter(parts, draft, n, task, step),
+        Task::Leave { holding } => release(parts, draft, holding.aim),
+        Task::Exit { finalize, .. } => detach(parts, draft, finalize, pointer_aimed(task, step)),
+        Task::Move { .. } => Aim::None,
+    };
+    draft.push(Acted {
+        task,
+        did: Did { step, aim },
+    });
+    Ok(())
+}

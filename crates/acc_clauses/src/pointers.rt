@@ -1,0 +1,104 @@
+//! What attaching and detaching a pointer changes. Nothing is judged here, no memory is taken, and nothing is refused.
+
+ghost use Rattle.std.specs.Prelude.{◌≡◌, ◌-◌, ◌≤◌, length, slice_index};
+ghost use Rattle.std.specs.Int.{w64, to_le_bytes};
+ghost use Rattle.acc_base.specs.declared.attachments.Aim.TheVariants.{Less};
+ghost use Rattle.acc_base.specs.Attachments.{pointer_at};
+ghost use Rattle.acc_base.specs.Bytes.{host_byte};
+ghost use Rattle.acc_base.specs.Pointers.{pointer_written};
+ghost use Rattle.acc_clauses.specs.Contents.{state_of, room_of};
+ghost use Rattle.acc_clauses.specs.Acts.{CanMove, CanDetach, CanAim, IsAimedBy, pointers_of, pointers_in};
+ghost use Rattle.acc_clauses.specs.Overlays.{dids_in};
+
+use crate::acted::Acted;
+use crate::copies::{run_in, start_of};
+use crate::environments::Environment;
+use crate::sections::pointer_at;
+use acc_attach::Left;
+use acc_base::Aim;
+
+/// Writes the device address of a target over a pointer in a block.
+fn write_target(environment: &mut Environment, pointer: u64, block: u64, target: u64)
+    requires can { CanMove (pointer_at pointer) block (state_of environment.old 0) }
+    ensures { let s = state_of environment.old 0 in environment.new ≡ record environment.old { device = record environment.old.device { memories = pointer_written block pointer (λ a. slice_index (to_le_bytes w64 target) (a - pointer)) s } } }
+{
+    environment.device.laws();
+    let start = start_of(&environment.present, block);
+    environment
+        .device
+        .write(block, pointer - start, &target.to_le_bytes());
+}
+
+/// Writes the eight bytes of the host's pointer over the pointer in a block.
+fn write_back(environment: &mut Environment, pointer: u64, block: u64)
+    requires can { CanMove (pointer_at pointer) block (state_of environment.old 0) }
+    ensures { let s = state_of environment.old 0 in environment.new ≡ record environment.old { device = record environment.old.device { memories = pointer_written block pointer (host_byte s.host) s } } }
+{
+    let start = start_of(&environment.present, block);
+    run_in(
+        &mut environment.device,
+        &environment.host,
+        pointer_at(pointer),
+        block,
+        start,
+    );
+}
+
+/// Takes one from the counter of a pointer in a block; at zero its bytes there become those of the host's pointer.
+fn lessen(environment: &mut Environment, pointer: u64, block: u64)
+    requires can { CanDetach pointer block (state_of environment.old 0) }
+    ensures aimed { IsAimedBy (Less pointer block) environment.old environment.new }
+{
+    match environment.attached.detach(block, pointer) {
+        Left::Zero => write_back(environment, pointer, block),
+        Left::Nothing | Left::Less => {}
+    }
+}
+
+/// Attaches or detaches a pointer (OpenACC 3.3, section 2.7.2).
+pub(crate) fn aim_on(environment: &mut Environment, aim: Aim)
+    requires can { CanAim environment.old.attached.counter_max aim (state_of environment.old 0) }
+    requires room { pointers_of aim ≤ (room_of environment.old).attachments }
+    ensures aimed { IsAimedBy aim environment.old environment.new }
+{
+    match aim {
+        Aim::None => {}
+        Aim::New {
+            pointer,
+            block,
+            target,
+        } => {
+            write_target(environment, pointer, block, target);
+            environment.attached.aim_reserved(block, pointer);
+        }
+        Aim::Again { pointer, block } => environment.attached.aim_again(block, pointer),
+        Aim::Less { pointer, block } => lessen(environment, pointer, block),
+        Aim::Cleared { pointer, block } => {
+            write_back(environment, pointer, block);
+            environment.attached.detach_now(block, pointer);
+        }
+    }
+}
+
+/// How many attachment counters more an attachment takes.
+fn pointers_of(aim: Aim) -> u64
+    ensures value { result ≡ pointers_of aim }
+    ensures most { result ≤ 1 }
+{
+    match aim {
+        Aim::New { .. } => 1,
+        Aim::None | Aim::Again { .. } | Aim::Less { .. } | Aim::Cleared { .. } => 0,
+    }
+}
+
+/// How many attachment counters more these tasks take.
+pub(crate) fn pointers_in(acts: &[Acted]) -> u64
+    requires few { length acts.now ≤ 64 }
+    ensures { result ≡ pointers_in (dids_in acts.now) }
+{
+    let mut count = 0;
+    for x in acts {
+        count += pointers_of(x.did.aim);
+    }
+    count
+}

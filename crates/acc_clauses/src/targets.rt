@@ -1,0 +1,69 @@
+//! What look-ups of pointers and of their targets answer in what the tasks judged so far will leave.
+
+ghost use Rattle.std.specs.Prelude.{◌≡◌, ◌%◌, ◌<◌, Some, true};
+ghost use Rattle.std.specs.List.{list_all};
+ghost use Rattle.acc_base.specs.Attachments.{count_at};
+ghost use Rattle.acc_base.specs.Pointers.{block_with, device_address_of, device_pointer};
+ghost use Rattle.acc_clauses.specs.Overlays.{IsPlanned, AreUnmixed, tasks_in, records_after, state_after, enters};
+
+use crate::aim_effects::{count_over, place_over, value_over};
+use crate::drafts::Draft;
+use crate::parts::Parts;
+use crate::readings::found_after;
+use crate::sections::pointer_at;
+use acc_base::{Found, Section};
+
+/// The block that holds a pointer after the tasks, if one does.
+pub(crate) fn block_after(parts: &Parts, draft: &Draft, pointer: u64) -> Option<u64>
+    requires planned { IsPlanned parts.now.limits draft.now parts.now.state.records }
+    requires unmixed { AreUnmixed (tasks_in draft.now) }
+    ensures { result ≡ block_with pointer (records_after draft.now parts.now.state.records).ranges }
+{
+    match found_after(parts, draft, pointer_at(pointer)) {
+        Found::Inside { block, .. } => Some(block),
+        Found::Empty | Found::Partly | Found::Absent => None,
+    }
+}
+
+/// How often a pointer in a block is attached after the tasks.
+#[tactic(auto, using(crate::proofs::AimsCounted::count_laws))]
+pub(crate) fn count_after(parts: &Parts, draft: &Draft, block: u64, pointer: u64) -> u64
+    requires planned { IsPlanned parts.now.limits draft.now parts.now.state.records }
+    ensures { result ≡ count_at block pointer (records_after draft.now parts.now.state.records).attached }
+{
+    let count = parts.count(block, pointer);
+    count_over(block, pointer, count, draft.acts())
+}
+
+/// The device address that a host address is mapped to after the tasks, of which each enters, if it is.
+pub(crate) fn address_after(parts: &Parts, draft: &Draft, address: u64) -> Option<u64>
+    requires planned { IsPlanned parts.now.limits draft.now parts.now.state.records }
+    requires entering { list_all enters (tasks_in draft.now) ≡ true }
+    ensures { result ≡ device_address_of address (records_after draft.now parts.now.state.records) }
+{
+    let only = Section {
+        start: address,
+        len: 1,
+    };
+    match found_after(parts, draft, only) {
+        Found::Inside { block, offset } => {
+            let place = place_over(block, parts.place(block), draft.acts());
+            Some(place + offset)
+        }
+        Found::Empty | Found::Partly | Found::Absent => None,
+    }
+}
+
+/// The address that an attached pointer holds on the device after the tasks, of which each enters.
+pub(crate) fn value_after(parts: &Parts, draft: &Draft, block: u64, pointer: u64) -> u64
+    requires planned { IsPlanned parts.now.limits draft.now parts.now.state.records }
+    requires entering { list_all enters (tasks_in draft.now) ≡ true }
+    requires aligned { pointer % 8 ≡ 0 }
+    requires there { block_with pointer (records_after draft.now parts.now.state.records).ranges ≡ Some block }
+    requires attached { 0 < count_at block pointer (records_after draft.now parts.now.state.records).attached }
+    ensures { result ≡ device_pointer block pointer (state_after draft.now parts.now.state) }
+{
+    parts.laws();
+    let value = parts.device_pointer(block, pointer);
+    value_over(block, pointer, value, draft.acts())
+}

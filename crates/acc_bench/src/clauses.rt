@@ -179,7 +179,11 @@ fn make_items<C: Copy + Drop>(
     let mut items = Vec::new(alloc);
     for number in 0..count {
         let section = sixteen_bytes_at(first.wrapping_add(number));
-        items.push(Item { clause, section })?;
+        items.push(Item {
+            clause,
+            section,
+            pointer: None,
+        })?;
     }
     Ok(List::from_vec(items))
 }

@@ -26,12 +26,14 @@ enum Pair {
     Region,
 }
 
-/// Prints how long an `update` of 64 KiB and one of 16 MiB take beside a plain copy of as many bytes, and how long
+/// Prints how long an `update` of 64 KiB and one of 16 MiB take beside a plain copy of as many bytes, and one of 64 KiB
+/// that leaves 1,000 attached pointers out; and how long
 /// `enter data` with `exit data`, and a data region, take for 16 bytes beside growing numbers of other ranges: where they
 /// map the bytes, and where the bytes are present.
 pub fn run<R: Print + Clock + AllocGlobal>(rt: &R) -> Result<()> {
     measure_updates(rt, 65_536, 1_000)?;
     measure_updates(rt, 16_777_216, 20)?;
+    measure_pointers(rt, 1_000, 1_000)?;
     for count in [0, 1_000, 10_000] {
         measure_mappings(rt, count)?;
     }
@@ -65,6 +67,64 @@ fn measure_updates_on<R: Print + Clock + AllocGlobal>(
         EnterClause::Create { zero: true },
         section,
     )?;
+    tell_updates(
+        rt,
+        table,
+        section,
+        rounds,
+        "table: update, bytes",
+        section.len,
+    )
+}
+
+/// Measures updates of 64 KiB in which so many pointers are attached, and a plain copy of as many bytes.
+fn measure_pointers<R: Print + Clock + AllocGlobal>(rt: &R, count: u64, rounds: u32) -> Result<()>
+    requires { 0 < rounds }
+{
+    let section = Section {
+        start: HOST_BASE,
+        len: 65_536,
+    };
+    let mut table = new_table(rt.alloc())?;
+    map(&mut table, rt.alloc(), EnterClause::Copyin, section)?;
+    attach_pointers(&mut table, rt.alloc(), count)?;
+    let place = "table: update of 65536 bytes, attached pointers";
+    tell_updates(rt, &mut table, section, rounds, place, count)
+}
+
+/// Attaches so many pointers, 64 bytes apart, each aimed at the first byte of host memory.
+fn attach_pointers(table: &mut Table, alloc: Global, count: u64) -> Result<(), Fault> {
+    for number in 0..count {
+        let section = Section {
+            start: HOST_BASE.wrapping_add(number.wrapping_mul(64)),
+            len: 8,
+        };
+        write(table, alloc, section.start, &HOST_BASE.to_le_bytes())?;
+        map(table, alloc, EnterClause::Attach, section)?;
+    }
+    Ok(())
+}
+
+/// Writes into host memory.
+fn write(table: &mut Table, alloc: Global, addr: u64, bytes: &[u8]) -> Result<(), Fault> {
+    let bytes = List::from_vec(Vec::from_slice(alloc, bytes)?);
+    match table.apply(Call::HostWrite { addr, bytes }) {
+        Ok(_) => Ok(()),
+        Err((_, fault)) => Err(fault),
+    }
+}
+
+/// Measures updates of a section both ways, and a plain copy of as many bytes.
+fn tell_updates<R: Print + Clock + AllocGlobal>(
+    rt: &R,
+    table: &mut Table,
+    section: Section,
+    rounds: u32,
+    place: &str,
+    count: u64,
+) -> Result<()>
+    requires { 0 < rounds }
+{
     let to_device = time_updates(rt, table, UpdateClause::ToDevice, section, rounds)?;
     let to_self = time_updates(rt, table, UpdateClause::ToSelf, section, rounds)?;
     let plain = time_copies(rt, section.len, rounds)?;
@@ -73,7 +133,7 @@ fn measure_updates_on<R: Print + Clock + AllocGlobal>(
         ("self", to_self),
         ("a plain copy", plain),
     ];
-    tell(rt, "table: update, bytes", section.len, &rows)
+    tell(rt, place, count, &rows)
 }
 
 /// Maps a section.
@@ -268,7 +328,13 @@ fn new_table(alloc: Global) -> Result<Table, Fault> {
 /// An `enter data` of one item.
 fn enter(alloc: Global, clause: EnterClause, section: Section) -> Result<Directive, AllocError> {
     Ok(Directive::EnterData {
-        items: List::from_vec(vec![in alloc; Item { clause, section }]?),
+        items: List::from_vec(vec![in alloc;
+            Item {
+                clause,
+                section,
+                pointer: None
+            },
+        ]?),
     })
 }
 
@@ -276,7 +342,13 @@ fn enter(alloc: Global, clause: EnterClause, section: Section) -> Result<Directi
 fn region(alloc: Global, section: Section) -> Result<Directive, AllocError> {
     let clause = RegionClause::Copyin;
     Ok(Directive::Enter {
-        items: List::from_vec(vec![in alloc; Item { clause, section }]?),
+        items: List::from_vec(vec![in alloc;
+            Item {
+                clause,
+                section,
+                pointer: None
+            },
+        ]?),
     })
 }
 
@@ -284,7 +356,13 @@ fn region(alloc: Global, section: Section) -> Result<Directive, AllocError> {
 fn exit(alloc: Global, section: Section) -> Result<Directive, AllocError> {
     let clause = ExitClause::Delete;
     Ok(Directive::ExitData {
-        items: List::from_vec(vec![in alloc; Item { clause, section }]?),
+        items: List::from_vec(vec![in alloc;
+            Item {
+                clause,
+                section,
+                pointer: None
+            },
+        ]?),
         finalize: false,
     })
 }
@@ -292,7 +370,13 @@ fn exit(alloc: Global, section: Section) -> Result<Directive, AllocError> {
 /// An `update` of one section.
 fn update(alloc: Global, clause: UpdateClause, section: Section) -> Result<Directive, AllocError> {
     Ok(Directive::Update {
-        items: List::from_vec(vec![in alloc; Item { clause, section }]?),
+        items: List::from_vec(vec![in alloc;
+            Item {
+                clause,
+                section,
+                pointer: None
+            },
+        ]?),
         if_present: false,
     })
 }

@@ -13,11 +13,12 @@ use Rattle.acc_base.specs.declared.events.Event.{Event}
 use Rattle.acc_base.specs.declared.events.Event.TheVariants.{Entered, Left, EnteredData, ExitedData, Updated, HostWritten}
 use Rattle.acc_base.specs.Limits.{Limits, IsWithinBounds}
 use Rattle.acc_base.specs.Records.{Records, Layout, layout_of}
-use Rattle.acc_base.specs.Tasks.{act, act_all, records_after_birth, records_after_end, with_range_changed}
+use Rattle.acc_base.specs.Tasks.{act_step, act, act_all, records_after_birth, records_after_end, with_range_changed}
 use Rattle.acc_base.specs.Walk.{walk, asked_in, done_in}
-use Rattle.acc_base.specs.Bytes.{after}
+use Rattle.acc_base.specs.Acting.{after}
 use Rattle.acc_base.specs.Judge.{event_of}
 use Rattle.acc_base.specs.Calls.{World, Makes, judge, world_after, bytes_brought, new_world}
+use Rattle.acc_base.proofs.SameMapping.{mapping-act}
 use Rattle.acc_base.proofs.Walked.{layout-after}
 use Rattle.acc_base.proofs.Accounted.{accepted_accounted, new_accounted}
 use Rattle.acc_clauses.specs.Contents.{Contents, AreNew}
@@ -30,21 +31,24 @@ use Rattle.acc_table.proofs.Verdicts.{committed, unchanged}
 
 -- ---- births, of which a directive has at most 64
 
-act_births : (task : Task) (step : Step) (w : Records) → (act task step w).births ≤ w.births + 1
-unfolding act with_range_changed records_after_birth records_after_end
-act_births task Nothing w = omega arith
-act_births task (Counted k) w = omega arith
-act_births task (Born k p) w = omega arith
-act_births task (Dropped k true) w = omega arith
-act_births task (Dropped k false) w = omega arith
-act_births task (Moved k) w = omega arith
+step_births : (task : Task) (step : Step) (w : Records) → (act_step task step w).births ≤ w.births + 1
+unfolding act_step with_range_changed records_after_birth records_after_end
+step_births task Nothing w = omega arith
+step_births task (Counted k) w = omega arith
+step_births task (Born k p) w = omega arith
+step_births task (Dropped k true) w = omega arith
+step_births task (Dropped k false) w = omega arith
+step_births task (Moved k) w = omega arith
+
+act_births : (task : Task) (did : Did) (w : Records) → (act task did w).births ≤ w.births + 1
+act_births task did w = rw (mapping-act task did w).births (step_births task did.step w)
 
 all_births : (tasks : List Task) (dids : List Did) (w : Records) → (act_all tasks dids w).births ≤ w.births + length tasks
 unfolding act_all
 all_births [] [] w = omega arith
 all_births [] (d ∷ ds) w = omega arith
 all_births (t ∷ ts) [] w = omega arith
-all_births (t ∷ ts) (d ∷ ds) w = omega (arith, act_births t d.step w, all_births ts ds (act t d.step w))
+all_births (t ∷ ts) (d ∷ ds) w = omega (arith, act_births t d w, all_births ts ds (act t d w))
 
 walk_births : (e : Event) (lay : Layout) (tasks : List Task) → asked_in e lay.register ≡ tasks → (walk e lay).records.births ≤ lay.records.births + length tasks
 unfolding walk

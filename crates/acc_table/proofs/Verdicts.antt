@@ -14,8 +14,8 @@ use Rattle.acc_base.specs.declared.events.Did.{Did}
 use Rattle.acc_base.specs.declared.faults.Fault.{Fault}
 use Rattle.acc_base.specs.Results.{◌>>=◌, ◌>>◌}
 use Rattle.acc_base.specs.Register.{Register}
-use Rattle.acc_base.specs.Records.{layout_of}
-use Rattle.acc_base.specs.Bytes.{host_after_write, act_all_state, after}
+use Rattle.acc_base.specs.Bytes.{host_after_write}
+use Rattle.acc_base.specs.Acting.{act_all_state, after}
 use Rattle.acc_base.specs.Clauses.{in_host}
 use Rattle.acc_base.specs.Judge.{few_items, directive_event, event_of, plan_of, host_write_event}
 use Rattle.acc_base.specs.Calls.{World, Makes, judge, ticket, allowance, trace_room, world_after}
@@ -57,12 +57,12 @@ written addr bytes old new trace longer l s t = rw (l, s, t) refl
 -- ---- the verdict
 
 -- the verdict on a directive, from what is told before its items are judged and from the plan of the items
-pub judge_directive : (w : World) (d : Directive) → judge w (Do d) ≡ (admitted w d >> (plan_of w.limits d (layout_of w.state) >>= λ e. Ok (Makes e)))
+pub judge_directive : (w : World) (d : Directive) → judge w (Do d) ≡ (admitted w d >> (plan_of w.limits d w.state >>= λ e. Ok (Makes e)))
 unfolding judge admitted plan_of
 judge_directive w d = go (ticket w) (allowance w d) (few_items d) (trace_room w)
   where
     go : (a b c t : Result ⊤ Fault)
-        → (a >> (b >> (c >> (t >> (directive_event w.limits d (layout_of w.state) >>= λ x. Ok (Makes x)))))) ≡ ((a >> (b >> (c >> t))) >> ((c >> directive_event w.limits d (layout_of w.state)) >>= λ x. Ok (Makes x)))
+        → (a >> (b >> (c >> (t >> (directive_event w.limits d w.state >>= λ x. Ok (Makes x)))))) ≡ ((a >> (b >> (c >> t))) >> ((c >> directive_event w.limits d w.state) >>= λ x. Ok (Makes x)))
     go (Err f) b c t = refl
     go (Ok x) (Err f) c t = refl
     go (Ok x) (Ok y) (Err f) t = refl
@@ -70,14 +70,14 @@ judge_directive w d = go (ticket w) (allowance w d) (few_items d) (trace_room w)
     go (Ok x) (Ok y) (Ok z) (Ok u) = refl
 
 -- what a plan answers is the verdict, where nothing was told before
-pub judged_plan : (w : World) (d : Directive) (e : Event) → admitted w d ≡ Ok tt → plan_of w.limits d (layout_of w.state) ≡ Ok e → judge w (Do d) ≡ Ok (Makes e)
+pub judged_plan : (w : World) (d : Directive) (e : Event) → admitted w d ≡ Ok tt → plan_of w.limits d w.state ≡ Ok e → judge w (Do d) ≡ Ok (Makes e)
 judged_plan w d e ok h = judge_directive w d ∙ rw (ok, h) refl
 
 -- so is what is told of a plan
-pub refused_plan : (w : World) (d : Directive) (fault : Fault) → admitted w d ≡ Ok tt → MayBeToldOf (plan_of w.limits d (layout_of w.state)) fault → IsRefusal w (Do d) fault
-refused_plan w d fault ok told = go (plan_of w.limits d (layout_of w.state)) refl told
+pub refused_plan : (w : World) (d : Directive) (fault : Fault) → admitted w d ≡ Ok tt → MayBeToldOf (plan_of w.limits d w.state) fault → IsRefusal w (Do d) fault
+refused_plan w d fault ok told = go (plan_of w.limits d w.state) refl told
   where
-    go : (r : Result Event Fault) → plan_of w.limits d (layout_of w.state) ≡ r → MayBeToldOf r fault → IsRefusal w (Do d) fault
+    go : (r : Result Event Fault) → plan_of w.limits d w.state ≡ r → MayBeToldOf r fault → IsRefusal w (Do d) fault
     go (Ok e) is h = let v : judge w (Do d) ≡ Ok (Makes e) = judged_plan w d e ok is in rw v h
     go (Err refusal) is h = let v : judge w (Do d) ≡ Err refusal = judge_directive w d ∙ rw (ok, is) refl in rw v h
 
@@ -121,12 +121,12 @@ directive_done d p old new trace longer (Ok reply) h ok done = rw h (ok, committ
 directive_done d p old new trace longer (Err back) h ok done = tt
 
 pub directive_judged : (d : Directive) (p : Planned) (old : Contents) (trace : List Event) (r : Result Reply (Directive × Fault)) → admitted (world_of old trace) d ≡ Ok tt
-    → OnOk r (plan_of old.limits d (layout_of old.state) ≡ Ok (planned_event d p old)) → OnOk r (judge (world_of old trace) (Do d) ≡ Ok (Makes (planned_event d p old)))
+    → OnOk r (plan_of old.limits d old.state ≡ Ok (planned_event d p old)) → OnOk r (judge (world_of old trace) (Do d) ≡ Ok (Makes (planned_event d p old)))
 directive_judged d p old trace (Ok reply) ok h = judged_plan (world_of old trace) d (planned_event d p old) ok h
 directive_judged d p old trace (Err back) ok h = tt
 
 pub directive_refused : (d : Directive) (old : Contents) (trace : List Event) (r : Result Reply (Directive × Fault)) → admitted (world_of old trace) d ≡ Ok tt
-    → IfErr r (λ back. MayBeToldOf (plan_of old.limits d (layout_of old.state)) back.1) → IfErr r (λ back. IsRefusal (world_of old trace) (Do d) back.1)
+    → IfErr r (λ back. MayBeToldOf (plan_of old.limits d old.state) back.1) → IfErr r (λ back. IsRefusal (world_of old trace) (Do d) back.1)
 directive_refused d old trace (Ok reply) ok h = tt
 directive_refused d old trace (Err back) ok h = refused_plan (world_of old trace) d back.1 ok h
 

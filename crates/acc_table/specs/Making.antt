@@ -9,7 +9,7 @@ use Rattle.acc_base.specs.declared.events.Event.TheVariants as events
 use Rattle.acc_base.specs.declared.faults.Fault.{Fault}
 use Rattle.acc_base.specs.declared.faults.Fault.TheVariants.{Memory}
 use Rattle.acc_base.specs.Results.{◌>>◌}
-use Rattle.acc_base.specs.Bytes.{after}
+use Rattle.acc_base.specs.Acting.{after}
 use Rattle.acc_base.specs.Clauses.{in_host}
 use Rattle.acc_base.specs.Judge.{few_items, event_of}
 use Rattle.acc_base.specs.Calls.{World, ticket, allowance, trace_room}

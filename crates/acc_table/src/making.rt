@@ -76,12 +76,12 @@ fn prepare(
 ) -> Result<List<Did>, Fault>
     requires births { store.old.state.records.births < 2 ^ 48 }
     ensures same { IsAsBefore store.old store.new trace.old.items trace.new.items }
-    ensures judged { OnOk result (plan_of store.old.limits directive.now (layout_of store.old.state) ≡ Ok (planned_event directive.now plan.new store.old)) }
+    ensures judged { OnOk result (plan_of store.old.limits directive.now store.old.state ≡ Ok (planned_event directive.now plan.new store.old)) }
     ensures planned { OnOk result (IsPlannedOn store.old.limits directive.now (layout_of store.old.state) plan.new) }
     ensures did { IfOk result (λ did. did ≡ in_written_order plan.new.head plan.new.dids) }
     ensures room { OnOk result (HasPlanRoom plan.new store.new.room) }
     ensures place { OnOk result (vec_len trace.new < vec_capacity trace.new) }
-    ensures refused { IfErr result (MayBeToldOf (plan_of store.old.limits directive.now (layout_of store.old.state))) }
+    ensures refused { IfErr result (MayBeToldOf (plan_of store.old.limits directive.now store.old.state)) }
 {
     store.plan(directive, plan)?;
     make_room(store, trace, plan)
@@ -126,12 +126,12 @@ pub fn carry_out(
 ) -> Result<Reply, (Directive, Fault)>
     requires births { store.old.state.records.births < 2 ^ 47 }
     requires regions { store.old.state.register.next < 2 ^ 48 }
-    ensures judged { OnOk result (plan_of store.old.limits directive (layout_of store.old.state) ≡ Ok (planned_event directive plan.new store.old)) }
+    ensures judged { OnOk result (plan_of store.old.limits directive store.old.state ≡ Ok (planned_event directive plan.new store.old)) }
     ensures planned { OnOk result (IsPlannedOn store.old.limits directive (layout_of store.old.state) plan.new) }
     ensures reply { IfOk result (λ reply. reply ≡ reply_of (planned_event directive plan.new store.old)) }
     ensures done { OnOk result (IsCommitted directive plan.new store.old store.new trace.old.items trace.new.items) }
     ensures back { IfErr result (λ back. back.0 ≡ directive) }
-    ensures refused { IfErr result (λ back. MayBeToldOf (plan_of store.old.limits directive (layout_of store.old.state)) back.1) }
+    ensures refused { IfErr result (λ back. MayBeToldOf (plan_of store.old.limits directive store.old.state) back.1) }
     ensures same { OnErr result (IsAsBefore store.old store.new trace.old.items trace.new.items) }
 {
     match prepare(store, trace, plan, &directive) {

@@ -5,7 +5,7 @@ ghost use Rattle.acc_base.specs.Blocks.{used_bytes};
 ghost use Rattle.acc_base.specs.Calls.{event_count, open_regions};
 ghost use Rattle.acc_base.specs.Register.{newest_region};
 ghost use Rattle.acc_base.specs.Ranges.{where_is, IsPlacedAt};
-ghost use Rattle.acc_base.specs.Pointers.{device_address_of};
+ghost use Rattle.acc_base.specs.Pointers.{device_address_of, attachment_of};
 ghost use Rattle.acc_table.specs.Queries.{is_inside, IsInsideOne, counters_at, mapped_from, IsLeastFrom, host_read_of, device_read_of};
 
 use crate::calls::Mapped;
@@ -49,6 +49,14 @@ impl Table {
             Found::Inside { block, offset } => { Some(self.store.place(block) + offset) }
             Found::Empty | Found::Partly | Found::Absent => None,
         }
+    }
+
+    /// How often the pointer at a host address is attached in the block that its eight bytes are mapped to (OpenACC 3.3,
+    /// section 2.6.8); 0 where they are not inside one mapped range.
+    pub fn attachment(&self, pointer: u64) -> u64
+        ensures { result ≡ attachment_of pointer self.now.state.records }
+    {
+        self.store.attachment(pointer)
     }
 
     /// The reference counters of the mapped range that the section is inside (OpenACC 3.3, section 2.6.7), if it is

@@ -18,7 +18,13 @@ fn used_by_one_array(alloc: Global) -> Result<u64, Fault> {
         len: 20,
     };
     let clause = EnterClause::Copyin;
-    let items = List::from_vec(vec![in alloc; Item { clause, section }]?);
+    let items = List::from_vec(vec![in alloc;
+        Item {
+            clause,
+            section,
+            pointer: None
+        },
+    ]?);
     match table.apply(Call::Do(Directive::EnterData { items })) {
         Ok(_) => Ok(table.used()),
         Err((_, fault)) => Err(fault),
@@ -32,8 +38,8 @@ fn an_array_of_20_bytes_takes_32(rt: HostRuntime) -> Result<(), Fail> {
 }
 
 #[test]
-fn an_event_takes_64_bytes_and_each_item_48(rt: HostRuntime) {
+fn an_event_takes_64_bytes_and_each_item_96(rt: HostRuntime) {
     assert_eq!(&rt; size_of::<Event>(), 64);
-    assert_eq!(&rt; size_of::<Item<RegionClause>>(), 24);
-    assert_eq!(&rt; size_of::<Did>(), 24);
+    assert_eq!(&rt; size_of::<Item<RegionClause>>(), 40);
+    assert_eq!(&rt; size_of::<Did>(), 56);
 }

@@ -2,8 +2,8 @@
 //! the table as it was. What a script can say is a row of the script tests.
 
 use acc_base::{
-    Call, Config, Counters, Did, Directive, EnterClause, Event, ExitClause, Fault, Found, Item,
-    List, RegionClause, Section, Step, UpdateClause,
+    Aim, Call, Config, Counters, Did, Directive, EnterClause, Event, ExitClause, Fault, Found,
+    Item, List, RegionClause, Section, Step, UpdateClause,
 };
 use acc_table::{Answer, Mapped, Table, Turn};
 use rows::{LIFE, ROWS, WIDE};
@@ -32,6 +32,8 @@ enum Ask {
     Enter(Items<RegionClause>),
     Exit(u64),
     EnterData(Items<EnterClause>),
+    /// With this pointer to the data of each item.
+    EnterDataVia(Items<EnterClause>, u64),
     ExitData(Items<ExitClause>),
     Finalize(Items<ExitClause>),
     Update(Items<UpdateClause>),
@@ -50,8 +52,11 @@ enum Check {
     MappedFrom(u64, Option<Mapped>),
     Host((u64, u64), Option<&'static [u8]>),
     Device((u64, u64), Option<&'static [u8]>),
-    /// What the first item of the event of this number did.
+    /// What the first item of the event of this number did, and what it did to its pointer.
     Step(usize, Option<Step>),
+    Aim(usize, Option<Aim>),
+    /// How often the pointer at this address is attached.
+    Attached(u64, u64),
     Used(u64),
     Events(u64),
     TicketBook(u64),
@@ -76,11 +81,15 @@ fn section(at: (u64, u64)) -> Section {
 fn items<C: Copy + Drop>(
     alloc: Global,
     listed: &[(C, u64, u64)],
+    pointer: Option<u64>,
 ) -> Result<List<Item<C>>, AllocError> {
     let mut items = Vec::with_capacity(alloc, listed.len())?;
     for &(clause, start, len) in listed {
-        let section = Section { start, len };
-        items.push(Item { clause, section })?;
+        items.push(Item {
+            clause,
+            section: Section { start, len },
+            pointer,
+        })?;
     }
     Ok(List::from_vec(items))
 }
@@ -90,7 +99,7 @@ fn update(
     listed: &[(UpdateClause, u64, u64)],
     if_present: bool,
 ) -> Result<Call, AllocError> {
-    let items = items(alloc, listed)?;
+    let items = items(alloc, listed, None)?;
     Ok(Call::Do(Directive::Update { items, if_present }))
 }
 
@@ -100,12 +109,16 @@ fn write(alloc: Global, addr: u64, bytes: &[u8]) -> Result<Call, AllocError> {
 }
 
 fn enter(alloc: Global, listed: &[(RegionClause, u64, u64)]) -> Result<Call, AllocError> {
-    let items = items(alloc, listed)?;
+    let items = items(alloc, listed, None)?;
     Ok(Call::Do(Directive::Enter { items }))
 }
 
-fn enter_data(alloc: Global, listed: &[(EnterClause, u64, u64)]) -> Result<Call, AllocError> {
-    let items = items(alloc, listed)?;
+fn enter_data(
+    alloc: Global,
+    listed: &[(EnterClause, u64, u64)],
+    pointer: Option<u64>,
+) -> Result<Call, AllocError> {
+    let items = items(alloc, listed, pointer)?;
     Ok(Call::Do(Directive::EnterData { items }))
 }
 
@@ -114,7 +127,7 @@ fn exit_data(
     listed: &[(ExitClause, u64, u64)],
     finalize: bool,
 ) -> Result<Call, AllocError> {
-    let items = items(alloc, listed)?;
+    let items = items(alloc, listed, None)?;
     Ok(Call::Do(Directive::ExitData { items, finalize }))
 }
 
@@ -122,7 +135,8 @@ fn call_of(alloc: Global, ask: Ask) -> Result<Call, AllocError> {
     match ask {
         Ask::Enter(listed) => enter(alloc, listed),
         Ask::Exit(number) => Ok(Call::Do(Directive::Exit { number })),
-        Ask::EnterData(listed) => enter_data(alloc, listed),
+        Ask::EnterData(listed) => enter_data(alloc, listed, None),
+        Ask::EnterDataVia(listed, pointer) => enter_data(alloc, listed, Some(pointer)),
         Ask::ExitData(listed) => exit_data(alloc, listed, false),
         Ask::Finalize(listed) => exit_data(alloc, listed, true),
         Ask::Update(listed) => update(alloc, listed, false),
@@ -162,7 +176,7 @@ fn table_of(alloc: Global, limits: Limits) -> Result<Table, Fault> {
     Table::new(alloc, config)
 }
 
-fn did_first(event: &Event) -> Option<Step> {
+fn did_first(event: &Event) -> Option<Did> {
     let did: &List<Did> = match event {
         Event::Entered { did, .. } => did,
         Event::Left { did, .. } => did,
@@ -173,15 +187,25 @@ fn did_first(event: &Event) -> Option<Step> {
     };
     match did.as_slice() {
         [] => None,
-        [first, ..] => Some(first.step),
+        [first, ..] => Some(*first),
     }
 }
 
-fn step_at(trace: &[Event], number: usize) -> Option<Step> {
+fn did_at(trace: &[Event], number: usize) -> Option<Did> {
     match trace.get(number) {
         Some(event) => did_first(event),
         None => None,
     }
+}
+
+fn step_at(trace: &[Event], number: usize) -> Option<Step> {
+    let did = did_at(trace, number)?;
+    Some(did.step)
+}
+
+fn aim_at(trace: &[Event], number: usize) -> Option<Aim> {
+    let did = did_at(trace, number)?;
+    Some(did.aim)
 }
 
 /// Ends the test where the answer is not the one that is wanted.
@@ -216,6 +240,8 @@ fn check_one(rt: &impl Abort, row: &str, table: &Table, check: Check) {
         Check::Counted(at, wanted) => same(rt, row, counted(table, section(at)), wanted),
         Check::MappedFrom(from, wanted) => same(rt, row, table.mapped(from), wanted),
         Check::Step(number, wanted) => same(rt, row, step_at(table.trace(), number), wanted),
+        Check::Aim(number, wanted) => same(rt, row, aim_at(table.trace(), number), wanted),
+        Check::Attached(pointer, wanted) => same(rt, row, table.attachment(pointer), wanted),
         Check::Host(at, wanted) => same_bytes(rt, row, table.host_read(section(at)), wanted),
         Check::Device(at, wanted) => same_bytes(rt, row, table.device_read(section(at)), wanted),
         Check::Used(wanted) => same(rt, row, table.used(), wanted),
@@ -302,7 +328,7 @@ fn a_refused_growth_changes_nothing(rt: HostRuntime) -> Result<(), Fail> {
         Err(_) => table_of(rt.alloc(), WIDE)?,
     };
     live(&rt, &mut table)?;
-    same(&rt, "a refused growth", table.events(), 10);
+    same(&rt, "a refused growth", table.events(), 13);
     same(&rt, "a refused growth", table.used(), 0);
     Ok(())
 }

@@ -2,18 +2,18 @@
 //! OpenACC 3.3, sections 2.6 and 2.7, and the documents of this project.
 
 use crate::tests::Ask::{
-    Enter, EnterData, Exit, ExitData, Finalize, Update, UpdateIfPresent, Write,
+    Enter, EnterData, EnterDataVia, Exit, ExitData, Finalize, Update, UpdateIfPresent, Write,
 };
 use crate::tests::Check::{
-    Address, Counted, Device, Events, Found as Finds, Host, MappedFrom, Newest, Present,
-    RegionBook, Regions, Step as Did, TicketBook, Used,
+    Address, Aim as Aimed, Attached, Counted, Device, Events, Found as Finds, Host, MappedFrom,
+    Newest, Present, RegionBook, Regions, Step as Did, TicketBook, Used,
 };
 use crate::tests::{Ask, Limits, Row};
 use Answer::Refused;
-use acc_base::EnterClause::{Copyin, Create};
-use acc_base::ExitClause::{Copyout, Delete};
+use acc_base::EnterClause::{Attach, Copyin, Create};
+use acc_base::ExitClause::{Copyout, Delete, Detach};
 use acc_base::UpdateClause::{ToDevice, ToSelf};
-use acc_base::{DEVICE_BASE, Fault, Found, HOST_BASE, RegionClause, Step};
+use acc_base::{Aim, DEVICE_BASE, Fault, Found, HOST_BASE, RegionClause, Step};
 use acc_table::{Answer, Mapped};
 
 /// Limits that no turn reaches.
@@ -44,12 +44,20 @@ const SECOND: Answer = Answer::Replied {
     count: 0,
 };
 
-/// A whole life of an array, and of a second one, and of two regions.
+/// The eight bytes that hold the host address A + 16, and those that hold the device address of a second block.
+const TO_HOST: &[u8] = &[0x10, 0x10, 0, 0, 0, 0, 0, 0];
+
+const TO_DEVICE: &[u8] = &[0x10, 0, 0, 0, 1, 0, 0, 0];
+
+/// A whole life of an array, of a second one, of a pointer in the first one to the second, and of two regions.
 pub const LIFE: &[Ask] = &[
     Write(A, &[1, 2]),
     EnterData(&[(Copyin, A, 16)]),
     EnterData(&[(Create { zero: true }, A + 16, 16)]),
+    Write(A + 8, TO_HOST),
+    EnterData(&[(Attach, A + 8, 8)]),
     Update(&[(ToSelf, A + 16, 2)]),
+    ExitData(&[(Detach, A + 8, 8)]),
     ExitData(&[(Copyout, A + 16, 16)]),
     Enter(&[
         (RegionClause::Present, A, 16),
@@ -61,7 +69,7 @@ pub const LIFE: &[Ask] = &[
     ExitData(&[(Delete, A, 16)]),
 ];
 
-pub const ROWS: [Row; 13] = [
+pub const ROWS: [Row; 15] = [
     Row {
         name: "one ticket makes one event, and is told before the items are counted",
         limits: Limits { tickets: 1, ..WIDE },
@@ -362,5 +370,59 @@ pub const ROWS: [Row; 13] = [
             Events(1),
             Did(0, None),
         ],
+    },
+    Row {
+        name: "a pointer is aimed at what an earlier item of its directive mapped",
+        limits: WIDE,
+        turns: &[
+            (Write(A + 8, TO_HOST), DONE),
+            (
+                EnterData(&[(Copyin, A, 16), (Copyin, A + 16, 16), (Attach, A + 8, 8)]),
+                DONE,
+            ),
+            (EnterDataVia(&[(Copyin, A + 16, 16)], A + 8), DONE),
+        ],
+        checks: &[
+            Attached(A + 8, 2),
+            Attached(A, 0),
+            Attached(A + 32, 0),
+            Device((A + 8, 8), Some(TO_DEVICE)),
+            Aimed(1, Some(Aim::None)),
+            Aimed(
+                2,
+                Some(Aim::Again {
+                    pointer: A + 8,
+                    block: 1,
+                }),
+            ),
+        ],
+    },
+    Row {
+        name: "a pointer is refused where its bytes are not in host memory, and then where they are misaligned",
+        limits: Limits {
+            counter_max: 1,
+            ..WIDE
+        },
+        turns: &[
+            (
+                EnterDataVia(&[(Copyin, A, 16)], A + 60),
+                Refused(Fault::OutOfHost { item: 0 }),
+            ),
+            (
+                EnterDataVia(&[(Copyin, A, 16)], A + 4),
+                Refused(Fault::Misaligned { item: 0 }),
+            ),
+            (Write(A + 8, TO_HOST), DONE),
+            (
+                EnterData(&[
+                    (Copyin, A, 16),
+                    (Copyin, A + 16, 16),
+                    (Attach, A + 8, 8),
+                    (Attach, A + 8, 0),
+                ]),
+                Refused(Fault::CounterFull { item: 3 }),
+            ),
+        ],
+        checks: &[Attached(A + 8, 0), Used(0), Events(1)],
     },
 ];

@@ -1,6 +1,6 @@
 -- A table that wants memory for a call was asked for one that is accepted: no refusal of the definitions is want of memory.
 use Rattle.std.proofs.Common.{◌≡◌, ℕ, suc, Bool, true, false, cond, List, [], ◌∷◌, length, Option, Some, None, Result, Ok, Err, refl}
-use Rattle.std.specs.Prelude.{⊤, not, ◌&&◌, nat_le, nat_lt, ◌==◌, MatchResult, IsOk}
+use Rattle.std.specs.Prelude.{⊤, ◌%◌, not, ◌&&◌, nat_le, nat_lt, ◌==◌, MatchResult, IsOk}
 use Rattle.acc_base.specs.declared.items.Section.{Section}
 use Rattle.acc_base.specs.declared.items.RegionClause.{RegionClause}
 use Rattle.acc_base.specs.declared.items.RegionClause.TheVariants as region
@@ -11,9 +11,11 @@ use Rattle.acc_base.specs.declared.directives.Directive.TheVariants.{Enter, Exit
 use Rattle.acc_base.specs.declared.events.Did.{Did}
 use Rattle.acc_base.specs.declared.events.Event.{Event}
 use Rattle.acc_base.specs.declared.events.Event.TheVariants.{HostWritten}
+use Rattle.acc_base.specs.declared.events.Step.{Step}
 use Rattle.acc_base.specs.declared.events.Step.TheVariants as steps
+use Rattle.acc_base.specs.declared.attachments.Aim.TheVariants as aims
 use Rattle.acc_base.specs.declared.faults.Fault.{Fault}
-use Rattle.acc_base.specs.declared.faults.Fault.TheVariants.{Memory, NoTickets, NoAllowance, TooManyItems, TraceFull, OutOfHost, NotPresent, CounterFull}
+use Rattle.acc_base.specs.declared.faults.Fault.TheVariants.{Memory, NoTickets, NoAllowance, TooManyItems, TraceFull, OutOfHost, Misaligned, NotPresent, CounterFull}
 use Rattle.acc_base.specs.declared.mappings.Counter.{Counter}
 use Rattle.acc_base.specs.declared.mappings.Found.{Found}
 use Rattle.acc_base.specs.declared.mappings.Found.TheVariants.{Empty, Inside, Partly, Absent}
@@ -26,10 +28,14 @@ use Rattle.acc_base.specs.Limits.{Limits}
 use Rattle.acc_base.specs.Section.{is_empty, is_within, host_memory}
 use Rattle.acc_base.specs.Ranges.{where_is, counter_of, dynamic_of, ends_by}
 use Rattle.acc_base.specs.Blocks.{rounded, place_for}
-use Rattle.acc_base.specs.Records.{Records, Layout, layout_of}
+use Rattle.acc_base.specs.Records.{Records, State}
 use Rattle.acc_base.specs.Register.{Register, holdings_at}
-use Rattle.acc_base.specs.Clauses.{in_host, born_at, enter_absent, counted, enter_row, leave_row, exit_row, move_row}
-use Rattle.acc_base.specs.Tasks.{recounted, judge_task, act, did_of, judge_all}
+use Rattle.acc_base.specs.Clauses.{in_host, pointer_checked, born_at, enter_absent, counted, enter_row, leave_row, exit_row, move_row}
+use Rattle.acc_base.specs.Tasks.{section_of, pointer_of, recounted, checked, judge_step, pointer_aimed}
+use Rattle.acc_base.specs.Attachments.{pointer_at, count_at}
+use Rattle.acc_base.specs.Bytes.{step_state}
+use Rattle.acc_base.specs.Pointers.{device_pointer, block_with, target_of, attach_there, judge_attach}
+use Rattle.acc_base.specs.Acting.{attach_if, judge_aim, judge_task, act_state, judge_all}
 use Rattle.acc_base.specs.Judge.{item_limit, item_count, few_items, tasks_of_region, tasks_of, event_of, directive_event, host_write_event}
 use Rattle.acc_base.specs.Calls.{World, Verdict, Makes, event_count, open_regions, ticket, allowance, trace_room, judge}
 use Rattle.acc_table.specs.Calls.{IsRefusal}
@@ -76,6 +82,7 @@ absent_tells (region.Copyout filled) l n section w = born_tells (place_for l.dev
 absent_tells (region.Create filled) l n section w = born_tells (place_for l.device w.blocks (rounded section.len)) n section w
 absent_tells region.NoCreate l n section w = tt
 absent_tells region.Present l n section w = tt
+absent_tells region.Attach l n section w = tt
 
 -- a counter that rises tells no want of memory
 counted_tells : (l : Limits) (counter : Counter) (n block : ℕ) (w : Records) → Tells (counted l counter n block w)
@@ -109,28 +116,72 @@ move_tells (Inside block offset) if_present n = tt
 move_tells Absent if_present n = either_tells if_present (Ok steps.Nothing) (Err (NotPresent n)) tt tt
 move_tells Partly if_present n = tt
 
--- what one item asks tells no want of memory
-task_tells : (l : Limits) (n : ℕ) (task : Task) (w : Records) → Tells (judge_task l n task w)
-unfolding judge_task
-task_tells l n (tasks.Enter counter item) w =
-    let found = where_is item.section w.ranges in
-    then_tells (in_host l n item.section) (enter_row found l counter item.clause n item.section w) (host_tells l n item.section) (enter_tells found l counter item.clause n item.section w)
-task_tells l n (tasks.Leave holding) w = leave_tells holding.block (recounted (tasks.Leave holding)) w
-task_tells l n (tasks.Exit finalize item) w =
-    let found = where_is item.section w.ranges in
-    then_tells (in_host l n item.section) (exit_row found (recounted (tasks.Exit finalize item)) n w) (host_tells l n item.section) (exit_tells found (recounted (tasks.Exit finalize item)) n w)
-task_tells l n (tasks.Move if_present item) w =
+-- the check of a pointer tells no want of memory
+pointer_tells : (l : Limits) (n : ℕ) (named : Option ℕ) → Tells (pointer_checked l n named)
+pointer_tells l n None = tt
+pointer_tells l n (Some pointer) =
+    let outside = not (is_within (pointer_at pointer) (host_memory l.host)) in
+    let odd = not (pointer % 8 == 0) in
+    then_tells (refuse_if outside (OutOfHost n)) (refuse_if odd (Misaligned n)) (either_tells outside (Err (OutOfHost n)) (Ok tt) tt tt) (either_tells odd (Err (Misaligned n)) (Ok tt) tt tt)
+
+-- nor do both checks of an item
+checked_tells : (l : Limits) (n : ℕ) (task : Task) → Tells (checked l n task)
+checked_tells l n task = then_tells (in_host l n (section_of task)) (pointer_checked l n (pointer_of task)) (host_tells l n (section_of task)) (pointer_tells l n (pointer_of task))
+
+-- the step of an item tells no want of memory
+step_tells : (l : Limits) (n : ℕ) (task : Task) (w : Records) → Tells (judge_step l n task w)
+unfolding judge_step
+step_tells l n (tasks.Enter counter item) w =
+    let section = section_of (tasks.Enter counter item) in
+    then_tells (checked l n (tasks.Enter counter item)) (enter_row (where_is section w.ranges) l counter item.clause n section w) (checked_tells l n (tasks.Enter counter item)) (enter_tells (where_is section w.ranges) l counter item.clause n section w)
+step_tells l n (tasks.Leave holding) w = leave_tells holding.block (recounted (tasks.Leave holding)) w
+step_tells l n (tasks.Exit finalize item) w =
+    let found = where_is (section_of (tasks.Exit finalize item)) w.ranges in
+    then_tells (checked l n (tasks.Exit finalize item)) (exit_row found (recounted (tasks.Exit finalize item)) n w) (checked_tells l n (tasks.Exit finalize item)) (exit_tells found (recounted (tasks.Exit finalize item)) n w)
+step_tells l n (tasks.Move if_present item) w =
     let found = where_is item.section w.ranges in
     then_tells (in_host l n item.section) (move_row found if_present n) (host_tells l n item.section) (move_tells found if_present n)
+
+-- an attachment tells no want of memory
+attach_tells : (l : Limits) (n pointer : ℕ) (s : State) → Tells (judge_attach l n pointer s)
+unfolding judge_attach
+attach_tells l n pointer s = go (block_with pointer s.records.ranges) (target_of pointer s)
+  where
+    go : (block target : Option ℕ) → Tells (attach_there l n pointer block target s)
+    go None target = tt
+    go (Some block) None = tt
+    go (Some block) (Some target) =
+        let count = count_at block pointer s.records.attached in
+        let full = nat_le l.counter_max count in
+        either_tells (not (count == 0) && (device_pointer block pointer s == target)) (refuse_if full (CounterFull n) >> Ok (aims.Again pointer block)) (Ok (aims.New pointer block target))
+        (then_tells (refuse_if full (CounterFull n)) (Ok (aims.Again pointer block)) (either_tells full (Err (CounterFull n)) (Ok tt) tt tt) tt) tt
+
+-- what becomes of an item's pointer tells no want of memory
+aim_tells : (l : Limits) (n : ℕ) (task : Task) (step : Step) (s : State) → Tells (judge_aim l n task step s)
+unfolding judge_aim
+aim_tells l n (tasks.Enter counter item) step s = go (pointer_aimed (tasks.Enter counter item) step)
+  where
+    go : (named : Option ℕ) → Tells (attach_if l n named (step_state (tasks.Enter counter item) step s))
+    go None = tt
+    go (Some pointer) = attach_tells l n pointer (step_state (tasks.Enter counter item) step s)
+aim_tells l n (tasks.Leave holding) step s = tt
+aim_tells l n (tasks.Exit finalize item) step s = tt
+aim_tells l n (tasks.Move if_present item) step s = tt
+
+-- what one item asks tells no want of memory
+task_tells : (l : Limits) (n : ℕ) (task : Task) (s : State) → Tells (judge_task l n task s)
+unfolding judge_task
+task_tells l n task s = bind_tells (judge_step l n task s.records) (λ step. judge_aim l n task step s >>= (λ aim. Ok (record { step = step; aim = aim }))) (step_tells l n task s.records)
+    (λ step. bind_tells (judge_aim l n task step s) (λ aim. Ok (record { step = step; aim = aim })) (aim_tells l n task step s) (λ aim. tt))
 
 -- ---- all items
 
 -- what all items ask tells no want of memory
-all_tells : (l : Limits) (n : ℕ) (asked : List Task) (w : Records) → Tells (judge_all l n asked w)
+all_tells : (l : Limits) (n : ℕ) (asked : List Task) (s : State) → Tells (judge_all l n asked s)
 unfolding judge_all
-all_tells l n [] w = tt
-all_tells l n (task ∷ others) w = bind_tells (judge_task l n task w) (λ step. judge_all l (suc n) others (act task step w) >>= (λ dids. Ok (did_of step ∷ dids))) (task_tells l n task w)
-    (λ step. bind_tells (judge_all l (suc n) others (act task step w)) (λ dids. Ok (did_of step ∷ dids)) (all_tells l (suc n) others (act task step w)) (λ dids. tt))
+all_tells l n [] s = tt
+all_tells l n (task ∷ others) s = bind_tells (judge_task l n task s) (λ did. judge_all l (suc n) others (act_state task did s) >>= (λ dids. Ok (did ∷ dids))) (task_tells l n task s)
+    (λ did. bind_tells (judge_all l (suc n) others (act_state task did s)) (λ dids. Ok (did ∷ dids)) (all_tells l (suc n) others (act_state task did s)) (λ dids. tt))
 
 -- ---- a call
 
@@ -148,12 +199,12 @@ asked_tells (ExitData items finalize) g = tt
 asked_tells (Update items if_present) g = tt
 
 -- a directive tells no want of memory
-directive_tells : (l : Limits) (directive : Directive) (lay : Layout) → Tells (directive_event l directive lay)
+directive_tells : (l : Limits) (directive : Directive) (s : State) → Tells (directive_event l directive s)
 unfolding directive_event
-directive_tells l directive lay =
-    let event : List Did → Result Event Fault = λ dids. Ok (event_of directive lay.register dids) in
-    bind_tells (tasks_of directive lay.register) (λ asked. judge_all l 0 asked lay.records >>= event) (asked_tells directive lay.register)
-    (λ asked. bind_tells (judge_all l 0 asked lay.records) event (all_tells l 0 asked lay.records) (λ dids. tt))
+directive_tells l directive s =
+    let event : List Did → Result Event Fault = λ dids. Ok (event_of directive s.register dids) in
+    bind_tells (tasks_of directive s.register) (λ asked. judge_all l 0 asked s >>= event) (asked_tells directive s.register)
+    (λ asked. bind_tells (judge_all l 0 asked s) event (all_tells l 0 asked s) (λ dids. tt))
 
 -- a write of the host tells no want of memory
 write_tells : (l : Limits) (addr len : ℕ) → Tells (host_write_event l addr len)
@@ -190,12 +241,12 @@ makes_tells r h = bind_tells r (λ e. Ok (Makes e)) h (λ e. tt)
 judge_tells : (w : World) (call : Call) → Tells (judge w call)
 unfolding judge
 judge_tells w (Do directive) =
-    let event : Result Verdict Fault = directive_event w.limits directive (layout_of w.state) >>= (λ e. Ok (Makes e)) in
+    let event : Result Verdict Fault = directive_event w.limits directive w.state >>= (λ e. Ok (Makes e)) in
     then_tells (ticket w) (allowance w directive >> (few_items directive >> (trace_room w >> event))) (ticket_tells w)
     (then_tells (allowance w directive) (few_items directive >> (trace_room w >> event)) (allowance_tells w directive)
     (then_tells (few_items directive) (trace_room w >> event) (few_tells directive)
     (then_tells (trace_room w) event (room_tells w)
-    (makes_tells (directive_event w.limits directive (layout_of w.state)) (directive_tells w.limits directive (layout_of w.state))))))
+    (makes_tells (directive_event w.limits directive w.state) (directive_tells w.limits directive w.state)))))
 judge_tells w (HostWrite addr bytes) =
     let event : Result Verdict Fault = host_write_event w.limits addr (length bytes) >>= (λ e. Ok (Makes e)) in
     then_tells (ticket w) (trace_room w >> event) (ticket_tells w)

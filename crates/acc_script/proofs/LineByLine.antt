@@ -13,10 +13,10 @@ use Rattle.acc_base.specs.declared.faults.ScriptFault.TheVariants.{Unclosed}
 use Rattle.acc_base.specs.Calls.{open_regions}
 use Rattle.acc_script.specs.declared.print.effects.Effect.{Effect}
 use Rattle.acc_script.specs.Told.{Taken, Took, TookFront}
-use Rattle.acc_script.specs.Lines.{lines_of}
-use Rattle.acc_script.specs.Reading.{◌>>=◌, wants}
-use Rattle.acc_script.specs.Statements.{Meaning, Declare, Direct, takes_memory}
-use Rattle.acc_script.specs.Statements.{Write as WriteBytes}
+use Rattle.acc_read.specs.Lines.{lines_of}
+use Rattle.acc_read.specs.Reading.{◌>>=◌, wants}
+use Rattle.acc_read.specs.Statements.{Meaning, Declare, Direct, takes_memory}
+use Rattle.acc_read.specs.Statements.{Write as WriteBytes}
 use Rattle.acc_script.specs.Sessions.{MayWant}
 use Rattle.acc_script.specs.Scripts.{State, Turned, turned, is_refused, meaning_in, line_turned, line_wants, line_text, Transcript, Ended, Faulty, ended, noted, transcript_from}
 use Rattle.acc_script.specs.Runs.{RanLine, LostLine, LineRuns, Played}

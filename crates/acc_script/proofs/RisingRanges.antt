@@ -78,12 +78,12 @@ module _ (l : Limits) (from : ℕ) (r : Range) where
         | false ↦ λ is e. let others = found_splits ts rising.1 e in (others.0, ap (λ (rs : List Range). t ∷ rs) others.1)
       ] refl found
 
-  -- it starts where the search began or behind, and well below the last address
-  pub found_start : (ranges : List Range) → IsWithinBounds l → AllByRecursion (LiesInHost l) ranges → range_from from ranges ≡ Some r → (from ≤ r.section.start) × (r.section.start < 2 ^ 32)
+  -- it starts where the search began or behind, and it lies well below the last address
+  pub found_start : (ranges : List Range) → IsWithinBounds l → AllByRecursion (LiesInHost l) ranges → range_from from ranges ≡ Some r → (from ≤ r.section.start) × (r.section.start < 2 ^ 32) × (end_of r.section < 2 ^ 32)
   found_start ranges bounds in_host found =
       let lies = found_has (LiesInHost l) (starts_from from) ranges r in_host found in
       let ends : end_of r.section ≤ host_base + l.host = leb-true (end_of r.section) (end_of (host_memory l.host)) (and_parts (nat_le host_base r.section.start) (nat_le (end_of r.section) (end_of (host_memory l.host))) lies.0.within).1 in
-      (leb-true from r.section.start lies.1, omega (arith, ends, bounds.host))
+      (leb-true from r.section.start lies.1, omega (arith, ends, bounds.host), omega (arith, ends, bounds.host))
 
   module _ (text : Range → List ℕ) (ranges : List Range) (a b c : Option Taken) where
     -- its text after those of the ranges before it

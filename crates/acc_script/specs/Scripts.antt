@@ -17,10 +17,10 @@ use Rattle.acc_script.specs.declared.print.effects.Effect.{Effect}
 use Rattle.acc_script.specs.declared.print.effects.Effect.TheVariants.{Nothing, Refused, HostBytes, DeviceBytes, Presence, Place, Reported}
 use Rattle.acc_script.specs.declared.runs.Status.{Status}
 use Rattle.acc_script.specs.declared.runs.Status.TheVariants as statuses
-use Rattle.acc_script.specs.Reading.{◌>>=◌, wants}
-use Rattle.acc_script.specs.Lines.{lines_of}
-use Rattle.acc_script.specs.Layout.{Layout, new_layout, with_array}
-use Rattle.acc_script.specs.Statements.{Meaning, Blank, Declare, Direct, Write, Show, Peek, Present, Address, Report, takes_memory, line_at}
+use Rattle.acc_read.specs.Reading.{◌>>=◌, wants}
+use Rattle.acc_read.specs.Lines.{lines_of}
+use Rattle.acc_read.specs.Layout.{Layout, new_layout, with_array}
+use Rattle.acc_read.specs.Statements.{Meaning, Blank, Declare, Direct, Write, Show, Peek, Present, Address, Report, takes_memory, line_at}
 use Rattle.acc_script.specs.Texts.{refusal_text, report_text}
 use Rattle.acc_script.specs.Shown.{read_text, presence_text, place_text}
 

@@ -8,7 +8,7 @@ use Rattle.acc_base.specs.declared.calls.Call.TheVariants.{Do, HostWrite}
 use Rattle.acc_base.specs.Calls.{judge}
 use Rattle.acc_script.specs.declared.print.effects.Effect.{Effect}
 use Rattle.acc_script.specs.declared.sessions.Session.{Session}
-use Rattle.acc_script.specs.Statements.{Meaning, Declare, Direct, Write}
+use Rattle.acc_read.specs.Statements.{Meaning, Declare, Direct, Write}
 use Rattle.acc_script.specs.Scripts.{State, new_state, called, turned}
 
 -- a session as its table's world and its arrays

@@ -4,11 +4,8 @@
 //! `specs/` says what a script means, apart from any code: its lines, what a line says, and what it prints.
 #![tactic(auto)]
 
-mod arrays;
 mod ends;
-mod lines;
 mod print;
-mod read;
 mod runs;
 mod sessions;
 

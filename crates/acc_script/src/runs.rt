@@ -6,13 +6,11 @@ ghost use Rattle.acc_script.specs.Runs.{LineRuns, Played, Ran};
 ghost use Rattle.acc_script.specs.Sessions.{state_of};
 
 use crate::ends::whole::read_all;
-use crate::lines::next_line;
 use crate::print::effects::write_effect;
-use crate::read::Trouble;
-use crate::read::statements::line_at;
 use crate::sessions::Session;
 use crate::{Sink, Source};
 use acc_base::{Config, Fault, ScriptFault};
+use acc_read::{Trouble, line_at, next_line};
 use std::alloc::Global;
 use std::sync::Wait;
 use std::thread::Threads;

@@ -1,15 +1,14 @@
 //! A table and the arrays of a script, and what statements do to them.
 
 ghost use Rattle.std.specs.Prelude.{◌≡◌};
-ghost use Rattle.acc_script.specs.Meanings.{meaning_of};
+ghost use Rattle.acc_read.specs.Meanings.{meaning_of};
 ghost use Rattle.acc_script.specs.Sessions.{state_of, Opens, Performs, CallsFor};
 ghost use Rattle.acc_script.specs.Scripts.{shown};
 ghost use Rattle.acc_table.specs.Queries.{host_read_of};
 
-use crate::arrays::Arrays;
 use crate::print::effects::Effect;
-use crate::read::statements::Statement;
 use acc_base::{Call, Config, Fault, Section};
+use acc_read::{Arrays, Statement};
 use acc_table::{Reply, Table};
 use std::alloc::Global;
 

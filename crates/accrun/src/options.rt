@@ -59,6 +59,8 @@ Statements, one to a line, with comments after '#':
   array NAME BYTES         an array in host memory
   write PLACE DIGITS       write bytes to host memory, two hexadecimal digits
                            each
+  point PLACE to PLACE     write the address of the second byte at the first, as
+                           a pointer
   data CLAUSES             enter a region, which counts its sections:
     copy(REFS)             as copyin here, and as copyout at the region's end
     copyin(REFS)           where absent, map it to a new block with its bytes
@@ -68,13 +70,18 @@ Statements, one to a line, with comments after '#':
     create(REFS)           where absent, map it to a new block
     no_create(REFS)        where absent, pass it over
     present(REFS)          where absent, refuse it
+    attach(PLACES)         attach these pointers, and detach them at the end of
+                           the region
   end data                 exit the region that was entered last: what its own
                            entry counted is taken back; at zero the mapping ends
   enter data copyin(REFS)  map it, with its bytes, or count it once more
   enter data create(REFS)  the same without its bytes
+  enter data attach(PLACES)
+                           attach these pointers
   exit data delete(REFS)   count it once less; at zero the mapping ends
   exit data copyout(REFS)  the same, and its bytes are copied to host memory
                            before the mapping ends
+  exit data detach(PLACES) take one attachment of each back
   update self(REFS)        copy its bytes from the device to host memory;
                            host(REFS) says the same
   update device(REFS)      copy its bytes from host memory to the device
@@ -83,10 +90,13 @@ Statements, one to a line, with comments after '#':
   present REF              whether all of it lies in one mapped range: yes or no
   address PLACE            its device address, or none
   report                   the sizes, the mapped ranges with their counters, the
-                           numbers of open regions and of events
+                           attached pointers, the numbers of open regions and of
+                           events
 NAME is a lower-case letter, then lower-case letters, digits and '_', 32 at
 most. REF is NAME, or NAME[OFFSET:LENGTH], in bytes from the start of the array.
-REFS is one REF or more, separated by commas. PLACE is NAME[OFFSET].
+REFS is one REF or more, separated by commas. PLACE is NAME[OFFSET], and PLACES
+is one or more. A pointer is the eight bytes from a PLACE on. In place of a REF,
+but not in an update, REF via PLACE names the pointer to it too.
 
 A directive has one clause or more, and 64 REFs at most. create(zero: REFS), and
 copyout(zero: REFS) of a region, fill a new block with zero; copyin(readonly:

@@ -160,11 +160,12 @@ fn command_lines_are_read(rt: HostRuntime) -> Result<(), Fail> {
 }
 
 /// What the help has to name.
-const HELP_WORDS: [&str; 24] = [
+const HELP_WORDS: [&str; 29] = [
     "< SCRIPT",
     "read whole",
     "array NAME",
     "write PLACE",
+    "point PLACE to PLACE",
     "data CLAUSES",
     "copy(REFS)",
     "copyin(REFS)",
@@ -172,11 +173,14 @@ const HELP_WORDS: [&str; 24] = [
     "create(REFS)",
     "no_create(REFS)",
     "present(REFS)",
+    "attach(PLACES)",
     "end data",
     "enter data copyin(REFS)",
     "enter data create(REFS)",
+    "enter data attach(PLACES)",
     "exit data delete(REFS)",
     "exit data copyout(REFS)",
+    "exit data detach(PLACES)",
     "finalize",
     "update self(REFS)",
     "update device(REFS)",
@@ -185,6 +189,7 @@ const HELP_WORDS: [&str; 24] = [
     "present REF",
     "address PLACE",
     "report",
+    "REF via PLACE",
 ];
 
 /// The help has lines of 80 columns at most.

@@ -4,5 +4,6 @@
 mod addresses;
 mod answers;
 pub mod effects;
+mod pointers;
 mod refusals;
 pub mod reports;

@@ -1,19 +1,21 @@
 //! The report of a table, written without memory.
 
+ghost use Rattle.std.specs.Prelude.{◌+◌, ◌<◌, ◌^◌};
 ghost use Rattle.acc_script.specs.Ends.{Wrote};
-ghost use Rattle.acc_script.specs.Texts.{mapped_text, ranges_text, report_text, sizes_text, mapping_text, counters_text, totals_text};
+ghost use Rattle.acc_script.specs.Texts.{mapped_text, range_text, ranges_text, report_text, sizes_text, mapping_text, counters_text, totals_text};
 ghost use Rattle.acc_script.specs.Runs.{Printed};
 
 use crate::Sink;
 use crate::ends::whole::write_pieces;
 use crate::print::addresses::AddressBuffer;
+use crate::print::pointers::write_pointers;
 use acc_base::Fault;
 use acc_table::{Mapped, Table};
 use itoa::Buffer;
 
-/// Writes the report of a table: the sizes of its memories, its mapped ranges by rising start with their counters,
-/// and the numbers of open regions and of events. Takes no memory. What was written is proved where the sink tells its
-/// bytes.
+/// Writes the report of a table: the sizes of its memories, its mapped ranges by rising start with their counters
+/// and the attached pointers in them, and the numbers of open regions and of events. Takes no memory. What was written
+/// is proved where the sink tells its bytes.
 ///
 /// # Errors
 ///
@@ -42,19 +44,30 @@ pub fn write_report<W: Sink>(table: &Table, writer: &mut W) -> bool
     write_totals(writer, table.regions(), table.events())
 }
 
-/// A line for each mapped range; false where the sink failed.
+/// A line for each mapped range and each attached pointer; false where the sink failed.
 fn write_ranges<W: Sink>(table: &Table, writer: &mut W) -> bool
     ensures { Wrote (W.told writer.old) (W.told writer.new) (ranges_text table.now.state.records) result }
 {
     table.laws();
     let mut from = 0u64;
     'each: while let Some(mapped) = table.mapped(from) {
-        if !write_mapped(writer, mapped) {
+        if !write_range(table, writer, mapped) {
             return false;
         }
         from = mapped.start + 1;
     }
     true
+}
+
+/// The line of a mapped range, and those of the attached pointers in it; false where the sink failed.
+fn write_range<W: Sink>(table: &Table, writer: &mut W, mapped: Mapped) -> bool
+    requires { mapped.start + mapped.len < 2 ^ 32 }
+    ensures { Wrote (W.told writer.old) (W.told writer.new) (range_text table.now.state.records mapped) result }
+{
+    if !write_mapped(writer, mapped) {
+        return false;
+    }
+    write_pointers(table, writer, mapped.start, mapped.len)
 }
 
 /// The line of a mapped range; false where the sink failed.

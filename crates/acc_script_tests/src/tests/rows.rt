@@ -7,7 +7,7 @@ use acc_base::ScriptFault;
 pub const WIDE: Limits = [65_536, 65_536, 64, 1_048_576, 4_294_967_295, 256, 262_144];
 
 /// Scripts within wide limits.
-pub const SCRIPTS: [(&str, &str, End); 24] = [
+pub const SCRIPTS: [(&str, &str, End); 27] = [
     // A script without lines, and a section far behind host memory.
     ("", "", CLEAN),
     (
@@ -42,6 +42,22 @@ pub const SCRIPTS: [(&str, &str, End); 24] = [
         "array a 1\nenter data create(a)\nexit data delete(a)\nshow a\n",
         "00\n",
         CLEAN,
+    ),
+    // A pointer holds the device address while it is attached, and the host's bytes again after.
+    (
+        "array a 16\narray p 16\npoint p[0] to a[0]\nshow p[0:8]\nenter data copyin(a, p)\nenter data attach(p[0])\npeek p[0:8]\nreport\nexit data detach(p[0])\npeek p[0:8]\n",
+        "0010000000000000\n0000000001000000\nhost 65536 device 65536 used 32\nmap 0x1000 16 at 0x100000000 structured 0 dynamic 1\nmap 0x1010 16 at 0x100000010 structured 0 dynamic 1\npointer 0x1010 count 1\nregions 0 events 3\n0010000000000000\n",
+        CLEAN,
+    ),
+    (
+        "array a 16\narray p 8\npoint p[0] to a[4]\nenter data copyin(p)\nenter data copyin(a via p[0])\npeek p\nreport\nexit data delete(a via p[0])\npeek p\n",
+        "1400000001000000\nhost 65536 device 65536 used 32\nmap 0x1000 16 at 0x100000010 structured 0 dynamic 1\nmap 0x1010 8 at 0x100000000 structured 0 dynamic 1\npointer 0x1010 count 1\nregions 0 events 3\n0410000000000000\n",
+        CLEAN,
+    ),
+    (
+        "array a 16\nenter data copyin(a via a[1])\n",
+        "line 2: refused 8 Misaligned item 0\n",
+        REFUSED,
     ),
     // Questions on the 16 bytes from the offset 8 on, which are mapped.
     (

@@ -2,7 +2,7 @@ use Rattle.std.proofs.Common.{◌≡◌, ◌<◌, sym, ◌∙◌, arith}
 use Rattle.std.proofs.lemmas.Result.{err_from_is_err_and}
 use Rattle.std.proofs.lemmas.Bool.{eqb-true}
 use Rattle.acc_base.specs.Calls.{open_regions}
-use Rattle.acc_script.specs.Lines.{lines_of}
+use Rattle.acc_read.specs.Lines.{lines_of}
 use Rattle.acc_script.specs.Sessions.{state_of}
 use Rattle.acc_script.specs.Scripts.{transcript}
 use Rattle.acc_script.proofs.LineByLine.{line_fails, left_more, took_line, ends_well, ends_unclosed, lines_none}

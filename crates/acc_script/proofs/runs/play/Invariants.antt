@@ -1,7 +1,7 @@
 use Rattle.std.proofs.Common.{◌≡◌, ◌+◌, ◌≤◌, length, take}
 use Rattle.std.specs.List.{concat}
 use Rattle.acc_script.specs.Told.{Took}
-use Rattle.acc_script.specs.Lines.{lines_of}
+use Rattle.acc_read.specs.Lines.{lines_of}
 use Rattle.acc_script.specs.Sessions.{state_of}
 use Rattle.acc_script.specs.Scripts.{transcript, transcript_from}
 use Rattle.acc_script.proofs.LineByLine.{rest_of}

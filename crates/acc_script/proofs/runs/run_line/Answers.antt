@@ -1,5 +1,5 @@
 use Rattle.std.proofs.Common.{rules, ◌≡◌, Ok}
-use Rattle.acc_script.specs.Meanings.{meaning_of}
+use Rattle.acc_read.specs.Meanings.{meaning_of}
 use Rattle.acc_script.specs.Sessions.{state_of}
 use Rattle.acc_script.specs.Scripts.{meaning_in}
 use Rattle.acc_script.proofs.LineByLine.{line_ran, line_lost, line_wanted}

@@ -1,0 +1,105 @@
+-- Words that say bytes.
+use Rattle.std.proofs.Common.{◌≡◌, ℕ, ◌<◌, ◌≤◌, ◌%◌, ◌-◌, ◌≢◌, Bool, true, false, cond, List, [], ◌∷◌, length, Some, None, Result, Ok, Err, refl, arith}
+use Rattle.std.specs.Prelude.{not, ◌||◌, ◌&&◌, nat_le, nat_lt, is_some, IsOk}
+use Rattle.std.specs.List.{list_all}
+use Rattle.std.specs.Char.{is_ascii_hexdigit}
+use Rattle.std.proofs.lemmas.Bool.{le-ltb, lt-ltb, eq-eqb, and_parts}
+use Rattle.std.proofs.lemmas.List.Sums.{AllPass-from_list_all}
+use Rattle.hex.specs.Hex.{decode_of, is_hex_digit}
+use Rattle.hex.proofs.HexLemmas.{decode_of-digits}
+use Rattle.acc_base.specs.declared.faults.ScriptFault.{ScriptFault}
+use Rattle.acc_base.specs.declared.faults.ScriptFault.TheVariants.{Syntax, Number}
+use Rattle.acc_read.specs.Reading.{◌>>=◌, wants}
+use Rattle.acc_read.specs.Tokens.{word_at, is_at_end}
+use Rattle.acc_read.specs.Bytes.{digit_limit, bytes_of, decoded}
+use Rattle.acc_read.specs.Layout.{Layout}
+use Rattle.acc_read.specs.Places.{address_at}
+use Rattle.acc_read.specs.Statements.{Write, takes_memory, last_bytes_at, write_at}
+
+-- ---- one word
+
+-- a digit of either case has a value
+has_value : (upper lower decimal : Bool) (a b c : ℕ) → (decimal || upper) || lower ≡ true → is_some (cond upper (Some a) (cond lower (Some b) (cond decimal (Some c) None))) ≡ true
+has_value true lower decimal a b c e = refl
+has_value false true decimal a b c e = refl
+has_value false false true a b c e = refl
+has_value false false false a b c e = absurd cc
+
+-- a word with another byte than a digit says no bytes
+pub not_digits : (word : List ℕ) → list_all is_ascii_hexdigit word ≡ false → bytes_of word ≡ Err Syntax
+unfolding bytes_of
+not_digits word e = rw e refl
+
+-- a word with too many digits says no bytes
+pub many_digits : (word : List ℕ) → list_all is_ascii_hexdigit word ≡ true → 128 < length word → bytes_of word ≡ Err Number
+unfolding bytes_of
+many_digits word e more = rw (e, lt-ltb 128 (length word) more) refl
+
+-- a word with an odd number of digits says no bytes
+pub odd_digits : (word : List ℕ) → list_all is_ascii_hexdigit word ≡ true → length word ≤ 128 → length word % 2 ≡ 1 → bytes_of word ≡ Err Number
+unfolding bytes_of
+odd_digits word e few odd = rw (e, le-ltb 128 (length word) few, eq-eqb (length word % 2) 1 odd) refl
+
+-- each byte of a word of digits has a value
+all_values : (word : List ℕ) → list_all is_ascii_hexdigit word ≡ true → list_all is_hex_digit word ≡ true
+all_values [] e = refl
+all_values (c ∷ word) e =
+    let parts = and_parts (is_ascii_hexdigit c) (list_all is_ascii_hexdigit word) e in
+    let here : is_hex_digit c ≡ true = has_value (nat_le 65 c && nat_le c 70) (nat_le 97 c && nat_le c 102) (nat_le 48 c && nat_le c 57) (c - 55) (c - 87) (c - 48) parts.0 in
+    rw (here, all_values word parts.1) refl
+
+-- a word with an even number of digits, and not too many, says bytes
+pub right_word : (word : List ℕ) → list_all is_ascii_hexdigit word ≡ true → length word ≤ 128 → length word % 2 ≢ 1 → IsOk (bytes_of word)
+unfolding bytes_of
+right_word word e few even =
+    let bytes = decode_of-digits word (omega arith) (AllPass-from_list_all is_hex_digit word (all_values word e)) in
+    rw (e, le-ltb 128 (length word) few, bytes.1) refl
+
+-- the bytes that a right word is decoded to are those that it says
+pub word_decoded : (word bytes : List ℕ) → IsOk (bytes_of word) → decode_of word ≡ Ok bytes → bytes_of word ≡ Ok bytes
+unfolding bytes_of
+word_decoded word bytes right e = by (list_all is_ascii_hexdigit word) (nat_lt digit_limit (length word)) right
+  where
+    by : (b c : Bool) → IsOk (cond (not b) (Err Syntax) (cond c (Err Number) (decoded (decode_of word)))) → cond (not b) (Err Syntax) (cond c (Err Number) (decoded (decode_of word))) ≡ Ok bytes
+    by false c h = absurd cc
+    by true true h = absurd cc
+    by true false h = rw e refl
+
+-- ---- the last word of a line
+
+-- a line without a word has no bytes
+pub no_word : (text : List ℕ) (kind : ScriptFault) → word_at text ≡ Err kind → last_bytes_at text ≡ Err kind
+unfolding last_bytes_at
+no_word text kind e = rw e refl
+
+-- a word that says no bytes is at fault before the end of the line is looked at
+pub last_faulty : (text word rest : List ℕ) (kind : ScriptFault) → word_at text ≡ Ok (word, rest) → bytes_of word ≡ Err kind → last_bytes_at text ≡ Err kind
+unfolding last_bytes_at
+last_faulty text word rest kind e f = rw (e, f) refl
+
+-- a right word with more behind it
+pub last_open : (text word rest : List ℕ) → word_at text ≡ Ok (word, rest) → IsOk (bytes_of word) → is_at_end rest ≡ false → last_bytes_at text ≡ Err Syntax
+unfolding last_bytes_at
+last_open text word rest e right more = rw e (by (bytes_of word) right)
+  where
+    by : (r : Result (List ℕ) ScriptFault) → IsOk r → (r >>= (λ bytes. cond (is_at_end rest) (Ok bytes) (Err Syntax))) ≡ Err Syntax
+    by (Ok bytes) h = rw more refl
+    by (Err kind) h = absurd cc
+
+-- a right word at the end of the line
+pub last_said : (text word rest : List ℕ) → word_at text ≡ Ok (word, rest) → is_at_end rest ≡ true → last_bytes_at text ≡ bytes_of word
+unfolding last_bytes_at
+last_said text word rest e ends = rw e (by (bytes_of word))
+  where
+    by : (r : Result (List ℕ) ScriptFault) → (r >>= (λ bytes. cond (is_at_end rest) (Ok bytes) (Err Syntax))) ≡ r
+    by (Ok bytes) = rw ends refl
+    by (Err kind) = refl
+
+-- a write of a right word is one that takes memory
+pub write_wants : (layout : Layout) (text rest word : List ℕ) (addr : ℕ) → address_at layout text ≡ Ok (addr, rest) → last_bytes_at rest ≡ bytes_of word → IsOk (bytes_of word) → wants takes_memory (write_at layout text) ≡ true
+unfolding write_at
+write_wants layout text rest word addr e said right = rw (e, said) (by (bytes_of word) right)
+  where
+    by : (r : Result (List ℕ) ScriptFault) → IsOk r → wants takes_memory (r >>= (λ bytes. Ok (Write addr bytes))) ≡ true
+    by (Ok bytes) h = refl
+    by (Err kind) h = absurd cc

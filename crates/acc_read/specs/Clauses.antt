@@ -1,0 +1,92 @@
+-- The clauses and options of a directive.
+use Rattle.std.specs.Prelude.{ℕ, zero, suc, Bool, true, false, List, [], ◌∷◌, ◌++◌, length, Option, Some, None, Result, Ok, Err, ◌==◌, if◌then◌else◌}
+use Rattle.acc_base.specs.declared.faults.ScriptFault.{ScriptFault}
+use Rattle.acc_base.specs.declared.faults.ScriptFault.TheVariants.{Syntax}
+use Rattle.acc_base.specs.declared.items.Item.{Item}
+use Rattle.acc_read.specs.declared.items.Kind.{Kind}
+use Rattle.acc_read.specs.Reading.{◌>>=◌}
+use Rattle.acc_read.specs.Tokens.{word_at, mark_at, is_mark_next, is_word_before, is_at_end, skip_comma, left_parenthesis, right_parenthesis, colon, comma}
+use Rattle.acc_read.specs.Layout.{Layout}
+use Rattle.acc_read.specs.Items.{named_at, item_of}
+use Rattle.acc_read.specs.Grammar.{Grammar}
+
+-- ---- the items of a clause
+
+-- one item or more, separated by commas, behind the items before; fuel bounds their number, and as much as the text
+-- has bytes is enough (`items_enough`)
+unfoldable pub items_at : {C : Type 0} → (fuel : ℕ) → Kind → C → Layout → List (Item C) → List ℕ → Result (List (Item C) × List ℕ) ScriptFault
+items_at zero kind clause layout before text = Err Syntax
+items_at (suc fuel) kind clause layout before text = do
+  named ← named_at kind layout text
+  if is_mark_next comma named.1
+      then items_at fuel kind clause layout (before ++ item_of clause named.0 ∷ []) (skip_comma named.1)
+      else Ok (before ++ item_of clause named.0 ∷ [], named.1)
+
+-- ---- a clause
+
+-- this clause, where there is one
+abbrev pub some_clause : {C : Type 0} → Option C → List ℕ → Result (C × List ℕ) ScriptFault
+some_clause None rest = Err Syntax
+some_clause (Some clause) rest = Ok (clause, rest)
+
+-- a modifier, and the colon after it
+unfoldable pub modifier_at : {C : Type 0} → Grammar C → C → List ℕ → Result (C × List ℕ) ScriptFault
+modifier_at grammar clause text = do
+  word ← word_at text
+  between ← mark_at colon word.1
+  some_clause (grammar.modified clause word.0) between
+
+-- the first word is a modifier exactly where a colon follows it
+unfoldable pub modified_at : {C : Type 0} → Grammar C → C → List ℕ → Result (C × List ℕ) ScriptFault
+modified_at grammar clause text = if is_word_before colon text then modifier_at grammar clause text else Ok (clause, text)
+
+-- the items of a clause, in parentheses
+unfoldable pub group_at : {C : Type 0} → Grammar C → C → Layout → List (Item C) → List ℕ → Result (List (Item C) × List ℕ) ScriptFault
+group_at grammar clause layout before text = do
+  inside ← mark_at left_parenthesis text
+  modified ← modified_at grammar clause inside
+  items ← items_at (length modified.1) (grammar.lists modified.0) modified.0 layout before modified.1
+  close ← mark_at right_parenthesis items.1
+  Ok (items.0, close)
+
+-- ---- clauses and options
+
+-- the items so far, and whether the option stood before
+pub record ClausesRead (C : Type 0) : Type 0 where
+  pub items : List (Item C)
+  pub has_option : Bool
+
+-- no clause and no option
+abbrev pub nothing_read : {C : Type 0} → ClausesRead C
+nothing_read = record { items = []; has_option = false }
+
+-- the items of the clause of a word, behind those before, if the word is one
+abbrev pub listed : {C : Type 0} → Option C → Grammar C → Layout → ClausesRead C → List ℕ → Result (ClausesRead C × List ℕ) ScriptFault
+listed None grammar layout before rest = Err Syntax
+listed (Some clause) grammar layout before rest = do
+  items ← group_at grammar clause layout before.items rest
+  Ok (record { items = items.0; has_option = before.has_option }, items.1)
+
+-- the option, which stands once at most
+abbrev pub passed_over : {C : Type 0} → ClausesRead C → List ℕ → Result (ClausesRead C × List ℕ) ScriptFault
+passed_over before rest = if before.has_option then Err Syntax else Ok (record { items = before.items; has_option = true }, rest)
+
+-- a clause or an option
+unfoldable pub clause_at : {C : Type 0} → Grammar C → Layout → ClausesRead C → List ℕ → Result (ClausesRead C × List ℕ) ScriptFault
+clause_at grammar layout before text = do
+  word ← word_at text
+  if grammar.is_option word.0
+      then passed_over before word.1
+      else listed (grammar.clause_of word.0) grammar layout before word.1
+
+-- what was read, if a clause was among it: each clause has an item
+abbrev pub with_clause : {C : Type 0} → ClausesRead C → Result (ClausesRead C) ScriptFault
+with_clause read = if length read.items == 0 then Err Syntax else Ok read
+
+-- clauses and options up to the end of the line, with or without a comma between two of them; fuel bounds their number,
+-- and as much as the text has bytes is enough (`clauses_enough`)
+unfoldable pub clauses_at : {C : Type 0} → (fuel : ℕ) → Grammar C → Layout → ClausesRead C → List ℕ → Result (ClausesRead C) ScriptFault
+clauses_at zero grammar layout before text = Err Syntax
+clauses_at (suc fuel) grammar layout before text = do
+  read ← clause_at grammar layout before text
+  if is_at_end read.1 then with_clause read.0 else clauses_at fuel grammar layout read.0 (skip_comma read.1)

@@ -1,0 +1,40 @@
+-- What the items of a clause name: sections, the pointers to them, or pointers alone.
+use Rattle.std.specs.Prelude.{ℕ, List, Option, Some, None, Result, Ok, if◌then◌else◌, codes}
+use Rattle.acc_base.specs.declared.faults.ScriptFault.{ScriptFault}
+use Rattle.acc_base.specs.declared.items.Item.{Item}
+use Rattle.acc_base.specs.Attachments.{pointer_at}
+use Rattle.acc_read.specs.declared.items.Kind.{Kind}
+use Rattle.acc_read.specs.declared.items.Kind.TheVariants.{Sections, Items, Pointers}
+use Rattle.acc_read.specs.declared.items.Named.{Named}
+use Rattle.acc_read.specs.Reading.{◌>>=◌}
+use Rattle.acc_read.specs.Tokens.{is_word_next, keyword_at}
+use Rattle.acc_read.specs.Layout.{Layout}
+use Rattle.acc_read.specs.Places.{address_at, section_at}
+
+-- the pointer behind the word `via`
+unfoldable pub via_at : Layout → List ℕ → Result (Option ℕ × List ℕ) ScriptFault
+via_at layout text = do
+  rest ← keyword_at (codes "via") text
+  pointer ← address_at layout rest
+  Ok (Some pointer.0, pointer.1)
+
+-- the pointer to a section, where the word `via` stands next
+unfoldable pub aim_at : Layout → List ℕ → Result (Option ℕ × List ℕ) ScriptFault
+aim_at layout text = if is_word_next (codes "via") text then via_at layout text else Ok (None, text)
+
+-- a section; or a section, and the pointer to it where one is named; or a pointer, which is its own eight bytes
+unfoldable pub named_at : Kind → Layout → List ℕ → Result (Named × List ℕ) ScriptFault
+named_at Sections layout text = do
+  section ← section_at layout text
+  Ok (record { section = section.0; pointer = None }, section.1)
+named_at Items layout text = do
+  section ← section_at layout text
+  aim ← aim_at layout section.1
+  Ok (record { section = section.0; pointer = aim.0 }, aim.1)
+named_at Pointers layout text = do
+  pointer ← address_at layout text
+  Ok (record { section = pointer_at pointer.0; pointer = None }, pointer.1)
+
+-- what was named under a clause, as an item
+abbrev pub item_of : {C : Type 0} → C → Named → Item C
+item_of clause named = record { clause = clause; section = named.section; pointer = named.pointer }

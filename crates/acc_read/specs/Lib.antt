@@ -1,0 +1,14 @@
+pub mod Reading
+pub mod Lines
+pub mod Tokens
+pub mod Layout
+pub mod Coding
+pub mod Naming
+pub mod Places
+pub mod Items
+pub mod Bytes
+pub mod Grammar
+pub mod Clauses
+pub mod Checked
+pub mod Statements
+pub mod Meanings

@@ -1,0 +1,22 @@
+-- What statements and clauses of the code say, without where they lie in memory.
+use Rattle.acc_read.specs.declared.clauses.Clauses.{Clauses}
+use Rattle.acc_read.specs.declared.statements.Statement.{Statement}
+use Rattle.acc_read.specs.declared.statements.Statement.TheVariants as code
+use Rattle.acc_read.specs.Clauses.{ClausesRead}
+use Rattle.acc_read.specs.Statements.{Meaning, Blank, Declare, Direct, Write, Show, Peek, Present, Address, Report}
+
+-- what a statement says
+abbrev pub meaning_of : Statement → Meaning
+meaning_of code.Blank = Blank
+meaning_of (code.Declare name array) = Declare name.now array
+meaning_of (code.Direct directive) = Direct directive
+meaning_of (code.Write addr bytes) = Write addr bytes
+meaning_of (code.Show section) = Show section
+meaning_of (code.Peek section) = Peek section
+meaning_of (code.Present section) = Present section
+meaning_of (code.Address addr) = Address addr
+meaning_of code.Report = Report
+
+-- what clauses in memory say
+abbrev pub read_of : {C : Type 0} → Clauses C → ClausesRead C
+read_of clauses = record { items = clauses.items.items; has_option = clauses.has_option }

@@ -1,0 +1,53 @@
+-- Reading that may fail: one step after the other, with the first fault that is met.
+use Rattle.std.specs.Prelude.{◌≡◌, Bool, true, false, Result, Ok, Err, IsOk}
+use Rattle.acc_base.specs.declared.faults.ScriptFault.{ScriptFault}
+use Rattle.acc_read.specs.declared.troubles.Trouble.{Trouble}
+use Rattle.acc_read.specs.declared.troubles.Trouble.TheVariants as trouble
+
+infixl 10 ◌>>=◌
+-- a step, and then another with what it gave, unless it met a fault
+abbrev pub ◌>>=◌ : {A B : Type 0} → Result A ScriptFault → (A → Result B ScriptFault) → Result B ScriptFault
+(Ok x) >>= f = f x
+(Err kind) >>= f = Err kind
+
+-- what a function that takes no memory returned, seen by a view, is what reading gives
+abbrev pub Reads : {X Y : Type 0} → (X → Y) → Result X ScriptFault → Result Y ScriptFault → Type 0
+Reads view (Ok x) read = read ≡ Ok (view x)
+Reads view (Err kind) read = read ≡ Err kind
+
+-- what a check answered is that reading meets no fault, or the fault
+abbrev pub Checks : {X Y : Type 0} → Result X ScriptFault → Result Y ScriptFault → Type 0
+Checks (Ok x) read = IsOk read
+Checks (Err kind) read = read ≡ Err kind
+
+-- reading meets no fault and gives what needs memory
+abbrev pub wants : {Y : Type 0} → (Y → Bool) → Result Y ScriptFault → Bool
+wants needs (Ok y) = needs y
+wants needs (Err kind) = false
+
+-- what a function that takes memory met is the fault that reading meets, or want of memory where reading meets none and
+-- gives what needs memory
+abbrev pub Meets : {Y : Type 0} → (Y → Bool) → Trouble → Result Y ScriptFault → Type 0
+Meets needs trouble.Memory read = wants needs read ≡ true
+Meets needs (trouble.Line kind) read = read ≡ Err kind
+
+-- what a function that takes memory returned, seen by a view, is what reading gives, or want of memory where reading
+-- meets no fault and gives what needs memory
+abbrev pub Gives : {X Y : Type 0} → (Y → Bool) → (X → Y) → Result X Trouble → Result Y ScriptFault → Type 0
+Gives needs view (Ok x) read = read ≡ Ok (view x)
+Gives needs view (Err trouble) read = Meets needs trouble read
+
+-- what a function met that holds what it reads is what reading meets, or want of memory at any step of it
+abbrev pub Loses : {Y : Type 0} → Trouble → Result Y ScriptFault → Type 0
+Loses trouble.Memory read = Unit {0}
+Loses (trouble.Line kind) read = read ≡ Err kind
+
+-- what a function returned that holds what it reads, seen by a view, is what reading gives, or want of memory at any
+-- step of it
+abbrev pub Holds : {X Y : Type 0} → (X → Y) → Result X Trouble → Result Y ScriptFault → Type 0
+Holds view (Ok x) read = read ≡ Ok (view x)
+Holds view (Err trouble) read = Loses trouble read
+
+-- whatever was read needs memory
+abbrev pub always : {Y : Type 0} → Y → Bool
+always read = true

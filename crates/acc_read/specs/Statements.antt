@@ -1,0 +1,182 @@
+-- What a line says, or its first fault.
+use Rattle.std.specs.Prelude.{ℕ, ◌||◌, Bool, true, false, not, ◌&&◌, List, length, Option, Some, None, Result, Ok, Err, is_some, ◌==◌, nat_lt, nat_le, if◌then◌else◌, codes}
+use Rattle.std.specs.List.{list_all, before_first}
+use Rattle.std.specs.Str.{bytes_eq}
+use Rattle.std.specs.Int.{to_le_bytes, w64}
+use Rattle.acc_base.specs.declared.faults.ScriptFault.{ScriptFault}
+use Rattle.acc_base.specs.declared.faults.ScriptFault.TheVariants.{TooLong, NotText, Syntax, Number, NameTaken, HostFull, NoOpenRegion}
+use Rattle.acc_base.specs.declared.directives.Directive.{Directive}
+use Rattle.acc_base.specs.declared.directives.Directive.TheVariants.{Enter, Exit, EnterData, ExitData, Update}
+use Rattle.acc_base.specs.declared.items.Section.{Section}
+use Rattle.acc_read.specs.declared.arrays.Array.{Array}
+use Rattle.acc_read.specs.Reading.{◌>>=◌}
+use Rattle.acc_read.specs.Tokens.{word_at, keyword_at, name_at, number_at, number_limit, is_at_end, tab}
+use Rattle.acc_read.specs.Layout.{Layout, array_of, next_array}
+use Rattle.acc_read.specs.Places.{address_at, last_address_at, last_section_at}
+use Rattle.acc_read.specs.Bytes.{bytes_of}
+use Rattle.acc_read.specs.Grammar.{region_grammar, enter_grammar, exit_grammar, update_grammar}
+use Rattle.acc_read.specs.Clauses.{nothing_read, clauses_at}
+
+-- what a line asks for
+pub data Meaning : Type 0 where
+  Blank : Meaning
+  Declare : (name : List ℕ) (array : Array) → Meaning
+  Direct : (directive : Directive) → Meaning
+  Write : (addr : ℕ) (bytes : List ℕ) → Meaning
+  Show : (section : Section) → Meaning
+  Peek : (section : Section) → Meaning
+  Present : (section : Section) → Meaning
+  Address : (addr : ℕ) → Meaning
+  Report : Meaning
+
+-- a statement that takes memory to read or to run: one that declares, directs or writes, and none that only asks
+abbrev pub takes_memory : Meaning → Bool
+takes_memory (Declare name array) = true
+takes_memory (Direct directive) = true
+takes_memory (Write addr bytes) = true
+takes_memory _ = false
+
+-- a new array of a name, if host memory has room for it
+abbrev pub declared : List ℕ → Option Array → Result Meaning ScriptFault
+declared name None = Err HostFull
+declared name (Some array) = Ok (Declare name array)
+
+-- the length of a new array
+unfoldable pub length_at : List ℕ → Layout → List ℕ → Result Meaning ScriptFault
+length_at name layout text = do
+  len ← number_at number_limit text
+  if len.0 == 0 then Err Number
+      else if not (is_at_end len.1) then Err Syntax
+      else declared name (next_array len.0 layout)
+
+-- `array NAME N`
+unfoldable pub array_at : Layout → List ℕ → Result Meaning ScriptFault
+array_at layout text = do
+  name ← name_at text
+  if is_some (array_of name.0 layout) then Err NameTaken else length_at name.0 layout name.1
+
+-- ---- directives
+
+-- `data CLAUSES` (OpenACC 3.3, the data construct)
+unfoldable pub data_at : Layout → List ℕ → Result Meaning ScriptFault
+data_at layout text = do
+  read ← clauses_at (length text) region_grammar layout nothing_read text
+  Ok (Direct (Enter read.items))
+
+-- the exit from the innermost open region, where one is open
+abbrev pub exited : Option ℕ → Result Meaning ScriptFault
+exited None = Err NoOpenRegion
+exited (Some number) = Ok (Direct (Exit number))
+
+-- `end data`, of the innermost open region; a fault of syntax is told before there is none
+unfoldable pub end_at : Option ℕ → List ℕ → Result Meaning ScriptFault
+end_at innermost text = do
+  rest ← keyword_at (codes "data") text
+  if is_at_end rest then exited innermost else Err Syntax
+
+-- `enter data CLAUSES` (OpenACC 3.3, the enter data directive)
+unfoldable pub enter_at : Layout → List ℕ → Result Meaning ScriptFault
+enter_at layout text = do
+  rest ← keyword_at (codes "data") text
+  read ← clauses_at (length rest) enter_grammar layout nothing_read rest
+  Ok (Direct (EnterData read.items))
+
+-- `exit data CLAUSES`, with the option `finalize` (OpenACC 3.3, the exit data directive)
+unfoldable pub exit_at : Layout → List ℕ → Result Meaning ScriptFault
+exit_at layout text = do
+  rest ← keyword_at (codes "data") text
+  read ← clauses_at (length rest) exit_grammar layout nothing_read rest
+  Ok (Direct (ExitData read.items read.has_option))
+
+-- `update CLAUSES`, with the option `if_present` (OpenACC 3.3, the update directive)
+unfoldable pub update_at : Layout → List ℕ → Result Meaning ScriptFault
+update_at layout text = do
+  read ← clauses_at (length text) update_grammar layout nothing_read text
+  Ok (Direct (Update read.items read.has_option))
+
+-- ---- writes
+
+-- bytes, up to the end of the line
+unfoldable pub last_bytes_at : List ℕ → Result (List ℕ) ScriptFault
+last_bytes_at text = do
+  word ← word_at text
+  bytes ← bytes_of word.0
+  if is_at_end word.1 then Ok bytes else Err Syntax
+
+-- `write NAME[N] HEX`
+unfoldable pub write_at : Layout → List ℕ → Result Meaning ScriptFault
+write_at layout text = do
+  addr ← address_at layout text
+  bytes ← last_bytes_at addr.1
+  Ok (Write addr.0 bytes)
+
+-- `point PLACE to PLACE`: the eight bytes of the second address, lowest first, written at the first
+unfoldable pub point_at : Layout → List ℕ → Result Meaning ScriptFault
+point_at layout text = do
+  pointer ← address_at layout text
+  rest ← keyword_at (codes "to") pointer.1
+  target ← last_address_at layout rest
+  Ok (Write pointer.0 (to_le_bytes w64 target))
+
+-- ---- questions
+
+-- this, if the line ends here
+abbrev pub at_end : Meaning → List ℕ → Result Meaning ScriptFault
+at_end meaning rest = if is_at_end rest then Ok meaning else Err Syntax
+
+-- what a question asks of what it names
+abbrev pub asked : {A : Type 0} → (A → Meaning) → Result A ScriptFault → Result Meaning ScriptFault
+asked ask (Ok x) = Ok (ask x)
+asked ask (Err kind) = Err kind
+
+-- a question, by its word: `show REF`, `peek REF`, `present REF`, `address NAME[N]` or `report`
+unfoldable pub question_at : List ℕ → Layout → List ℕ → Result Meaning ScriptFault
+question_at word layout text =
+    if bytes_eq word (codes "show") then asked Show (last_section_at layout text)
+    else if bytes_eq word (codes "peek") then asked Peek (last_section_at layout text)
+    else if bytes_eq word (codes "present") then asked Present (last_section_at layout text)
+    else if bytes_eq word (codes "address") then asked Address (last_address_at layout text)
+    else if bytes_eq word (codes "report") then at_end Report text
+    else Err Syntax
+
+-- ---- a statement
+
+-- a statement, by its first word
+unfoldable pub statement_at : Layout → Option ℕ → List ℕ → Result Meaning ScriptFault
+statement_at layout innermost text = do
+  word ← word_at text
+  if bytes_eq word.0 (codes "array") then array_at layout word.1
+      else if bytes_eq word.0 (codes "data") then data_at layout word.1
+      else if bytes_eq word.0 (codes "end") then end_at innermost word.1
+      else if bytes_eq word.0 (codes "enter") then enter_at layout word.1
+      else if bytes_eq word.0 (codes "exit") then exit_at layout word.1
+      else if bytes_eq word.0 (codes "update") then update_at layout word.1
+      else if bytes_eq word.0 (codes "write") then write_at layout word.1
+      else if bytes_eq word.0 (codes "point") then point_at layout word.1
+      else question_at word.0 layout word.1
+
+-- ---- a line
+
+-- a tab, or from a space to a tilde
+abbrev pub is_text_byte : ℕ → Bool
+is_text_byte b = (b == tab) || (nat_le 32 b && nat_le b 126)
+
+-- the mark that begins a comment
+abbrev pub hash : ℕ
+hash = 35
+
+-- what stands before a comment
+abbrev pub before_comment : List ℕ → List ℕ
+before_comment line = before_first (λ b. b == hash) line
+
+-- how many bytes a line may have
+abbrev pub line_limit : ℕ
+line_limit = 4096
+
+-- what a line asks for, where the innermost open region has a number, if one is open; a line that is too long is told
+-- first, then a byte that is no text
+unfoldable pub line_at : Layout → Option ℕ → List ℕ → Result Meaning ScriptFault
+line_at layout innermost line = if nat_lt line_limit (length line) then Err TooLong
+    else if not (list_all is_text_byte (before_comment line)) then Err NotText
+    else if is_at_end (before_comment line) then Ok Blank
+    else statement_at layout innermost (before_comment line)

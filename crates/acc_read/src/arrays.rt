@@ -1,0 +1,118 @@
+//! The arrays of a script, and where they lie in host memory.
+
+ghost use Rattle.std.specs.Prelude.{◌≡◌, ◌+◌, ◌≤◌, OnOk, OnErr};
+ghost use Rattle.acc_read.specs.Layout.{new_layout, array_of, next_array, with_array, whole, part_of, byte_of};
+
+use acc_base::{HOST_BASE, MEMORY_MAX, Section};
+use std::alloc::{AllocError, Global};
+use std::collections::BTreeMap;
+use std::marker::Model;
+
+/// The host addresses from `start` up to `end`, which is not one of them.
+#[derive(Clone, Copy)]
+pub struct Array {
+    /// The first address.
+    pub start: u32,
+    /// The address behind the last one.
+    pub end: u32,
+}
+
+impl Array {
+    /// All of the array.
+    pub fn whole(self) -> Section
+        ensures { result ≡ whole self }
+    {
+        Section {
+            start: u64::from(self.start),
+            len: u64::from(self.end.saturating_sub(self.start)),
+        }
+    }
+
+    /// The address of the byte at an offset. It may lie past the array.
+    pub fn byte(self, from: u32) -> u64
+        ensures { result ≡ byte_of self from }
+    {
+        u64::from(self.start) + u64::from(from)
+    }
+
+    /// So many bytes from an offset on. They may lie past the array.
+    pub fn part(self, from: u32, len: u32) -> Section
+        ensures { result ≡ part_of self from len }
+    {
+        Section {
+            start: u64::from(self.start) + u64::from(from),
+            len: u64::from(len),
+        }
+    }
+}
+
+/// The arrays that a script has declared, by their names.
+///
+/// Contracts see where each lies, where the last one ends, and where host memory ends.
+#[derive(Drop)]
+pub struct Arrays {
+    names: BTreeMap<Vec<u8>, Array>,
+    last_end: u32,
+    limit: u32,
+}
+
+impl Model for Arrays {
+    ghost use Rattle.acc_read.specs.Layout.{Layout};
+    ghost use Rattle.acc_read.specs.Coding.{layout_code};
+
+    ghost Value = { Layout };
+
+    ghost coded = { layout_code };
+
+    ghost use Rattle.acc_read.specs.Naming.{names_of};
+
+    ghost view = { λ a. record { names = names_of a.names.entries; last_end = a.last_end; limit = a.limit } };
+}
+
+impl Arrays {
+    /// No array, in host memory of `host` bytes.
+    pub fn new(alloc: Global, host: u32) -> Arrays
+        requires { host ≤ MEMORY_MAX }
+        ensures { result ≡ new_layout host }
+    {
+        Arrays {
+            names: BTreeMap::new(alloc),
+            last_end: HOST_BASE as u32,
+            limit: HOST_BASE as u32 + host,
+        }
+    }
+
+    /// The array of a name.
+    pub fn get(&self, name: &[u8]) -> Option<Array>
+        ensures { result ≡ array_of name.now self.now }
+    {
+        self.names.get(name).copied()
+    }
+
+    /// The next array of `len` bytes: it starts at the least multiple of 16 at or after the end of the one before.
+    /// `None` where it does not end within host memory.
+    pub fn next_array(&self, len: u32) -> Option<Array>
+        ensures { result ≡ next_array len self.now }
+    {
+        let limit = u64::from(self.limit);
+        let start = u64::from(self.last_end).div_ceil(16) * 16;
+        let end = start + u64::from(len);
+        if limit < end {
+            return None;
+        }
+        Some(Array {
+            start: start as u32,
+            end: end as u32,
+        })
+    }
+
+    /// Adds an array behind the last one. After an error nothing is changed.
+    pub fn insert(&mut self, alloc: Global, name: &[u8], array: Array) -> Result<(), AllocError>
+        ensures ok { OnOk result (self.new ≡ with_array name.now array self.old) }
+        ensures err { OnErr result (self.new ≡ self.old) }
+    {
+        self.names.insert(Vec::from_slice(alloc, name)?, array)?;
+        self.last_end = array.end;
+        Ok(())
+    }
+}

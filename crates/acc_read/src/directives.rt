@@ -1,0 +1,72 @@
+//! The directives of a script.
+
+ghost use Rattle.acc_read.specs.Reading.{Reads, Gives};
+ghost use Rattle.acc_read.specs.Statements.{data_at, end_at, enter_at, exit_at, update_at, takes_memory};
+ghost use Rattle.acc_read.specs.Meanings.{meaning_of};
+
+use crate::arrays::Arrays;
+use crate::clauses::clauses_at;
+use crate::statements::Statement;
+use crate::tokens::{is_at_end, keyword_at};
+use crate::troubles::Trouble;
+use acc_base::{Directive, List, ScriptFault};
+use std::alloc::Global;
+
+/// The start of a `data` construct.
+#[tactic(auto, unfolding(crate::specs::Statements::data_at), using(crate::proofs::CheckedClauses::data_wants))]
+pub fn data_at(alloc: Global, arrays: &Arrays, text: &[u8]) -> Result<Statement<'static>, Trouble>
+    ensures { Gives takes_memory meaning_of result (data_at arrays.now text.now) }
+{
+    let items = List::from_vec(clauses_at(alloc, arrays, text)?.items);
+    Ok(Statement::Direct(Directive::Enter { items }))
+}
+
+/// The end of the `data` construct whose region is the innermost open one.
+#[tactic(auto, unfolding(crate::specs::Statements::end_at))]
+pub fn end_at(innermost: Option<u64>, text: &[u8]) -> Result<Statement<'static>, ScriptFault>
+    ensures { Reads meaning_of result (end_at innermost text.now) }
+{
+    let rest = keyword_at("data", text)?;
+    if !is_at_end(rest) {
+        return Err(ScriptFault::Syntax);
+    }
+    match innermost {
+        None => Err(ScriptFault::NoOpenRegion),
+        Some(number) => Ok(Statement::Direct(Directive::Exit { number })),
+    }
+}
+
+/// The `enter data` directive.
+#[tactic(auto, unfolding(crate::specs::Statements::enter_at), using(crate::proofs::CheckedClauses::enter_wants))]
+pub fn enter_at(alloc: Global, arrays: &Arrays, text: &[u8]) -> Result<Statement<'static>, Trouble>
+    ensures { Gives takes_memory meaning_of result (enter_at arrays.now text.now) }
+{
+    let rest = keyword_at("data", text)?;
+    let items = List::from_vec(clauses_at(alloc, arrays, rest)?.items);
+    Ok(Statement::Direct(Directive::EnterData { items }))
+}
+
+/// The `exit data` directive.
+#[tactic(auto, unfolding(crate::specs::Statements::exit_at), using(crate::proofs::CheckedClauses::exit_wants))]
+pub fn exit_at(alloc: Global, arrays: &Arrays, text: &[u8]) -> Result<Statement<'static>, Trouble>
+    ensures { Gives takes_memory meaning_of result (exit_at arrays.now text.now) }
+{
+    let rest = keyword_at("data", text)?;
+    let clauses = clauses_at(alloc, arrays, rest)?;
+    Ok(Statement::Direct(Directive::ExitData {
+        finalize: clauses.has_option,
+        items: List::from_vec(clauses.items),
+    }))
+}
+
+/// The `update` directive.
+#[tactic(auto, unfolding(crate::specs::Statements::update_at), using(crate::proofs::CheckedClauses::update_wants))]
+pub fn update_at(alloc: Global, arrays: &Arrays, text: &[u8]) -> Result<Statement<'static>, Trouble>
+    ensures { Gives takes_memory meaning_of result (update_at arrays.now text.now) }
+{
+    let clauses = clauses_at(alloc, arrays, text)?;
+    Ok(Statement::Direct(Directive::Update {
+        if_present: clauses.has_option,
+        items: List::from_vec(clauses.items),
+    }))
+}

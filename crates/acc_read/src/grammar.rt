@@ -1,0 +1,183 @@
+//! The words of the clauses of each directive.
+
+ghost use Rattle.std.specs.Prelude.{◌≡◌};
+ghost use Rattle.acc_read.specs.Grammar.{Grammar, region_grammar, enter_grammar, exit_grammar, update_grammar};
+
+use crate::items::Kind;
+use crate::tokens::is_text;
+use acc_base::{EnterClause, ExitClause, RegionClause, UpdateClause};
+
+/// The clauses of a directive.
+pub trait Clause: Copy {
+    /// The words of the clauses, their modifiers, what each lists, and the option.
+    ghost grammar: { Grammar Self };
+
+    /// The clause of a word, where the directive has one.
+    fn from_word(word: &[u8]) -> Option<Self>
+        ensures { result ≡ grammar.clause_of word.now };
+
+    /// The clause with the modifier of a word, where it has such a one.
+    fn with_modifier(self, word: &[u8]) -> Option<Self>
+        ensures { result ≡ grammar.modified self word.now };
+
+    /// What the clause lists.
+    fn lists(self) -> Kind
+        ensures { result ≡ grammar.lists self };
+
+    /// The word is the option of the directive, where it has one.
+    fn is_option(word: &[u8]) -> bool
+        ensures { result ≡ grammar.is_option word.now };
+}
+
+impl Clause for RegionClause {
+    ghost grammar = { region_grammar };
+
+    fn from_word(word: &[u8]) -> Option<RegionClause> {
+        if is_text(word, "copy") {
+            Some(RegionClause::Copy)
+        } else if is_text(word, "copyin") {
+            Some(RegionClause::Copyin)
+        } else if is_text(word, "copyout") {
+            Some(RegionClause::Copyout { zero: false })
+        } else if is_text(word, "create") {
+            Some(RegionClause::Create { zero: false })
+        } else if is_text(word, "no_create") {
+            Some(RegionClause::NoCreate)
+        } else if is_text(word, "present") {
+            Some(RegionClause::Present)
+        } else if is_text(word, "attach") {
+            Some(RegionClause::Attach)
+        } else {
+            None
+        }
+    }
+
+    fn with_modifier(self, word: &[u8]) -> Option<RegionClause> {
+        match self {
+            RegionClause::Copyin if is_text(word, "readonly") => Some(RegionClause::Copyin),
+            RegionClause::Copyout { .. } if is_text(word, "zero") => {
+                Some(RegionClause::Copyout { zero: true })
+            }
+            RegionClause::Create { .. } if is_text(word, "zero") => {
+                Some(RegionClause::Create { zero: true })
+            }
+            RegionClause::Copy
+            | RegionClause::Copyin
+            | RegionClause::Copyout { .. }
+            | RegionClause::Create { .. }
+            | RegionClause::NoCreate
+            | RegionClause::Present
+            | RegionClause::Attach => None,
+        }
+    }
+
+    fn lists(self) -> Kind {
+        match self {
+            RegionClause::Attach => Kind::Pointers,
+            RegionClause::Copy
+            | RegionClause::Copyin
+            | RegionClause::Copyout { .. }
+            | RegionClause::Create { .. }
+            | RegionClause::NoCreate
+            | RegionClause::Present => Kind::Items,
+        }
+    }
+
+    fn is_option(_word: &[u8]) -> bool {
+        false
+    }
+}
+
+impl Clause for EnterClause {
+    ghost grammar = { enter_grammar };
+
+    fn from_word(word: &[u8]) -> Option<EnterClause> {
+        if is_text(word, "copyin") {
+            Some(EnterClause::Copyin)
+        } else if is_text(word, "create") {
+            Some(EnterClause::Create { zero: false })
+        } else if is_text(word, "attach") {
+            Some(EnterClause::Attach)
+        } else {
+            None
+        }
+    }
+
+    fn with_modifier(self, word: &[u8]) -> Option<EnterClause> {
+        match self {
+            EnterClause::Copyin if is_text(word, "readonly") => Some(EnterClause::Copyin),
+            EnterClause::Create { .. } if is_text(word, "zero") => {
+                Some(EnterClause::Create { zero: true })
+            }
+            EnterClause::Copyin | EnterClause::Create { .. } | EnterClause::Attach => None,
+        }
+    }
+
+    fn lists(self) -> Kind {
+        match self {
+            EnterClause::Attach => Kind::Pointers,
+            EnterClause::Copyin | EnterClause::Create { .. } => Kind::Items,
+        }
+    }
+
+    fn is_option(_word: &[u8]) -> bool {
+        false
+    }
+}
+
+impl Clause for ExitClause {
+    ghost grammar = { exit_grammar };
+
+    fn from_word(word: &[u8]) -> Option<ExitClause> {
+        if is_text(word, "copyout") {
+            Some(ExitClause::Copyout)
+        } else if is_text(word, "delete") {
+            Some(ExitClause::Delete)
+        } else if is_text(word, "detach") {
+            Some(ExitClause::Detach)
+        } else {
+            None
+        }
+    }
+
+    fn with_modifier(self, _word: &[u8]) -> Option<ExitClause> {
+        None
+    }
+
+    fn lists(self) -> Kind {
+        match self {
+            ExitClause::Detach => Kind::Pointers,
+            ExitClause::Copyout | ExitClause::Delete => Kind::Items,
+        }
+    }
+
+    fn is_option(word: &[u8]) -> bool {
+        is_text(word, "finalize")
+    }
+}
+
+impl Clause for UpdateClause {
+    ghost grammar = { update_grammar };
+
+    fn from_word(word: &[u8]) -> Option<UpdateClause> {
+        if is_text(word, "self") || is_text(word, "host") {
+            Some(UpdateClause::ToSelf)
+        } else if is_text(word, "device") {
+            Some(UpdateClause::ToDevice)
+        } else {
+            None
+        }
+    }
+
+    fn with_modifier(self, _word: &[u8]) -> Option<UpdateClause> {
+        None
+    }
+
+    fn lists(self) -> Kind {
+        Kind::Sections
+    }
+
+    fn is_option(word: &[u8]) -> bool {
+        is_text(word, "if_present")
+    }
+}

@@ -1,0 +1,187 @@
+//! What a line of a script says.
+
+ghost use Rattle.std.specs.Prelude.{◌≡◌, ◌≤◌, ◌==◌, not, length};
+ghost use Rattle.std.specs.List.{list_all, prefix_len};
+ghost use Rattle.acc_read.specs.Reading.{Reads, Gives};
+ghost use Rattle.acc_read.specs.Statements.{length_at, array_at, question_at, statement_at, takes_memory, is_text_byte, hash, before_comment, line_at};
+ghost use Rattle.acc_read.specs.Meanings.{meaning_of};
+
+use crate::arrays::{Array, Arrays};
+use crate::directives::{data_at, end_at, enter_at, exit_at, update_at};
+use crate::places::{last_address_at, last_section_at};
+use crate::tokens::{is_at_end, is_text, name_at, number_at, word_at};
+use crate::troubles::Trouble;
+use crate::writes::{point_at, write_at};
+use acc_base::{Directive, List, ScriptFault, Section};
+use std::alloc::Global;
+
+/// How many bytes a line may have.
+const LINE_LIMIT: usize = 4096;
+
+/// What a line asks for.
+#[derive(Drop)]
+pub enum Statement<'a> {
+    /// Nothing.
+    Blank,
+    /// A new array.
+    Declare {
+        /// Its name.
+        name: &'a [u8],
+        /// Where it lies.
+        array: Array,
+    },
+    /// A directive.
+    Direct(Directive),
+    /// A write into host memory, as the host does it.
+    Write {
+        /// The first host address.
+        addr: u64,
+        /// The bytes.
+        bytes: List<u8>,
+    },
+    /// The bytes of a section of host memory.
+    Show(Section),
+    /// The bytes that the device has of a section.
+    Peek(Section),
+    /// Whether a section is present.
+    Present(Section),
+    /// The device address of a host address.
+    Address(u64),
+    /// The report.
+    Report,
+}
+
+/// What a line asks for, or its first fault. `innermost` is the number of the innermost open region, if one is open.
+#[tactic(auto, unfolding(crate::specs::Statements::line_at))]
+pub fn line_at<'a>(
+    alloc: Global,
+    arrays: &Arrays,
+    innermost: Option<u64>,
+    line: &'a [u8],
+) -> Result<Statement<'a>, Trouble>
+    ensures { Gives takes_memory meaning_of result (line_at arrays.now innermost line.now) }
+{
+    if line.len() > LINE_LIMIT {
+        return Err(Trouble::Line(ScriptFault::TooLong));
+    }
+    let text = before_comment(line);
+    if !has_text_bytes(text) {
+        return Err(Trouble::Line(ScriptFault::NotText));
+    }
+    if is_at_end(text) {
+        return Ok(Statement::Blank);
+    }
+    statement_at(alloc, arrays, innermost, text)
+}
+
+/// What stands before a comment.
+fn before_comment(line: &[u8]) -> &[u8]
+    ensures { result.now ≡ before_comment line.now }
+{
+    let (text, _) = line.split_at(comment_place(line));
+    text
+}
+
+/// How many bytes stand before a comment.
+fn comment_place(line: &[u8]) -> usize
+    ensures count { result ≡ prefix_len (λ b. not (b == hash)) line.now }
+    ensures bound { result ≤ length line.now }
+{
+    line.iter().take_while(|b| **b != b'#').count()
+}
+
+/// The byte may stand before a comment.
+fn is_text_byte(b: u8) -> bool
+    ensures { result ≡ is_text_byte b }
+{
+    b == b'\t' || (b' ' <= b && b <= b'~')
+}
+
+/// Each of the bytes may stand before a comment.
+fn has_text_bytes(bytes: &[u8]) -> bool
+    ensures { result ≡ list_all is_text_byte bytes.now }
+{
+    bytes.iter().all(|b| is_text_byte(*b))
+}
+
+/// A statement, by its first word.
+#[tactic(auto, unfolding(crate::specs::Statements::statement_at))]
+fn statement_at<'a>(
+    alloc: Global,
+    arrays: &Arrays,
+    innermost: Option<u64>,
+    text: &'a [u8],
+) -> Result<Statement<'a>, Trouble>
+    ensures { Gives takes_memory meaning_of result (statement_at arrays.now innermost text.now) }
+{
+    let (word, rest) = word_at(text)?;
+    if is_text(word, "array") {
+        Ok(array_at(arrays, rest)?)
+    } else if is_text(word, "data") {
+        data_at(alloc, arrays, rest)
+    } else if is_text(word, "end") {
+        Ok(end_at(innermost, rest)?)
+    } else if is_text(word, "enter") {
+        enter_at(alloc, arrays, rest)
+    } else if is_text(word, "exit") {
+        exit_at(alloc, arrays, rest)
+    } else if is_text(word, "update") {
+        update_at(alloc, arrays, rest)
+    } else if is_text(word, "write") {
+        write_at(alloc, arrays, rest)
+    } else if is_text(word, "point") {
+        point_at(alloc, arrays, rest)
+    } else {
+        Ok(question_at(word, arrays, rest)?)
+    }
+}
+
+/// A question, by its word.
+#[tactic(auto, unfolding(crate::specs::Statements::question_at))]
+fn question_at(word: &[u8], arrays: &Arrays, text: &[u8]) -> Result<Statement<'static>, ScriptFault>
+    ensures { Reads meaning_of result (question_at word.now arrays.now text.now) }
+{
+    if is_text(word, "show") {
+        Ok(Statement::Show(last_section_at(arrays, text)?))
+    } else if is_text(word, "peek") {
+        Ok(Statement::Peek(last_section_at(arrays, text)?))
+    } else if is_text(word, "present") {
+        Ok(Statement::Present(last_section_at(arrays, text)?))
+    } else if is_text(word, "address") {
+        Ok(Statement::Address(last_address_at(arrays, text)?))
+    } else if is_text(word, "report") && is_at_end(text) {
+        Ok(Statement::Report)
+    } else {
+        Err(ScriptFault::Syntax)
+    }
+}
+
+/// The name and the length of a new array.
+#[tactic(auto, unfolding(crate::specs::Statements::array_at))]
+fn array_at<'a>(arrays: &Arrays, text: &'a [u8]) -> Result<Statement<'a>, ScriptFault>
+    ensures { Reads meaning_of result (array_at arrays.now text.now) }
+{
+    let (name, rest) = name_at(text)?;
+    if arrays.get(name).is_some() {
+        return Err(ScriptFault::NameTaken);
+    }
+    length_at(name, arrays, rest)
+}
+
+/// The length of a new array, up to the end of the line.
+#[tactic(auto, unfolding(crate::specs::Statements::length_at))]
+fn length_at<'a>(name: &'a [u8], arrays: &Arrays, text: &[u8]) -> Result<Statement<'a>, ScriptFault>
+    ensures { Reads meaning_of result (length_at name.now arrays.now text.now) }
+{
+    let (len, rest) = number_at(u32::MAX, text)?;
+    if len == 0 {
+        return Err(ScriptFault::Number);
+    }
+    if !is_at_end(rest) {
+        return Err(ScriptFault::Syntax);
+    }
+    match arrays.next_array(len) {
+        None => Err(ScriptFault::HostFull),
+        Some(array) => Ok(Statement::Declare { name, array }),
+    }
+}

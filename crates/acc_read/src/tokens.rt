@@ -1,0 +1,263 @@
+//! Words, marks, numbers, names and bytes at the front of a text.
+
+ghost use Rattle.std.specs.Prelude.{◌≡◌, ◌≤◌, ◌+◌, min, length, IfOk, IsOk};
+ghost use Rattle.std.specs.List.{list_all, prefix_len};
+ghost use Rattle.std.specs.Char.{is_ascii_digit, is_ascii_hexdigit};
+ghost use Rattle.std.specs.Str.{bytes_eq};
+ghost use Rattle.acc_read.specs.Reading.{Reads, Checks};
+ghost use Rattle.acc_read.specs.Tokens.{is_blank, is_word_byte, word_len, skip_blanks, is_at_end, word_at, keyword_at, is_word_next, is_mark_next, mark_at, skip_comma, is_word_before, number_of, number_at, is_name_byte, begins_lower, is_name, value_of, name_at};
+ghost use Rattle.acc_read.specs.Bytes.{bytes_of};
+
+use acc_base::{List, ScriptFault};
+use std::alloc::{AllocError, Global};
+
+/// The byte is a space or a tab.
+fn is_blank(b: u8) -> bool
+    ensures { result ≡ is_blank b }
+{
+    b == b' ' || b == b'\t'
+}
+
+/// The byte may stand in a word.
+fn is_word_byte(b: u8) -> bool
+    ensures { result ≡ is_word_byte b }
+{
+    b.is_ascii_alphanumeric() || b == b'_'
+}
+
+/// How many blanks stand at the front.
+fn blanks_len(text: &[u8]) -> usize
+    ensures count { result ≡ prefix_len is_blank text.now }
+    ensures bound { result ≤ length text.now }
+{
+    text.iter().take_while(|b| is_blank(**b)).count()
+}
+
+/// How many bytes at the front are of one word.
+fn word_len(text: &[u8]) -> usize
+    ensures count { result ≡ word_len text.now }
+    ensures bound { result ≤ length text.now }
+{
+    text.iter().take_while(|b| is_word_byte(**b)).count()
+}
+
+/// The text from its first token on.
+fn skip_blanks(text: &[u8]) -> &[u8]
+    ensures { result.now ≡ skip_blanks text.now }
+{
+    let (_, rest) = text.split_at(blanks_len(text));
+    rest
+}
+
+/// The text holds no other token.
+pub fn is_at_end(text: &[u8]) -> bool
+    ensures { result ≡ is_at_end text.now }
+{
+    skip_blanks(text).is_empty()
+}
+
+/// The word is this text.
+pub fn is_text(word: &[u8], text: &str) -> bool
+    ensures { result ≡ bytes_eq word.now text.now }
+{
+    word == text.as_bytes()
+}
+
+/// The next word, and the text after it.
+#[tactic(auto, unfolding(crate::specs::Tokens::word_at))]
+pub fn word_at(text: &[u8]) -> Result<(&[u8], &[u8]), ScriptFault>
+    ensures { Reads (λ x. (x.0.now, x.1.now)) result (word_at text.now) }
+{
+    let token = skip_blanks(text);
+    let len = word_len(token);
+    if len == 0 {
+        return Err(ScriptFault::Syntax);
+    }
+    Ok(token.split_at(len))
+}
+
+/// This keyword; the text after it.
+#[tactic(auto, unfolding(crate::specs::Tokens::keyword_at))]
+pub fn keyword_at<'a>(keyword: &str, text: &'a [u8]) -> Result<&'a [u8], ScriptFault>
+    ensures { Reads (λ x. x.now) result (keyword_at keyword.now text.now) }
+{
+    let (word, rest) = word_at(text)?;
+    if is_text(word, keyword) {
+        Ok(rest)
+    } else {
+        Err(ScriptFault::Syntax)
+    }
+}
+
+/// The next token is this word.
+pub fn is_word_next(word: &str, text: &[u8]) -> bool
+    ensures { result ≡ is_word_next word.now text.now }
+{
+    let token = skip_blanks(text);
+    let (next, _) = token.split_at(word_len(token));
+    is_text(next, word)
+}
+
+/// The next token is this mark.
+pub fn is_mark_next(mark: u8, text: &[u8]) -> bool
+    ensures { result ≡ is_mark_next mark text.now }
+{
+    match skip_blanks(text) {
+        [] => false,
+        [first, ..] => *first == mark,
+    }
+}
+
+/// This mark; the text after it.
+#[tactic(auto, unfolding(crate::specs::Tokens::mark_at))]
+pub fn mark_at(mark: u8, text: &[u8]) -> Result<&[u8], ScriptFault>
+    ensures { Reads (λ x. x.now) result (mark_at mark text.now) }
+{
+    match skip_blanks(text) {
+        [first, rest @ ..] if *first == mark => Ok(rest),
+        _ => Err(ScriptFault::Syntax),
+    }
+}
+
+/// The text without a comma at its front.
+pub fn skip_comma(text: &[u8]) -> &[u8]
+    ensures { result.now ≡ skip_comma text.now }
+{
+    match skip_blanks(text) {
+        [b',', rest @ ..] => rest,
+        _ => text,
+    }
+}
+
+/// The next token is a word, or nothing, and this mark follows it.
+pub fn is_word_before(mark: u8, text: &[u8]) -> bool
+    ensures { result ≡ is_word_before mark text.now }
+{
+    let token = skip_blanks(text);
+    let (_, rest) = token.split_at(word_len(token));
+    is_mark_next(mark, rest)
+}
+
+/// The word has decimal digits alone.
+fn has_digits(word: &[u8]) -> bool
+    ensures { result ≡ list_all is_ascii_digit word.now }
+{
+    word.iter().all(|b| b.is_ascii_digit())
+}
+
+/// The number that digits say, or one past the limit where it is more.
+fn capped_value(limit: u32, digits: &[u8]) -> u64
+    ensures { result ≡ min (value_of digits.now) (limit + 1) }
+{
+    let mut value = 0u64;
+    for digit in digits {
+        value = (value * 10 + u64::from(digit.saturating_sub(b'0'))).min(u64::from(limit) + 1);
+    }
+    value
+}
+
+/// The number that a word says, up to a limit.
+#[tactic(auto, using(crate::proofs::Numbers::is_above, crate::proofs::Numbers::is_number), unfolding(crate::specs::Tokens::number_of))]
+fn number_of(limit: u32, word: &[u8]) -> Result<u32, ScriptFault>
+    ensures { Reads (λ n. n) result (number_of limit word.now) }
+{
+    if !has_digits(word) {
+        return Err(ScriptFault::Syntax);
+    }
+    let value = capped_value(limit, word);
+    if value > u64::from(limit) {
+        return Err(ScriptFault::Number);
+    }
+    Ok(value as u32)
+}
+
+/// The next word, which is a number up to a limit, and the text after it.
+#[tactic(auto, unfolding(crate::specs::Tokens::number_at))]
+pub fn number_at(limit: u32, text: &[u8]) -> Result<(u32, &[u8]), ScriptFault>
+    ensures { Reads (λ x. (x.0, x.1.now)) result (number_at limit text.now) }
+{
+    let (word, rest) = word_at(text)?;
+    Ok((number_of(limit, word)?, rest))
+}
+
+/// The byte may stand in a name.
+fn is_name_byte(b: u8) -> bool
+    ensures { result ≡ is_name_byte b }
+{
+    b.is_ascii_lowercase() || b.is_ascii_digit() || b == b'_'
+}
+
+/// The word begins with a lower-case letter.
+fn begins_lower(word: &[u8]) -> bool
+    ensures { result ≡ begins_lower word.now }
+{
+    match word {
+        [] => false,
+        [first, ..] => first.is_ascii_lowercase(),
+    }
+}
+
+/// The word has bytes of names alone.
+fn has_name_bytes(word: &[u8]) -> bool
+    ensures { result ≡ list_all is_name_byte word.now }
+{
+    word.iter().all(|b| is_name_byte(*b))
+}
+
+/// The word may name an array.
+fn is_name(word: &[u8]) -> bool
+    ensures { result ≡ is_name word.now }
+{
+    begins_lower(word) && has_name_bytes(word) && word.len() <= 32
+}
+
+/// The next word, which may name an array, and the text after it.
+#[tactic(auto, unfolding(crate::specs::Tokens::name_at))]
+pub fn name_at(text: &[u8]) -> Result<(&[u8], &[u8]), ScriptFault>
+    ensures { Reads (λ x. (x.0.now, x.1.now)) result (name_at text.now) }
+{
+    let (word, rest) = word_at(text)?;
+    if !is_name(word) {
+        return Err(ScriptFault::Syntax);
+    }
+    Ok((word, rest))
+}
+
+/// How many digits may stand in one word.
+const DIGIT_LIMIT: usize = 128;
+
+/// The word has hexadecimal digits alone, of either case.
+fn has_hex_digits(word: &[u8]) -> bool
+    ensures { result ≡ list_all is_ascii_hexdigit word.now }
+{
+    word.iter().all(|b| b.is_ascii_hexdigit())
+}
+
+/// Whether a word says bytes, and else its fault.
+#[tactic(auto, using(crate::proofs::ByteWords::not_digits, crate::proofs::ByteWords::many_digits, crate::proofs::ByteWords::odd_digits, crate::proofs::ByteWords::right_word))]
+pub fn check_bytes(word: &[u8]) -> Result<(), ScriptFault>
+    ensures { Checks result (bytes_of word.now) }
+{
+    if !has_hex_digits(word) {
+        return Err(ScriptFault::Syntax);
+    }
+    if word.len() > DIGIT_LIMIT {
+        return Err(ScriptFault::Number);
+    }
+    if word.len() % 2 == 1 {
+        return Err(ScriptFault::Number);
+    }
+    Ok(())
+}
+
+/// The bytes that a word says, two digits each.
+#[tactic(auto, using(crate::proofs::ByteWords::word_decoded))]
+pub fn bytes_of(alloc: Global, word: &[u8]) -> Result<List<u8>, AllocError>
+    requires { IsOk (bytes_of word.now) }
+    ensures { IfOk result (λ bytes. bytes_of word.now ≡ Ok bytes) }
+{
+    match hex::decode(alloc, word) {
+        Ok(bytes) => Ok(List::from_vec(bytes)),
+        Err(_) => Err(AllocError),
+    }
+}

@@ -1,0 +1,56 @@
+//! The statements that write host memory.
+
+ghost use Rattle.std.specs.Prelude.{◌≡◌, IsOk, MatchResult};
+ghost use Rattle.acc_read.specs.Reading.{Gives};
+ghost use Rattle.acc_read.specs.Statements.{write_at, last_bytes_at, point_at, takes_memory};
+ghost use Rattle.acc_read.specs.Meanings.{meaning_of};
+ghost use Rattle.acc_read.specs.Bytes.{bytes_of};
+
+use crate::arrays::Arrays;
+use crate::places::{address_at, last_address_at};
+use crate::statements::Statement;
+use crate::tokens::{bytes_of, check_bytes, is_at_end, keyword_at, word_at};
+use crate::troubles::Trouble;
+use acc_base::{List, ScriptFault};
+use std::alloc::Global;
+
+/// The address and the bytes of a `write`.
+#[tactic(auto, unfolding(crate::specs::Statements::write_at), using(crate::proofs::ByteWords::write_wants))]
+pub fn write_at(alloc: Global, arrays: &Arrays, text: &[u8]) -> Result<Statement<'static>, Trouble>
+    ensures { Gives takes_memory meaning_of result (write_at arrays.now text.now) }
+{
+    let (addr, rest) = address_at(arrays, text)?;
+    let word = last_bytes_at(rest)?;
+    let bytes = bytes_of(alloc, word)?;
+    Ok(Statement::Write { addr, bytes })
+}
+
+/// A word that says bytes, up to the end of the line.
+#[tactic(auto, using(crate::proofs::ByteWords::last_faulty, crate::proofs::ByteWords::last_open, crate::proofs::ByteWords::last_said, crate::proofs::ByteWords::no_word))]
+fn last_bytes_at(text: &[u8]) -> Result<&[u8], ScriptFault>
+    ensures { MatchResult result
+        (λ word. IsOk (bytes_of word.now) × (last_bytes_at text.now ≡ bytes_of word.now))
+        (λ kind. last_bytes_at text.now ≡ Err kind) }
+{
+    let (word, rest) = word_at(text)?;
+    check_bytes(word)?;
+    if !is_at_end(rest) {
+        return Err(ScriptFault::Syntax);
+    }
+    Ok(word)
+}
+
+/// The pointer of a `point` and the address that is written into it.
+#[tactic(auto, unfolding(crate::specs::Statements::point_at))]
+pub fn point_at(alloc: Global, arrays: &Arrays, text: &[u8]) -> Result<Statement<'static>, Trouble>
+    ensures { Gives takes_memory meaning_of result (point_at arrays.now text.now) }
+{
+    let (addr, rest) = address_at(arrays, text)?;
+    let rest = keyword_at("to", rest)?;
+    let target = last_address_at(arrays, rest)?;
+    let bytes = Vec::from_slice(alloc, &target.to_le_bytes())?;
+    Ok(Statement::Write {
+        addr,
+        bytes: List::from_vec(bytes),
+    })
+}

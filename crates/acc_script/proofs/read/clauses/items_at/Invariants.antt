@@ -1,6 +1,0 @@
-use Rattle.std.proofs.Common.{◌≡◌, ◌-◌, length}
-use Rattle.acc_script.specs.Clauses.{items_at}
-use Rattle.acc_script.proofs.read.clauses.items_at.Given as goal
-
-abbrev pub invariant-loop : goal.invariant-loop
-invariant-loop g l = items_at (length l.text - l.counter) l.clause l.arrays l.items.items l.rest ≡ items_at (length l.text) l.clause l.arrays l.fn.items.items l.text

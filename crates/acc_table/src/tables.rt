@@ -85,11 +85,13 @@ impl Table {
     /// - [`Fault::TraceFull`] where the stored trace has as many events as it may;
     /// - [`Fault::NoRegion`] where no region of the number is open that is exited;
     /// - then, for the items in the order in which they act, each judged in what those before it leave, and told with its
-    ///   place in the written list: for a section that is not empty, [`Fault::OutOfHost`] where it is not in host memory,
-    ///   [`Fault::PartlyPresent`] where some of its addresses are mapped but no one range has them all,
-    ///   [`Fault::NotPresent`] where `present`, or `update` without `if_present`, names a section that is absent,
-    ///   [`Fault::CounterFull`] where an entry would raise a counter above the limit, and [`Fault::DeviceFull`] where it
-    ///   needs a new block that fits nowhere;
+    ///   place in the written list: for a section that is not empty, [`Fault::OutOfHost`] where it is not in host memory;
+    ///   for the pointer of an item, [`Fault::OutOfHost`] where its eight bytes are not, and [`Fault::Misaligned`] where
+    ///   its address is no multiple of 8; [`Fault::PartlyPresent`] where some of the section's addresses are mapped but no
+    ///   one range has them all, [`Fault::NotPresent`] where `present`, or `update` without `if_present`, names a section
+    ///   that is absent, [`Fault::CounterFull`] where an entry would raise a reference counter above the limit,
+    ///   [`Fault::DeviceFull`] where it needs a new block that fits nowhere, and last [`Fault::CounterFull`] where it
+    ///   would raise the attachment counter of its pointer above the limit;
     /// - for a host write of some bytes, [`Fault::OutOfHost`] with item 0 where one of the addresses is not in host
     ///   memory;
     /// - last [`Fault::Memory`], where there is no other refusal and memory cannot be had.

@@ -6,17 +6,19 @@ use Rattle.std.proofs.lemmas.List.{reverse-reverse}
 use Rattle.std.proofs.lemmas.Bool.Decides.{nat_tests}
 use Rattle.acc_base.specs.declared.mappings.Range.{Range}
 use Rattle.acc_base.specs.declared.regions.Holding.{Holding}
+use Rattle.acc_base.specs.declared.transfers.Transfer.{Transfer}
 use Rattle.acc_base.specs.declared.tasks.Task.{Task}
 use Rattle.acc_base.specs.declared.tasks.Task.TheVariants.{Leave}
 use Rattle.acc_base.specs.declared.directives.Directive.{Directive}
-use Rattle.acc_base.specs.declared.directives.Directive.TheVariants.{Enter, Exit, EnterData, ExitData, Update}
+use Rattle.acc_base.specs.declared.directives.Directive.TheVariants.{Enter, Exit, EnterData, ExitData, Update, Wait}
+use Rattle.acc_base.specs.declared.directives.Directive.TheVariants as directives
 use Rattle.acc_base.specs.declared.calls.Call.{Call}
 use Rattle.acc_base.specs.declared.calls.Call.TheVariants.{Do, HostWrite}
 use Rattle.acc_base.specs.declared.events.Step.{Step}
 use Rattle.acc_base.specs.declared.events.Step.TheVariants.{Nothing, Dropped}
 use Rattle.acc_base.specs.declared.events.Did.{Did}
 use Rattle.acc_base.specs.declared.events.Event.{Event}
-use Rattle.acc_base.specs.declared.events.Event.TheVariants.{Entered, Left, EnteredData, ExitedData, Updated, HostWritten}
+use Rattle.acc_base.specs.declared.events.Event.TheVariants.{Entered, Left, EnteredData, ExitedData, Updated, Waited, Stepped, HostWritten}
 use Rattle.acc_base.specs.declared.faults.Fault.{Fault}
 use Rattle.acc_base.specs.Results.{◌>>=◌, ◌>>◌}
 use Rattle.acc_base.specs.Limits.{Limits, IsWithinBounds}
@@ -24,12 +26,16 @@ use Rattle.acc_base.specs.Records.{Records, Layout, State, layout_of, new_layout
 use Rattle.acc_base.specs.Register.{Register, holdings_at}
 use Rattle.acc_base.specs.Ranges.{range_of, ends_by}
 use Rattle.acc_base.specs.Clauses.{in_host, leave_row}
-use Rattle.acc_base.specs.Tasks.{recounted, judge_step, act}
+use Rattle.acc_base.specs.Queues.{head_of, queue_named}
+use Rattle.acc_base.specs.Tasks.{recounted}
+use Rattle.acc_base.specs.Transfers.{transfer_of, room_for}
+use Rattle.acc_base.specs.Steps.{judge_row, judge_step, act}
 use Rattle.acc_base.specs.Pointers.{judge_release}
 use Rattle.acc_base.specs.Acting.{judge_aim, judge_task, judge_all, act_state, after}
 use Rattle.acc_base.specs.Walk.{walk, walk_all, leave_tasks, register_after, holdings_of}
-use Rattle.acc_base.specs.Judge.{few_items, tasks_of, tasks_of_region, event_of, directive_event, host_write_event}
-use Rattle.acc_base.specs.Calls.{History, World, Verdict, Makes, judge, ticket, allowance, trace_room, world_after, new_world, bytes_brought, event_count, open_regions}
+use Rattle.acc_base.specs.Judge.{few_items, tasks_of, tasks_of_region, queue_in, step_verdict, verdict_of, directive_verdict, host_write_event}
+use Rattle.acc_base.specs.Calls.{History, World, judge, ticket, allowance, trace_room, world_after, new_world, bytes_brought, event_count, open_regions}
+use Rattle.acc_base.specs.Judge.{Verdict, Makes}
 use Rattle.acc_base.specs.History.{AreJudged, IsLegal, AreLegal}
 use Rattle.acc_base.specs.Accounts.{IsRegisterSound, IsTraced, IsHistoryLegal, IsAccounted}
 use Rattle.acc_base.proofs.Results.{bind_ok, then_ok, ok_same, refused_not}
@@ -86,32 +92,49 @@ region_tasks : (number : ℕ) (o : Option (List Holding)) (tasks : List Task) �
 region_tasks number None tasks e = cc
 region_tasks number (Some holdings) tasks e = (refl, same_tasks _ _ e)
 
-event_legal : (l : Limits) (d : Directive) (lay : Layout) (tasks : List Task) (dids : List Did) → tasks_of d lay.register ≡ Ok tasks → AreJudged l 0 tasks dids lay.records → IsLegal l (event_of d lay.register dids) lay
-event_legal l (Enter items) lay tasks dids e judged = record { names = refl; judged = subst (λ ts. AreJudged l 0 ts dids lay.records) (sym (same_tasks _ _ e)) judged }
-event_legal l (Exit number) lay tasks dids e judged =
-    let found : IsSome (holdings_at number lay.register.regions) × (leave_tasks (unwrap_or (holdings_at number lay.register.regions) []) ≡ tasks) = region_tasks number (holdings_at number lay.register.regions) tasks e in
-    record { names = found.0; judged = subst (λ ds. AreJudged l 0 (leave_tasks (unwrap_or (holdings_at number lay.register.regions) [])) ds lay.records) (sym (reverse-reverse dids)) (subst (λ ts. AreJudged l 0 ts dids lay.records) (sym found.1) judged) }
-event_legal l (EnterData items) lay tasks dids e judged = record { names = tt; judged = subst (λ ts. AreJudged l 0 ts dids lay.records) (sym (same_tasks _ _ e)) judged }
-event_legal l (ExitData items finalize) lay tasks dids e judged = record { names = tt; judged = subst (λ ts. AreJudged l 0 ts dids lay.records) (sym (same_tasks _ _ e)) judged }
-event_legal l (Update items if_present) lay tasks dids e judged = record { names = tt; judged = subst (λ ts. AreJudged l 0 ts dids lay.records) (sym (same_tasks _ _ e)) judged }
+same_event : (x e : Event) → Makes x ≡ Makes e → x ≡ e
+same_event x e h = cc
+
+-- the first transfer of a queue is there to be made
+step_legal : (l : Limits) (queue : ℕ) (s : State) (e : Event) → step_verdict queue (head_of queue s.records.queues) ≡ Makes e → IsLegal l e (layout_of s)
+step_legal l queue s e h = go (head_of queue s.records.queues) refl h
+  where
+    go : (o : Option Transfer) → head_of queue s.records.queues ≡ o → step_verdict queue o ≡ Makes e → IsLegal l e (layout_of s)
+    go None is made = cc
+    go (Some t) is made = subst (λ x. IsLegal l x (layout_of s)) (same_event _ _ made) (record { names = ap (option_map (λ (x : Transfer). x.block)) is; judged = tt })
+
+event_legal : (l : Limits) (d : Directive) (s : State) (tasks : List Task) (dids : List Did) (e : Event) → tasks_of d s.register ≡ Ok tasks → queue_named (queue_in d) ≡ Ok tt → AreJudged l 0 tasks dids s.records
+    → verdict_of d s dids ≡ Makes e → IsLegal l e (layout_of s)
+event_legal l (Enter items) s tasks dids e t q judged h = subst (λ x. IsLegal l x (layout_of s)) (same_event _ _ h) (record { names = refl; judged = subst (λ ts. AreJudged l 0 ts dids s.records) (sym (same_tasks _ _ t)) judged })
+event_legal l (Exit number) s tasks dids e t q judged h =
+    let found : IsSome (holdings_at number s.register.regions) × (leave_tasks (unwrap_or (holdings_at number s.register.regions) []) ≡ tasks) = region_tasks number (holdings_at number s.register.regions) tasks t in
+    subst (λ x. IsLegal l x (layout_of s)) (same_event _ _ h)
+    (record { names = found.0; judged = subst (λ ds. AreJudged l 0 (leave_tasks (unwrap_or (holdings_at number s.register.regions) [])) ds s.records) (sym (reverse-reverse dids)) (subst (λ ts. AreJudged l 0 ts dids s.records) (sym found.1) judged) })
+event_legal l (EnterData items queue) s tasks dids e t q judged h = subst (λ x. IsLegal l x (layout_of s)) (same_event _ _ h) (record { names = q; judged = subst (λ ts. AreJudged l 0 ts dids s.records) (sym (same_tasks _ _ t)) judged })
+event_legal l (ExitData items finalize queue) s tasks dids e t q judged h = subst (λ x. IsLegal l x (layout_of s)) (same_event _ _ h) (record { names = q; judged = subst (λ ts. AreJudged l 0 ts dids s.records) (sym (same_tasks _ _ t)) judged })
+event_legal l (Update items if_present queue) s tasks dids e t q judged h = subst (λ x. IsLegal l x (layout_of s)) (same_event _ _ h) (record { names = q; judged = subst (λ ts. AreJudged l 0 ts dids s.records) (sym (same_tasks _ _ t)) judged })
+event_legal l (Wait queue) s tasks dids e t q judged h = subst (λ x. IsLegal l x (layout_of s)) (same_event _ _ h) (record { names = (q, refl); judged = tt })
+event_legal l (directives.Step queue) s tasks dids e t q judged h = step_legal l queue s e h
 
 -- the event of a directive, with what its tasks did
-record IsMadeBy (l : Limits) (d : Directive) (lay : Layout) (e : Event) : Type 0 where
+record IsMadeBy (l : Limits) (d : Directive) (s : State) (e : Event) : Type 0 where
   dids : List Did
-  event_is : event_of d lay.register dids ≡ e
-  legal : IsLegal l e lay
+  verdict_is : verdict_of d s dids ≡ Makes e
+  legal : IsLegal l e (layout_of s)
 
-made_by : (l : Limits) (d : Directive) (s : State) (e : Event) → directive_event l d s ≡ Ok e → IsMadeBy l d (layout_of s) e
-unfolding directive_event
+made_by : (l : Limits) (d : Directive) (s : State) (e : Event) → directive_verdict l d s ≡ Ok (Makes e) → IsMadeBy l d s e
+unfolding directive_verdict
 made_by l d s e h =
-    let found : (ts : List Task) × (tasks_of d s.register ≡ Ok ts) × ((judge_all l 0 ts s >>= λ dids. Ok (event_of d s.register dids)) ≡ Ok e)
-    = bind_ok (tasks_of d s.register) (λ ts. judge_all l 0 ts s >>= λ dids. Ok (event_of d s.register dids)) e h in
-    let acted : (dids : List Did) × (judge_all l 0 found.0 s ≡ Ok dids) × (Ok (event_of d s.register dids) ≡ Ok e)
-    = bind_ok (judge_all l 0 found.0 s) (λ dids. Ok (event_of d s.register dids)) e found.2 in
-    let is : event_of d s.register acted.0 ≡ e = ok_same _ _ acted.2 in
-    record { dids = acted.0; event_is = is; legal = subst (λ x. IsLegal l x (layout_of s)) is (event_legal l d (layout_of s) found.0 acted.0 found.1 (judged_all l 0 found.0 acted.0 s acted.1)) }
+    let then : List Task → Result Verdict Fault = λ ts. judge_all l 0 ts s >>= λ dids. Ok (verdict_of d s dids) in
+    let found : (ts : List Task) × (tasks_of d s.register ≡ Ok ts) × ((queue_named (queue_in d) >> then ts) ≡ Ok (Makes e))
+    = bind_ok (tasks_of d s.register) (λ ts. queue_named (queue_in d) >> then ts) (Makes e) h in
+    let known : (queue_named (queue_in d) ≡ Ok tt) × (then found.0 ≡ Ok (Makes e)) = then_ok (queue_named (queue_in d)) (then found.0) (Makes e) found.2 in
+    let acted : (dids : List Did) × (judge_all l 0 found.0 s ≡ Ok dids) × (Ok (verdict_of d s dids) ≡ Ok (Makes e))
+    = bind_ok (judge_all l 0 found.0 s) (λ dids. Ok (verdict_of d s dids)) (Makes e) known.1 in
+    let is : verdict_of d s acted.0 ≡ Makes e = ok_same _ _ acted.2 in
+    record { dids = acted.0; verdict_is = is; legal = event_legal l d s found.0 acted.0 e found.1 known.0 (judged_all l 0 found.0 acted.0 s acted.1) is }
 
-pub directive_legal : (l : Limits) (d : Directive) (s : State) (e : Event) → directive_event l d s ≡ Ok e → IsLegal l e (layout_of s)
+pub directive_legal : (l : Limits) (d : Directive) (s : State) (e : Event) → directive_verdict l d s ≡ Ok (Makes e) → IsLegal l e (layout_of s)
 directive_legal l d s e h = (made_by l d s e h).legal
 
 host_write_legal : (l : Limits) (addr len : ℕ) (lay : Layout) (e : Event) → host_write_event l addr len ≡ Ok e → HostWritten addr len ≡ e × IsLegal l e lay
@@ -125,10 +148,10 @@ host_write_legal l addr len lay e h =
 -- ---- the exit from an open region is not refused
 
 leave_step : (l : Limits) (n : ℕ) (holding : Holding) (w : Records) → (step : Step) × (judge_step l n (Leave holding) w ≡ Ok step)
-unfolding judge_step
+unfolding judge_step judge_row
 leave_step l n holding w = go holding.block
   where
-    go : (o : Option ℕ) → (step : Step) × (leave_row o (recounted (Leave holding)) w ≡ Ok step)
+    go : (o : Option ℕ) → (step : Step) × ((leave_row o (recounted (Leave holding)) w >>= λ x. room_for l.queue_cap None (transfer_of (Leave holding) x w.ranges) w.queues >> Ok x) ≡ Ok step)
     go None = (Nothing, refl)
     go (Some block) = (Dropped block (ends_by (recounted (Leave holding)) block w.ranges), refl)
 
@@ -146,11 +169,11 @@ leave_all l n (holding ∷ holdings) s =
     let others : (dids : List Did) × (judge_all l (suc n) (map Leave holdings) (act_state (Leave holding) first.0 s) ≡ Ok dids) = leave_all l (suc n) holdings (act_state (Leave holding) first.0 s) in
     (first.0 ∷ others.0, rw (first.1, others.1))
 
-pub exit_accepted : (l : Limits) (number : ℕ) (holdings : List Holding) (s : State) → holdings_at number s.register.regions ≡ Some holdings → (e : Event) × (directive_event l (Exit number) s ≡ Ok e)
-unfolding directive_event
+pub exit_accepted : (l : Limits) (number : ℕ) (holdings : List Holding) (s : State) → holdings_at number s.register.regions ≡ Some holdings → (e : Event) × (directive_verdict l (Exit number) s ≡ Ok (Makes e))
+unfolding directive_verdict
 exit_accepted l number holdings s e =
     let left : (dids : List Did) × (judge_all l 0 (leave_tasks holdings) s ≡ Ok dids) = leave_all l 0 (reverse holdings) s in
-    (event_of (Exit number) s.register left.0, rw (e, left.1))
+    (Left number (reverse left.0), rw (e, left.1))
 
 -- ---- an accepted call
 
@@ -158,9 +181,11 @@ exit_accepted l number holdings s e =
 abbrev pub HasRoom : ℕ → ℕ → Event → Type 0
 HasRoom most regions (Entered number items did) = (length items ≤ 64) × (regions < most)
 HasRoom most regions (Left number did) = ⊤
-HasRoom most regions (EnteredData items did) = ⊤
-HasRoom most regions (ExitedData items finalize did) = ⊤
-HasRoom most regions (Updated items if_present did) = ⊤
+HasRoom most regions (EnteredData items queue did) = ⊤
+HasRoom most regions (ExitedData items finalize queue did) = ⊤
+HasRoom most regions (Updated items if_present queue did) = ⊤
+HasRoom most regions (Waited queue count) = ⊤
+HasRoom most regions (Stepped queue block) = ⊤
 HasRoom most regions (HostWritten addr len) = ⊤
 
 -- what an accepted call's event finds: a ticket, places in the trace and the register, and a layout in which it is legal
@@ -176,15 +201,21 @@ below_limit most n e = grind (arith, nat_tests)
 at_most : (most n : ℕ) → nat_lt most n ≡ false → n ≤ most
 at_most most n e = grind (arith, nat_tests)
 
-room_for : (w : World) (d : Directive) (dids : List Did) → allowance w d ≡ Ok tt → few_items d ≡ Ok tt → HasRoom w.limits.regions (open_regions w.state) (event_of d w.state.register dids)
-room_for w (Enter items) dids a f = (at_most 64 (length items) (refused_not _ _ f), below_limit w.limits.regions (open_regions w.state) (refused_not _ _ a))
-room_for w (Exit number) dids a f = tt
-room_for w (EnterData items) dids a f = tt
-room_for w (ExitData items finalize) dids a f = tt
-room_for w (Update items if_present) dids a f = tt
+some_room : (w : World) (d : Directive) (dids : List Did) (e : Event) → allowance w d ≡ Ok tt → few_items d ≡ Ok tt → verdict_of d w.state dids ≡ Makes e → HasRoom w.limits.regions (open_regions w.state) e
+some_room w (Enter items) dids e a f h = subst (HasRoom w.limits.regions (open_regions w.state)) (same_event _ _ h) (at_most 64 (length items) (refused_not _ _ f), below_limit w.limits.regions (open_regions w.state) (refused_not _ _ a))
+some_room w (Exit number) dids e a f h = subst (HasRoom w.limits.regions (open_regions w.state)) (same_event _ _ h) tt
+some_room w (EnterData items queue) dids e a f h = subst (HasRoom w.limits.regions (open_regions w.state)) (same_event _ _ h) tt
+some_room w (ExitData items finalize queue) dids e a f h = subst (HasRoom w.limits.regions (open_regions w.state)) (same_event _ _ h) tt
+some_room w (Update items if_present queue) dids e a f h = subst (HasRoom w.limits.regions (open_regions w.state)) (same_event _ _ h) tt
+some_room w (Wait queue) dids e a f h = subst (HasRoom w.limits.regions (open_regions w.state)) (same_event _ _ h) tt
+some_room w (directives.Step queue) dids e a f h = go (head_of queue w.state.records.queues) h
+  where
+    go : (o : Option Transfer) → step_verdict queue o ≡ Makes e → HasRoom w.limits.regions (open_regions w.state) e
+    go None made = cc
+    go (Some t) made = subst (HasRoom w.limits.regions (open_regions w.state)) (same_event _ _ made) tt
 
-same_event : (x e : Event) → ◌≡◌ {A = Result Verdict Fault} (Ok (Makes x)) (Ok (Makes e)) → x ≡ e
-same_event x e h = cc
+made_same : (x e : Event) → ◌≡◌ {A = Result Verdict Fault} (Ok (Makes x)) (Ok (Makes e)) → x ≡ e
+made_same x e h = cc
 
 -- the verdict on an event
 abbrev makes : Result Event Fault → Result Verdict Fault
@@ -193,21 +224,21 @@ makes r = r >>= λ e. Ok (Makes e)
 made : (r : Result Event Fault) (e : Event) → makes r ≡ Ok (Makes e) → r ≡ Ok e
 made r e h =
     let found : (x : Event) × (r ≡ Ok x) × (Ok (Makes x) ≡ Ok (Makes e)) = bind_ok r (λ x. Ok (Makes x)) (Makes e) h in
-    subst (λ y. r ≡ Ok y) (same_event found.0 e found.2) found.1
+    subst (λ y. r ≡ Ok y) (made_same found.0 e found.2) found.1
 
 pub accepted : (w : World) (call : Call) (e : Event) → judge w call ≡ Ok (Makes e) → IsAccepted w e
 unfolding judge
 accepted w (Do d) e h =
-    let last : Result Verdict Fault = makes (directive_event w.limits d w.state) in
+    let last : Result Verdict Fault = directive_verdict w.limits d w.state in
     let first : (ticket w ≡ Ok tt) × ((allowance w d >> (few_items d >> (trace_room w >> last))) ≡ Ok (Makes e)) = then_ok (ticket w) (allowance w d >> (few_items d >> (trace_room w >> last))) (Makes e) h in
     let second : (allowance w d ≡ Ok tt) × ((few_items d >> (trace_room w >> last)) ≡ Ok (Makes e)) = then_ok (allowance w d) (few_items d >> (trace_room w >> last)) (Makes e) first.1 in
     let third : (few_items d ≡ Ok tt) × ((trace_room w >> last) ≡ Ok (Makes e)) = then_ok (few_items d) (trace_room w >> last) (Makes e) second.1 in
     let fourth : (trace_room w ≡ Ok tt) × (last ≡ Ok (Makes e)) = then_ok (trace_room w) last (Makes e) third.1 in
-    let by : IsMadeBy w.limits d (layout_of w.state) e = made_by w.limits d w.state e (made _ e fourth.1) in
+    let by : IsMadeBy w.limits d w.state e = made_by w.limits d w.state e fourth.1 in
     record {
       tickets = below_limit w.limits.tickets (event_count w.history) (refused_not _ _ first.0);
       trace = below_limit w.limits.trace_cap (length w.history.trace) (refused_not _ _ fourth.0);
-      room = subst (HasRoom w.limits.regions (open_regions w.state)) by.event_is (room_for w d by.dids second.0 third.0);
+      room = some_room w d by.dids e second.0 third.0 by.verdict_is;
       legal = by.legal;
     }
 accepted w (HostWrite addr bytes) e h =
@@ -230,17 +261,21 @@ numbered g h = record { first = h.first; rising = h.rising; known = h.known }
 few_after : (most regions : ℕ) (e : Event) (g : Register) → IsRegisterSound g → HasRoom most regions e → AreFew (register_after e g)
 few_after most regions (Entered number items did) g h room = opened_few (holdings_of items did) g (numbered g h) h.few (omega (arith, holdings_short items did, room.0))
 few_after most regions (Left number did) g h room = closed_few number g h.few
-few_after most regions (EnteredData items did) g h room = h.few
-few_after most regions (ExitedData items finalize did) g h room = h.few
-few_after most regions (Updated items if_present did) g h room = h.few
+few_after most regions (EnteredData items queue did) g h room = h.few
+few_after most regions (ExitedData items finalize queue did) g h room = h.few
+few_after most regions (Updated items if_present queue did) g h room = h.few
+few_after most regions (Waited queue count) g h room = h.few
+few_after most regions (Stepped queue block) g h room = h.few
 few_after most regions (HostWritten addr len) g h room = h.few
 
 regions_after : (most : ℕ) (e : Event) (g : Register) → IsRegisterSound g → HasRoom most (length g.regions) e → length g.regions ≤ most → length (register_after e g).regions ≤ most
 regions_after most (Entered number items did) g h room le = omega (arith, opened_count (holdings_of items did) g (numbered g h), room.1)
 regions_after most (Left number did) g h room le = omega (arith, closed_count number g)
-regions_after most (EnteredData items did) g h room le = le
-regions_after most (ExitedData items finalize did) g h room le = le
-regions_after most (Updated items if_present did) g h room le = le
+regions_after most (EnteredData items queue did) g h room le = le
+regions_after most (ExitedData items finalize queue did) g h room le = le
+regions_after most (Updated items if_present queue did) g h room le = le
+regions_after most (Waited queue count) g h room le = le
+regions_after most (Stepped queue block) g h room le = le
 regions_after most (HostWritten addr len) g h room le = le
 
 register-after : (e : Event) (brought : List ℕ) (s : State) → (after e brought s).register ≡ register_after e s.register

@@ -1,5 +1,5 @@
 -- What attaching and detaching a pointer leaves: the records stay sound, and memories keep their lengths.
-use Rattle.std.proofs.Common.{ℕ, ◌≡◌, ◌+◌, ◌-◌, ◌≤◌, refl, sym, ◌∙◌, ap, subst, Bool, true, false, cond, List, [], ◌∷◌, Option, Some, None, arith}
+use Rattle.std.proofs.Common.{ℕ, ◌≡◌, ◌+◌, ◌-◌, ◌≤◌, refl, sym, ◌∙◌, ap, subst, Bool, true, false, cond, List, [], ◌∷◌, Option, Some, None, Ok, arith}
 use Rattle.std.specs.Prelude.{◌==◌, IsSome}
 use Rattle.std.specs.List.{AllByRecursion}
 use Rattle.acc_base.specs.declared.mappings.Range.{Range}
@@ -25,7 +25,9 @@ use Rattle.acc_base.specs.Blocks.{block_at}
 use Rattle.acc_base.specs.Attachments.{pointer_at, is_before, count_at, with_attachment, without_attachment, with_count, detach, attached_by}
 use Rattle.acc_base.specs.Records.{Records}
 use Rattle.acc_base.specs.Pointers.{block_in, block_with, detach_there, judge_detach, release_there, judge_release}
-use Rattle.acc_base.specs.Tasks.{pointer_aimed, records_aimed, act_step, act}
+use Rattle.acc_base.specs.Tasks.{queue_of}
+use Rattle.acc_base.specs.Transfers.{transfer_of, room_for}
+use Rattle.acc_base.specs.Steps.{pointer_aimed, records_aimed, act_step, act}
 use Rattle.acc_base.specs.Acting.{detach_if}
 use Rattle.acc_base.specs.History.{IsAttachLegal, IsAimLegal}
 use Rattle.acc_base.specs.Accounts.{IsMapped, AreAttachmentsSound, AreRecordsSound}
@@ -34,7 +36,7 @@ use Rattle.acc_base.proofs.Elements.{AllByRecursion-filter, found_has}
 use Rattle.acc_base.proofs.Where.{IsInsideOf, inside_says}
 use Rattle.acc_base.proofs.Attached.{rising-attached_by, rising-with_count, counted-with_count, detached_within}
 use Rattle.acc_base.proofs.Judged.{IsJudgedTo}
-use Rattle.acc_base.proofs.Sound.{acted_sound}
+use Rattle.acc_base.proofs.Puts.{acted_sound}
 use Rattle.acc_base.proofs.Recounted.{moved_by, names, counter-act}
 
 -- ---- the block of a pointer is there
@@ -79,7 +81,7 @@ there-with_count blocks block pointer count xs n h = go (count == 0)
 
 -- with these counters
 with_attached : (l : Limits) (w : Records) (xs : List Attachment) → AreRecordsSound l w → AreAttachmentsSound l w.blocks xs → AreRecordsSound l (record w { attached = xs })
-with_attached l w xs h k = record { ranges_apart = h.ranges_apart; blocks_apart = record { on_device = h.blocks_apart.on_device; apart = h.blocks_apart.apart; born = h.blocks_apart.born }; one_block_each = record { mapped = h.one_block_each.mapped; distinct = h.one_block_each.distinct; in_use = h.one_block_each.in_use }; counted = h.counted; attached = k }
+with_attached l w xs h k = record { ranges_apart = h.ranges_apart; blocks_apart = record { on_device = h.blocks_apart.on_device; apart = h.blocks_apart.apart; born = h.blocks_apart.born }; one_block_each = record { mapped = h.one_block_each.mapped; distinct = h.one_block_each.distinct; in_use = h.one_block_each.in_use }; counted = h.counted; attached = k; queues = h.queues }
 
 -- the block that an attachment or a detachment names
 abbrev pub aimed_block : Aim → Option ℕ
@@ -166,15 +168,15 @@ legal_attach_sound l named (aims.Cleared pointer block) w bounds h legal = absur
 pub leave_sound : (l : Limits) (holding : Holding) (did : Did) (w : Records) → AreRecordsSound l w → IsAimLegal l (Leave holding) did w → AreRecordsSound l (records_aimed did.aim w)
 leave_sound l holding did w h legal = subst (λ a. AreRecordsSound l (records_aimed a w)) (sym legal) (judged_release_sound l holding.aim w h)
 
-pub exit_sound : (l : Limits) (finalize : Bool) (item : Item ExitClause) (did : Did) (w : Records) → AreRecordsSound l w → IsAimLegal l (Exit finalize item) did w → AreRecordsSound l (records_aimed did.aim w)
-exit_sound l finalize item did w h legal = subst (λ a. AreRecordsSound l (records_aimed a w)) (sym legal) (go (pointer_aimed (Exit finalize item) did.step))
+pub exit_sound : (l : Limits) (finalize : Bool) (item : Item ExitClause) (queue : Option ℕ) (did : Did) (w : Records) → AreRecordsSound l w → IsAimLegal l (Exit finalize item queue) did w → AreRecordsSound l (records_aimed did.aim w)
+exit_sound l finalize item queue did w h legal = subst (λ a. AreRecordsSound l (records_aimed a w)) (sym legal) (go (pointer_aimed (Exit finalize item queue) did.step))
   where
     go : (o : Option ℕ) → AreRecordsSound l (records_aimed (detach_if finalize o w) w)
     go None = none_sound l w h
     go (Some pointer) = judged_detach_sound l finalize pointer w h
 
-pub move_sound : (l : Limits) (if_present : Bool) (item : Item UpdateClause) (did : Did) (w : Records) → AreRecordsSound l w → IsAimLegal l (Move if_present item) did w → AreRecordsSound l (records_aimed did.aim w)
-move_sound l if_present item did w h legal = subst (λ a. AreRecordsSound l (records_aimed a w)) (sym legal) (none_sound l w h)
+pub move_sound : (l : Limits) (if_present : Bool) (item : Item UpdateClause) (queue : Option ℕ) (did : Did) (w : Records) → AreRecordsSound l w → IsAimLegal l (Move if_present item queue) did w → AreRecordsSound l (records_aimed did.aim w)
+move_sound l if_present item queue did w h legal = subst (λ a. AreRecordsSound l (records_aimed a w)) (sym legal) (none_sound l w h)
 
 -- the block that a legal attachment or detachment names is there
 pub attach_block : (l : Limits) (named : Option ℕ) (aim : Aim) (w : Records) → AreRecordsSound l w → IsAttachLegal l named aim w → IsAimThere w.blocks aim
@@ -214,27 +216,27 @@ exit_block l finalize (Some pointer) w h = go (block_with pointer w.ranges) refl
 
 -- what a step says does not read the attachment counters
 pub says_aimed : (l : Limits) (task : Task) (step : Step) (aim : Aim) (w : Records) → IsJudgedTo l task step w → IsJudgedTo l task step (records_aimed aim w)
-says_aimed l (Enter counter item) Nothing aim w says = tt
-says_aimed l (Enter counter item) (Counted k) aim w says = record { mapped = says.mapped; room = says.room }
-says_aimed l (Enter counter item) (Born k p) aim w says = record { number = says.number; place_is = says.place_is; absent = says.absent; within = says.within }
-says_aimed l (Enter counter item) (Dropped k ended) aim w says = absurd says
-says_aimed l (Enter counter item) (Moved k) aim w says = absurd says
+says_aimed l (Enter counter item queue) Nothing aim w says = tt
+says_aimed l (Enter counter item queue) (Counted k) aim w says = record { mapped = says.mapped; room = says.room }
+says_aimed l (Enter counter item queue) (Born k p) aim w says = record { number = says.number; place_is = says.place_is; absent = says.absent; within = says.within }
+says_aimed l (Enter counter item queue) (Dropped k ended) aim w says = absurd says
+says_aimed l (Enter counter item queue) (Moved k) aim w says = absurd says
 says_aimed l (Leave holding) Nothing aim w says = says
 says_aimed l (Leave holding) (Counted k) aim w says = absurd says
 says_aimed l (Leave holding) (Born k p) aim w says = absurd says
 says_aimed l (Leave holding) (Dropped k ended) aim w says = says
 says_aimed l (Leave holding) (Moved k) aim w says = absurd says
-says_aimed l (Exit finalize item) Nothing aim w says = tt
-says_aimed l (Exit finalize item) (Counted k) aim w says = absurd says
-says_aimed l (Exit finalize item) (Born k p) aim w says = absurd says
-says_aimed l (Exit finalize item) (Dropped k ended) aim w says =
+says_aimed l (Exit finalize item queue) Nothing aim w says = tt
+says_aimed l (Exit finalize item queue) (Counted k) aim w says = absurd says
+says_aimed l (Exit finalize item queue) (Born k p) aim w says = absurd says
+says_aimed l (Exit finalize item queue) (Dropped k ended) aim w says =
     record { range = record { offset = says.range.offset; inside = says.range.inside; within = says.range.within; some = says.range.some; mapped = says.range.mapped }; some = says.some; ended_is = says.ended_is }
-says_aimed l (Exit finalize item) (Moved k) aim w says = absurd says
-says_aimed l (Move if_present item) Nothing aim w says = tt
-says_aimed l (Move if_present item) (Counted k) aim w says = absurd says
-says_aimed l (Move if_present item) (Born k p) aim w says = absurd says
-says_aimed l (Move if_present item) (Dropped k ended) aim w says = absurd says
-says_aimed l (Move if_present item) (Moved k) aim w says = record { offset = says.offset; inside = says.inside; within = says.within; some = says.some; mapped = says.mapped }
+says_aimed l (Exit finalize item queue) (Moved k) aim w says = absurd says
+says_aimed l (Move if_present item queue) Nothing aim w says = tt
+says_aimed l (Move if_present item queue) (Counted k) aim w says = absurd says
+says_aimed l (Move if_present item queue) (Born k p) aim w says = absurd says
+says_aimed l (Move if_present item queue) (Dropped k ended) aim w says = absurd says
+says_aimed l (Move if_present item queue) (Moved k) aim w says = record { offset = says.offset; inside = says.inside; within = says.within; some = says.some; mapped = says.mapped }
 
 -- what a task leaves of sound records: sound records, and both reference counters of every block
 pub record IsLeft (l : Limits) (task : Task) (did : Did) (w v : Records) : Type 0 where
@@ -242,18 +244,18 @@ pub record IsLeft (l : Limits) (task : Task) (did : Did) (w v : Records) : Type 
   pub counter_is : (counter : Counter) (b : ℕ) → counter_of counter b v.ranges ≡ cond (names b did.step) (moved_by counter task (counter_of counter b w.ranges)) (counter_of counter b w.ranges)
 
 -- the step of a task, after a detachment
-then_left : (l : Limits) (task : Task) (did : Did) (w : Records) → IsWithinBounds l → AreRecordsSound l (records_aimed did.aim w) → IsJudgedTo l task did.step w → IsLeft l task did w (act_step task did.step (records_aimed did.aim w))
-then_left l task did w bounds h says = record {
-  sound = acted_sound l task did.step (records_aimed did.aim w) bounds (says_aimed l task did.step did.aim w says) h;
+then_left : (l : Limits) (task : Task) (did : Did) (w : Records) → IsWithinBounds l → AreRecordsSound l (records_aimed did.aim w) → IsJudgedTo l task did.step w → room_for l.queue_cap (queue_of task) (transfer_of task did.step w.ranges) w.queues ≡ Ok tt → IsLeft l task did w (act_step task did.step (records_aimed did.aim w))
+then_left l task did w bounds h says room = record {
+  sound = acted_sound l task did.step (records_aimed did.aim w) bounds (says_aimed l task did.step did.aim w says) room h;
   counter_is = λ counter b. counter-act l task did.step (records_aimed did.aim w) counter b h (says_aimed l task did.step did.aim w says);
 }
 
-pub task_left : (l : Limits) (task : Task) (did : Did) (w : Records) → IsWithinBounds l → AreRecordsSound l w → IsJudgedTo l task did.step w → IsAimLegal l task did w → IsLeft l task did w (act task did w)
+pub task_left : (l : Limits) (task : Task) (did : Did) (w : Records) → IsWithinBounds l → AreRecordsSound l w → IsJudgedTo l task did.step w → room_for l.queue_cap (queue_of task) (transfer_of task did.step w.ranges) w.queues ≡ Ok tt → IsAimLegal l task did w → IsLeft l task did w (act task did w)
 unfolding act
-task_left l (Enter counter item) did w bounds h says legal = record {
-  sound = legal_attach_sound l (pointer_aimed (Enter counter item) did.step) did.aim (act_step (Enter counter item) did.step w) bounds (acted_sound l (Enter counter item) did.step w bounds says h) legal;
-  counter_is = λ one b. counter-act l (Enter counter item) did.step w one b h says;
+task_left l (Enter counter item queue) did w bounds h says room legal = record {
+  sound = legal_attach_sound l (pointer_aimed (Enter counter item queue) did.step) did.aim (act_step (Enter counter item queue) did.step w) bounds (acted_sound l (Enter counter item queue) did.step w bounds says room h) legal;
+  counter_is = λ one b. counter-act l (Enter counter item queue) did.step w one b h says;
 }
-task_left l (Leave holding) did w bounds h says legal = then_left l (Leave holding) did w bounds (leave_sound l holding did w h legal) says
-task_left l (Exit finalize item) did w bounds h says legal = then_left l (Exit finalize item) did w bounds (exit_sound l finalize item did w h legal) says
-task_left l (Move if_present item) did w bounds h says legal = then_left l (Move if_present item) did w bounds (move_sound l if_present item did w h legal) says
+task_left l (Leave holding) did w bounds h says room legal = then_left l (Leave holding) did w bounds (leave_sound l holding did w h legal) says room
+task_left l (Exit finalize item queue) did w bounds h says room legal = then_left l (Exit finalize item queue) did w bounds (exit_sound l finalize item queue did w h legal) says room
+task_left l (Move if_present item queue) did w bounds h says room legal = then_left l (Move if_present item queue) did w bounds (move_sound l if_present item queue did w h legal) says room

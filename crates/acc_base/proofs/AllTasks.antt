@@ -1,5 +1,5 @@
 -- What the tasks of a directive, each judged in what those before it left, leave of both counters of every block.
-use Rattle.std.proofs.Common.{ℕ, suc, ◌≡◌, ◌+◌, ◌-◌, refl, sym, ◌∙◌, ap, Bool, true, false, cond, List, [], ◌∷◌, ◌++◌, arith}
+use Rattle.std.proofs.Common.{ℕ, suc, ◌≡◌, ◌+◌, ◌-◌, refl, sym, ◌∙◌, ap, Bool, true, false, cond, List, [], ◌∷◌, ◌++◌, Option, arith}
 use Rattle.std.specs.Prelude.{map, reverse, fold, sum_by, if◌then◌else◌}
 use Rattle.std.specs.List.{AllZip}
 use Rattle.std.proofs.lemmas.Grind.{reverse_onto}
@@ -19,11 +19,11 @@ use Rattle.acc_base.specs.Limits.{Limits, IsWithinBounds}
 use Rattle.acc_base.specs.Records.{Records}
 use Rattle.acc_base.specs.Register.{is_counted_block, count_held}
 use Rattle.acc_base.specs.Ranges.{counter_of}
-use Rattle.acc_base.specs.Tasks.{act, act_all}
-use Rattle.acc_base.specs.Walk.{enter_task, block_counted, pointer_attached, holdings_of}
+use Rattle.acc_base.specs.Steps.{act, act_all}
+use Rattle.acc_base.specs.Walk.{enter_task, exit_task, block_counted, pointer_attached, holdings_of}
 use Rattle.acc_base.specs.History.{counts, drops, count_counted, count_dropped, dynamic_dropped, AreJudged}
 use Rattle.acc_base.specs.Accounts.{AreRecordsSound}
-use Rattle.acc_base.proofs.Judged.{IsJudgedTo, task_says}
+use Rattle.acc_base.proofs.Judged.{IsJudgedTo, IsJudgedStep, step_judged, task_says}
 use Rattle.acc_base.proofs.Recounted.{moved_by, names}
 use Rattle.acc_base.proofs.Aimed.{IsLeft, task_left}
 
@@ -45,7 +45,7 @@ all_left l n [] [] w bounds h judged = record { sound = h; counter_is = λ count
 all_left l n [] (did ∷ dids) w bounds h judged = absurd judged
 all_left l n (task ∷ tasks) [] w bounds h judged = absurd judged
 all_left l n (task ∷ tasks) (did ∷ dids) w bounds h judged =
-    let first : IsLeft l task did w (act task did w) = task_left l task did w bounds h (task_says l n task w did.step judged.0) judged.1 in
+    let first : IsLeft l task did w (act task did w) = task_left l task did w bounds h (task_says l n task w did.step judged.0) (step_judged l n task w did.step judged.0).room judged.1 in
     let later : AreLeft l tasks dids (act task did w) (act_all tasks dids (act task did w)) = all_left l (suc n) tasks dids (act task did w) bounds first.sound judged.2 in
     record { sound = later.sound; counter_is = λ counter b. later.counter_is counter b ∙ ap (λ m. recount counter b tasks dids m) (first.counter_is counter b) }
 
@@ -76,27 +76,27 @@ one_more : (t : Bool) (n : ℕ) → cond t (n + 1) n ≡ n + cond t 1 0
 one_more true n = refl
 one_more false n = omega arith
 
-enter_names : (l : Limits) (counter : Counter) (item : Item RegionClause) (b : ℕ) (step : Step) (w : Records) → IsJudgedTo l (Enter counter item) step w → names b step ≡ counts b step
-enter_names l counter item b Nothing w says = refl
-enter_names l counter item b (Counted k) w says = refl
-enter_names l counter item b (Born k p) w says = refl
-enter_names l counter item b (Dropped k ended) w says = absurd says
-enter_names l counter item b (Moved k) w says = refl
+enter_names : (l : Limits) (counter : Counter) (item : Item RegionClause) (queue : Option ℕ) (b : ℕ) (step : Step) (w : Records) → IsJudgedTo l (Enter counter item queue) step w → names b step ≡ counts b step
+enter_names l counter item queue b Nothing w says = refl
+enter_names l counter item queue b (Counted k) w says = refl
+enter_names l counter item queue b (Born k p) w says = refl
+enter_names l counter item queue b (Dropped k ended) w says = absurd says
+enter_names l counter item queue b (Moved k) w says = refl
 
-enter_moved : (counter : Counter) (item : Item RegionClause) (n : ℕ) → moved_by counter (Enter counter item) n ≡ n + 1
-enter_moved Structured item n = refl
-enter_moved Dynamic item n = refl
+enter_moved : (counter : Counter) (item : Item RegionClause) (queue : Option ℕ) (n : ℕ) → moved_by counter (Enter counter item queue) n ≡ n + 1
+enter_moved Structured item queue n = refl
+enter_moved Dynamic item queue n = refl
 
-pub entered_recount : {X : Type 0} (l : Limits) (counter : Counter) (b : ℕ) (f : X → Item RegionClause) (items : List X) (dids : List Did) (n : ℕ) → AreSaid l (map (λ x. Enter counter (f x)) items) dids
-    → recount counter b (map (λ x. Enter counter (f x)) items) dids n ≡ n + count_counted b dids
-entered_recount l counter b f [] [] n said = omega arith
-entered_recount l counter b f [] (did ∷ dids) n said = absurd said
-entered_recount l counter b f (x ∷ xs) [] n said = absurd said
-entered_recount l counter b f (x ∷ xs) (did ∷ dids) n said =
-    let later : recount counter b (map (λ y. Enter counter (f y)) xs) dids (cond (names b did.step) (moved_by counter (Enter counter (f x)) n) n) ≡ cond (names b did.step) (moved_by counter (Enter counter (f x)) n) n + count_counted b dids
-    = entered_recount l counter b f xs dids (cond (names b did.step) (moved_by counter (Enter counter (f x)) n) n) said.1 in
-    let moved : cond (names b did.step) (moved_by counter (Enter counter (f x)) n) n ≡ n + cond (counts b did.step) 1 0
-    = ap (λ m. cond (names b did.step) m n) (enter_moved counter (f x) n) ∙ (ap (λ t. cond t (n + 1) n) (enter_names l counter (f x) b did.step said.0.0 said.0.1) ∙ one_more (counts b did.step) n) in
+pub entered_recount : {X : Type 0} (l : Limits) (counter : Counter) (b : ℕ) (f : X → Item RegionClause) (queue : Option ℕ) (items : List X) (dids : List Did) (n : ℕ) → AreSaid l (map (λ x. Enter counter (f x) queue) items) dids
+    → recount counter b (map (λ x. Enter counter (f x) queue) items) dids n ≡ n + count_counted b dids
+entered_recount l counter b f queue [] [] n said = omega arith
+entered_recount l counter b f queue [] (did ∷ dids) n said = absurd said
+entered_recount l counter b f queue (x ∷ xs) [] n said = absurd said
+entered_recount l counter b f queue (x ∷ xs) (did ∷ dids) n said =
+    let later : recount counter b (map (λ y. Enter counter (f y) queue) xs) dids (cond (names b did.step) (moved_by counter (Enter counter (f x) queue) n) n) ≡ cond (names b did.step) (moved_by counter (Enter counter (f x) queue) n) n + count_counted b dids
+    = entered_recount l counter b f queue xs dids (cond (names b did.step) (moved_by counter (Enter counter (f x) queue) n) n) said.1 in
+    let moved : cond (names b did.step) (moved_by counter (Enter counter (f x) queue) n) n ≡ n + cond (counts b did.step) 1 0
+    = ap (λ m. cond (names b did.step) m n) (enter_moved counter (f x) queue n) ∙ (ap (λ t. cond t (n + 1) n) (enter_names l counter (f x) queue b did.step said.0.0 said.0.1) ∙ one_more (counts b did.step) n) in
     let all_of : count_counted b (did ∷ dids) ≡ cond (counts b did.step) 1 0 + count_counted b dids = sum_by-cons (λ (d : Did). cond (counts b d.step) 1 0) did dids in
     later ∙ (ap (λ m. m + count_counted b dids) moved ∙ omega arith)
 
@@ -119,21 +119,21 @@ held-entered l b (item ∷ items) (did ∷ dids) said =
 
 -- ---- `exit data`
 
-exit_names : (l : Limits) (finalize : Bool) (item : Item ExitClause) (b : ℕ) (step : Step) (w : Records) → IsJudgedTo l (Exit finalize item) step w → names b step ≡ drops b step
-exit_names l finalize item b Nothing w says = refl
-exit_names l finalize item b (Counted k) w says = absurd says
-exit_names l finalize item b (Born k p) w says = absurd says
-exit_names l finalize item b (Dropped k ended) w says = refl
-exit_names l finalize item b (Moved k) w says = refl
+exit_names : (l : Limits) (finalize : Bool) (item : Item ExitClause) (queue : Option ℕ) (b : ℕ) (step : Step) (w : Records) → IsJudgedTo l (Exit finalize item queue) step w → names b step ≡ drops b step
+exit_names l finalize item queue b Nothing w says = refl
+exit_names l finalize item queue b (Counted k) w says = absurd says
+exit_names l finalize item queue b (Born k p) w says = absurd says
+exit_names l finalize item queue b (Dropped k ended) w says = refl
+exit_names l finalize item queue b (Moved k) w says = refl
 
-pub exited_recount : (l : Limits) (b : ℕ) (finalize : Bool) (items : List (Item ExitClause)) (dids : List Did) (n : ℕ) → AreSaid l (map (Exit finalize) items) dids
-    → recount Dynamic b (map (Exit finalize) items) dids n ≡ fold (dynamic_dropped finalize b) n dids
-exited_recount l b finalize [] [] n said = refl
-exited_recount l b finalize [] (did ∷ dids) n said = absurd said
-exited_recount l b finalize (item ∷ items) [] n said = absurd said
-exited_recount l b finalize (item ∷ items) (did ∷ dids) n said =
-    exited_recount l b finalize items dids (cond (names b did.step) (if finalize then 0 else n - 1) n) said.1
-    ∙ ap (λ t. fold (dynamic_dropped finalize b) (cond t (if finalize then 0 else n - 1) n) dids) (exit_names l finalize item b did.step said.0.0 said.0.1)
+pub exited_recount : (l : Limits) (b : ℕ) (finalize : Bool) (queue : Option ℕ) (items : List (Item ExitClause)) (dids : List Did) (n : ℕ) → AreSaid l (map (exit_task finalize queue) items) dids
+    → recount Dynamic b (map (exit_task finalize queue) items) dids n ≡ fold (dynamic_dropped finalize b) n dids
+exited_recount l b finalize queue [] [] n said = refl
+exited_recount l b finalize queue [] (did ∷ dids) n said = absurd said
+exited_recount l b finalize queue (item ∷ items) [] n said = absurd said
+exited_recount l b finalize queue (item ∷ items) (did ∷ dids) n said =
+    exited_recount l b finalize queue items dids (cond (names b did.step) (if finalize then 0 else n - 1) n) said.1
+    ∙ ap (λ t. fold (dynamic_dropped finalize b) (cond t (if finalize then 0 else n - 1) n) dids) (exit_names l finalize item queue b did.step said.0.0 said.0.1)
 
 -- ---- exit from a region
 

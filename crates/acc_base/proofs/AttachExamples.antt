@@ -17,7 +17,7 @@ use Rattle.acc_base.specs.declared.events.Did.{Did}
 use Rattle.acc_base.specs.declared.events.Event.TheVariants.{Entered, Left, EnteredData, ExitedData, HostWritten}
 use Rattle.acc_base.specs.declared.faults.Fault.TheVariants.{OutOfHost, Misaligned, PartlyPresent, CounterFull}
 use Rattle.acc_base.specs.Limits.{Limits}
-use Rattle.acc_base.specs.Tasks.{did_of}
+use Rattle.acc_base.specs.Steps.{did_of}
 use Rattle.acc_base.specs.History.{attached_in}
 use Rattle.acc_base.proofs.Runs.{ran_with, at, item, enter_of, exit_of, enter_data_of, exit_data_of, finalize_of, update_of, memory}
 
@@ -98,10 +98,10 @@ abbrev detached : List Call
 detached = aimed_elsewhere ++ exit_data_of (alone exit.Detach ∷ []) ∷ exit_data_of (alone exit.Detach ∷ []) ∷ []
 
 detached_told : (ran_with limits detached).world.history.trace
-    ≡ HostWritten 0x1008 8 ∷ EnteredData (item enter.Copyin structure ∷ item enter.Copyin first ∷ item enter.Copyin second ∷ []) (did_of (Born 1 0x1_0000_0000) ∷ did_of (Born 2 0x1_0000_0010) ∷ did_of (Born 3 0x1_0000_0020) ∷ [])
-    ∷ EnteredData (alone enter.Attach ∷ []) (did Nothing (aims.New 0x1008 1 0x1_0000_0010) ∷ []) ∷ EnteredData (alone enter.Attach ∷ []) (did Nothing (aims.Again 0x1008 1) ∷ [])
-    ∷ HostWritten 0x1008 8 ∷ EnteredData (alone enter.Attach ∷ []) (did Nothing (aims.New 0x1008 1 0x1_0000_0020) ∷ [])
-    ∷ ExitedData (alone exit.Detach ∷ []) false (did Nothing (aims.Less 0x1008 1) ∷ []) ∷ ExitedData (alone exit.Detach ∷ []) false (did_of Nothing ∷ []) ∷ []
+    ≡ HostWritten 0x1008 8 ∷ EnteredData (item enter.Copyin structure ∷ item enter.Copyin first ∷ item enter.Copyin second ∷ []) None (did_of (Born 1 0x1_0000_0000) ∷ did_of (Born 2 0x1_0000_0010) ∷ did_of (Born 3 0x1_0000_0020) ∷ [])
+    ∷ EnteredData (alone enter.Attach ∷ []) None (did Nothing (aims.New 0x1008 1 0x1_0000_0010) ∷ []) ∷ EnteredData (alone enter.Attach ∷ []) None (did Nothing (aims.Again 0x1008 1) ∷ [])
+    ∷ HostWritten 0x1008 8 ∷ EnteredData (alone enter.Attach ∷ []) None (did Nothing (aims.New 0x1008 1 0x1_0000_0020) ∷ [])
+    ∷ ExitedData (alone exit.Detach ∷ []) false None (did Nothing (aims.Less 0x1008 1) ∷ []) ∷ ExitedData (alone exit.Detach ∷ []) false None (did_of Nothing ∷ []) ∷ []
 unfolding ran_with
 detached_told = refl
 
@@ -147,9 +147,9 @@ abbrev finalized_with : List Call
 finalized_with = entered_with ++ enter_data_of (via enter.Copyin first ∷ []) ∷ finalize_of (via exit.Delete first ∷ via exit.Delete first ∷ []) ∷ []
 
 finalized_with_told : (ran_with limits finalized_with).world.history.trace
-    ≡ HostWritten 0x1008 8 ∷ EnteredData (item enter.Copyin structure ∷ via enter.Copyin first ∷ []) (did_of (Born 1 0x1_0000_0000) ∷ did (Born 2 0x1_0000_0010) (aims.New 0x1008 1 0x1_0000_0010) ∷ [])
-    ∷ EnteredData (via enter.Copyin first ∷ []) (did (Counted 2) (aims.Again 0x1008 1) ∷ [])
-    ∷ ExitedData (via exit.Delete first ∷ via exit.Delete first ∷ []) true (did (Dropped 2 true) (aims.Cleared 0x1008 1) ∷ did_of Nothing ∷ []) ∷ []
+    ≡ HostWritten 0x1008 8 ∷ EnteredData (item enter.Copyin structure ∷ via enter.Copyin first ∷ []) None (did_of (Born 1 0x1_0000_0000) ∷ did (Born 2 0x1_0000_0010) (aims.New 0x1008 1 0x1_0000_0010) ∷ [])
+    ∷ EnteredData (via enter.Copyin first ∷ []) None (did (Counted 2) (aims.Again 0x1008 1) ∷ [])
+    ∷ ExitedData (via exit.Delete first ∷ via exit.Delete first ∷ []) true None (did (Dropped 2 true) (aims.Cleared 0x1008 1) ∷ did_of Nothing ∷ []) ∷ []
 unfolding ran_with
 finalized_with_told = refl
 
@@ -159,8 +159,8 @@ finalized_with_bytes = refl
 
 -- an item that ends the mapping that holds its own pointer detaches it first
 exited_own : (ran_with limits (point_to 0x10 ∷ enter_data_of (via enter.Copyin (at 0x1000 32) ∷ []) ∷ exit_data_of (via exit.Delete (at 0x1000 32) ∷ []) ∷ [])).world.history.trace
-    ≡ HostWritten 0x1008 8 ∷ EnteredData (via enter.Copyin (at 0x1000 32) ∷ []) (did (Born 1 0x1_0000_0000) (aims.New 0x1008 1 0x1_0000_0010) ∷ [])
-    ∷ ExitedData (via exit.Delete (at 0x1000 32) ∷ []) false (did (Dropped 1 true) (aims.Less 0x1008 1) ∷ []) ∷ []
+    ≡ HostWritten 0x1008 8 ∷ EnteredData (via enter.Copyin (at 0x1000 32) ∷ []) None (did (Born 1 0x1_0000_0000) (aims.New 0x1008 1 0x1_0000_0010) ∷ [])
+    ∷ ExitedData (via exit.Delete (at 0x1000 32) ∷ []) false None (did (Dropped 1 true) (aims.Less 0x1008 1) ∷ []) ∷ []
 unfolding ran_with
 exited_own = refl
 

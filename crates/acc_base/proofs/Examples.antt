@@ -11,10 +11,11 @@ use Rattle.acc_base.specs.declared.faults.Fault.TheVariants.{NoTickets, TooManyI
 use Rattle.acc_base.specs.declared.mappings.Range.{Range}
 use Rattle.acc_base.specs.declared.mappings.Found.TheVariants.{Empty, Inside, Partly, Absent}
 use Rattle.acc_base.specs.Limits.{Limits}
+use Rattle.acc_base.specs.Queues.{new_queues}
 use Rattle.acc_base.specs.Records.{new_state}
 use Rattle.acc_base.specs.Ranges.{where_is}
 use Rattle.acc_base.specs.Blocks.{used_bytes}
-use Rattle.acc_base.specs.Tasks.{did_of}
+use Rattle.acc_base.specs.Steps.{did_of}
 use Rattle.acc_base.specs.History.{dynamic_in}
 use Rattle.acc_base.proofs.Runs.{ran_with, ran, small, at, item, enter_data_of, exit_data_of, finalize_of, update_of, update_if_present_of, idle, range, block, memory, host_of}
 
@@ -23,7 +24,7 @@ use Rattle.acc_base.proofs.Runs.{ran_with, ran, small, at, item, enter_data_of, 
 abbrev a : ℕ → Call
 a len = enter_data_of (item enter.Copyin (at 0x1000 len) ∷ [])
 
-mapped : (ran (a 32 ∷ [])).world.state.records ≡ record { ranges = range (at 0x1000 32) 1 0 1 ∷ []; blocks = block 1 0x1_0000_0000 32 ∷ []; attached = []; births = 1 }
+mapped : (ran (a 32 ∷ [])).world.state.records ≡ record { ranges = range (at 0x1000 32) 1 0 1 ∷ []; blocks = block 1 0x1_0000_0000 32 ∷ []; attached = []; births = 1; queues = new_queues }
 unfolding ran
 mapped = refl
 
@@ -34,7 +35,7 @@ mapped_bytes = refl
 abbrev mapped_and_deleted : List Call
 mapped_and_deleted = a 32 ∷ exit_data_of (item exit.Delete (at 0x1000 32) ∷ []) ∷ []
 
-deleted : (ran mapped_and_deleted).world.state.records ≡ record { ranges = []; blocks = []; attached = []; births = 1 }
+deleted : (ran mapped_and_deleted).world.state.records ≡ record { ranges = []; blocks = []; attached = []; births = 1; queues = new_queues }
 unfolding ran
 deleted = refl
 
@@ -43,7 +44,7 @@ unfolding ran
 deleted_bytes = refl
 
 deleted_told : (ran mapped_and_deleted).world.history.trace
-    ≡ EnteredData (item enter.Copyin (at 0x1000 32) ∷ []) (did_of (Born 1 0x1_0000_0000) ∷ []) ∷ ExitedData (item exit.Delete (at 0x1000 32) ∷ []) false (did_of (Dropped 1 true) ∷ []) ∷ []
+    ≡ EnteredData (item enter.Copyin (at 0x1000 32) ∷ []) None (did_of (Born 1 0x1_0000_0000) ∷ []) ∷ ExitedData (item exit.Delete (at 0x1000 32) ∷ []) false None (did_of (Dropped 1 true) ∷ []) ∷ []
 unfolding ran
 deleted_told = refl
 
@@ -52,8 +53,8 @@ abbrev deleted_where_absent : List Call
 deleted_where_absent = exit_data_of (item exit.Delete (at 0x1000 16) ∷ []) ∷ enter_data_of (item (enter.Create true) (at 0x1000 16) ∷ []) ∷ exit_data_of (item exit.Delete (at 0x1000 16) ∷ []) ∷ exit_data_of (item exit.Delete (at 0x1000 16) ∷ []) ∷ []
 
 deleted_where_absent_told : (ran deleted_where_absent).world.history.trace
-    ≡ ExitedData (item exit.Delete (at 0x1000 16) ∷ []) false (did_of Nothing ∷ []) ∷ EnteredData (item (enter.Create true) (at 0x1000 16) ∷ []) (did_of (Born 1 0x1_0000_0000) ∷ []) ∷ ExitedData (item exit.Delete (at 0x1000 16) ∷ []) false (did_of (Dropped 1 true) ∷ [])
-    ∷ ExitedData (item exit.Delete (at 0x1000 16) ∷ []) false (did_of Nothing ∷ []) ∷ []
+    ≡ ExitedData (item exit.Delete (at 0x1000 16) ∷ []) false None (did_of Nothing ∷ []) ∷ EnteredData (item (enter.Create true) (at 0x1000 16) ∷ []) None (did_of (Born 1 0x1_0000_0000) ∷ []) ∷ ExitedData (item exit.Delete (at 0x1000 16) ∷ []) false None (did_of (Dropped 1 true) ∷ [])
+    ∷ ExitedData (item exit.Delete (at 0x1000 16) ∷ []) false None (did_of Nothing ∷ []) ∷ []
 unfolding ran
 deleted_where_absent_told = refl
 
@@ -66,7 +67,7 @@ over_the_end_refused : (ran over_the_end).refused ≡ None ∷ Some (PartlyPrese
 unfolding ran
 over_the_end_refused = refl
 
-over_the_end_counted : (ran over_the_end).world.state.records ≡ record { ranges = range (at 0x1000 16) 1 0 2 ∷ []; blocks = block 1 0x1_0000_0000 16 ∷ []; attached = []; births = 1 }
+over_the_end_counted : (ran over_the_end).world.state.records ≡ record { ranges = range (at 0x1000 16) 1 0 2 ∷ []; blocks = block 1 0x1_0000_0000 16 ∷ []; attached = []; births = 1; queues = new_queues }
 unfolding ran
 over_the_end_counted = refl
 
@@ -86,7 +87,7 @@ fall_told = refl
 abbrev counted_once : List Call
 counted_once = a 16 ∷ exit_data_of (item exit.Delete (at 0x1004 4) ∷ []) ∷ exit_data_of (item exit.Delete (at 0x1000 16) ∷ []) ∷ []
 
-ends : (ran counted_once).world.state.records ≡ record { ranges = []; blocks = []; attached = []; births = 1 }
+ends : (ran counted_once).world.state.records ≡ record { ranges = []; blocks = []; attached = []; births = 1; queues = new_queues }
 unfolding ran
 ends = refl
 
@@ -102,12 +103,12 @@ few = record { host = 96; device = 64; regions = 4; tickets = 100; counter_max =
 abbrev three_counts : Call
 three_counts = enter_data_of (item enter.Copyin (at 0x1000 16) ∷ item enter.Copyin (at 0x1000 16) ∷ item (enter.Create true) (at 0x1004 4) ∷ [])
 
-three_counted : (ran_with few (three_counts ∷ [])).world.state.records ≡ record { ranges = range (at 0x1000 16) 1 0 3 ∷ []; blocks = block 1 0x1_0000_0000 16 ∷ []; attached = []; births = 1 }
+three_counted : (ran_with few (three_counts ∷ [])).world.state.records ≡ record { ranges = range (at 0x1000 16) 1 0 3 ∷ []; blocks = block 1 0x1_0000_0000 16 ∷ []; attached = []; births = 1; queues = new_queues }
 unfolding ran_with
 three_counted = refl
 
 three_told : (ran_with few (three_counts ∷ [])).world.history.trace
-    ≡ EnteredData (item enter.Copyin (at 0x1000 16) ∷ item enter.Copyin (at 0x1000 16) ∷ item (enter.Create true) (at 0x1004 4) ∷ []) (did_of (Born 1 0x1_0000_0000) ∷ did_of (Counted 1) ∷ did_of (Counted 1) ∷ []) ∷ []
+    ≡ EnteredData (item enter.Copyin (at 0x1000 16) ∷ item enter.Copyin (at 0x1000 16) ∷ item (enter.Create true) (at 0x1004 4) ∷ []) None (did_of (Born 1 0x1_0000_0000) ∷ did_of (Counted 1) ∷ did_of (Counted 1) ∷ []) ∷ []
 unfolding ran_with
 three_told = refl
 
@@ -120,8 +121,8 @@ abbrev dropped_by_four : List Call
 dropped_by_four = three_counts ∷ exit_data_of (replicate 4 (item exit.Delete (at 0x1000 16))) ∷ []
 
 dropped_told : (ran_with few dropped_by_four).world.history.trace
-    ≡ EnteredData (item enter.Copyin (at 0x1000 16) ∷ item enter.Copyin (at 0x1000 16) ∷ item (enter.Create true) (at 0x1004 4) ∷ []) (did_of (Born 1 0x1_0000_0000) ∷ did_of (Counted 1) ∷ did_of (Counted 1) ∷ [])
-    ∷ ExitedData (replicate 4 (item exit.Delete (at 0x1000 16))) false (did_of (Dropped 1 false) ∷ did_of (Dropped 1 false) ∷ did_of (Dropped 1 true) ∷ did_of Nothing ∷ []) ∷ []
+    ≡ EnteredData (item enter.Copyin (at 0x1000 16) ∷ item enter.Copyin (at 0x1000 16) ∷ item (enter.Create true) (at 0x1004 4) ∷ []) None (did_of (Born 1 0x1_0000_0000) ∷ did_of (Counted 1) ∷ did_of (Counted 1) ∷ [])
+    ∷ ExitedData (replicate 4 (item exit.Delete (at 0x1000 16))) false None (did_of (Dropped 1 false) ∷ did_of (Dropped 1 false) ∷ did_of (Dropped 1 true) ∷ did_of Nothing ∷ []) ∷ []
 unfolding ran_with
 dropped_told = refl
 
@@ -133,13 +134,13 @@ dropped_in = refl
 abbrev finalized : List Call
 finalized = three_counts ∷ finalize_of (item exit.Delete (at 0x1000 16) ∷ item exit.Delete (at 0x1000 16) ∷ []) ∷ []
 
-finalized_records : (ran_with few finalized).world.state.records ≡ record { ranges = []; blocks = []; attached = []; births = 1 }
+finalized_records : (ran_with few finalized).world.state.records ≡ record { ranges = []; blocks = []; attached = []; births = 1; queues = new_queues }
 unfolding ran_with
 finalized_records = refl
 
 finalized_told : (ran_with few finalized).world.history.trace
-    ≡ EnteredData (item enter.Copyin (at 0x1000 16) ∷ item enter.Copyin (at 0x1000 16) ∷ item (enter.Create true) (at 0x1004 4) ∷ []) (did_of (Born 1 0x1_0000_0000) ∷ did_of (Counted 1) ∷ did_of (Counted 1) ∷ [])
-    ∷ ExitedData (item exit.Delete (at 0x1000 16) ∷ item exit.Delete (at 0x1000 16) ∷ []) true (did_of (Dropped 1 true) ∷ did_of Nothing ∷ []) ∷ []
+    ≡ EnteredData (item enter.Copyin (at 0x1000 16) ∷ item enter.Copyin (at 0x1000 16) ∷ item (enter.Create true) (at 0x1004 4) ∷ []) None (did_of (Born 1 0x1_0000_0000) ∷ did_of (Counted 1) ∷ did_of (Counted 1) ∷ [])
+    ∷ ExitedData (item exit.Delete (at 0x1000 16) ∷ item exit.Delete (at 0x1000 16) ∷ []) true None (did_of (Dropped 1 true) ∷ did_of Nothing ∷ []) ∷ []
 unfolding ran_with
 finalized_told = refl
 
@@ -160,7 +161,7 @@ overlapping_left = refl
 abbrev two_births : List Call
 two_births = HostWrite 0x1000 (1 ∷ 2 ∷ 3 ∷ []) ∷ enter_data_of (item enter.Copyin (at 0x1001 2) ∷ item (enter.Create false) (at 0x1000 1) ∷ []) ∷ []
 
-two_births_records : (ran two_births).world.state.records ≡ record { ranges = range (at 0x1000 1) 2 0 1 ∷ range (at 0x1001 2) 1 0 1 ∷ []; blocks = block 1 0x1_0000_0000 2 ∷ block 2 0x1_0000_0010 1 ∷ []; attached = []; births = 2 }
+two_births_records : (ran two_births).world.state.records ≡ record { ranges = range (at 0x1000 1) 2 0 1 ∷ range (at 0x1001 2) 1 0 1 ∷ []; blocks = block 1 0x1_0000_0000 2 ∷ block 2 0x1_0000_0010 1 ∷ []; attached = []; births = 2; queues = new_queues }
 unfolding ran
 two_births_records = refl
 
@@ -206,7 +207,7 @@ unfolding ran_with
 device_filled_refused = refl
 
 -- the first item of the refused directive was not mapped
-device_filled_left : (ran_with few device_filled).world.state.records ≡ record { ranges = range (at 0x1010 16) 2 0 1 ∷ range (at 0x1020 32) 3 0 1 ∷ []; blocks = block 2 0x1_0000_0010 16 ∷ block 3 0x1_0000_0020 32 ∷ []; attached = []; births = 3 }
+device_filled_left : (ran_with few device_filled).world.state.records ≡ record { ranges = range (at 0x1010 16) 2 0 1 ∷ range (at 0x1020 32) 3 0 1 ∷ []; blocks = block 2 0x1_0000_0010 16 ∷ block 3 0x1_0000_0020 32 ∷ []; attached = []; births = 3; queues = new_queues }
 unfolding ran_with
 device_filled_left = refl
 
@@ -253,11 +254,11 @@ all_refused : (ran refusals).refused ≡ Some (OutOfHost 0) ∷ Some (OutOfHost 
 unfolding ran
 all_refused = refl
 
-all_left : (ran refusals).world.state.records ≡ record { ranges = range (at 0x1000 33) 1 0 2 ∷ []; blocks = block 1 0x1_0000_0000 33 ∷ []; attached = []; births = 1 }
+all_left : (ran refusals).world.state.records ≡ record { ranges = range (at 0x1000 33) 1 0 2 ∷ []; blocks = block 1 0x1_0000_0000 33 ∷ []; attached = []; births = 1; queues = new_queues }
 unfolding ran
 all_left = refl
 
-no_items : (ran (idle ∷ [])).world.history.trace ≡ EnteredData [] [] ∷ []
+no_items : (ran (idle ∷ [])).world.history.trace ≡ EnteredData [] None [] ∷ []
 unfolding ran
 no_items = refl
 
@@ -337,12 +338,12 @@ unfolding ran
 to_device_host = refl
 
 to_device_told : (ran (a 4 ∷ update_of (item ToDevice (at 0x1001 2) ∷ []) ∷ [])).world.history.trace
-    ≡ EnteredData (item enter.Copyin (at 0x1000 4) ∷ []) (did_of (Born 1 0x1_0000_0000) ∷ []) ∷ Updated (item ToDevice (at 0x1001 2) ∷ []) false (did_of (Moved 1) ∷ []) ∷ []
+    ≡ EnteredData (item enter.Copyin (at 0x1000 4) ∷ []) None (did_of (Born 1 0x1_0000_0000) ∷ []) ∷ Updated (item ToDevice (at 0x1001 2) ∷ []) false None (did_of (Moved 1) ∷ []) ∷ []
 unfolding ran
 to_device_told = refl
 
 -- the counter is neither raised nor lowered
-to_device_counted : (ran to_device).world.state.records ≡ record { ranges = range (at 0x1004 4) 1 0 1 ∷ []; blocks = block 1 0x1_0000_0000 4 ∷ []; attached = []; births = 1 }
+to_device_counted : (ran to_device).world.state.records ≡ record { ranges = range (at 0x1004 4) 1 0 1 ∷ []; blocks = block 1 0x1_0000_0000 4 ∷ []; attached = []; births = 1; queues = new_queues }
 unfolding ran
 to_device_counted = refl
 
@@ -392,7 +393,7 @@ updates_refused = refl
 abbrev passed_over : List Call
 passed_over = HostWrite 0x1000 (1 ∷ []) ∷ update_if_present_of (item ToSelf (at 0x1000 1) ∷ []) ∷ []
 
-passed_over_told : (ran passed_over).world.history.trace ≡ HostWritten 0x1000 1 ∷ Updated (item ToSelf (at 0x1000 1) ∷ []) true (did_of Nothing ∷ []) ∷ []
+passed_over_told : (ran passed_over).world.history.trace ≡ HostWritten 0x1000 1 ∷ Updated (item ToSelf (at 0x1000 1) ∷ []) true None (did_of Nothing ∷ []) ∷ []
 unfolding ran
 passed_over_told = refl
 
@@ -409,7 +410,7 @@ copied_out_host : (ran copied_out).world.state.host ≡ host_of (5 ∷ 2 ∷ 3 �
 unfolding ran
 copied_out_host = refl
 
-copied_out_records : (ran copied_out).world.state.records ≡ record { ranges = []; blocks = []; attached = []; births = 1 }
+copied_out_records : (ran copied_out).world.state.records ≡ record { ranges = []; blocks = []; attached = []; births = 1; queues = new_queues }
 unfolding ran
 copied_out_records = refl
 
@@ -425,7 +426,7 @@ still_mapped_host : (ran still_mapped).world.state.host ≡ host_of (5 ∷ 6 ∷
 unfolding ran
 still_mapped_host = refl
 
-still_mapped_records : (ran still_mapped).world.state.records ≡ record { ranges = range (at 0x1000 2) 1 0 1 ∷ []; blocks = block 1 0x1_0000_0000 2 ∷ []; attached = []; births = 1 }
+still_mapped_records : (ran still_mapped).world.state.records ≡ record { ranges = range (at 0x1000 2) 1 0 1 ∷ []; blocks = block 1 0x1_0000_0000 2 ∷ []; attached = []; births = 1; queues = new_queues }
 unfolding ran
 still_mapped_records = refl
 

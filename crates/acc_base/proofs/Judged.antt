@@ -19,15 +19,17 @@ use Rattle.acc_base.specs.declared.tasks.Task.TheVariants.{Enter, Leave, Exit, M
 use Rattle.acc_base.specs.declared.events.Step.{Step}
 use Rattle.acc_base.specs.declared.events.Step.TheVariants.{Nothing, Counted, Born, Dropped, Moved}
 use Rattle.acc_base.specs.declared.faults.Fault.TheVariants.{CounterFull}
-use Rattle.acc_base.specs.Results.{refuse_if}
+use Rattle.acc_base.specs.Results.{◌>>◌, refuse_if}
 use Rattle.acc_base.specs.Limits.{Limits}
 use Rattle.acc_base.specs.Section.{is_empty, is_within, host_memory}
 use Rattle.acc_base.specs.Records.{Records}
 use Rattle.acc_base.specs.Ranges.{where_is, range_of, counter_of, dynamic_of, ends_by}
 use Rattle.acc_base.specs.Blocks.{rounded, place_for}
 use Rattle.acc_base.specs.Clauses.{in_host, pointer_checked, born_at, enter_absent, enter_row, leave_row, exit_row, move_row}
-use Rattle.acc_base.specs.Tasks.{section_of, pointer_of, recounted, checked, judge_step}
-use Rattle.acc_base.proofs.Results.{chosen, then_ok, ok_same, refused_not, equal_self}
+use Rattle.acc_base.specs.Tasks.{section_of, pointer_of, queue_of, recounted, checked}
+use Rattle.acc_base.specs.Transfers.{transfer_of, room_for}
+use Rattle.acc_base.specs.Steps.{judge_row, judge_step}
+use Rattle.acc_base.proofs.Results.{chosen, bind_ok, then_ok, ok_same, refused_not, equal_self}
 use Rattle.acc_base.proofs.Elements.{find_passes, find_none}
 use Rattle.acc_base.proofs.Where.{IsInsideOf, inside_says, absent_says}
 
@@ -63,33 +65,33 @@ pub record IsInRangeOf (l : Limits) (section : Section) (block : ℕ) (w : Recor
   pub mapped : range_of block w.ranges ≡ None → ⊥
 
 -- a drop by `exit data`: the dynamic counter was above zero
-pub record IsDrop (l : Limits) (finalize : Bool) (item : Item ExitClause) (block : ℕ) (ended : Bool) (w : Records) : Type 0 where
-  pub range : IsInRangeOf l (section_of (Exit finalize item)) block w
+pub record IsDrop (l : Limits) (finalize : Bool) (item : Item ExitClause) (queue : Option ℕ) (block : ℕ) (ended : Bool) (w : Records) : Type 0 where
+  pub range : IsInRangeOf l (section_of (Exit finalize item queue)) block w
   pub some : 0 < dynamic_of block w.ranges
-  pub ended_is : ended ≡ ends_by (recounted (Exit finalize item)) block w.ranges
+  pub ended_is : ended ≡ ends_by (recounted (Exit finalize item queue)) block w.ranges
 
 -- the task can have been judged to do the step
 abbrev pub IsJudgedTo : Limits → Task → Step → Records → Type 0
-IsJudgedTo l (Enter counter item) Nothing w = ⊤
-IsJudgedTo l (Enter counter item) (Counted k) w = IsCount l counter k w
-IsJudgedTo l (Enter counter item) (Born k p) w = IsBirth l (section_of (Enter counter item)) k p w
-IsJudgedTo l (Enter counter item) (Dropped k ended) w = ⊥
-IsJudgedTo l (Enter counter item) (Moved k) w = ⊥
+IsJudgedTo l (Enter counter item queue) Nothing w = ⊤
+IsJudgedTo l (Enter counter item queue) (Counted k) w = IsCount l counter k w
+IsJudgedTo l (Enter counter item queue) (Born k p) w = IsBirth l (section_of (Enter counter item queue)) k p w
+IsJudgedTo l (Enter counter item queue) (Dropped k ended) w = ⊥
+IsJudgedTo l (Enter counter item queue) (Moved k) w = ⊥
 IsJudgedTo l (Leave holding) Nothing w = holding.block ≡ None
 IsJudgedTo l (Leave holding) (Counted k) w = ⊥
 IsJudgedTo l (Leave holding) (Born k p) w = ⊥
 IsJudgedTo l (Leave holding) (Dropped k ended) w = (holding.block ≡ Some k) × (ended ≡ ends_by (recounted (Leave holding)) k w.ranges)
 IsJudgedTo l (Leave holding) (Moved k) w = ⊥
-IsJudgedTo l (Exit finalize item) Nothing w = ⊤
-IsJudgedTo l (Exit finalize item) (Counted k) w = ⊥
-IsJudgedTo l (Exit finalize item) (Born k p) w = ⊥
-IsJudgedTo l (Exit finalize item) (Dropped k ended) w = IsDrop l finalize item k ended w
-IsJudgedTo l (Exit finalize item) (Moved k) w = ⊥
-IsJudgedTo l (Move if_present item) Nothing w = ⊤
-IsJudgedTo l (Move if_present item) (Counted k) w = ⊥
-IsJudgedTo l (Move if_present item) (Born k p) w = ⊥
-IsJudgedTo l (Move if_present item) (Dropped k ended) w = ⊥
-IsJudgedTo l (Move if_present item) (Moved k) w = IsInRangeOf l item.section k w
+IsJudgedTo l (Exit finalize item queue) Nothing w = ⊤
+IsJudgedTo l (Exit finalize item queue) (Counted k) w = ⊥
+IsJudgedTo l (Exit finalize item queue) (Born k p) w = ⊥
+IsJudgedTo l (Exit finalize item queue) (Dropped k ended) w = IsDrop l finalize item queue k ended w
+IsJudgedTo l (Exit finalize item queue) (Moved k) w = ⊥
+IsJudgedTo l (Move if_present item queue) Nothing w = ⊤
+IsJudgedTo l (Move if_present item queue) (Counted k) w = ⊥
+IsJudgedTo l (Move if_present item queue) (Born k p) w = ⊥
+IsJudgedTo l (Move if_present item queue) (Dropped k ended) w = ⊥
+IsJudgedTo l (Move if_present item queue) (Moved k) w = IsInRangeOf l item.section k w
 
 -- ---- sections of host memory
 
@@ -122,37 +124,37 @@ in_range_of l n section k o w checked inside =
 
 -- ---- entry
 
-enter_told : (l : Limits) (counter : Counter) (item : Item RegionClause) (w : Records) (x y : Step) → x ≡ y → IsJudgedTo l (Enter counter item) x w → IsJudgedTo l (Enter counter item) y w
-enter_told l counter item w x y e h = subst (λ t. IsJudgedTo l (Enter counter item) t w) e h
+enter_told : (l : Limits) (counter : Counter) (item : Item RegionClause) (queue : Option ℕ) (w : Records) (x y : Step) → x ≡ y → IsJudgedTo l (Enter counter item queue) x w → IsJudgedTo l (Enter counter item queue) y w
+enter_told l counter item queue w x y e h = subst (λ t. IsJudgedTo l (Enter counter item queue) t w) e h
 
-born_says : (l : Limits) (counter : Counter) (item : Item RegionClause) (n : ℕ) (w : Records) (step : Step) (place : Option ℕ)
-    → place_for l.device w.blocks (rounded (section_of (Enter counter item)).len) ≡ place → where_is (section_of (Enter counter item)) w.ranges ≡ Absent → is_within (section_of (Enter counter item)) (host_memory l.host) ≡ true
-    → born_at place n (section_of (Enter counter item)) w ≡ Ok step → IsJudgedTo l (Enter counter item) step w
-born_says l counter item n w step None p a h e = cc
-born_says l counter item n w step (Some place) p a h e = enter_told l counter item w _ _ (ok_same _ _ e) (record { number = refl; place_is = p; absent = a; within = h })
+born_says : (l : Limits) (counter : Counter) (item : Item RegionClause) (queue : Option ℕ) (n : ℕ) (w : Records) (step : Step) (place : Option ℕ)
+    → place_for l.device w.blocks (rounded (section_of (Enter counter item queue)).len) ≡ place → where_is (section_of (Enter counter item queue)) w.ranges ≡ Absent → is_within (section_of (Enter counter item queue)) (host_memory l.host) ≡ true
+    → born_at place n (section_of (Enter counter item queue)) w ≡ Ok step → IsJudgedTo l (Enter counter item queue) step w
+born_says l counter item queue n w step None p a h e = cc
+born_says l counter item queue n w step (Some place) p a h e = enter_told l counter item queue w _ _ (ok_same _ _ e) (record { number = refl; place_is = p; absent = a; within = h })
 
-absent_entered : (l : Limits) (counter : Counter) (item : Item RegionClause) (n : ℕ) (w : Records) (step : Step) (clause : RegionClause)
-    → where_is (section_of (Enter counter item)) w.ranges ≡ Absent → is_within (section_of (Enter counter item)) (host_memory l.host) ≡ true
-    → enter_absent clause l n (section_of (Enter counter item)) w ≡ Ok step → IsJudgedTo l (Enter counter item) step w
-absent_entered l counter item n w step region.Copy a h e = born_says l counter item n w step _ refl a h e
-absent_entered l counter item n w step region.Copyin a h e = born_says l counter item n w step _ refl a h e
-absent_entered l counter item n w step (region.Copyout zeroed) a h e = born_says l counter item n w step _ refl a h e
-absent_entered l counter item n w step (region.Create zeroed) a h e = born_says l counter item n w step _ refl a h e
-absent_entered l counter item n w step region.NoCreate a h e = enter_told l counter item w _ _ (ok_same _ _ e) tt
-absent_entered l counter item n w step region.Present a h e = cc
-absent_entered l counter item n w step region.Attach a h e = enter_told l counter item w _ _ (ok_same _ _ e) tt
+absent_entered : (l : Limits) (counter : Counter) (item : Item RegionClause) (queue : Option ℕ) (n : ℕ) (w : Records) (step : Step) (clause : RegionClause)
+    → where_is (section_of (Enter counter item queue)) w.ranges ≡ Absent → is_within (section_of (Enter counter item queue)) (host_memory l.host) ≡ true
+    → enter_absent clause l n (section_of (Enter counter item queue)) w ≡ Ok step → IsJudgedTo l (Enter counter item queue) step w
+absent_entered l counter item queue n w step region.Copy a h e = born_says l counter item queue n w step _ refl a h e
+absent_entered l counter item queue n w step region.Copyin a h e = born_says l counter item queue n w step _ refl a h e
+absent_entered l counter item queue n w step (region.Copyout zeroed) a h e = born_says l counter item queue n w step _ refl a h e
+absent_entered l counter item queue n w step (region.Create zeroed) a h e = born_says l counter item queue n w step _ refl a h e
+absent_entered l counter item queue n w step region.NoCreate a h e = enter_told l counter item queue w _ _ (ok_same _ _ e) tt
+absent_entered l counter item queue n w step region.Present a h e = cc
+absent_entered l counter item queue n w step region.Attach a h e = enter_told l counter item queue w _ _ (ok_same _ _ e) tt
 
-entered_says : (l : Limits) (counter : Counter) (item : Item RegionClause) (n : ℕ) (w : Records) (step : Step) (found : Found)
-    → where_is (section_of (Enter counter item)) w.ranges ≡ found → in_host l n (section_of (Enter counter item)) ≡ Ok tt
-    → enter_row found l counter item.clause n (section_of (Enter counter item)) w ≡ Ok step → IsJudgedTo l (Enter counter item) step w
-entered_says l counter item n w step Empty f h e = enter_told l counter item w _ _ (ok_same _ _ e) tt
-entered_says l counter item n w step (Inside k o) f h e =
+entered_says : (l : Limits) (counter : Counter) (item : Item RegionClause) (queue : Option ℕ) (n : ℕ) (w : Records) (step : Step) (found : Found)
+    → where_is (section_of (Enter counter item queue)) w.ranges ≡ found → in_host l n (section_of (Enter counter item queue)) ≡ Ok tt
+    → enter_row found l counter item.clause n (section_of (Enter counter item queue)) w ≡ Ok step → IsJudgedTo l (Enter counter item queue) step w
+entered_says l counter item queue n w step Empty f h e = enter_told l counter item queue w _ _ (ok_same _ _ e) tt
+entered_says l counter item queue n w step (Inside k o) f h e =
     let both : (refuse_if (nat_le l.counter_max (counter_of counter k w.ranges)) (CounterFull n) ≡ Ok tt) × (Ok (Counted k) ≡ Ok step) = then_ok _ _ step e in
     let full : nat_le l.counter_max (counter_of counter k w.ranges) ≡ false = refused_not _ _ both.0 in
     let room : counter_of counter k w.ranges < l.counter_max = grind (arith, nat_tests) in
-    enter_told l counter item w _ _ (ok_same _ _ both.1) (record { mapped = inside_mapped (section_of (Enter counter item)) w.ranges k o f; room = room })
-entered_says l counter item n w step Absent f h e = absent_entered l counter item n w step item.clause f (in_host_says l n (section_of (Enter counter item)) h (absent_says (section_of (Enter counter item)) w.ranges f).1) e
-entered_says l counter item n w step Partly f h e = cc
+    enter_told l counter item queue w _ _ (ok_same _ _ both.1) (record { mapped = inside_mapped (section_of (Enter counter item queue)) w.ranges k o f; room = room })
+entered_says l counter item queue n w step Absent f h e = absent_entered l counter item queue n w step item.clause f (in_host_says l n (section_of (Enter counter item queue)) h (absent_says (section_of (Enter counter item queue)) w.ranges f).1) e
+entered_says l counter item queue n w step Partly f h e = cc
 
 -- ---- exit from a region
 
@@ -163,31 +165,31 @@ left_says l holding w step (Some k) is e = subst (λ t. IsJudgedTo l (Leave hold
 
 -- ---- `exit data`
 
-exited_says : (l : Limits) (finalize : Bool) (item : Item ExitClause) (n : ℕ) (w : Records) (step : Step) (found : Found)
-    → where_is (section_of (Exit finalize item)) w.ranges ≡ found → in_host l n (section_of (Exit finalize item)) ≡ Ok tt
-    → exit_row found (recounted (Exit finalize item)) n w ≡ Ok step → IsJudgedTo l (Exit finalize item) step w
-exited_says l finalize item n w step Empty f h e = subst (λ t. IsJudgedTo l (Exit finalize item) t w) (ok_same _ _ e) tt
-exited_says l finalize item n w step (Inside k o) f h e = ⊎_elim
-    (λ a. subst (λ t. IsJudgedTo l (Exit finalize item) t w) (ok_same _ _ a.1) tt)
+exited_says : (l : Limits) (finalize : Bool) (item : Item ExitClause) (queue : Option ℕ) (n : ℕ) (w : Records) (step : Step) (found : Found)
+    → where_is (section_of (Exit finalize item queue)) w.ranges ≡ found → in_host l n (section_of (Exit finalize item queue)) ≡ Ok tt
+    → exit_row found (recounted (Exit finalize item queue)) n w ≡ Ok step → IsJudgedTo l (Exit finalize item queue) step w
+exited_says l finalize item queue n w step Empty f h e = subst (λ t. IsJudgedTo l (Exit finalize item queue) t w) (ok_same _ _ e) tt
+exited_says l finalize item queue n w step (Inside k o) f h e = ⊎_elim
+    (λ a. subst (λ t. IsJudgedTo l (Exit finalize item queue) t w) (ok_same _ _ a.1) tt)
     (λ b. let some : 0 < dynamic_of k w.ranges = above (dynamic_of k w.ranges) b.0 in
-    subst (λ t. IsJudgedTo l (Exit finalize item) t w) (ok_same _ _ b.1) (record { range = in_range_of l n (section_of (Exit finalize item)) k o w h f; some = some; ended_is = refl }))
-    (chosen (dynamic_of k w.ranges == 0) (Ok Nothing) (Ok (Dropped k (ends_by (recounted (Exit finalize item)) k w.ranges))) (Ok step) e)
+    subst (λ t. IsJudgedTo l (Exit finalize item queue) t w) (ok_same _ _ b.1) (record { range = in_range_of l n (section_of (Exit finalize item queue)) k o w h f; some = some; ended_is = refl }))
+    (chosen (dynamic_of k w.ranges == 0) (Ok Nothing) (Ok (Dropped k (ends_by (recounted (Exit finalize item queue)) k w.ranges))) (Ok step) e)
   where
     above : (d : ℕ) → (d == 0) ≡ false → 0 < d
     above d z = grind (arith, nat_tests)
-exited_says l finalize item n w step Absent f h e = subst (λ t. IsJudgedTo l (Exit finalize item) t w) (ok_same _ _ e) tt
-exited_says l finalize item n w step Partly f h e = cc
+exited_says l finalize item queue n w step Absent f h e = subst (λ t. IsJudgedTo l (Exit finalize item queue) t w) (ok_same _ _ e) tt
+exited_says l finalize item queue n w step Partly f h e = cc
 
 -- ---- `update`
 
-moved_says : (l : Limits) (if_present : Bool) (item : Item UpdateClause) (n : ℕ) (w : Records) (step : Step) (found : Found)
+moved_says : (l : Limits) (if_present : Bool) (item : Item UpdateClause) (queue : Option ℕ) (n : ℕ) (w : Records) (step : Step) (found : Found)
     → where_is item.section w.ranges ≡ found → in_host l n item.section ≡ Ok tt
-    → move_row found if_present n ≡ Ok step → IsJudgedTo l (Move if_present item) step w
-moved_says l if_present item n w step Empty f h e = subst (λ t. IsJudgedTo l (Move if_present item) t w) (ok_same _ _ e) tt
-moved_says l if_present item n w step (Inside k o) f h e = subst (λ t. IsJudgedTo l (Move if_present item) t w) (ok_same _ _ e) (in_range_of l n item.section k o w h f)
-moved_says l true item n w step Absent f h e = subst (λ t. IsJudgedTo l (Move true item) t w) (ok_same _ _ e) tt
-moved_says l false item n w step Absent f h e = cc
-moved_says l if_present item n w step Partly f h e = cc
+    → move_row found if_present n ≡ Ok step → IsJudgedTo l (Move if_present item queue) step w
+moved_says l if_present item queue n w step Empty f h e = subst (λ t. IsJudgedTo l (Move if_present item queue) t w) (ok_same _ _ e) tt
+moved_says l if_present item queue n w step (Inside k o) f h e = subst (λ t. IsJudgedTo l (Move if_present item queue) t w) (ok_same _ _ e) (in_range_of l n item.section k o w h f)
+moved_says l true item queue n w step Absent f h e = subst (λ t. IsJudgedTo l (Move true item queue) t w) (ok_same _ _ e) tt
+moved_says l false item queue n w step Absent f h e = cc
+moved_says l if_present item queue n w step Partly f h e = cc
 
 -- ---- any task
 
@@ -198,17 +200,33 @@ section_checked l n task e = (then_ok (in_host l n (section_of task)) (pointer_c
 pub pointer_checked_by : (l : Limits) (n : ℕ) (task : Task) → checked l n task ≡ Ok tt → pointer_checked l n (pointer_of task) ≡ Ok tt
 pointer_checked_by l n task e = (then_ok (in_host l n (section_of task)) (pointer_checked l n (pointer_of task)) tt e).1
 
-pub task_says : (l : Limits) (n : ℕ) (task : Task) (w : Records) (step : Step) → judge_step l n task w ≡ Ok step → IsJudgedTo l task step w
-unfolding judge_step
-task_says l n (Enter counter item) w step e =
-    let task : Task = Enter counter item in
+row_says : (l : Limits) (n : ℕ) (task : Task) (w : Records) (step : Step) → judge_row l n task w ≡ Ok step → IsJudgedTo l task step w
+unfolding judge_row
+row_says l n (Enter counter item queue) w step e =
+    let task : Task = Enter counter item queue in
     let both : (checked l n task ≡ Ok tt) × (enter_row (where_is (section_of task) w.ranges) l counter item.clause n (section_of task) w ≡ Ok step) = then_ok (checked l n task) _ step e in
-    entered_says l counter item n w step (where_is (section_of task) w.ranges) refl (section_checked l n task both.0) both.1
-task_says l n (Leave holding) w step e = left_says l holding w step holding.block refl e
-task_says l n (Exit finalize item) w step e =
-    let task : Task = Exit finalize item in
+    entered_says l counter item queue n w step (where_is (section_of task) w.ranges) refl (section_checked l n task both.0) both.1
+row_says l n (Leave holding) w step e = left_says l holding w step holding.block refl e
+row_says l n (Exit finalize item queue) w step e =
+    let task : Task = Exit finalize item queue in
     let both : (checked l n task ≡ Ok tt) × (exit_row (where_is (section_of task) w.ranges) (recounted task) n w ≡ Ok step) = then_ok (checked l n task) _ step e in
-    exited_says l finalize item n w step (where_is (section_of task) w.ranges) refl (section_checked l n task both.0) both.1
-task_says l n (Move if_present item) w step e =
+    exited_says l finalize item queue n w step (where_is (section_of task) w.ranges) refl (section_checked l n task both.0) both.1
+row_says l n (Move if_present item queue) w step e =
     let both : (in_host l n item.section ≡ Ok tt) × (move_row (where_is item.section w.ranges) if_present n ≡ Ok step) = then_ok _ _ step e in
-    moved_says l if_present item n w step (where_is item.section w.ranges) refl both.0 both.1
+    moved_says l if_present item queue n w step (where_is item.section w.ranges) refl both.0 both.1
+
+-- what the judgement of a step says of the clause tables, and of the queue of its transfer
+pub record IsJudgedStep (l : Limits) (n : ℕ) (task : Task) (w : Records) (step : Step) : Type 0 where
+  pub row : judge_row l n task w ≡ Ok step
+  pub room : room_for l.queue_cap (queue_of task) (transfer_of task step w.ranges) w.queues ≡ Ok tt
+
+pub step_judged : (l : Limits) (n : ℕ) (task : Task) (w : Records) (step : Step) → judge_step l n task w ≡ Ok step → IsJudgedStep l n task w step
+unfolding judge_step
+step_judged l n task w step e =
+    let first : (x : Step) × (judge_row l n task w ≡ Ok x) × ((room_for l.queue_cap (queue_of task) (transfer_of task x w.ranges) w.queues >> Ok x) ≡ Ok step)
+    = bind_ok (judge_row l n task w) (λ x. room_for l.queue_cap (queue_of task) (transfer_of task x w.ranges) w.queues >> Ok x) step e in
+    let second : (room_for l.queue_cap (queue_of task) (transfer_of task first.0 w.ranges) w.queues ≡ Ok tt) × (Ok first.0 ≡ Ok step) = then_ok _ _ step first.2 in
+    subst (IsJudgedStep l n task w) (ok_same _ _ second.1) (record { row = first.1; room = second.0 })
+
+pub task_says : (l : Limits) (n : ℕ) (task : Task) (w : Records) (step : Step) → judge_step l n task w ≡ Ok step → IsJudgedTo l task step w
+task_says l n task w step e = row_says l n task w step (step_judged l n task w step e).row

@@ -13,7 +13,7 @@ use Rattle.acc_base.specs.Results.{◌>>=◌, ◌>>◌, refuse_if}
 use Rattle.acc_base.specs.Limits.{Limits}
 use Rattle.acc_base.specs.Records.{Records, State}
 use Rattle.acc_base.specs.Attachments.{count_at}
-use Rattle.acc_base.specs.Tasks.{pointer_aimed, judge_step}
+use Rattle.acc_base.specs.Steps.{pointer_aimed, judge_step}
 use Rattle.acc_base.specs.Bytes.{step_state}
 use Rattle.acc_base.specs.Pointers.{host_pointer, device_pointer, block_with, target_of, attach_there, judge_attach}
 use Rattle.acc_base.specs.Acting.{attach_if, judge_aim, judge_task}
@@ -55,10 +55,10 @@ attach_if_legal l n (Some pointer) aim s e = attach_legal l n pointer aim s e
 -- what is judged of the pointer of a task
 aim_legal : (l : Limits) (n : ℕ) (task : Task) (step : Step) (aim : Aim) (s : State) → judge_aim l n task step s ≡ Ok aim → IsAimLegal l task (record { step = step; aim = aim }) s.records
 unfolding judge_aim step_state
-aim_legal l n (Enter counter item) step aim s e = attach_if_legal l n (pointer_aimed (Enter counter item) step) aim (step_state (Enter counter item) step s) e
+aim_legal l n (Enter counter item queue) step aim s e = attach_if_legal l n (pointer_aimed (Enter counter item queue) step) aim (step_state (Enter counter item queue) step s) e
 aim_legal l n (Leave holding) step aim s e = sym (ok_same _ _ e)
-aim_legal l n (Exit finalize item) step aim s e = sym (ok_same _ _ e)
-aim_legal l n (Move if_present item) step aim s e = sym (ok_same _ _ e)
+aim_legal l n (Exit finalize item queue) step aim s e = sym (ok_same _ _ e)
+aim_legal l n (Move if_present item queue) step aim s e = sym (ok_same _ _ e)
 
 -- what a task that was judged says: its step is judged in the records, and what became of its pointer is legal in them
 pub record IsJudgedItem (l : Limits) (n : ℕ) (task : Task) (did : Did) (w : Records) : Type 0 where

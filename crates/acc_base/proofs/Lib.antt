@@ -7,7 +7,9 @@ pub mod Attached
 pub mod Places
 pub mod Counting
 pub mod Judged
+pub mod Queued
 pub mod Sound
+pub mod Puts
 pub mod Recounted
 pub mod SameMapping
 pub mod Used
@@ -26,3 +28,4 @@ mod Examples
 mod RegionExamples
 mod PointerExamples
 mod AttachExamples
+mod QueueExamples

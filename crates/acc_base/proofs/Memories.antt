@@ -13,21 +13,25 @@ use Rattle.acc_base.specs.declared.attachments.Aim.{Aim}
 use Rattle.acc_base.specs.declared.attachments.Aim.TheVariants as aims
 use Rattle.acc_base.specs.declared.tasks.Task.{Task}
 use Rattle.acc_base.specs.declared.tasks.Task.TheVariants.{Enter, Leave, Exit, Move}
-use Rattle.acc_base.specs.declared.tasks.Transfer.{Transfer}
+use Rattle.acc_base.specs.declared.transfers.Transfer.{Transfer}
 use Rattle.acc_base.specs.declared.events.Step.{Step}
 use Rattle.acc_base.specs.declared.events.Step.TheVariants.{Nothing, Counted, Born, Dropped, Moved}
 use Rattle.acc_base.specs.declared.events.Did.{Did}
 use Rattle.acc_base.specs.declared.events.Event.{Event}
-use Rattle.acc_base.specs.declared.events.Event.TheVariants.{Entered, Left, EnteredData, ExitedData, Updated, HostWritten}
+use Rattle.acc_base.specs.declared.events.Event.TheVariants.{Entered, Left, EnteredData, ExitedData, Updated, Waited, Stepped, HostWritten}
 use Rattle.acc_base.specs.Limits.{Limits}
-use Rattle.acc_base.specs.Records.{Memory, State, new_state}
+use Rattle.acc_base.specs.Records.{Records, Memory, State, new_state}
 use Rattle.acc_base.specs.Section.{covers, host_base}
-use Rattle.acc_base.specs.Ranges.{start_of, bare_range}
+use Rattle.acc_base.specs.Ranges.{start_of, without_range, bare_range}
 use Rattle.acc_base.specs.Attachments.{pointer_at, count_at}
 use Rattle.acc_base.specs.Blocks.{without_block}
-use Rattle.acc_base.specs.Tasks.{section_of, recounted, act_step, records_after_birth, records_after_end, with_range_changed}
-use Rattle.acc_base.specs.Walk.{asked_in, done_in}
-use Rattle.acc_base.specs.Bytes.{host_byte, bytes_of, written_bytes, is_moved, bytes_moved_in, bytes_moved_out, memory_changed, host_made, memories_made, first_address, transfer_of, fill_of, host_after_write, step_state}
+use Rattle.acc_base.specs.Tasks.{section_of, recounted}
+use Rattle.acc_base.specs.Steps.{is_in_use, released, act_row, with_put, act_step, records_after_birth, records_after_end, with_range_changed}
+use Rattle.acc_base.specs.Walk.{asked_in, done_in, stepped_in}
+use Rattle.acc_base.specs.Bytes.{host_byte, bytes_of, written_bytes, is_moved, bytes_moved_in, bytes_moved_out, memory_changed, host_made, memories_made, fill_of, host_after_write, without_memory, memories_released, memories_acted, step_state}
+use Rattle.acc_base.specs.Transfers.{first_address, made_now}
+use Rattle.acc_base.specs.Queues.{head_of, popped}
+use Rattle.acc_base.specs.Waits.{state_made, stepped, drained}
 use Rattle.acc_base.specs.Pointers.{pointer_written, memories_aimed, aimed}
 use Rattle.acc_base.specs.Acting.{host_after, act_state, act_all_state, after}
 use Rattle.acc_base.specs.Accounts.{IsMemoryOf, AreMemoriesSized}
@@ -112,27 +116,27 @@ made_sized (Some t) attached host ms bs h = go t.out
 
 -- counting keeps the block of a range
 pub recounted-block : (task : Task) (r : Range) → (recounted task r).block ≡ r.block
-recounted-block (Enter Structured item) r = refl
-recounted-block (Enter Dynamic item) r = refl
+recounted-block (Enter Structured item queue) r = refl
+recounted-block (Enter Dynamic item queue) r = refl
 recounted-block (Leave holding) r = refl
-recounted-block (Exit finalize item) r = go finalize
+recounted-block (Exit finalize item queue) r = go finalize
   where
-    go : (b : Bool) → (recounted (Exit b item) r).block ≡ r.block
+    go : (b : Bool) → (recounted (Exit b item queue) r).block ≡ r.block
     go true = refl
     go false = refl
-recounted-block (Move if_present item) r = refl
+recounted-block (Move if_present item queue) r = refl
 
 -- and its section
 pub recounted-section : (task : Task) (r : Range) → (recounted task r).section ≡ r.section
-recounted-section (Enter Structured item) r = refl
-recounted-section (Enter Dynamic item) r = refl
+recounted-section (Enter Structured item queue) r = refl
+recounted-section (Enter Dynamic item queue) r = refl
 recounted-section (Leave holding) r = refl
-recounted-section (Exit finalize item) r = go finalize
+recounted-section (Exit finalize item queue) r = go finalize
   where
-    go : (b : Bool) → (recounted (Exit b item) r).section ≡ r.section
+    go : (b : Bool) → (recounted (Exit b item queue) r).section ≡ r.section
     go true = refl
     go false = refl
-recounted-section (Move if_present item) r = refl
+recounted-section (Move if_present item queue) r = refl
 
 -- the memory of a block that is born by a task is as long as the block
 pub is_born_memory : (task : Task) (block place : ℕ) → IsMemoryOf (record { block = block; bytes = replicate (section_of task).len (fill_of task) })
@@ -142,33 +146,36 @@ is_born_memory task block place = record {
   len = length-replicate (section_of task).len (fill_of task) ∙ sym (ap (λ (s : Section). s.len) (recounted-section task (bare_range (section_of task) block)));
 }
 
--- memories are as long as their blocks after a step, whatever the task
+-- memories are as long as their blocks after a block was given back, where it was
+pub released_sized : (k : ℕ) (w : Records) (ms : List Memory) → AllZip IsMemoryOf ms w.blocks → AllZip IsMemoryOf (memories_released k (released k w) ms) (released k w).blocks
+unfolding released
+released_sized k w ms h = go (is_in_use k w)
+  where
+    go : (t : Bool) → AllZip IsMemoryOf (cond t ms (without_memory k ms)) (cond t w.blocks (without_block k w.blocks))
+    go true = h
+    go false = without_sized k ms w.blocks h
+
+-- and after a step, whatever the task
 pub step_sized : (l : Limits) (task : Task) (step : Step) (s : State) → AreMemoriesSized l s → AreMemoriesSized l (step_state task step s)
-unfolding step_state act_step records_after_birth records_after_end with_range_changed
-step_sized l task Nothing s h = record { host = h.host; blocks = h.blocks }
-step_sized l task (Counted k) s h = record { host = h.host; blocks = h.blocks }
-step_sized l task (Born k p) s h =
-    let o : Option Transfer = transfer_of task (Born k p) s.records.ranges in
-    let new : Memory = record { block = k; bytes = replicate (section_of task).len (fill_of task) } in
-    let r : Range = recounted task (bare_range (section_of task) k) in
-    let b : Block = record { number = r.block; place = p; len = r.section.len } in
-    record {
-      host = length-host_made o s.records.attached s.memories s.host ∙ h.host;
-      blocks = made_sized o s.records.attached s.host (s.memories ++ new ∷ []) (s.records.blocks ++ b ∷ []) (sized-push s.memories s.records.blocks new b h.blocks (is_born_memory task k p));
-    }
-step_sized l task (Dropped k true) s h =
-    let o : Option Transfer = transfer_of task (Dropped k true) s.records.ranges in
-    record {
-      host = length-host_made o s.records.attached s.memories s.host ∙ h.host;
-      blocks = without_sized k (memories_made o s.records.attached s.host s.memories) s.records.blocks (made_sized o s.records.attached s.host s.memories s.records.blocks h.blocks);
-    }
-step_sized l task (Dropped k false) s h = record { host = h.host; blocks = h.blocks }
-step_sized l task (Moved k) s h =
-    let o : Option Transfer = transfer_of task (Moved k) s.records.ranges in
-    record {
-      host = length-host_made o s.records.attached s.memories s.host ∙ h.host;
-      blocks = made_sized o s.records.attached s.host s.memories s.records.blocks h.blocks;
-    }
+unfolding step_state act_step act_row records_after_birth records_after_end with_range_changed
+step_sized l task step s h = record { host = length-host_made (made_now task step s.records.ranges) s.records.attached s.memories s.host ∙ h.host; blocks = blocks step }
+  where
+    made : (step : Step) → AllZip IsMemoryOf (memories_made (made_now task step s.records.ranges) s.records.attached s.host s.memories) s.records.blocks
+    made step = made_sized (made_now task step s.records.ranges) s.records.attached s.host s.memories s.records.blocks h.blocks
+
+    blocks : (step : Step) → AllZip IsMemoryOf (memories_acted task step s) (act_step task step s.records).blocks
+    blocks Nothing = made Nothing
+    blocks (Counted k) = made (Counted k)
+    blocks (Born k p) =
+        let new : Memory = record { block = k; bytes = replicate (section_of task).len (fill_of task) } in
+        let r : Range = recounted task (bare_range (section_of task) k) in
+        let b : Block = record { number = r.block; place = p; len = r.section.len } in
+        made_sized (made_now task (Born k p) s.records.ranges) s.records.attached s.host (s.memories ++ new ∷ []) (s.records.blocks ++ b ∷ []) (sized-push s.memories s.records.blocks new b h.blocks (is_born_memory task k p))
+    blocks (Dropped k true) =
+        let w : Records = record (with_put task (Dropped k true) s.records) { ranges = without_range k s.records.ranges } in
+        released_sized k w (memories_made (made_now task (Dropped k true) s.records.ranges) s.records.attached s.host s.memories) (made (Dropped k true))
+    blocks (Dropped k false) = made (Dropped k false)
+    blocks (Moved k) = made (Moved k)
 
 -- and after an attachment or a detachment
 pub aimed_sized : (l : Limits) (aim : Aim) (s : State) → AreMemoriesSized l s → AreMemoriesSized l (aimed aim s)
@@ -193,10 +200,10 @@ aimed_sized l aim s h = record { host = h.host; blocks = go aim }
 -- and after a task, whatever it did
 pub act_sized : (l : Limits) (task : Task) (did : Did) (s : State) → AreMemoriesSized l s → AreMemoriesSized l (act_state task did s)
 unfolding act_state
-act_sized l (Enter counter item) did s h = aimed_sized l did.aim (step_state (Enter counter item) did.step s) (step_sized l (Enter counter item) did.step s h)
+act_sized l (Enter counter item queue) did s h = aimed_sized l did.aim (step_state (Enter counter item queue) did.step s) (step_sized l (Enter counter item queue) did.step s h)
 act_sized l (Leave holding) did s h = step_sized l (Leave holding) did.step (aimed did.aim s) (aimed_sized l did.aim s h)
-act_sized l (Exit finalize item) did s h = step_sized l (Exit finalize item) did.step (aimed did.aim s) (aimed_sized l did.aim s h)
-act_sized l (Move if_present item) did s h = step_sized l (Move if_present item) did.step (aimed did.aim s) (aimed_sized l did.aim s h)
+act_sized l (Exit finalize item queue) did s h = step_sized l (Exit finalize item queue) did.step (aimed did.aim s) (aimed_sized l did.aim s h)
+act_sized l (Move if_present item queue) did s h = step_sized l (Move if_present item queue) did.step (aimed did.aim s) (aimed_sized l did.aim s h)
 
 -- and after a list of tasks
 pub act_all_sized : (l : Limits) (tasks : List Task) (dids : List Did) (s : State) → AreMemoriesSized l s → AreMemoriesSized l (act_all_state tasks dids s)
@@ -206,15 +213,35 @@ act_all_sized l [] (d ∷ ds) s h = h
 act_all_sized l (t ∷ ts) [] s h = h
 act_all_sized l (t ∷ ts) (d ∷ ds) s h = act_all_sized l ts ds (act_state t d s) (act_sized l t d s h)
 
+-- ---- queued transfers
+
+stepped_sized : (l : Limits) (q : ℕ) (s : State) → AreMemoriesSized l s → AreMemoriesSized l (stepped q s)
+unfolding stepped
+stepped_sized l q s h = go (head_of q s.records.queues)
+  where
+    go : (o : Option Transfer) → AreMemoriesSized l (state_made q o s)
+    go None = h
+    go (Some t) = record {
+      host = length-host_made (Some t) s.records.attached s.memories s.host ∙ h.host;
+      blocks = released_sized t.block (record s.records { queues = popped q s.records.queues }) (memories_made (Some t) s.records.attached s.host s.memories) (made_sized (Some t) s.records.attached s.host s.memories s.records.blocks h.blocks);
+    }
+
+pub drained_sized : (l : Limits) (qs : List ℕ) (s : State) → AreMemoriesSized l s → AreMemoriesSized l (drained qs s)
+unfolding drained
+drained_sized l [] s h = h
+drained_sized l (q ∷ qs) s h = drained_sized l qs (stepped q s) (stepped_sized l q s h)
+
 -- ---- an event
 
 -- the bytes that a call brings keep the length of host memory
 pub length-host_after : (e : Event) (brought host : List ℕ) → length (host_after e brought host) ≡ length host
 length-host_after (Entered number items did) brought host = refl
 length-host_after (Left number did) brought host = refl
-length-host_after (EnteredData items did) brought host = refl
-length-host_after (ExitedData items finalize did) brought host = refl
-length-host_after (Updated items if_present did) brought host = refl
+length-host_after (EnteredData items queue did) brought host = refl
+length-host_after (ExitedData items finalize queue did) brought host = refl
+length-host_after (Updated items if_present queue did) brought host = refl
+length-host_after (Waited queue count) brought host = refl
+length-host_after (Stepped queue block) brought host = refl
 length-host_after (HostWritten addr len) brought host = length-host_after_write addr len brought host
 
 -- memories are as long as their blocks after an event
@@ -222,7 +249,9 @@ pub event_sized : (l : Limits) (e : Event) (brought : List ℕ) (s : State) → 
 unfolding after
 event_sized l e brought s h =
     let acted : AreMemoriesSized l (act_all_state (asked_in e s.register) (done_in e) s) = act_all_sized l (asked_in e s.register) (done_in e) s h in
-    record { host = length-host_after e brought (act_all_state (asked_in e s.register) (done_in e) s).host ∙ acted.host; blocks = acted.blocks }
+    let last : State = drained (stepped_in e s.records.queues) (act_all_state (asked_in e s.register) (done_in e) s) in
+    let made : AreMemoriesSized l last = drained_sized l (stepped_in e s.records.queues) (act_all_state (asked_in e s.register) (done_in e) s) acted in
+    record { host = length-host_after e brought last.host ∙ made.host; blocks = made.blocks }
 
 -- and at first
 pub new_sized : (l : Limits) → AreMemoriesSized l (new_state l.host)

@@ -12,8 +12,9 @@ use Rattle.acc_base.specs.declared.events.Event.TheVariants.{Entered, Left, Ente
 use Rattle.acc_base.specs.declared.events.Step.TheVariants.{Nothing, Counted, Born, Dropped}
 use Rattle.acc_base.specs.declared.faults.Fault.TheVariants.{NoTickets, NoAllowance, TooManyItems, TraceFull, OutOfHost, PartlyPresent, NotPresent, CounterFull, DeviceFull, NoRegion}
 use Rattle.acc_base.specs.Limits.{Limits}
+use Rattle.acc_base.specs.Queues.{new_queues}
 use Rattle.acc_base.specs.Records.{new_state}
-use Rattle.acc_base.specs.Tasks.{did_of}
+use Rattle.acc_base.specs.Steps.{did_of}
 use Rattle.acc_base.specs.History.{structured_in, dynamic_in}
 use Rattle.acc_base.proofs.Runs.{ran_with, at, item, enter_of, exit_of, enter_data_of, exit_data_of, finalize_of, update_of, range, block, memory, holding, region, host_of}
 
@@ -67,7 +68,7 @@ mapped_later_left_told : (ran_with limits mapped_later_left).world.history.trace
 unfolding ran_with
 mapped_later_left_told = refl
 
-mapped_later_left_records : (ran_with limits mapped_later_left).world.state.records ≡ record { ranges = []; blocks = []; attached = []; births = 1 }
+mapped_later_left_records : (ran_with limits mapped_later_left).world.state.records ≡ record { ranges = []; blocks = []; attached = []; births = 1; queues = new_queues }
 unfolding ran_with
 mapped_later_left_records = refl
 
@@ -87,7 +88,7 @@ counted_without_create_ranges : (ran_with limits counted_without_create).world.s
 unfolding ran_with
 counted_without_create_ranges = refl
 
-counted_without_create_left : (ran_with limits (counted_without_create ++ exit_of 2 ∷ [])).world.state.records ≡ record { ranges = []; blocks = []; attached = []; births = 1 }
+counted_without_create_left : (ran_with limits (counted_without_create ++ exit_of 2 ∷ [])).world.state.records ≡ record { ranges = []; blocks = []; attached = []; births = 1; queues = new_queues }
 unfolding ran_with
 counted_without_create_left = refl
 
@@ -196,7 +197,7 @@ part_copied_host : (ran_with limits part_copied).world.state.host ≡ host_of (5
 unfolding ran_with
 part_copied_host = refl
 
-part_copied_records : (ran_with limits part_copied).world.state.records ≡ record { ranges = []; blocks = []; attached = []; births = 1 }
+part_copied_records : (ran_with limits part_copied).world.state.records ≡ record { ranges = []; blocks = []; attached = []; births = 1; queues = new_queues }
 unfolding ran_with
 part_copied_records = refl
 
@@ -258,7 +259,7 @@ finalized_inside_memories = refl
 
 -- the second item finds the dynamic counter at zero, and does nothing
 finalized_inside_told : (ran_with limits (enter_one Copyin four ∷ enter_data_of (item enter.Copyin four ∷ []) ∷ finalize_of (item exit.Copyout four ∷ item exit.Copyout four ∷ []) ∷ [])).world.history.trace
-    ≡ Entered 1 (item Copyin four ∷ []) (did_of (Born 1 0x1_0000_0000) ∷ []) ∷ EnteredData (item enter.Copyin four ∷ []) (did_of (Counted 1) ∷ []) ∷ ExitedData (item exit.Copyout four ∷ item exit.Copyout four ∷ []) true (did_of (Dropped 1 false) ∷ did_of Nothing ∷ []) ∷ []
+    ≡ Entered 1 (item Copyin four ∷ []) (did_of (Born 1 0x1_0000_0000) ∷ []) ∷ EnteredData (item enter.Copyin four ∷ []) None (did_of (Counted 1) ∷ []) ∷ ExitedData (item exit.Copyout four ∷ item exit.Copyout four ∷ []) true None (did_of (Dropped 1 false) ∷ did_of Nothing ∷ []) ∷ []
 unfolding ran_with
 finalized_inside_told = refl
 
@@ -275,7 +276,7 @@ finalized_left_host : (ran_with limits (finalized_inside ++ exit_of 1 ∷ [])).w
 unfolding ran_with
 finalized_left_host = refl
 
-finalized_left_records : (ran_with limits (finalized_inside ++ exit_of 1 ∷ [])).world.state.records ≡ record { ranges = []; blocks = []; attached = []; births = 1 }
+finalized_left_records : (ran_with limits (finalized_inside ++ exit_of 1 ∷ [])).world.state.records ≡ record { ranges = []; blocks = []; attached = []; births = 1; queues = new_queues }
 unfolding ran_with
 finalized_left_records = refl
 
@@ -304,7 +305,7 @@ sixty_four_counted : (ran_with limits (enter_of (replicate 64 (item Copyin a)) �
 unfolding ran_with
 sixty_four_counted = refl
 
-sixty_four_left : (ran_with limits (enter_of (replicate 64 (item Copyin a)) ∷ exit_of 1 ∷ [])).world.state.records ≡ record { ranges = []; blocks = []; attached = []; births = 1 }
+sixty_four_left : (ran_with limits (enter_of (replicate 64 (item Copyin a)) ∷ exit_of 1 ∷ [])).world.state.records ≡ record { ranges = []; blocks = []; attached = []; births = 1; queues = new_queues }
 unfolding ran_with
 sixty_four_left = refl
 
@@ -320,7 +321,7 @@ counters_full_refused : (ran_with (record limits { counter_max = 2 }) counters_f
 unfolding ran_with
 counters_full_refused = refl
 
-counters_full_ranges : (ran_with (record limits { counter_max = 2 }) counters_full).world.state.records ≡ record { ranges = range a 1 2 2 ∷ []; blocks = block 1 0x1_0000_0000 16 ∷ []; attached = []; births = 1 }
+counters_full_ranges : (ran_with (record limits { counter_max = 2 }) counters_full).world.state.records ≡ record { ranges = range a 1 2 2 ∷ []; blocks = block 1 0x1_0000_0000 16 ∷ []; attached = []; births = 1; queues = new_queues }
 unfolding ran_with
 counters_full_ranges = refl
 

@@ -16,12 +16,14 @@ use Rattle.acc_base.specs.declared.regions.Holding.{Holding}
 use Rattle.acc_base.specs.Limits.{Limits}
 use Rattle.acc_base.specs.Records.{Memory}
 use Rattle.acc_base.specs.Register.{Region}
-use Rattle.acc_base.specs.Tasks.{judge_step, act_step, records_after_birth, records_after_end, with_range_changed}
+use Rattle.acc_base.specs.Steps.{judge_step, judge_row, act_step, act_row, released, records_after_birth, records_after_end, with_range_changed}
 use Rattle.acc_base.specs.Bytes.{step_state}
+use Rattle.acc_base.specs.Waits.{stepped, drained}
 use Rattle.acc_base.specs.Pointers.{judge_attach, judge_detach, judge_release, aimed}
 use Rattle.acc_base.specs.Acting.{judge_aim, judge_task, judge_all, act_state, act_all_state, after}
-use Rattle.acc_base.specs.Judge.{directive_event, host_write_event}
-use Rattle.acc_base.specs.Calls.{World, Verdict, Makes, Idle, judge, world_after, new_world}
+use Rattle.acc_base.specs.Judge.{directive_verdict, host_write_event}
+use Rattle.acc_base.specs.Calls.{World, judge, world_after, new_world}
+use Rattle.acc_base.specs.Judge.{Verdict, Makes, Idle}
 
 -- the refusals, and the world in the end
 pub record Ran : Type 0 where
@@ -33,13 +35,13 @@ refusal_in (Ok verdict) = None
 refusal_in (Err fault) = Some fault
 
 next_in : Call → World → Result Verdict Fault → World
-unfolding world_after after act_all_state act_state step_state aimed act_step records_after_birth records_after_end with_range_changed
+unfolding world_after after act_all_state act_state step_state aimed act_step act_row records_after_birth records_after_end released with_range_changed drained stepped
 next_in call w (Ok (Makes e)) = world_after call e w
 next_in call w (Ok Idle) = w
 next_in call w (Err fault) = w
 
 unfoldable pub ran_in : List Call → World → Ran
-unfolding next_in judge directive_event host_write_event judge_all judge_task judge_step judge_aim judge_attach judge_detach judge_release act_state step_state aimed act_step records_after_birth records_after_end with_range_changed
+unfolding next_in judge directive_verdict host_write_event judge_all judge_task judge_step judge_row judge_aim judge_attach judge_detach judge_release act_state step_state aimed act_step act_row records_after_birth records_after_end released with_range_changed
 ran_in [] w = record { refused = []; world = w }
 ran_in (call ∷ calls) w =
     let judged : Result Verdict Fault = judge w call in
@@ -75,25 +77,25 @@ abbrev pub exit_of : ℕ → Call
 exit_of number = Do (Exit number)
 
 abbrev pub enter_data_of : List (Item EnterClause) → Call
-enter_data_of items = Do (EnterData items)
+enter_data_of items = Do (EnterData items None)
 
 -- without `finalize`, and with it
 abbrev pub exit_data_of : List (Item ExitClause) → Call
-exit_data_of items = Do (ExitData items false)
+exit_data_of items = Do (ExitData items false None)
 
 abbrev pub finalize_of : List (Item ExitClause) → Call
-finalize_of items = Do (ExitData items true)
+finalize_of items = Do (ExitData items true None)
 
 -- without `if_present`, and with it
 abbrev pub update_of : List (Item UpdateClause) → Call
-update_of items = Do (Update items false)
+update_of items = Do (Update items false None)
 
 abbrev pub update_if_present_of : List (Item UpdateClause) → Call
-update_if_present_of items = Do (Update items true)
+update_if_present_of items = Do (Update items true None)
 
 -- a directive without items
 abbrev pub idle : Call
-idle = Do (EnterData [])
+idle = Do (EnterData [] None)
 
 abbrev pub range : Section → ℕ → ℕ → ℕ → Range
 range s block structured dynamic = record { section = s; block = block; structured = structured; dynamic = dynamic }

@@ -1,4 +1,4 @@
--- Attaching and detaching a pointer leaves ranges, blocks and births alone.
+-- Attaching and detaching a pointer leaves ranges, blocks, births and queues alone.
 use Rattle.std.proofs.Common.{◌≡◌, refl, true, false}
 use Rattle.acc_base.specs.declared.attachments.Aim.{Aim}
 use Rattle.acc_base.specs.declared.tasks.Task.{Task}
@@ -7,27 +7,28 @@ use Rattle.acc_base.specs.declared.events.Step.{Step}
 use Rattle.acc_base.specs.declared.events.Step.TheVariants.{Nothing, Counted, Born, Dropped, Moved}
 use Rattle.acc_base.specs.declared.events.Did.{Did}
 use Rattle.acc_base.specs.Records.{Records}
-use Rattle.acc_base.specs.Tasks.{records_after_birth, records_after_end, with_range_changed, act_step, records_aimed, act}
+use Rattle.acc_base.specs.Steps.{records_after_birth, records_after_end, released, with_range_changed, act_row, act_step, records_aimed, act}
 
--- the same ranges, blocks and births; attachment counters may differ
+-- the same ranges, blocks, births and queues; attachment counters may differ
 pub record IsSameMapping (v w : Records) : Type 0 where
   pub ranges : v.ranges ≡ w.ranges
   pub blocks : v.blocks ≡ w.blocks
   pub births : v.births ≡ w.births
+  pub queues : v.queues ≡ w.queues
 
 mapping-aimed : (task : Task) (step : Step) (aim : Aim) (w : Records) → IsSameMapping (act_step task step (records_aimed aim w)) (act_step task step w)
-unfolding act_step with_range_changed records_after_birth records_after_end
-mapping-aimed task Nothing aim w = record { ranges = refl; blocks = refl; births = refl }
-mapping-aimed task (Counted k) aim w = record { ranges = refl; blocks = refl; births = refl }
-mapping-aimed task (Born k p) aim w = record { ranges = refl; blocks = refl; births = refl }
-mapping-aimed task (Dropped k true) aim w = record { ranges = refl; blocks = refl; births = refl }
-mapping-aimed task (Dropped k false) aim w = record { ranges = refl; blocks = refl; births = refl }
-mapping-aimed task (Moved k) aim w = record { ranges = refl; blocks = refl; births = refl }
+unfolding act_step act_row released with_range_changed records_after_birth records_after_end
+mapping-aimed task Nothing aim w = record { ranges = refl; blocks = refl; births = refl; queues = refl }
+mapping-aimed task (Counted k) aim w = record { ranges = refl; blocks = refl; births = refl; queues = refl }
+mapping-aimed task (Born k p) aim w = record { ranges = refl; blocks = refl; births = refl; queues = refl }
+mapping-aimed task (Dropped k true) aim w = record { ranges = refl; blocks = refl; births = refl; queues = refl }
+mapping-aimed task (Dropped k false) aim w = record { ranges = refl; blocks = refl; births = refl; queues = refl }
+mapping-aimed task (Moved k) aim w = record { ranges = refl; blocks = refl; births = refl; queues = refl }
 
--- what a task leaves of ranges, blocks and births is what its step leaves
+-- what a task leaves of ranges, blocks, births and queues is what its step leaves
 pub mapping-act : (task : Task) (did : Did) (w : Records) → IsSameMapping (act task did w) (act_step task did.step w)
 unfolding act
-mapping-act (Enter counter item) did w = record { ranges = refl; blocks = refl; births = refl }
+mapping-act (Enter counter item queue) did w = record { ranges = refl; blocks = refl; births = refl; queues = refl }
 mapping-act (Leave holding) did w = mapping-aimed (Leave holding) did.step did.aim w
-mapping-act (Exit finalize item) did w = mapping-aimed (Exit finalize item) did.step did.aim w
-mapping-act (Move if_present item) did w = mapping-aimed (Move if_present item) did.step did.aim w
+mapping-act (Exit finalize item queue) did w = mapping-aimed (Exit finalize item queue) did.step did.aim w
+mapping-act (Move if_present item queue) did w = mapping-aimed (Move if_present item queue) did.step did.aim w

@@ -1,6 +1,6 @@
 -- A task that was judged keeps the records sound: ranges and blocks stay apart, each range has a block of its own, and no range has both counters zero.
-use Rattle.std.proofs.Common.{ℕ, ◌≡◌, ◌+◌, ◌%◌, ◌<◌, ◌≤◌, refl, sym, ◌∙◌, ap, subst, Bool, true, false, cond, List, [], ◌∷◌, ◌++◌, Option, Some, None, Ok, arith}
-use Rattle.std.specs.Prelude.{◌⊎◌, ◌==◌, ◌&&◌, ◌||◌, not, nat_lt, nat_le, unwrap_or, option_map, IsSome, IfSome}
+use Rattle.std.proofs.Common.{ℕ, zero, suc, ◌≡◌, ◌+◌, ◌%◌, ◌<◌, ◌≤◌, refl, sym, ◌∙◌, ap, subst, Bool, true, false, cond, List, [], ◌∷◌, ◌++◌, Option, Some, None, Ok, arith}
+use Rattle.std.specs.Prelude.{◌⊎◌, ◌==◌, ◌&&◌, ◌||◌, not, nat_lt, nat_le, unwrap_or, option_map, is_some, length, replicate, IsSome, IfSome, ⊤}
 use Rattle.std.specs.List.{AllByRecursion, list_all}
 use Rattle.std.proofs.lemmas.Bool.Decides.{nat_tests}
 use Rattle.acc_base.specs.declared.items.Section.{Section}
@@ -11,30 +11,33 @@ use Rattle.acc_base.specs.declared.mappings.Counter.TheVariants.{Structured, Dyn
 use Rattle.acc_base.specs.declared.mappings.Range.{Range}
 use Rattle.acc_base.specs.declared.mappings.Block.{Block}
 use Rattle.acc_base.specs.declared.attachments.Attachment.{Attachment}
+use Rattle.acc_base.specs.declared.transfers.Transfer.{Transfer}
 use Rattle.acc_base.specs.declared.tasks.Task.{Task}
 use Rattle.acc_base.specs.declared.tasks.Task.TheVariants.{Enter, Leave, Exit, Move}
-use Rattle.acc_base.specs.declared.events.Step.{Step}
-use Rattle.acc_base.specs.declared.events.Step.TheVariants.{Nothing, Counted, Born, Dropped, Moved}
 use Rattle.acc_base.specs.Limits.{Limits, IsWithinBounds}
 use Rattle.acc_base.specs.Section.{is_empty, is_apart, end_of, device_base}
 use Rattle.acc_base.specs.Records.{Records, new_records}
 use Rattle.acc_base.specs.Ranges.{range_of, counter_in, counter_of, with_range, without_range, changed_at, bare_range, risen, is_unused, ends_by}
 use Rattle.acc_base.specs.Blocks.{rounded, fits_at, is_clear_of, block_end, block_at, without_block}
 use Rattle.acc_base.specs.Attachments.{without_attachments}
-use Rattle.acc_base.specs.Tasks.{section_of, recounted, judge_step, records_after_birth, records_after_end, with_range_changed, act_step}
-use Rattle.acc_base.specs.Accounts.{EachPair, IsInHost, IsBelow, AreRangesApart, IsOnDevice, IsClearOf, AreBlocksApart, IsMapped, HasOneBlockEach, IsCounted, AreAttachmentsSound, AreRecordsSound}
+use Rattle.acc_base.specs.Queues.{new_queues, head_of, popped, pins_of}
+use Rattle.acc_base.specs.Tasks.{section_of, recounted}
+use Rattle.acc_base.specs.Steps.{is_in_use, released, records_after_birth, records_after_end, with_range_changed}
+use Rattle.acc_base.specs.Waits.{records_made, records_stepped, records_drained}
+use Rattle.acc_base.specs.Accounts.{EachPair, IsInHost, IsBelow, AreRangesApart, IsOnDevice, IsClearOf, AreBlocksApart, IsMapped, HasOneBlockEach, IsCounted, AreAttachmentsSound, IsTransferSound, AreQueuesSound, AreRecordsSound}
 use Rattle.acc_base.proofs.Results.{and_true, equal}
-use Rattle.acc_base.proofs.Elements.{AllByRecursion-weaker, AllByRecursion-both, AllByRecursion-filter, AllByRecursion-passed, AllByRecursion-map, AllByRecursion-append, EachPair-filter, EachPair-push, EachPair-map, list_all-from, found_has}
+use Rattle.acc_base.proofs.Elements.{AllByRecursion-weaker, AllByRecursion-both, AllByRecursion-filter, AllByRecursion-passed, AllByRecursion-map, AllByRecursion-append, EachPair-filter, EachPair-push, EachPair-map, list_all-from, find_none, found_has}
 use Rattle.acc_base.proofs.Lookups.{change_at, number-change, at-changed, at-without_other, at-push_there, at-push_new, at-own, at-none}
 use Rattle.acc_base.proofs.Counting.{with_there, with_new}
 use Rattle.acc_base.proofs.Where.{absent_says}
 use Rattle.acc_base.proofs.Places.{place_for-found, IsFoundPlace, place_for-even}
 use Rattle.acc_base.proofs.Attached.{rising-without, within-without}
-use Rattle.acc_base.proofs.Judged.{IsBirth, IsCount, IsJudgedTo, task_says}
+use Rattle.acc_base.proofs.Queued.{pins-popped, none_named, queues-popped, queues-blocks}
+use Rattle.acc_base.proofs.Judged.{IsBirth, IsCount}
 
 -- ---- a change of the counters of one range
 
-abbrev block_of : Range → ℕ
+abbrev pub block_of : Range → ℕ
 block_of r = r.block
 
 -- a change that leaves all but the counters
@@ -62,11 +65,24 @@ option_map_some : {X Y : Type 0} (f : X → Y) (o : Option X) → IsSome o → I
 option_map_some f None p = cc
 option_map_some f (Some x) p = refl
 
+-- a block that is mapped is in use
+mapped_used : (o : Option Range) (pinned : Bool) → IsSome o → (is_some o || pinned) ≡ true
+mapped_used None pinned some = cc
+mapped_used (Some x) pinned some = refl
+
+-- a block that is in use stays so while its range does
+use_kept : (o p : Option Range) (pinned : Bool) → (IsSome o → IsSome p) → (is_some o || pinned) ≡ true → (is_some p || pinned) ≡ true
+use_kept None None pinned f e = e
+use_kept None (Some y) pinned f e = refl
+use_kept (Some x) None pinned f e = mapped_used None pinned (f refl)
+use_kept (Some x) (Some y) pinned f e = refl
+
 changed_each : (k : ℕ) (f : Range → Range) (w : Records) → KeepsPlace f → HasOneBlockEach w → HasOneBlockEach (record w { ranges = changed_at k f w.ranges })
 changed_each k f w keeps h = record {
   mapped = AllByRecursion-map (IsMapped w.blocks) (change_at block_of k f) w.ranges (AllByRecursion-weaker (IsMapped w.blocks) (λ r. IsMapped w.blocks (change_at block_of k f r)) w.ranges same h.mapped);
   distinct = EachPair-map (λ r t. r.block ≡ t.block → ⊥) (change_at block_of k f) w.ranges (λ r t p e. p (sym (block-change k f keeps r) ∙ (e ∙ block-change k f keeps t))) h.distinct;
-  in_use = AllByRecursion-weaker (λ b. IsSome (range_of b.number w.ranges)) (λ b. IsSome (range_of b.number (changed_at k f w.ranges))) w.blocks (λ b p. rw (at-changed block_of k b.number f w.ranges keeps.block) (option_map_some (change_at block_of k f) (range_of b.number w.ranges) p)) h.in_use;
+  in_use = AllByRecursion-weaker (λ b. is_in_use b.number w ≡ true) (λ b. is_in_use b.number (record w { ranges = changed_at k f w.ranges }) ≡ true) w.blocks
+      (λ b p. use_kept (range_of b.number w.ranges) (range_of b.number (changed_at k f w.ranges)) _ (λ q. rw (at-changed block_of k b.number f w.ranges keeps.block) (option_map_some (change_at block_of k f) (range_of b.number w.ranges) q)) p) h.in_use;
 }
   where
     same : (r : Range) → IsMapped w.blocks r → IsMapped w.blocks (change_at block_of k f r)
@@ -91,12 +107,12 @@ risen_keeps Dynamic = record { section = λ r. refl; block = λ r. refl }
 
 -- a task leaves section and block
 pub recounted_keeps : (task : Task) → KeepsPlace (recounted task)
-recounted_keeps (Enter Structured item) = record { section = λ r. refl; block = λ r. refl }
-recounted_keeps (Enter Dynamic item) = record { section = λ r. refl; block = λ r. refl }
+recounted_keeps (Enter Structured item queue) = record { section = λ r. refl; block = λ r. refl }
+recounted_keeps (Enter Dynamic item queue) = record { section = λ r. refl; block = λ r. refl }
 recounted_keeps (Leave holding) = record { section = λ r. refl; block = λ r. refl }
-recounted_keeps (Exit true item) = record { section = λ r. refl; block = λ r. refl }
-recounted_keeps (Exit false item) = record { section = λ r. refl; block = λ r. refl }
-recounted_keeps (Move if_present item) = record { section = λ r. refl; block = λ r. refl }
+recounted_keeps (Exit true item queue) = record { section = λ r. refl; block = λ r. refl }
+recounted_keeps (Exit false item queue) = record { section = λ r. refl; block = λ r. refl }
+recounted_keeps (Move if_present item queue) = record { section = λ r. refl; block = λ r. refl }
 
 -- the counter of a block is that of its range
 pub counter_is : (counter : Counter) (k : ℕ) (ranges : List Range) (r : Range) → range_of k ranges ≡ Some r → counter_of counter k ranges ≡ counter_in counter r
@@ -114,14 +130,15 @@ changed_sound l k f w keeps h counts = record {
   one_block_each = changed_each k f w keeps h.one_block_each;
   counted = changed_counted l k f w h counts;
   attached = h.attached;
+  queues = h.queues;
 }
 
 risen_counted : (l : Limits) (counter : Counter) (r : Range) → counter_in counter r < l.counter_max → IsCounted l r → IsCounted l (risen counter r)
 risen_counted l Structured r room c = record { some = omega arith; structured = omega arith; dynamic = c.dynamic }
 risen_counted l Dynamic r room c = record { some = omega arith; structured = c.structured; dynamic = omega arith }
 
-counted_sound : (l : Limits) (counter : Counter) (item : Item RegionClause) (k : ℕ) (w : Records) → AreRecordsSound l w → IsCount l counter k w → AreRecordsSound l (with_range_changed k (recounted (Enter counter item)) w)
-counted_sound l counter item k w h says = changed_sound l k (recounted (Enter counter item)) w (recounted_keeps (Enter counter item)) h
+pub counted_sound : (l : Limits) (counter : Counter) (item : Item RegionClause) (queue : Option ℕ) (k : ℕ) (w : Records) → AreRecordsSound l w → IsCount l counter k w → AreRecordsSound l (with_range_changed k (recounted (Enter counter item queue)) w)
+counted_sound l counter item queue k w h says = changed_sound l k (recounted (Enter counter item queue)) w (recounted_keeps (Enter counter item queue)) h
     (λ r at_k c. risen_counted l counter r (subst (λ n. n < l.counter_max) (counter_is counter k w.ranges r at_k) says.room) c)
 
 -- a range that keeps a counter above zero
@@ -129,7 +146,7 @@ used : (s d : ℕ) → ((s == 0) && (d == 0)) ≡ false → 0 < s + d
 used s d e = grind (arith, nat_tests)
 
 -- a drop that leaves a counter above zero
-dropped_sound : (l : Limits) (f : Range → Range) (k : ℕ) (w : Records) → KeepsPlace f → ((r : Range) → (f r).structured ≤ r.structured) → ((r : Range) → (f r).dynamic ≤ r.dynamic)
+pub dropped_sound : (l : Limits) (f : Range → Range) (k : ℕ) (w : Records) → KeepsPlace f → ((r : Range) → (f r).structured ≤ r.structured) → ((r : Range) → (f r).dynamic ≤ r.dynamic)
     → AreRecordsSound l w → false ≡ ends_by f k w.ranges → AreRecordsSound l (with_range_changed k f w)
 dropped_sound l f k w keeps structured dynamic h stays = changed_sound l k f w keeps h (λ r at_k c.
     let not_unused : is_unused (f r) ≡ false = sym (stays ∙ ends_by_is f k w.ranges r at_k) in
@@ -137,7 +154,7 @@ dropped_sound l f k w keeps structured dynamic h stays = changed_sound l k f w k
 
 -- ---- the end of a mapping
 
-number_of_block : Block → ℕ
+unfoldable pub number_of_block : Block → ℕ
 number_of_block b = b.number
 
 differs : (a k : ℕ) → not (a == k) ≡ true → (a == k) ≡ false
@@ -152,26 +169,135 @@ ended_attached l k bs xs h = record {
   there = AllByRecursion-passed (λ a. IsSome (block_at a.block bs)) (λ a. IsSome (block_at a.block (without_block k bs))) (λ a. not (a.block == k)) xs (λ a e p. rw (at-without_other number_of_block k a.block bs (differs _ _ e)) p) h.there;
 }
 
-ended_sound : (l : Limits) (k : ℕ) (w : Records) → AreRecordsSound l w → AreRecordsSound l (records_after_end k w)
-unfolding records_after_end number_of_block
-ended_sound l k w h = record {
+-- queued transfers of other blocks stay
+unpinned_queues : (l : Limits) (k : ℕ) (bs : List Block) (queues : List (List Transfer)) → pins_of k queues ≡ 0 → AreQueuesSound l bs queues → AreQueuesSound l (without_block k bs) queues
+unfolding number_of_block
+unpinned_queues l k bs queues none h = queues-blocks l (λ t. (t.block == k) ≡ false) bs (without_block k bs) queues
+    (λ t other s. record { block = s.block; there = at-without_other number_of_block k t.block bs other ∙ s.there; in_host = s.in_host; offset = s.offset; within = s.within }) (none_named k queues none) h
+
+-- records that are sound, but for whether one block is in use
+pub record IsLoose (l : Limits) (k : ℕ) (w : Records) : Type 0 where
+  pub ranges_apart : AreRangesApart l w.ranges
+  pub blocks_apart : AreBlocksApart l.device w.blocks w.births
+  pub mapped : AllByRecursion (IsMapped w.blocks) w.ranges
+  pub distinct : EachPair (λ (r : Range) (t : Range). r.block ≡ t.block → ⊥) w.ranges
+  pub in_use : AllByRecursion (λ b. (b.number == k) ≡ false → is_in_use b.number w ≡ true) w.blocks
+  pub counted : AllByRecursion (IsCounted l) w.ranges
+  pub attached : AreAttachmentsSound l w.blocks w.attached
+  pub queues : AreQueuesSound l w.blocks w.queues
+
+-- no range has the block, and no queued transfer
+no_use : {X : Type 0} (o : Option X) (pins : ℕ) → (is_some o || not (pins == 0)) ≡ false → (o ≡ None) × (pins ≡ 0)
+no_use None pins e = (refl, grind (arith, nat_tests))
+no_use (Some x) pins e = cc
+
+-- they are sound once the block is given back, where it is no longer in use
+pub released_sound : (l : Limits) (k : ℕ) (w : Records) → IsLoose l k w → AreRecordsSound l (released k w)
+unfolding released number_of_block
+released_sound l k w h = go (is_in_use k w) refl
+  where
+    used_block : (b : Block) → is_in_use k w ≡ true → ((b.number == k) ≡ false → is_in_use b.number w ≡ true) → (t : Bool) → (b.number == k) ≡ t → is_in_use b.number w ≡ true
+    used_block b e p true same = subst (λ n. is_in_use n w ≡ true) (sym (equal _ _ same)) e
+    used_block b e p false other = p other
+
+    go : (t : Bool) → is_in_use k w ≡ t → AreRecordsSound l (record w { blocks = cond t w.blocks (without_block k w.blocks); attached = cond t w.attached (without_attachments k w.attached) })
+    go true e = record {
+      ranges_apart = h.ranges_apart;
+      blocks_apart = h.blocks_apart;
+      one_block_each = record {
+        mapped = h.mapped;
+        distinct = h.distinct;
+        in_use = AllByRecursion-weaker (λ b. (b.number == k) ≡ false → is_in_use b.number w ≡ true) (λ b. is_in_use b.number w ≡ true) w.blocks (λ b p. used_block b e p (b.number == k) refl) h.in_use;
+      };
+      counted = h.counted;
+      attached = h.attached;
+      queues = h.queues;
+    }
+    go false e =
+        let none : (range_of k w.ranges ≡ None) × (pins_of k w.queues ≡ 0) = no_use (range_of k w.ranges) (pins_of k w.queues) e in
+        record {
+          ranges_apart = h.ranges_apart;
+          blocks_apart = record {
+            on_device = AllByRecursion-filter (IsOnDevice l.device) (λ b. not (b.number == k)) w.blocks h.blocks_apart.on_device;
+            apart = EachPair-filter IsClearOf (λ b. not (b.number == k)) w.blocks h.blocks_apart.apart;
+            born = AllByRecursion-filter (λ b. b.number ≤ w.births) (λ b. not (b.number == k)) w.blocks h.blocks_apart.born;
+          };
+          one_block_each = record {
+            mapped = AllByRecursion-both (λ r. (r.block == k) ≡ false) (IsMapped w.blocks) (IsMapped (without_block k w.blocks)) w.ranges (λ r other m. (m.0, at-without_other number_of_block k r.block w.blocks other ∙ m.1, m.2)) (find_none (λ r. r.block == k) w.ranges none.0) h.mapped;
+            distinct = h.distinct;
+            in_use = AllByRecursion-passed (λ b. (b.number == k) ≡ false → is_in_use b.number w ≡ true) (λ b. is_in_use b.number w ≡ true) (λ b. not (b.number == k)) w.blocks (λ b other p. p (differs _ _ other)) h.in_use;
+          };
+          counted = h.counted;
+          attached = ended_attached l k w.blocks w.attached h.attached;
+          queues = unpinned_queues l k w.blocks w.queues none.1 h.queues;
+        }
+
+-- the mapping to a block ends
+pub ended_sound : (l : Limits) (k : ℕ) (w : Records) → AreRecordsSound l w → AreRecordsSound l (records_after_end k w)
+unfolding records_after_end
+ended_sound l k w h = released_sound l k (record w { ranges = without_range k w.ranges }) (record {
   ranges_apart = record {
     in_host = AllByRecursion-filter (λ r. IsInHost l r.section) (λ r. not (r.block == k)) w.ranges h.ranges_apart.in_host;
     rising = EachPair-filter (λ r t. IsBelow r.section t.section) (λ r. not (r.block == k)) w.ranges h.ranges_apart.rising;
   };
-  blocks_apart = record {
-    on_device = AllByRecursion-filter (IsOnDevice l.device) (λ b. not (b.number == k)) w.blocks h.blocks_apart.on_device;
-    apart = EachPair-filter IsClearOf (λ b. not (b.number == k)) w.blocks h.blocks_apart.apart;
-    born = AllByRecursion-filter (λ b. b.number ≤ w.births) (λ b. not (b.number == k)) w.blocks h.blocks_apart.born;
-  };
-  one_block_each = record {
-    mapped = AllByRecursion-passed (IsMapped w.blocks) (IsMapped (without_block k w.blocks)) (λ r. not (r.block == k)) w.ranges (λ r e m. (m.0, at-without_other number_of_block k r.block w.blocks (differs _ _ e) ∙ m.1, m.2)) h.one_block_each.mapped;
-    distinct = EachPair-filter (λ r t. r.block ≡ t.block → ⊥) (λ r. not (r.block == k)) w.ranges h.one_block_each.distinct;
-    in_use = AllByRecursion-passed (λ b. IsSome (range_of b.number w.ranges)) (λ b. IsSome (range_of b.number (without_range k w.ranges))) (λ b. not (b.number == k)) w.blocks (λ b e p. rw (at-without_other block_of k b.number w.ranges (differs _ _ e)) p) h.one_block_each.in_use;
-  };
+  blocks_apart = h.blocks_apart;
+  mapped = AllByRecursion-filter (IsMapped w.blocks) (λ r. not (r.block == k)) w.ranges h.one_block_each.mapped;
+  distinct = EachPair-filter (λ r t. r.block ≡ t.block → ⊥) (λ r. not (r.block == k)) w.ranges h.one_block_each.distinct;
+  in_use = AllByRecursion-weaker (λ b. is_in_use b.number w ≡ true) (λ b. (b.number == k) ≡ false → is_in_use b.number (record w { ranges = without_range k w.ranges }) ≡ true) w.blocks
+      (λ b p other. use_kept (range_of b.number w.ranges) (range_of b.number (without_range k w.ranges)) _ (λ q. rw (at-without_other block_of k b.number w.ranges other) q) p) h.one_block_each.in_use;
   counted = AllByRecursion-filter (IsCounted l) (λ r. not (r.block == k)) w.ranges h.counted;
-  attached = ended_attached l k w.blocks w.attached h.attached;
-}
+  attached = h.attached;
+  queues = h.queues;
+})
+
+-- the first transfer of a queue is made
+pub stepped_sound : (l : Limits) (q : ℕ) (w : Records) → AreRecordsSound l w → AreRecordsSound l (records_stepped q w)
+unfolding records_stepped
+stepped_sound l q w h = go (head_of q w.queues) refl
+  where
+    pinned : (t : Transfer) → head_of q w.queues ≡ Some t → (b : Block) → is_in_use b.number w ≡ true → (b.number == t.block) ≡ false → is_in_use b.number (record w { queues = popped q w.queues }) ≡ true
+    pinned t e b p other =
+        let pins : pins_of b.number (popped q w.queues) + cond (t.block == b.number) 1 0 ≡ pins_of b.number w.queues = pins-popped b.number q t w.queues e in
+        let differ : (t.block == b.number) ≡ false = grind (arith, nat_tests) in
+        let same : pins_of b.number (popped q w.queues) ≡ pins_of b.number w.queues = less (t.block == b.number) differ pins in
+        subst (λ n. (is_some (range_of b.number w.ranges) || not (n == 0)) ≡ true) (sym same) p
+      where
+        less : (c : Bool) → c ≡ false → pins_of b.number (popped q w.queues) + cond c 1 0 ≡ pins_of b.number w.queues → pins_of b.number (popped q w.queues) ≡ pins_of b.number w.queues
+        less true c e = cc
+        less false c e = omega (arith, e)
+
+    go : (o : Option Transfer) → head_of q w.queues ≡ o → AreRecordsSound l (records_made q o w)
+    go None e = h
+    go (Some t) e = released_sound l t.block (record w { queues = popped q w.queues }) (record {
+      ranges_apart = h.ranges_apart;
+      blocks_apart = h.blocks_apart;
+      mapped = h.one_block_each.mapped;
+      distinct = h.one_block_each.distinct;
+      in_use = AllByRecursion-weaker (λ b. is_in_use b.number w ≡ true) (λ b. (b.number == t.block) ≡ false → is_in_use b.number (record w { queues = popped q w.queues }) ≡ true) w.blocks (λ b p other. pinned t e b p other) h.one_block_each.in_use;
+      counted = h.counted;
+      attached = h.attached;
+      queues = queues-popped l w.blocks q w.queues h.queues;
+    })
+
+-- it leaves the ranges
+ranges-stepped : (q : ℕ) (w : Records) → (records_stepped q w).ranges ≡ w.ranges
+unfolding records_stepped released
+ranges-stepped q w = go (head_of q w.queues)
+  where
+    go : (o : Option Transfer) → (records_made q o w).ranges ≡ w.ranges
+    go None = refl
+    go (Some t) = refl
+
+pub ranges-drained : (qs : List ℕ) (w : Records) → (records_drained qs w).ranges ≡ w.ranges
+unfolding records_drained
+ranges-drained [] w = refl
+ranges-drained (q ∷ qs) w = ranges-drained qs (records_stepped q w) ∙ ranges-stepped q w
+
+-- and all that wait in some queues
+pub drained_sound : (l : Limits) (qs : List ℕ) (w : Records) → AreRecordsSound l w → AreRecordsSound l (records_drained qs w)
+unfolding records_drained
+drained_sound l [] w h = h
+drained_sound l (q ∷ qs) w h = drained_sound l qs (records_stepped q w) (stepped_sound l q w h)
 
 -- ---- a birth
 
@@ -250,9 +376,10 @@ birth_each l new p w birth h =
           (born_block new.block p new.section.len, at-push_new number_of_block w.blocks (born_block new.block p new.section.len) no_block, refl)
           (AllByRecursion-weaker (IsMapped w.blocks) (IsMapped (w.blocks ++ born_block new.block p new.section.len ∷ [])) w.ranges (λ r m. (m.0, at-push_there number_of_block r.block w.blocks (born_block new.block p new.section.len) m.0 m.1, m.2)) h.one_block_each.mapped);
       distinct = apart_with (λ r t. r.block ≡ t.block → ⊥) new w.ranges (AllByRecursion-weaker (λ r. r.block ≤ w.births) (λ r. (new.block ≡ r.block → ⊥) × (r.block ≡ new.block → ⊥)) w.ranges (λ r n. let first : new.block ≡ w.births + 1 = birth.number in ((λ e. omega arith), (λ e. omega arith))) (ranges_born l w h)) h.one_block_each.distinct;
-      in_use = AllByRecursion-append (λ b. IsSome (range_of b.number (with_range new w.ranges))) w.blocks (born_block new.block p new.section.len ∷ [])
-          (AllByRecursion-weaker (λ b. IsSome (range_of b.number w.ranges)) (λ b. IsSome (range_of b.number (with_range new w.ranges))) w.blocks (λ b s. with_there new b.number w.ranges s) h.one_block_each.in_use)
-          (with_new new w.ranges, tt);
+      in_use = AllByRecursion-append (λ b. is_in_use b.number (record w { ranges = with_range new w.ranges }) ≡ true) w.blocks (born_block new.block p new.section.len ∷ [])
+          (AllByRecursion-weaker (λ b. is_in_use b.number w ≡ true) (λ b. is_in_use b.number (record w { ranges = with_range new w.ranges }) ≡ true) w.blocks
+          (λ b s. use_kept (range_of b.number w.ranges) (range_of b.number (with_range new w.ranges)) _ (with_there new b.number w.ranges) s) h.one_block_each.in_use)
+          (mapped_used (range_of new.block (with_range new w.ranges)) _ (with_new new w.ranges), tt);
     }
 
 birth_ranges : (l : Limits) (new : Range) (p : ℕ) (w : Records) → 0 < new.section.len → IsBirth l new.section new.block p w → AreRangesApart l w.ranges → AreRangesApart l (with_range new w.ranges)
@@ -278,8 +405,8 @@ birth_attached l bs xs b h = record {
   there = AllByRecursion-weaker (λ a. IsSome (block_at a.block bs)) (λ a. IsSome (block_at a.block (bs ++ b ∷ []))) xs (λ a p. there_still a.block bs b p) h.there;
 }
 
-birth_sound : (l : Limits) (new : Range) (p : ℕ) (w : Records) → IsCounted l new → IsBirth l new.section new.block p w → AreRecordsSound l w → AreRecordsSound l (records_after_birth new p w)
-unfolding records_after_birth
+pub birth_sound : (l : Limits) (new : Range) (p : ℕ) (w : Records) → IsCounted l new → IsBirth l new.section new.block p w → AreRecordsSound l w → AreRecordsSound l (records_after_birth new p w)
+unfolding records_after_birth number_of_block
 birth_sound l new p w counted birth h =
     let some : 0 < new.section.len = let not_empty : is_empty new.section ≡ false = (absent_says new.section w.ranges birth.absent).1 in grind (arith, nat_tests) in
     record {
@@ -288,42 +415,23 @@ birth_sound l new p w counted birth h =
       one_block_each = birth_each l new p w birth h;
       counted = all_with (IsCounted l) new w.ranges counted h.counted;
       attached = birth_attached l w.blocks w.attached (born_block new.block p new.section.len) h.attached;
+      queues = queues-blocks l (λ t. ⊤) w.blocks (w.blocks ++ born_block new.block p new.section.len ∷ []) w.queues
+          (λ t any s. record { block = s.block; there = at-push_there number_of_block t.block w.blocks (born_block new.block p new.section.len) s.block s.there; in_host = s.in_host; offset = s.offset; within = s.within })
+          (all_any w.queues) h.queues;
     }
+  where
+    each_any : (ts : List Transfer) → AllByRecursion (λ (t : Transfer). ⊤) ts
+    each_any [] = tt
+    each_any (t ∷ ts) = (tt, each_any ts)
+
+    all_any : (queues : List (List Transfer)) → AllByRecursion (AllByRecursion (λ (t : Transfer). ⊤)) queues
+    all_any [] = tt
+    all_any (ts ∷ queues) = (each_any ts, all_any queues)
 
 -- the range of a birth by entry has one count
-first_counted : (l : Limits) (counter : Counter) (section : Section) (k : ℕ) → IsWithinBounds l → IsCounted l (risen counter (bare_range section k))
+pub first_counted : (l : Limits) (counter : Counter) (section : Section) (k : ℕ) → IsWithinBounds l → IsCounted l (risen counter (bare_range section k))
 first_counted l Structured section k bounds = record { some = omega arith; structured = bounds.counter_max.0; dynamic = omega arith }
 first_counted l Dynamic section k bounds = record { some = omega arith; structured = omega arith; dynamic = bounds.counter_max.0 }
-
--- ---- a task
-
-pub acted_sound : (l : Limits) (task : Task) (step : Step) (w : Records) → IsWithinBounds l → IsJudgedTo l task step w → AreRecordsSound l w → AreRecordsSound l (act_step task step w)
-unfolding act_step
-acted_sound l task Nothing w bounds says h = h
-acted_sound l (Enter counter item) (Counted k) w bounds says h = counted_sound l counter item k w h says
-acted_sound l (Enter Structured item) (Born k p) w bounds says h = birth_sound l (risen Structured (bare_range (section_of (Enter Structured item)) k)) p w (first_counted l Structured (section_of (Enter Structured item)) k bounds) says h
-acted_sound l (Enter Dynamic item) (Born k p) w bounds says h = birth_sound l (risen Dynamic (bare_range (section_of (Enter Dynamic item)) k)) p w (first_counted l Dynamic (section_of (Enter Dynamic item)) k bounds) says h
-acted_sound l (Enter counter item) (Dropped k ended) w bounds says h = absurd says
-acted_sound l (Enter counter item) (Moved k) w bounds says h = h
-acted_sound l (Leave holding) (Counted k) w bounds says h = absurd says
-acted_sound l (Leave holding) (Born k p) w bounds says h = absurd says
-acted_sound l (Leave holding) (Dropped k true) w bounds says h = ended_sound l k w h
-acted_sound l (Leave holding) (Dropped k false) w bounds says h = dropped_sound l (recounted (Leave holding)) k w (recounted_keeps (Leave holding)) (λ r. omega arith) (λ r. omega arith) h says.1
-acted_sound l (Leave holding) (Moved k) w bounds says h = h
-acted_sound l (Exit finalize item) (Counted k) w bounds says h = absurd says
-acted_sound l (Exit finalize item) (Born k p) w bounds says h = absurd says
-acted_sound l (Exit finalize item) (Dropped k true) w bounds says h = ended_sound l k w h
-acted_sound l (Exit true item) (Dropped k false) w bounds says h = dropped_sound l (recounted (Exit true item)) k w (recounted_keeps (Exit true item)) (λ r. omega arith) (λ r. omega arith) h says.ended_is
-acted_sound l (Exit false item) (Dropped k false) w bounds says h = dropped_sound l (recounted (Exit false item)) k w (recounted_keeps (Exit false item)) (λ r. omega arith) (λ r. omega arith) h says.ended_is
-acted_sound l (Exit finalize item) (Moved k) w bounds says h = h
-acted_sound l (Move if_present item) (Counted k) w bounds says h = absurd says
-acted_sound l (Move if_present item) (Born k p) w bounds says h = absurd says
-acted_sound l (Move if_present item) (Dropped k ended) w bounds says h = absurd says
-acted_sound l (Move if_present item) (Moved k) w bounds says h = h
-
--- a task that was judged keeps the records sound
-pub judged_sound : (l : Limits) (n : ℕ) (task : Task) (step : Step) (w : Records) → IsWithinBounds l → judge_step l n task w ≡ Ok step → AreRecordsSound l w → AreRecordsSound l (act_step task step w)
-judged_sound l n task step w bounds e h = acted_sound l task step w bounds (task_says l n task w step e) h
 
 -- ---- the start
 
@@ -334,4 +442,19 @@ new_sound l = record {
   one_block_each = record { mapped = tt; distinct = tt; in_use = tt };
   counted = tt;
   attached = record { rising = tt; counted = tt; there = tt };
+  queues = record { all = refl; limit = new_limit; transfers = new_transfers };
 }
+  where
+    new_limit : AllByRecursion (λ (ts : List Transfer). length ts ≤ l.queue_cap) new_queues
+    new_limit = each 16
+      where
+        each : (n : ℕ) → AllByRecursion (λ (ts : List Transfer). length ts ≤ l.queue_cap) (replicate n [])
+        each zero = tt
+        each (suc n) = (omega arith, each n)
+
+    new_transfers : AllByRecursion (AllByRecursion (IsTransferSound l [])) new_queues
+    new_transfers = each 16
+      where
+        each : (n : ℕ) → AllByRecursion (AllByRecursion (IsTransferSound l [])) (replicate n [])
+        each zero = tt
+        each (suc n) = (tt, each n)

@@ -10,23 +10,24 @@ use Rattle.acc_base.specs.declared.mappings.Range.{Range}
 use Rattle.acc_base.specs.declared.mappings.Counter.TheVariants.{Structured, Dynamic}
 use Rattle.acc_base.specs.declared.regions.Holding.{Holding}
 use Rattle.acc_base.specs.declared.tasks.Task.{Task}
-use Rattle.acc_base.specs.declared.tasks.Task.TheVariants.{Leave, Exit, Move}
+use Rattle.acc_base.specs.declared.tasks.Task.TheVariants.{Leave}
 use Rattle.acc_base.specs.declared.events.Did.{Did}
 use Rattle.acc_base.specs.declared.events.Event.{Event}
-use Rattle.acc_base.specs.declared.events.Event.TheVariants.{Entered, Left, EnteredData, ExitedData, Updated, HostWritten}
+use Rattle.acc_base.specs.declared.events.Event.TheVariants.{Entered, Left, EnteredData, ExitedData, Updated, Waited, Stepped, HostWritten}
 use Rattle.acc_base.specs.Limits.{Limits, IsWithinBounds}
 use Rattle.acc_base.specs.Records.{Records, Layout, new_layout}
 use Rattle.acc_base.specs.Register.{Region, Register, holdings_at, opened, closed, is_counted_block, count_held, held_in}
 use Rattle.acc_base.specs.Ranges.{range_of, structured_of, dynamic_of}
 use Rattle.acc_base.specs.Clauses.{as_region}
-use Rattle.acc_base.specs.Tasks.{act_all}
-use Rattle.acc_base.specs.Walk.{enter_task, enter_data_task, asked_in, done_in, register_after, holdings_of, walk, walk_all}
+use Rattle.acc_base.specs.Steps.{act_all}
+use Rattle.acc_base.specs.Waits.{records_drained}
+use Rattle.acc_base.specs.Walk.{enter_task, enter_data_task, exit_task, move_task, asked_in, done_in, stepped_in, register_after, holdings_of, walk, walk_all}
 use Rattle.acc_base.specs.History.{NamesRight, drops, count_counted, count_dropped, entries_of, exits_of, structured_in, dynamic_in, dynamic_after, IsLegal, AreLegal}
 use Rattle.acc_base.specs.Calls.{History}
 use Rattle.acc_base.specs.Accounts.{EachPair, AreRecordsSound, AreHeld, IsHistoryLegal}
 use Rattle.acc_base.proofs.Results.{equal_self}
 use Rattle.acc_base.proofs.Elements.{AllByRecursion-weaker, IfSome-weaker}
-use Rattle.acc_base.proofs.Sound.{new_sound}
+use Rattle.acc_base.proofs.Sound.{ranges-drained, drained_sound, new_sound}
 use Rattle.acc_base.proofs.AllTasks.{recount_same, AreLeft, all_left, AreSaid, all_said, entered_recount, held-entered, exited_recount, left_recount, held-left, sum_by-reverse}
 use Rattle.acc_base.proofs.Registers.{IsNumbered, new_numbered, opened_numbered, opened_held, closed_numbered, closed_held}
 
@@ -44,7 +45,7 @@ record IsHeldBy (b : ℕ) (e : Event) (g k : Register) : Type 0 where
 -- what the tasks of an event make of the counters
 recounted_by : (l : Limits) (e : Event) (g : Register) (w : Records) (b : ℕ) → AreSaid l (asked_in e g) (done_in e) → AreLeft l (asked_in e g) (done_in e) w (act_all (asked_in e g) (done_in e) w) → IsRecounted b e w (act_all (asked_in e g) (done_in e) w)
 recounted_by l (Entered number items did) g w b said left = record {
-  structured = left.counter_is Structured b ∙ (entered_recount l Structured b (λ (i : Item RegionClause). i) items did (structured_of b w.ranges) said ∙ omega arith);
+  structured = left.counter_is Structured b ∙ (entered_recount l Structured b (λ (i : Item RegionClause). i) None items did (structured_of b w.ranges) said ∙ omega arith);
   dynamic = left.counter_is Dynamic b ∙ recount_same Dynamic b enter_task items did (dynamic_of b w.ranges) (λ x m. refl);
 }
 recounted_by l (Left number did) g w b said left =
@@ -54,18 +55,20 @@ recounted_by l (Left number did) g w b said left =
       structured = left.counter_is Structured b ∙ (left_recount l b last_to_first (reverse did) (structured_of b w.ranges) said ∙ omega arith);
       dynamic = left.counter_is Dynamic b ∙ recount_same Dynamic b Leave last_to_first (reverse did) (dynamic_of b w.ranges) (λ x m. refl);
     }
-recounted_by l (EnteredData items did) g w b said left = record {
-  structured = left.counter_is Structured b ∙ (recount_same Structured b enter_data_task items did (structured_of b w.ranges) (λ x m. refl) ∙ omega arith);
-  dynamic = left.counter_is Dynamic b ∙ entered_recount l Dynamic b (λ (i : Item EnterClause). record { clause = as_region i.clause; section = i.section; pointer = i.pointer }) items did (dynamic_of b w.ranges) said;
+recounted_by l (EnteredData items queue did) g w b said left = record {
+  structured = left.counter_is Structured b ∙ (recount_same Structured b (enter_data_task queue) items did (structured_of b w.ranges) (λ x m. refl) ∙ omega arith);
+  dynamic = left.counter_is Dynamic b ∙ entered_recount l Dynamic b (λ (i : Item EnterClause). record { clause = as_region i.clause; section = i.section; pointer = i.pointer }) queue items did (dynamic_of b w.ranges) said;
 }
-recounted_by l (ExitedData items finalize did) g w b said left = record {
-  structured = left.counter_is Structured b ∙ (recount_same Structured b (Exit finalize) items did (structured_of b w.ranges) (λ x m. refl) ∙ omega arith);
-  dynamic = left.counter_is Dynamic b ∙ exited_recount l b finalize items did (dynamic_of b w.ranges) said;
+recounted_by l (ExitedData items finalize queue did) g w b said left = record {
+  structured = left.counter_is Structured b ∙ (recount_same Structured b (exit_task finalize queue) items did (structured_of b w.ranges) (λ x m. refl) ∙ omega arith);
+  dynamic = left.counter_is Dynamic b ∙ exited_recount l b finalize queue items did (dynamic_of b w.ranges) said;
 }
-recounted_by l (Updated items if_present did) g w b said left = record {
-  structured = left.counter_is Structured b ∙ (recount_same Structured b (Move if_present) items did (structured_of b w.ranges) (λ x m. refl) ∙ omega arith);
-  dynamic = left.counter_is Dynamic b ∙ recount_same Dynamic b (Move if_present) items did (dynamic_of b w.ranges) (λ x m. refl);
+recounted_by l (Updated items if_present queue did) g w b said left = record {
+  structured = left.counter_is Structured b ∙ (recount_same Structured b (move_task if_present queue) items did (structured_of b w.ranges) (λ x m. refl) ∙ omega arith);
+  dynamic = left.counter_is Dynamic b ∙ recount_same Dynamic b (move_task if_present queue) items did (dynamic_of b w.ranges) (λ x m. refl);
 }
+recounted_by l (Waited queue count) g w b said left = record { structured = left.counter_is Structured b ∙ omega arith; dynamic = left.counter_is Dynamic b }
+recounted_by l (Stepped queue block) g w b said left = record { structured = left.counter_is Structured b ∙ omega arith; dynamic = left.counter_is Dynamic b }
 recounted_by l (HostWritten addr len) g w b said left = record { structured = left.counter_is Structured b ∙ omega arith; dynamic = left.counter_is Dynamic b }
 
 -- what a number of a region holds, where one of that number is open
@@ -86,17 +89,21 @@ held_by l (Left number did) lay b h legal said =
     let turned_back : count_held b (reverse holdings) ≡ count_held b holdings = sum_by-reverse (λ (x : Holding). cond (is_counted_block b x.block) 1 0) holdings in
     let dropped : count_dropped b (reverse did) ≡ count_held b (reverse holdings) = held-left l b (reverse holdings) (reverse did) said in
     record { held = omega arith }
-held_by l (EnteredData items did) lay b h legal said = record { held = refl }
-held_by l (ExitedData items finalize did) lay b h legal said = record { held = refl }
-held_by l (Updated items if_present did) lay b h legal said = record { held = refl }
+held_by l (EnteredData items queue did) lay b h legal said = record { held = refl }
+held_by l (ExitedData items finalize queue did) lay b h legal said = record { held = refl }
+held_by l (Updated items if_present queue did) lay b h legal said = record { held = refl }
+held_by l (Waited queue count) lay b h legal said = record { held = refl }
+held_by l (Stepped queue block) lay b h legal said = record { held = refl }
 held_by l (HostWritten addr len) lay b h legal said = record { held = refl }
 
 numbered_by : (e : Event) (g : Register) → IsNumbered g → IsNumbered (register_after e g)
 numbered_by (Entered number items did) g h = opened_numbered (holdings_of items did) g h
 numbered_by (Left number did) g h = closed_numbered number g h
-numbered_by (EnteredData items did) g h = h
-numbered_by (ExitedData items finalize did) g h = h
-numbered_by (Updated items if_present did) g h = h
+numbered_by (EnteredData items queue did) g h = h
+numbered_by (ExitedData items finalize queue did) g h = h
+numbered_by (Updated items if_present queue did) g h = h
+numbered_by (Waited queue count) g h = h
+numbered_by (Stepped queue block) g h = h
 numbered_by (HostWritten addr len) g h = h
 
 -- what holds of a layout, with how often each block was counted and dropped by regions, and its dynamic counter
@@ -115,12 +122,14 @@ event_told l e lay entries exits dynamics bounds h legal =
     let tasks : List Task = asked_in e lay.register in
     let said : AreSaid l tasks (done_in e) = all_said l 0 tasks (done_in e) lay.records legal.judged in
     let left : AreLeft l tasks (done_in e) lay.records (act_all tasks (done_in e) lay.records) = all_left l 0 tasks (done_in e) lay.records bounds h.sound legal.judged in
+    let qs : List ℕ = stepped_in e lay.records.queues in
+    let same : (records_drained qs (act_all tasks (done_in e) lay.records)).ranges ≡ (act_all tasks (done_in e) lay.records).ranges = ranges-drained qs (act_all tasks (done_in e) lay.records) in
     record {
-      sound = left.sound;
+      sound = drained_sound l qs (act_all tasks (done_in e) lay.records) left.sound;
       numbered = numbered_by e lay.register h.numbered;
-      held = λ b. held_still b (recounted_by l e lay.register lay.records b said left) (held_by l e lay b h.numbered legal said);
-      structured = λ b. counted_still b (recounted_by l e lay.register lay.records b said left) (held_by l e lay b h.numbered legal said);
-      dynamic = λ b. (recounted_by l e lay.register lay.records b said left).dynamic ∙ ap (λ n. dynamic_after b n e) (h.dynamic b);
+      held = λ b. ap (structured_of b) same ∙ held_still b (recounted_by l e lay.register lay.records b said left) (held_by l e lay b h.numbered legal said);
+      structured = λ b. ap (λ rs. structured_of b rs + (exits b + exits_of b e)) same ∙ counted_still b (recounted_by l e lay.register lay.records b said left) (held_by l e lay b h.numbered legal said);
+      dynamic = λ b. ap (dynamic_of b) same ∙ (recounted_by l e lay.register lay.records b said left).dynamic ∙ ap (λ n. dynamic_after b n e) (h.dynamic b);
     }
   where
     held_still : (b : ℕ) → IsRecounted b e lay.records (act_all (asked_in e lay.register) (done_in e) lay.records) → IsHeldBy b e lay.register (register_after e lay.register)
@@ -184,9 +193,11 @@ legal_told l h lay bounds legal =
 abbrev pub with_number : Event → List ℕ → List ℕ
 with_number (Entered number items did) numbers = number ∷ numbers
 with_number (Left number did) numbers = numbers
-with_number (EnteredData items did) numbers = numbers
-with_number (ExitedData items finalize did) numbers = numbers
-with_number (Updated items if_present did) numbers = numbers
+with_number (EnteredData items queue did) numbers = numbers
+with_number (ExitedData items finalize queue did) numbers = numbers
+with_number (Updated items if_present queue did) numbers = numbers
+with_number (Waited queue count) numbers = numbers
+with_number (Stepped queue block) numbers = numbers
 with_number (HostWritten addr len) numbers = numbers
 
 -- the numbers of the regions that were entered, in order
@@ -205,9 +216,11 @@ numbers_from l (e ∷ events) lay legal = go e legal.0.names (numbers_from l eve
     go : (x : Event) → NamesRight l x lay → AreFrom (register_after x lay.register).next (numbers_in events) → AreFrom lay.register.next (with_number x (numbers_in events))
     go (Entered number items did) names later = let is : number ≡ lay.register.next = names in (omega arith, AllByRecursion-weaker (λ n. lay.register.next + 1 ≤ n) (λ n. lay.register.next ≤ n) (numbers_in events) (λ n p. omega arith) later)
     go (Left number did) names later = later
-    go (EnteredData items did) names later = later
-    go (ExitedData items finalize did) names later = later
-    go (Updated items if_present did) names later = later
+    go (EnteredData items queue did) names later = later
+    go (ExitedData items finalize queue did) names later = later
+    go (Updated items if_present queue did) names later = later
+    go (Waited queue count) names later = later
+    go (Stepped queue block) names later = later
     go (HostWritten addr len) names later = later
 
 -- they rise, so no number is used twice
@@ -219,9 +232,11 @@ numbers_rise l (e ∷ events) lay legal = go e legal.0.names (numbers_from l eve
     go : (x : Event) → NamesRight l x lay → AreFrom (register_after x lay.register).next (numbers_in events) → EachPair (λ (m : ℕ) (n : ℕ). m < n) (numbers_in events) → EachPair (λ (m : ℕ) (n : ℕ). m < n) (with_number x (numbers_in events))
     go (Entered number items did) names from later = let is : number ≡ lay.register.next = names in (AllByRecursion-weaker (λ n. lay.register.next + 1 ≤ n) (λ n. number < n) (numbers_in events) (λ n p. omega arith) from, later)
     go (Left number did) names from later = later
-    go (EnteredData items did) names from later = later
-    go (ExitedData items finalize did) names from later = later
-    go (Updated items if_present did) names from later = later
+    go (EnteredData items queue did) names from later = later
+    go (ExitedData items finalize queue did) names from later = later
+    go (Updated items if_present queue did) names from later = later
+    go (Waited queue count) names from later = later
+    go (Stepped queue block) names from later = later
     go (HostWritten addr len) names from later = later
 
 -- the numbers count up by one from this one
@@ -238,9 +253,11 @@ numbers_consecutive l (e ∷ events) lay legal = go e legal.0.names (numbers_con
     go : (x : Event) → NamesRight l x lay → AreConsecutive (register_after x lay.register).next (numbers_in events) → AreConsecutive lay.register.next (with_number x (numbers_in events))
     go (Entered number items did) names later = (names, later)
     go (Left number did) names later = later
-    go (EnteredData items did) names later = later
-    go (ExitedData items finalize did) names later = later
-    go (Updated items if_present did) names later = later
+    go (EnteredData items queue did) names later = later
+    go (ExitedData items finalize queue did) names later = later
+    go (Updated items if_present queue did) names later = later
+    go (Waited queue count) names later = later
+    go (Stepped queue block) names later = later
     go (HostWritten addr len) names later = later
 
 -- ---- what open regions hold

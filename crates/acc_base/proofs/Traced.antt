@@ -1,11 +1,12 @@
 -- The attachment counters of every block are those of the history that leads to it.
-use Rattle.std.proofs.Common.{ℕ, suc, ◌≡◌, ◌+◌, ◌-◌, ◌<◌, ◌≤◌, refl, sym, ◌∙◌, ap, subst, Bool, true, false, cond, List, [], ◌∷◌, ◌++◌, Option, Some, None, arith}
+use Rattle.std.proofs.Common.{ℕ, suc, ◌≡◌, ◌+◌, ◌-◌, ◌<◌, ◌≤◌, refl, sym, ◌∙◌, ap, subst, Bool, true, false, cond, List, [], ◌∷◌, ◌++◌, Option, Some, None, Ok, arith}
 use Rattle.std.specs.Prelude.{◌==◌, ◌&&◌, fold, unwrap_or, option_map, IsSome}
 use Rattle.std.proofs.lemmas.Bool.Decides.{nat_tests}
 use Rattle.acc_base.specs.declared.mappings.Block.{Block}
 use Rattle.acc_base.specs.declared.attachments.Attachment.{Attachment}
 use Rattle.acc_base.specs.declared.attachments.Aim.{Aim}
 use Rattle.acc_base.specs.declared.attachments.Aim.TheVariants as aims
+use Rattle.acc_base.specs.declared.transfers.Transfer.{Transfer}
 use Rattle.acc_base.specs.declared.tasks.Task.{Task}
 use Rattle.acc_base.specs.declared.tasks.Task.TheVariants.{Enter, Leave, Exit, Move}
 use Rattle.acc_base.specs.declared.events.Step.{Step}
@@ -14,11 +15,15 @@ use Rattle.acc_base.specs.declared.events.Did.{Did}
 use Rattle.acc_base.specs.declared.events.Event.{Event}
 use Rattle.acc_base.specs.Limits.{Limits, IsWithinBounds}
 use Rattle.acc_base.specs.Records.{Records, Layout, new_layout}
-use Rattle.acc_base.specs.Ranges.{bare_range}
+use Rattle.acc_base.specs.Ranges.{bare_range, without_range}
 use Rattle.acc_base.specs.Blocks.{block_at, without_block}
 use Rattle.acc_base.specs.Attachments.{is_of, count_at, count_after, without_attachments}
-use Rattle.acc_base.specs.Tasks.{section_of, recounted, records_after_birth, records_after_end, with_range_changed, act_step, records_aimed, act, act_all}
-use Rattle.acc_base.specs.Walk.{asked_in, done_in, walk, walk_all}
+use Rattle.acc_base.specs.Queues.{head_of, popped}
+use Rattle.acc_base.specs.Tasks.{section_of, queue_of, recounted}
+use Rattle.acc_base.specs.Transfers.{transfer_of, room_for}
+use Rattle.acc_base.specs.Steps.{is_in_use, released, records_after_birth, records_after_end, with_range_changed, act_row, with_put, act_step, records_aimed, act, act_all}
+use Rattle.acc_base.specs.Waits.{records_made, records_stepped, records_drained}
+use Rattle.acc_base.specs.Walk.{asked_in, done_in, stepped_in, walk, walk_all}
 use Rattle.acc_base.specs.Calls.{History}
 use Rattle.acc_base.specs.History.{attached_after, IsAimLegal, AreJudged, AreLegal}
 use Rattle.acc_base.specs.Accounts.{AreRecordsSound, AreAttachmentsTraced, IsHistoryLegal}
@@ -26,10 +31,11 @@ use Rattle.acc_base.proofs.Results.{equal}
 use Rattle.acc_base.proofs.Elements.{AllByRecursion-weaker, found_has, find-none}
 use Rattle.acc_base.proofs.Lookups.{at-without_same, at-without_other}
 use Rattle.acc_base.proofs.Attached.{same_block, count_at-attached_by, count_at-without_other}
-use Rattle.acc_base.proofs.Judged.{IsJudgedTo, task_says}
+use Rattle.acc_base.proofs.Judged.{IsJudgedTo, IsJudgedStep, step_judged, task_says}
 use Rattle.acc_base.proofs.Memories.{recounted-block}
 use Rattle.acc_base.proofs.Aimed.{IsAimThere, attach_block, leave_block, exit_block, leave_sound, exit_sound, move_sound, says_aimed, IsLeft, task_left}
-use Rattle.acc_base.proofs.Sound.{acted_sound, new_sound}
+use Rattle.acc_base.proofs.Sound.{drained_sound, new_sound}
+use Rattle.acc_base.proofs.Puts.{acted_sound}
 use Rattle.acc_base.proofs.AllTasks.{AreLeft, all_left}
 
 number_of : Block → ℕ
@@ -92,31 +98,58 @@ born_told l task k p w pointers number sound h = record {
         let none : block_at block (w.blocks ++ new ∷ []) ≡ None = at-push_other block w.blocks new other ∙ e in
         cc
 
-ended_told : (k : ℕ) (w : Records) (pointers : ℕ → ℕ → ℕ) → AreTold pointers w → AreTold pointers (records_after_end k w)
-unfolding records_after_end number_of
-ended_told k w pointers h = record {
-  there = λ block pointer there. go block pointer there (block == k) refl;
-  unborn = h.unborn;
-}
+-- a block that is given back has no counter
+released_told : (k : ℕ) (w : Records) (pointers : ℕ → ℕ → ℕ) → AreTold pointers w → AreTold pointers (released k w)
+unfolding released number_of
+released_told k w pointers h = go (is_in_use k w)
   where
-    go : (block pointer : ℕ) → IsSome (block_at block (without_block k w.blocks)) → (b : Bool) → (block == k) ≡ b → count_at block pointer (without_attachments k w.attached) ≡ pointers block pointer
-    go block pointer there true same =
+    gone : (block pointer : ℕ) → IsSome (block_at block (without_block k w.blocks)) → (b : Bool) → (block == k) ≡ b → count_at block pointer (without_attachments k w.attached) ≡ pointers block pointer
+    gone block pointer there true same =
         let is : block ≡ k = equal _ _ same in
         let none : block_at block (without_block k w.blocks) ≡ None = ap (λ n. block_at n (without_block k w.blocks)) is ∙ at-without_same number_of k w.blocks in
         cc
-    go block pointer there false same = count_at-without_other block pointer k w.attached same ∙ h.there block pointer (rw (← at-without_other number_of k block w.blocks same) there)
+    gone block pointer there false same = count_at-without_other block pointer k w.attached same ∙ h.there block pointer (rw (← at-without_other number_of k block w.blocks same) there)
+
+    go : (t : Bool) → AreTold pointers (record w { blocks = cond t w.blocks (without_block k w.blocks); attached = cond t w.attached (without_attachments k w.attached) })
+    go true = record { there = h.there; unborn = h.unborn }
+    go false = record { there = λ block pointer there. gone block pointer there (block == k) refl; unborn = h.unborn }
+
+-- the end of a mapping, and a transfer that is made
+ended_told : (k : ℕ) (w : Records) (pointers : ℕ → ℕ → ℕ) → AreTold pointers w → AreTold pointers (records_after_end k w)
+unfolding records_after_end
+ended_told k w pointers h = released_told k (record w { ranges = without_range k w.ranges }) pointers (record { there = h.there; unborn = h.unborn })
+
+stepped_told : (q : ℕ) (w : Records) (pointers : ℕ → ℕ → ℕ) → AreTold pointers w → AreTold pointers (records_stepped q w)
+unfolding records_stepped
+stepped_told q w pointers h = go (head_of q w.queues)
+  where
+    go : (o : Option Transfer) → AreTold pointers (records_made q o w)
+    go None = h
+    go (Some t) = released_told t.block (record w { queues = popped q w.queues }) pointers (record { there = h.there; unborn = h.unborn })
+
+drained_told : (qs : List ℕ) (w : Records) (pointers : ℕ → ℕ → ℕ) → AreTold pointers w → AreTold pointers (records_drained qs w)
+unfolding records_drained
+drained_told [] w pointers h = h
+drained_told (q ∷ qs) w pointers h = drained_told qs (records_stepped q w) pointers (stepped_told q w pointers h)
+
+-- a transfer that is put into a queue
+put_told : (task : Task) (step : Step) (w : Records) (pointers : ℕ → ℕ → ℕ) → AreTold pointers w → AreTold pointers (with_put task step w)
+put_told task step w pointers h = record { there = h.there; unborn = h.unborn }
 
 step_told : (l : Limits) (task : Task) (step : Step) (w : Records) (pointers : ℕ → ℕ → ℕ) → AreRecordsSound l w → IsJudgedTo l task step w → AreTold pointers w → AreTold pointers (act_step task step w)
-unfolding act_step with_range_changed
-step_told l task Nothing w pointers sound says h = h
+unfolding act_step act_row with_range_changed records_after_birth
+step_told l task Nothing w pointers sound says h = put_told task Nothing w pointers h
 step_told l task (Counted k) w pointers sound says h = record { there = h.there; unborn = h.unborn }
-step_told l (Enter counter item) (Born k p) w pointers sound says h = born_told l (Enter counter item) k p w pointers says.number sound h
+step_told l (Enter counter item queue) (Born k p) w pointers sound says h = put_after (born_told l (Enter counter item queue) k p w pointers says.number sound h)
+  where
+    put_after : AreTold pointers (records_after_birth (recounted (Enter counter item queue) (bare_range (section_of (Enter counter item queue)) k)) p w) → AreTold pointers (act_step (Enter counter item queue) (Born k p) w)
+    put_after t = record { there = t.there; unborn = t.unborn }
 step_told l (Leave holding) (Born k p) w pointers sound says h = absurd says
-step_told l (Exit finalize item) (Born k p) w pointers sound says h = absurd says
-step_told l (Move if_present item) (Born k p) w pointers sound says h = absurd says
-step_told l task (Dropped k true) w pointers sound says h = ended_told k w pointers h
+step_told l (Exit finalize item queue) (Born k p) w pointers sound says h = absurd says
+step_told l (Move if_present item queue) (Born k p) w pointers sound says h = absurd says
+step_told l task (Dropped k true) w pointers sound says h = ended_told k (with_put task (Dropped k true) w) pointers (put_told task (Dropped k true) w pointers h)
 step_told l task (Dropped k false) w pointers sound says h = record { there = h.there; unborn = h.unborn }
-step_told l task (Moved k) w pointers sound says h = h
+step_told l task (Moved k) w pointers sound says h = put_told task (Moved k) w pointers h
 
 -- ---- an attachment or a detachment leaves the counters that it says
 
@@ -150,18 +183,18 @@ then_told : (l : Limits) (task : Task) (did : Did) (w : Records) (pointers : ℕ
     → AreTold (told_after did pointers) (act_step task did.step (records_aimed did.aim w))
 then_told l task did w pointers sound aimed there says h = step_told l task did.step (records_aimed did.aim w) (told_after did pointers) aimed (says_aimed l task did.step did.aim w says) (aim_told l did.aim w pointers sound there h)
 
-task_told : (l : Limits) (task : Task) (did : Did) (w : Records) (pointers : ℕ → ℕ → ℕ) → IsWithinBounds l → AreRecordsSound l w → IsJudgedTo l task did.step w → IsAimLegal l task did w → AreTold pointers w → AreTold (told_after did pointers) (act task did w)
+task_told : (l : Limits) (task : Task) (did : Did) (w : Records) (pointers : ℕ → ℕ → ℕ) → IsWithinBounds l → AreRecordsSound l w → IsJudgedTo l task did.step w → room_for l.queue_cap (queue_of task) (transfer_of task did.step w.ranges) w.queues ≡ Ok tt → IsAimLegal l task did w → AreTold pointers w → AreTold (told_after did pointers) (act task did w)
 unfolding act
-task_told l (Enter counter item) did w pointers bounds sound says legal h =
-    let v : Records = act_step (Enter counter item) did.step w in
-    let stepped : AreRecordsSound l v = acted_sound l (Enter counter item) did.step w bounds says sound in
-    aim_told l did.aim v pointers stepped (attach_block l _ did.aim v stepped legal) (step_told l (Enter counter item) did.step w pointers sound says h)
-task_told l (Leave holding) did w pointers bounds sound says legal h =
+task_told l (Enter counter item queue) did w pointers bounds sound says room legal h =
+    let v : Records = act_step (Enter counter item queue) did.step w in
+    let stepped : AreRecordsSound l v = acted_sound l (Enter counter item queue) did.step w bounds says room sound in
+    aim_told l did.aim v pointers stepped (attach_block l _ did.aim v stepped legal) (step_told l (Enter counter item queue) did.step w pointers sound says h)
+task_told l (Leave holding) did w pointers bounds sound says room legal h =
     then_told l (Leave holding) did w pointers sound (leave_sound l holding did w sound legal) (subst (IsAimThere w.blocks) (sym legal) (leave_block l holding.aim w sound)) says h
-task_told l (Exit finalize item) did w pointers bounds sound says legal h =
-    then_told l (Exit finalize item) did w pointers sound (exit_sound l finalize item did w sound legal) (subst (IsAimThere w.blocks) (sym legal) (exit_block l finalize _ w sound)) says h
-task_told l (Move if_present item) did w pointers bounds sound says legal h =
-    then_told l (Move if_present item) did w pointers sound (move_sound l if_present item did w sound legal) (subst (IsAimThere w.blocks) (sym legal) (λ k e. cc)) says h
+task_told l (Exit finalize item queue) did w pointers bounds sound says room legal h =
+    then_told l (Exit finalize item queue) did w pointers sound (exit_sound l finalize item queue did w sound legal) (subst (IsAimThere w.blocks) (sym legal) (exit_block l finalize _ w sound)) says h
+task_told l (Move if_present item queue) did w pointers bounds sound says room legal h =
+    then_told l (Move if_present item queue) did w pointers sound (move_sound l if_present item queue did w sound legal) (subst (IsAimThere w.blocks) (sym legal) (λ k e. cc)) says h
 
 tasks_told : (l : Limits) (n : ℕ) (tasks : List Task) (dids : List Did) (w : Records) (pointers : ℕ → ℕ → ℕ) → IsWithinBounds l → AreRecordsSound l w → AreJudged l n tasks dids w → AreTold pointers w
     → AreTold (λ block pointer. fold (λ m d. count_after block pointer d.aim m) (pointers block pointer) dids) (act_all tasks dids w)
@@ -171,16 +204,21 @@ tasks_told l n [] (did ∷ dids) w pointers bounds sound judged h = absurd judge
 tasks_told l n (task ∷ tasks) [] w pointers bounds sound judged h = absurd judged
 tasks_told l n (task ∷ tasks) (did ∷ dids) w pointers bounds sound judged h =
     let says : IsJudgedTo l task did.step w = task_says l n task w did.step judged.0 in
-    let left : IsLeft l task did w (act task did w) = task_left l task did w bounds sound says judged.1 in
-    tasks_told l (suc n) tasks dids (act task did w) (told_after did pointers) bounds left.sound judged.2 (task_told l task did w pointers bounds sound says judged.1 h)
+    let room : room_for l.queue_cap (queue_of task) (transfer_of task did.step w.ranges) w.queues ≡ Ok tt = (step_judged l n task w did.step judged.0).room in
+    let left : IsLeft l task did w (act task did w) = task_left l task did w bounds sound says room judged.1 in
+    tasks_told l (suc n) tasks dids (act task did w) (told_after did pointers) bounds left.sound judged.2 (task_told l task did w pointers bounds sound says room judged.1 h)
 
 events_told : (l : Limits) (events : List Event) (lay : Layout) (pointers : ℕ → ℕ → ℕ) → IsWithinBounds l → AreRecordsSound l lay.records → AreLegal l events lay → AreTold pointers lay.records
     → AreTold (λ block pointer. fold (attached_after block pointer) (pointers block pointer) events) (walk_all events lay).records
 unfolding walk_all walk
 events_told l [] lay pointers bounds sound legal h = h
 events_told l (e ∷ events) lay pointers bounds sound legal h =
-    let left : AreLeft l (asked_in e lay.register) (done_in e) lay.records (walk e lay).records = all_left l 0 (asked_in e lay.register) (done_in e) lay.records bounds sound legal.0.judged in
-    events_told l events (walk e lay) (λ block pointer. attached_after block pointer (pointers block pointer) e) bounds left.sound legal.1 (tasks_told l 0 (asked_in e lay.register) (done_in e) lay.records pointers bounds sound legal.0.judged h)
+    let tasks : List Task = asked_in e lay.register in
+    let qs : List ℕ = stepped_in e lay.records.queues in
+    let v : Records = act_all tasks (done_in e) lay.records in
+    let left : AreLeft l tasks (done_in e) lay.records v = all_left l 0 tasks (done_in e) lay.records bounds sound legal.0.judged in
+    events_told l events (walk e lay) (λ block pointer. attached_after block pointer (pointers block pointer) e) bounds (drained_sound l qs v left.sound) legal.1
+    (drained_told qs v (λ block pointer. attached_after block pointer (pointers block pointer) e) (tasks_told l 0 tasks (done_in e) lay.records pointers bounds sound legal.0.judged h))
 
 nothing_told : AreTold (λ block pointer. 0) new_layout.records
 nothing_told = record { there = λ block pointer there. refl; unborn = λ block pointer later. refl }

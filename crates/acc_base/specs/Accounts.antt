@@ -5,6 +5,8 @@ use Rattle.acc_base.specs.declared.items.Section.{Section}
 use Rattle.acc_base.specs.declared.mappings.Range.{Range}
 use Rattle.acc_base.specs.declared.mappings.Block.{Block}
 use Rattle.acc_base.specs.declared.attachments.Attachment.{Attachment}
+use Rattle.acc_base.specs.declared.transfers.Transfer.{Transfer}
+use Rattle.acc_base.specs.declared.transfers.TheConstants.{QUEUE_COUNT}
 use Rattle.acc_base.specs.Limits.{Limits}
 use Rattle.acc_base.specs.Section.{end_of, is_within, host_memory, device_base}
 use Rattle.acc_base.specs.Ranges.{range_of, structured_of}
@@ -12,6 +14,7 @@ use Rattle.acc_base.specs.Blocks.{block_at, block_end, used_bytes}
 use Rattle.acc_base.specs.Attachments.{IsBefore, IsCountWithin, count_at}
 use Rattle.acc_base.specs.Register.{Region, Register, held_in}
 use Rattle.acc_base.specs.Records.{Records, Memory, Layout, State, new_layout, layout_of}
+use Rattle.acc_base.specs.Steps.{is_in_use}
 use Rattle.acc_base.specs.Walk.{walk_all}
 use Rattle.acc_base.specs.Calls.{History, World, event_count, open_regions}
 use Rattle.acc_base.specs.History.{structured_in, dynamic_in, attached_in, AreLegal}
@@ -63,11 +66,11 @@ pub record AreBlocksApart (device : ℕ) (blocks : List Block) (births : ℕ) : 
 abbrev pub IsMapped : List Block → Range → Type 0
 IsMapped blocks r = (b : Block) × (block_at r.block blocks ≡ Some b) × (b.len ≡ r.section.len)
 
--- each range has a block of its own, and each block is some range's
+-- each range has a block of its own, and each block is some range's or some queued transfer's
 pub record HasOneBlockEach (w : Records) : Type 0 where
   pub mapped : AllByRecursion (IsMapped w.blocks) w.ranges
   pub distinct : EachPair (λ (r : Range) (t : Range). r.block ≡ t.block → ⊥) w.ranges
-  pub in_use : AllByRecursion (λ b. IsSome (range_of b.number w.ranges)) w.blocks
+  pub in_use : AllByRecursion (λ b. is_in_use b.number w ≡ true) w.blocks
 
 -- ---- attachment counters
 
@@ -76,6 +79,22 @@ pub record AreAttachmentsSound (l : Limits) (blocks : List Block) (attached : Li
   pub rising : EachPair IsBefore attached
   pub counted : AllByRecursion (IsCountWithin l.counter_max) attached
   pub there : AllByRecursion (λ a. IsSome (block_at a.block blocks)) attached
+
+-- ---- queued transfers
+
+-- the section of a queued transfer is not empty, lies in host memory, and from the offset on in its block, which is there
+pub record IsTransferSound (l : Limits) (blocks : List Block) (t : Transfer) : Type 0 where
+  pub block : Block
+  pub there : block_at t.block blocks ≡ Some block
+  pub in_host : IsInHost l t.section
+  pub offset : t.offset ≤ t.section.start
+  pub within : t.offset + t.section.len ≤ block.len
+
+-- there are the queues, each within the limit, and what waits in them can be made
+pub record AreQueuesSound (l : Limits) (blocks : List Block) (queues : List (List Transfer)) : Type 0 where
+  pub all : length queues ≡ QUEUE_COUNT
+  pub limit : AllByRecursion (λ (ts : List Transfer). length ts ≤ l.queue_cap) queues
+  pub transfers : AllByRecursion (AllByRecursion (IsTransferSound l blocks)) queues
 
 -- ---- counters and the register
 
@@ -117,6 +136,7 @@ pub record AreRecordsSound (l : Limits) (w : Records) : Type 0 where
   pub one_block_each : HasOneBlockEach w
   pub counted : AllByRecursion (IsCounted l) w.ranges
   pub attached : AreAttachmentsSound l w.blocks w.attached
+  pub queues : AreQueuesSound l w.blocks w.queues
 
 -- records and register together, which a directive keeps as a whole
 pub record IsLayoutSound (l : Limits) (lay : Layout) : Type 0 where

@@ -7,13 +7,14 @@ use Rattle.acc_base.specs.declared.tasks.Task.TheVariants.{Enter, Leave, Exit, M
 use Rattle.acc_base.specs.declared.events.Step.{Step}
 use Rattle.acc_base.specs.declared.events.Did.{Did}
 use Rattle.acc_base.specs.declared.events.Event.{Event}
-use Rattle.acc_base.specs.declared.events.Event.TheVariants.{Entered, Left, EnteredData, ExitedData, Updated, HostWritten}
+use Rattle.acc_base.specs.declared.events.Event.TheVariants.{Entered, Left, EnteredData, ExitedData, Updated, Waited, Stepped, HostWritten}
 use Rattle.acc_base.specs.declared.faults.Fault.{Fault}
 use Rattle.acc_base.specs.Results.{◌>>=◌}
 use Rattle.acc_base.specs.Limits.{Limits}
 use Rattle.acc_base.specs.Records.{Records, State}
-use Rattle.acc_base.specs.Tasks.{pointer_aimed, judge_step}
-use Rattle.acc_base.specs.Walk.{asked_in, done_in, register_after}
+use Rattle.acc_base.specs.Steps.{pointer_aimed, judge_step}
+use Rattle.acc_base.specs.Waits.{drained}
+use Rattle.acc_base.specs.Walk.{asked_in, done_in, stepped_in, register_after}
 use Rattle.acc_base.specs.Bytes.{step_state, host_after_write}
 use Rattle.acc_base.specs.Pointers.{judge_attach, judge_detach, judge_release, aimed}
 
@@ -31,10 +32,10 @@ detach_if immediate (Some pointer) w = judge_detach immediate pointer w
 
 -- what becomes of the pointer of the item at place n, whose step is this: on entry it is attached in what the step left, on exit it is detached before the step
 unfoldable pub judge_aim : Limits → ℕ → Task → Step → State → Result Aim Fault
-judge_aim l n (Enter counter item) step s = attach_if l n (pointer_aimed (Enter counter item) step) (step_state (Enter counter item) step s)
+judge_aim l n (Enter counter item queue) step s = attach_if l n (pointer_aimed (Enter counter item queue) step) (step_state (Enter counter item queue) step s)
 judge_aim l n (Leave holding) step s = Ok (judge_release holding.aim s.records)
-judge_aim l n (Exit finalize item) step s = Ok (detach_if finalize (pointer_aimed (Exit finalize item) step) s.records)
-judge_aim l n (Move if_present item) step s = Ok aims.None
+judge_aim l n (Exit finalize item queue) step s = Ok (detach_if finalize (pointer_aimed (Exit finalize item queue) step) s.records)
+judge_aim l n (Move if_present item queue) step s = Ok aims.None
 
 -- its refusal, or what it does
 unfoldable pub judge_task : Limits → ℕ → Task → State → Result Did Fault
@@ -45,10 +46,10 @@ judge_task l n task s = do
 
 -- the state after it
 unfoldable pub act_state : Task → Did → State → State
-act_state (Enter counter item) did s = aimed did.aim (step_state (Enter counter item) did.step s)
+act_state (Enter counter item queue) did s = aimed did.aim (step_state (Enter counter item queue) did.step s)
 act_state (Leave holding) did s = step_state (Leave holding) did.step (aimed did.aim s)
-act_state (Exit finalize item) did s = step_state (Exit finalize item) did.step (aimed did.aim s)
-act_state (Move if_present item) did s = step_state (Move if_present item) did.step (aimed did.aim s)
+act_state (Exit finalize item queue) did s = step_state (Exit finalize item queue) did.step (aimed did.aim s)
+act_state (Move if_present item queue) did s = step_state (Move if_present item queue) did.step (aimed did.aim s)
 
 -- ---- all items of a directive: each is judged in what those before it left
 
@@ -66,17 +67,19 @@ act_all_state _ _ s = s
 
 -- ---- an event
 
--- what an event writes into host memory beside its items' transfers, from the bytes that its call brought
+-- what an event writes into host memory beside the transfers that it makes, from the bytes that its call brought
 abbrev pub host_after : Event → List ℕ → List ℕ → List ℕ
 host_after (Entered number items did) brought host = host
 host_after (Left number did) brought host = host
-host_after (EnteredData items did) brought host = host
-host_after (ExitedData items finalize did) brought host = host
-host_after (Updated items if_present did) brought host = host
+host_after (EnteredData items queue did) brought host = host
+host_after (ExitedData items finalize queue did) brought host = host
+host_after (Updated items if_present queue did) brought host = host
+host_after (Waited queue count) brought host = host
+host_after (Stepped queue block) brought host = host
 host_after (HostWritten addr len) brought host = host_after_write addr len brought host
 
 -- the state after an event, and with the bytes that its call brought
 unfoldable pub after : Event → List ℕ → State → State
 after e brought s =
-    let acted : State = act_all_state (asked_in e s.register) (done_in e) s in
+    let acted : State = drained (stepped_in e s.records.queues) (act_all_state (asked_in e s.register) (done_in e) s) in
     record { records = acted.records; register = register_after e s.register; host = host_after e brought acted.host; memories = acted.memories }

@@ -69,3 +69,13 @@ place_of number blocks = unwrap_or (option_map (λ b. b.place) (block_at number 
 -- the blocks without one
 abbrev pub without_block : ℕ → List Block → List Block
 without_block number blocks = filter (λ b. not (b.number == number)) blocks
+
+-- the one of two blocks that lies lower, of which the second may be missing
+abbrev pub lower : Block → Option Block → Block
+lower b None = b
+lower b (Some c) = if nat_le b.place c.place then b else c
+
+-- the block of least place
+abbrev pub lowest : List Block → Option Block
+lowest [] = None
+lowest (b ∷ bs) = Some (lower b (lowest bs))

@@ -2,20 +2,20 @@
 use Rattle.std.specs.Prelude.{ℕ, suc, ◌-◌, Bool, true, false, not, ◌&&◌, if◌then◌else◌, ◌==◌, List, [], ◌∷◌, ◌++◌, map, replicate, filter, find, Option, Some, None, unwrap_or, option_map, slice_index}
 use Rattle.std.specs.List.{list_any}
 use Rattle.acc_base.specs.declared.items.Section.{Section}
-use Rattle.acc_base.specs.declared.mappings.Range.{Range}
 use Rattle.acc_base.specs.declared.mappings.Block.{Block}
 use Rattle.acc_base.specs.declared.attachments.Attachment.{Attachment}
 use Rattle.acc_base.specs.declared.tasks.Task.{Task}
 use Rattle.acc_base.specs.declared.tasks.Task.TheVariants.{Enter, Leave, Exit, Move}
-use Rattle.acc_base.specs.declared.tasks.Transfer.{Transfer}
+use Rattle.acc_base.specs.declared.transfers.Transfer.{Transfer}
 use Rattle.acc_base.specs.declared.events.Step.{Step}
 use Rattle.acc_base.specs.declared.events.Step.TheVariants.{Nothing, Counted, Born, Dropped, Moved}
 use Rattle.acc_base.specs.Section.{covers, host_base}
-use Rattle.acc_base.specs.Ranges.{start_of}
 use Rattle.acc_base.specs.Attachments.{is_skipped}
-use Rattle.acc_base.specs.Records.{Memory, State}
-use Rattle.acc_base.specs.Clauses.{copies_in, copies_out, is_copyout, is_to_self, is_zeroed}
-use Rattle.acc_base.specs.Tasks.{section_of, act_step}
+use Rattle.acc_base.specs.Records.{Records, Memory, State}
+use Rattle.acc_base.specs.Clauses.{is_zeroed}
+use Rattle.acc_base.specs.Tasks.{section_of}
+use Rattle.acc_base.specs.Transfers.{first_address, made_now}
+use Rattle.acc_base.specs.Steps.{is_in_use, act_step}
 
 -- the bytes from an address on, where those at some addresses come from a source
 abbrev pub written_bytes : (ℕ → Bool) → (ℕ → ℕ) → ℕ → List ℕ → List ℕ
@@ -42,10 +42,6 @@ abbrev pub without_memory : ℕ → List Memory → List Memory
 without_memory block memories = filter (λ m. not (m.block == block)) memories
 
 -- ---- transfers: they copy the section but for the bytes of attached pointers, and every other byte stays (OpenACC 3.3, section 2.6.8)
-
--- the host address of the block's first byte
-abbrev pub first_address : Transfer → ℕ
-first_address t = t.section.start - t.offset
 
 -- the address is one of those that are copied
 abbrev pub is_moved : Section → ℕ → List Attachment → ℕ → Bool
@@ -75,42 +71,7 @@ memories_made (Some t) attached host memories =
     then memories
     else map (memory_changed t.block (bytes_moved_in (is_moved t.section t.block attached) host (first_address t))) memories
 
--- ---- the transfer of one item (OpenACC 3.3, section 2.7 and the update directive)
-
--- a birth by this task copies the section to the new block
-abbrev pub gets_bytes : Task → Bool
-gets_bytes (Enter counter item) = copies_in item.clause
-gets_bytes (Leave holding) = false
-gets_bytes (Exit finalize item) = false
-gets_bytes (Move if_present item) = false
-
--- the end of a mapping by this task copies the section to the host
-abbrev pub gives_bytes : Task → Bool
-gives_bytes (Enter counter item) = false
-gives_bytes (Leave holding) = copies_out holding.item.clause
-gives_bytes (Exit finalize item) = is_copyout item.clause
-gives_bytes (Move if_present item) = false
-
--- a copy by this task goes to the host
-abbrev pub goes_out : Task → Bool
-goes_out (Enter counter item) = false
-goes_out (Leave holding) = true
-goes_out (Exit finalize item) = true
-goes_out (Move if_present item) = is_to_self item.clause
-
--- the copy of a section of a mapped range
-abbrev pub transfer_at : Task → ℕ → List Range → Transfer
-transfer_at task block ranges = record { block = block; offset = (section_of task).start - start_of block ranges; section = section_of task; out = goes_out task }
-
-abbrev pub transfer_of : Task → Step → List Range → Option Transfer
-transfer_of task Nothing ranges = None
-transfer_of task (Counted block) ranges = None
-transfer_of task (Born block place) ranges = if gets_bytes task then Some (record { block = block; offset = 0; section = section_of task; out = false }) else None
-transfer_of task (Dropped block true) ranges = if gives_bytes task then Some (transfer_at task block ranges) else None
-transfer_of task (Dropped block false) ranges = None
-transfer_of task (Moved block) ranges = Some (transfer_at task block ranges)
-
--- ---- one item: a new block is filled, then the copy is made, then the memory of an ended block is gone
+-- ---- one item: a new block is filled, then the copy is made, then the memory of a block that is given back is gone
 
 -- the byte that fills a new block, which the modifier `zero` changes
 abbrev pub fill_byte : Bool → ℕ
@@ -118,10 +79,10 @@ fill_byte zeroed = if zeroed then 0 else 0xa5
 
 -- what fills a block that is born by this task
 abbrev pub fill_of : Task → ℕ
-fill_of (Enter counter item) = fill_byte (is_zeroed item.clause)
+fill_of (Enter counter item queue) = fill_byte (is_zeroed item.clause)
 fill_of (Leave holding) = fill_byte false
-fill_of (Exit finalize item) = fill_byte false
-fill_of (Move if_present item) = fill_byte false
+fill_of (Exit finalize item queue) = fill_byte false
+fill_of (Move if_present item queue) = fill_byte false
 
 abbrev pub memories_begun : Task → Step → List Memory → List Memory
 memories_begun task Nothing memories = memories
@@ -130,21 +91,26 @@ memories_begun task (Born block place) memories = memories ++ record { block = b
 memories_begun task (Dropped block ended) memories = memories
 memories_begun task (Moved block) memories = memories
 
-abbrev pub memories_ended : Step → List Memory → List Memory
-memories_ended Nothing memories = memories
-memories_ended (Counted block) memories = memories
-memories_ended (Born block place) memories = memories
-memories_ended (Dropped block true) memories = without_memory block memories
-memories_ended (Dropped block false) memories = memories
-memories_ended (Moved block) memories = memories
+-- the memory of a block is gone once the block is given back
+abbrev pub memories_released : ℕ → Records → List Memory → List Memory
+memories_released block w memories = if is_in_use block w then memories else without_memory block memories
+
+-- the memories after a step that left these records
+abbrev pub memories_ended : Step → Records → List Memory → List Memory
+memories_ended Nothing w memories = memories
+memories_ended (Counted block) w memories = memories
+memories_ended (Born block place) w memories = memories
+memories_ended (Dropped block true) w memories = memories_released block w memories
+memories_ended (Dropped block false) w memories = memories
+memories_ended (Moved block) w memories = memories
 
 -- the host's bytes after a task
 abbrev pub host_acted : Task → Step → State → List ℕ
-host_acted task step s = host_made (transfer_of task step s.records.ranges) s.records.attached s.memories s.host
+host_acted task step s = host_made (made_now task step s.records.ranges) s.records.attached s.memories s.host
 
 -- the blocks' bytes after a task
 abbrev pub memories_acted : Task → Step → State → List Memory
-memories_acted task step s = memories_ended step (memories_made (transfer_of task step s.records.ranges) s.records.attached s.host (memories_begun task step s.memories))
+memories_acted task step s = memories_ended step (act_step task step s.records) (memories_made (made_now task step s.records.ranges) s.records.attached s.host (memories_begun task step s.memories))
 
 unfoldable pub step_state : Task → Step → State → State
 step_state task step s = record {

@@ -1,7 +1,7 @@
 -- A call on a table: its refusal, or its event with the world after it. A world is a history and the state that it led to.
 use Rattle.std.specs.Prelude.{ℕ, nat_le, List, [], ◌∷◌, ◌++◌, length, Result, Ok, ⊤}
 use Rattle.acc_base.specs.declared.directives.Directive.{Directive}
-use Rattle.acc_base.specs.declared.directives.Directive.TheVariants.{Enter, Exit, EnterData, ExitData, Update}
+use Rattle.acc_base.specs.declared.directives.Directive.TheVariants.{Enter, Exit, EnterData, ExitData, Update, Wait, Step}
 use Rattle.acc_base.specs.declared.calls.Call.{Call}
 use Rattle.acc_base.specs.declared.calls.Call.TheVariants.{Do, HostWrite}
 use Rattle.acc_base.specs.declared.events.Event.{Event}
@@ -11,7 +11,7 @@ use Rattle.acc_base.specs.Results.{◌>>=◌, ◌>>◌, refuse_if}
 use Rattle.acc_base.specs.Limits.{Limits}
 use Rattle.acc_base.specs.Records.{State, new_state}
 use Rattle.acc_base.specs.Acting.{after}
-use Rattle.acc_base.specs.Judge.{few_items, directive_event, host_write_event}
+use Rattle.acc_base.specs.Judge.{Verdict, Makes, Idle, few_items, directive_verdict, host_write_event}
 
 -- the events since a table was new
 pub record History : Type 0 where
@@ -42,18 +42,15 @@ ticket w = refuse_if (nat_le w.limits.tickets (event_count w.history)) (NoTicket
 abbrev pub allowance : World → Directive → Result ⊤ Fault
 allowance w (Enter items) = refuse_if (nat_le w.limits.regions (open_regions w.state)) (NoAllowance 0)
 allowance w (Exit number) = Ok tt
-allowance w (EnterData items) = Ok tt
-allowance w (ExitData items finalize) = Ok tt
-allowance w (Update items if_present) = Ok tt
+allowance w (EnterData items queue) = Ok tt
+allowance w (ExitData items finalize queue) = Ok tt
+allowance w (Update items if_present queue) = Ok tt
+allowance w (Wait queue) = Ok tt
+allowance w (Step queue) = Ok tt
 
 -- there is room in the trace for one more event
 abbrev pub trace_room : World → Result ⊤ Fault
 trace_room w = refuse_if (nat_le w.limits.trace_cap (length w.history.trace)) (TraceFull (length w.history.trace))
-
--- what an accepted call comes to: an event, or nothing to do
-pub data Verdict : Type 0 where
-  Makes : Event → Verdict
-  Idle : Verdict
 
 -- the first refusal of a call in the order of refusals, or what it comes to
 unfoldable pub judge : World → Call → Result Verdict Fault
@@ -62,8 +59,7 @@ judge w (Do directive) = do
   allowance w directive
   few_items directive
   trace_room w
-  e ← directive_event w.limits directive w.state
-  Ok (Makes e)
+  directive_verdict w.limits directive w.state
 judge w (HostWrite addr bytes) = do
   ticket w
   trace_room w

@@ -1,10 +1,10 @@
 -- The counters as counts over the events, and which lists of events are legal.
-use Rattle.std.specs.Prelude.{ℕ, suc, ◌+◌, ◌-◌, ◌≡◌, ◌<◌, Bool, false, if◌then◌else◌, ◌==◌, List, [], ◌∷◌, Option, Some, Ok, count_by, sum_by, fold, IsSome, ⊤}
+use Rattle.std.specs.Prelude.{ℕ, suc, ◌+◌, ◌-◌, ◌≡◌, ◌<◌, Bool, false, if◌then◌else◌, ◌==◌, List, [], ◌∷◌, length, Option, option_map, Some, Ok, count_by, sum_by, fold, IsSome, ⊤}
 use Rattle.acc_base.specs.declared.events.Step.{Step}
 use Rattle.acc_base.specs.declared.events.Step.TheVariants.{Nothing, Counted, Born, Dropped, Moved}
 use Rattle.acc_base.specs.declared.events.Did.{Did}
 use Rattle.acc_base.specs.declared.events.Event.{Event}
-use Rattle.acc_base.specs.declared.events.Event.TheVariants.{Entered, Left, EnteredData, ExitedData, Updated, HostWritten}
+use Rattle.acc_base.specs.declared.events.Event.TheVariants.{Entered, Left, EnteredData, ExitedData, Updated, Waited, Stepped, HostWritten}
 use Rattle.acc_base.specs.declared.attachments.Aim.{Aim}
 use Rattle.acc_base.specs.declared.attachments.Aim.TheVariants as aims
 use Rattle.acc_base.specs.declared.tasks.Task.{Task}
@@ -14,9 +14,11 @@ use Rattle.acc_base.specs.Records.{Records, Layout}
 use Rattle.acc_base.specs.Register.{holdings_at}
 use Rattle.acc_base.specs.Clauses.{in_host}
 use Rattle.acc_base.specs.Attachments.{count_at, count_after}
-use Rattle.acc_base.specs.Tasks.{pointer_aimed, judge_step, act_step, act}
+use Rattle.acc_base.specs.Steps.{pointer_aimed, judge_step, act_step, act}
 use Rattle.acc_base.specs.Pointers.{block_with, device_address_of, judge_release}
 use Rattle.acc_base.specs.Acting.{detach_if}
+use Rattle.acc_base.specs.Queues.{head_of, queue_named}
+use Rattle.acc_base.specs.Waits.{steps_of}
 use Rattle.acc_base.specs.Walk.{asked_in, done_in, walk}
 use Rattle.acc_base.specs.Calls.{History}
 
@@ -50,18 +52,22 @@ count_dropped block did = count_by (λ d. drops block d.step) did
 abbrev pub entries_of : ℕ → Event → ℕ
 entries_of block (Entered number items did) = count_counted block did
 entries_of block (Left number did) = 0
-entries_of block (EnteredData items did) = 0
-entries_of block (ExitedData items finalize did) = 0
-entries_of block (Updated items if_present did) = 0
+entries_of block (EnteredData items queue did) = 0
+entries_of block (ExitedData items finalize queue did) = 0
+entries_of block (Updated items if_present queue did) = 0
+entries_of block (Waited queue count) = 0
+entries_of block (Stepped queue b) = 0
 entries_of block (HostWritten addr len) = 0
 
 -- how often an event's exit from a region dropped it
 abbrev pub exits_of : ℕ → Event → ℕ
 exits_of block (Entered number items did) = 0
 exits_of block (Left number did) = count_dropped block did
-exits_of block (EnteredData items did) = 0
-exits_of block (ExitedData items finalize did) = 0
-exits_of block (Updated items if_present did) = 0
+exits_of block (EnteredData items queue did) = 0
+exits_of block (ExitedData items finalize queue did) = 0
+exits_of block (Updated items if_present queue did) = 0
+exits_of block (Waited queue count) = 0
+exits_of block (Stepped queue b) = 0
 exits_of block (HostWritten addr len) = 0
 
 abbrev pub structured_in : ℕ → History → ℕ
@@ -77,9 +83,11 @@ dynamic_dropped finalize block n did = if drops block did.step then (if finalize
 abbrev pub dynamic_after : ℕ → ℕ → Event → ℕ
 dynamic_after block n (Entered number items did) = n
 dynamic_after block n (Left number did) = n
-dynamic_after block n (EnteredData items did) = n + count_counted block did
-dynamic_after block n (ExitedData items finalize did) = fold (dynamic_dropped finalize block) n did
-dynamic_after block n (Updated items if_present did) = n
+dynamic_after block n (EnteredData items queue did) = n + count_counted block did
+dynamic_after block n (ExitedData items finalize queue did) = fold (dynamic_dropped finalize block) n did
+dynamic_after block n (Updated items if_present queue did) = n
+dynamic_after block n (Waited queue count) = n
+dynamic_after block n (Stepped queue b) = n
 dynamic_after block n (HostWritten addr len) = n
 
 abbrev pub dynamic_in : ℕ → History → ℕ
@@ -110,10 +118,10 @@ IsAttachLegal l named (aims.Cleared pointer block) w = ⊥
 
 -- what became of the pointer of an item is legal in what was there before the item
 abbrev pub IsAimLegal : Limits → Task → Did → Records → Type 0
-IsAimLegal l (Enter counter item) did w = IsAttachLegal l (pointer_aimed (Enter counter item) did.step) did.aim (act_step (Enter counter item) did.step w)
+IsAimLegal l (Enter counter item queue) did w = IsAttachLegal l (pointer_aimed (Enter counter item queue) did.step) did.aim (act_step (Enter counter item queue) did.step w)
 IsAimLegal l (Leave holding) did w = did.aim ≡ judge_release holding.aim w
-IsAimLegal l (Exit finalize item) did w = did.aim ≡ detach_if finalize (pointer_aimed (Exit finalize item) did.step) w
-IsAimLegal l (Move if_present item) did w = did.aim ≡ aims.None
+IsAimLegal l (Exit finalize item queue) did w = did.aim ≡ detach_if finalize (pointer_aimed (Exit finalize item queue) did.step) w
+IsAimLegal l (Move if_present item queue) did w = did.aim ≡ aims.None
 
 -- each task did what it is judged to do in what the tasks before it left
 abbrev pub AreJudged : Limits → ℕ → List Task → List Did → Records → Type 0
@@ -122,13 +130,15 @@ AreJudged l n [] (did ∷ dids) w = ⊥
 AreJudged l n (task ∷ tasks) [] w = ⊥
 AreJudged l n (task ∷ tasks) (did ∷ dids) w = (judge_step l n task w ≡ Ok did.step) × IsAimLegal l task did w × AreJudged l (suc n) tasks dids (act task did w)
 
--- what an event names is so: a new region has the next number, a region that is left is open, and a write lies in host memory
+-- what an event names is so: a new region has the next number, a region that is left is open, there is the queue, a wait makes as many transfers as wait there, a step makes the first one, and a write lies in host memory
 abbrev pub NamesRight : Limits → Event → Layout → Type 0
 NamesRight l (Entered number items did) lay = number ≡ lay.register.next
 NamesRight l (Left number did) lay = IsSome (holdings_at number lay.register.regions)
-NamesRight l (EnteredData items did) lay = ⊤
-NamesRight l (ExitedData items finalize did) lay = ⊤
-NamesRight l (Updated items if_present did) lay = ⊤
+NamesRight l (EnteredData items queue did) lay = queue_named queue ≡ Ok tt
+NamesRight l (ExitedData items finalize queue did) lay = queue_named queue ≡ Ok tt
+NamesRight l (Updated items if_present queue did) lay = queue_named queue ≡ Ok tt
+NamesRight l (Waited queue count) lay = (queue_named queue ≡ Ok tt) × (count ≡ length (steps_of queue lay.records.queues))
+NamesRight l (Stepped queue block) lay = option_map (λ t. t.block) (head_of queue lay.records.queues) ≡ Some block
 NamesRight l (HostWritten addr len) lay = in_host l 0 (record { start = addr; len = len }) ≡ Ok tt
 
 pub record IsLegal (l : Limits) (e : Event) (lay : Layout) : Type 0 where

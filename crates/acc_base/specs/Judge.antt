@@ -1,8 +1,9 @@
 -- What each directive is refused for, in order, and else the event that it makes.
-use Rattle.std.specs.Prelude.{ℕ, nat_lt, List, map, length, reverse, Option, Some, None, Result, Ok, Err, ⊤}
+use Rattle.std.specs.Prelude.{ℕ, nat_lt, List, [], map, length, reverse, Option, Some, None, Result, Ok, Err, ⊤}
 use Rattle.acc_base.specs.declared.directives.Directive.{Directive}
-use Rattle.acc_base.specs.declared.directives.Directive.TheVariants.{Enter, Exit, EnterData, ExitData, Update}
+use Rattle.acc_base.specs.declared.directives.Directive.TheVariants.{Enter, Exit, EnterData, ExitData, Update, Wait, Step}
 use Rattle.acc_base.specs.declared.regions.Holding.{Holding}
+use Rattle.acc_base.specs.declared.transfers.Transfer.{Transfer}
 use Rattle.acc_base.specs.declared.tasks.Task.{Task}
 use Rattle.acc_base.specs.declared.tasks.Task.TheVariants as tasks
 use Rattle.acc_base.specs.declared.events.Did.{Did}
@@ -16,7 +17,9 @@ use Rattle.acc_base.specs.Records.{State}
 use Rattle.acc_base.specs.Register.{Register, holdings_at}
 use Rattle.acc_base.specs.Clauses.{in_host}
 use Rattle.acc_base.specs.Acting.{judge_all}
-use Rattle.acc_base.specs.Walk.{enter_task, enter_data_task, leave_tasks}
+use Rattle.acc_base.specs.Queues.{head_of, queue_named}
+use Rattle.acc_base.specs.Waits.{steps_of}
+use Rattle.acc_base.specs.Walk.{enter_task, enter_data_task, exit_task, move_task, leave_tasks}
 
 -- how many items a directive may have
 abbrev pub item_limit : ℕ
@@ -26,9 +29,11 @@ item_limit = 64
 abbrev pub item_count : Directive → ℕ
 item_count (Enter items) = length items
 item_count (Exit number) = 0
-item_count (EnterData items) = length items
-item_count (ExitData items finalize) = length items
-item_count (Update items if_present) = length items
+item_count (EnterData items queue) = length items
+item_count (ExitData items finalize queue) = length items
+item_count (Update items if_present queue) = length items
+item_count (Wait queue) = 0
+item_count (Step queue) = 0
 
 abbrev pub few_items : Directive → Result ⊤ Fault
 few_items d = refuse_if (nat_lt item_limit (item_count d)) (TooManyItems (item_count d))
@@ -42,28 +47,53 @@ tasks_of_region number (Some holdings) = Ok (leave_tasks holdings)
 abbrev pub tasks_of : Directive → Register → Result (List Task) Fault
 tasks_of (Enter items) g = Ok (map enter_task items)
 tasks_of (Exit number) g = tasks_of_region number (holdings_at number g.regions)
-tasks_of (EnterData items) g = Ok (map enter_data_task items)
-tasks_of (ExitData items finalize) g = Ok (map (tasks.Exit finalize) items)
-tasks_of (Update items if_present) g = Ok (map (tasks.Move if_present) items)
+tasks_of (EnterData items queue) g = Ok (map (enter_data_task queue) items)
+tasks_of (ExitData items finalize queue) g = Ok (map (exit_task finalize queue) items)
+tasks_of (Update items if_present queue) g = Ok (map (move_task if_present queue) items)
+tasks_of (Wait queue) g = Ok []
+tasks_of (Step queue) g = Ok []
 
--- the event of a directive whose tasks did this, in the order in which they acted
-abbrev pub event_of : Directive → Register → List Did → Event
-event_of (Enter items) g dids = events.Entered g.next items dids
-event_of (Exit number) g dids = events.Left number (reverse dids)
-event_of (EnterData items) g dids = events.EnteredData items dids
-event_of (ExitData items finalize) g dids = events.ExitedData items finalize dids
-event_of (Update items if_present) g dids = events.Updated items if_present dids
+-- the queue that a directive names
+abbrev pub queue_in : Directive → Option ℕ
+queue_in (Enter items) = None
+queue_in (Exit number) = None
+queue_in (EnterData items queue) = queue
+queue_in (ExitData items finalize queue) = queue
+queue_in (Update items if_present queue) = queue
+queue_in (Wait queue) = queue
+queue_in (Step queue) = Some queue
 
--- the first refusal of a directive's items, or its event
-unfoldable pub directive_event : Limits → Directive → State → Result Event Fault
-directive_event l d s = do
+-- what an accepted call comes to: an event, or nothing to do
+pub data Verdict : Type 0 where
+  Makes : Event → Verdict
+  Idle : Verdict
+
+-- the step of a queue makes its first transfer; there is nothing to do where the queue is empty
+abbrev pub step_verdict : ℕ → Option Transfer → Verdict
+step_verdict queue None = Idle
+step_verdict queue (Some t) = Makes (events.Stepped queue t.block)
+
+-- what a directive comes to whose tasks did this, in the order in which they acted
+abbrev pub verdict_of : Directive → State → List Did → Verdict
+verdict_of (Enter items) s dids = Makes (events.Entered s.register.next items dids)
+verdict_of (Exit number) s dids = Makes (events.Left number (reverse dids))
+verdict_of (EnterData items queue) s dids = Makes (events.EnteredData items queue dids)
+verdict_of (ExitData items finalize queue) s dids = Makes (events.ExitedData items finalize queue dids)
+verdict_of (Update items if_present queue) s dids = Makes (events.Updated items if_present queue dids)
+verdict_of (Wait queue) s dids = Makes (events.Waited queue (length (steps_of queue s.records.queues)))
+verdict_of (Step queue) s dids = step_verdict queue (head_of queue s.records.queues)
+
+-- the first refusal of a directive, or what it comes to: an unknown region is told first, then an unknown queue, and then its items in the order in which they act
+unfoldable pub directive_verdict : Limits → Directive → State → Result Verdict Fault
+directive_verdict l d s = do
   tasks ← tasks_of d s.register
+  queue_named (queue_in d)
   dids ← judge_all l 0 tasks s
-  Ok (event_of d s.register dids)
+  Ok (verdict_of d s dids)
 
 -- what planning a directive answers: too many items are told before all else
-unfoldable pub plan_of : Limits → Directive → State → Result Event Fault
-plan_of l d s = few_items d >> directive_event l d s
+unfoldable pub plan_of : Limits → Directive → State → Result Verdict Fault
+plan_of l d s = few_items d >> directive_verdict l d s
 
 -- the event of a write of so many bytes from a host address on
 unfoldable pub host_write_event : Limits → ℕ → ℕ → Result Event Fault

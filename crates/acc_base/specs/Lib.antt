@@ -6,12 +6,16 @@ pub mod Ranges
 pub mod Attachments
 pub mod Blocks
 pub mod Holes
+pub mod Queues
 pub mod Register
 pub mod Records
 pub mod Clauses
 pub mod Tasks
-pub mod Walk
+pub mod Transfers
+pub mod Steps
 pub mod Bytes
+pub mod Waits
+pub mod Walk
 pub mod Pointers
 pub mod Acting
 pub mod Judge

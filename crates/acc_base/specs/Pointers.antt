@@ -15,7 +15,7 @@ use Rattle.acc_base.specs.Ranges.{where_is, start_of}
 use Rattle.acc_base.specs.Blocks.{place_of}
 use Rattle.acc_base.specs.Attachments.{pointer_at, count_at, attach, detach}
 use Rattle.acc_base.specs.Records.{Records, Memory, State}
-use Rattle.acc_base.specs.Tasks.{records_aimed}
+use Rattle.acc_base.specs.Steps.{records_aimed}
 use Rattle.acc_base.specs.Bytes.{bytes_of, host_byte, written_bytes, memory_changed}
 
 -- ---- where a pointer lies, and what it holds

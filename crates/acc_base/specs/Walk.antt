@@ -1,8 +1,11 @@
 -- What an event asked and did, and what it leaves of the records and the register. It reads the event alone, and no bytes.
-use Rattle.std.specs.Prelude.{ℕ, List, [], ◌∷◌, map, reverse, Option, Some, None, unwrap_or}
+use Rattle.std.specs.Prelude.{ℕ, Bool, List, [], ◌∷◌, map, reverse, Option, Some, None, unwrap_or}
 use Rattle.acc_base.specs.declared.items.Item.{Item}
 use Rattle.acc_base.specs.declared.items.RegionClause.{RegionClause}
 use Rattle.acc_base.specs.declared.items.EnterClause.{EnterClause}
+use Rattle.acc_base.specs.declared.items.ExitClause.{ExitClause}
+use Rattle.acc_base.specs.declared.items.UpdateClause.{UpdateClause}
+use Rattle.acc_base.specs.declared.transfers.Transfer.{Transfer}
 use Rattle.acc_base.specs.declared.mappings.Counter.TheVariants.{Structured, Dynamic}
 use Rattle.acc_base.specs.declared.regions.Holding.{Holding}
 use Rattle.acc_base.specs.declared.tasks.Task.{Task}
@@ -13,21 +16,30 @@ use Rattle.acc_base.specs.declared.events.Step.{Step}
 use Rattle.acc_base.specs.declared.events.Step.TheVariants.{Nothing, Counted, Born, Dropped, Moved}
 use Rattle.acc_base.specs.declared.events.Did.{Did}
 use Rattle.acc_base.specs.declared.events.Event.{Event}
-use Rattle.acc_base.specs.declared.events.Event.TheVariants.{Entered, Left, EnteredData, ExitedData, Updated, HostWritten}
+use Rattle.acc_base.specs.declared.events.Event.TheVariants.{Entered, Left, EnteredData, ExitedData, Updated, Waited, Stepped, HostWritten}
 use Rattle.acc_base.specs.Records.{Layout}
 use Rattle.acc_base.specs.Register.{Register, holdings_at, opened, closed}
 use Rattle.acc_base.specs.Clauses.{as_region}
-use Rattle.acc_base.specs.Tasks.{act_all}
+use Rattle.acc_base.specs.Steps.{act_all}
+use Rattle.acc_base.specs.Waits.{records_drained, steps_of}
 
 -- ---- what an event asked, in the order in which it acted
 
 -- an item of a region's entry
 abbrev pub enter_task : Item RegionClause → Task
-enter_task item = Enter Structured item
+enter_task item = Enter Structured item None
 
 -- an item of `enter data`
-abbrev pub enter_data_task : Item EnterClause → Task
-enter_data_task item = Enter Dynamic (record { clause = as_region item.clause; section = item.section; pointer = item.pointer })
+abbrev pub enter_data_task : Option ℕ → Item EnterClause → Task
+enter_data_task queue item = Enter Dynamic (record { clause = as_region item.clause; section = item.section; pointer = item.pointer }) queue
+
+-- an item of `exit data`
+abbrev pub exit_task : Bool → Option ℕ → Item ExitClause → Task
+exit_task finalize queue item = Exit finalize item queue
+
+-- an item of `update`
+abbrev pub move_task : Bool → Option ℕ → Item UpdateClause → Task
+move_task if_present queue item = Move if_present item queue
 
 -- what a region holds is undone from the last item to the first
 abbrev pub leave_tasks : List Holding → List Task
@@ -36,19 +48,34 @@ leave_tasks holdings = map Leave (reverse holdings)
 abbrev pub asked_in : Event → Register → List Task
 asked_in (Entered number items did) g = map enter_task items
 asked_in (Left number did) g = leave_tasks (unwrap_or (holdings_at number g.regions) [])
-asked_in (EnteredData items did) g = map enter_data_task items
-asked_in (ExitedData items finalize did) g = map (Exit finalize) items
-asked_in (Updated items if_present did) g = map (Move if_present) items
+asked_in (EnteredData items queue did) g = map (enter_data_task queue) items
+asked_in (ExitedData items finalize queue did) g = map (exit_task finalize queue) items
+asked_in (Updated items if_present queue did) g = map (move_task if_present queue) items
+asked_in (Waited queue count) g = []
+asked_in (Stepped queue block) g = []
 asked_in (HostWritten addr len) g = []
 
 -- what was done, in the same order
 abbrev pub done_in : Event → List Did
 done_in (Entered number items did) = did
 done_in (Left number did) = reverse did
-done_in (EnteredData items did) = did
-done_in (ExitedData items finalize did) = did
-done_in (Updated items if_present did) = did
+done_in (EnteredData items queue did) = did
+done_in (ExitedData items finalize queue did) = did
+done_in (Updated items if_present queue did) = did
+done_in (Waited queue count) = []
+done_in (Stepped queue block) = []
 done_in (HostWritten addr len) = []
+
+-- the queues whose first transfers it made, in that order
+abbrev pub stepped_in : Event → List (List Transfer) → List ℕ
+stepped_in (Entered number items did) queues = []
+stepped_in (Left number did) queues = []
+stepped_in (EnteredData items queue did) queues = []
+stepped_in (ExitedData items finalize queue did) queues = []
+stepped_in (Updated items if_present queue did) queues = []
+stepped_in (Waited queue count) queues = steps_of queue queues
+stepped_in (Stepped queue block) queues = queue ∷ []
+stepped_in (HostWritten addr len) queues = []
 
 -- ---- what it leaves of the register
 
@@ -77,15 +104,20 @@ holdings_of _ _ = []
 abbrev pub register_after : Event → Register → Register
 register_after (Entered number items did) g = opened (holdings_of items did) g
 register_after (Left number did) g = closed number g
-register_after (EnteredData items did) g = g
-register_after (ExitedData items finalize did) g = g
-register_after (Updated items if_present did) g = g
+register_after (EnteredData items queue did) g = g
+register_after (ExitedData items finalize queue did) g = g
+register_after (Updated items if_present queue did) g = g
+register_after (Waited queue count) g = g
+register_after (Stepped queue block) g = g
 register_after (HostWritten addr len) g = g
 
 -- ---- the layout after an event
 
 unfoldable pub walk : Event → Layout → Layout
-walk e lay = record { records = act_all (asked_in e lay.register) (done_in e) lay.records; register = register_after e lay.register }
+walk e lay = record {
+  records = records_drained (stepped_in e lay.records.queues) (act_all (asked_in e lay.register) (done_in e) lay.records);
+  register = register_after e lay.register;
+}
 
 -- and after a list of events
 unfoldable pub walk_all : List Event → Layout → Layout

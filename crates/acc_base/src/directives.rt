@@ -23,6 +23,9 @@ pub enum Directive {
     EnterData {
         /// The items of its clauses.
         items: List<Item<EnterClause>>,
+        /// The `async` clause: the number of the queue into which the copies of its items are put, or `None` where each is
+        /// made at once (OpenACC 3.3, section 2.16). Counters, mappings and pointers change at once in any case.
+        queue: Option<u64>,
     },
     /// The `exit data` directive (OpenACC 3.3, section 2.6.6).
     ExitData {
@@ -31,6 +34,8 @@ pub enum Directive {
         /// The `finalize` clause: the dynamic counter of each range that an item names becomes zero, and does not fall
         /// by one.
         finalize: bool,
+        /// The `async` clause, as that of `enter data`.
+        queue: Option<u64>,
     },
     /// The `update` directive (OpenACC 3.3, the update directive).
     Update {
@@ -38,20 +43,35 @@ pub enum Directive {
         items: List<Item<UpdateClause>>,
         /// The `if_present` clause: a section that is absent is passed over, and not refused.
         if_present: bool,
+        /// The `async` clause, as that of `enter data`.
+        queue: Option<u64>,
+    },
+    /// The `wait` directive (OpenACC 3.3, the wait directive): the transfers of a queue are made in the order in which
+    /// they were put into it, or those of all queues, from the first queue to the last.
+    Wait {
+        /// The number of the queue, or `None` for all.
+        queue: Option<u64>,
+    },
+    /// The next transfer of a queue is made, as the device does while the host goes on (OpenACC 3.3, section 2.16).
+    Step {
+        /// The number of the queue.
+        queue: u64,
     },
 }
 
 impl Directive {
-    /// How many items its clauses name; the exit from a region names none.
+    /// How many items its clauses name; the exit from a region names none, nor do `wait` and the step of a queue.
     pub fn item_count(&self) -> usize
         ensures { result ≡ item_count self.now }
     {
         match self {
             Directive::Enter { items } => items.as_slice().len(),
             Directive::Exit { .. } => 0,
-            Directive::EnterData { items } => items.as_slice().len(),
+            Directive::EnterData { items, .. } => items.as_slice().len(),
             Directive::ExitData { items, .. } => items.as_slice().len(),
             Directive::Update { items, .. } => items.as_slice().len(),
+            Directive::Wait { .. } => 0,
+            Directive::Step { .. } => 0,
         }
     }
 }

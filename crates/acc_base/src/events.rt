@@ -27,9 +27,9 @@ pub enum Step {
         /// Both counters are zero now, and the mapping has ended.
         ended: bool,
     },
-    /// An `update` copied the bytes of the section.
+    /// An `update` copied the bytes of the section, or put the copy into a queue.
     Moved {
-        /// The number of the block from which or to which it copied.
+        /// The number of the block from which or to which it copies.
         block: u64,
     },
 }
@@ -66,6 +66,8 @@ pub enum Event {
     EnteredData {
         /// The items that it named.
         items: List<Item<EnterClause>>,
+        /// The queue into which their copies were put, or `None` where each was made at once.
+        queue: Option<u64>,
         /// What each of them did.
         did: List<Did>,
     },
@@ -75,6 +77,8 @@ pub enum Event {
         items: List<Item<ExitClause>>,
         /// Whether it had the `finalize` clause.
         finalize: bool,
+        /// The queue into which their copies were put, or `None` where each was made at once.
+        queue: Option<u64>,
         /// What each of them did.
         did: List<Did>,
     },
@@ -84,8 +88,24 @@ pub enum Event {
         items: List<Item<UpdateClause>>,
         /// Whether it had the `if_present` clause.
         if_present: bool,
+        /// The queue into which their copies were put, or `None` where each was made at once.
+        queue: Option<u64>,
         /// What each of them did.
         did: List<Did>,
+    },
+    /// A `wait` directive: the transfers of a queue were made, or those of all queues.
+    Waited {
+        /// The queue, or `None` for all.
+        queue: Option<u64>,
+        /// How many transfers were made.
+        count: u64,
+    },
+    /// The first transfer of a queue was made.
+    Stepped {
+        /// The number of the queue.
+        queue: u64,
+        /// The number of the block that the transfer names.
+        block: u64,
     },
     /// The host wrote into its memory. The bytes are not stored here.
     HostWritten {

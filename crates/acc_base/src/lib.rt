@@ -17,6 +17,7 @@ mod lists;
 mod mappings;
 mod regions;
 mod tasks;
+mod transfers;
 
 pub use addresses::{DEVICE_BASE, HOST_BASE, MEMORY_MAX};
 pub use attachments::{Aim, Attachment};
@@ -27,9 +28,10 @@ pub use events::{Did, Event, Step};
 pub use faults::{Fault, ScriptFault};
 pub use items::{EnterClause, ExitClause, Item, RegionClause, Section, UpdateClause};
 pub use lists::List;
-pub use mappings::{Block, Counter, Counters, Found, Range};
+pub use mappings::{Block, Counter, Counters, Ended, Found, Range};
 pub use regions::Holding;
-pub use tasks::{Task, Transfer};
+pub use tasks::Task;
+pub use transfers::{QUEUE_COUNT, Transfer};
 
 #[cfg(test)]
 mod tests;

@@ -27,6 +27,17 @@ pub struct Block {
     pub len: u64,
 }
 
+/// A block of device memory whose mapping has ended. It stays until no queued transfer names it.
+#[derive(Clone, Copy, Debug, PartialEq, Eq)]
+pub struct Ended {
+    /// The device address of its first byte.
+    pub place: u64,
+    /// How many bytes of device memory it takes: its length rounded up to a multiple of 16.
+    pub size: u64,
+    /// How many queued transfers name it.
+    pub pins: u64,
+}
+
 /// One of the two reference counters of a mapped range (OpenACC 3.3, section 2.6.7).
 #[derive(Clone, Copy, Debug, PartialEq, Eq)]
 pub enum Counter {

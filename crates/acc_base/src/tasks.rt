@@ -11,6 +11,8 @@ pub enum Task {
         counter: Counter,
         /// The item. A clause of `enter data` stands as the clause of a region that does the same.
         item: Item<RegionClause>,
+        /// The queue into which its copy is put, or `None` where the copy is made at once.
+        queue: Option<u64>,
     },
     /// Exit from a region: what an item's entry counted is undone.
     Leave {
@@ -23,6 +25,8 @@ pub enum Task {
         finalize: bool,
         /// The item.
         item: Item<ExitClause>,
+        /// The queue into which its copy is put, or `None` where the copy is made at once.
+        queue: Option<u64>,
     },
     /// An item of `update`.
     Move {
@@ -30,6 +34,8 @@ pub enum Task {
         if_present: bool,
         /// The item.
         item: Item<UpdateClause>,
+        /// The queue into which its copy is put, or `None` where the copy is made at once.
+        queue: Option<u64>,
     },
 }
 
@@ -43,19 +49,7 @@ impl Default for Task {
                 section: Section { start: 0, len: 0 },
                 pointer: None,
             },
+            queue: None,
         }
     }
-}
-
-/// A copy of the bytes of a section between host memory and a block.
-#[derive(Clone, Copy, Debug, PartialEq, Eq)]
-pub struct Transfer {
-    /// The number of the block.
-    pub block: u64,
-    /// How far behind the start of the block the section begins, in bytes.
-    pub offset: u64,
-    /// The section of host memory.
-    pub section: Section,
-    /// From the block to host memory, and not the other way.
-    pub out: bool,
 }

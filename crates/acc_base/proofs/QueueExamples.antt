@@ -1,0 +1,231 @@
+-- Transfers that wait in queues, and blocks that outlive their mapping, with values worked out by hand.
+use Rattle.std.proofs.Common.{ℕ, ◌≡◌, refl, List, [], ◌∷◌, ◌++◌, length, Option, Some, None, true, false, replicate}
+use Rattle.acc_base.specs.declared.items.Section.{Section}
+use Rattle.acc_base.specs.declared.items.Item.{Item}
+use Rattle.acc_base.specs.declared.items.EnterClause.{EnterClause}
+use Rattle.acc_base.specs.declared.items.EnterClause.TheVariants as enter
+use Rattle.acc_base.specs.declared.items.ExitClause.{ExitClause}
+use Rattle.acc_base.specs.declared.items.ExitClause.TheVariants as exit
+use Rattle.acc_base.specs.declared.items.UpdateClause.{UpdateClause}
+use Rattle.acc_base.specs.declared.items.UpdateClause.TheVariants.{ToSelf, ToDevice}
+use Rattle.acc_base.specs.declared.directives.Directive.TheVariants.{EnterData, ExitData, Update, Wait, Step}
+use Rattle.acc_base.specs.declared.calls.Call.{Call}
+use Rattle.acc_base.specs.declared.calls.Call.TheVariants.{Do, HostWrite}
+use Rattle.acc_base.specs.declared.mappings.Ended.{Ended}
+use Rattle.acc_base.specs.declared.transfers.Transfer.{Transfer}
+use Rattle.acc_base.specs.declared.events.Step.TheVariants.{Born, Dropped, Moved}
+use Rattle.acc_base.specs.declared.events.Event.TheVariants.{EnteredData, ExitedData, Updated, Waited, Stepped, HostWritten}
+use Rattle.acc_base.specs.declared.faults.Fault.TheVariants.{NoQueue, NotPresent, QueueFull}
+use Rattle.acc_base.specs.Limits.{Limits}
+use Rattle.acc_base.specs.Queues.{new_queues, queue_at}
+use Rattle.acc_base.specs.Steps.{did_of}
+use Rattle.acc_base.specs.Waits.{ended_from}
+use Rattle.acc_base.proofs.Runs.{ran_with, at, item, enter_data_of, exit_data_of, update_of, block, memory, host_of}
+
+-- a queue has room for two transfers
+abbrev limits : Limits
+limits = record { host = 64; device = 64; regions = 1; tickets = 100; counter_max = 4; queue_cap = 2; trace_cap = 100 }
+
+-- directives with `async`
+abbrev enter_later : ℕ → List (Item EnterClause) → Call
+enter_later q items = Do (EnterData items (Some q))
+
+abbrev exit_later : ℕ → List (Item ExitClause) → Call
+exit_later q items = Do (ExitData items false (Some q))
+
+abbrev update_later : ℕ → List (Item UpdateClause) → Call
+update_later q items = Do (Update items false (Some q))
+
+abbrev wait_all : Call
+wait_all = Do (Wait None)
+
+abbrev wait_for : ℕ → Call
+wait_for q = Do (Wait (Some q))
+
+abbrev step : ℕ → Call
+step q = Do (Step q)
+
+abbrev array : Section
+array = at 0x1000 16
+
+abbrev byte : Section
+byte = at 0x1000 1
+
+-- the host writes the first byte
+abbrev first_is : ℕ → Call
+first_is b = HostWrite 0x1000 (b ∷ [])
+
+-- ---- a copy to host memory is put into a queue, the mapping ends, and the section is mapped again
+
+abbrev ended : List Call
+ended = first_is 7 ∷ enter_data_of (item enter.Copyin array ∷ []) ∷ first_is 9 ∷ exit_later 1 (item exit.Copyout array ∷ []) ∷ enter_data_of (item (enter.Create false) array ∷ []) ∷ []
+
+-- the first block stays, so the new one lies behind it
+ended_blocks : (ran_with limits ended).world.state.records.blocks ≡ block 1 0x1_0000_0000 16 ∷ block 2 0x1_0000_0010 16 ∷ []
+unfolding ran_with
+ended_blocks = refl
+
+ended_bytes : (ran_with limits ended).world.state.memories ≡ memory 1 (7 ∷ replicate 15 0) ∷ memory 2 (replicate 16 0xa5) ∷ []
+unfolding ran_with
+ended_bytes = refl
+
+ended_told : ended_from 0x1_0000_0000 (ran_with limits ended).world.state.records ≡ Some (record { place = 0x1_0000_0000; size = 16; pins = 1 })
+unfolding ran_with
+ended_told = refl
+
+ended_alone : ended_from 0x1_0000_0001 (ran_with limits ended).world.state.records ≡ None
+unfolding ran_with
+ended_alone = refl
+
+ended_queue : queue_at 1 (ran_with limits ended).world.state.records.queues ≡ record { block = 1; offset = 0; section = array; out = true } ∷ []
+unfolding ran_with
+ended_queue = refl
+
+ended_host : (ran_with limits ended).world.state.host ≡ host_of (9 ∷ []) 63
+unfolding ran_with
+ended_host = refl
+
+-- then the copy is made, and the block is given back with it
+abbrev waited : List Call
+waited = ended ++ wait_for 1 ∷ []
+
+waited_host : (ran_with limits waited).world.state.host ≡ host_of (7 ∷ []) 63
+unfolding ran_with
+waited_host = refl
+
+waited_bytes : (ran_with limits waited).world.state.memories ≡ memory 2 (replicate 16 0xa5) ∷ []
+unfolding ran_with
+waited_bytes = refl
+
+waited_blocks : (ran_with limits waited).world.state.records.blocks ≡ block 2 0x1_0000_0010 16 ∷ []
+unfolding ran_with
+waited_blocks = refl
+
+waited_queues : (ran_with limits waited).world.state.records.queues ≡ new_queues
+unfolding ran_with
+waited_queues = refl
+
+waited_told : (ran_with limits waited).world.history.trace
+    ≡ HostWritten 0x1000 1 ∷ EnteredData (item enter.Copyin array ∷ []) None (did_of (Born 1 0x1_0000_0000) ∷ []) ∷ HostWritten 0x1000 1
+    ∷ ExitedData (item exit.Copyout array ∷ []) false (Some 1) (did_of (Dropped 1 true) ∷ []) ∷ EnteredData (item (enter.Create false) array ∷ []) None (did_of (Born 2 0x1_0000_0010) ∷ []) ∷ Waited (Some 1) 1 ∷ []
+unfolding ran_with
+waited_told = refl
+
+-- ---- a transfer uses the bytes of the moment in which it is made
+
+abbrev put_twice : List Call
+put_twice = first_is 1 ∷ enter_data_of (item enter.Copyin byte ∷ []) ∷ update_later 0 (item ToSelf byte ∷ item ToDevice byte ∷ []) ∷ first_is 2 ∷ update_of (item ToDevice byte ∷ []) ∷ first_is 3 ∷ []
+
+put_twice_host : (ran_with limits put_twice).world.state.host ≡ host_of (3 ∷ []) 63
+unfolding ran_with
+put_twice_host = refl
+
+-- the first one brings what the device has then
+abbrev stepped_once : List Call
+stepped_once = put_twice ++ step 0 ∷ []
+
+stepped_once_host : (ran_with limits stepped_once).world.state.host ≡ host_of (2 ∷ []) 63
+unfolding ran_with
+stepped_once_host = refl
+
+-- the second one what the host has then
+abbrev stepped_twice : List Call
+stepped_twice = stepped_once ++ step 0 ∷ []
+
+stepped_twice_bytes : (ran_with limits stepped_twice).world.state.memories ≡ memory 1 (2 ∷ []) ∷ []
+unfolding ran_with
+stepped_twice_bytes = refl
+
+-- and then there is nothing to do, which is no event
+stepped_idle : (ran_with limits (stepped_twice ++ step 0 ∷ [])).world ≡ (ran_with limits stepped_twice).world
+unfolding ran_with
+stepped_idle = refl
+
+stepped_told : (ran_with limits (stepped_twice ++ step 0 ∷ [])).world.history.trace
+    ≡ HostWritten 0x1000 1 ∷ EnteredData (item enter.Copyin byte ∷ []) None (did_of (Born 1 0x1_0000_0000) ∷ []) ∷ Updated (item ToSelf byte ∷ item ToDevice byte ∷ []) false (Some 0) (did_of (Moved 1) ∷ did_of (Moved 1) ∷ [])
+    ∷ HostWritten 0x1000 1 ∷ Updated (item ToDevice byte ∷ []) false None (did_of (Moved 1) ∷ []) ∷ HostWritten 0x1000 1 ∷ Stepped 0 1 ∷ Stepped 0 1 ∷ []
+unfolding ran_with
+stepped_told = refl
+
+-- ---- the limit of a queue, where earlier items of the same directive count, and other queues do not
+
+abbrev three_put : List Call
+three_put = enter_data_of (item enter.Copyin byte ∷ []) ∷ update_later 4 (item ToSelf byte ∷ item ToSelf byte ∷ item ToSelf byte ∷ []) ∷ update_later 4 (item ToSelf byte ∷ item ToSelf byte ∷ []) ∷ update_later 4 (item ToSelf byte ∷ []) ∷ update_later 5 (item ToSelf byte ∷ []) ∷ []
+
+three_put_refused : (ran_with limits three_put).refused ≡ None ∷ Some (QueueFull 4) ∷ None ∷ Some (QueueFull 4) ∷ None ∷ []
+unfolding ran_with
+three_put_refused = refl
+
+-- an item that moves nothing needs no room
+abbrev full_queue : List Call
+full_queue = enter_data_of (item enter.Copyin byte ∷ []) ∷ update_later 4 (item ToSelf byte ∷ item ToSelf byte ∷ []) ∷ enter_later 4 (item enter.Copyin byte ∷ []) ∷ exit_later 4 (item exit.Copyout byte ∷ []) ∷ exit_later 4 (item exit.Copyout byte ∷ []) ∷ []
+
+full_queue_refused : (ran_with limits full_queue).refused ≡ None ∷ None ∷ None ∷ None ∷ Some (QueueFull 4) ∷ []
+unfolding ran_with
+full_queue_refused = refl
+
+-- ---- no queue above 15, which is told before any item
+
+no_queue : (ran_with limits (update_later 16 (item ToSelf byte ∷ []) ∷ update_later 15 (item ToSelf byte ∷ []) ∷ wait_for 16 ∷ step 16 ∷ wait_for 15 ∷ step 15 ∷ [])).refused
+    ≡ Some (NoQueue 16) ∷ Some (NotPresent 0) ∷ Some (NoQueue 16) ∷ Some (NoQueue 16) ∷ None ∷ None ∷ []
+unfolding ran_with
+no_queue = refl
+
+-- ---- a wait for all queues goes from the first to the last: the device gets the host's byte before the host gets the device's
+
+abbrev two_queues : List Call
+two_queues = first_is 6 ∷ enter_data_of (item enter.Copyin byte ∷ []) ∷ first_is 5 ∷ update_later 3 (item ToSelf byte ∷ []) ∷ update_later 1 (item ToDevice byte ∷ []) ∷ wait_all ∷ []
+
+two_queues_host : (ran_with limits two_queues).world.state.host ≡ host_of (5 ∷ []) 63
+unfolding ran_with
+two_queues_host = refl
+
+two_queues_bytes : (ran_with limits two_queues).world.state.memories ≡ memory 1 (5 ∷ []) ∷ []
+unfolding ran_with
+two_queues_bytes = refl
+
+two_queues_told : (ran_with limits (two_queues ++ wait_all ∷ [])).world.history.trace
+    ≡ HostWritten 0x1000 1 ∷ EnteredData (item enter.Copyin byte ∷ []) None (did_of (Born 1 0x1_0000_0000) ∷ []) ∷ HostWritten 0x1000 1 ∷ Updated (item ToSelf byte ∷ []) false (Some 3) (did_of (Moved 1) ∷ [])
+    ∷ Updated (item ToDevice byte ∷ []) false (Some 1) (did_of (Moved 1) ∷ []) ∷ Waited None 2 ∷ Waited None 0 ∷ []
+unfolding ran_with
+two_queues_told = refl
+
+-- ---- a new block that is to be filled later, and which is given back before
+
+-- it is filled with 0xA5 till then
+abbrev filled_later : List Call
+filled_later = first_is 8 ∷ enter_later 2 (item enter.Copyin byte ∷ []) ∷ []
+
+filled_later_bytes : (ran_with limits filled_later).world.state.memories ≡ memory 1 (0xa5 ∷ []) ∷ []
+unfolding ran_with
+filled_later_bytes = refl
+
+-- its transfer keeps it when its mapping ends
+abbrev deleted_before : List Call
+deleted_before = filled_later ++ exit_data_of (item exit.Delete byte ∷ []) ∷ []
+
+deleted_before_bytes : (ran_with limits deleted_before).world.state.memories ≡ memory 1 (0xa5 ∷ []) ∷ []
+unfolding ran_with
+deleted_before_bytes = refl
+
+deleted_before_gone : (ran_with limits (deleted_before ++ step 2 ∷ [])).world.state.memories ≡ []
+unfolding ran_with
+deleted_before_gone = refl
+
+-- ---- a block that has ended keeps its attached pointers till it is given back, and no transfer touches their bytes
+
+abbrev pointed : List Call
+pointed = HostWrite 0x1000 (0x10 ∷ 0x10 ∷ []) ∷ enter_data_of (item enter.Copyin (at 0x1000 16) ∷ item enter.Copyin (at 0x1010 8) ∷ []) ∷ enter_data_of (item enter.Attach (at 0x1000 8) ∷ [])
+    ∷ exit_later 0 (item exit.Copyout (at 0x1000 16) ∷ []) ∷ HostWrite 0x1000 (replicate 16 1) ∷ []
+
+pointed_counts : (ran_with limits pointed).world.state.records.attached ≡ record { block = 1; pointer = 0x1000; count = 1 } ∷ []
+unfolding ran_with
+pointed_counts = refl
+
+pointed_host : (ran_with limits (pointed ++ step 0 ∷ [])).world.state.host ≡ host_of (replicate 8 1) 56
+unfolding ran_with
+pointed_host = refl
+
+pointed_gone : (ran_with limits (pointed ++ step 0 ∷ [])).world.state.records.attached ≡ []
+unfolding ran_with
+pointed_gone = refl

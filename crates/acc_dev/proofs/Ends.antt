@@ -16,7 +16,8 @@ use Rattle.acc_placement.proofs.Partitions.{partition_without, taken_at}
 use Rattle.acc_dev.specs.declared.entries.Stored.{Stored}
 use Rattle.acc_dev.specs.Device.{IsRetired}
 use Rattle.acc_base.specs.Holes.{taken_range}
-use Rattle.acc_dev.specs.Kept.{block_from, memory_from, slot_of, blocks_in, memories_in, AreRising, IsKept, IsCounted, IsEntry}
+use Rattle.acc_dev.specs.Marks.{without_mark, IsSoundMark}
+use Rattle.acc_dev.specs.Kept.{block_from, memory_from, mark_from, slot_of, blocks_in, memories_in, marks_in, AreRising, IsKept, IsCounted, IsEntry}
 use Rattle.acc_dev.proofs.Rising.{start, all-remove, apart-remove, map-remove, filter-map, remove-filter}
 use Rattle.acc_dev.proofs.Slots.{AreSame, KeepsOthers, same_from, others_off, made-removed, in_step}
 use Rattle.acc_dev.proofs.Keeping.{device_of}
@@ -72,6 +73,7 @@ left_kept old new s t xs i x kept lt is others empty base canonical part =
       filled = AllByRecursion-both (λ (e : ℕ × ℕ). slot_of t e ≡ slot_of s e) (λ e. IsSome (slot_of s e)) (λ e. IsSome (slot_of t e)) (remove xs i) (λ e q some. subst IsSome (sym q) some) same (all-remove (λ (e : ℕ × ℕ). IsSome (slot_of s e)) xs i kept.filled);
       others_empty = λ j off. left_empty s t xs i j kept.others_empty others empty off;
       lens = rw blocks (all-remove (λ (b : Block). IsFromOne MEMORY_MAX b.len) (blocks_in s xs) i kept.lens);
+      marks = rw (made-removed mark_from s t xs i same) (all-remove IsSoundMark (marks_in s xs) i kept.marks);
       partition = rw (blocks, map-remove taken_range (blocks_in s xs) i) (partition_without old new (map taken_range (blocks_in s xs)) i (range_stored x) _ (range_at s xs i x (range_stored x) lt is) refl (omega (arith, length_ranges s xs)) kept.partition part);
     }
 
@@ -91,14 +93,22 @@ kept-removed s xs i n rise entry =
     ∙ ap (map (λ (e : ℕ × ℕ). memory_from e.0 (slot_of s e))) (remove-filter xs i n rise entry.in_bounds entry.number)
     ∙ map-remove (λ (e : ℕ × ℕ). memory_from e.0 (slot_of s e)) xs i
 
+-- and their marks
+marks-removed : (s : List (Option Stored)) (xs : List (ℕ × ℕ)) (i n : ℕ) → AreRising xs → IsEntry xs n i → without_mark n (marks_in s xs) ≡ remove (marks_in s xs) i
+marks-removed s xs i n rise entry =
+    filter-map (λ (e : ℕ × ℕ). mark_from e.0 (slot_of s e)) (λ e. not (e.0 == n)) (λ m. not (m.block == n)) xs (λ e. refl)
+    ∙ ap (map (λ (e : ℕ × ℕ). mark_from e.0 (slot_of s e))) (remove-filter xs i n rise entry.in_bounds entry.number)
+    ∙ map-remove (λ (e : ℕ × ℕ). mark_from e.0 (slot_of s e)) xs i
+
 -- what an end leaves, as contracts see it
-pub retired_of : (old new : Space) (s t : List (Option Stored)) (xs ys : List (ℕ × ℕ)) (births i n : ℕ) (room : List ℕ) → IsKept old s xs → IsEntry xs n i → new.size ≡ old.size → blocks_in t ys ≡ remove (blocks_in s xs) i → memories_in t ys ≡ remove (memories_in s xs) i
+pub retired_of : (old new : Space) (s t : List (Option Stored)) (xs ys : List (ℕ × ℕ)) (births i n : ℕ) (room : List ℕ) → IsKept old s xs → IsEntry xs n i → new.size ≡ old.size → blocks_in t ys ≡ remove (blocks_in s xs) i → memories_in t ys ≡ remove (memories_in s xs) i → marks_in t ys ≡ remove (marks_in s xs) i
     → IsRetired (device_of old s xs births room) (device_of new t ys births room) n
-retired_of old new s t xs ys births i n room k entry size blocks memories =
+retired_of old new s t xs ys births i n room k entry size blocks memories marks =
     record {
       size = size;
       blocks = blocks ∙ sym (without-removed s xs i n k.rising entry);
       memories = memories ∙ sym (kept-removed s xs i n k.rising entry) ∙ ap (λ bs. memories_kept bs (memories_in s xs)) (sym blocks);
+      marks = marks ∙ sym (marks-removed s xs i n k.rising entry);
       births = refl;
       room = refl;
     }

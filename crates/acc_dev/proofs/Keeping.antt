@@ -1,5 +1,5 @@
 -- What a device keeps, and what a look-up in it finds.
-use Rattle.std.proofs.Common.{ℕ, ◌≡◌, ◌+◌, ◌<◌, ◌≤◌, refl, sym, ap, ◌∙◌, subst, List, [], ◌∷◌, ◌++◌, length, get_or, Option, Some, None, Bor, arith, ◌↔◌}
+use Rattle.std.proofs.Common.{ℕ, ◌≡◌, ◌+◌, ◌^◌, ◌<◌, ◌≤◌, refl, sym, ap, ◌∙◌, subst, List, [], ◌∷◌, ◌++◌, length, get_or, Option, Some, None, Bor, arith, ◌↔◌}
 use Rattle.std.specs.Prelude.{map, IsSome, IsSomeAnd, IfSome, IfNone, IsTrue, is_some, option_copied}
 use Rattle.std.specs.List.{AllByRecursion}
 use Rattle.std.proofs.lemmas.Bool.{false≢true}
@@ -17,14 +17,15 @@ use Rattle.acc_placement.specs.Space.{Space}
 use Rattle.acc_placement.proofs.Partitions.{all_disjoint, all_whole}
 use Rattle.acc_dev.specs.declared.entries.Stored.{Stored}
 use Rattle.acc_dev.specs.Device.{DeviceState, HasBlocksApart}
-use Rattle.acc_dev.specs.Kept.{stored_bytes, block_from, slot_of, blocks_in, memories_in, AreRising, IsKept, IsCounted, IsEntry}
+use Rattle.acc_dev.specs.Marks.{pins_at, is_ended_at, IsSoundMark}
+use Rattle.acc_dev.specs.Kept.{stored_bytes, stored_pins, stored_ended, block_from, mark_from, marks_in, slot_of, blocks_in, memories_in, AreRising, IsKept, IsCounted, IsEntry}
 use Rattle.acc_dev.proofs.Rising.{start, all_at}
-use Rattle.acc_dev.proofs.Slots.{block_at-entry, bytes_of-entry, block_at-none}
+use Rattle.acc_dev.proofs.Slots.{block_at-entry, bytes_of-entry, pins_at-entry, is_ended_at-entry, block_at-none}
 use Rattle.acc_dev.proofs.Placing.{IsShared, total-used, some_bytes, clear_of, on_device}
 
 -- what contracts see of a device
 abbrev pub device_of : Space → List (Option Stored) → List (ℕ × ℕ) → ℕ → List ℕ → DeviceState
-device_of h s xs births room = record { size = h.size; blocks = blocks_in s xs; memories = memories_in s xs; births = births; room = room }
+device_of h s xs births room = record { size = h.size; blocks = blocks_in s xs; memories = memories_in s xs; marks = marks_in s xs; births = births; room = room }
 
 -- ---- what holds of every device
 
@@ -86,14 +87,24 @@ pub record TellsStored (s : List (Option Stored)) (xs : List (ℕ × ℕ)) (n : 
   pub block : block_at n (blocks_in s xs) ≡ Some (record { number = n; place = x.place; len = length x.bytes.items })
   pub bytes : x.bytes.items ≡ bytes_of n (memories_in s xs)
   pub len : IsFromOne MEMORY_MAX (length x.bytes.items)
+  pub pins : x.pins ≡ pins_at n (marks_in s xs)
+  pub few : x.pins ≤ 2 ^ 32
+  pub ended : x.ended ≡ is_ended_at n (marks_in s xs)
 
 -- each block has a byte at least, and not too many
+pub len_from : (s : List (Option Stored)) (xs : List (ℕ × ℕ)) (i : ℕ) → AllByRecursion (λ b. IsFromOne MEMORY_MAX b.len) (blocks_in s xs) → i < length xs → IsFromOne MEMORY_MAX (length (stored_bytes (slot_of s (get_or xs i start))))
+len_from s xs i lens lt = all_at (λ (e : ℕ × ℕ). IsFromOne MEMORY_MAX (length (stored_bytes (slot_of s e)))) xs i start lt (all-unmap (λ (b : Block). IsFromOne MEMORY_MAX b.len) (λ (e : ℕ × ℕ). block_from e.0 (slot_of s e)) xs lens)
+
 pub len_at : (h : Space) (s : List (Option Stored)) (xs : List (ℕ × ℕ)) (i : ℕ) → IsKept h s xs → i < length xs → IsFromOne MEMORY_MAX (length (stored_bytes (slot_of s (get_or xs i start))))
-len_at h s xs i k lt = all_at (λ (e : ℕ × ℕ). IsFromOne MEMORY_MAX (length (stored_bytes (slot_of s e)))) xs i start lt (all-unmap (λ (b : Block). IsFromOne MEMORY_MAX b.len) (λ (e : ℕ × ℕ). block_from e.0 (slot_of s e)) xs k.lens)
+len_at h s xs i k lt = len_from s xs i k.lens lt
 
 -- the same of what its slot has
 pub len_stored : (h : Space) (s : List (Option Stored)) (xs : List (ℕ × ℕ)) (i : ℕ) (x : Stored) → IsKept h s xs → i < length xs → slot_of s (get_or xs i start) ≡ Some x → IsFromOne MEMORY_MAX (length x.bytes.items)
 len_stored h s xs i x k lt is = subst (λ (o : Option Stored). IsFromOne MEMORY_MAX (length (stored_bytes o))) is (len_at h s xs i k lt)
+
+-- each mark may be
+sound_at : (h : Space) (s : List (Option Stored)) (xs : List (ℕ × ℕ)) (i : ℕ) → IsKept h s xs → i < length xs → IsSoundMark (mark_from (get_or xs i start).0 (slot_of s (get_or xs i start)))
+sound_at h s xs i k lt = all_at (λ (e : ℕ × ℕ). IsSoundMark (mark_from e.0 (slot_of s e))) xs i start lt (all-unmap IsSoundMark (λ (e : ℕ × ℕ). mark_from e.0 (slot_of s e)) xs k.marks)
 
 -- what the slot of an entry has is the block
 pub stored_at : (h : Space) (s : List (Option Stored)) (xs : List (ℕ × ℕ)) (i n : ℕ) (x : Stored) → IsKept h s xs → IsEntry xs n i → slot_of s (get_or xs i start) ≡ Some x → TellsStored s xs n x
@@ -102,6 +113,9 @@ stored_at h s xs i n x k entry is =
       block = rw (block_at-entry s xs i n k.rising entry, is, entry.number);
       bytes = sym (bytes_of-entry s xs i n k.rising entry ∙ ap stored_bytes is);
       len = subst (λ (o : Option Stored). IsFromOne MEMORY_MAX (length (stored_bytes o))) is (len_at h s xs i k entry.in_bounds);
+      pins = sym (pins_at-entry s xs i n k.rising entry ∙ ap stored_pins is);
+      few = subst (λ (o : Option Stored). stored_pins o ≤ 2 ^ 32) is (sound_at h s xs i k entry.in_bounds).few;
+      ended = sym (is_ended_at-entry s xs i n k.rising entry ∙ ap stored_ended is);
     }
 
 -- the slot of an entry is not empty
@@ -126,6 +140,9 @@ pub record TellsReference (d : DeviceState) (n : ℕ) (r : Option (Bor Stored)) 
   pub block : IsSomeAnd r (λ x. block_at n d.blocks ≡ Some (record { number = n; place = x.now.place; len = length x.now.bytes.items }))
   pub bytes : IfSome r (λ x. x.now.bytes.items ≡ bytes_of n d.memories)
   pub len : IfSome r (λ x. IsFromOne MEMORY_MAX (length x.now.bytes.items))
+  pub pins : IfSome r (λ x. x.now.pins ≡ pins_at n d.marks)
+  pub few : IfSome r (λ x. x.now.pins ≤ 2 ^ 32)
+  pub ended : IfSome r (λ x. x.now.ended ≡ is_ended_at n d.marks)
 
 -- what such a reference tells
 pub told_reference : (h : Space) (s : List (Option Stored)) (xs : List (ℕ × ℕ)) (births i n : ℕ) (room : List ℕ) (e : ℕ × ℕ) (r : Option (Bor Stored)) → IsKept h s xs → IsEntry xs n i → e ≡ get_or xs i e → option_copied r ≡ get_or s e.1 None
@@ -138,4 +155,7 @@ told_reference h s xs births i n room e r k entry read is =
       block = (some_weaker T (λ (x : Bor Stored). block_at n (blocks_in s xs) ≡ Some (record { number = n; place = x.now.place; len = length x.now.bytes.items })) r (λ x t. t.block) told).0;
       bytes = (some_weaker T (λ (x : Bor Stored). x.now.bytes.items ≡ bytes_of n (memories_in s xs)) r (λ x t. t.bytes) told).1;
       len = (some_weaker T (λ (x : Bor Stored). IsFromOne MEMORY_MAX (length x.now.bytes.items)) r (λ x t. t.len) told).1;
+      pins = (some_weaker T (λ (x : Bor Stored). x.now.pins ≡ pins_at n (marks_in s xs)) r (λ x t. t.pins) told).1;
+      few = (some_weaker T (λ (x : Bor Stored). x.now.pins ≤ 2 ^ 32) r (λ x t. t.few) told).1;
+      ended = (some_weaker T (λ (x : Bor Stored). x.now.ended ≡ is_ended_at n (marks_in s xs)) r (λ x t. t.ended) told).1;
     }

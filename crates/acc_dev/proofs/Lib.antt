@@ -5,3 +5,4 @@ pub mod Keeping
 pub mod Births
 pub mod Ends
 pub mod Writes
+pub mod Ended

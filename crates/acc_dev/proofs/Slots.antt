@@ -1,5 +1,5 @@
 -- The blocks of an index, as the slots change.
-use Rattle.std.proofs.Common.{ℕ, zero, suc, ◌≡◌, ◌≢◌, ◌<◌, refl, sym, ap, ◌∙◌, subst, true, false, List, [], ◌∷◌, ◌++◌, length, get_or, Option, Some, None, arith, inl, inr}
+use Rattle.std.proofs.Common.{ℕ, zero, suc, ◌≡◌, ◌≢◌, ◌<◌, refl, sym, ap, ◌∙◌, subst, false, List, [], ◌∷◌, ◌++◌, length, get_or, Option, Some, None, arith, inl, inr}
 use Rattle.std.specs.Prelude.{◌==◌, ◌⊎◌, map, find, option_map, unwrap_or, IsSome}
 use Rattle.std.specs.List.{AllByRecursion, AllZip, remove}
 use Rattle.std.proofs.lemmas.Bool.{cases_eq, false≢true}
@@ -10,9 +10,10 @@ use Rattle.acc_base.specs.Blocks.{block_at}
 use Rattle.acc_base.specs.Bytes.{bytes_of, memory_changed}
 use Rattle.acc_base.specs.Accounts.{EachPair, IsMemoryOf}
 use Rattle.acc_base.proofs.Elements.{AllByRecursion-weaker}
+use Rattle.acc_base.proofs.Results.{equal_self}
 use Rattle.acc_dev.specs.declared.entries.Stored.{Stored}
-use Rattle.acc_dev.specs.Device.{overwritten}
-use Rattle.acc_dev.specs.Kept.{stored_place, stored_bytes, block_from, memory_from, slot_of, blocks_in, memories_in, AreRising, IsEntry}
+use Rattle.acc_dev.specs.Marks.{Mark, mark_at, pins_at, is_ended_at, mark_changed, IsMarkOf}
+use Rattle.acc_dev.specs.Kept.{stored_place, stored_bytes, stored_pins, stored_ended, block_from, memory_from, mark_from, slot_of, blocks_in, memories_in, marks_in, AreRising, IsEntry}
 use Rattle.acc_dev.proofs.Rising.{start, all_at, find_at, find-map, map-remove}
 
 -- the slots of these entries are as they were
@@ -87,41 +88,60 @@ pub in_step : (s : List (Option Stored)) (xs : List (ℕ × ℕ)) → AllZip IsM
 in_step s [] = tt
 in_step s (x ∷ xs) = (record { block = refl; len = refl }, in_step s xs)
 
--- ---- a write to one slot
+-- the marks run in step with the blocks
+pub marks_in_step : (s : List (Option Stored)) (xs : List (ℕ × ℕ)) → AllZip IsMarkOf (marks_in s xs) (blocks_in s xs)
+marks_in_step s [] = tt
+marks_in_step s (x ∷ xs) = (refl, marks_in_step s xs)
 
--- the slot has the same place and other bytes
-pub record IsRewritten (s t : List (Option Stored)) (k offset : ℕ) (bytes : List ℕ) : Type 0 where
-  pub filled : IsSome (get_or t k None)
-  pub place : stored_place (get_or t k None) ≡ stored_place (get_or s k None)
-  pub bytes_are : stored_bytes (get_or t k None) ≡ overwritten offset bytes (stored_bytes (get_or s k None))
-  pub len : length (stored_bytes (get_or t k None)) ≡ length (stored_bytes (get_or s k None))
-  pub others : KeepsOthers s t k
+-- the mark of a number is what the slot of its entry has
+mark_at-entry : (s : List (Option Stored)) (xs : List (ℕ × ℕ)) (i n : ℕ) → AreRising xs → IsEntry xs n i → mark_at n (marks_in s xs) ≡ Some (mark_from (get_or xs i start).0 (slot_of s (get_or xs i start)))
+mark_at-entry s xs i n rise entry =
+    find-map (λ (e : ℕ × ℕ). mark_from e.0 (slot_of s e)) (λ e. e.0 == n) (λ m. m.block == n) xs (λ e. refl) ∙ ap (option_map (λ (e : ℕ × ℕ). mark_from e.0 (slot_of s e))) (find_at xs i n rise entry.in_bounds entry.number)
 
--- a slot that has something still has something after a write
-filled_rewritten : (s t : List (Option Stored)) (k offset : ℕ) (bytes : List ℕ) (j : ℕ) → IsRewritten s t k offset bytes → IsSome (get_or s j None) → IsSome (get_or t j None)
-filled_rewritten s t k offset bytes j w some = elim (cases_eq j k) [
-  | inl same ↦ subst (λ (i : ℕ). IsSome (get_or t i None)) (sym same) w.filled
-  | inr differs ↦ subst IsSome (sym (w.others j differs)) some
+-- so are its pins
+pub pins_at-entry : (s : List (Option Stored)) (xs : List (ℕ × ℕ)) (i n : ℕ) → AreRising xs → IsEntry xs n i → pins_at n (marks_in s xs) ≡ stored_pins (slot_of s (get_or xs i start))
+pins_at-entry s xs i n rise entry = ap (λ o. unwrap_or (option_map (λ (m : Mark). m.pins) o) 0) (mark_at-entry s xs i n rise entry)
+
+-- and whether it has ended
+pub is_ended_at-entry : (s : List (Option Stored)) (xs : List (ℕ × ℕ)) (i n : ℕ) → AreRising xs → IsEntry xs n i → is_ended_at n (marks_in s xs) ≡ stored_ended (slot_of s (get_or xs i start))
+is_ended_at-entry s xs i n rise entry = ap (λ o. unwrap_or (option_map (λ (m : Mark). m.ended) o) false) (mark_at-entry s xs i n rise entry)
+
+-- ---- a change of one slot
+
+-- a slot that has something still has something
+filled_changed : (s t : List (Option Stored)) (k j : ℕ) → KeepsOthers s t k → IsSome (get_or t k None) → IsSome (get_or s j None) → IsSome (get_or t j None)
+filled_changed s t k j others filled some = elim (cases_eq j k) [
+  | inl same ↦ subst (λ (i : ℕ). IsSome (get_or t i None)) (sym same) filled
+  | inr differs ↦ subst IsSome (sym (others j differs)) some
 ]
 
--- each slot of an index still has something after a write
-pub all_filled : (s t : List (Option Stored)) (k offset : ℕ) (bytes : List ℕ) (xs : List (ℕ × ℕ)) → IsRewritten s t k offset bytes → AllByRecursion (λ e. IsSome (slot_of s e)) xs → AllByRecursion (λ e. IsSome (slot_of t e)) xs
-all_filled s t k offset bytes xs w filled = AllByRecursion-weaker (λ (e : ℕ × ℕ). IsSome (slot_of s e)) (λ e. IsSome (slot_of t e)) xs (λ e some. filled_rewritten s t k offset bytes e.1 w some) filled
+-- each slot of an index still has something
+pub all_filled : (s t : List (Option Stored)) (k : ℕ) (xs : List (ℕ × ℕ)) → KeepsOthers s t k → IsSome (get_or t k None) → AllByRecursion (λ e. IsSome (slot_of s e)) xs → AllByRecursion (λ e. IsSome (slot_of t e)) xs
+all_filled s t k xs others filled all = AllByRecursion-weaker (λ (e : ℕ × ℕ). IsSome (slot_of s e)) (λ e. IsSome (slot_of t e)) xs (λ e some. filled_changed s t k e.1 others filled some) all
 
--- a write leaves the block of each slot
-same_block : (s t : List (Option Stored)) (k offset : ℕ) (bytes : List ℕ) (number j : ℕ) → IsRewritten s t k offset bytes → block_from number (get_or t j None) ≡ block_from number (get_or s j None)
-same_block s t k offset bytes number j w = elim (cases_eq j k) [
-  | inl same ↦
-      let place : stored_place (get_or t j None) ≡ stored_place (get_or s j None) = rw same w.place in
-      let len : length (stored_bytes (get_or t j None)) ≡ length (stored_bytes (get_or s j None)) = rw same w.len in
-      rw (place, len)
-  | inr differs ↦ ap (block_from number) (w.others j differs)
+-- what is made of a slot stays where that of the one slot does
+same_made : {Y : Type 0} (f : ℕ → Option Stored → Y) (s t : List (Option Stored)) (k number j : ℕ) → KeepsOthers s t k → ((n : ℕ) → f n (get_or t k None) ≡ f n (get_or s k None)) → f number (get_or t j None) ≡ f number (get_or s j None)
+same_made f s t k number j others same = elim (cases_eq j k) [
+  | inl here ↦ rw here (same number)
+  | inr differs ↦ ap (f number) (others j differs)
 ]
 
--- a write to a slot leaves the blocks
-pub blocks_in-rewritten : (s t : List (Option Stored)) (k offset : ℕ) (bytes : List ℕ) (xs : List (ℕ × ℕ)) → IsRewritten s t k offset bytes → blocks_in t xs ≡ blocks_in s xs
-blocks_in-rewritten s t k offset bytes [] w = refl
-blocks_in-rewritten s t k offset bytes (x ∷ xs) w = rw (same_block s t k offset bytes x.0 x.1 w) (ap (λ bs. block_from x.0 (slot_of s x) ∷ bs) (blocks_in-rewritten s t k offset bytes xs w))
+-- and so does what is made of all slots of an index
+pub made-kept : {Y : Type 0} (f : ℕ → Option Stored → Y) (s t : List (Option Stored)) (k : ℕ) (xs : List (ℕ × ℕ)) → KeepsOthers s t k → ((n : ℕ) → f n (get_or t k None) ≡ f n (get_or s k None)) → map (λ e. f e.0 (slot_of t e)) xs ≡ map (λ e. f e.0 (slot_of s e)) xs
+made-kept f s t k [] others same = refl
+made-kept f s t k (x ∷ xs) others same = rw (same_made f s t k x.0 x.1 others same) (ap (λ ys. f x.0 (slot_of s x) ∷ ys) (made-kept f s t k xs others same))
+
+-- a slot of the same place and length leaves the blocks
+pub blocks_in-kept : (s t : List (Option Stored)) (k : ℕ) (xs : List (ℕ × ℕ)) → KeepsOthers s t k → stored_place (get_or t k None) ≡ stored_place (get_or s k None) → length (stored_bytes (get_or t k None)) ≡ length (stored_bytes (get_or s k None)) → blocks_in t xs ≡ blocks_in s xs
+blocks_in-kept s t k xs others place len = made-kept block_from s t k xs others (λ n. rw (place, len))
+
+-- one of the same bytes leaves those of the blocks
+pub memories_in-kept : (s t : List (Option Stored)) (k : ℕ) (xs : List (ℕ × ℕ)) → KeepsOthers s t k → stored_bytes (get_or t k None) ≡ stored_bytes (get_or s k None) → memories_in t xs ≡ memories_in s xs
+memories_in-kept s t k xs others bytes = made-kept memory_from s t k xs others (λ n. rw bytes)
+
+-- one of the same mark leaves the marks
+pub marks_in-kept : (s t : List (Option Stored)) (k : ℕ) (xs : List (ℕ × ℕ)) → KeepsOthers s t k → stored_pins (get_or t k None) ≡ stored_pins (get_or s k None) → stored_ended (get_or t k None) ≡ stored_ended (get_or s k None) → marks_in t xs ≡ marks_in s xs
+marks_in-kept s t k xs others pins ended = made-kept mark_from s t k xs others (λ n. rw (pins, ended))
 
 -- an entry is that of the slot exactly where it is that of the block
 abbrev AreTold : List (ℕ × ℕ) → ℕ → ℕ → Type 0
@@ -139,31 +159,47 @@ told (x ∷ xs) (suc i) rise distinct lt =
     let less : x.0 < (get_or xs i start).0 = all_at (λ (e : ℕ × ℕ). x.0 < e.0) xs i start (omega arith) rise.0 in
     (inr (λ same. omega arith, all_at (λ (e : ℕ × ℕ). x.1 ≡ e.1 → ⊥) xs i start (omega arith) distinct.0), told xs i rise.1 distinct.1 (omega arith))
 
+-- what is made of the slot of one entry changes alone, where entries are told apart
+made-changed : {Y : Type 0} (f : ℕ → Option Stored → Y) (change : Y → Y) (s t : List (Option Stored)) (n k : ℕ) (xs : List (ℕ × ℕ)) → KeepsOthers s t k → f n (get_or t k None) ≡ change (f n (get_or s k None)) → ((m : ℕ) (o : Option Stored) → (m ≡ n → ⊥) → change (f m o) ≡ f m o) → AreTold xs n k
+    → map (λ e. f e.0 (slot_of t e)) xs ≡ map change (map (λ e. f e.0 (slot_of s e)) xs)
+made-changed f change s t n k [] others is else told_of = refl
+made-changed f change s t n k (x ∷ xs) others is else told_of =
+    let rest = made-changed f change s t n k xs others is else told_of.1 in
+    let here : f x.0 (slot_of t x) ≡ change (f x.0 (slot_of s x)) =
+    elim told_of.0 [
+      | inl same ↦ rw (same.0, same.1) is
+      | inr differs ↦ ap (f x.0) (others x.1 differs.1) ∙ sym (else x.0 (slot_of s x) differs.0)
+    ] in
+    rw here (ap (λ ys. change (f x.0 (slot_of s x)) ∷ ys) rest)
+
 -- a change of a block's memory is a change of its bytes
-changed_here : (n : ℕ) (change : List ℕ → List ℕ) (m : Memory) → m.block ≡ n → memory_changed n change m ≡ record { block = m.block; bytes = change m.bytes }
-changed_here n change m same = let t : (m.block == n) ≡ true = grind (arith, nat_tests) in rw t
+changed_here : (n : ℕ) (change : List ℕ → List ℕ) (bytes : List ℕ) → memory_changed n change (record { block = n; bytes = bytes }) ≡ record { block = n; bytes = change bytes }
+changed_here n change bytes = rw (equal_self n)
 
 -- a change of a block's memory leaves that of another block
-changed_elsewhere : (n : ℕ) (change : List ℕ → List ℕ) (m : Memory) → (m.block ≡ n → ⊥) → memory_changed n change m ≡ m
-changed_elsewhere n change m differs = let t : (m.block == n) ≡ false = grind (arith, nat_tests, differs) in rw t
+changed_elsewhere : (n : ℕ) (change : List ℕ → List ℕ) (m : ℕ) (o : Option Stored) → (m ≡ n → ⊥) → memory_changed n change (memory_from m o) ≡ memory_from m o
+changed_elsewhere n change m o differs = let t : (m == n) ≡ false = grind (arith, nat_tests, differs) in rw t
 
--- a write to a slot changes the memory of its block alone, where entries are told apart
-rewritten : (s t : List (Option Stored)) (n k offset : ℕ) (bytes : List ℕ) (xs : List (ℕ × ℕ)) → IsRewritten s t k offset bytes → AreTold xs n k → memories_in t xs ≡ map (memory_changed n (overwritten offset bytes)) (memories_in s xs)
-rewritten s t n k offset bytes [] w told_of = refl
-rewritten s t n k offset bytes (x ∷ xs) w told_of =
-    let rest = rewritten s t n k offset bytes xs w told_of.1 in
-    let here : memory_from x.0 (slot_of t x) ≡ memory_changed n (overwritten offset bytes) (memory_from x.0 (slot_of s x)) =
-    elim told_of.0 [
-      | inl same ↦
-          let e : stored_bytes (slot_of t x) ≡ overwritten offset bytes (stored_bytes (slot_of s x)) = rw same.1 w.bytes_are in
-          rw (changed_here n (overwritten offset bytes) (memory_from x.0 (slot_of s x)) same.0) (ap (λ (b : List ℕ). record { block = x.0; bytes = b }) e)
-      | inr differs ↦ rw (changed_elsewhere n (overwritten offset bytes) (memory_from x.0 (slot_of s x)) differs.0) (ap (memory_from x.0) (w.others x.1 differs.1))
-    ] in
-    ap (λ (m : Memory). m ∷ memories_in t xs) here ∙ ap (λ ms. memory_changed n (overwritten offset bytes) (memory_from x.0 (slot_of s x)) ∷ ms) rest
-
--- a write to the slot of an entry changes the memory of its block alone
-pub memories_in-rewritten : (s t : List (Option Stored)) (xs : List (ℕ × ℕ)) (i n offset : ℕ) (bytes : List ℕ) → AreRising xs → EachPair (λ d e. d.1 ≡ e.1 → ⊥) xs → IsEntry xs n i → IsRewritten s t (get_or xs i start).1 offset bytes
-    → memories_in t xs ≡ map (memory_changed n (overwritten offset bytes)) (memories_in s xs)
-memories_in-rewritten s t xs i n offset bytes rise distinct entry w =
+-- a change of the bytes of an entry's slot changes the memory of its block alone
+pub memories_in-changed : (s t : List (Option Stored)) (xs : List (ℕ × ℕ)) (i n : ℕ) (change : List ℕ → List ℕ) → AreRising xs → EachPair (λ d e. d.1 ≡ e.1 → ⊥) xs → IsEntry xs n i → KeepsOthers s t (get_or xs i start).1
+    → stored_bytes (get_or t (get_or xs i start).1 None) ≡ change (stored_bytes (get_or s (get_or xs i start).1 None)) → memories_in t xs ≡ map (memory_changed n change) (memories_in s xs)
+memories_in-changed s t xs i n change rise distinct entry others is =
     let told_of : AreTold xs n (get_or xs i start).1 = subst (λ (m : ℕ). AreTold xs m (get_or xs i start).1) entry.number (told xs i rise distinct entry.in_bounds) in
-    rewritten s t n (get_or xs i start).1 offset bytes xs w told_of
+    made-changed memory_from (memory_changed n change) s t n (get_or xs i start).1 xs others
+    (ap (λ (b : List ℕ). let m : Memory = record { block = n; bytes = b } in m) is ∙ sym (changed_here n change (stored_bytes (get_or s (get_or xs i start).1 None))))
+    (changed_elsewhere n change) told_of
+
+-- a change of a block's mark is a change of what its slot has
+marked_here : (n : ℕ) (change : Mark → Mark) (o : Option Stored) → mark_changed n change (mark_from n o) ≡ change (mark_from n o)
+marked_here n change o = rw (equal_self n)
+
+-- a change of a block's mark leaves that of another block
+marked_elsewhere : (n : ℕ) (change : Mark → Mark) (m : ℕ) (o : Option Stored) → (m ≡ n → ⊥) → mark_changed n change (mark_from m o) ≡ mark_from m o
+marked_elsewhere n change m o differs = let t : (m == n) ≡ false = grind (arith, nat_tests, differs) in rw t
+
+-- a change of the mark of an entry's slot changes the mark of its block alone
+pub marks_in-changed : (s t : List (Option Stored)) (xs : List (ℕ × ℕ)) (i n : ℕ) (change : Mark → Mark) → AreRising xs → EachPair (λ d e. d.1 ≡ e.1 → ⊥) xs → IsEntry xs n i → KeepsOthers s t (get_or xs i start).1
+    → mark_from n (get_or t (get_or xs i start).1 None) ≡ change (mark_from n (get_or s (get_or xs i start).1 None)) → marks_in t xs ≡ map (mark_changed n change) (marks_in s xs)
+marks_in-changed s t xs i n change rise distinct entry others is =
+    let told_of : AreTold xs n (get_or xs i start).1 = subst (λ (m : ℕ). AreTold xs m (get_or xs i start).1) entry.number (told xs i rise distinct entry.in_bounds) in
+    made-changed mark_from (mark_changed n change) s t n (get_or xs i start).1 xs others (is ∙ sym (marked_here n change (get_or s (get_or xs i start).1 None))) (marked_elsewhere n change) told_of

@@ -5,12 +5,14 @@ use Rattle.acc_base.specs.Records.{Memory}
 use Rattle.acc_base.specs.Blocks.{rounded, place_for, block_at, without_block}
 use Rattle.acc_base.specs.Bytes.{fill_byte, memory_changed, memories_kept}
 use Rattle.acc_base.specs.Accounts.{AreBlocksApart}
+use Rattle.acc_dev.specs.Marks.{Mark, new_mark, mark_changed, with_pin, without_pin, with_end, without_mark}
 
--- the size of device memory in bytes, the blocks by rising number, the bytes of each in step with them, how many blocks were ever born, and the lengths of births for which room was made, in the order of its use
+-- the size of device memory in bytes, the blocks by rising number, the bytes and the mark of each in step with them, how many blocks were ever born, and the lengths of births for which room was made, in the order of its use
 pub record DeviceState : Type 0 where
   pub size : ℕ
   pub blocks : List Block
   pub memories : List Memory
+  pub marks : List Mark
   pub births : ℕ
   pub room : List ℕ
 
@@ -23,6 +25,7 @@ pub record IsNew (size : ℕ) (d : DeviceState) : Type 0 where
   pub size_is : d.size ≡ size
   pub blocks_are : d.blocks ≡ []
   pub memories_are : d.memories ≡ []
+  pub marks_are : d.marks ≡ []
   pub births_are : d.births ≡ 0
 
 -- the same device, but for its spare room
@@ -30,6 +33,7 @@ pub record IsUnchanged (old new : DeviceState) : Type 0 where
   pub size : new.size ≡ old.size
   pub blocks : new.blocks ≡ old.blocks
   pub memories : new.memories ≡ old.memories
+  pub marks : new.marks ≡ old.marks
   pub births : new.births ≡ old.births
 
 -- ---- births
@@ -38,7 +42,7 @@ pub record IsUnchanged (old new : DeviceState) : Type 0 where
 abbrev pub birth_place : DeviceState → ℕ → Option ℕ
 birth_place d len = place_for d.size d.blocks (rounded len)
 
--- the new device is the old one with a block more: it has the next number, lies at the least place, and has these bytes
+-- the new device is the old one with a block more: it has the next number, lies at the least place, has these bytes, and no transfer names it
 pub record IsBornWith (old new : DeviceState) (len : ℕ) (bytes : List ℕ) (block : ℕ) : Type 0 where
   pub place : ℕ
   pub place_is : birth_place old len ≡ Some place
@@ -46,6 +50,7 @@ pub record IsBornWith (old new : DeviceState) (len : ℕ) (bytes : List ℕ) (bl
   pub size : new.size ≡ old.size
   pub blocks : new.blocks ≡ old.blocks ++ record { number = block; place = place; len = len } ∷ []
   pub memories : new.memories ≡ old.memories ++ record { block = block; bytes = bytes } ∷ []
+  pub marks : new.marks ≡ old.marks ++ new_mark block ∷ []
   pub births : new.births ≡ block
 
 -- and its bytes are filled
@@ -61,7 +66,7 @@ abbrev pub planned_blocks : ℕ → List (ℕ × ℕ) → List Block
 planned_blocks number [] = []
 planned_blocks number (t ∷ ts) = record { number = number; place = t.0; len = t.1 } ∷ planned_blocks (suc number) ts
 
--- ---- writes and ends
+-- ---- writes, pins and ends
 
 -- the bytes with others in place of those from an offset on
 abbrev pub overwritten : ℕ → List ℕ → List ℕ → List ℕ
@@ -72,14 +77,37 @@ pub record IsWritten (old new : DeviceState) (block offset : ℕ) (bytes : List 
   pub size : new.size ≡ old.size
   pub blocks : new.blocks ≡ old.blocks
   pub memories : new.memories ≡ map (memory_changed block (overwritten offset bytes)) old.memories
+  pub marks : new.marks ≡ old.marks
   pub births : new.births ≡ old.births
   pub room : new.room ≡ old.room
 
--- the new device is the old one without a block and its bytes
+-- the new device is the old one with a change of the mark of a block
+pub record IsMarked (old new : DeviceState) (block : ℕ) (change : Mark → Mark) : Type 0 where
+  pub size : new.size ≡ old.size
+  pub blocks : new.blocks ≡ old.blocks
+  pub memories : new.memories ≡ old.memories
+  pub marks : new.marks ≡ map (mark_changed block change) old.marks
+  pub births : new.births ≡ old.births
+  pub room : new.room ≡ old.room
+
+-- one more transfer names the block
+abbrev pub IsPinned : DeviceState → DeviceState → ℕ → Type 0
+IsPinned old new block = IsMarked old new block with_pin
+
+-- one transfer fewer names it
+abbrev pub IsUnpinned : DeviceState → DeviceState → ℕ → Type 0
+IsUnpinned old new block = IsMarked old new block without_pin
+
+-- its mapping has ended, and it is kept
+abbrev pub IsEnded : DeviceState → DeviceState → ℕ → Type 0
+IsEnded old new block = IsMarked old new block with_end
+
+-- the new device is the old one without a block, its bytes and its mark
 pub record IsRetired (old new : DeviceState) (block : ℕ) : Type 0 where
   pub size : new.size ≡ old.size
   pub blocks : new.blocks ≡ without_block block old.blocks
   pub memories : new.memories ≡ memories_kept new.blocks old.memories
+  pub marks : new.marks ≡ without_mark block old.marks
   pub births : new.births ≡ old.births
   pub room : new.room ≡ old.room
 

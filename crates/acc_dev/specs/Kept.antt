@@ -1,15 +1,19 @@
 -- How a device keeps its blocks: each in a slot of a slab, and an index of their numbers and slots. No public clause cites this module.
-use Rattle.std.specs.Prelude.{ℕ, ◌≡◌, ◌^◌, ◌<◌, ◌≤◌, List, [], map, length, Option, Some, None, IsSome, slice_index_or}
+use Rattle.std.specs.Prelude.{ℕ, ◌≡◌, ◌≢◌, ◌^◌, ◌<◌, ◌≤◌, ◌&&◌, if◌then◌else◌, nat_le, Bool, false, List, [], ◌∷◌, map, length, Option, Some, None, IsSome, slice_index_or}
 use Rattle.std.specs.List.{AllByRecursion}
 use Rattle.acc_base.specs.declared.addresses.TheConstants.{MEMORY_MAX}
 use Rattle.acc_base.specs.declared.mappings.Block.{Block}
+use Rattle.acc_base.specs.declared.mappings.Ended.{Ended}
 use Rattle.acc_base.specs.Limits.{IsFromOne}
 use Rattle.acc_base.specs.Section.{device_base}
+use Rattle.acc_base.specs.Blocks.{rounded}
 use Rattle.acc_base.specs.Records.{Memory}
 use Rattle.acc_base.specs.Holes.{taken_range}
 use Rattle.acc_base.specs.Accounts.{EachPair}
 use Rattle.acc_placement.specs.Space.{Space, IsCanonical, IsPartition}
+use Rattle.slab.specs.Slab.{Slab, get}
 use Rattle.acc_dev.specs.declared.entries.Stored.{Stored}
+use Rattle.acc_dev.specs.Marks.{Mark, IsSoundMark}
 
 -- the place that a slot has; no slot of a block is empty
 abbrev pub stored_place : Option Stored → ℕ
@@ -21,6 +25,16 @@ abbrev pub stored_bytes : Option Stored → List ℕ
 stored_bytes None = []
 stored_bytes (Some s) = s.bytes.items
 
+-- how many queued transfers name the block of a slot
+abbrev pub stored_pins : Option Stored → ℕ
+stored_pins None = 0
+stored_pins (Some s) = s.pins
+
+-- the mapping of the block of a slot has ended
+abbrev pub stored_ended : Option Stored → Bool
+stored_ended None = false
+stored_ended (Some s) = s.ended
+
 -- the block of a number, with what its slot has
 abbrev pub block_from : ℕ → Option Stored → Block
 block_from number slot = record { number = number; place = stored_place slot; len = length (stored_bytes slot) }
@@ -28,6 +42,10 @@ block_from number slot = record { number = number; place = stored_place slot; le
 -- the bytes of a number, which its slot has
 abbrev pub memory_from : ℕ → Option Stored → Memory
 memory_from number slot = record { block = number; bytes = stored_bytes slot }
+
+-- the mark of a number, which its slot has
+abbrev pub mark_from : ℕ → Option Stored → Mark
+mark_from number slot = record { block = number; pins = stored_pins slot; ended = stored_ended slot }
 
 -- what the slot of an entry has
 abbrev pub slot_of : List (Option Stored) → ℕ × ℕ → Option Stored
@@ -40,6 +58,10 @@ blocks_in slots index = map (λ e. block_from e.0 (slot_of slots e)) index
 -- the bytes of the blocks of an index
 abbrev pub memories_in : List (Option Stored) → List (ℕ × ℕ) → List Memory
 memories_in slots index = map (λ e. memory_from e.0 (slot_of slots e)) index
+
+-- the marks of the blocks of an index
+abbrev pub marks_in : List (Option Stored) → List (ℕ × ℕ) → List Mark
+marks_in slots index = map (λ e. mark_from e.0 (slot_of slots e)) index
 
 -- the numbers of an index rise
 abbrev pub AreRising : List (ℕ × ℕ) → Type 0
@@ -54,6 +76,7 @@ pub record IsKept (holes : Space) (slots : List (Option Stored)) (index : List (
   pub filled : AllByRecursion (λ e. IsSome (slot_of slots e)) index
   pub others_empty : (slot : ℕ) → AllByRecursion (λ e. e.1 ≡ slot → ⊥) index → slice_index_or slots slot None ≡ None
   pub lens : AllByRecursion (λ b. IsFromOne MEMORY_MAX b.len) (blocks_in slots index)
+  pub marks : AllByRecursion IsSoundMark (marks_in slots index)
   pub partition : IsPartition holes (map taken_range (blocks_in slots index))
 
 -- no number is above the births, of which there are not too many
@@ -65,3 +88,32 @@ pub record IsCounted (index : List (ℕ × ℕ)) (births : ℕ) : Type 0 where
 pub record IsEntry (index : List (ℕ × ℕ)) (block at : ℕ) : Type 0 where
   pub in_bounds : at < length index
   pub number : (slice_index_or index at (0, 0)).0 ≡ block
+
+-- the slot has the same place and bytes, and this mark; every other slot is as it was
+pub record IsRemarked (old new : Slab Stored) (slot pins : ℕ) (ended : Bool) : Type 0 where
+  pub filled : IsSome (get new slot)
+  pub place : stored_place (get new slot) ≡ stored_place (get old slot)
+  pub bytes : stored_bytes (get new slot) ≡ stored_bytes (get old slot)
+  pub pins_are : stored_pins (get new slot) ≡ pins
+  pub ended_is : stored_ended (get new slot) ≡ ended
+  pub others : (other : ℕ) → other ≢ slot → get new other ≡ get old other
+
+-- ---- blocks that have ended
+
+-- what is told of the block of a slot where it has ended and lies at or above a device address
+abbrev pub told_of : ℕ → Option Stored → Option Ended
+told_of from slot =
+    if stored_ended slot && nat_le from (stored_place slot)
+    then Some (record { place = stored_place slot; size = rounded (length (stored_bytes slot)); pins = stored_pins slot })
+    else None
+
+-- the one of two that lies lower, of which each may be missing
+abbrev pub lower_of : Option Ended → Option Ended → Option Ended
+lower_of None b = b
+lower_of (Some a) None = Some a
+lower_of (Some a) (Some b) = Some (if nat_le a.place b.place then a else b)
+
+-- the lowest of those that the slots of an index tell
+abbrev pub lowest_told : ℕ → List (Option Stored) → List (ℕ × ℕ) → Option Ended
+lowest_told from slots [] = None
+lowest_told from slots (e ∷ es) = lower_of (told_of from (slot_of slots e)) (lowest_told from slots es)

@@ -1,3 +1,4 @@
+pub mod Marks
 pub mod Device
 pub mod Kept
 pub mod Room

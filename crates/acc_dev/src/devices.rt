@@ -1,7 +1,8 @@
 //! Device memory as one value.
 
-ghost use Rattle.std.specs.Prelude.{◌≡◌, ◌+◌, ◌^◌, ◌<◌, ◌≤◌, ◌⊎◌, ◌↔◌, ◌++◌, length, map, drop, [], replicate, vec_capacity, All, IfOk, IfErr, OnOk, OnErr, IsSomeAnd, IfSome, IsTrue, Err, None, Some};
+ghost use Rattle.std.specs.Prelude.{◌≡◌, ◌+◌, ◌^◌, ◌<◌, ◌≤◌, ◌⊎◌, ◌↔◌, ◌++◌, length, map, drop, [], replicate, vec_capacity, All, IfOk, IfErr, OnOk, OnErr, IsSomeAnd, IfSome, IsTrue, Err, None, Some, true, false};
 ghost use Rattle.std.specs.List.{AllZip, AllByRecursion};
+ghost use Rattle.std.specs.Bool.{OnTrue, OnFalse};
 ghost use Rattle.acc_base.specs.Limits.{IsSize, IsFromOne};
 ghost use Rattle.acc_base.specs.Section.{device_base};
 ghost use Rattle.acc_base.specs.Blocks.{rounded as rounded_of, place_for, block_at, size_of, used_bytes, IsPlaceFor};
@@ -9,10 +10,13 @@ ghost use Rattle.acc_base.specs.Holes.{IsDevice};
 ghost use Rattle.acc_base.specs.Bytes.{bytes_of, fill_byte};
 ghost use Rattle.acc_base.specs.Accounts.{IsMemoryOf};
 ghost use Rattle.acc_placement.specs.Ranges.{IsTakeBelow};
-ghost use Rattle.acc_dev.specs.Device.{HasBlock, IsNew, IsUnchanged, IsBorn, IsBornWith, IsNextRoom, IsWritten, IsRetired, HasBlocksApart, birth_place, planned_blocks};
+ghost use Rattle.acc_dev.specs.Marks.{Mark, pins_at, is_ended_at, lowest_ended as lowest_ended_of, IsMarkOf, IsSoundMark};
+ghost use Rattle.acc_dev.specs.Device.{HasBlock, IsNew, IsUnchanged, IsBorn, IsBornWith, IsNextRoom, IsWritten, IsMarked, IsPinned, IsUnpinned, IsEnded, IsRetired, HasBlocksApart, birth_place, planned_blocks};
 
-use crate::entries::{Stored, make_room, position_of, put, take_out, write_at};
-use acc_base::{DEVICE_BASE, Fault, MEMORY_MAX};
+use crate::entries::{
+    Stored, lowest_ended, make_room, position_of, put, set_mark, take_out, write_at,
+};
+use acc_base::{DEVICE_BASE, Ended, Fault, MEMORY_MAX};
 use acc_placement::{Holes, rounded};
 use slab::Slab;
 use std::alloc::Global;
@@ -26,12 +30,17 @@ const FILL_BYTE: u8 = 0xa5;
 ///
 /// Blocks are numbered from 1 in the order of their births, and no number is used twice. Places are device addresses
 /// from [`DEVICE_BASE`] on. Contracts see the size of the memory in bytes, the blocks by rising number, the bytes of
-/// each, and how many blocks were ever born.
+/// each, what keeps each, and how many blocks were ever born.
 ///
-/// A number finds its block by a binary search. [`Device::born`] adds a block at the end of the index, and
-/// [`Device::retire`] moves the entries behind that of its block, of 16 bytes each, by one place. Beside that they cost
-/// what the placement costs for its list of holes, and a birth the writing of its bytes; where there is no room for one
-/// block more, it also moves the lists that grow.
+/// A block is kept by its mapping, which [`Device::retire`] ends, and by each queued transfer that names it, which
+/// [`Device::pin`] and [`Device::unpin`] count (OpenACC 3.3, section 2.16, asynchronous behavior). The one of these calls
+/// that takes away the last thing that keeps it gives it back.
+///
+/// A number finds its block by a binary search. [`Device::born`] adds a block at the end of the index. Where
+/// [`Device::retire`] or [`Device::unpin`] gives its block back, it moves the entries behind that of the block, of 16
+/// bytes each, by one place; else it costs the search alone, as [`Device::pin`] does. Beside that a birth and a block
+/// that is given back cost what the placement costs for its list of holes, and a birth the writing of its bytes; where
+/// there is no room for one block more, it also moves the lists that grow. [`Device::ended`] looks at each block once.
 #[derive(Drop)]
 pub struct Device {
     alloc: Global,
@@ -46,7 +55,7 @@ pub struct Device {
 
 impl Model for Device {
     ghost use Rattle.acc_dev.specs.Device.{DeviceState};
-    ghost use Rattle.acc_dev.specs.Kept.{blocks_in, memories_in, IsKept, IsCounted};
+    ghost use Rattle.acc_dev.specs.Kept.{blocks_in, memories_in, marks_in, IsKept, IsCounted};
     ghost use Rattle.acc_dev.specs.Room.{room_of, HasRoom};
 
     ghost Value = { DeviceState };
@@ -55,6 +64,7 @@ impl Model for Device {
       size = d.holes.size;
       blocks = blocks_in d.slab.slots d.index.items;
       memories = memories_in d.slab.slots d.index.items;
+      marks = marks_in d.slab.slots d.index.items;
       births = d.births;
       room = room_of d;
     } };
@@ -270,16 +280,78 @@ impl Device {
         write_at(&mut self.slab, slot, offset as usize, bytes);
     }
 
-    /// Gives a block of the device back: its addresses are free again, and its bytes are gone. It needs no memory and is
-    /// never refused.
-    pub fn retire(&mut self, block: u64)
-        requires { HasBlock self.old block }
-        ensures { IsRetired self.old self.new block }
+    /// Says that one more queued transfer names a block of the device, which is kept as long as one does. Fewer than 2^32
+    /// transfers named it before (OpenACC 3.3, section 2.16, asynchronous behavior).
+    pub fn pin(&mut self, block: u64)
+        requires there { HasBlock self.old block }
+        requires few { pins_at block self.old.marks < 2 ^ 32 }
+        ensures { IsPinned self.old self.new block }
     {
-        let Some(at) = position_of(&self.index, block) else {
-            unreachable!()
-        };
-        take_out(&mut self.holes, &mut self.slab, &mut self.index, at);
+        let (pins, ended) = self.mark_of(block);
+        self.mark(block, pins + 1, ended);
+    }
+
+    /// Says that one queued transfer fewer names a block of the device. Where it was the last one and the mapping of the
+    /// block has ended, the block is given back: its addresses are free again, and its bytes are gone. It answers whether
+    /// that is so.
+    pub fn unpin(&mut self, block: u64) -> bool
+        requires there { HasBlock self.old block }
+        requires pinned { 0 < pins_at block self.old.marks }
+        ensures given_back { IsTrue result ↔ ((is_ended_at block self.old.marks ≡ true) × (pins_at block self.old.marks ≡ 1)) }
+        ensures retired { OnTrue result (IsRetired self.old self.new block) }
+        ensures unpinned { OnFalse result (IsUnpinned self.old self.new block) }
+    {
+        let (pins, ended) = self.mark_of(block);
+        if ended && pins == 1 {
+            self.give_back(block);
+            return true;
+        }
+        self.mark(block, pins - 1, ended);
+        false
+    }
+
+    /// Ends the mapping of a block of the device. Where no queued transfer names the block it is given back: its addresses
+    /// are free again, and its bytes are gone. Else it is kept with its bytes, and [`Device::unpin`] gives it back. This
+    /// answers whether the block was given back, needs no memory and is never refused.
+    pub fn retire(&mut self, block: u64) -> bool
+        requires there { HasBlock self.old block }
+        requires mapped { is_ended_at block self.old.marks ≡ false }
+        ensures given_back { IsTrue result ↔ (pins_at block self.old.marks ≡ 0) }
+        ensures retired { OnTrue result (IsRetired self.old self.new block) }
+        ensures kept { OnFalse result (IsEnded self.old self.new block) }
+    {
+        let pins = self.pins(block);
+        if pins == 0 {
+            self.give_back(block);
+            return true;
+        }
+        self.mark(block, pins, true);
+        false
+    }
+
+    /// How many queued transfers name a block of the device, at most 2^32.
+    pub fn pins(&self, block: u64) -> u64
+        requires { HasBlock self.now block }
+        ensures pins { result ≡ pins_at block self.now.marks }
+        ensures few { result ≤ 2 ^ 32 }
+    {
+        self.mark_of(block).0
+    }
+
+    /// Whether the mapping of a block of the device has ended.
+    pub fn has_ended(&self, block: u64) -> bool
+        requires { HasBlock self.now block }
+        ensures { result ≡ is_ended_at block self.now.marks }
+    {
+        self.mark_of(block).1
+    }
+
+    /// Of the blocks whose mapping has ended, the one of least place at or above the device address `from`; `None` where
+    /// there is none. It needs no memory.
+    pub fn ended(&self, from: u64) -> Option<Ended>
+        ensures { result ≡ lowest_ended_of from self.now.marks self.now.blocks }
+    {
+        lowest_ended(&self.slab, &self.index, from)
     }
 
     /// How many bytes of device memory the blocks take: the sum of their lengths, each rounded up to a multiple of 16.
@@ -290,12 +362,15 @@ impl Device {
     }
 
     /// What holds of every device: its blocks lie on it and apart, by rising number; each has a memory of its length,
-    /// from 1 to 67,108,864 bytes; they take no more bytes than there are; and with the holes between
-    /// them they are the device, with no address in two of them. Nothing is done.
+    /// from 1 to 67,108,864 bytes; at most 2^32 queued transfers name it, and one at least where its mapping has ended;
+    /// they take no more bytes than there are; and with the holes between them they are the device, with no address in
+    /// two of them. Nothing is done.
     pub fn laws(&self)
         ensures size { IsSize self.now.size }
         ensures blocks_apart { HasBlocksApart self.now }
         ensures memories { AllZip IsMemoryOf self.now.memories self.now.blocks }
+        ensures marks { AllZip IsMarkOf self.now.marks self.now.blocks }
+        ensures held { AllByRecursion IsSoundMark self.now.marks }
         ensures lens { AllByRecursion (λ b. IsFromOne MEMORY_MAX b.len) self.now.blocks }
         ensures bytes_accounted { used_bytes self.now.blocks ≤ self.now.size }
         ensures holes { IsDevice self.now.size self.now.blocks }
@@ -304,12 +379,53 @@ impl Device {
         let _ = &self.births;
     }
 
+    /// Takes a block of the device away: its addresses are free again, and its bytes are gone.
+    fn give_back(&mut self, block: u64)
+        requires { HasBlock self.old block }
+        ensures { IsRetired self.old self.new block }
+    {
+        let Some(at) = position_of(&self.index, block) else {
+            unreachable!()
+        };
+        take_out(&mut self.holes, &mut self.slab, &mut self.index, at);
+    }
+
+    /// How many queued transfers name a block of the device, and whether its mapping has ended.
+    fn mark_of(&self, block: u64) -> (u64, bool)
+        requires { HasBlock self.now block }
+        ensures pins { result.0 ≡ pins_at block self.now.marks }
+        ensures few { result.0 ≤ 2 ^ 32 }
+        ensures ended { result.1 ≡ is_ended_at block self.now.marks }
+    {
+        let Some(stored) = self.stored(block) else {
+            unreachable!()
+        };
+        (stored.pins, stored.ended)
+    }
+
+    /// Sets how many queued transfers name a block of the device, and whether its mapping has ended.
+    fn mark(&mut self, block: u64, pins: u64, ended: bool)
+        requires there { HasBlock self.old block }
+        requires few { pins ≤ 2 ^ 32 }
+        requires held { ended ≡ true → 0 < pins }
+        ensures { (change : Mark → Mark) → change (record { block = block; pins = pins_at block self.old.marks; ended = is_ended_at block self.old.marks }) ≡ record { block = block; pins = pins; ended = ended } → IsMarked self.old self.new block change }
+    {
+        let Some(at) = position_of(&self.index, block) else {
+            unreachable!()
+        };
+        let slot = self.index[at].1;
+        set_mark(&mut self.slab, slot, pins, ended);
+    }
+
     /// What the slot of a block of the device has: there is always something.
     fn stored(&self, block: u64) -> Option<&Stored>
         requires { HasBlock self.now block }
         ensures block { IsSomeAnd result (λ stored. block_at block self.now.blocks ≡ Some (record { number = block; place = stored.now.place; len = length stored.now.bytes.items })) }
         ensures bytes { IfSome result (λ stored. stored.now.bytes.items ≡ bytes_of block self.now.memories) }
         ensures len { IfSome result (λ stored. IsFromOne MEMORY_MAX (length stored.now.bytes.items)) }
+        ensures pins { IfSome result (λ stored. stored.now.pins ≡ pins_at block self.now.marks) }
+        ensures few { IfSome result (λ stored. stored.now.pins ≤ 2 ^ 32) }
+        ensures ended { IfSome result (λ stored. stored.now.ended ≡ is_ended_at block self.now.marks) }
     {
         let at = position_of(&self.index, block)?;
         self.slab.get(self.index[at].1)

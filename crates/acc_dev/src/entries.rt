@@ -8,10 +8,11 @@ ghost use Rattle.acc_base.specs.Blocks.{rounded as rounded_of};
 ghost use Rattle.acc_placement.specs.Ranges.{IsFit, IsLeastFit};
 ghost use Rattle.acc_placement.specs.Space.{IsSameSpace};
 ghost use Rattle.acc_dev.specs.Device.{overwritten};
-ghost use Rattle.acc_dev.specs.Kept.{stored_place, stored_bytes, blocks_in, memories_in, AreRising, IsEntry, IsKept};
+ghost use Rattle.acc_dev.specs.Marks.{new_mark};
+ghost use Rattle.acc_dev.specs.Kept.{stored_place, stored_bytes, stored_pins, stored_ended, blocks_in, memories_in, marks_in, lower_of as lower_one, lowest_told, told_of, AreRising, IsEntry, IsKept, IsRemarked};
 
-use acc_base::{Fault, MEMORY_MAX};
-use acc_placement::Holes;
+use acc_base::{Ended, Fault, MEMORY_MAX};
+use acc_placement::{Holes, rounded};
 use slab::Slab;
 
 /// What a block has, in a slot of its own.
@@ -21,6 +22,10 @@ pub struct Stored {
     pub place: u64,
     /// The bytes.
     pub bytes: Vec<u8>,
+    /// How many queued transfers name the block.
+    pub pins: u64,
+    /// Its mapping has ended.
+    pub ended: bool,
 }
 
 /// The place in the index of a block's entry.
@@ -60,7 +65,7 @@ pub fn make_room(
     Ok(())
 }
 
-/// Puts a new block with these bytes where it fits first, and answers its place.
+/// Puts a new block with these bytes, which no transfer names, where it fits first, and answers its place.
 pub fn put(
     holes: &mut Holes,
     slab: &mut Slab<Stored>,
@@ -81,6 +86,7 @@ pub fn put(
     ensures index { (slot : ℕ) × (index.new.items ≡ index.old.items ++ (number, slot) ∷ []) }
     ensures blocks { blocks_in slab.new.slots index.new.items ≡ blocks_in slab.old.slots index.old.items ++ record { number = number; place = result; len = length bytes.items } ∷ [] }
     ensures memories { memories_in slab.new.slots index.new.items ≡ memories_in slab.old.slots index.old.items ++ record { block = number; bytes = bytes.items } ∷ [] }
+    ensures marks { marks_in slab.new.slots index.new.items ≡ marks_in slab.old.slots index.old.items ++ new_mark number ∷ [] }
     ensures spare { holes.old.spare ≤ holes.new.spare + 1 }
     ensures slots { slab_len slab.new ≡ slab_len slab.old + 1 }
     ensures slab_capacity { slab.new.capacity ≡ slab.old.capacity }
@@ -88,7 +94,12 @@ pub fn put(
     ensures entries { vec_len index.new ≡ vec_len index.old + 1 }
 {
     let place = holes.take_reserved(bytes.len() as u64);
-    let slot = slab.insert_reserved(Stored { place, bytes });
+    let slot = slab.insert_reserved(Stored {
+        place,
+        bytes,
+        pins: 0,
+        ended: false,
+    });
     index.push_reserved((number, slot));
     place
 }
@@ -107,6 +118,7 @@ pub fn take_out(
     ensures index { index.new.items ≡ remove index.old.items at }
     ensures blocks { blocks_in slab.new.slots index.new.items ≡ remove (blocks_in slab.old.slots index.old.items) at }
     ensures memories { memories_in slab.new.slots index.new.items ≡ remove (memories_in slab.old.slots index.old.items) at }
+    ensures marks { marks_in slab.new.slots index.new.items ≡ remove (marks_in slab.old.slots index.old.items) at }
     ensures spare { holes.old.spare ≤ holes.new.spare }
     ensures slots { slab_len slab.new ≤ slab_len slab.old }
     ensures slab_capacity { slab.new.capacity ≡ slab.old.capacity }
@@ -114,7 +126,7 @@ pub fn take_out(
     ensures entries { vec_len index.new ≤ vec_len index.old }
 {
     let (_, slot) = index.remove(at);
-    let Stored { place, bytes } = slab.remove(slot);
+    let Stored { place, bytes, .. } = slab.remove(slot);
     holes.give_back(place, bytes.len() as u64);
 }
 
@@ -125,6 +137,8 @@ pub fn write_at(slab: &mut Slab<Stored>, slot: usize, offset: usize, bytes: &[u8
     ensures filled { IsSome (get slab.new slot) }
     ensures place { stored_place (get slab.new slot) ≡ stored_place (get slab.old slot) }
     ensures bytes { stored_bytes (get slab.new slot) ≡ overwritten offset bytes.now (stored_bytes (get slab.old slot)) }
+    ensures pins { stored_pins (get slab.new slot) ≡ stored_pins (get slab.old slot) }
+    ensures ended { stored_ended (get slab.new slot) ≡ stored_ended (get slab.old slot) }
     ensures others { (other : ℕ) → other ≢ slot → get slab.new other ≡ get slab.old other }
     ensures slots { slab_len slab.new ≡ slab_len slab.old }
     ensures capacity { slab.new.capacity ≡ slab.old.capacity }
@@ -140,4 +154,56 @@ fn overwrite(old: &mut Vec<u8>, offset: usize, bytes: &[u8])
     ensures { old.new.items ≡ overwritten offset bytes.now old.old.items }
 {
     old[offset..offset + bytes.len()].copy_from_slice(bytes);
+}
+
+/// Sets how many queued transfers name the block of a slot, and whether its mapping has ended.
+pub fn set_mark(slab: &mut Slab<Stored>, slot: usize, pins: u64, ended: bool)
+    requires { IsSome (get slab.old slot) }
+    ensures marked { IsRemarked slab.old slab.new slot pins ended }
+    ensures slots { slab_len slab.new ≡ slab_len slab.old }
+    ensures capacity { slab.new.capacity ≡ slab.old.capacity }
+{
+    if let Some(stored) = slab.get_mut(slot) {
+        stored.pins = pins;
+        stored.ended = ended;
+    }
+}
+
+/// The block of a slot, where it has ended and lies at or above the device address `from`.
+fn told_at(slab: &Slab<Stored>, slot: usize, from: u64) -> Option<Ended>
+    requires { length (stored_bytes (get slab.now slot)) ≤ MEMORY_MAX }
+    ensures { result ≡ told_of from (get slab.now slot) }
+{
+    let stored = slab.get(slot)?;
+    if stored.ended && from <= stored.place {
+        return Some(Ended {
+            place: stored.place,
+            size: rounded(stored.bytes.len() as u64),
+            pins: stored.pins,
+        });
+    }
+    None
+}
+
+/// The lower of two blocks that have ended, of which each may be missing.
+fn lower_of(first: Option<Ended>, second: Option<Ended>) -> Option<Ended>
+    ensures { result ≡ lower_one first second }
+{
+    match (first, second) {
+        (Some(first), Some(second)) if second.place < first.place => Some(second),
+        (None, second) => second,
+        (first, _) => first,
+    }
+}
+
+/// The lowest block of an index that has ended and lies at or above the device address `from`.
+pub fn lowest_ended(slab: &Slab<Stored>, index: &[(u64, usize)], from: u64) -> Option<Ended>
+    requires { AllByRecursion (λ b. IsFromOne MEMORY_MAX b.len) (blocks_in slab.now.slots index.now) }
+    ensures { result ≡ lowest_told from slab.now.slots index.now }
+{
+    let mut lowest = None;
+    for (_, slot) in index {
+        lowest = lower_of(lowest, told_at(slab, *slot, from));
+    }
+    lowest
 }

@@ -5,7 +5,7 @@ ghost use Rattle.acc_base.specs.Limits.{IsFromOne};
 ghost use Rattle.acc_dev.specs.Device.{birth_place};
 
 use crate::Device;
-use acc_base::{DEVICE_BASE, Fault, MEMORY_MAX};
+use acc_base::{DEVICE_BASE, Ended, Fault, MEMORY_MAX};
 use std::process::Abort;
 use std::test::Fail;
 
@@ -27,8 +27,14 @@ enum Turn {
     Holds(u64, Option<&'static [u8]>),
     /// A write of these bytes to a block from an offset on.
     Writes(u64, u64, &'static [u8]),
-    /// The end of a block.
-    Retires(u64),
+    /// One more transfer names a block.
+    Pins(u64),
+    /// One transfer fewer names a block, and whether it was given back.
+    Unpins(u64, bool),
+    /// The end of the mapping of a block, and whether it was given back.
+    Retires(u64, bool),
+    /// The place, the size and the pins of the lowest block that has ended, from an address on.
+    Ended(u64, Option<(u64, u64, u64)>),
 }
 
 /// A device of 64 bytes: its blocks are filled, lie where they fit first, and come back.
@@ -45,7 +51,7 @@ const BLOCKS: &[Turn] = &[
     Turn::Lies(3, Some((0x1_0000_0020, 32))),
     Turn::Used(64),
     Turn::WouldTake(1, None),
-    Turn::Retires(1),
+    Turn::Retires(1, true),
     Turn::Lies(1, None),
     Turn::Used(48),
     Turn::Full(17, false, 32),
@@ -63,6 +69,35 @@ const WRITES: &[Turn] = &[
     Turn::Writes(2, 4, &[]),
     Turn::Holds(1, Some(&[0, 7, 8, 0])),
     Turn::Holds(2, Some(&[0, 0, 0, 0])),
+];
+
+/// A device of 64 bytes: a block whose mapping has ended stays as long as a transfer names it.
+const PINS: &[Turn] = &[
+    Turn::Born(3, true, 1),
+    Turn::Born(17, false, 2),
+    Turn::Born(16, false, 3),
+    Turn::Pins(1),
+    Turn::Pins(2),
+    Turn::Pins(2),
+    Turn::Unpins(1, false),
+    Turn::Pins(1),
+    Turn::Ended(0, None),
+    Turn::Retires(1, false),
+    Turn::Retires(2, false),
+    Turn::Retires(3, true),
+    Turn::Ended(0, Some((0x1_0000_0000, 16, 1))),
+    Turn::Ended(0x1_0000_0001, Some((0x1_0000_0010, 32, 2))),
+    Turn::Ended(0x1_0000_0011, None),
+    Turn::Holds(1, Some(&[0, 0, 0])),
+    Turn::Used(48),
+    Turn::Full(17, false, 32),
+    Turn::Unpins(2, false),
+    Turn::Used(48),
+    Turn::Unpins(2, true),
+    Turn::Lies(2, None),
+    Turn::Used(16),
+    Turn::Unpins(1, true),
+    Turn::Ended(0, None),
 ];
 
 /// The answer of a birth, where the device can be asked for one.
@@ -107,13 +142,37 @@ fn holds(device: &Device, block: u64, wanted: Option<&[u8]>) -> bool {
     }
 }
 
-/// Gives a block back, and answers whether it was there.
-fn retire(device: &mut Device, block: u64) -> bool {
-    let there = device.has(block);
-    if there {
-        device.retire(block);
+/// Says that one more transfer names a block, and answers whether it is there.
+fn pin(device: &mut Device, block: u64) -> bool {
+    let fits = device.has(block) && device.pins(block) < 9;
+    if fits {
+        device.pin(block);
     }
-    there
+    fits
+}
+
+/// Says that one transfer fewer names a block, and answers whether it was given back, where one named it.
+fn unpin(device: &mut Device, block: u64) -> Option<bool> {
+    if device.has(block) && 0 < device.pins(block) {
+        Some(device.unpin(block))
+    } else {
+        None
+    }
+}
+
+/// Ends the mapping of a block, and answers whether it was given back, where it was mapped.
+fn retire(device: &mut Device, block: u64) -> Option<bool> {
+    if device.has(block) && !device.has_ended(block) {
+        Some(device.retire(block))
+    } else {
+        None
+    }
+}
+
+/// The lowest block that has ended is this one.
+fn has_ended(device: &Device, from: u64, wanted: Option<(u64, u64, u64)>) -> bool {
+    let wanted = wanted.map(|(place, size, pins)| Ended { place, size, pins });
+    device.ended(from) == wanted
 }
 
 /// Writes bytes into a block, and answers whether it is there and has so many.
@@ -149,7 +208,10 @@ fn agrees(device: &mut Device, turn: &Turn) -> bool {
         Turn::Lies(block, wanted) => place(device, *block) == *wanted,
         Turn::Holds(block, wanted) => holds(device, *block, *wanted),
         Turn::Writes(block, offset, new) => write(device, *block, *offset, new),
-        Turn::Retires(block) => retire(device, *block),
+        Turn::Pins(block) => pin(device, *block),
+        Turn::Unpins(block, wanted) => unpin(device, *block) == Some(*wanted),
+        Turn::Retires(block, wanted) => retire(device, *block) == Some(*wanted),
+        Turn::Ended(from, wanted) => has_ended(device, *from, *wanted),
     }
 }
 
@@ -171,6 +233,13 @@ fn blocks_lie_where_they_fit_first(rt: HostRuntime) -> Result<(), Fail> {
 fn a_write_changes_its_bytes_alone(rt: HostRuntime) -> Result<(), Fail> {
     let mut device = Device::new(rt.alloc(), 64)?;
     all_agree(&rt, &mut device, WRITES);
+    Ok(())
+}
+
+#[test]
+fn a_transfer_keeps_a_block_that_has_ended(rt: HostRuntime) -> Result<(), Fail> {
+    let mut device = Device::new(rt.alloc(), 64)?;
+    all_agree(&rt, &mut device, PINS);
     Ok(())
 }
 

@@ -1,5 +1,7 @@
-use Rattle.std.proofs.Common.{◌≡◌, Some, None, get_or, length, rules}
-use Rattle.acc_dev.specs.Kept.{block_from, memory_from, slot_of}
+use Rattle.std.proofs.Common.{ℕ, ◌≡◌, ◌<◌, List, Option, Some, get_or, length, rules}
+use Rattle.acc_base.specs.Accounts.{EachPair}
+use Rattle.acc_dev.specs.declared.entries.Stored.{Stored}
+use Rattle.acc_dev.specs.Kept.{block_from, memory_from, mark_from, slot_of}
 use Rattle.acc_dev.proofs.Rising.{start}
 use Rattle.acc_dev.proofs.Slots.{AreSame, KeepsOthers, made-removed}
 use Rattle.acc_dev.proofs.Keeping.{entry_read, filled_read, len_stored}
@@ -24,14 +26,12 @@ give_back-requires-clause-taken c =
     let len : c.len.result ≡ length c.remove-place.result.bytes.items = search (rules, c.len.ensures) in
     rw len (taken_stored c.args.holes.now c.args.slab.now.slots c.args.index.now.items c.args.at c.remove-place.result c.requires.kept c.requires.in_bounds is)
 
-others : (c : goal.After-drop-bytes) → KeepsOthers c.args.slab.now.slots c.remove-place.new.self.slots (get_or c.args.index.now.items c.args.at start).1
-others c = rw (entry_read c.args.index.now.items c.args.at c.remove-slot.result c.remove-slot.ensures.value c.requires.in_bounds) c.remove-place.ensures.updates.others
+-- the slots of the other entries are as they were
+others : (s t : List (Option Stored)) (xs : List (ℕ × ℕ)) (i : ℕ) (e : ℕ × ℕ) → e ≡ get_or xs i e → i < length xs → KeepsOthers s t e.1 → KeepsOthers s t (get_or xs i start).1
+others s t xs i e read lt kept = rw (entry_read xs i e read lt) kept
 
-empty : (c : goal.After-drop-bytes) → get_or c.remove-place.new.self.slots (get_or c.args.index.now.items c.args.at start).1 None ≡ None
-empty c = rw (entry_read c.args.index.now.items c.args.at c.remove-slot.result c.remove-slot.ensures.value c.requires.in_bounds) c.remove-place.ensures.updates.changed
-
-same_slots : (c : goal.After-drop-bytes) → AreSame c.args.slab.now.slots c.remove-place.new.self.slots (remove c.args.index.now.items c.args.at)
-same_slots c = same_left c.args.slab.now.slots c.remove-place.new.self.slots c.args.index.now.items c.args.at c.requires.kept.distinct c.requires.in_bounds (others c)
+same_slots : (s t : List (Option Stored)) (xs : List (ℕ × ℕ)) (i : ℕ) (e : ℕ × ℕ) → EachPair (λ d f. d.1 ≡ f.1 → ⊥) xs → e ≡ get_or xs i e → i < length xs → KeepsOthers s t e.1 → AreSame s t (remove xs i)
+same_slots s t xs i e distinct read lt kept = same_left s t xs i distinct lt (others s t xs i e read lt kept)
 
 pub returns-clause-kept : goal.returns-clause-kept
 returns-clause-kept c =
@@ -39,10 +39,13 @@ returns-clause-kept c =
     let is : slot_of c.args.slab.now.slots (get_or c.args.index.now.items c.args.at start) ≡ Some c.remove-place.result = rw same c.remove-place.ensures.value in
     let len : c.len.result ≡ length c.remove-place.result.bytes.items = search (rules, c.len.ensures) in
     rw c.remove-slot.ensures.items (left_kept c.args.holes.now c.give_back.new.self c.args.slab.now.slots c.remove-place.new.self.slots c.args.index.now.items c.args.at c.remove-place.result
-    c.requires.kept c.requires.in_bounds is (others c) (empty c) c.give_back.ensures.given_back.base c.give_back.ensures.canonical (rw len at c.give_back.ensures.partition))
+    c.requires.kept c.requires.in_bounds is (others c.args.slab.now.slots c.remove-place.new.self.slots c.args.index.now.items c.args.at c.remove-slot.result c.remove-slot.ensures.value c.requires.in_bounds c.remove-place.ensures.updates.others) (rw same c.remove-place.ensures.updates.changed) c.give_back.ensures.given_back.base c.give_back.ensures.canonical (rw len at c.give_back.ensures.partition))
 
 pub returns-clause-blocks : goal.returns-clause-blocks
-returns-clause-blocks c = rw c.remove-slot.ensures.items (made-removed block_from c.args.slab.now.slots c.remove-place.new.self.slots c.args.index.now.items c.args.at (same_slots c))
+returns-clause-blocks c = rw c.remove-slot.ensures.items (made-removed block_from c.args.slab.now.slots c.remove-place.new.self.slots c.args.index.now.items c.args.at (same_slots c.args.slab.now.slots c.remove-place.new.self.slots c.args.index.now.items c.args.at c.remove-slot.result c.requires.kept.distinct c.remove-slot.ensures.value c.requires.in_bounds c.remove-place.ensures.updates.others))
 
 pub returns-clause-memories : goal.returns-clause-memories
-returns-clause-memories c = rw c.remove-slot.ensures.items (made-removed memory_from c.args.slab.now.slots c.remove-place.new.self.slots c.args.index.now.items c.args.at (same_slots c))
+returns-clause-memories c = rw c.remove-slot.ensures.items (made-removed memory_from c.args.slab.now.slots c.remove-place.new.self.slots c.args.index.now.items c.args.at (same_slots c.args.slab.now.slots c.remove-place.new.self.slots c.args.index.now.items c.args.at c.remove-slot.result c.requires.kept.distinct c.remove-slot.ensures.value c.requires.in_bounds c.remove-place.ensures.updates.others))
+
+pub returns-clause-marks : goal.returns-clause-marks
+returns-clause-marks c = rw c.remove-slot.ensures.items (made-removed mark_from c.args.slab.now.slots c.remove-place.new.self.slots c.args.index.now.items c.args.at (same_slots c.args.slab.now.slots c.remove-place.new.self.slots c.args.index.now.items c.args.at c.remove-slot.result c.requires.kept.distinct c.remove-slot.ensures.value c.requires.in_bounds c.remove-place.ensures.updates.others))

@@ -1,14 +1,12 @@
-use Rattle.std.proofs.Common.{List, [], ◌∷◌, ◌++◌, vec_capacity, Vec, Global, ◌≡◌, ◌+◌, ℕ, length, replicate, None, refl, sym, ap, ◌∙◌, subst, arith, rules}
+use Rattle.std.proofs.Common.{List, [], vec_capacity, Vec, Global, ◌≡◌, ◌+◌, ℕ, length, None, refl, sym, ap, ◌∙◌, subst, arith}
 use Rattle.std.specs.Prelude.{map}
 use Rattle.std.specs.List.{AllByRecursion}
 use Rattle.std.proofs.lemmas.List.{length-replicate}
 use Rattle.acc_base.specs.Bytes.{fill_byte}
-use Rattle.acc_base.specs.Blocks.{rounded}
-use Rattle.acc_placement.specs.Ranges.{IsFit}
-use Rattle.acc_dev.specs.Device.{DeviceState, IsBorn, IsBornWith, birth_place}
+use Rattle.acc_dev.specs.Device.{DeviceState, IsBorn, birth_place}
 use Rattle.acc_dev.specs.Room.{room_of}
 use Rattle.acc_dev.proofs.Keeping.{device_of}
-use Rattle.acc_dev.proofs.Births.{born_with, born_of, born_counted, above_all, fits_there}
+use Rattle.acc_dev.proofs.Births.{born_of, born_counted, above_all, fits_there}
 use Rattle.acc_dev.proofs.devices.Device.born_reserved.Goals as goal
 
 pub put-requires-clause-above : goal.put-requires-clause-above
@@ -46,4 +44,4 @@ returns-clause-born c =
     let left = map (λ v. vec_capacity v) c.pop_front.new.self.items in
     subst (λ (x : DeviceState). IsBorn x (device_of c.put.new.holes c.put.new.slab.slots c.put.new.index.items (d.births + 1) left) c.args.len c.args.zero (d.births + 1)) c.self.view_is
     (born_of d.holes c.put.new.holes d.slab.slots d.slab.slots c.put.new.slab.slots d.index.items d.index.items c.put.new.index.items d.births c.args.len c.put.result c.args.zero c.fill.new.bytes.items (room_of d) left
-    c.self.invariant.0 c.requires.len.0 refl refl c.put.ensures.size c.fill.ensures c.put.ensures.place c.put.ensures.blocks c.put.ensures.memories)
+    c.self.invariant.0 c.requires.len.0 refl refl c.put.ensures.size c.fill.ensures c.put.ensures.place c.put.ensures.blocks c.put.ensures.memories c.put.ensures.marks)

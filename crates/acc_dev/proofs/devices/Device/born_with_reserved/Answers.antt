@@ -1,15 +1,11 @@
-use Rattle.std.proofs.Common.{List, [], ◌∷◌, ◌++◌, vec_capacity, Vec, Global, ◌≡◌, ◌+◌, ℕ, length, replicate, None, refl, sym, ap, ◌∙◌, subst, arith, rules}
+use Rattle.std.proofs.Common.{List, [], ◌∷◌, ◌++◌, vec_capacity, Vec, Global, ◌≡◌, ◌+◌, ℕ, length, None, refl, sym, ap, ◌∙◌, subst, arith}
 use Rattle.std.specs.Prelude.{map}
 use Rattle.std.specs.List.{AllByRecursion}
-use Rattle.std.proofs.lemmas.List.{length-replicate}
-use Rattle.acc_base.specs.Bytes.{fill_byte}
-use Rattle.acc_base.specs.Blocks.{rounded}
-use Rattle.acc_placement.specs.Ranges.{IsFit}
-use Rattle.acc_dev.specs.Device.{DeviceState, IsBorn, IsBornWith, birth_place}
+use Rattle.acc_dev.specs.Device.{DeviceState, IsBornWith, birth_place}
 use Rattle.acc_dev.specs.declared.devices.Device.TheInside.{Inside}
 use Rattle.acc_dev.specs.Room.{room_of, HasRoom}
 use Rattle.acc_dev.proofs.Keeping.{device_of}
-use Rattle.acc_dev.proofs.Births.{born_with, born_of, born_counted, above_all, fits_there}
+use Rattle.acc_dev.proofs.Births.{born_with, born_counted, above_all, fits_there}
 use Rattle.acc_dev.proofs.devices.Device.born_with_reserved.Goals as goal
 
 -- an empty vector that the given bytes were put into has these
@@ -53,6 +49,6 @@ returns-clause-born c =
     let left = map (λ v. vec_capacity v) c.pop_front.new.self.items in
     let is = given_is c.self.inside c.in-Some.bytes c.pop_front.new.self.items c.args.given.now c.extend_from_slice.new.self.items c.self.invariant.2 c.in-Some.ensures.items c.in-Ok.ensures.items in
     let born = born_with d.holes c.put.new.holes d.slab.slots d.slab.slots c.put.new.slab.slots d.index.items d.index.items c.put.new.index.items d.births (length c.args.given.now) c.put.result c.extend_from_slice.new.self.items (room_of d) left
-    c.self.invariant.0 c.requires.len.0 refl refl c.put.ensures.size (ap length is) c.put.ensures.place c.put.ensures.blocks c.put.ensures.memories in
+    c.self.invariant.0 c.requires.len.0 refl refl c.put.ensures.size (ap length is) c.put.ensures.place c.put.ensures.blocks c.put.ensures.memories c.put.ensures.marks in
     subst (λ (x : DeviceState). IsBornWith x (device_of c.put.new.holes c.put.new.slab.slots c.put.new.index.items (d.births + 1) left) (length c.args.given.now) c.args.given.now (d.births + 1)) c.self.view_is
     (subst (λ (b : List ℕ). IsBornWith (device_of d.holes d.slab.slots d.index.items d.births (room_of d)) (device_of c.put.new.holes c.put.new.slab.slots c.put.new.index.items (d.births + 1) left) (length c.args.given.now) b (d.births + 1)) is born)

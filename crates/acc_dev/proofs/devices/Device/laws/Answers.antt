@@ -4,8 +4,9 @@ use Rattle.acc_base.specs.Holes.{IsDevice}
 use Rattle.acc_base.specs.Blocks.{used_bytes}
 use Rattle.acc_base.specs.Accounts.{IsMemoryOf}
 use Rattle.acc_dev.specs.Room.{room_of}
+use Rattle.acc_dev.specs.Marks.{IsMarkOf}
 use Rattle.acc_dev.specs.Device.{DeviceState, HasBlocksApart}
-use Rattle.acc_dev.proofs.Slots.{in_step}
+use Rattle.acc_dev.proofs.Slots.{in_step, marks_in_step}
 use Rattle.acc_dev.proofs.Keeping.{apart_of, divided, used_within}
 use Rattle.acc_dev.proofs.devices.Device.laws.Goals as goal
 
@@ -20,3 +21,6 @@ returns-clause-bytes_accounted c = subst (λ (d : DeviceState). used_bytes d.blo
 
 pub returns-clause-holes : goal.returns-clause-holes
 returns-clause-holes c = subst (λ (d : DeviceState). IsDevice d.size d.blocks) c.self.view_is (divided c.self.inside.holes c.self.inside.slab.slots c.self.inside.index.items c.self.invariant.0)
+
+pub returns-clause-marks : goal.returns-clause-marks
+returns-clause-marks c = subst (λ (d : DeviceState). AllZip IsMarkOf d.marks d.blocks) c.self.view_is (marks_in_step c.self.inside.slab.slots c.self.inside.index.items)

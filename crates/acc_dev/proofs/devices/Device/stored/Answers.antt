@@ -24,3 +24,12 @@ returns-clause-bytes c = (told c).bytes
 
 pub returns-clause-len : goal.returns-clause-len
 returns-clause-len c = (told c).len
+
+pub returns-clause-pins : goal.returns-clause-pins
+returns-clause-pins c = (told c).pins
+
+pub returns-clause-ended : goal.returns-clause-ended
+returns-clause-ended c = (told c).ended
+
+pub returns-clause-few : goal.returns-clause-few
+returns-clause-few c = (told c).few

@@ -3,9 +3,8 @@ use Rattle.acc_base.specs.Bytes.{bytes_of}
 use Rattle.acc_dev.specs.Room.{room_of}
 use Rattle.acc_dev.specs.Device.{DeviceState, HasBlock, IsWritten}
 use Rattle.acc_dev.specs.Kept.{memories_in, stored_bytes}
-use Rattle.acc_dev.proofs.Slots.{IsRewritten}
 use Rattle.acc_dev.proofs.Keeping.{device_of, not_missed, filled_read}
-use Rattle.acc_dev.proofs.Writes.{bytes_at, rewritten_from, written_kept, written_of}
+use Rattle.acc_dev.proofs.Writes.{IsRewritten, bytes_at, rewritten_from, written_kept, written_of}
 use Rattle.acc_dev.proofs.devices.Device.write.Goals as goal
 
 pub unreachable-requires : goal.unreachable-requires
@@ -29,7 +28,7 @@ rewritten c =
     let is : bytes_of c.args.block (memories_in s.slab.slots s.index.items) ≡ stored_bytes (get_or s.slab.slots c.index.result.now.1 None) = bytes_at s.holes s.slab.slots s.index.items c.in-Some.at c.args.block c.index.result.now c.self.invariant.0 found c.index.ensures in
     let within = subst (λ (d : DeviceState). c.args.offset + length c.args.bytes.now ≤ length (bytes_of c.args.block d.memories)) (sym c.self.view_is) c.requires.in_range in
     rewritten_from s.slab.slots c.write_at.new.slab.slots c.index.result.now.1 c.args.offset c.args.bytes.now (subst (λ (b : List ℕ). c.args.offset + length c.args.bytes.now ≤ length b) is within)
-    c.write_at.ensures.filled c.write_at.ensures.place c.write_at.ensures.bytes c.write_at.ensures.others
+    c.write_at.ensures.filled c.write_at.ensures.place c.write_at.ensures.bytes c.write_at.ensures.pins c.write_at.ensures.ended c.write_at.ensures.others
 
 pub invariant_of-self : goal.invariant_of-self
 invariant_of-self c = (

@@ -1,0 +1,4 @@
+pub mod Summing
+pub mod Taken
+pub mod Turns
+pub mod Writing

@@ -1,0 +1,133 @@
+//! Leases of a block's bytes.
+
+ghost use Rattle.std.specs.Prelude.{◌≡◌, ◌+◌, ◌≤◌, length, vec_len};
+ghost use Rattle.acc_base.specs.declared.addresses.TheConstants.{MEMORY_MAX};
+ghost use Rattle.acc_lend.specs.Loans.{IsLoan, section};
+
+use std::marker::Model;
+
+/// A section of a device block that is out on loan to a kernel, with all the bytes of the block (OpenACC 3.3, sections
+/// 2.5, compute constructs, and 2.6, data environment).
+///
+/// A lease has to be spent, by [`Lease::into_block`] or [`Lease::abandon`]: a block that is lent is not lost without a
+/// word. The bytes are moved into it and out of it, and never copied.
+///
+/// Contracts see the serial number of the loan, the number of the block, the place and the length of the section in
+/// bytes, and the bytes of the block.
+pub struct Lease {
+    serial: u64,
+    block: u64,
+    offset: usize,
+    len: usize,
+    bytes: Vec<u8>,
+}
+
+impl Model for Lease {
+    ghost use Rattle.std.specs.Prelude.{◌+◌, ◌≤◌, vec_len};
+    ghost use Rattle.acc_base.specs.declared.addresses.TheConstants.{MEMORY_MAX};
+    ghost use Rattle.acc_lend.specs.Loans.{Loan};
+
+    ghost Value = { Loan };
+
+    ghost view = { λ l. record { serial = l.serial; block = l.block; offset = l.offset; len = l.len; bytes = l.bytes.items } };
+
+    ghost invariant = { λ l. (l.offset + l.len ≤ vec_len l.bytes) × (vec_len l.bytes ≤ MEMORY_MAX) };
+}
+
+impl Lease {
+    ghost use Rattle.std.specs.Borrow.{sem};
+    ghost use Rattle.acc_lend.specs.Lending.{LendsSection};
+
+    /// A loan of `len` bytes from place `offset` on of the block with these bytes. The block has at most 67,108,864.
+    pub fn of(serial: u64, block: u64, offset: usize, len: usize, bytes: Vec<u8>) -> Lease
+        requires within { offset + len ≤ vec_len bytes }
+        requires capped { vec_len bytes ≤ MEMORY_MAX }
+        ensures { result ≡ record { serial = serial; block = block; offset = offset; len = len; bytes = bytes.items } }
+    {
+        Lease {
+            serial,
+            block,
+            offset,
+            len,
+            bytes,
+        }
+    }
+
+    /// The serial number of the loan.
+    pub fn serial(&self) -> u64
+        ensures { result ≡ self.now.serial }
+    {
+        self.serial
+    }
+
+    /// The number of the block.
+    pub fn block(&self) -> u64
+        ensures { result ≡ self.now.block }
+    {
+        self.block
+    }
+
+    /// The place in the block of the first byte that is lent.
+    pub fn offset(&self) -> usize
+        ensures value { result ≡ self.now.offset }
+        ensures laws { IsLoan self.now }
+    {
+        self.offset
+    }
+
+    /// How many bytes are lent.
+    pub fn len(&self) -> usize
+        ensures value { result ≡ self.now.len }
+        ensures laws { IsLoan self.now }
+    {
+        self.len
+    }
+
+    /// The bytes that are lent.
+    pub fn bytes(&self) -> &[u8]
+        ensures value { result.now ≡ section self.now }
+        ensures len { length result.now ≡ self.now.len }
+    {
+        &self.bytes[self.offset..self.offset + self.len]
+    }
+
+    /// All the bytes of the block.
+    pub fn block_bytes(&self) -> &[u8]
+        ensures value { result.now ≡ self.now.bytes }
+        ensures laws { IsLoan self.now }
+    {
+        self.bytes.as_slice()
+    }
+
+    /// The bytes that are lent, to write. No other byte can be reached through them.
+    pub(crate) fn section_mut(&mut self) -> &mut [u8]
+        ensures value { result.now ≡ section self.old }
+        ensures len { length result.now ≡ self.old.len }
+        ensures laws { IsLoan self.old }
+        ensures* writes_back { sem 𝓛 (LendsSection self.entry result) }
+    {
+        let from = self.offset;
+        let to = from + self.len;
+        self.bytes.slice_mut(from..to)
+    }
+
+    /// Ends the loan: all the bytes of the block, those that were lent as the kernels left them.
+    pub fn into_block(self) -> Vec<u8>
+        ensures value { result.items ≡ self.bytes }
+        ensures laws { IsLoan self }
+    {
+        let Lease {
+            serial: _,
+            block: _,
+            offset: _,
+            len: _,
+            bytes,
+        } = self;
+        bytes
+    }
+
+    /// Lets the bytes go. The block stays lent for good.
+    pub fn abandon(self) {
+        drop(self.into_block());
+    }
+}

@@ -1,0 +1,22 @@
+//! The bytes of a block lent to kernels: leases, the parts of a loan, and what kernels do to them (OpenACC 3.3, sections
+//! 2.5, compute constructs, and 2.6, data environment).
+#![tactic(auto)]
+
+mod bytewise;
+mod cutting;
+mod kernels;
+mod leases;
+mod running;
+mod slices;
+mod taking;
+
+pub use bytewise::{Add, Number, Plus, Xor};
+pub use cutting::{Cuts, PARTS_MAX};
+pub use kernels::{Kernel, Pointwise};
+pub use leases::Lease;
+pub use running::run_one;
+pub use slices::split;
+pub use taking::Parts;
+
+#[cfg(test)]
+mod tests;

@@ -17,9 +17,9 @@ use Rattle.acc_attach.specs.Attached.{AttachedState, left_of}
 use Rattle.acc_attach.specs.declared.left.Left.{Left}
 use Rattle.acc_attach.specs.declared.left.Left.TheVariants as left
 use Rattle.acc_clauses.specs.declared.environments.Environment.{Environment}
-use Rattle.acc_clauses.specs.Contents.{state_of}
+use Rattle.acc_clauses.specs.Contents.{AreMarked, state_of}
 use Rattle.acc_clauses.specs.Acts.{CanDetach, pointers_of, IsAimedBy}
-use Rattle.acc_clauses.proofs.Steps.{state_by}
+use Rattle.acc_clauses.proofs.Changes.{state_by}
 
 -- the parts with eight bytes written over a pointer in a block that is mapped from an address on
 abbrev with_put : ℕ → ℕ → Environment → ℕ → List ℕ → Environment
@@ -40,30 +40,32 @@ with_pointers x ms b = record x { device = record x.device { memories = ms }; at
 
 -- they are what an attachment or a detachment leaves
 aims_by : (aim : Aim) (x : Environment) (ms : List Memory) (b : AttachedState) → ((next : ℕ) → ms ≡ memories_aimed aim (state_of x next)) → b.attached ≡ attached_by aim x.attached.attached → b.counter_max ≡ x.attached.counter_max
-    → x.attached.spare ≤ b.spare + pointers_of aim → IsAimedBy aim x (with_pointers x ms b)
+    → x.attached.spare ≤ b.spare + pointers_of aim → AreMarked x → IsAimedBy aim x (with_pointers x ms b)
 unfolding aimed
-aims_by aim x ms b memories attached limit spare = record {
-  state = λ next. state_by (with_pointers x ms b) next (aimed aim (state_of x next)) refl refl attached refl refl refl refl (memories next);
+aims_by aim x ms b memories attached limit spare marked = record {
+  state = λ next. state_by (with_pointers x ms b) next (aimed aim (state_of x next)) refl refl attached refl refl refl refl refl (memories next);
   counter_max = refl;
   size = refl;
   pointer_max = limit;
-  room = record { births_are = refl; ranges = omega arith; regions = omega arith; holdings = omega arith; attachments = spare };
+  queue_cap = refl;
+  room = record { births_are = refl; ranges = omega arith; regions = omega arith; holdings = omega arith; attachments = spare; puts = λ q. omega arith };
+  marked = marked;
 }
 
-pub none_aims : (x : Environment) → IsAimedBy aims.None x x
-none_aims x = aims_by aims.None x x.device.memories x.attached (λ next. refl) refl refl (omega arith)
+pub none_aims : (x : Environment) → AreMarked x → IsAimedBy aims.None x x
+none_aims x marked = aims_by aims.None x x.device.memories x.attached (λ next. refl) refl refl (omega arith) marked
 
 pub new_aims : (pointer block target : ℕ) (x y : Environment) (ms : List Memory) (b : AttachedState) → y ≡ record x { device = record x.device { memories = ms } } → ((next : ℕ) → ms ≡ memories_aimed (aims.New pointer block target) (state_of x next))
-    → b.attached ≡ with_count block pointer 1 y.attached.attached → b.counter_max ≡ y.attached.counter_max → y.attached.spare ≤ b.spare + 1 → IsAimedBy (aims.New pointer block target) x (record y { attached = b })
-new_aims pointer block target x y ms b e memories attached limit spare =
+    → b.attached ≡ with_count block pointer 1 y.attached.attached → b.counter_max ≡ y.attached.counter_max → y.attached.spare ≤ b.spare + 1 → AreMarked x → IsAimedBy (aims.New pointer block target) x (record y { attached = b })
+new_aims pointer block target x y ms b e memories attached limit spare marked =
     let first : b.attached ≡ with_count block pointer 1 x.attached.attached = rw e at attached in
     let second : b.counter_max ≡ x.attached.counter_max = rw e at limit in
     let third : x.attached.spare ≤ b.spare + 1 = rw e at spare in
-    rw e (aims_by (aims.New pointer block target) x ms b memories first second third)
+    rw e (aims_by (aims.New pointer block target) x ms b memories first second third marked)
 
-pub again_aims : (pointer block : ℕ) (x : Environment) (b : AttachedState) → b.attached ≡ with_count block pointer (count_at block pointer x.attached.attached + 1) x.attached.attached → b.counter_max ≡ x.attached.counter_max → x.attached.spare ≤ b.spare
+pub again_aims : (pointer block : ℕ) (x : Environment) (b : AttachedState) → b.attached ≡ with_count block pointer (count_at block pointer x.attached.attached + 1) x.attached.attached → b.counter_max ≡ x.attached.counter_max → x.attached.spare ≤ b.spare → AreMarked x
     → IsAimedBy (aims.Again pointer block) x (record x { attached = b })
-again_aims pointer block x b attached limit spare = aims_by (aims.Again pointer block) x x.device.memories b (λ next. refl) attached limit (omega (arith, spare))
+again_aims pointer block x b attached limit spare marked = aims_by (aims.Again pointer block) x x.device.memories b (λ next. refl) attached limit (omega (arith, spare)) marked
 
 -- ---- detaching
 
@@ -73,13 +75,13 @@ detached immediate block pointer xs some = let more : (count_at block pointer xs
 
 pub cleared_aims : (pointer block : ℕ) (x y : Environment) (b : AttachedState) → CanDetach pointer block (state_of x 0)
     → y ≡ record x { device = record x.device { memories = pointer_written block pointer (host_byte x.host) (state_of x 0) } }
-    → b.attached ≡ attached_by (detach true block pointer y.attached.attached) y.attached.attached → b.counter_max ≡ y.attached.counter_max → y.attached.spare ≤ b.spare → IsAimedBy (aims.Cleared pointer block) x (record y { attached = b })
-cleared_aims pointer block x y b can e attached limit spare =
+    → b.attached ≡ attached_by (detach true block pointer y.attached.attached) y.attached.attached → b.counter_max ≡ y.attached.counter_max → y.attached.spare ≤ b.spare → AreMarked x → IsAimedBy (aims.Cleared pointer block) x (record y { attached = b })
+cleared_aims pointer block x y b can e attached limit spare marked =
     let first : b.attached ≡ attached_by (detach true block pointer x.attached.attached) x.attached.attached = rw e at attached in
     let second : b.counter_max ≡ x.attached.counter_max = rw e at limit in
     let third : x.attached.spare ≤ b.spare = rw e at spare in
     rw e (aims_by (aims.Cleared pointer block) x (pointer_written block pointer (host_byte x.host) (state_of x 0)) b (λ next. refl)
-    (first ∙ ap (λ a. attached_by a x.attached.attached) (detached true block pointer x.attached.attached can.some)) second (omega (arith, third)))
+    (first ∙ ap (λ a. attached_by a x.attached.attached) (detached true block pointer x.attached.attached can.some)) second (omega (arith, third)) marked)
 
 -- what is left of a counter tells whether it was one
 was_one : (n : ℕ) → left.Zero ≡ left_of false n → (n == 1) ≡ true
@@ -108,13 +110,13 @@ less_attached pointer block x b can e = e ∙ ap (λ a. attached_by a x.attached
 
 pub zero_aims : (pointer block : ℕ) (x y : Environment) (b : AttachedState) → CanDetach pointer block (state_of x 0) → left.Zero ≡ left_of false (count_at block pointer x.attached.attached)
     → b.attached ≡ attached_by (detach false block pointer x.attached.attached) x.attached.attached → b.counter_max ≡ x.attached.counter_max → x.attached.spare ≤ b.spare
-    → y ≡ with_pointers x (pointer_written block pointer (host_byte x.host) (state_of x 0)) b → IsAimedBy (aims.Less pointer block) x y
-zero_aims pointer block x y b can zero attached limit spare e =
+    → y ≡ with_pointers x (pointer_written block pointer (host_byte x.host) (state_of x 0)) b → AreMarked x → IsAimedBy (aims.Less pointer block) x y
+zero_aims pointer block x y b can zero attached limit spare e marked =
     let one : (count_at block pointer x.attached.attached == 1) ≡ true = was_one _ zero in
-    rw e (aims_by (aims.Less pointer block) x (pointer_written block pointer (host_byte x.host) (state_of x 0)) b (λ next. rw one refl) (less_attached pointer block x b can attached) limit (omega (arith, spare)))
+    rw e (aims_by (aims.Less pointer block) x (pointer_written block pointer (host_byte x.host) (state_of x 0)) b (λ next. rw one refl) (less_attached pointer block x b can attached) limit (omega (arith, spare)) marked)
 
 pub less_aims : (pointer block : ℕ) (x : Environment) (b : AttachedState) → CanDetach pointer block (state_of x 0) → (left.Zero ≡ left_of false (count_at block pointer x.attached.attached) → ⊥)
-    → b.attached ≡ attached_by (detach false block pointer x.attached.attached) x.attached.attached → b.counter_max ≡ x.attached.counter_max → x.attached.spare ≤ b.spare → IsAimedBy (aims.Less pointer block) x (record x { attached = b })
-less_aims pointer block x b can more attached limit spare =
+    → b.attached ≡ attached_by (detach false block pointer x.attached.attached) x.attached.attached → b.counter_max ≡ x.attached.counter_max → x.attached.spare ≤ b.spare → AreMarked x → IsAimedBy (aims.Less pointer block) x (record x { attached = b })
+less_aims pointer block x b can more attached limit spare marked =
     let other : (count_at block pointer x.attached.attached == 1) ≡ false = was_more _ can.some more in
-    aims_by (aims.Less pointer block) x x.device.memories b (λ next. rw other refl) (less_attached pointer block x b can attached) limit (omega (arith, spare))
+    aims_by (aims.Less pointer block) x x.device.memories b (λ next. rw other refl) (less_attached pointer block x b can attached) limit (omega (arith, spare)) marked

@@ -1,79 +1,207 @@
--- The attachment counter of a pointer after tasks is what the fold over them gives.
-use Rattle.std.proofs.Common.{ℕ, ◌≡◌, refl, sym, ap, ◌∙◌, subst, Bool, true, false, cond, List, [], ◌∷◌, suc, arith}
-use Rattle.std.specs.Prelude.{◌==◌}
+-- The attachment counter of a pointer after tasks is what the fold over them gives, where the pointer lies in a block then.
+use Rattle.std.proofs.Common.{ℕ, ◌≡◌, ◌≤◌, refl, sym, ap, ◌∙◌, subst, Bool, true, false, cond, List, [], ◌∷◌, suc, Option, Some, None, arith}
+use Rattle.std.specs.Prelude.{◌==◌, unwrap_or, option_map}
 use Rattle.std.proofs.lemmas.Bool.Decides.{nat_tests}
-use Rattle.acc_base.specs.declared.items.Item.{Item}
-use Rattle.acc_base.specs.declared.items.RegionClause.{RegionClause}
 use Rattle.acc_base.specs.declared.mappings.Counter.{Counter}
+use Rattle.acc_base.specs.declared.mappings.Counter.TheVariants.{Structured, Dynamic}
+use Rattle.acc_base.specs.declared.mappings.Range.{Range}
 use Rattle.acc_base.specs.declared.tasks.Task.{Task}
 use Rattle.acc_base.specs.declared.tasks.Task.TheVariants.{Enter, Leave, Exit, Move}
 use Rattle.acc_base.specs.declared.events.Step.{Step}
 use Rattle.acc_base.specs.declared.events.Step.TheVariants.{Nothing, Counted, Born, Dropped, Moved}
 use Rattle.acc_base.specs.declared.events.Did.{Did}
-use Rattle.acc_base.specs.Limits.{Limits}
+use Rattle.acc_base.specs.Limits.{Limits, IsWithinBounds}
 use Rattle.acc_base.specs.Records.{Records}
+use Rattle.acc_base.specs.Ranges.{range_of, counter_in, counter_of, without_range, is_unused}
 use Rattle.acc_base.specs.Attachments.{count_at, count_after, without_attachments}
-use Rattle.acc_base.specs.Tasks.{records_aimed, records_after_birth, records_after_end, with_range_changed, act_step, act, act_all}
+use Rattle.acc_base.specs.Tasks.{recounted}
+use Rattle.acc_base.specs.Steps.{records_aimed, records_after_birth, records_after_end, released, is_in_use, with_range_changed, with_put, act_row, act_step, act, act_all}
+use Rattle.acc_base.specs.Pointers.{block_with}
 use Rattle.acc_base.specs.History.{AreJudged}
-use Rattle.acc_base.proofs.Results.{equal}
-use Rattle.acc_base.proofs.Judged.{IsJudgedTo, task_says}
-use Rattle.acc_base.proofs.Attached.{count_at-attached_by, count_at-without_same, count_at-without_other}
+use Rattle.acc_base.specs.Accounts.{IsCounted, AreRecordsSound}
+use Rattle.acc_base.proofs.Results.{equal, equal_self}
+use Rattle.acc_base.proofs.Elements.{found_has}
+use Rattle.acc_base.proofs.Counting.{without_read}
+use Rattle.acc_base.proofs.Recounted.{moved_by, names, zero_stays, ends_told, count_mapped, birth_number}
+use Rattle.acc_base.proofs.Judged.{IsJudgedTo, step_judged, task_says}
+use Rattle.acc_base.proofs.Sound.{ranges_born}
+use Rattle.acc_base.proofs.SameMapping.{mapping-act}
+use Rattle.acc_base.proofs.Attached.{count_at-attached_by, count_at-without_other}
+use Rattle.acc_base.proofs.Aimed.{IsLeft, task_left}
+use Rattle.acc_base.proofs.AllTasks.{all_left}
 use Rattle.acc_clauses.specs.declared.acted.Acted.{Acted}
 use Rattle.acc_clauses.specs.Overlays.{tasks_in, dids_in, records_after, IsPlanned}
-use Rattle.acc_clauses.specs.Aims.{ends, count_by, count_over}
+use Rattle.acc_clauses.specs.Aims.{count_over}
+use Rattle.acc_clauses.proofs.AimsFound.{IsPointerIn, pointer_in_block}
 
--- a step alone takes the counters of the block whose mapping it ends
-count-step : (task : Task) (step : Step) (w : Records) (block pointer : ℕ) → count_at block pointer (act_step task step w).attached ≡ cond (ends block step) 0 (count_at block pointer w.attached)
-unfolding act_step with_range_changed records_after_birth records_after_end
-count-step task Nothing w block pointer = refl
-count-step task (Counted k) w block pointer = refl
-count-step task (Born k p) w block pointer = refl
-count-step task (Dropped k true) w block pointer = go (k == block) refl
+-- ---- a block whose mapping has ended is never mapped again
+
+-- the block was born, and no range has it
+record IsGone (w : Records) (block : ℕ) : Type 0 where
+  born : block ≤ w.births
+  zero : (counter : Counter) → counter_of counter block w.ranges ≡ 0
+
+-- no range has both counters at zero
+unmapped : (l : Limits) (w : Records) (block : ℕ) → AreRecordsSound l w → ((counter : Counter) → counter_of counter block w.ranges ≡ 0) → range_of block w.ranges ≡ None
+unmapped l w block h zero = go (range_of block w.ranges) refl
   where
-    go : (t : Bool) → (k == block) ≡ t → count_at block pointer (without_attachments k w.attached) ≡ cond t 0 (count_at block pointer w.attached)
-    go true e = subst (λ n. count_at n pointer (without_attachments k w.attached) ≡ 0) (equal k block e) (count_at-without_same k pointer w.attached)
-    go false e = let other : (block == k) ≡ false = grind (arith, nat_tests) in count_at-without_other block pointer k w.attached other
-count-step task (Dropped k false) w block pointer = refl
-count-step task (Moved k) w block pointer = refl
+    go : (o : Option Range) → range_of block w.ranges ≡ o → o ≡ None
+    go None e = refl
+    go (Some r) e =
+        let has : IsCounted l r × ((r.block == block) ≡ true) = found_has (IsCounted l) (λ t. t.block == block) w.ranges r h.counted e in
+        let structured : r.structured ≡ 0 = sym (ap (λ (o : Option Range). unwrap_or (option_map (counter_in Structured) o) 0) e) ∙ zero Structured in
+        let dynamic : r.dynamic ≡ 0 = sym (ap (λ (o : Option Range). unwrap_or (option_map (counter_in Dynamic) o) 0) e) ∙ zero Dynamic in
+        let some = has.0.some in
+        absurd (omega (arith, some, structured, dynamic))
 
--- an entry ends no mapping
-pub ends_none : (l : Limits) (counter : Counter) (item : Item RegionClause) (step : Step) (w : Records) (block : ℕ) → IsJudgedTo l (Enter counter item) step w → ends block step ≡ false
-ends_none l counter item Nothing w block says = refl
-ends_none l counter item (Counted k) w block says = refl
-ends_none l counter item (Born k p) w block says = refl
-ends_none l counter item (Dropped k ended) w block says = absurd says
-ends_none l counter item (Moved k) w block says = refl
+births-step : (task : Task) (step : Step) (w : Records) → w.births ≤ (act_step task step w).births
+unfolding act_step act_row with_range_changed records_after_birth records_after_end released
+births-step task Nothing w = omega arith
+births-step task (Counted k) w = omega arith
+births-step task (Born k p) w = omega arith
+births-step task (Dropped k true) w = omega arith
+births-step task (Dropped k false) w = omega arith
+births-step task (Moved k) w = omega arith
 
--- the counter after a step, where the pointer is detached before it
-left : (task : Task) (did : Did) (w : Records) (block pointer : ℕ) → count_at block pointer (act_step task did.step (records_aimed did.aim w)).attached ≡ count_by block pointer (count_at block pointer w.attached) did
-left task did w block pointer =
-    count-step task did.step (records_aimed did.aim w) block pointer
-    ∙ ap (λ n. cond (ends block did.step) 0 n) (count_at-attached_by block pointer did.aim w.attached)
+-- a task leaves the counters of a block that is gone at zero
+zero_left : (l : Limits) (task : Task) (step : Step) (w : Records) (block : ℕ) (counter : Counter) → AreRecordsSound l w → IsJudgedTo l task step w → IsGone w block
+    → cond (names block step) (moved_by counter task (counter_of counter block w.ranges)) (counter_of counter block w.ranges) ≡ 0
+zero_left l task Nothing w block counter h says gone = gone.zero counter
+zero_left l task (Counted k) w block counter h says gone = go (k == block) refl
+  where
+    go : (t : Bool) → (k == block) ≡ t → cond t (moved_by counter task (counter_of counter block w.ranges)) (counter_of counter block w.ranges) ≡ 0
+    go true e = absurd (count_mapped l task k w says (subst (λ n. range_of n w.ranges ≡ None) (sym (equal k block e)) (unmapped l w block h gone.zero)))
+    go false e = gone.zero counter
+zero_left l task (Born k p) w block counter h says gone = go (k == block) refl
+  where
+    go : (t : Bool) → (k == block) ≡ t → cond t (moved_by counter task (counter_of counter block w.ranges)) (counter_of counter block w.ranges) ≡ 0
+    go true e = let same = equal k block e in let number = birth_number l task k p w says in let born = gone.born in absurd (omega (arith, same, number, born))
+    go false e = gone.zero counter
+zero_left l task (Dropped k ended) w block counter h says gone = go (k == block)
+  where
+    go : (t : Bool) → cond t (moved_by counter task (counter_of counter block w.ranges)) (counter_of counter block w.ranges) ≡ 0
+    go true = ap (moved_by counter task) (gone.zero counter) ∙ zero_stays l task k ended w counter says
+    go false = gone.zero counter
+zero_left l task (Moved k) w block counter h says gone = gone.zero counter
 
--- the counter of a pointer after a task
-pub count-act : (l : Limits) (task : Task) (did : Did) (w : Records) (block pointer : ℕ) → IsJudgedTo l task did.step w → count_at block pointer (act task did w).attached ≡ count_by block pointer (count_at block pointer w.attached) did
+gone-act : (l : Limits) (task : Task) (did : Did) (w : Records) (block : ℕ) → AreRecordsSound l w → IsJudgedTo l task did.step w → IsLeft l task did w (act task did w) → IsGone w block → IsGone (act task did w) block
+gone-act l task did w block h says left gone =
+    let births : w.births ≤ (act task did w).births = subst (λ n. w.births ≤ n) (sym (mapping-act task did w).births) (births-step task did.step w) in
+    let born = gone.born in
+    record { born = omega (arith, born, births); zero = λ counter. left.counter_is counter block ∙ zero_left l task did.step w block counter h says gone }
+
+gone-after : (l : Limits) (n : ℕ) (xs : List Acted) (w : Records) (block : ℕ) → IsWithinBounds l → AreRecordsSound l w → AreJudged l n (tasks_in xs) (dids_in xs) w → IsGone w block → IsGone (records_after xs w) block
+unfolding act_all
+gone-after l n [] w block bounds h judged gone = gone
+gone-after l n (x ∷ xs) w block bounds h judged gone =
+    let says = task_says l n x.task w x.did.step judged.0 in
+    let left : IsLeft l x.task x.did w (act x.task x.did w) = task_left l x.task x.did w bounds h says (step_judged l n x.task w x.did.step judged.0).room judged.1 in
+    gone-after l (suc n) xs (act x.task x.did w) block bounds left.sound judged.2 (gone-act l x.task x.did w block h says left gone)
+
+-- the block whose mapping a task ends was born
+ended_born : (l : Limits) (task : Task) (k : ℕ) (w : Records) → AreRecordsSound l w → IsJudgedTo l task (Dropped k true) w → k ≤ w.births
+ended_born l task k w h says = go (range_of k w.ranges) refl (ends_told l task k w says)
+  where
+    go : (o : Option Range) → range_of k w.ranges ≡ o → true ≡ unwrap_or (option_map (λ (r : Range). is_unused (recounted task r)) o) false → k ≤ w.births
+    go None e ends = cc
+    go (Some r) e ends =
+        let has : (r.block ≤ w.births) × ((r.block == k) ≡ true) = found_has (λ t. t.block ≤ w.births) (λ t. t.block == k) w.ranges r (ranges_born l w h) e in
+        let same = equal r.block k has.1 in
+        omega (arith, has.0, same)
+
+-- and is gone then
+gone_ended : (l : Limits) (task : Task) (k : ℕ) (w : Records) → AreRecordsSound l w → IsJudgedTo l task (Dropped k true) w → IsGone (act_step task (Dropped k true) w) k
+unfolding act_step act_row records_after_end released
+gone_ended l task k w h says = record { born = ended_born l task k w h says; zero = λ counter. without_read (counter_in counter) k k w.ranges ∙ ap (λ t. cond t 0 (counter_of counter k w.ranges)) (equal_self k) }
+
+-- ---- the counter of a pointer
+
+-- the step ends the mapping to the block
+abbrev ends : ℕ → Step → Bool
+ends block Nothing = false
+ends block (Counted k) = false
+ends block (Born k p) = false
+ends block (Dropped k true) = k == block
+ends block (Dropped k false) = false
+ends block (Moved k) = false
+
+-- a step leaves the counters of the blocks whose mapping it does not end
+count-step : (task : Task) (step : Step) (w : Records) (block pointer : ℕ) → ends block step ≡ false → count_at block pointer (act_step task step w).attached ≡ count_at block pointer w.attached
+unfolding act_step act_row with_range_changed records_after_birth records_after_end released
+count-step task Nothing w block pointer other = refl
+count-step task (Counted k) w block pointer other = refl
+count-step task (Born k p) w block pointer other = refl
+count-step task (Dropped k true) w block pointer other = go (is_in_use k (record w { ranges = without_range k w.ranges; queues = (with_put task (Dropped k true) w).queues }))
+  where
+    go : (t : Bool) → count_at block pointer (cond t w.attached (without_attachments k w.attached)) ≡ count_at block pointer w.attached
+    go true = refl
+    go false = let differs : (block == k) ≡ false = grind (arith, nat_tests) in count_at-without_other block pointer k w.attached differs
+count-step task (Dropped k false) w block pointer other = refl
+count-step task (Moved k) w block pointer other = refl
+
+-- so does a task, but for what becomes of its pointer
+count-act : (task : Task) (did : Did) (w : Records) (block pointer : ℕ) → ends block did.step ≡ false → count_at block pointer (act task did w).attached ≡ count_after block pointer did.aim (count_at block pointer w.attached)
 unfolding act
-count-act l (Enter counter item) did w block pointer says =
-    let none : ends block did.step ≡ false = ends_none l counter item did.step w block says in
-    let stays : count_at block pointer (act_step (Enter counter item) did.step w).attached ≡ count_at block pointer w.attached
-    = count-step (Enter counter item) did.step w block pointer ∙ ap (λ t. cond t 0 (count_at block pointer w.attached)) none in
-    count_at-attached_by block pointer did.aim (act_step (Enter counter item) did.step w).attached
-    ∙ (ap (count_after block pointer did.aim) stays
-    ∙ ap (λ t. cond t 0 (count_after block pointer did.aim (count_at block pointer w.attached))) (sym none))
-count-act l (Leave holding) did w block pointer says = left (Leave holding) did w block pointer
-count-act l (Exit finalize item) did w block pointer says = left (Exit finalize item) did w block pointer
-count-act l (Move if_present item) did w block pointer says = left (Move if_present item) did w block pointer
+count-act (Enter counter item queue) did w block pointer other =
+    count_at-attached_by block pointer did.aim (act_step (Enter counter item queue) did.step w).attached
+    ∙ ap (count_after block pointer did.aim) (count-step (Enter counter item queue) did.step w block pointer other)
+count-act (Leave holding) did w block pointer other = count-step (Leave holding) did.step (records_aimed did.aim w) block pointer other ∙ count_at-attached_by block pointer did.aim w.attached
+count-act (Exit finalize item queue) did w block pointer other = count-step (Exit finalize item queue) did.step (records_aimed did.aim w) block pointer other ∙ count_at-attached_by block pointer did.aim w.attached
+count-act (Move if_present item queue) did w block pointer other = count-step (Move if_present item queue) did.step (records_aimed did.aim w) block pointer other ∙ count_at-attached_by block pointer did.aim w.attached
 
--- and after tasks
-pub count-after : (l : Limits) (n : ℕ) (xs : List Acted) (w : Records) (block pointer : ℕ) → AreJudged l n (tasks_in xs) (dids_in xs) w
+-- the first of some tasks did not end a block that is not gone after them
+ends_none : (l : Limits) (n : ℕ) (x : Acted) (xs : List Acted) (w : Records) (block : ℕ) → IsWithinBounds l → AreRecordsSound l w → AreJudged l n (tasks_in (x ∷ xs)) (dids_in (x ∷ xs)) w
+    → (IsGone (records_after xs (act x.task x.did w)) block → ⊥) → ends block x.did.step ≡ false
+ends_none l n x xs w block bounds h judged mapped = go x.did.step refl
+  where
+    says : IsJudgedTo l x.task x.did.step w
+    says = task_says l n x.task w x.did.step judged.0
+
+    sound : AreRecordsSound l (act x.task x.did w)
+    sound = (task_left l x.task x.did w bounds h says (step_judged l n x.task w x.did.step judged.0).room judged.1).sound
+
+    gone : (k : ℕ) → x.did.step ≡ Dropped k true → IsGone (act x.task x.did w) k
+    gone k is =
+        let ended : IsGone (act_step x.task x.did.step w) k = rw is (gone_ended l x.task k w h (rw is at says)) in
+        let same = mapping-act x.task x.did w in
+        record { born = rw same.births ended.born; zero = λ counter. ap (λ rs. counter_of counter k rs) same.ranges ∙ ended.zero counter }
+
+    last : (k : ℕ) → x.did.step ≡ Dropped k true → (t : Bool) → (k == block) ≡ t → t ≡ false
+    last k is true e = absurd (mapped (gone-after l (suc n) xs (act x.task x.did w) block bounds sound judged.2 (subst (IsGone (act x.task x.did w)) (equal k block e) (gone k is))))
+    last k is false e = refl
+
+    go : (step : Step) → x.did.step ≡ step → ends block step ≡ false
+    go Nothing is = refl
+    go (Counted k) is = refl
+    go (Born k p) is = refl
+    go (Dropped k true) is = last k is (k == block) refl
+    go (Dropped k false) is = refl
+    go (Moved k) is = refl
+
+-- the counter of a pointer in a block that is not gone after tasks
+count-after : (l : Limits) (n : ℕ) (xs : List Acted) (w : Records) (block pointer : ℕ) → IsWithinBounds l → AreRecordsSound l w → AreJudged l n (tasks_in xs) (dids_in xs) w → (IsGone (records_after xs w) block → ⊥)
     → count_over block pointer (count_at block pointer w.attached) xs ≡ count_at block pointer (records_after xs w).attached
 unfolding act_all
-count-after l n [] w block pointer judged = refl
-count-after l n (x ∷ xs) w block pointer judged =
-    ap (λ c. count_over block pointer c xs) (sym (count-act l x.task x.did w block pointer (task_says l n x.task w x.did.step judged.0)))
-    ∙ count-after l (suc n) xs (act x.task x.did w) block pointer judged.2
+count-after l n [] w block pointer bounds h judged mapped = refl
+count-after l n (x ∷ xs) w block pointer bounds h judged mapped =
+    let says = task_says l n x.task w x.did.step judged.0 in
+    let left : IsLeft l x.task x.did w (act x.task x.did w) = task_left l x.task x.did w bounds h says (step_judged l n x.task w x.did.step judged.0).room judged.1 in
+    ap (λ c. count_over block pointer c xs) (sym (count-act x.task x.did w block pointer (ends_none l n x xs w block bounds h judged mapped)))
+    ∙ count-after l (suc n) xs (act x.task x.did w) block pointer bounds left.sound judged.2 mapped
 
-pub count-planned : (l : Limits) (xs : List Acted) (w : Records) (block pointer : ℕ) → IsPlanned l xs w → count_over block pointer (count_at block pointer w.attached) xs ≡ count_at block pointer (records_after xs w).attached
-count-planned l xs w block pointer p = count-after l 0 xs w block pointer p.judged
+-- a block that holds a pointer is not gone
+holds_not_gone : (l : Limits) (w : Records) (block pointer : ℕ) → AreRecordsSound l w → block_with pointer w.ranges ≡ Some block → IsGone w block → ⊥
+holds_not_gone l w block pointer h there gone =
+    let at : IsPointerIn block pointer w = pointer_in_block l w block pointer h there in
+    let is : range_of block w.ranges ≡ Some at.range = at.range_is in
+    let none : range_of block w.ranges ≡ None = unmapped l w block h gone.zero in
+    cc
+
+-- the counter of a pointer that lies in the block after the tasks
+pub count-planned : (l : Limits) (xs : List Acted) (w : Records) (block pointer : ℕ) → IsPlanned l xs w → block_with pointer (records_after xs w).ranges ≡ Some block
+    → count_over block pointer (count_at block pointer w.attached) xs ≡ count_at block pointer (records_after xs w).attached
+count-planned l xs w block pointer p there =
+    count-after l 0 xs w block pointer p.bounds p.sound p.judged
+    (holds_not_gone l (records_after xs w) block pointer (all_left l 0 (tasks_in xs) (dids_in xs) w p.bounds p.sound p.judged).sound there)
 
 pub ruleset count_laws = (count-planned)

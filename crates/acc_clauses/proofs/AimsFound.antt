@@ -1,5 +1,5 @@
 -- Where pointers and their targets lie: before entries and after them.
-use Rattle.std.proofs.Common.{ℕ, ◌≡◌, ◌+◌, ◌-◌, ◌<◌, ◌≤◌, ◌^◌, refl, sym, ap, ◌∙◌, subst, Bool, true, false, cond, List, [], ◌∷◌, suc, Some, None, arith}
+use Rattle.std.proofs.Common.{ℕ, ◌≡◌, ◌+◌, ◌-◌, ◌<◌, ◌≤◌, ◌^◌, refl, sym, ap, ◌∙◌, subst, Bool, true, false, cond, List, [], ◌∷◌, suc, Option, Some, None, arith}
 use Rattle.std.specs.Prelude.{◌==◌, unwrap_or, option_map, IsSome}
 use Rattle.std.specs.List.{list_all}
 use Rattle.std.proofs.lemmas.Bool.{false≢true}
@@ -23,7 +23,8 @@ use Rattle.acc_base.specs.Records.{Records}
 use Rattle.acc_base.specs.Ranges.{where_is, range_of, start_of, bare_range}
 use Rattle.acc_base.specs.Blocks.{rounded, block_at, place_of}
 use Rattle.acc_base.specs.Attachments.{pointer_at}
-use Rattle.acc_base.specs.Tasks.{section_of, recounted, records_after_birth, with_range_changed, act_step, act, act_all}
+use Rattle.acc_base.specs.Tasks.{section_of, recounted}
+use Rattle.acc_base.specs.Steps.{records_after_birth, with_range_changed, act_row, act_step, act, act_all}
 use Rattle.acc_base.specs.Pointers.{block_in, block_with, address_in}
 use Rattle.acc_base.specs.History.{IsTarget, AreJudged}
 use Rattle.acc_base.specs.Accounts.{IsOnDevice, IsMapped, AreRecordsSound}
@@ -31,7 +32,7 @@ use Rattle.acc_base.proofs.Results.{and_true}
 use Rattle.acc_base.proofs.Elements.{found_has}
 use Rattle.acc_base.proofs.Lookups.{at-own}
 use Rattle.acc_base.proofs.Where.{IsInsideOf, inside_says, absent_says}
-use Rattle.acc_base.proofs.Judged.{IsJudgedTo, task_says}
+use Rattle.acc_base.proofs.Judged.{IsJudgedTo, step_judged, task_says}
 use Rattle.acc_base.proofs.Sound.{recounted_keeps}
 use Rattle.acc_base.proofs.Aimed.{task_left}
 use Rattle.acc_clauses.specs.declared.acted.Acted.{Acted}
@@ -71,6 +72,8 @@ held_in l s w block offset h e =
 
 -- where the eight bytes of a pointer lie
 pub record IsPointerIn (block pointer : ℕ) (w : Records) : Type 0 where
+  pub range : Range
+  pub range_is : range_of block w.ranges ≡ Some range
   pub block_there : Block
   pub there : block_at block w.blocks ≡ Some block_there
   pub low : start_of block w.ranges ≤ pointer
@@ -86,7 +89,7 @@ pointer_in_block l w block pointer h e = go (where_is (pointer_at pointer) w.ran
         let held = held_in l (pointer_at pointer) w block offset h (is ∙ ap (λ n. Inside n offset) same) in
         let start : start_of block w.ranges ≡ held.0.section.start = ap (λ o. unwrap_or (option_map (λ (r : Range). r.section.start) o) 0) held.2.range_is in
         let bounds : (held.0.section.start ≤ pointer) × (pointer + 8 ≤ held.0.section.start + held.0.section.len) = inside held.0.section held.2.within in
-        record { block_there = held.1; there = held.2.block_is; low = omega (arith, start, bounds.0); high = let len = held.2.len in omega (arith, start, bounds.1, len) }
+        record { range = held.0; range_is = held.2.range_is; block_there = held.1; there = held.2.block_is; low = omega (arith, start, bounds.0); high = let len = held.2.len in omega (arith, start, bounds.1, len) }
       where
         inside : (t : Section) → is_within (pointer_at pointer) t ≡ true → (t.start ≤ pointer) × (pointer + 8 ≤ t.start + t.len)
         inside t h = grind (arith, nat_tests)
@@ -106,15 +109,15 @@ beside_before s t k block Absent other e = go (is_within s t) (is_apart s t) e
     go false true h = cc
     go false false h = cc
 
-before-step : (l : Limits) (counter : Counter) (item : Item RegionClause) (step : Step) (w : Records) (pointer block : ℕ) → AreRecordsSound l w → IsJudgedTo l (Enter counter item) step w → IsSome (block_at block w.blocks)
-    → block_with pointer (act_step (Enter counter item) step w).ranges ≡ Some block → block_with pointer w.ranges ≡ Some block
-unfolding act_step with_range_changed records_after_birth
-before-step l counter item Nothing w pointer block h says there e = e
-before-step l counter item (Counted k) w pointer block h says there e =
-    let task : Task = Enter counter item in
+before-step : (l : Limits) (counter : Counter) (item : Item RegionClause) (queue : Option ℕ) (step : Step) (w : Records) (pointer block : ℕ) → AreRecordsSound l w → IsJudgedTo l (Enter counter item queue) step w → IsSome (block_at block w.blocks)
+    → block_with pointer (act_step (Enter counter item queue) step w).ranges ≡ Some block → block_with pointer w.ranges ≡ Some block
+unfolding act_step act_row with_range_changed records_after_birth
+before-step l counter item queue Nothing w pointer block h says there e = e
+before-step l counter item queue (Counted k) w pointer block h says there e =
+    let task : Task = Enter counter item queue in
     sym (ap block_in (where_is-changed (recounted task) (recounted_keeps task).section (recounted_keeps task).block (pointer_at pointer) k w.ranges)) ∙ e
-before-step l counter item (Born k p) w pointer block h says there e =
-    let task : Task = Enter counter item in
+before-step l counter item queue (Born k p) w pointer block h says there e =
+    let task : Task = Enter counter item queue in
     let new : Range = recounted task (bare_range (section_of task) k) in
     let section_is : new.section ≡ section_of task = (recounted_keeps task).section (bare_range (section_of task) k) in
     let block_is : new.block ≡ k = (recounted_keeps task).block (bare_range (section_of task) k) in
@@ -122,16 +125,16 @@ before-step l counter item (Born k p) w pointer block h says there e =
     beside_before (pointer_at pointer) new.section new.block block (where_is (pointer_at pointer) w.ranges)
     (λ same. let none : block_at block w.blocks ≡ None = subst (λ n. block_at n w.blocks ≡ None) (sym block_is ∙ same) (no_block-new l w k h says.number) in cc)
     (sym (ap block_in (where_is-with (pointer_at pointer) new w.ranges off)) ∙ e)
-before-step l counter item (Dropped k ended) w pointer block h says there e = absurd says
-before-step l counter item (Moved k) w pointer block h says there e = e
+before-step l counter item queue (Dropped k ended) w pointer block h says there e = absurd says
+before-step l counter item queue (Moved k) w pointer block h says there e = e
 
 before-act : (l : Limits) (task : Task) (did : Did) (w : Records) (pointer block : ℕ) → AreRecordsSound l w → IsJudgedTo l task did.step w → enters task ≡ true → IsSome (block_at block w.blocks)
     → block_with pointer (act task did w).ranges ≡ Some block → block_with pointer w.ranges ≡ Some block
 unfolding act
-before-act l (Enter counter item) did w pointer block h says entry there e = before-step l counter item did.step w pointer block h says there e
+before-act l (Enter counter item queue) did w pointer block h says entry there e = before-step l counter item queue did.step w pointer block h says there e
 before-act l (Leave holding) did w pointer block h says entry there e = absurd (false≢true entry)
-before-act l (Exit finalize item) did w pointer block h says entry there e = absurd (false≢true entry)
-before-act l (Move if_present item) did w pointer block h says entry there e = absurd (false≢true entry)
+before-act l (Exit finalize item queue) did w pointer block h says entry there e = absurd (false≢true entry)
+before-act l (Move if_present item queue) did w pointer block h says entry there e = absurd (false≢true entry)
 
 -- a pointer that lies in a block after entries lay in it before them, where the block was there
 pub before-after : (l : Limits) (n : ℕ) (xs : List Acted) (w : Records) (pointer block : ℕ) → IsWithinBounds l → AreRecordsSound l w → AreJudged l n (tasks_in xs) (dids_in xs) w → list_all enters (tasks_in xs) ≡ true
@@ -142,7 +145,7 @@ before-after l n (x ∷ xs) w pointer block bounds h judged entries there e =
     let says = task_says l n x.task w x.did.step judged.0 in
     let kinds = and_true (enters x.task) (list_all enters (tasks_in xs)) entries in
     before-act l x.task x.did w pointer block h says kinds.0 there
-    (before-after l (suc n) xs (act x.task x.did w) pointer block bounds (task_left l x.task x.did w bounds h says judged.1).sound judged.2 kinds.1 (there-act l x.task x.did w block says kinds.0 there) e)
+    (before-after l (suc n) xs (act x.task x.did w) pointer block bounds (task_left l x.task x.did w bounds h says (step_judged l n x.task w x.did.step judged.0).room judged.1).sound judged.2 kinds.1 (there-act l x.task x.did w block says kinds.0 there) e)
 
 -- ---- targets
 

@@ -17,7 +17,9 @@ use Rattle.acc_base.specs.Records.{Records, State}
 use Rattle.acc_base.specs.Ranges.{bare_range}
 use Rattle.acc_base.specs.Blocks.{block_at, place_of}
 use Rattle.acc_base.specs.Clauses.{copies_in}
-use Rattle.acc_base.specs.Tasks.{section_of, recounted, records_after_birth, with_range_changed, act_step, act, act_all}
+use Rattle.acc_base.specs.Tasks.{section_of, recounted}
+use Rattle.acc_base.specs.Transfers.{at_once}
+use Rattle.acc_base.specs.Steps.{records_after_birth, with_range_changed, act_row, act_step, act, act_all}
 use Rattle.acc_base.specs.Bytes.{host_made, step_state}
 use Rattle.acc_base.specs.Pointers.{aimed}
 use Rattle.acc_base.specs.Acting.{act_state, act_all_state}
@@ -26,7 +28,7 @@ use Rattle.acc_base.specs.Accounts.{AreRecordsSound}
 use Rattle.acc_base.proofs.Results.{and_true, equal}
 use Rattle.acc_base.proofs.Elements.{AllByRecursion-weaker}
 use Rattle.acc_base.proofs.Lookups.{at-push_new, at-push_there, at-none}
-use Rattle.acc_base.proofs.Judged.{IsJudgedTo, task_says}
+use Rattle.acc_base.proofs.Judged.{IsJudgedTo, step_judged, task_says}
 use Rattle.acc_base.proofs.Sound.{recounted_keeps}
 use Rattle.acc_base.proofs.Aimed.{task_left}
 use Rattle.acc_base.proofs.Walked.{records-act_state}
@@ -74,22 +76,22 @@ place-born task k p block blocks none = go (k == block) refl
 
 -- ---- places after entries
 
-place-step : (l : Limits) (counter : Counter) (item : Item RegionClause) (step : Step) (w : Records) (block : ℕ) → AreRecordsSound l w → IsJudgedTo l (Enter counter item) step w
-    → place_of block (act_step (Enter counter item) step w).blocks ≡ place_by block (place_of block w.blocks) step
-unfolding act_step with_range_changed records_after_birth
-place-step l counter item Nothing w block h says = refl
-place-step l counter item (Counted k) w block h says = refl
-place-step l counter item (Born k p) w block h says = place-born (Enter counter item) k p block w.blocks (no_block-new l w k h says.number)
-place-step l counter item (Dropped k ended) w block h says = absurd says
-place-step l counter item (Moved k) w block h says = refl
+place-step : (l : Limits) (counter : Counter) (item : Item RegionClause) (queue : Option ℕ) (step : Step) (w : Records) (block : ℕ) → AreRecordsSound l w → IsJudgedTo l (Enter counter item queue) step w
+    → place_of block (act_step (Enter counter item queue) step w).blocks ≡ place_by block (place_of block w.blocks) step
+unfolding act_step act_row with_range_changed records_after_birth
+place-step l counter item queue Nothing w block h says = refl
+place-step l counter item queue (Counted k) w block h says = refl
+place-step l counter item queue (Born k p) w block h says = place-born (Enter counter item queue) k p block w.blocks (no_block-new l w k h says.number)
+place-step l counter item queue (Dropped k ended) w block h says = absurd says
+place-step l counter item queue (Moved k) w block h says = refl
 
 place-act : (l : Limits) (task : Task) (did : Did) (w : Records) (block : ℕ) → AreRecordsSound l w → IsJudgedTo l task did.step w → enters task ≡ true
     → place_of block (act task did w).blocks ≡ place_by block (place_of block w.blocks) did.step
 unfolding act
-place-act l (Enter counter item) did w block h says entry = place-step l counter item did.step w block h says
+place-act l (Enter counter item queue) did w block h says entry = place-step l counter item queue did.step w block h says
 place-act l (Leave holding) did w block h says entry = absurd (false≢true entry)
-place-act l (Exit finalize item) did w block h says entry = absurd (false≢true entry)
-place-act l (Move if_present item) did w block h says entry = absurd (false≢true entry)
+place-act l (Exit finalize item queue) did w block h says entry = absurd (false≢true entry)
+place-act l (Move if_present item queue) did w block h says entry = absurd (false≢true entry)
 
 pub place-after : (l : Limits) (n : ℕ) (xs : List Acted) (w : Records) (block : ℕ) → IsWithinBounds l → AreRecordsSound l w → AreJudged l n (tasks_in xs) (dids_in xs) w → list_all enters (tasks_in xs) ≡ true
     → place_over block (place_of block w.blocks) xs ≡ place_of block (records_after xs w).blocks
@@ -99,54 +101,60 @@ place-after l n (x ∷ xs) w block bounds h judged entries =
     let says = task_says l n x.task w x.did.step judged.0 in
     let kinds = and_true (enters x.task) (list_all enters (tasks_in xs)) entries in
     ap (λ p. place_over block p xs) (sym (place-act l x.task x.did w block h says kinds.0))
-    ∙ place-after l (suc n) xs (act x.task x.did w) block bounds (task_left l x.task x.did w bounds h says judged.1).sound judged.2 kinds.1
+    ∙ place-after l (suc n) xs (act x.task x.did w) block bounds (task_left l x.task x.did w bounds h says (step_judged l n x.task w x.did.step judged.0).room judged.1).sound judged.2 kinds.1
 
 pub place-planned : (l : Limits) (xs : List Acted) (w : Records) (block : ℕ) → IsPlanned l xs w → list_all enters (tasks_in xs) ≡ true
     → place_over block (place_of block w.blocks) xs ≡ place_of block (records_after xs w).blocks
 place-planned l xs w block p entries = place-after l 0 xs w block p.bounds p.sound p.judged entries
 
 -- a block that is there stays there
-there-step : (l : Limits) (counter : Counter) (item : Item RegionClause) (step : Step) (w : Records) (block : ℕ) → IsJudgedTo l (Enter counter item) step w → IsSome (block_at block w.blocks)
-    → IsSome (block_at block (act_step (Enter counter item) step w).blocks)
-unfolding act_step with_range_changed records_after_birth
-there-step l counter item Nothing w block says there = there
-there-step l counter item (Counted k) w block says there = there
-there-step l counter item (Born k p) w block says there = go (block_at block w.blocks) refl there
+there-step : (l : Limits) (counter : Counter) (item : Item RegionClause) (queue : Option ℕ) (step : Step) (w : Records) (block : ℕ) → IsJudgedTo l (Enter counter item queue) step w → IsSome (block_at block w.blocks)
+    → IsSome (block_at block (act_step (Enter counter item queue) step w).blocks)
+unfolding act_step act_row with_range_changed records_after_birth
+there-step l counter item queue Nothing w block says there = there
+there-step l counter item queue (Counted k) w block says there = there
+there-step l counter item queue (Born k p) w block says there = go (block_at block w.blocks) refl there
   where
-    go : (o : Option Block) → block_at block w.blocks ≡ o → IsSome o → IsSome (block_at block (w.blocks ++ new_block (Enter counter item) k p ∷ []))
+    go : (o : Option Block) → block_at block w.blocks ≡ o → IsSome o → IsSome (block_at block (w.blocks ++ new_block (Enter counter item queue) k p ∷ []))
     go None e t = cc
-    go (Some b) e t = rw (at-push_there (λ (b : Block). b.number) block w.blocks (new_block (Enter counter item) k p) b e) refl
-there-step l counter item (Dropped k ended) w block says there = absurd says
-there-step l counter item (Moved k) w block says there = there
+    go (Some b) e t = rw (at-push_there (λ (b : Block). b.number) block w.blocks (new_block (Enter counter item queue) k p) b e) refl
+there-step l counter item queue (Dropped k ended) w block says there = absurd says
+there-step l counter item queue (Moved k) w block says there = there
 
 pub there-act : (l : Limits) (task : Task) (did : Did) (w : Records) (block : ℕ) → IsJudgedTo l task did.step w → enters task ≡ true → IsSome (block_at block w.blocks)
     → IsSome (block_at block (act task did w).blocks)
 unfolding act
-there-act l (Enter counter item) did w block says entry there = there-step l counter item did.step w block says there
+there-act l (Enter counter item queue) did w block says entry there = there-step l counter item queue did.step w block says there
 there-act l (Leave holding) did w block says entry there = absurd (false≢true entry)
-there-act l (Exit finalize item) did w block says entry there = absurd (false≢true entry)
-there-act l (Move if_present item) did w block says entry there = absurd (false≢true entry)
+there-act l (Exit finalize item queue) did w block says entry there = absurd (false≢true entry)
+there-act l (Move if_present item queue) did w block says entry there = absurd (false≢true entry)
 
 -- ---- the host after entries: what an entry copies goes to the device
 
-host-step : (l : Limits) (counter : Counter) (item : Item RegionClause) (step : Step) (s : State) → IsJudgedTo l (Enter counter item) step s.records → (step_state (Enter counter item) step s).host ≡ s.host
+-- where nothing is moved, nothing is made
+none_now : (queue : Option ℕ) (s : State) → host_made (at_once queue None) s.records.attached s.memories s.host ≡ s.host
+none_now None s = refl
+none_now (Some q) s = refl
+
+host-step : (l : Limits) (counter : Counter) (item : Item RegionClause) (queue : Option ℕ) (step : Step) (s : State) → IsJudgedTo l (Enter counter item queue) step s.records → (step_state (Enter counter item queue) step s).host ≡ s.host
 unfolding step_state
-host-step l counter item Nothing s says = refl
-host-step l counter item (Counted k) s says = refl
-host-step l counter item (Born k p) s says = go (copies_in item.clause)
+host-step l counter item queue Nothing s says = none_now queue s
+host-step l counter item queue (Counted k) s says = none_now queue s
+host-step l counter item queue (Born k p) s says = go queue (copies_in item.clause)
   where
-    go : (b : Bool) → host_made (cond b (Some (record { block = k; offset = 0; section = section_of (Enter counter item); out = false })) None) s.records.attached s.memories s.host ≡ s.host
-    go true = refl
-    go false = refl
-host-step l counter item (Dropped k ended) s says = absurd says
-host-step l counter item (Moved k) s says = absurd says
+    go : (q : Option ℕ) (b : Bool) → host_made (at_once q (cond b (Some (record { block = k; offset = 0; section = section_of (Enter counter item queue); out = false })) None)) s.records.attached s.memories s.host ≡ s.host
+    go None true = refl
+    go None false = refl
+    go (Some q) b = refl
+host-step l counter item queue (Dropped k ended) s says = absurd says
+host-step l counter item queue (Moved k) s says = absurd says
 
 host-act : (l : Limits) (task : Task) (did : Did) (s : State) → IsJudgedTo l task did.step s.records → enters task ≡ true → (act_state task did s).host ≡ s.host
 unfolding act_state aimed
-host-act l (Enter counter item) did s says entry = host-step l counter item did.step s says
+host-act l (Enter counter item queue) did s says entry = host-step l counter item queue did.step s says
 host-act l (Leave holding) did s says entry = absurd (false≢true entry)
-host-act l (Exit finalize item) did s says entry = absurd (false≢true entry)
-host-act l (Move if_present item) did s says entry = absurd (false≢true entry)
+host-act l (Exit finalize item queue) did s says entry = absurd (false≢true entry)
+host-act l (Move if_present item queue) did s says entry = absurd (false≢true entry)
 
 pub host-after : (l : Limits) (n : ℕ) (xs : List Acted) (s : State) → AreJudged l n (tasks_in xs) (dids_in xs) s.records → list_all enters (tasks_in xs) ≡ true → (state_after xs s).host ≡ s.host
 unfolding act_all_state

@@ -23,7 +23,9 @@ use Rattle.acc_base.specs.Ranges.{start_of, changed_at, bare_range}
 use Rattle.acc_base.specs.Blocks.{block_at}
 use Rattle.acc_base.specs.Attachments.{pointer_at, is_of, count_at, attached_by}
 use Rattle.acc_base.specs.Clauses.{is_attach, copies_in, pointer_checked}
-use Rattle.acc_base.specs.Tasks.{section_of, pointer_of, recounted, is_action, pointer_aimed, judge_step, records_after_birth, with_range_changed, act_step, act, act_all}
+use Rattle.acc_base.specs.Tasks.{section_of, pointer_of, recounted}
+use Rattle.acc_base.specs.Transfers.{at_once}
+use Rattle.acc_base.specs.Steps.{is_action, pointer_aimed, judge_row, judge_step, records_after_birth, with_range_changed, act_row, act_step, act, act_all}
 use Rattle.acc_base.specs.Bytes.{bytes_of, is_moved, bytes_moved_in, written_bytes, memories_made, fill_of, step_state}
 use Rattle.acc_base.specs.Pointers.{block_with, pointer_in, device_pointer, aimed}
 use Rattle.acc_base.specs.Acting.{act_state, act_all_state}
@@ -31,8 +33,9 @@ use Rattle.acc_base.specs.History.{IsAttachLegal, IsAimLegal, AreJudged}
 use Rattle.acc_base.specs.Accounts.{AreRecordsSound, AreMemoriesSized}
 use Rattle.acc_base.proofs.Results.{and_true, equal, then_ok, refused_not, not_false}
 use Rattle.acc_base.proofs.Counting.{read_of, changed_read, with_other}
-use Rattle.acc_base.proofs.Judged.{IsJudgedTo, task_says, pointer_checked_by}
-use Rattle.acc_base.proofs.Sound.{recounted_keeps, acted_sound}
+use Rattle.acc_base.proofs.Judged.{IsJudgedTo, step_judged, task_says, pointer_checked_by}
+use Rattle.acc_base.proofs.Sound.{recounted_keeps}
+use Rattle.acc_base.proofs.Puts.{acted_sound}
 use Rattle.acc_base.proofs.Attached.{same_block, count_at-attached_by, count_at-with_count_other}
 use Rattle.acc_base.proofs.Memories.{step_sized, act_sized}
 use Rattle.acc_base.proofs.Aimed.{task_left}
@@ -65,14 +68,14 @@ counted_there l w block pointer h some = there_by w.blocks block pointer w.attac
 pub aligned : (l : Limits) (n pointer : ℕ) → pointer_checked l n (Some pointer) ≡ Ok tt → pointer % 8 ≡ 0
 aligned l n pointer e = equal _ _ (not_false _ (refused_not _ _ (then_ok _ _ tt e).1))
 
-named_aligned : (l : Limits) (n : ℕ) (counter : Counter) (item : Item RegionClause) (step : Step) (w : Records) (p : ℕ) → judge_step l n (Enter counter item) w ≡ Ok step → pointer_aimed (Enter counter item) step ≡ Some p → p % 8 ≡ 0
-unfolding judge_step
-named_aligned l n counter item step w p judged e =
-    let task : Task = Enter counter item in
+named_aligned : (l : Limits) (n : ℕ) (counter : Counter) (item : Item RegionClause) (queue : Option ℕ) (step : Step) (w : Records) (p : ℕ) → judge_step l n (Enter counter item queue) w ≡ Ok step → pointer_aimed (Enter counter item queue) step ≡ Some p → p % 8 ≡ 0
+unfolding judge_row
+named_aligned l n counter item queue step w p judged e =
+    let task : Task = Enter counter item queue in
     let named : pointer_of task ≡ Some p = go (is_attach item.clause) (is_action step) e in
-    aligned l n p (subst (λ o. pointer_checked l n o ≡ Ok tt) named (pointer_checked_by l n task (then_ok _ _ step judged).0))
+    aligned l n p (subst (λ o. pointer_checked l n o ≡ Ok tt) named (pointer_checked_by l n task (then_ok _ _ step (step_judged l n (Enter counter item queue) w step judged).row).0))
   where
-    go : (a b : Bool) → cond (a || b) (pointer_of (Enter counter item)) None ≡ Some p → pointer_of (Enter counter item) ≡ Some p
+    go : (a b : Bool) → cond (a || b) (pointer_of (Enter counter item queue)) None ≡ Some p → pointer_of (Enter counter item queue) ≡ Some p
     go true b h = h
     go false true h = h
     go false false h = cc
@@ -94,16 +97,21 @@ start-changed task k block ranges =
 holds_same : (pointer first second : ℕ) (xs ys : List ℕ) → first ≡ second → xs ≡ ys → pointer_in first pointer xs ≡ pointer_in second pointer ys
 holds_same pointer first second xs ys e f = rw (e, f) refl
 
-holds-step : (l : Limits) (counter : Counter) (item : Item RegionClause) (step : Step) (s : State) (block pointer : ℕ) → AreRecordsSound l s.records → IsJudgedTo l (Enter counter item) step s.records → IsSome (block_at block s.records.blocks)
-    → device_pointer block pointer (step_state (Enter counter item) step s) ≡ device_pointer block pointer s
-unfolding step_state act_step with_range_changed records_after_birth
-holds-step l counter item Nothing s block pointer h says there = refl
-holds-step l counter item (Counted k) s block pointer h says there = holds_same pointer _ _ (bytes_of block s.memories) _ (start-changed (Enter counter item) k block s.records.ranges) refl
-holds-step l counter item (Born k p) s block pointer h says there =
-    holds_same pointer _ _ _ _ (with_other start_in new block s.records.ranges (subst (λ n. (n == block) ≡ false) (sym block_is) other)) (bytes (copies_in item.clause))
+-- where nothing is moved, nothing is made
+none_made : (queue : Option ℕ) (attached : List Attachment) (host : List ℕ) (ms : List Memory) → memories_made (at_once queue None) attached host ms ≡ ms
+none_made None attached host ms = refl
+none_made (Some q) attached host ms = refl
+
+holds-step : (l : Limits) (counter : Counter) (item : Item RegionClause) (queue : Option ℕ) (step : Step) (s : State) (block pointer : ℕ) → AreRecordsSound l s.records → IsJudgedTo l (Enter counter item queue) step s.records → IsSome (block_at block s.records.blocks)
+    → device_pointer block pointer (step_state (Enter counter item queue) step s) ≡ device_pointer block pointer s
+unfolding step_state act_step act_row with_range_changed records_after_birth
+holds-step l counter item queue Nothing s block pointer h says there = holds_same pointer (start_of block s.records.ranges) _ _ _ refl (ap (bytes_of block) (none_made queue s.records.attached s.host s.memories))
+holds-step l counter item queue (Counted k) s block pointer h says there = holds_same pointer _ _ _ _ (start-changed (Enter counter item queue) k block s.records.ranges) (ap (bytes_of block) (none_made queue s.records.attached s.host s.memories))
+holds-step l counter item queue (Born k p) s block pointer h says there =
+    holds_same pointer _ _ _ _ (with_other start_in new block s.records.ranges (subst (λ n. (n == block) ≡ false) (sym block_is) other)) (bytes queue (copies_in item.clause))
   where
     task : Task
-    task = Enter counter item
+    task = Enter counter item queue
 
     new : Range
     new = recounted task (bare_range (section_of task) k)
@@ -121,11 +129,12 @@ holds-step l counter item (Born k p) s block pointer h says there =
     born : Memory
     born = record { block = k; bytes = replicate (section_of task).len (fill_of task) }
 
-    bytes : (b : Bool) → bytes_of block (memories_made (cond b (Some (record { block = k; offset = 0; section = section_of task; out = false })) None) s.records.attached s.host (s.memories ++ born ∷ [])) ≡ bytes_of block s.memories
-    bytes true = bytes-other k block (bytes_moved_in (is_moved (section_of task) k s.records.attached) s.host ((section_of task).start - 0)) (s.memories ++ born ∷ []) other ∙ bytes-push block born s.memories other
-    bytes false = bytes-push block born s.memories other
-holds-step l counter item (Dropped k ended) s block pointer h says there = absurd says
-holds-step l counter item (Moved k) s block pointer h says there = absurd says
+    bytes : (q : Option ℕ) (b : Bool) → bytes_of block (memories_made (at_once q (cond b (Some (record { block = k; offset = 0; section = section_of task; out = false })) None)) s.records.attached s.host (s.memories ++ born ∷ [])) ≡ bytes_of block s.memories
+    bytes None true = bytes-other k block (bytes_moved_in (is_moved (section_of task) k s.records.attached) s.host ((section_of task).start - 0)) (s.memories ++ born ∷ []) other ∙ bytes-push block born s.memories other
+    bytes None false = bytes-push block born s.memories other
+    bytes (Some q) b = bytes-push block born s.memories other
+holds-step l counter item queue (Dropped k ended) s block pointer h says there = absurd says
+holds-step l counter item queue (Moved k) s block pointer h says there = absurd says
 
 -- ---- an attachment
 
@@ -213,32 +222,32 @@ module _ (l : Limits) (block pointer : ℕ) (even : pointer % 8 ≡ 0) (s : Stat
 
 -- ---- entries
 
-attached-step : (l : Limits) (counter : Counter) (item : Item RegionClause) (step : Step) (w : Records) → IsJudgedTo l (Enter counter item) step w → (act_step (Enter counter item) step w).attached ≡ w.attached
-unfolding act_step with_range_changed records_after_birth
-attached-step l counter item Nothing w says = refl
-attached-step l counter item (Counted k) w says = refl
-attached-step l counter item (Born k p) w says = refl
-attached-step l counter item (Dropped k ended) w says = absurd says
-attached-step l counter item (Moved k) w says = refl
+attached-step : (l : Limits) (counter : Counter) (item : Item RegionClause) (queue : Option ℕ) (step : Step) (w : Records) → IsJudgedTo l (Enter counter item queue) step w → (act_step (Enter counter item queue) step w).attached ≡ w.attached
+unfolding act_step act_row with_range_changed records_after_birth
+attached-step l counter item queue Nothing w says = refl
+attached-step l counter item queue (Counted k) w says = refl
+attached-step l counter item queue (Born k p) w says = refl
+attached-step l counter item queue (Dropped k ended) w says = absurd says
+attached-step l counter item queue (Moved k) w says = refl
 
 holds-act : (l : Limits) (n block pointer value : ℕ) (task : Task) (did : Did) (s : State) → IsWithinBounds l → AreRecordsSound l s.records → AreMemoriesSized l s → judge_step l n task s.records ≡ Ok did.step → IsAimLegal l task did s.records → enters task ≡ true
     → pointer % 8 ≡ 0 → IsAbove block pointer (act task did s.records) → Holds block pointer value s → Holds block pointer (value_by block pointer value did.aim) (act_state task did s)
 unfolding act act_state step_state
-holds-act l n block pointer value (Enter counter item) did s bounds h sized judged legal entry even above holds =
-    let task : Task = Enter counter item in
+holds-act l n block pointer value (Enter counter item queue) did s bounds h sized judged legal entry even above holds =
+    let task : Task = Enter counter item queue in
     let says = task_says l n task s.records did.step judged in
     let stepped : State = step_state task did.step s in
-    holds-aim l block pointer even stepped bounds (acted_sound l task did.step s.records bounds says h) (step_sized l task did.step s sized) above
-    (pointer_aimed task did.step) did.aim value (λ p e. named_aligned l n counter item did.step s.records p judged e) legal
+    holds-aim l block pointer even stepped bounds (acted_sound l task did.step s.records bounds says (step_judged l n task s.records did.step judged).room h) (step_sized l task did.step s sized) above
+    (pointer_aimed task did.step) did.aim value (λ p e. named_aligned l n counter item queue did.step s.records p judged e) legal
     (λ some. holds-before says some)
   where
-    holds-before : IsJudgedTo l (Enter counter item) did.step s.records → (count_at block pointer (act_step (Enter counter item) did.step s.records).attached ≡ 0 → ⊥) → device_pointer block pointer (step_state (Enter counter item) did.step s) ≡ value
+    holds-before : IsJudgedTo l (Enter counter item queue) did.step s.records → (count_at block pointer (act_step (Enter counter item queue) did.step s.records).attached ≡ 0 → ⊥) → device_pointer block pointer (step_state (Enter counter item queue) did.step s) ≡ value
     holds-before says some =
-        let count : count_at block pointer s.records.attached ≡ 0 → ⊥ = (λ none. some (ap (count_at block pointer) (attached-step l counter item did.step s.records says) ∙ none)) in
-        holds-step l counter item did.step s block pointer h says (counted_there l s.records block pointer h count) ∙ holds count
+        let count : count_at block pointer s.records.attached ≡ 0 → ⊥ = (λ none. some (ap (count_at block pointer) (attached-step l counter item queue did.step s.records says) ∙ none)) in
+        holds-step l counter item queue did.step s block pointer h says (counted_there l s.records block pointer h count) ∙ holds count
 holds-act l n block pointer value (Leave holding) did s bounds h sized judged legal entry even above holds = absurd (false≢true entry)
-holds-act l n block pointer value (Exit finalize item) did s bounds h sized judged legal entry even above holds = absurd (false≢true entry)
-holds-act l n block pointer value (Move if_present item) did s bounds h sized judged legal entry even above holds = absurd (false≢true entry)
+holds-act l n block pointer value (Exit finalize item queue) did s bounds h sized judged legal entry even above holds = absurd (false≢true entry)
+holds-act l n block pointer value (Move if_present item queue) did s bounds h sized judged legal entry even above holds = absurd (false≢true entry)
 
 -- a pointer that lies in the block after entries
 pub holds-after : (l : Limits) (n block pointer value : ℕ) (xs : List Acted) (s : State) → IsWithinBounds l → AreRecordsSound l s.records → AreMemoriesSized l s → AreJudged l n (tasks_in xs) (dids_in xs) s.records → list_all enters (tasks_in xs) ≡ true
@@ -251,7 +260,7 @@ holds-after l n block pointer value (x ∷ xs) s bounds h sized judged entries e
     let is : next.records ≡ w = records-act_state x.task x.did s in
     let says = task_says l n x.task s.records x.did.step judged.0 in
     let kinds = and_true (enters x.task) (list_all enters (tasks_in xs)) entries in
-    let sound : AreRecordsSound l w = (task_left l x.task x.did s.records bounds h says judged.1).sound in
+    let sound : AreRecordsSound l w = (task_left l x.task x.did s.records bounds h says (step_judged l n x.task s.records x.did.step judged.0).room judged.1).sound in
     let above : IsAbove block pointer w = (λ here. (pointer_in_block l w block pointer sound (before-after l (suc n) xs w pointer block bounds sound judged.2 kinds.1 here there)).low) in
     holds-after l (suc n) block pointer (value_by block pointer value x.did.aim) xs next bounds (subst (AreRecordsSound l) (sym is) sound) (act_sized l x.task x.did s sized)
     (subst (AreJudged l (suc n) (tasks_in xs) (dids_in xs)) (sym is) judged.2) kinds.1 even (subst (λ v. block_with pointer (records_after xs v).ranges ≡ Some block) (sym is) there)

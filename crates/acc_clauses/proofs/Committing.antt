@@ -17,25 +17,31 @@ use Rattle.acc_base.specs.declared.faults.Fault.{Fault}
 use Rattle.acc_base.specs.Limits.{Limits, IsWithinBounds}
 use Rattle.acc_base.specs.Records.{Records, State, layout_of}
 use Rattle.acc_base.specs.Register.{Region, Register, holdings_at, region_at, count_held, is_counted_block}
+use Rattle.acc_base.specs.Ranges.{range_of}
 use Rattle.acc_base.specs.Blocks.{used_bytes}
-use Rattle.acc_base.specs.Tasks.{act, act_all}
-use Rattle.acc_base.specs.Walk.{enter_task, enter_data_task, leave_tasks, holdings_of, block_counted, pointer_attached}
+use Rattle.acc_base.specs.Steps.{act, act_all, released}
+use Rattle.acc_base.specs.Waits.{records_made, records_stepped, records_drained}
+use Rattle.acc_base.specs.Queues.{head_of as first_of}
+use Rattle.acc_base.specs.declared.transfers.Transfer.{Transfer}
+use Rattle.acc_base.specs.declared.events.Event.{Event}
+use Rattle.acc_base.specs.Walk.{enter_task, enter_data_task, exit_task, move_task, leave_tasks, holdings_of, block_counted, pointer_attached}
 use Rattle.acc_base.specs.Acting.{act_all_state}
-use Rattle.acc_base.specs.Judge.{tasks_of, tasks_of_region, event_of}
+use Rattle.acc_base.specs.Judge.{tasks_of, tasks_of_region, Verdict, Makes, Idle, verdict_of}
 use Rattle.acc_base.specs.History.{AreJudged}
 use Rattle.acc_base.proofs.Elements.{AllByRecursion-append, AllByRecursion-filter, AllByRecursion-weaker, find-none}
-use Rattle.acc_base.proofs.Walked.{records-act_all_state, register-act_all_state}
+use Rattle.acc_base.proofs.Walked.{records-act_all_state, register-act_all_state, records-drained}
+use Rattle.acc_base.proofs.Sound.{ranges-drained}
 use Rattle.acc_base.proofs.AllTasks.{sum_by-reverse}
 use Rattle.acc_base.proofs.Registers.{IsNumbered, AreFew, next_region, opened_regions, opened_few, closed_few, closed_held}
 use Rattle.acc_clauses.specs.declared.plans.Head.{Head}
-use Rattle.acc_clauses.specs.declared.plans.Head.TheVariants.{Plain, Entry, Leaving}
-use Rattle.acc_clauses.specs.Planned.{Planned, IsPlannedOn, head_of, holding_by, holdings_by, held_by, register_by, register_planned}
+use Rattle.acc_clauses.specs.declared.plans.Head.TheVariants.{Plain, Entry, Leaving, Waiting, Stepping}
+use Rattle.acc_clauses.specs.Planned.{Planned, IsPlannedOn, head_of, holding_by, holdings_by, held_by, register_by, register_planned, steps_by, finished}
 use Rattle.acc_clauses.specs.Contents.{Contents}
 use Rattle.acc_clauses.specs.Acts.{IsKnown, AreKnown, HasRegionRoom, CanFinish}
-use Rattle.acc_clauses.specs.Stored.{IsHoldingWithin, AreHoldingsWithin, IsStoreSound}
+use Rattle.acc_clauses.specs.Stored.{IsHeldWithin, IsHoldingWithin, AreHoldingsWithin, IsStoreSound}
 use Rattle.acc_clauses.proofs.Holding.{leaves_known}
 use Rattle.acc_clauses.proofs.Entering.{regions_within, entered_within}
-use Rattle.acc_clauses.proofs.Events.{planned_legal, planned_register}
+use Rattle.acc_clauses.proofs.Events.{IsEventOf, event_of_plan, planned_legal, idle_plan}
 use Rattle.acc_clauses.proofs.Finishing.{after_plan, event_sound}
 
 -- ---- the tasks of a directive
@@ -90,9 +96,11 @@ plan_known (directives.Exit number) c p bounds h planned =
     subst (λ ts. AreKnown ts p.dids c.state.records) o.tasks_are (leaves_known c.limits 0 (reverse o.holdings) p.dids c.state.records bounds h.sound.layout.records judged within (λ b.
     let turned : count_held b (reverse o.holdings) ≡ count_held b o.holdings = sum_by-reverse (λ (x : Holding). cond (is_counted_block b x.block) 1 0) o.holdings in
     omega (arith, turned, closed_held b number o.holdings g numbered o.open_is, h.sound.layout.held b)))
-plan_known (directives.EnterData items) c p bounds h planned = subst (λ ts. AreKnown ts p.dids c.state.records) (tasks_same (map enter_data_task items) p.tasks planned.tasks) (known_map enter_data_task items p.dids c.state.records (λ x v. tt))
-plan_known (directives.ExitData items finalize) c p bounds h planned = subst (λ ts. AreKnown ts p.dids c.state.records) (tasks_same (map (Exit finalize) items) p.tasks planned.tasks) (known_map (Exit finalize) items p.dids c.state.records (λ x v. tt))
-plan_known (directives.Update items if_present) c p bounds h planned = subst (λ ts. AreKnown ts p.dids c.state.records) (tasks_same (map (Move if_present) items) p.tasks planned.tasks) (known_map (Move if_present) items p.dids c.state.records (λ x v. tt))
+plan_known (directives.EnterData items queue) c p bounds h planned = subst (λ ts. AreKnown ts p.dids c.state.records) (tasks_same (map (enter_data_task queue) items) p.tasks planned.tasks) (known_map (enter_data_task queue) items p.dids c.state.records (λ x v. tt))
+plan_known (directives.ExitData items finalize queue) c p bounds h planned = subst (λ ts. AreKnown ts p.dids c.state.records) (tasks_same (map (exit_task finalize queue) items) p.tasks planned.tasks) (known_map (exit_task finalize queue) items p.dids c.state.records (λ x v. tt))
+plan_known (directives.Update items if_present queue) c p bounds h planned = subst (λ ts. AreKnown ts p.dids c.state.records) (tasks_same (map (move_task if_present queue) items) p.tasks planned.tasks) (known_map (move_task if_present queue) items p.dids c.state.records (λ x v. tt))
+plan_known (directives.Wait queue) c p bounds h planned = subst (λ ts. AreKnown ts p.dids c.state.records) (tasks_same [] p.tasks planned.tasks) (known_map enter_task [] p.dids c.state.records (λ x v. tt))
+plan_known (directives.Step queue) c p bounds h planned = subst (λ ts. AreKnown ts p.dids c.state.records) (tasks_same [] p.tasks planned.tasks) (known_map enter_task [] p.dids c.state.records (λ x v. tt))
 
 -- ---- the register
 
@@ -115,9 +123,11 @@ plan_can (directives.Enter items) c f p h planned next room same regions holding
 plan_can (directives.Exit number) c f p h planned next room same regions holdings =
     let o : IsOpen number c.state.register p.tasks = open_region number c.state.register p.tasks planned.tasks in
     subst (λ (x : Head). CanFinish x (length p.tasks) f) (sym planned.head) (rw same (some_region (region_at number c.state.register.regions) o.holdings o.open_is))
-plan_can (directives.EnterData items) c f p h planned next room same regions holdings = subst (λ (x : Head). CanFinish x (length p.tasks) f) (sym planned.head) tt
-plan_can (directives.ExitData items finalize) c f p h planned next room same regions holdings = subst (λ (x : Head). CanFinish x (length p.tasks) f) (sym planned.head) tt
-plan_can (directives.Update items if_present) c f p h planned next room same regions holdings = subst (λ (x : Head). CanFinish x (length p.tasks) f) (sym planned.head) tt
+plan_can (directives.EnterData items queue) c f p h planned next room same regions holdings = subst (λ (x : Head). CanFinish x (length p.tasks) f) (sym planned.head) tt
+plan_can (directives.ExitData items finalize queue) c f p h planned next room same regions holdings = subst (λ (x : Head). CanFinish x (length p.tasks) f) (sym planned.head) tt
+plan_can (directives.Update items if_present queue) c f p h planned next room same regions holdings = subst (λ (x : Head). CanFinish x (length p.tasks) f) (sym planned.head) tt
+plan_can (directives.Wait queue) c f p h planned next room same regions holdings = subst (λ (x : Head). CanFinish x (length p.tasks) f) (sym planned.head) tt
+plan_can (directives.Step queue) c f p h planned next room same regions holdings = subst (λ (x : Head). CanFinish x (length p.tasks) f) (sym planned.head) tt
 
 -- what an entry holds is read of its tasks
 held_asked : (items : List (Item RegionClause)) (dids : List Did) → holdings_of items dids ≡ holdings_by (map enter_task items) dids
@@ -126,10 +136,10 @@ held_asked (item ∷ items) [] = refl
 held_asked (item ∷ items) (did ∷ dids) = ap (λ (hs : List Holding). record { item = item; block = block_counted did.step; aim = pointer_attached did.aim } ∷ hs) (held_asked items dids)
 
 one_holding : (task : Task) (did : Did) → length (holding_by task did) ≤ 1
-one_holding (Enter counter item) did = omega arith
+one_holding (Enter counter item queue) did = omega arith
 one_holding (Leave holding) did = omega arith
-one_holding (Exit finalize item) did = omega arith
-one_holding (Move if_present item) did = omega arith
+one_holding (Exit finalize item queue) did = omega arith
+one_holding (Move if_present item queue) did = omega arith
 
 -- no more is held than there are tasks
 holdings_few : (tasks : List Task) (dids : List Did) → length (holdings_by tasks dids) ≤ length tasks
@@ -145,6 +155,8 @@ pub held_few : (head : Head) (tasks : List Task) (dids : List Did) → length (h
 held_few Plain tasks dids = omega arith
 held_few Entry tasks dids = holdings_few tasks dids
 held_few (Leaving number) tasks dids = omega arith
+held_few (Waiting queue) tasks dids = omega arith
+held_few (Stepping queue) tasks dids = omega arith
 
 numbered_of : (c : Contents) → IsStoreSound c → IsNumbered c.state.register
 numbered_of c h = record { first = h.sound.layout.register.first; rising = h.sound.layout.register.rising; known = h.sound.layout.register.known }
@@ -155,9 +167,11 @@ few_after (directives.Enter items) c p h planned =
     let short : length (holdings_by p.tasks p.dids) ≤ 64 = omega (arith, holdings_few p.tasks p.dids, planned.few) in
     subst (λ (x : Head). AreFew (register_by x (holdings_by p.tasks p.dids) c.state.register)) (sym planned.head) (opened_few (holdings_by p.tasks p.dids) c.state.register (numbered_of c h) h.sound.layout.register.few short)
 few_after (directives.Exit number) c p h planned = subst (λ (x : Head). AreFew (register_by x (holdings_by p.tasks p.dids) c.state.register)) (sym planned.head) (closed_few number c.state.register h.sound.layout.register.few)
-few_after (directives.EnterData items) c p h planned = subst (λ (x : Head). AreFew (register_by x (holdings_by p.tasks p.dids) c.state.register)) (sym planned.head) h.sound.layout.register.few
-few_after (directives.ExitData items finalize) c p h planned = subst (λ (x : Head). AreFew (register_by x (holdings_by p.tasks p.dids) c.state.register)) (sym planned.head) h.sound.layout.register.few
-few_after (directives.Update items if_present) c p h planned = subst (λ (x : Head). AreFew (register_by x (holdings_by p.tasks p.dids) c.state.register)) (sym planned.head) h.sound.layout.register.few
+few_after (directives.EnterData items queue) c p h planned = subst (λ (x : Head). AreFew (register_by x (holdings_by p.tasks p.dids) c.state.register)) (sym planned.head) h.sound.layout.register.few
+few_after (directives.ExitData items finalize queue) c p h planned = subst (λ (x : Head). AreFew (register_by x (holdings_by p.tasks p.dids) c.state.register)) (sym planned.head) h.sound.layout.register.few
+few_after (directives.Update items if_present queue) c p h planned = subst (λ (x : Head). AreFew (register_by x (holdings_by p.tasks p.dids) c.state.register)) (sym planned.head) h.sound.layout.register.few
+few_after (directives.Wait queue) c p h planned = subst (λ (x : Head). AreFew (register_by x (holdings_by p.tasks p.dids) c.state.register)) (sym planned.head) h.sound.layout.register.few
+few_after (directives.Step queue) c p h planned = subst (λ (x : Head). AreFew (register_by x (holdings_by p.tasks p.dids) c.state.register)) (sym planned.head) h.sound.layout.register.few
 
 -- what open regions hold lies within, with the register of a head
 abbrev IsWithinBy : Records → Planned → Register → Head → Type 0
@@ -190,23 +204,72 @@ within_after d c p bounds h planned = go d planned.head planned.tasks
     go (directives.Enter items) x e = subst (IsWithinBy v p g) (sym x) (subst (λ rs. AreHoldingsWithin v rs) (sym (opened_regions (holdings_by p.tasks p.dids) g (numbered_of c h)))
         (AllByRecursion-append (λ (r : Region). AllByRecursion (IsHoldingWithin v) r.holdings) g.regions (next_region (holdings_by p.tasks p.dids) g ∷ []) kept (entered items (tasks_same (map enter_task items) p.tasks e), tt)))
     go (directives.Exit number) x e = subst (IsWithinBy v p g) (sym x) (AllByRecursion-filter (λ (r : Region). AllByRecursion (IsHoldingWithin v) r.holdings) (λ r. not (r.number == number)) g.regions kept)
-    go (directives.EnterData items) x e = subst (IsWithinBy v p g) (sym x) kept
-    go (directives.ExitData items finalize) x e = subst (IsWithinBy v p g) (sym x) kept
-    go (directives.Update items if_present) x e = subst (IsWithinBy v p g) (sym x) kept
+    go (directives.EnterData items queue) x e = subst (IsWithinBy v p g) (sym x) kept
+    go (directives.ExitData items finalize queue) x e = subst (IsWithinBy v p g) (sym x) kept
+    go (directives.Update items if_present queue) x e = subst (IsWithinBy v p g) (sym x) kept
+    go (directives.Wait queue) x e = subst (IsWithinBy v p g) (sym x) kept
+    go (directives.Step queue) x e = subst (IsWithinBy v p g) (sym x) kept
 
 -- what is done to the parts is what the plan says
-pub finished : (p : Planned) (ts : List Task) (ds : List Did) (s t u : State) → ts ≡ p.tasks → ds ≡ p.dids → t ≡ act_all_state ts ds s → u ≡ record t { register = register_planned p t.register }
-    → u ≡ record (act_all_state p.tasks p.dids s) { register = register_planned p s.register }
-finished p ts ds s t u a b e f = f ∙ rw (e, a, b) (ap (λ (g : Register). record (act_all_state p.tasks p.dids s) { register = register_planned p g }) (register-act_all_state p.tasks p.dids s))
+pub all_finished : (p : Planned) (ts : List Task) (ds : List Did) (s t u : State) → ts ≡ p.tasks → ds ≡ p.dids → t ≡ act_all_state ts ds s → u ≡ finished p t → u ≡ finished p (act_all_state p.tasks p.dids s)
+all_finished p ts ds s t u a b e f = f ∙ ap (finished p) (e ∙ ap (λ x. act_all_state x ds s) a ∙ ap (λ x. act_all_state p.tasks x s) b)
 
--- a store is sound after a plan
-pub plan_sound : (d : Directive) (c f : Contents) (p : Planned) → IsWithinBounds c.limits → IsStoreSound c → IsPlannedOn c.limits d (layout_of c.state) p → f.limits ≡ c.limits
-    → f.state ≡ record (act_all_state p.tasks p.dids c.state) { register = register_planned p c.state.register } → used_bytes f.state.records.blocks ≤ f.limits.device → IsStoreSound f
-plan_sound d c f p bounds h planned limits state used =
-    let l : Limits = c.limits in
-    let g : Register = c.state.register in
+-- ---- queued transfers leave what is held
+
+births-stepped : (q : ℕ) (w : Records) → (records_stepped q w).births ≡ w.births
+unfolding records_stepped released
+births-stepped q w = go (first_of q w.queues)
+  where
+    go : (o : Option Transfer) → (records_made q o w).births ≡ w.births
+    go None = refl
+    go (Some t) = refl
+
+births-drained : (qs : List ℕ) (w : Records) → (records_drained qs w).births ≡ w.births
+unfolding records_drained
+births-drained [] w = refl
+births-drained (q ∷ qs) w = births-drained qs (records_stepped q w) ∙ births-stepped q w
+
+within_drained : (qs : List ℕ) (w : Records) (regions : List Region) → AreHoldingsWithin w regions → AreHoldingsWithin (records_drained qs w) regions
+within_drained qs w regions h =
+    AllByRecursion-weaker (λ (r : Region). AllByRecursion (IsHoldingWithin w) r.holdings) (λ (r : Region). AllByRecursion (IsHoldingWithin (records_drained qs w)) r.holdings) regions
+    (λ r held. AllByRecursion-weaker (IsHoldingWithin w) (IsHoldingWithin (records_drained qs w)) r.holdings (λ x p k e. one x k (p k e)) held) h
+  where
+    one : (x : Holding) (k : ℕ) → IsHeldWithin w x.item.section k → IsHeldWithin (records_drained qs w) x.item.section k
+    one x k p = record { born = subst (λ n. k ≤ n) (sym (births-drained qs w)) p.born; within = λ r e. p.within r (ap (range_of k) (sym (ranges-drained qs w)) ∙ e) }
+
+-- what open regions hold lies within once a plan is finished
+within_finished : (d : Directive) (c : Contents) (p : Planned) → IsWithinBounds c.limits → IsStoreSound c → IsPlannedOn c.limits d (layout_of c.state) p
+    → AreHoldingsWithin (finished p (act_all_state p.tasks p.dids c.state)).records (finished p (act_all_state p.tasks p.dids c.state)).register.regions
+within_finished d c p bounds h planned =
+    let t : State = act_all_state p.tasks p.dids c.state in
+    let qs : List ℕ = steps_by p.head t.records.queues in
+    let kept : AreHoldingsWithin t.records (register_planned p t.register).regions = subst (λ (g : Register). AreHoldingsWithin t.records (register_planned p g).regions) (sym (register-act_all_state p.tasks p.dids c.state))
+    (subst (λ w. AreHoldingsWithin w (register_planned p c.state.register).regions) (sym (records-act_all_state p.tasks p.dids c.state)) (within_after d c p bounds h planned)) in
+    subst (λ w. AreHoldingsWithin w (register_planned p t.register).regions) (sym (records-drained qs t)) (within_drained qs t.records (register_planned p t.register).regions kept)
+
+-- ---- a store is sound after a plan
+
+-- one that is as before is
+same_sound : (c f : Contents) → f.limits ≡ c.limits → f.state ≡ c.state → IsStoreSound c → IsStoreSound f
+same_sound c f limits state h =
     let P : State → Type 0 = λ s. AreHoldingsWithin s.records s.register.regions in
-    event_sound l (event_of d g p.dids) c f bounds refl limits h (planned_legal l d (layout_of c.state) p planned) (state ∙ sym (after_plan l d c.state p planned))
-    (subst AreFew (sym (planned_register l d (layout_of c.state) p planned)) (few_after d c p h planned))
+    record { sound = rw (limits, state) h.sound; holdings = subst P (sym state) h.holdings }
+
+-- and so is one after the event of the plan
+made_sound : (d : Directive) (c f : Contents) (p : Planned) (e : Event) → IsWithinBounds c.limits → IsStoreSound c → IsPlannedOn c.limits d (layout_of c.state) p → f.limits ≡ c.limits
+    → f.state ≡ finished p (act_all_state p.tasks p.dids c.state) → used_bytes f.state.records.blocks ≤ f.limits.device → IsEventOf c.limits p c.state e → IsStoreSound f
+made_sound d c f p e bounds h planned limits state used is =
+    let l : Limits = c.limits in
+    let P : State → Type 0 = λ s. AreHoldingsWithin s.records s.register.regions in
+    event_sound l e c f bounds refl limits h (planned_legal l d c.state p e planned is) (state ∙ sym (after_plan l p c.state e is))
+    (subst AreFew (sym is.register) (few_after d c p h planned))
     (subst (λ (m : Limits). used_bytes f.state.records.blocks ≤ m.device) limits used)
-    (subst P (sym state) (subst (λ w. AreHoldingsWithin w (register_planned p g).regions) (sym (records-act_all_state p.tasks p.dids c.state)) (within_after d c p bounds h planned)))
+    (subst P (sym state) (within_finished d c p bounds h planned))
+
+pub plan_sound : (d : Directive) (c f : Contents) (p : Planned) → IsWithinBounds c.limits → IsStoreSound c → IsPlannedOn c.limits d (layout_of c.state) p → f.limits ≡ c.limits
+    → f.state ≡ finished p (act_all_state p.tasks p.dids c.state) → used_bytes f.state.records.blocks ≤ f.limits.device → IsStoreSound f
+plan_sound d c f p bounds h planned limits state used = go (verdict_of d c.state p.dids) refl
+  where
+    go : (v : Verdict) → verdict_of d c.state p.dids ≡ v → IsStoreSound f
+    go (Makes e) made = made_sound d c f p e bounds h planned limits state used (event_of_plan c.limits d c.state p e planned made)
+    go Idle idle = same_sound c f limits (state ∙ idle_plan c.limits d c.state p planned idle) h

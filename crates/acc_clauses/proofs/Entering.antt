@@ -26,13 +26,14 @@ use Rattle.acc_base.specs.Ranges.{where_is, range_of, counter_of, with_range, ba
 use Rattle.acc_base.specs.Blocks.{rounded, place_for}
 use Rattle.acc_base.specs.Register.{Region}
 use Rattle.acc_base.specs.Clauses.{is_attach, section_named, born_at, enter_absent, enter_row}
-use Rattle.acc_base.specs.Tasks.{section_of, checked, judge_step, act_step, act, act_all, records_after_birth}
+use Rattle.acc_base.specs.Tasks.{section_of, checked}
+use Rattle.acc_base.specs.Steps.{judge_row, judge_step, act_row, act_step, act, act_all, records_after_birth}
 use Rattle.acc_base.specs.Walk.{enter_task, block_counted, holdings_of}
 use Rattle.acc_base.specs.History.{AreJudged}
 use Rattle.acc_base.specs.Accounts.{AreRecordsSound}
 use Rattle.acc_base.proofs.Results.{equal_self, then_ok}
 use Rattle.acc_base.proofs.Elements.{AllByRecursion-weaker}
-use Rattle.acc_base.proofs.Judged.{IsJudgedTo, task_says}
+use Rattle.acc_base.proofs.Judged.{IsJudgedTo, task_says, step_judged}
 use Rattle.acc_base.proofs.Sound.{ranges_born, fresh}
 use Rattle.acc_base.proofs.Aimed.{task_left}
 use Rattle.acc_clauses.specs.Acts.{IsMappedAround}
@@ -86,9 +87,9 @@ counted_inside l clause section n k w (Inside b o) e f =
 counted_inside l clause section n k w Absent e f = absurd (absent_not_counted clause l n k section w e)
 counted_inside l clause section n k w Partly e f = cc
 
-counted_says : (l : Limits) (item : Item RegionClause) (n k : ℕ) (w : Records) → judge_step l n (Enter Structured item) w ≡ Ok (Counted k) → (o : ℕ) × (where_is (section_of (Enter Structured item)) w.ranges ≡ Inside k o)
-unfolding judge_step
-counted_says l item n k w e = counted_inside l item.clause (section_of (Enter Structured item)) n k w (where_is (section_of (Enter Structured item)) w.ranges) (then_ok (checked l n (Enter Structured item)) _ (Counted k) e).1 refl
+counted_says : (l : Limits) (item : Item RegionClause) (n k : ℕ) (w : Records) → judge_step l n (Enter Structured item None) w ≡ Ok (Counted k) → (o : ℕ) × (where_is (section_of (Enter Structured item None)) w.ranges ≡ Inside k o)
+unfolding judge_row
+counted_says l item n k w e = counted_inside l item.clause (section_of (Enter Structured item None)) n k w (where_is (section_of (Enter Structured item None)) w.ranges) (then_ok (checked l n (Enter Structured item None)) _ (Counted k) (step_judged l n (Enter Structured item None) w (Counted k) e).row).1 refl
 
 -- an item whose section is not empty has it whole: it names no pointer alone
 named_whole : (alone : Bool) (s : Section) (ranges : List Range) (found : Found) → where_is (section_named alone s) ranges ≡ found → (found ≡ Empty → ⊥) → section_named alone s ≡ s
@@ -109,14 +110,14 @@ range-with_same new (r ∷ rs) p = go (range-with_same new rs) (nat_lt new.secti
 within_self : (s : Section) → is_within s s ≡ true
 within_self s = grind (arith, nat_tests)
 
-born_within : (l : Limits) (item : Item RegionClause) (k p : ℕ) (w : Records) → AreRecordsSound l w → k ≡ w.births + 1 → IsHeldWithin (act_step (Enter Structured item) (Born k p) w) (section_of (Enter Structured item)) k
-unfolding act_step records_after_birth
+born_within : (l : Limits) (item : Item RegionClause) (k p : ℕ) (w : Records) → AreRecordsSound l w → k ≡ w.births + 1 → IsHeldWithin (act_step (Enter Structured item None) (Born k p) w) (section_of (Enter Structured item None)) k
+unfolding act_step act_row records_after_birth
 born_within l item k p w sound number =
-    let new : Range = risen Structured (bare_range (section_of (Enter Structured item)) k) in
+    let new : Range = risen Structured (bare_range (section_of (Enter Structured item None)) k) in
     let there : range_of k (with_range new w.ranges) ≡ Some new = range-with_same new w.ranges (fresh l w k sound number) in
     record {
       born = omega (arith, number);
-      within = λ r e. let same : new ≡ r = cc in subst (λ (x : Range). is_within (section_of (Enter Structured item)) x.section ≡ true) same (within_self (section_of (Enter Structured item)));
+      within = λ r e. let same : new ≡ r = cc in subst (λ (x : Range). is_within (section_of (Enter Structured item None)) x.section ≡ true) same (within_self (section_of (Enter Structured item None)));
     }
 
 counted_within : (l : Limits) (w : Records) (section : Section) (k o : ℕ) → AreRecordsSound l w → where_is section w.ranges ≡ Inside k o → IsHeldWithin w section k
@@ -136,23 +137,23 @@ counted_within l w section k o sound e =
         go rest false t q = rest q
 
 -- what one item's entry counts
-first_within : (l : Limits) (n : ℕ) (item : Item RegionClause) (step : Step) (w : Records) → AreRecordsSound l w → judge_step l n (Enter Structured item) w ≡ Ok step → (k : ℕ) → block_counted step ≡ Some k
-    → IsHeldWithin (act_step (Enter Structured item) step w) item.section k
+first_within : (l : Limits) (n : ℕ) (item : Item RegionClause) (step : Step) (w : Records) → AreRecordsSound l w → judge_step l n (Enter Structured item None) w ≡ Ok step → (k : ℕ) → block_counted step ≡ Some k
+    → IsHeldWithin (act_step (Enter Structured item None) step w) item.section k
 first_within l n item Nothing w sound e k c = cc
 first_within l n item (Counted b) w sound e k c =
-    let says : IsJudgedTo l (Enter Structured item) (Counted b) w = task_says l n (Enter Structured item) w (Counted b) e in
-    let inside : (o : ℕ) × (where_is (section_of (Enter Structured item)) w.ranges ≡ Inside b o) = counted_says l item n b w e in
-    let whole : section_of (Enter Structured item) ≡ item.section = named_whole (is_attach item.clause) item.section w.ranges (Inside b inside.0) inside.1 (λ same. cc) in
+    let says : IsJudgedTo l (Enter Structured item None) (Counted b) w = task_says l n (Enter Structured item None) w (Counted b) e in
+    let inside : (o : ℕ) × (where_is (section_of (Enter Structured item None)) w.ranges ≡ Inside b o) = counted_says l item n b w e in
+    let whole : section_of (Enter Structured item None) ≡ item.section = named_whole (is_attach item.clause) item.section w.ranges (Inside b inside.0) inside.1 (λ same. cc) in
     let same : b ≡ k = cc in
-    subst (λ s. IsHeldWithin (act_step (Enter Structured item) (Counted b) w) s k) whole
-    (subst (IsHeldWithin (act_step (Enter Structured item) (Counted b) w) (section_of (Enter Structured item))) same
-    (within_step l (Enter Structured item) (Counted b) w (section_of (Enter Structured item)) b says (counted_within l w (section_of (Enter Structured item)) b inside.0 sound inside.1)))
+    subst (λ s. IsHeldWithin (act_step (Enter Structured item None) (Counted b) w) s k) whole
+    (subst (IsHeldWithin (act_step (Enter Structured item None) (Counted b) w) (section_of (Enter Structured item None))) same
+    (within_step l (Enter Structured item None) (Counted b) w (section_of (Enter Structured item None)) b says (counted_within l w (section_of (Enter Structured item None)) b inside.0 sound inside.1)))
 first_within l n item (Born b p) w sound e k c =
-    let says : IsJudgedTo l (Enter Structured item) (Born b p) w = task_says l n (Enter Structured item) w (Born b p) e in
-    let whole : section_of (Enter Structured item) ≡ item.section = named_whole (is_attach item.clause) item.section w.ranges Absent says.absent (λ same. cc) in
+    let says : IsJudgedTo l (Enter Structured item None) (Born b p) w = task_says l n (Enter Structured item None) w (Born b p) e in
+    let whole : section_of (Enter Structured item None) ≡ item.section = named_whole (is_attach item.clause) item.section w.ranges Absent says.absent (λ same. cc) in
     let same : b ≡ k = cc in
-    subst (λ s. IsHeldWithin (act_step (Enter Structured item) (Born b p) w) s k) whole
-    (subst (IsHeldWithin (act_step (Enter Structured item) (Born b p) w) (section_of (Enter Structured item))) same (born_within l item b p w sound says.number))
+    subst (λ s. IsHeldWithin (act_step (Enter Structured item None) (Born b p) w) s k) whole
+    (subst (IsHeldWithin (act_step (Enter Structured item None) (Born b p) w) (section_of (Enter Structured item None))) same (born_within l item b p w sound says.number))
 first_within l n item (Dropped b ended) w sound e k c = cc
 first_within l n item (Moved b) w sound e k c = cc
 
@@ -164,8 +165,8 @@ entered_within l n [] [] w bounds sound judged = tt
 entered_within l n [] (d ∷ ds) w bounds sound judged = absurd judged
 entered_within l n (i ∷ is) [] w bounds sound judged = absurd judged
 entered_within l n (i ∷ is) (d ∷ ds) w bounds sound judged =
-    let v : Records = act (Enter Structured i) d w in
-    let later : AreRecordsSound l v = (task_left l (Enter Structured i) d w bounds sound (task_says l n (Enter Structured i) w d.step judged.0) judged.1).sound in (
-      (λ k e. within_all l (suc n) (map enter_task is) ds v i.section k judged.2 (held_act (Enter Structured i) d w i.section k (first_within l n i d.step w sound judged.0 k e))),
+    let v : Records = act (Enter Structured i None) d w in
+    let later : AreRecordsSound l v = (task_left l (Enter Structured i None) d w bounds sound (task_says l n (Enter Structured i None) w d.step judged.0) (step_judged l n (Enter Structured i None) w d.step judged.0).room judged.1).sound in (
+      (λ k e. within_all l (suc n) (map enter_task is) ds v i.section k judged.2 (held_act (Enter Structured i None) d w i.section k (first_within l n i d.step w sound judged.0 k e))),
       entered_within l (suc n) is ds v bounds later judged.2,
     )

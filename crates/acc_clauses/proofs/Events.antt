@@ -1,22 +1,39 @@
--- The event of a plan is legal, and has the tasks, the steps and the register of the plan.
-use Rattle.std.proofs.Common.{ℕ, ◌≡◌, refl, sym, ap, ◌∙◌, List, [], ◌∷◌, Option, Some, None, Result, Ok}
-use Rattle.std.specs.Prelude.{map, unwrap_or, IsSome}
+-- The event of a plan is legal, and has the tasks, the steps, the queues and the register of the plan. Where a plan makes none, it changes nothing.
+use Rattle.std.proofs.Common.{ℕ, ◌≡◌, refl, sym, ap, subst, ◌∙◌, List, [], ◌∷◌, Option, Some, None, Result, Ok}
+use Rattle.std.specs.Prelude.{map, unwrap_or, option_map, IsSome}
 use Rattle.std.proofs.lemmas.List.{reverse-reverse}
 use Rattle.acc_base.specs.declared.directives.Directive.{Directive}
-use Rattle.acc_base.specs.declared.directives.Directive.TheVariants.{Enter, Exit, EnterData, ExitData, Update}
+use Rattle.acc_base.specs.declared.directives.Directive.TheVariants.{Enter, Exit, EnterData, ExitData, Update, Wait, Step}
 use Rattle.acc_base.specs.declared.items.Item.{Item}
 use Rattle.acc_base.specs.declared.items.RegionClause.{RegionClause}
 use Rattle.acc_base.specs.declared.regions.Holding.{Holding}
 use Rattle.acc_base.specs.declared.tasks.Task.{Task}
+use Rattle.acc_base.specs.declared.transfers.Transfer.{Transfer}
 use Rattle.acc_base.specs.declared.events.Did.{Did}
+use Rattle.acc_base.specs.declared.events.Event.{Event}
+use Rattle.acc_base.specs.declared.events.Event.TheVariants as events
 use Rattle.acc_base.specs.declared.faults.Fault.{Fault}
 use Rattle.acc_base.specs.Limits.{Limits}
-use Rattle.acc_base.specs.Records.{Layout}
-use Rattle.acc_base.specs.Register.{Register, holdings_at}
-use Rattle.acc_base.specs.Walk.{enter_task, leave_tasks, asked_in, done_in, holdings_of, register_after, block_counted, pointer_attached}
-use Rattle.acc_base.specs.Judge.{tasks_of, tasks_of_region, event_of}
-use Rattle.acc_base.specs.History.{NamesRight, IsLegal}
-use Rattle.acc_clauses.specs.Planned.{Planned, head_of, IsPlannedOn, holdings_by, register_by, register_planned}
+use Rattle.acc_base.specs.Records.{Records, State, layout_of}
+use Rattle.acc_base.specs.Register.{holdings_at, opened}
+use Rattle.acc_base.specs.Queues.{head_of as first_of, queue_named}
+use Rattle.acc_base.specs.Waits.{state_made, stepped, drained, steps_of}
+use Rattle.acc_base.specs.Walk.{enter_task, leave_tasks, asked_in, done_in, stepped_in, holdings_of, register_after, block_counted, pointer_attached}
+use Rattle.acc_base.specs.Acting.{act_all_state, host_after}
+use Rattle.acc_base.specs.Judge.{tasks_of_region, Makes, Idle, step_verdict, verdict_of}
+use Rattle.acc_base.specs.History.{AreJudged, NamesRight, IsLegal}
+use Rattle.acc_clauses.specs.Planned.{Planned, IsPlannedOn, holdings_by, register_planned, steps_by, finished}
+
+-- what the event of a plan asks, does and names
+pub record IsEventOf (l : Limits) (p : Planned) (s : State) (e : Event) : Type 0 where
+  pub asked : asked_in e s.register ≡ p.tasks
+  pub done : done_in e ≡ p.dids
+  pub steps : stepped_in e s.records.queues ≡ steps_by p.head (act_all_state p.tasks p.dids s).records.queues
+  pub register : register_after e s.register ≡ register_planned p s.register
+  pub names : NamesRight l e (layout_of s)
+  pub host : (bytes : List ℕ) → host_after e [] bytes ≡ bytes
+
+-- ---- the tasks
 
 asked_same : (ts us : List Task) → ◌≡◌ {A = Result (List Task) Fault} (Ok ts) (Ok us) → ts ≡ us
 asked_same ts us e = cc
@@ -26,55 +43,121 @@ left_asked : (number : ℕ) (o : Option (List Holding)) (ts : List Task) → tas
 left_asked number None ts e = absurd cc
 left_asked number (Some holdings) ts e = (refl, asked_same _ _ e)
 
--- the event asks what the directive asks
-event_asked : (d : Directive) (g : Register) (ts : List Task) (dids : List Did) → tasks_of d g ≡ Ok ts → asked_in (event_of d g dids) g ≡ ts
-event_asked (Enter items) g ts dids e = asked_same _ _ e
-event_asked (Exit number) g ts dids e = (left_asked number (holdings_at number g.regions) ts e).1
-event_asked (EnterData items) g ts dids e = asked_same _ _ e
-event_asked (ExitData items finalize) g ts dids e = asked_same _ _ e
-event_asked (Update items if_present) g ts dids e = asked_same _ _ e
-
--- the event did what the tasks do
-pub event_done : (d : Directive) (g : Register) (dids : List Did) → done_in (event_of d g dids) ≡ dids
-event_done (Enter items) g dids = refl
-event_done (Exit number) g dids = reverse-reverse dids
-event_done (EnterData items) g dids = refl
-event_done (ExitData items finalize) g dids = refl
-event_done (Update items if_present) g dids = refl
-
-event_names : (l : Limits) (d : Directive) (lay : Layout) (ts : List Task) (dids : List Did) → tasks_of d lay.register ≡ Ok ts → NamesRight l (event_of d lay.register dids) lay
-event_names l (Enter items) lay ts dids e = refl
-event_names l (Exit number) lay ts dids e = (left_asked number (holdings_at number lay.register.regions) ts e).0
-event_names l (EnterData items) lay ts dids e = tt
-event_names l (ExitData items finalize) lay ts dids e = tt
-event_names l (Update items if_present) lay ts dids e = tt
-
-pub planned_asked : (l : Limits) (d : Directive) (lay : Layout) (p : Planned) → IsPlannedOn l d lay p → asked_in (event_of d lay.register p.dids) lay.register ≡ p.tasks
-planned_asked l d lay p planned = event_asked d lay.register p.tasks p.dids planned.tasks
-
--- the event of a plan is legal
-pub planned_legal : (l : Limits) (d : Directive) (lay : Layout) (p : Planned) → IsPlannedOn l d lay p → IsLegal l (event_of d lay.register p.dids) lay
-planned_legal l d lay p planned = record {
-  names = event_names l d lay p.tasks p.dids planned.tasks;
-  judged = rw (planned_asked l d lay p planned, event_done) planned.judged;
-}
-
 -- what an entry holds is read of its tasks
 held_asked : (items : List (Item RegionClause)) (dids : List Did) → holdings_of items dids ≡ holdings_by (map enter_task items) dids
 held_asked [] dids = refl
 held_asked (item ∷ items) [] = refl
 held_asked (item ∷ items) (did ∷ dids) = ap (λ hs. record { item = item; block = block_counted did.step; aim = pointer_attached did.aim } ∷ hs) (held_asked items dids)
 
-register_asked : (d : Directive) (g : Register) (ts : List Task) (dids : List Did) → tasks_of d g ≡ Ok ts → register_after (event_of d g dids) g ≡ register_by (head_of d) (holdings_by ts dids) g
-register_asked (Enter items) g ts dids e =
-    let same : map enter_task items ≡ ts = asked_same _ _ e in
-    ap (λ hs. register_by (head_of (Enter items)) hs g) (held_asked items dids ∙ ap (λ us. holdings_by us dids) same)
-register_asked (Exit number) g ts dids e = refl
-register_asked (EnterData items) g ts dids e = refl
-register_asked (ExitData items finalize) g ts dids e = refl
-register_asked (Update items if_present) g ts dids e = refl
+-- no task did nothing
+none_done : (l : Limits) (n : ℕ) (dids : List Did) (w : Records) → AreJudged l n [] dids w → dids ≡ []
+none_done l n [] w judged = refl
+none_done l n (d ∷ ds) w judged = absurd judged
 
--- the register after the event is that after the plan
-pub planned_register : (l : Limits) (d : Directive) (lay : Layout) (p : Planned) → IsPlannedOn l d lay p → register_after (event_of d lay.register p.dids) lay.register ≡ register_planned p lay.register
-planned_register l d lay p planned =
-    register_asked d lay.register p.tasks p.dids planned.tasks ∙ ap (λ h. register_by h (holdings_by p.tasks p.dids) lay.register) (sym planned.head)
+none_acted : (tasks : List Task) (dids : List Did) (s : State) → tasks ≡ [] → dids ≡ [] → act_all_state tasks dids s ≡ s
+unfolding act_all_state
+none_acted tasks dids s a b = ap (λ ts. act_all_state ts dids s) a ∙ ap (λ ds. act_all_state [] ds s) b
+
+-- a plan without tasks leaves the state
+still : (l : Limits) (d : Directive) (s : State) (p : Planned) → IsPlannedOn l d (layout_of s) p → [] ≡ p.tasks → act_all_state p.tasks p.dids s ≡ s
+still l d s p h none = none_acted p.tasks p.dids s (sym none) (none_done l 0 p.dids s.records (subst (λ ts. AreJudged l 0 ts p.dids s.records) (sym none) h.judged))
+
+-- ---- the event
+
+event_same : (a b : Event) → Makes a ≡ Makes b → a ≡ b
+event_same a b e = cc
+
+known_queue : (l : Limits) (d : Directive) (s : State) (p : Planned) (queue : Option ℕ) → IsPlannedOn l d (layout_of s) p → p.queue ≡ queue → queue_named queue ≡ Ok tt
+known_queue l d s p queue h same = subst (λ o. queue_named o ≡ Ok tt) same h.known
+
+-- the first transfer of a queue is made
+step_event : (l : Limits) (queue : ℕ) (s : State) (p : Planned) (e : Event) → IsPlannedOn l (Step queue) (layout_of s) p → (o : Option Transfer) → first_of queue s.records.queues ≡ o → step_verdict queue o ≡ Makes e → IsEventOf l p s e
+step_event l queue s p e h None first made = cc
+step_event l queue s p e h (Some t) first made = subst (IsEventOf l p s) (event_same _ _ made) (record {
+  asked = asked_same _ _ h.tasks;
+  done = sym (none_done l 0 p.dids s.records (subst (λ ts. AreJudged l 0 ts p.dids s.records) (sym (asked_same _ _ h.tasks)) h.judged));
+  steps = rw h.head refl;
+  register = rw h.head refl;
+  names = ap (option_map (λ (x : Transfer). x.block)) first;
+  host = λ bytes. refl;
+})
+
+pub event_of_plan : (l : Limits) (d : Directive) (s : State) (p : Planned) (e : Event) → IsPlannedOn l d (layout_of s) p → verdict_of d s p.dids ≡ Makes e → IsEventOf l p s e
+event_of_plan l (Enter items) s p e h made =
+    let same : map enter_task items ≡ p.tasks = asked_same _ _ h.tasks in
+    subst (IsEventOf l p s) (event_same _ _ made) (record {
+      asked = same;
+      done = refl;
+      steps = rw h.head refl;
+      register = rw h.head (ap (λ hs. opened hs s.register) (held_asked items p.dids ∙ ap (λ us. holdings_by us p.dids) same));
+      names = refl;
+      host = λ bytes. refl;
+    })
+event_of_plan l (Exit number) s p e h made =
+    let left : IsSome (holdings_at number s.register.regions) × (leave_tasks (unwrap_or (holdings_at number s.register.regions) []) ≡ p.tasks) = left_asked number (holdings_at number s.register.regions) p.tasks h.tasks in
+    subst (IsEventOf l p s) (event_same _ _ made) (record { asked = left.1; done = reverse-reverse p.dids; steps = rw h.head refl; register = rw h.head refl; names = left.0; host = λ bytes. refl })
+event_of_plan l (EnterData items queue) s p e h made = subst (IsEventOf l p s) (event_same _ _ made) (record {
+  asked = asked_same _ _ h.tasks;
+  done = refl;
+  steps = rw h.head refl;
+  register = rw h.head refl;
+  names = known_queue l (EnterData items queue) s p queue h h.queue;
+  host = λ bytes. refl;
+})
+event_of_plan l (ExitData items finalize queue) s p e h made = subst (IsEventOf l p s) (event_same _ _ made) (record {
+  asked = asked_same _ _ h.tasks;
+  done = refl;
+  steps = rw h.head refl;
+  register = rw h.head refl;
+  names = known_queue l (ExitData items finalize queue) s p queue h h.queue;
+  host = λ bytes. refl;
+})
+event_of_plan l (Update items if_present queue) s p e h made = subst (IsEventOf l p s) (event_same _ _ made) (record {
+  asked = asked_same _ _ h.tasks;
+  done = refl;
+  steps = rw h.head refl;
+  register = rw h.head refl;
+  names = known_queue l (Update items if_present queue) s p queue h h.queue;
+  host = λ bytes. refl;
+})
+event_of_plan l (Wait queue) s p e h made =
+    let none : [] ≡ p.tasks = asked_same _ _ h.tasks in
+    subst (IsEventOf l p s) (event_same _ _ made) (record {
+      asked = none;
+      done = sym (none_done l 0 p.dids s.records (subst (λ ts. AreJudged l 0 ts p.dids s.records) (sym none) h.judged));
+      steps = rw h.head (ap (λ (t : State). steps_of queue t.records.queues) (sym (still l (Wait queue) s p h none)));
+      register = rw h.head refl;
+      names = (known_queue l (Wait queue) s p queue h h.queue, refl);
+      host = λ bytes. refl;
+    })
+event_of_plan l (Step queue) s p e h made = step_event l queue s p e h (first_of queue s.records.queues) refl made
+
+pub planned_asked : (l : Limits) (d : Directive) (s : State) (p : Planned) (e : Event) → IsPlannedOn l d (layout_of s) p → verdict_of d s p.dids ≡ Makes e → asked_in e s.register ≡ p.tasks
+planned_asked l d s p e h made = (event_of_plan l d s p e h made).asked
+
+-- it is legal
+pub planned_legal : (l : Limits) (d : Directive) (s : State) (p : Planned) (e : Event) → IsPlannedOn l d (layout_of s) p → IsEventOf l p s e → IsLegal l e (layout_of s)
+planned_legal l d s p e h is = record { names = is.names; judged = rw (is.asked, is.done) h.judged }
+
+-- ---- no event
+
+-- nothing is made of a queue that is empty
+empty_step : (queue : ℕ) (s : State) → first_of queue s.records.queues ≡ None → drained (queue ∷ []) s ≡ s
+unfolding drained stepped
+empty_step queue s none = ap (λ o. state_made queue o s) none
+
+step_idle : (l : Limits) (queue : ℕ) (s : State) (p : Planned) → IsPlannedOn l (Step queue) (layout_of s) p → (o : Option Transfer) → first_of queue s.records.queues ≡ o → step_verdict queue o ≡ Idle → finished p (act_all_state p.tasks p.dids s) ≡ s
+step_idle l queue s p h None first idle =
+    let none : [] ≡ p.tasks = asked_same _ _ h.tasks in
+    ap (finished p) (still l (Step queue) s p h none) ∙ rw h.head (ap (λ (t : State). record t { register = s.register }) (empty_step queue s first))
+step_idle l queue s p h (Some t) first idle = cc
+
+-- a plan without an event leaves the state
+pub idle_plan : (l : Limits) (d : Directive) (s : State) (p : Planned) → IsPlannedOn l d (layout_of s) p → verdict_of d s p.dids ≡ Idle → finished p (act_all_state p.tasks p.dids s) ≡ s
+idle_plan l (Enter items) s p h idle = cc
+idle_plan l (Exit number) s p h idle = cc
+idle_plan l (EnterData items queue) s p h idle = cc
+idle_plan l (ExitData items finalize queue) s p h idle = cc
+idle_plan l (Update items if_present queue) s p h idle = cc
+idle_plan l (Wait queue) s p h idle = cc
+idle_plan l (Step queue) s p h idle = step_idle l queue s p h (first_of queue s.records.queues) refl idle

@@ -1,50 +1,45 @@
 -- What a planned directive makes of a store: the state after its event, and a store that is sound.
-use Rattle.std.proofs.Common.{◌≡◌, ◌≤◌, refl, sym, ◌∙◌, ap, subst, List, [], arith}
-use Rattle.acc_base.specs.declared.directives.Directive.{Directive}
-use Rattle.acc_base.specs.declared.directives.Directive.TheVariants as directives
-use Rattle.acc_base.specs.declared.events.Did.{Did}
+use Rattle.std.proofs.Common.{◌≡◌, ◌≤◌, refl, sym, ◌∙◌, ap, subst, ℕ, List, [], arith}
 use Rattle.acc_base.specs.declared.events.Event.{Event}
 use Rattle.acc_base.specs.Limits.{Limits, IsWithinBounds}
 use Rattle.acc_base.specs.Records.{Layout, State, layout_of}
 use Rattle.acc_base.specs.Register.{Register}
 use Rattle.acc_base.specs.Ranges.{structured_of, dynamic_of}
 use Rattle.acc_base.specs.Blocks.{used_bytes}
-use Rattle.acc_base.specs.Walk.{asked_in, done_in, register_after, walk}
+use Rattle.acc_base.specs.Waits.{drained}
+use Rattle.acc_base.specs.Walk.{asked_in, done_in, stepped_in, register_after, walk}
 use Rattle.acc_base.specs.Acting.{act_all_state, host_after, after}
-use Rattle.acc_base.specs.Judge.{event_of}
 use Rattle.acc_base.specs.History.{IsLegal}
 use Rattle.acc_base.specs.Accounts.{IsLayoutSound, IsSound}
 use Rattle.acc_base.proofs.Memories.{event_sized}
-use Rattle.acc_base.proofs.Walked.{layout-after}
+use Rattle.acc_base.proofs.Walked.{layout-after, register-act_all_state}
 use Rattle.acc_base.proofs.Registers.{AreFew, register_sound}
 use Rattle.acc_base.proofs.Told.{IsTold, event_told}
-use Rattle.acc_clauses.specs.Planned.{Planned, IsPlannedOn, register_planned}
+use Rattle.acc_clauses.specs.Planned.{Planned, register_planned, steps_by, finished}
 use Rattle.acc_clauses.specs.Contents.{Contents}
 use Rattle.acc_clauses.specs.Stored.{IsStoreSound, AreHoldingsWithin}
-use Rattle.acc_clauses.proofs.Events.{event_done, planned_asked, planned_register}
+use Rattle.acc_clauses.proofs.Events.{IsEventOf}
 
 -- ---- the state
 
--- what an event of a directive makes of a state, once its tasks and its register are known
-by_event : (d : Directive) (g : Register) (dids : List Did) (a b : State) → a ≡ b → (x y : Register) → x ≡ y
-    → ◌≡◌ {A = State} (record { records = a.records; register = x; host = host_after (event_of d g dids) [] a.host; memories = a.memories }) (record b { register = y })
-by_event (directives.Enter items) g dids a b e x y f = rw (e, f) refl
-by_event (directives.Exit number) g dids a b e x y f = rw (e, f) refl
-by_event (directives.EnterData items) g dids a b e x y f = rw (e, f) refl
-by_event (directives.ExitData items finalize) g dids a b e x y f = rw (e, f) refl
-by_event (directives.Update items if_present) g dids a b e x y f = rw (e, f) refl
+-- what an event without bytes makes of a state, once its steps and its register are known
+by_parts : (e : Event) (a b : State) (x y : Register) → a ≡ b → x ≡ y → ((bytes : List ℕ) → host_after e [] bytes ≡ bytes)
+    → ◌≡◌ {A = State} (record { records = a.records; register = x; host = host_after e [] a.host; memories = a.memories }) (record b { register = y })
+by_parts e a b x y same register host =
+    let P : List ℕ → State = λ bytes. record { records = a.records; register = x; host = bytes; memories = a.memories } in
+    let Q : State → State = λ t. record t { register = x } in
+    ap P (host a.host) ∙ ap Q same ∙ ap (λ (g : Register). record b { register = g }) register
 
--- the state after the event of a plan is that after its tasks, with the register of the plan
-pub after_plan : (l : Limits) (d : Directive) (s : State) (p : Planned) → IsPlannedOn l d (layout_of s) p
-    → after (event_of d s.register p.dids) [] s ≡ record (act_all_state p.tasks p.dids s) { register = register_planned p s.register }
+-- the state after the event of a plan is that after its tasks, and then its queues and its register
+pub after_plan : (l : Limits) (p : Planned) (s : State) (e : Event) → IsEventOf l p s e → after e [] s ≡ finished p (act_all_state p.tasks p.dids s)
 unfolding after
-after_plan l d s p h =
-    let asked : asked_in (event_of d s.register p.dids) s.register ≡ p.tasks = planned_asked l d (layout_of s) p h in
-    let done : done_in (event_of d s.register p.dids) ≡ p.dids = event_done d s.register p.dids in
-    let acted : act_all_state (asked_in (event_of d s.register p.dids) s.register) (done_in (event_of d s.register p.dids)) s ≡ act_all_state p.tasks p.dids s =
-    ap (λ ts. act_all_state ts (done_in (event_of d s.register p.dids)) s) asked ∙ ap (λ ds. act_all_state p.tasks ds s) done in
-    by_event d s.register p.dids (act_all_state (asked_in (event_of d s.register p.dids) s.register) (done_in (event_of d s.register p.dids)) s) (act_all_state p.tasks p.dids s) acted
-    (register_after (event_of d s.register p.dids) s.register) (register_planned p s.register) (planned_register l d (layout_of s) p h)
+after_plan l p s e is =
+    let t : State = act_all_state p.tasks p.dids s in
+    let acted : act_all_state (asked_in e s.register) (done_in e) s ≡ t = ap (λ ts. act_all_state ts (done_in e) s) is.asked ∙ ap (λ ds. act_all_state p.tasks ds s) is.done in
+    let made : drained (stepped_in e s.records.queues) (act_all_state (asked_in e s.register) (done_in e) s) ≡ drained (steps_by p.head t.records.queues) t =
+    ap (λ qs. drained qs (act_all_state (asked_in e s.register) (done_in e) s)) is.steps ∙ ap (drained (steps_by p.head t.records.queues)) acted in
+    by_parts e (drained (stepped_in e s.records.queues) (act_all_state (asked_in e s.register) (done_in e) s)) (drained (steps_by p.head t.records.queues) t) (register_after e s.register) (register_planned p t.register)
+    made (is.register ∙ ap (register_planned p) (sym (register-act_all_state p.tasks p.dids s))) is.host
 
 -- ---- the layout
 

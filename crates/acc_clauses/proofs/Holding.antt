@@ -18,13 +18,14 @@ use Rattle.acc_base.specs.Section.{is_within}
 use Rattle.acc_base.specs.Records.{Records}
 use Rattle.acc_base.specs.Ranges.{range_of, structured_of, changed_at, with_range, without_range, bare_range}
 use Rattle.acc_base.specs.Register.{is_counted_block, count_held}
-use Rattle.acc_base.specs.Tasks.{section_of, recounted, act_step, act, records_after_birth, records_after_end, with_range_changed}
+use Rattle.acc_base.specs.Tasks.{section_of, recounted}
+use Rattle.acc_base.specs.Steps.{act_row, act_step, act, released, records_after_birth, records_after_end, with_range_changed}
 use Rattle.acc_base.specs.History.{AreJudged}
 use Rattle.acc_base.specs.Accounts.{AreRecordsSound}
 use Rattle.acc_base.proofs.Results.{equal}
 use Rattle.acc_base.proofs.Elements.{AllByRecursion-weaker}
 use Rattle.acc_base.proofs.Lookups.{at-changed, at-without_same, at-without_other}
-use Rattle.acc_base.proofs.Judged.{IsJudgedTo, task_says}
+use Rattle.acc_base.proofs.Judged.{IsJudgedTo, task_says, step_judged}
 use Rattle.acc_base.proofs.Recounted.{names}
 use Rattle.acc_base.proofs.Aimed.{IsLeft, task_left}
 use Rattle.acc_base.proofs.Memories.{recounted-block, recounted-section}
@@ -73,18 +74,18 @@ within_without k b rs s h r e = go (b == k) refl
     go false t = h r (sym (at-without_other block_of k b rs t) ∙ e)
 
 born_number : (l : Limits) (task : Task) (k p : ℕ) (w : Records) → IsJudgedTo l task (Born k p) w → k ≡ w.births + 1
-born_number l (Enter counter item) k p w says = says.number
+born_number l (Enter counter item queue) k p w says = says.number
 born_number l (Leave holding) k p w says = absurd says
-born_number l (Exit finalize item) k p w says = absurd says
-born_number l (Move if_present item) k p w says = absurd says
+born_number l (Exit finalize item queue) k p w says = absurd says
+born_number l (Move if_present item queue) k p w says = absurd says
 
 above_differs : (k b n : ℕ) → k ≡ n + 1 → b ≤ n → (k == b) ≡ false
 above_differs k b n e h = grind (arith, nat_tests)
 
 -- what is held stays within after a step
 pub within_step : (l : Limits) (task : Task) (step : Step) (w : Records) (s : Section) (b : ℕ) → IsJudgedTo l task step w → IsHeldWithin w s b → IsHeldWithin (act_step task step w) s b
-unfolding act_step records_after_birth records_after_end with_range_changed
-within_step l task Nothing w s b says h = h
+unfolding act_step act_row released records_after_birth records_after_end with_range_changed
+within_step l task Nothing w s b says h = record { born = h.born; within = h.within }
 within_step l task (Counted k) w s b says h = record { born = h.born; within = within_changed task k b w.ranges s h.within }
 within_step l task (Born k p) w s b says h =
     let new : Range = recounted task (bare_range (section_of task) k) in
@@ -92,7 +93,7 @@ within_step l task (Born k p) w s b says h =
     record { born = omega (arith, h.born); within = λ r e. h.within r (sym (range-with_other new b w.ranges other) ∙ e) }
 within_step l task (Dropped k true) w s b says h = record { born = h.born; within = within_without k b w.ranges s h.within }
 within_step l task (Dropped k false) w s b says h = record { born = h.born; within = within_changed task k b w.ranges s h.within }
-within_step l task (Moved k) w s b says h = h
+within_step l task (Moved k) w s b says h = record { born = h.born; within = h.within }
 
 -- the pointer of a task changes nothing of what is held
 pub held_act : (task : Task) (did : Did) (w : Records) (s : Section) (b : ℕ) → IsHeldWithin (act_step task did.step w) s b → IsHeldWithin (act task did w) s b
@@ -151,7 +152,7 @@ leaves_known l n (h ∷ hs) (d ∷ ds) w bounds sound judged within covers = (kn
     says = task_says l n (Leave h) w d.step judged.0
 
     left : IsLeft l (Leave h) d w v
-    left = task_left l (Leave h) d w bounds sound says judged.1
+    left = task_left l (Leave h) d w bounds sound says (step_judged l n (Leave h) w d.step judged.0).room judged.1
 
     known : IsKnown w (Leave h)
     known k e =

@@ -23,7 +23,8 @@ use Rattle.acc_base.specs.Records.{Records}
 use Rattle.acc_base.specs.Ranges.{where_is, where_is_apart, range_of, counter_in, structured_of, dynamic_of, is_unused, ends_by}
 use Rattle.acc_base.specs.Blocks.{rounded, place_for, fits_at}
 use Rattle.acc_base.specs.Clauses.{in_host}
-use Rattle.acc_base.specs.Tasks.{section_of, recounted, act}
+use Rattle.acc_base.specs.Tasks.{section_of, recounted}
+use Rattle.acc_base.specs.Steps.{act}
 use Rattle.acc_base.specs.History.{AreJudged}
 use Rattle.acc_base.specs.Accounts.{AreRecordsSound, IsCounted}
 use Rattle.acc_base.proofs.Results.{and_true}
@@ -85,14 +86,14 @@ pub counters-planned : (l : Limits) (xs : List Acted) (w : Records) (b : ℕ) �
 counters-planned l xs w b p = counters-after l 0 xs w b p.bounds p.sound p.judged
 
 recounted_both : (task : Task) (r : Range) → is_unused (recounted task r) ≡ are_zero (recount task (counters_in r))
-recounted_both (Enter counter item) r = go counter
+recounted_both (Enter counter item queue) r = go counter
   where
-    go : (c : Counter) → is_unused (recounted (Enter c item) r) ≡ are_zero (recount (Enter c item) (counters_in r))
-    go c = elim c as (λ v. is_unused (recounted (Enter v item) r) ≡ are_zero (recount (Enter v item) (counters_in r))) [ Structured ↦ refl | Dynamic ↦ refl ]
+    go : (c : Counter) → is_unused (recounted (Enter c item queue) r) ≡ are_zero (recount (Enter c item queue) (counters_in r))
+    go c = elim c as (λ v. is_unused (recounted (Enter v item queue) r) ≡ are_zero (recount (Enter v item queue) (counters_in r))) [ Structured ↦ refl | Dynamic ↦ refl ]
 recounted_both (Leave holding) r = refl
-recounted_both (Exit true item) r = refl
-recounted_both (Exit false item) r = refl
-recounted_both (Move if_present item) r = refl
+recounted_both (Exit true item queue) r = refl
+recounted_both (Exit false item queue) r = refl
+recounted_both (Move if_present item queue) r = refl
 
 -- both counters of a range that is looked for; both are 0 where there is none
 abbrev counters_found : Option Range → Counters

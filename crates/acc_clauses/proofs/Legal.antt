@@ -14,6 +14,7 @@ use Rattle.acc_base.specs.declared.events.Step.{Step}
 use Rattle.acc_base.specs.declared.events.Step.TheVariants.{Nothing, Counted, Born, Dropped, Moved}
 use Rattle.acc_base.specs.Limits.{Limits, IsWithinBounds, IsFromOne}
 use Rattle.acc_base.specs.Section.{end_of, is_within, is_empty, host_memory}
+use Rattle.acc_base.specs.Queues.{pins_of}
 use Rattle.acc_base.specs.Records.{Records, Memory, State}
 use Rattle.acc_base.specs.Ranges.{where_is, range_of}
 use Rattle.acc_base.specs.Blocks.{block_at}
@@ -26,6 +27,7 @@ use Rattle.acc_base.proofs.Where.{IsInsideOf, inside_says, absent_says}
 use Rattle.acc_base.proofs.Judged.{IsBirth, IsInRangeOf, IsJudgedTo}
 use Rattle.acc_base.proofs.Sound.{ranges_born}
 use Rattle.acc_clauses.specs.Acts.{IsMappedAround, IsKnown, CanMove, CanBear, CanAct}
+use Rattle.acc_clauses.proofs.Marked.{unborn_unpinned}
 use Rattle.acc_clauses.proofs.Moving.{bytes_of-len, some_of}
 use Rattle.acc_clauses.proofs.Runs.{within_both}
 use Rattle.acc_clauses.proofs.Steps.{is_some}
@@ -37,7 +39,7 @@ host_len : (s : Section) (n : ℕ) → is_within s (host_memory n) ≡ true → 
 host_len s n h = grind (arith, nat_tests)
 
 -- and ends below it
-host_end : (s : Section) (n : ℕ) → is_within s (host_memory n) ≡ true → n ≤ MEMORY_MAX → end_of s ≤ 2 ^ 40
+pub host_end : (s : Section) (n : ℕ) → is_within s (host_memory n) ≡ true → n ≤ MEMORY_MAX → end_of s ≤ 2 ^ 40
 host_end s n h most = grind (arith, nat_tests)
 
 -- the range of the block of a section that is inside a range
@@ -71,14 +73,7 @@ can_move l s section k bounds h m around =
       len = bytes_of-len k s.memories s.records.blocks b m.blocks there ∙ has.0.mapped.2;
     }
 
--- a block that is there has a range
-pub has_range : (k : ℕ) (w : Records) → HasOneBlockEach w → IsSome (block_at k w.blocks) → IsSome (range_of k w.ranges)
-has_range k w h there =
-    let b : (b : Block) × (block_at k w.blocks ≡ Some b) = some_of (block_at k w.blocks) there in
-    let has : IsSome (range_of b.0.number w.ranges) × ((b.0.number == k) ≡ true) = found_has (λ b. IsSome (range_of b.number w.ranges)) (λ b. b.number == k) w.blocks b.0 h.in_use b.1 in
-    subst (λ n. IsSome (range_of n w.ranges)) (equal b.0.number k has.1) has.0
-
--- and one that is not has none
+-- a block that is not there has no range
 pub has_none : (k : ℕ) (w : Records) → HasOneBlockEach w → (IsSome (block_at k w.blocks) → ⊥) → range_of k w.ranges ≡ None
 has_none k w h none = go (range_of k w.ranges) refl
   where
@@ -140,6 +135,7 @@ can_bear l s section k place bounds h m few says =
       no_range = AllByRecursion-weaker (λ (r : Range). r.block ≤ s.records.births) (λ r. r.block ≡ k → ⊥) s.records.ranges (λ r n same. let number : k ≡ s.records.births + 1 = says.number in omega arith) (ranges_born l s.records h);
       no_memory = no_memory k s.records.births s.memories s.records.blocks m.blocks h.blocks_apart.born says.number;
       no_pointer = no_pointer l k s.records h says.number;
+      no_transfer = subst (λ n. pins_of n s.records.queues ≡ 0) (sym says.number) (unborn_unpinned l s.records.blocks s.records.births s.records.queues h.blocks_apart.born h.queues);
       counted = bounds.counter_max.0;
     }
 
@@ -149,19 +145,19 @@ can_range l s section k bounds h m says = can_move l s section k bounds h m (map
 pub can_by : (l : Limits) (s : State) (task : Task) (step : Step) → IsWithinBounds l → AreRecordsSound l s.records → AreMemoriesSized l s → s.records.births < 2 ^ 48 → IsKnown s.records task → IsJudgedTo l task step s.records
     → CanAct l.counter_max l.device task step s
 can_by l s task Nothing bounds h m few known says = tt
-can_by l s (Enter counter item) (Counted k) bounds h m few known says = record { there = not_none (range_of k s.records.ranges) says.mapped; below = says.room }
-can_by l s (Enter counter item) (Born k p) bounds h m few known says = (tt, can_bear l s (section_of (Enter counter item)) k p bounds h m few says)
-can_by l s (Enter counter item) (Dropped k ended) bounds h m few known says = absurd says
-can_by l s (Enter counter item) (Moved k) bounds h m few known says = absurd says
+can_by l s (Enter counter item queue) (Counted k) bounds h m few known says = record { there = not_none (range_of k s.records.ranges) says.mapped; below = says.room }
+can_by l s (Enter counter item queue) (Born k p) bounds h m few known says = (tt, can_bear l s (section_of (Enter counter item queue)) k p bounds h m few says)
+can_by l s (Enter counter item queue) (Dropped k ended) bounds h m few known says = absurd says
+can_by l s (Enter counter item queue) (Moved k) bounds h m few known says = absurd says
 can_by l s (Leave holding) (Counted k) bounds h m few known says = absurd says
 can_by l s (Leave holding) (Born k p) bounds h m few known says = absurd says
 can_by l s (Leave holding) (Dropped k ended) bounds h m few known says = record { move = can_move l s holding.item.section k bounds h m (known k says.0); not_entry = λ x. x; ends = sym says.1 }
 can_by l s (Leave holding) (Moved k) bounds h m few known says = absurd says
-can_by l s (Exit finalize item) (Counted k) bounds h m few known says = absurd says
-can_by l s (Exit finalize item) (Born k p) bounds h m few known says = absurd says
-can_by l s (Exit finalize item) (Dropped k ended) bounds h m few known says = record { move = can_range l s (section_of (Exit finalize item)) k bounds h m says.range; not_entry = λ x. x; ends = sym says.ended_is }
-can_by l s (Exit finalize item) (Moved k) bounds h m few known says = absurd says
-can_by l s (Move if_present item) (Counted k) bounds h m few known says = absurd says
-can_by l s (Move if_present item) (Born k p) bounds h m few known says = absurd says
-can_by l s (Move if_present item) (Dropped k ended) bounds h m few known says = absurd says
-can_by l s (Move if_present item) (Moved k) bounds h m few known says = can_range l s item.section k bounds h m says
+can_by l s (Exit finalize item queue) (Counted k) bounds h m few known says = absurd says
+can_by l s (Exit finalize item queue) (Born k p) bounds h m few known says = absurd says
+can_by l s (Exit finalize item queue) (Dropped k ended) bounds h m few known says = record { move = can_range l s (section_of (Exit finalize item queue)) k bounds h m says.range; not_entry = λ x. x; ends = sym says.ended_is }
+can_by l s (Exit finalize item queue) (Moved k) bounds h m few known says = absurd says
+can_by l s (Move if_present item queue) (Counted k) bounds h m few known says = absurd says
+can_by l s (Move if_present item queue) (Born k p) bounds h m few known says = absurd says
+can_by l s (Move if_present item queue) (Dropped k ended) bounds h m few known says = absurd says
+can_by l s (Move if_present item queue) (Moved k) bounds h m few known says = can_range l s item.section k bounds h m says

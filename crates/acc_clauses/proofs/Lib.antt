@@ -1,5 +1,6 @@
 pub mod Founds
 pub mod Overlaid
+pub mod QueuesAfter
 pub mod Laws
 pub mod Drafted
 pub mod Turns
@@ -9,9 +10,20 @@ pub mod Events
 mod Runs
 mod Copying
 mod Moving
+pub mod Marked
+mod Changes
+mod Putting
 mod Steps
+mod Giving
+mod Bearing
+mod Ending
 mod Sweeping
 pub mod Legal
+mod Standing
+mod Making
+mod Emptied
+mod Finished
+mod Reserved
 mod Ready
 mod Aiming
 mod Doing

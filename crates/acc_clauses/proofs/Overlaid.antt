@@ -18,10 +18,11 @@ use Rattle.acc_base.specs.Limits.{Limits, IsWithinBounds}
 use Rattle.acc_base.specs.Section.{is_apart}
 use Rattle.acc_base.specs.Records.{Records}
 use Rattle.acc_base.specs.Ranges.{where_is, where_is_apart, counter_of, bare_range}
-use Rattle.acc_base.specs.Tasks.{section_of, recounted, records_after_birth, records_after_end, with_range_changed, act_step, act, act_all}
+use Rattle.acc_base.specs.Tasks.{section_of, recounted}
+use Rattle.acc_base.specs.Steps.{records_after_birth, records_after_end, released, with_range_changed, act_row, act_step, act, act_all}
 use Rattle.acc_base.specs.History.{AreJudged}
 use Rattle.acc_base.specs.Accounts.{AreRecordsSound}
-use Rattle.acc_base.proofs.Judged.{IsJudgedTo, IsBirth, task_says}
+use Rattle.acc_base.proofs.Judged.{IsJudgedTo, IsBirth, step_judged, task_says}
 use Rattle.acc_base.proofs.Results.{and_true}
 use Rattle.acc_base.proofs.Recounted.{moved_by, names}
 use Rattle.acc_base.proofs.Sound.{recounted_keeps}
@@ -40,32 +41,32 @@ or_false false b e = (refl, e)
 -- ---- one task
 
 pub birth_entry : (l : Limits) (task : Task) (k p : ℕ) (w : Records) → IsJudgedTo l task (Born k p) w → IsBirth l (section_of task) k p w
-birth_entry l (Enter counter item) k p w says = says
+birth_entry l (Enter counter item queue) k p w says = says
 birth_entry l (Leave holding) k p w says = absurd says
-birth_entry l (Exit finalize item) k p w says = absurd says
-birth_entry l (Move if_present item) k p w says = absurd says
+birth_entry l (Exit finalize item queue) k p w says = absurd says
+birth_entry l (Move if_present item queue) k p w says = absurd says
 
 -- a task that enters not bears no block
 pub bears_none : (l : Limits) (task : Task) (k p : ℕ) (w : Records) → IsJudgedTo l task (Born k p) w → enters task ≡ false → ⊥
-bears_none l (Enter counter item) k p w says e = false≢true (sym e)
+bears_none l (Enter counter item queue) k p w says e = false≢true (sym e)
 bears_none l (Leave holding) k p w says e = says
-bears_none l (Exit finalize item) k p w says e = says
-bears_none l (Move if_present item) k p w says e = says
+bears_none l (Exit finalize item queue) k p w says e = says
+bears_none l (Move if_present item queue) k p w says e = says
 
 -- a task that enters drops none
 pub drops_none : (l : Limits) (task : Task) (k : ℕ) (ended : Bool) (w : Records) → IsJudgedTo l task (Dropped k ended) w → enters task ≡ true → ⊥
-drops_none l (Enter counter item) k ended w says e = says
+drops_none l (Enter counter item queue) k ended w says e = says
 drops_none l (Leave holding) k ended w says e = false≢true e
-drops_none l (Exit finalize item) k ended w says e = false≢true e
-drops_none l (Move if_present item) k ended w says e = false≢true e
+drops_none l (Exit finalize item queue) k ended w says e = false≢true e
+drops_none l (Move if_present item queue) k ended w says e = false≢true e
 
 moved_both : (task : Task) (c : Counters) → ◌≡◌ {A = Counters} (record { structured = moved_by Structured task c.structured; dynamic = moved_by Dynamic task c.dynamic }) (recount task c)
-moved_both (Enter Structured item) c = refl
-moved_both (Enter Dynamic item) c = refl
+moved_both (Enter Structured item queue) c = refl
+moved_both (Enter Dynamic item queue) c = refl
 moved_both (Leave holding) c = refl
-moved_both (Exit true item) c = refl
-moved_both (Exit false item) c = refl
-moved_both (Move if_present item) c = refl
+moved_both (Exit true item queue) c = refl
+moved_both (Exit false item queue) c = refl
+moved_both (Move if_present item queue) c = refl
 
 both_by : (b : Bool) (task : Task) (s d s' d' : ℕ) → s' ≡ cond b (moved_by Structured task s) s → d' ≡ cond b (moved_by Dynamic task d) d
     → ◌≡◌ {A = Counters} (record { structured = s'; dynamic = d' }) (cond b (recount task (record { structured = s; dynamic = d })) (record { structured = s; dynamic = d }))
@@ -87,7 +88,7 @@ new_is task k s = (recounted_keeps task).section (bare_range s k)
 -- where a section lies after the step of a task that enters
 found-step : (l : Limits) (task : Task) (step : Step) (w : Records) (s : Section) → IsJudgedTo l task step w → enters task ≡ true
     → found_by s (where_is s w.ranges) task step ≡ where_is s (act_step task step w).ranges
-unfolding act_step with_range_changed records_after_birth
+unfolding act_step act_row with_range_changed records_after_birth
 found-step l task Nothing w s says none = refl
 found-step l task (Counted k) w s says none = sym (where_is-changed (recounted task) (recounted_keeps task).section (recounted_keeps task).block s k w.ranges)
 found-step l task (Born k p) w s says none =
@@ -103,7 +104,7 @@ found-step l task (Moved k) w s says none = refl
 -- where a section lies apart from ended ranges, before the step of one that does not and after it
 apart-step : (l : Limits) (task : Task) (step : Step) (w : Records) (s : Section) (ended : List ℕ) → IsJudgedTo l task step w → enters task ≡ false
     → where_is_apart s (end_by step ++ ended) w.ranges ≡ where_is_apart s ended (act_step task step w).ranges
-unfolding act_step with_range_changed records_after_end
+unfolding act_step act_row with_range_changed records_after_end released
 apart-step l task Nothing w s ended says none = refl
 apart-step l task (Counted k) w s ended says none = sym (apart-changed (recounted task) (recounted_keeps task).section (recounted_keeps task).block s ended k w.ranges)
 apart-step l task (Born k p) w s ended says none = absurd (bears_none l task k p w says none)
@@ -123,7 +124,7 @@ record IsBornBy (task : Task) (step : Step) (w v : Records) : Type 0 where
   births : v.births ≡ w.births + length (birth_by task step)
 
 born-step : (l : Limits) (task : Task) (step : Step) (w : Records) → IsJudgedTo l task step w → enters task ≡ true → IsBornBy task step w (act_step task step w)
-unfolding act_step with_range_changed records_after_birth
+unfolding act_step act_row with_range_changed records_after_birth
 born-step l task Nothing w says none = record { blocks = sym (append-nil w.blocks); births = omega arith }
 born-step l task (Counted k) w says none = record { blocks = sym (append-nil w.blocks); births = omega arith }
 born-step l task (Born k p) w says none =
@@ -155,7 +156,7 @@ pub sound-after : (l : Limits) (n : ℕ) (xs : List Acted) (w : Records) → IsW
 unfolding act_all
 sound-after l n [] w bounds h judged = h
 sound-after l n (x ∷ xs) w bounds h judged =
-    let left = task_left l x.task x.did w bounds h (task_says l n x.task w x.did.step judged.0) judged.1 in
+    let left = task_left l x.task x.did w bounds h (task_says l n x.task w x.did.step judged.0) (step_judged l n x.task w x.did.step judged.0).room judged.1 in
     sound-after l (suc n) xs (act x.task x.did w) bounds left.sound judged.2
 
 -- both counters of a block after tasks
@@ -164,7 +165,7 @@ pub counters-after : (l : Limits) (n : ℕ) (xs : List Acted) (w : Records) (b :
 unfolding act_all
 counters-after l n [] w b bounds h judged = refl
 counters-after l n (x ∷ xs) w b bounds h judged =
-    let left = task_left l x.task x.did w bounds h (task_says l n x.task w x.did.step judged.0) judged.1 in
+    let left = task_left l x.task x.did w bounds h (task_says l n x.task w x.did.step judged.0) (step_judged l n x.task w x.did.step judged.0).room judged.1 in
     ap (λ c. counters_over b c xs) (sym (counters-left x.task x.did.step b w.ranges (act x.task x.did w).ranges (λ c. left.counter_is c b)))
     ∙ counters-after l (suc n) xs (act x.task x.did w) b bounds left.sound judged.2
 

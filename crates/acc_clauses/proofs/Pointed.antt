@@ -16,13 +16,14 @@ use Rattle.acc_base.specs.Results.{◌>>=◌}
 use Rattle.acc_base.specs.Limits.{Limits}
 use Rattle.acc_base.specs.Records.{Records, State}
 use Rattle.acc_base.specs.Clauses.{is_attach, pointer_checked}
-use Rattle.acc_base.specs.Tasks.{pointer_of, checked, is_action, pointer_aimed, did_of, judge_step}
+use Rattle.acc_base.specs.Tasks.{pointer_of, checked}
+use Rattle.acc_base.specs.Steps.{is_action, pointer_aimed, did_of, judge_row, judge_step}
 use Rattle.acc_base.specs.Bytes.{step_state}
 use Rattle.acc_base.specs.Pointers.{aimed, judge_release}
 use Rattle.acc_base.specs.Acting.{attach_if, detach_if, judge_aim, judge_task, act_state}
 use Rattle.acc_base.specs.History.{IsAimLegal}
 use Rattle.acc_base.proofs.Results.{then_ok}
-use Rattle.acc_base.proofs.Judged.{pointer_checked_by}
+use Rattle.acc_base.proofs.Judged.{step_judged, pointer_checked_by}
 use Rattle.acc_clauses.specs.declared.acted.Acted.{Acted}
 use Rattle.acc_clauses.specs.Overlays.{IsPlanned, enters, records_after, state_after}
 use Rattle.acc_clauses.specs.Planned.{IsJudgedNext}
@@ -60,16 +61,16 @@ both_judged l n xs ys task step aim s e f more = record { did = record { step = 
 -- pointers are left alone so far
 half_state : (task : Task) (step : Step) (s : State) → enters task ≡ true → act_state task (did_of step) s ≡ step_state task step s
 unfolding act_state aimed
-half_state (Enter counter item) step s entry = refl
+half_state (Enter counter item queue) step s entry = refl
 half_state (Leave holding) step s entry = absurd (false≢true entry)
-half_state (Exit finalize item) step s entry = absurd (false≢true entry)
-half_state (Move if_present item) step s entry = absurd (false≢true entry)
+half_state (Exit finalize item queue) step s entry = absurd (false≢true entry)
+half_state (Move if_present item queue) step s entry = absurd (false≢true entry)
 
 half_legal : (l : Limits) (task : Task) (step : Step) (w : Records) → enters task ≡ true → IsAimLegal l task (did_of step) w
-half_legal l (Enter counter item) step w entry = tt
+half_legal l (Enter counter item queue) step w entry = tt
 half_legal l (Leave holding) step w entry = absurd (false≢true entry)
-half_legal l (Exit finalize item) step w entry = absurd (false≢true entry)
-half_legal l (Move if_present item) step w entry = absurd (false≢true entry)
+half_legal l (Exit finalize item queue) step w entry = absurd (false≢true entry)
+half_legal l (Move if_present item queue) step w entry = absurd (false≢true entry)
 
 pub half_planned : (l : Limits) (n : ℕ) (xs ys : List Acted) (task : Task) (step : Step) (w : Records) → enters task ≡ true → n ≡ length xs → IsPlanned l xs w
     → judge_step l n task (records_after xs w) ≡ Ok step → ys ≡ xs ++ record { task = task; did = did_of step } ∷ [] → IsPlanned l ys w
@@ -78,22 +79,22 @@ half_planned l n xs ys task step w entry at p e more =
 
 -- the pointer to be attached was checked
 pub aimed_checked : (l : Limits) (n : ℕ) (task : Task) (step : Step) (w : Records) (pointer : ℕ) → enters task ≡ true → judge_step l n task w ≡ Ok step → pointer_aimed task step ≡ Some pointer → pointer_checked l n (Some pointer) ≡ Ok tt
-unfolding judge_step
-aimed_checked l n (Enter counter item) step w pointer entry e named = go (is_attach item.clause || is_action step) named
+unfolding judge_row
+aimed_checked l n (Enter counter item queue) step w pointer entry e named = go (is_attach item.clause || is_action step) named
   where
-    go : (b : Bool) → cond b (pointer_of (Enter counter item)) None ≡ Some pointer → pointer_checked l n (Some pointer) ≡ Ok tt
-    go true is = let all = pointer_checked_by l n (Enter counter item) (then_ok (checked l n (Enter counter item)) _ step e).0 in rw is at all
+    go : (b : Bool) → cond b (pointer_of (Enter counter item queue)) None ≡ Some pointer → pointer_checked l n (Some pointer) ≡ Ok tt
+    go true is = let all = pointer_checked_by l n (Enter counter item queue) (then_ok (checked l n (Enter counter item queue)) _ step (step_judged l n (Enter counter item queue) w step e).row).0 in rw is at all
     go false is = cc
 aimed_checked l n (Leave holding) step w pointer entry e named = absurd (false≢true entry)
-aimed_checked l n (Exit finalize item) step w pointer entry e named = absurd (false≢true entry)
-aimed_checked l n (Move if_present item) step w pointer entry e named = absurd (false≢true entry)
+aimed_checked l n (Exit finalize item queue) step w pointer entry e named = absurd (false≢true entry)
+aimed_checked l n (Move if_present item queue) step w pointer entry e named = absurd (false≢true entry)
 
 aim_entered : (l : Limits) (n : ℕ) (task : Task) (step : Step) (s : State) → enters task ≡ true → judge_aim l n task step s ≡ attach_if l n (pointer_aimed task step) (step_state task step s)
 unfolding judge_aim
-aim_entered l n (Enter counter item) step s entry = refl
+aim_entered l n (Enter counter item queue) step s entry = refl
 aim_entered l n (Leave holding) step s entry = absurd (false≢true entry)
-aim_entered l n (Exit finalize item) step s entry = absurd (false≢true entry)
-aim_entered l n (Move if_present item) step s entry = absurd (false≢true entry)
+aim_entered l n (Exit finalize item queue) step s entry = absurd (false≢true entry)
+aim_entered l n (Move if_present item queue) step s entry = absurd (false≢true entry)
 
 -- its pointer is judged in what its step left
 pub entry_aim : (l : Limits) (n : ℕ) (xs ys : List Acted) (task : Task) (step : Step) (named : Option ℕ) (s : State) → enters task ≡ true → ys ≡ xs ++ record { task = task; did = did_of step } ∷ [] → pointer_aimed task step ≡ named
@@ -109,12 +110,12 @@ pub left_aim : (l : Limits) (n : ℕ) (xs : List Acted) (task : Task) (holding :
 unfolding judge_aim
 left_aim l n xs task holding step aim s is e = rw (is, e, state_after-records xs s) refl
 
-pub exited_aim : (l : Limits) (n : ℕ) (xs : List Acted) (task : Task) (finalize : Bool) (item : Item ExitClause) (step : Step) (aim : Aim) (s : State)
-    → task ≡ Exit finalize item → aim ≡ detach_if finalize (pointer_aimed (Exit finalize item) step) (records_after xs s.records) → judge_aim l n task step (state_after xs s) ≡ Ok aim
+pub exited_aim : (l : Limits) (n : ℕ) (xs : List Acted) (task : Task) (finalize : Bool) (item : Item ExitClause) (queue : Option ℕ) (step : Step) (aim : Aim) (s : State)
+    → task ≡ Exit finalize item queue → aim ≡ detach_if finalize (pointer_aimed (Exit finalize item queue) step) (records_after xs s.records) → judge_aim l n task step (state_after xs s) ≡ Ok aim
 unfolding judge_aim
-exited_aim l n xs task finalize item step aim s is e = rw (e, is, state_after-records xs s) refl
+exited_aim l n xs task finalize item queue step aim s is e = rw (e, is, state_after-records xs s) refl
 
-pub moved_aim : (l : Limits) (n : ℕ) (xs : List Acted) (task : Task) (if_present : Bool) (item : Item UpdateClause) (step : Step) (aim : Aim) (s : State)
-    → task ≡ Move if_present item → aim ≡ aims.None → judge_aim l n task step (state_after xs s) ≡ Ok aim
+pub moved_aim : (l : Limits) (n : ℕ) (xs : List Acted) (task : Task) (if_present : Bool) (item : Item UpdateClause) (queue : Option ℕ) (step : Step) (aim : Aim) (s : State)
+    → task ≡ Move if_present item queue → aim ≡ aims.None → judge_aim l n task step (state_after xs s) ≡ Ok aim
 unfolding judge_aim
-moved_aim l n xs task if_present item step aim s is e = rw (is, e) refl
+moved_aim l n xs task if_present item queue step aim s is e = rw (is, e) refl

@@ -1,5 +1,5 @@
 -- What a task is judged to do, its step and what becomes of its pointer, can be done, and leaves the parts sound.
-use Rattle.std.proofs.Common.{ℕ, ◌≡◌, ◌<◌, ◌^◌, refl, sym, ◌∙◌, ap, subst, Bool, true, false, cond, Option, Some, None, arith}
+use Rattle.std.proofs.Common.{ℕ, ◌≡◌, ◌<◌, ◌^◌, refl, sym, ◌∙◌, ap, subst, Bool, true, false, cond, Option, Some, None, Ok, arith}
 use Rattle.std.specs.Prelude.{◌==◌}
 use Rattle.std.proofs.lemmas.Bool.Decides.{nat_tests}
 use Rattle.acc_base.specs.declared.mappings.Found.{Found}
@@ -16,22 +16,24 @@ use Rattle.acc_base.specs.declared.events.Step.{Step}
 use Rattle.acc_base.specs.Limits.{Limits, IsWithinBounds}
 use Rattle.acc_base.specs.Records.{Records, State}
 use Rattle.acc_base.specs.Ranges.{where_is}
+use Rattle.acc_base.specs.Tasks.{queue_of}
+use Rattle.acc_base.specs.Transfers.{transfer_of, room_for}
 use Rattle.acc_base.specs.Bytes.{step_state}
 use Rattle.acc_base.specs.Attachments.{pointer_at, count_at, detach}
 use Rattle.acc_base.specs.Pointers.{block_in, block_with, detach_there, judge_detach, release_there, judge_release, aimed}
-use Rattle.acc_base.specs.Tasks.{pointer_aimed, records_aimed}
+use Rattle.acc_base.specs.Steps.{pointer_aimed, records_aimed}
 use Rattle.acc_base.specs.Acting.{detach_if, act_state}
 use Rattle.acc_base.specs.History.{IsAttachLegal}
 use Rattle.acc_base.specs.Accounts.{AreRecordsSound, AreMemoriesSized}
 use Rattle.acc_base.proofs.Results.{equal}
-use Rattle.acc_base.proofs.Judged.{IsJudgedTo, task_says}
-use Rattle.acc_base.proofs.Sound.{acted_sound}
+use Rattle.acc_base.proofs.Judged.{IsJudgedTo, task_says, step_judged}
+use Rattle.acc_base.proofs.Puts.{acted_sound}
 use Rattle.acc_base.proofs.Aimed.{leave_sound, exit_sound, move_sound, says_aimed, task_left}
 use Rattle.acc_base.proofs.Walked.{records-act_state}
 use Rattle.acc_base.proofs.Memories.{step_sized, aimed_sized, act_sized}
 use Rattle.acc_clauses.specs.declared.environments.Environment.{Environment}
 use Rattle.acc_clauses.specs.Contents.{state_of, AreSizedBy, ArePartsSound}
-use Rattle.acc_clauses.specs.Acts.{IsJudged, IsMappedAround, IsKnown, CanMove, CanAct, CanDetach, CanAim, CanEnter, CanLeave, CanDo, IsDoneBy}
+use Rattle.acc_clauses.specs.Acts.{IsJudged, IsMappedAround, IsKnown, CanMove, CanAct, CanDetach, CanAim, CanEnter, CanLeave, CanQueue, CanDo, IsDoneBy}
 use Rattle.acc_clauses.proofs.Legal.{mapped_around, can_move, can_by}
 
 -- ---- what each attachment and each detachment needs
@@ -103,7 +105,14 @@ pub record IsReady (l : Limits) (s : State) (task : Task) (did : Did) : Type 0 w
 says : (l : Limits) (s : State) (task : Task) (did : Did) → IsReady l s task did → IsJudgedTo l task did.step s.records
 says l s task did h = task_says l h.judged.item task s.records did.step h.judged.step
 
+-- the queue of its transfer has room for it
+has_queue : (l : Limits) (s : State) (task : Task) (did : Did) → IsReady l s task did → room_for l.queue_cap (queue_of task) (transfer_of task did.step s.records.ranges) s.records.queues ≡ Ok tt
+has_queue l s task did h = (step_judged l h.judged.item task s.records did.step h.judged.step).room
+
 -- with the limits of the parts
+sized_queue : (l : Limits) (x : Environment) (task : Task) (did : Did) → AreSizedBy l x → IsReady l (state_of x 0) task did → CanQueue task did.step x
+sized_queue l x task did sized h = subst (λ n. room_for n (queue_of task) (transfer_of task did.step x.present.table.ranges) x.queues.queues ≡ Ok tt) (sym sized.queues) (has_queue l (state_of x 0) task did h)
+
 sized_step : (l : Limits) (x : Environment) (s : State) (task : Task) (step : Step) → AreSizedBy l x → CanAct l.counter_max l.device task step s → CanAct x.present.table.counter_max x.device.size task step s
 sized_step l x s task step sized can = subst (λ n. CanAct x.present.table.counter_max n task step s) (sym sized.device) (subst (λ n. CanAct n l.device task step s) (sym sized.counters) can)
 
@@ -112,10 +121,10 @@ sized_aim l x s aim sized can = subst (λ n. CanAim n aim s) (sym sized.pointers
 
 -- what is known of a task does not read the attachment counters
 known_aimed : (w : Records) (aim : Aim) (task : Task) → IsKnown w task → IsKnown (records_aimed aim w) task
-known_aimed w aim (Enter counter item) known = tt
+known_aimed w aim (Enter counter item queue) known = tt
 known_aimed w aim (Leave holding) known = λ k e. let around : IsMappedAround w holding.item.section k = known k e in record { range = around.range; range_is = around.range_is; within = around.within }
-known_aimed w aim (Exit finalize item) known = tt
-known_aimed w aim (Move if_present item) known = tt
+known_aimed w aim (Exit finalize item queue) known = tt
+known_aimed w aim (Move if_present item queue) known = tt
 
 -- after a detachment the step can be done
 can_leave : (l : Limits) (x : Environment) (task : Task) (did : Did) → AreSizedBy l x → IsReady l (state_of x 0) task did → CanAim l.counter_max did.aim (state_of x 0) → AreRecordsSound l (records_aimed did.aim (state_of x 0).records) → CanLeave x task did
@@ -126,27 +135,29 @@ can_leave l x task did sized h can later =
       aim = sized_aim l x s did.aim sized can;
       step = sized_step l x (aimed did.aim s) task did.step sized
           (can_by l (aimed did.aim s) task did.step h.bounds later (aimed_sized l did.aim s h.sized) h.few (known_aimed s.records did.aim task h.known) (says_aimed l task did.step did.aim s.records (says l s task did h)));
+      queue = sized_queue l x task did sized h;
     }
 
-can_enter : (l : Limits) (x : Environment) (counter : Counter) (item : Item RegionClause) (did : Did) → AreSizedBy l x → IsReady l (state_of x 0) (Enter counter item) did → CanEnter x (Enter counter item) did
+can_enter : (l : Limits) (x : Environment) (counter : Counter) (item : Item RegionClause) (queue : Option ℕ) (did : Did) → AreSizedBy l x → IsReady l (state_of x 0) (Enter counter item queue) did → CanEnter x (Enter counter item queue) did
 unfolding step_state
-can_enter l x counter item did sized h =
+can_enter l x counter item queue did sized h =
     let s : State = state_of x 0 in
-    let task : Task = Enter counter item in
+    let task : Task = Enter counter item queue in
     record {
       step = sized_step l x s task did.step sized (can_by l s task did.step h.bounds h.sound h.sized h.few h.known (says l s task did h));
       aim = sized_aim l x (step_state task did.step s) did.aim sized
-          (can_attach l (step_state task did.step s) (pointer_aimed task did.step) did.aim h.bounds (acted_sound l task did.step s.records h.bounds (says l s task did h) h.sound) (step_sized l task did.step s h.sized) h.judged.aim);
+          (can_attach l (step_state task did.step s) (pointer_aimed task did.step) did.aim h.bounds (acted_sound l task did.step s.records h.bounds (says l s task did h) (has_queue l s task did h) h.sound) (step_sized l task did.step s h.sized) h.judged.aim);
+      queue = sized_queue l x task did sized h;
     }
 
 can_of : (l : Limits) (x : Environment) (task : Task) (did : Did) → AreSizedBy l x → IsReady l (state_of x 0) task did → CanDo x task did
-can_of l x (Enter counter item) did sized h = can_enter l x counter item did sized h
+can_of l x (Enter counter item queue) did sized h = can_enter l x counter item queue did sized h
 can_of l x (Leave holding) did sized h = can_leave l x (Leave holding) did sized h
     (subst (λ a. CanAim l.counter_max a (state_of x 0)) (sym h.judged.aim) (can_release l (state_of x 0) holding.aim h.bounds h.sound h.sized)) (leave_sound l holding did (state_of x 0).records h.sound h.judged.aim)
-can_of l x (Exit finalize item) did sized h = can_leave l x (Exit finalize item) did sized h
-    (subst (λ a. CanAim l.counter_max a (state_of x 0)) (sym h.judged.aim) (can_judged l (state_of x 0) finalize (pointer_aimed (Exit finalize item) did.step) h.bounds h.sound h.sized)) (exit_sound l finalize item did (state_of x 0).records h.sound h.judged.aim)
-can_of l x (Move if_present item) did sized h = can_leave l x (Move if_present item) did sized h
-    (subst (λ a. CanAim l.counter_max a (state_of x 0)) (sym h.judged.aim) tt) (move_sound l if_present item did (state_of x 0).records h.sound h.judged.aim)
+can_of l x (Exit finalize item queue) did sized h = can_leave l x (Exit finalize item queue) did sized h
+    (subst (λ a. CanAim l.counter_max a (state_of x 0)) (sym h.judged.aim) (can_judged l (state_of x 0) finalize (pointer_aimed (Exit finalize item queue) did.step) h.bounds h.sound h.sized)) (exit_sound l finalize item queue did (state_of x 0).records h.sound h.judged.aim)
+can_of l x (Move if_present item queue) did sized h = can_leave l x (Move if_present item queue) did sized h
+    (subst (λ a. CanAim l.counter_max a (state_of x 0)) (sym h.judged.aim) tt) (move_sound l if_present item queue did (state_of x 0).records h.sound h.judged.aim)
 
 pub can_do : (l : Limits) (x : Environment) (next : ℕ) (task : Task) (did : Did) → IsWithinBounds l → ArePartsSound l x next → x.device.births < 2 ^ 48
     → IsKnown (state_of x next).records task → IsJudged l task did (state_of x next).records → CanDo x task did
@@ -165,7 +176,7 @@ can_do l x next task did bounds sound few known judged = can_of l x task did sou
 done_sound : (l : Limits) (s : State) (task : Task) (did : Did) → IsWithinBounds l → AreRecordsSound l s.records → AreMemoriesSized l s → IsJudged l task did s.records
     → AreRecordsSound l (act_state task did s).records × AreMemoriesSized l (act_state task did s)
 done_sound l s task did bounds h m judged = (
-  subst (AreRecordsSound l) (sym (records-act_state task did s)) (task_left l task did s.records bounds h (task_says l judged.item task s.records did.step judged.step) judged.aim).sound,
+  subst (AreRecordsSound l) (sym (records-act_state task did s)) (task_left l task did s.records bounds h (task_says l judged.item task s.records did.step judged.step) (step_judged l judged.item task s.records did.step judged.step).room judged.aim).sound,
   act_sized l task did s m,
 )
 
@@ -176,6 +187,7 @@ parts_sound l x y next task did bounds sound judged done =
     let there : AreRecordsSound l (state_of y next).records × AreMemoriesSized l (state_of y next) =
     subst (λ (s : State). AreRecordsSound l s.records × AreMemoriesSized l s) (sym (done.state next)) after in
     record {
-      sized = record { counters = done.counter_max ∙ sound.sized.counters; device = done.size ∙ sound.sized.device; pointers = done.pointer_max ∙ sound.sized.pointers };
+      sized = record { counters = done.counter_max ∙ sound.sized.counters; device = done.size ∙ sound.sized.device; pointers = done.pointer_max ∙ sound.sized.pointers; queues = done.queue_cap ∙ sound.sized.queues };
       sound = record { records = there.0; memories = there.1 };
+      marked = done.marked;
     }

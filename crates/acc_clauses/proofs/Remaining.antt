@@ -16,15 +16,16 @@ use Rattle.acc_base.proofs.Walked.{records-act_state}
 use Rattle.acc_base.proofs.SameMapping.{mapping-act}
 use Rattle.acc_clauses.proofs.Legal.{birth_len}
 use Rattle.acc_base.specs.Records.{Records, State}
-use Rattle.acc_base.specs.Tasks.{section_of, act_step, act, records_after_birth, records_after_end, with_range_changed}
+use Rattle.acc_base.specs.Tasks.{section_of}
+use Rattle.acc_base.specs.Steps.{act_row, act_step, act, released, records_after_birth, records_after_end, with_range_changed}
 use Rattle.acc_base.specs.Acting.{act_state, act_all_state}
 use Rattle.acc_base.specs.History.{AreJudged}
 use Rattle.acc_clauses.specs.declared.acted.Acted.{Acted}
 use Rattle.acc_base.specs.declared.regions.Holding.{Holding}
 use Rattle.acc_clauses.specs.Planned.{holdings_by}
-use Rattle.acc_clauses.specs.Overlays.{tasks_in, dids_in}
+use Rattle.acc_clauses.specs.Overlays.{tasks_in, dids_in, puts_by, puts_in}
 use Rattle.acc_clauses.specs.Contents.{Contents}
-use Rattle.acc_clauses.specs.Acts.{IsJudged, AreKnown, HasRoomFor, IsRoomLeft, birth_of, lens_born, pointers_of, pointers_in}
+use Rattle.acc_clauses.specs.Acts.{IsJudged, AreKnown, HasRoomFor, HasPutRoom, IsRoomLeft, birth_of, lens_born, pointers_of, pointers_in}
 
 -- these tasks can be done, one after the other
 pub record CanRun (l : Limits) (tasks : List Task) (dids : List Did) (c : Contents) : Type 0 where
@@ -34,6 +35,7 @@ pub record CanRun (l : Limits) (tasks : List Task) (dids : List Did) (c : Conten
   pub known : AreKnown tasks dids c.state.records
   pub room : HasRoomFor (lens_born tasks dids) c.room
   pub pointers : pointers_in dids ≤ c.room.attachments
+  pub puts : HasPutRoom (λ q. puts_in q tasks dids) c.room
 
 -- the first of them
 pub first_judged : (l : Limits) (task : Task) (tasks : List Task) (did : Did) (dids : List Did) (c : Contents) → CanRun l (task ∷ tasks) (did ∷ dids) c → IsJudged c.limits task did c.state.records
@@ -49,8 +51,11 @@ first_room l task tasks did dids c h = record {
   ranges = omega (arith, h.room.ranges, length-append (birth_of task did.step) (lens_born tasks dids));
 }
 
+pub first_puts : (l : Limits) (task : Task) (tasks : List Task) (did : Did) (dids : List Did) (c : Contents) → CanRun l (task ∷ tasks) (did ∷ dids) c → HasPutRoom (λ q. puts_by q task did.step) c.room
+first_puts l task tasks did dids c h = λ q. omega (arith, h.puts q)
+
 births_step : (task : Task) (step : Step) (w : Records) → (act_step task step w).births ≤ w.births + 1
-unfolding act_step records_after_birth records_after_end with_range_changed
+unfolding act_step act_row released records_after_birth records_after_end with_range_changed
 births_step task Nothing w = omega arith
 births_step task (Counted k) w = omega arith
 births_step task (Born k p) w = omega arith
@@ -65,7 +70,7 @@ same_rest (x ∷ xs) ys zs e = same_rest xs ys zs (cc)
 
 -- the others, after the first
 pub rest_can : (l : Limits) (task : Task) (tasks : List Task) (did : Did) (dids : List Did) (c e : Contents) → CanRun l (task ∷ tasks) (did ∷ dids) c → e.limits ≡ c.limits → e.state ≡ act_state task did c.state
-    → IsRoomLeft (birth_of task did.step) (pointers_of did.aim) c.room e.room → CanRun l tasks dids e
+    → IsRoomLeft (birth_of task did.step) (pointers_of did.aim) (λ q. puts_by q task did.step) c.room e.room → CanRun l tasks dids e
 rest_can l task tasks did dids c e h limits state room =
     let records : e.state.records ≡ act task did c.state.records = ap (λ (s : State). s.records) state ∙ records-act_state task did c.state in
     record {
@@ -79,6 +84,7 @@ rest_can l task tasks did dids c e h limits state room =
         ranges = omega (arith, h.room.ranges, room.ranges, length-append (birth_of task did.step) (lens_born tasks dids));
       };
       pointers = omega (arith, h.pointers, room.attachments);
+      puts = λ q. omega (arith, h.puts q, room.puts q);
     }
 
 -- at most one block is born by a step
@@ -111,10 +117,10 @@ holdings_done acts i holdings all h e = let none : drop i acts ≡ [] = drop_all
 birth_fits : (l : Limits) (task : Task) (step : Step) (w : Records) → IsWithinBounds l → IsJudgedTo l task step w → AllByRecursion (IsFromOne MEMORY_MAX) (birth_of task step)
 birth_fits l task Nothing w bounds says = tt
 birth_fits l task (Counted k) w bounds says = tt
-birth_fits l (Enter counter item) (Born k p) w bounds says = (birth_len l (section_of (Enter counter item)) k p w bounds says, tt)
+birth_fits l (Enter counter item queue) (Born k p) w bounds says = (birth_len l (section_of (Enter counter item queue)) k p w bounds says, tt)
 birth_fits l (Leave holding) (Born k p) w bounds says = absurd says
-birth_fits l (Exit finalize item) (Born k p) w bounds says = absurd says
-birth_fits l (Move if_present item) (Born k p) w bounds says = absurd says
+birth_fits l (Exit finalize item queue) (Born k p) w bounds says = absurd says
+birth_fits l (Move if_present item queue) (Born k p) w bounds says = absurd says
 birth_fits l task (Dropped k ended) w bounds says = tt
 birth_fits l task (Moved k) w bounds says = tt
 

@@ -1,46 +1,36 @@
--- What each step leaves of the parts.
-use Rattle.std.proofs.Common.{ℕ, ◌≡◌, ◌+◌, ◌-◌, ◌<◌, ◌≤◌, refl, sym, ◌∙◌, ap, subst, Bool, true, false, cond, List, [], ◌∷◌, ◌++◌, length, replicate, map, Option, Some, None, arith}
+-- What the steps of items leave of the parts that change counters, and what all steps need of the present table.
+use Rattle.std.proofs.Common.{ℕ, ◌≡◌, ◌-◌, ◌<◌, refl, sym, ◌∙◌, ap, subst, Bool, true, false, cond, List, [], ◌∷◌, map, Option, Some, None, arith}
 use Rattle.std.specs.Prelude.{◌==◌, not, nat_lt, unwrap_or, option_map, IsSome}
-use Rattle.std.specs.List.{AllByRecursion, AllZip}
-use Rattle.std.proofs.lemmas.Bool.Decides.{nat_tests}
+use Rattle.std.specs.List.{AllByRecursion}
 use Rattle.acc_base.specs.declared.items.Section.{Section}
 use Rattle.acc_base.specs.declared.items.Item.{Item}
-use Rattle.acc_base.specs.declared.items.RegionClause.{RegionClause}
 use Rattle.acc_base.specs.declared.items.UpdateClause.{UpdateClause}
 use Rattle.acc_base.specs.declared.mappings.Counter.{Counter}
 use Rattle.acc_base.specs.declared.mappings.Counter.TheVariants.{Structured, Dynamic}
 use Rattle.acc_base.specs.declared.mappings.Range.{Range}
-use Rattle.acc_base.specs.declared.mappings.Block.{Block}
-use Rattle.acc_base.specs.declared.attachments.Attachment.{Attachment}
 use Rattle.acc_base.specs.declared.tasks.Task.{Task}
-use Rattle.acc_base.specs.declared.tasks.Task.TheVariants.{Enter, Leave, Exit, Move}
-use Rattle.acc_base.specs.declared.tasks.Transfer.{Transfer}
-use Rattle.acc_base.specs.declared.events.Step.TheVariants.{Nothing, Counted, Born, Dropped, Moved}
-use Rattle.acc_base.specs.Section.{covers, is_within, host_memory}
-use Rattle.acc_base.specs.Records.{Memory, State}
-use Rattle.acc_base.specs.Ranges.{range_of, start_of, changed_at, with_range, without_range, bare_range, risen, counter_in, counter_of, is_unused, ends_by}
-use Rattle.acc_base.specs.Attachments.{without_attachments}
-use Rattle.acc_base.specs.Clauses.{copies_in, copies_out, is_copyout, is_zeroed}
-use Rattle.acc_base.specs.Tasks.{section_of, recounted, act_step, records_after_birth, records_after_end, with_range_changed}
-use Rattle.acc_base.specs.Bytes.{bytes_of, fill_byte, gives_bytes, goes_out, host_byte, is_moved, bytes_moved_in, bytes_moved_out, memory_changed, memories_kept, without_memory, memories_begun, memories_made, host_made, first_address, transfer_at, transfer_of, step_state}
-use Rattle.acc_base.specs.Accounts.{IsMemoryOf}
+use Rattle.acc_base.specs.declared.tasks.Task.TheVariants.{Move}
+use Rattle.acc_base.specs.declared.transfers.Transfer.{Transfer}
+use Rattle.acc_base.specs.declared.events.Step.TheVariants.{Nothing, Counted, Dropped}
+use Rattle.acc_base.specs.Records.{State}
+use Rattle.acc_base.specs.Ranges.{range_of, changed_at, with_range, without_range, bare_range, counter_in, counter_of, is_unused, ends_by}
+use Rattle.acc_base.specs.Tasks.{queue_of, recounted}
+use Rattle.acc_base.specs.Transfers.{at_once, queues_after}
+use Rattle.acc_base.specs.Steps.{act_row, act_step, with_range_changed}
+use Rattle.acc_base.specs.Bytes.{step_state}
 use Rattle.acc_base.proofs.Results.{equal, equal_self, and_true}
 use Rattle.acc_base.proofs.Lookups.{at-none, at-changed}
 use Rattle.acc_base.proofs.Counting.{with_same, with_new}
 use Rattle.acc_base.proofs.Sound.{counter_is}
-use Rattle.acc_base.proofs.KeptMemories.{memories_kept-without}
-use Rattle.acc_base.proofs.Memories.{recounted-block, recounted-section}
-use Rattle.acc_base.proofs.Pointers.{fresh-clear}
-use Rattle.acc_host.specs.Host.{bytes_in}
+use Rattle.acc_base.proofs.Memories.{recounted-block}
 use Rattle.acc_present.specs.Present.{PresentTable, PresentState, with_ranges}
 use Rattle.acc_present.specs.Present as present
-use Rattle.acc_dev.specs.Device.{DeviceState, IsRetired}
-use Rattle.acc_attach.specs.Attached.{AttachedState}
 use Rattle.acc_clauses.specs.declared.environments.Environment.{Environment}
-use Rattle.acc_clauses.specs.Contents.{state_of, room_of}
-use Rattle.acc_clauses.specs.Acts.{CanMove, CanBear, IsMade, bytes_made, IsRoomLeft, IsActedBy}
-use Rattle.acc_clauses.proofs.Runs.{written-same}
-use Rattle.acc_clauses.proofs.Copying.{moved-clear, born_copied, changed-last}
+use Rattle.acc_clauses.specs.Contents.{AreMarked, state_of}
+use Rattle.acc_clauses.specs.Overlays.{puts_by}
+use Rattle.acc_clauses.specs.Acts.{IsChangedBy, IsActedBy}
+use Rattle.acc_clauses.proofs.Changes.{state_by, room_same, none_taken}
+use Rattle.acc_clauses.proofs.Marked.{marks_counted}
 
 -- ---- ranges
 
@@ -91,237 +81,74 @@ without-changed k f (r ∷ rs) h = go (without-changed k f rs h) (r.block == k) 
     go rest true e = let gone : ((f r).block == k) ≡ true = ap (λ (n : ℕ). n == k) (h r) ∙ e in rw gone rest
     go rest false e = rw e (ap (λ xs. r ∷ xs) rest)
 
--- ---- memories
-
--- the new block's memory, with the bytes that a birth by entry gives it
-born_memories : (counter : Counter) (item : Item RegionClause) (k place : ℕ) (ranges : List Range) (attached : List Attachment) (host : List ℕ) (ms : List Memory) → is_within (section_of (Enter counter item)) (host_memory (length host)) ≡ true
-    → AllByRecursion (λ m. m.block ≡ k → ⊥) ms → AllByRecursion (λ a. a.block ≡ k → ⊥) attached
-    → ms ++ record { block = k; bytes = bytes_made (section_of (Enter counter item)) item.clause host } ∷ [] ≡ memories_made (transfer_of (Enter counter item) (Born k place) ranges) attached host (memories_begun (Enter counter item) (Born k place) ms)
-born_memories counter item k place ranges attached host ms in_host new bare = go (copies_in item.clause)
-  where
-    section : Section
-    section = section_of (Enter counter item)
-
-    fill : ℕ
-    fill = fill_byte (is_zeroed item.clause)
-
-    t : Transfer
-    t = record { block = k; offset = 0; section = section; out = false }
-
-    go : (b : Bool) → ms ++ record { block = k; bytes = cond b (bytes_in host section) (replicate section.len fill) } ∷ [] ≡ memories_made (cond b (Some t) None) attached host (ms ++ record { block = k; bytes = replicate section.len fill } ∷ [])
-    go true = sym (changed-last k (bytes_moved_in (is_moved section k attached) host (section.start - 0)) (replicate section.len fill) ms new
-        ∙ ap (λ x. ms ++ record { block = k; bytes = x } ∷ []) (
-        written-same (is_moved section k attached) (covers section) (host_byte host) (section.start - 0) (replicate section.len fill) (λ a. moved-clear section k attached a (fresh-clear k attached bare a))
-        ∙ born_copied section (section.start - 0) fill host in_host (omega arith)))
-    go false = refl
-
--- a birth leaves host memory
-born_host : (counter : Counter) (item : Item RegionClause) (k place : ℕ) (ranges : List Range) (attached : List Attachment) (host : List ℕ) (ms : List Memory) → host ≡ host_made (transfer_of (Enter counter item) (Born k place) ranges) attached ms host
-born_host counter item k place ranges attached host ms = go (copies_in item.clause)
-  where
-    go : (b : Bool) → host ≡ host_made (cond b (Some (record { block = k; offset = 0; section = section_of (Enter counter item); out = false })) None) attached ms host
-    go true = refl
-    go false = refl
-
--- the end of a mapping copies to no block
-ended_memories : (task : Task) (k : ℕ) (ranges : List Range) (attached : List Attachment) (host : List ℕ) (ms : List Memory) → ms ≡ memories_made (transfer_of task (Dropped k true) ranges) attached host ms
-ended_memories (Enter counter item) k ranges attached host ms = refl
-ended_memories (Leave holding) k ranges attached host ms = go (copies_out holding.item.clause)
-  where
-    go : (b : Bool) → ms ≡ memories_made (cond b (Some (transfer_at (Leave holding) k ranges)) None) attached host ms
-    go true = refl
-    go false = refl
-ended_memories (Exit finalize item) k ranges attached host ms = go (is_copyout item.clause)
-  where
-    go : (b : Bool) → ms ≡ memories_made (cond b (Some (transfer_at (Exit finalize item) k ranges)) None) attached host ms
-    go true = refl
-    go false = refl
-ended_memories (Move if_present item) k ranges attached host ms = refl
-
--- ---- transfers of a section that is inside the range of a block
-
--- the range of the block begins at or below the section
-first_low : (section : Section) (k : ℕ) (x : State) → CanMove section k x → start_of k x.records.ranges ≤ section.start
-first_low section k x m =
-    let at : start_of k x.records.ranges ≡ m.range.section.start = ap (λ o. unwrap_or (option_map (λ (t : Range). t.section.start) o) 0) m.range_is in
-    let inside : is_within section m.range.section ≡ true = m.within in
-    grind (arith, nat_tests)
-
-first_is : (task : Task) (k : ℕ) (x : State) → CanMove (section_of task) k x → first_address (transfer_at task k x.records.ranges) ≡ start_of k x.records.ranges
-first_is task k x m = let low : start_of k x.records.ranges ≤ (section_of task).start = first_low (section_of task) k x m in omega (arith, low)
-
--- the section is within the bytes of the block
-pub within_block : (section : Section) (k start : ℕ) (x : State) → CanMove section k x → start ≡ start_of k x.records.ranges → is_within section (record { start = start; len = length (bytes_of k x.memories) }) ≡ true
-within_block section k start x m e =
-    let at : start_of k x.records.ranges ≡ m.range.section.start = ap (λ o. unwrap_or (option_map (λ (t : Range). t.section.start) o) 0) m.range_is in
-    rw (e, at, m.len) m.within
-
 pub is_some : {X : Type 0} (o : Option X) (x : X) → o ≡ Some x → IsSome o
 is_some o x e = rw e refl
 
--- the block of the section is mapped
-pub mapped_of : (section : Section) (k : ℕ) (x : State) → CanMove section k x → IsSome (range_of k x.records.ranges)
-mapped_of section k x m = is_some (range_of k x.records.ranges) m.range m.range_is
+-- ---- steps without a transfer
 
--- a task that gives bytes at the end of a mapping copies out
-gives_out : (task : Task) → gives_bytes task ≡ true → goes_out task ≡ true
-gives_out (Enter counter item) e = cc
-gives_out (Leave holding) e = refl
-gives_out (Exit finalize item) e = refl
-gives_out (Move if_present item) e = cc
+-- nothing is put
+pub none_put : (o : Option ℕ) (queues : List (List Transfer)) → queues_after o None queues ≡ queues
+none_put None queues = refl
+none_put (Some q) queues = refl
 
--- host memory after the end of a mapping that copies
-pub given : (task : Task) (k : ℕ) (x : State) → CanMove (section_of task) k x → gives_bytes task ≡ true
-    → bytes_moved_out (is_moved (section_of task) k x.records.attached) (bytes_of k x.memories) (start_of k x.records.ranges) x.host ≡ host_made (transfer_of task (Dropped k true) x.records.ranges) x.records.attached x.memories x.host
-given task k x m gives = rw (gives, gives_out task gives, first_is task k x m) refl
+-- nor made at once
+pub none_made : (o : Option ℕ) → at_once o None ≡ None
+none_made None = refl
+none_made (Some q) = refl
 
--- and after one that does not
-pub given_none : (task : Task) (k : ℕ) (x : State) → gives_bytes task ≡ false → x.host ≡ host_made (transfer_of task (Dropped k true) x.records.ranges) x.records.attached x.memories x.host
-given_none task k x gives = rw gives refl
-
--- host memory and the memories after an update
-pub updated_out : (task : Task) (k : ℕ) (x : State) → CanMove (section_of task) k x → goes_out task ≡ true
-    → bytes_moved_out (is_moved (section_of task) k x.records.attached) (bytes_of k x.memories) (start_of k x.records.ranges) x.host ≡ host_made (transfer_of task (Moved k) x.records.ranges) x.records.attached x.memories x.host
-updated_out task k x m out = rw (out, first_is task k x m) refl
-
-pub updated_out_memories : (task : Task) (k : ℕ) (x : State) → goes_out task ≡ true → x.memories ≡ memories_made (transfer_of task (Moved k) x.records.ranges) x.records.attached x.host x.memories
-updated_out_memories task k x out = rw out refl
-
-pub updated_in : (task : Task) (k : ℕ) (x : State) → CanMove (section_of task) k x → goes_out task ≡ false
-    → map (memory_changed k (bytes_moved_in (is_moved (section_of task) k x.records.attached) x.host (start_of k x.records.ranges))) x.memories ≡ memories_made (transfer_of task (Moved k) x.records.ranges) x.records.attached x.host x.memories
-updated_in task k x m out = rw (out, first_is task k x m) refl
-
-pub updated_in_host : (task : Task) (k : ℕ) (x : State) → goes_out task ≡ false → x.host ≡ host_made (transfer_of task (Moved k) x.records.ranges) x.records.attached x.memories x.host
-updated_in_host task k x out = rw out refl
-
--- ---- the state of the parts
-
--- the parts come to a state that has the same fields
-pub state_by : (x : Environment) (next : ℕ) (s : State) → x.present.table.ranges ≡ s.records.ranges → x.device.blocks ≡ s.records.blocks → x.attached.attached ≡ s.records.attached → x.device.births ≡ s.records.births
-    → x.present.table.regions ≡ s.register.regions → next ≡ s.register.next → x.host ≡ s.host → x.device.memories ≡ s.memories → state_of x next ≡ s
-state_by x next s a b p c e f g h = rw (a, b, p, c, e, f, g, h) refl
-
--- ---- room
-
--- no room was taken, and the device has what it had
-room_same : (x y : Environment) → present.IsRoomKept x.present.room y.present.room → y.device.room ≡ x.device.room → x.attached.spare ≤ y.attached.spare → IsRoomLeft [] 0 (room_of x) (room_of y)
-room_same x y h same spare = record { births_are = sym same; ranges = omega (arith, h.ranges); regions = h.regions; holdings = h.holdings; attachments = omega (arith, spare) }
-
--- ---- steps
-
-pub nothing_acts : (task : Task) (x : Environment) → IsActedBy task Nothing x x
-unfolding step_state act_step
-nothing_acts task x = record {
-  state = λ next. refl;
+-- the parts stay
+pub stays : (change : State → State) (puts : ℕ → ℕ) (x : Environment) → AreMarked x → ((next : ℕ) → state_of x next ≡ change (state_of x next)) → IsChangedBy change [] 0 puts x x
+stays change puts x marked same = record {
+  state = same;
   counter_max = refl;
   size = refl;
   pointer_max = refl;
-  room = record { births_are = refl; ranges = omega arith; regions = omega arith; holdings = omega arith; attachments = omega arith };
+  queue_cap = refl;
+  room = room_same puts x x (none_taken x.present.room) refl (omega arith) (λ q. omega arith);
+  marked = marked;
 }
 
-pub counted_acts : (task : Task) (k : ℕ) (x : Environment) (q : PresentState) → q.table ≡ with_ranges x.present.table (changed_at k (recounted task) x.present.table.ranges) → present.IsRoomKept x.present.room q.room
-    → IsActedBy task (Counted k) x (record x { present = q })
-unfolding step_state act_step with_range_changed
-counted_acts task k x q e room = record {
-  state = λ next. state_by (record x { present = q }) next (step_state task (Counted k) (state_of x next)) (ap (λ t. t.ranges) e) refl refl refl (ap (λ t. t.regions) e) refl refl refl;
+pub nothing_acts : (task : Task) (x : Environment) → AreMarked x → IsActedBy task Nothing x x
+unfolding step_state act_step act_row
+nothing_acts task x marked = stays (step_state task Nothing) (λ q. puts_by q task Nothing) x marked
+    (λ next. state_by x next (step_state task Nothing (state_of x next)) refl refl refl refl (sym (none_put (queue_of task) x.queues.queues)) refl refl (rw (none_made (queue_of task)) refl) (rw (none_made (queue_of task)) refl))
+
+-- the marks stay right where the counters of a range change
+pub counted_marked : (task : Task) (k : ℕ) (x : Environment) (r : PresentState) → r.table ≡ with_ranges x.present.table (changed_at k (recounted task) x.present.table.ranges) → AreMarked x → AreMarked (record x { present = r })
+counted_marked task k x r e marked = rw e (marks_counted x.present.table.ranges k (recounted task) x.queues.queues x.device.marks (recounted-block task) marked)
+
+-- the counters of a range change, and nothing else
+counts : (change : State → State) (puts : ℕ → ℕ) (task : Task) (k : ℕ) (x : Environment) (r : PresentState) → r.table ≡ with_ranges x.present.table (changed_at k (recounted task) x.present.table.ranges) → present.IsRoomKept x.present.room r.room → AreMarked x
+    → ((next : ℕ) → state_of (record x { present = r }) next ≡ change (state_of x next)) → IsChangedBy change [] 0 puts x (record x { present = r })
+counts change puts task k x r e room marked same = record {
+  state = same;
   counter_max = ap (λ t. t.counter_max) e;
   size = refl;
   pointer_max = refl;
-  room = room_same x (record x { present = q }) room refl (omega arith);
+  queue_cap = refl;
+  room = room_same puts x (record x { present = r }) room refl (omega arith) (λ q. omega arith);
+  marked = counted_marked task k x r e marked;
 }
 
-pub dropped_acts : (task : Task) (k : ℕ) (x : Environment) (q : PresentState) → q.table ≡ with_ranges x.present.table (changed_at k (recounted task) x.present.table.ranges) → present.IsRoomKept x.present.room q.room
-    → IsActedBy task (Dropped k false) x (record x { present = q })
-unfolding step_state act_step with_range_changed
-dropped_acts task k x q e room = record {
-  state = λ next. state_by (record x { present = q }) next (step_state task (Dropped k false) (state_of x next)) (ap (λ t. t.ranges) e) refl refl refl (ap (λ t. t.regions) e) refl refl refl;
-  counter_max = ap (λ t. t.counter_max) e;
-  size = refl;
-  pointer_max = refl;
-  room = room_same x (record x { present = q }) room refl (omega arith);
-}
+pub counted_acts : (task : Task) (k : ℕ) (x : Environment) (r : PresentState) → r.table ≡ with_ranges x.present.table (changed_at k (recounted task) x.present.table.ranges) → present.IsRoomKept x.present.room r.room → AreMarked x
+    → IsActedBy task (Counted k) x (record x { present = r })
+unfolding step_state act_step act_row with_range_changed
+counted_acts task k x r e room marked = counts (step_state task (Counted k)) (λ q. puts_by q task (Counted k)) task k x r e room marked
+    (λ next. state_by (record x { present = r }) next (step_state task (Counted k) (state_of x next)) (ap (λ t. t.ranges) e) refl refl refl (sym (none_put (queue_of task) x.queues.queues)) (ap (λ t. t.regions) e) refl
+    (rw (none_made (queue_of task)) refl) (rw (none_made (queue_of task)) refl))
 
-pub moved_acts : (task : Task) (k : ℕ) (x y : Environment)
-    → (let s : State = state_of x 0 in let t : Option Transfer = transfer_of task (Moved k) s.records.ranges in y ≡ record x { host = host_made t s.records.attached s.memories s.host; device = record x.device { memories = memories_made t s.records.attached s.host s.memories } })
-    → IsActedBy task (Moved k) x y
-unfolding step_state act_step
-moved_acts task k x y is = record {
-  state = λ next. rw is refl;
-  counter_max = rw is refl;
-  size = rw is refl;
-  pointer_max = rw is refl;
-  room = rw is (record { births_are = refl; ranges = omega arith; regions = omega arith; holdings = omega arith; attachments = omega arith });
-}
-
--- two rooms one after the other
-kept_twice : (a b c : present.Room) → present.IsRoomKept a b → present.IsRoomKept b c → present.IsRoomKept a c
-kept_twice a b c h k = record { ranges = omega (arith, h.ranges, k.ranges); regions = omega (arith, h.regions, k.regions); holdings = omega (arith, h.holdings, k.holdings) }
-
-pub ended_acts : (task : Task) (k : ℕ) (x given : Environment) (q r : PresentState) (e : DeviceState) (b : AttachedState) → AllZip IsMemoryOf x.device.memories x.device.blocks
-    → (let s : State = state_of x 0 in given ≡ record x { host = host_made (transfer_of task (Dropped k true) s.records.ranges) s.records.attached s.memories s.host })
-    → q.table ≡ with_ranges given.present.table (changed_at k (recounted task) given.present.table.ranges) → present.IsRoomKept given.present.room q.room → r.table ≡ with_ranges q.table (without_range k q.table.ranges) → present.IsRoomKept q.room r.room
-    → IsRetired given.device e k → b.attached ≡ without_attachments k given.attached.attached → b.counter_max ≡ given.attached.counter_max → given.attached.spare ≤ b.spare
-    → IsActedBy task (Dropped k true) x (record given { present = r; device = e; attached = b })
-unfolding step_state act_step records_after_end
-ended_acts task k x given q r e b sized h count room1 removed room2 end forgot forgot_max forgot_spare =
-    let s : State = state_of x 0 in
-    let counted : q.table ≡ with_ranges x.present.table (changed_at k (recounted task) x.present.table.ranges) = rw h at count in
-    let gone : IsRetired x.device e k = rw h at end in
-    let first_room : present.IsRoomKept x.present.room q.room = rw h at room1 in
-    let spare : x.attached.spare ≤ b.spare = rw h at forgot_spare in
-    let ranges : r.table.ranges ≡ without_range k x.present.table.ranges = ap (λ t. t.ranges) removed ∙ (ap (λ t. without_range k t.ranges) counted ∙ without-changed k (recounted task) x.present.table.ranges (recounted-block task)) in
-    let memories : e.memories ≡ without_memory k (memories_made (transfer_of task (Dropped k true) s.records.ranges) s.records.attached s.host s.memories) =
-    gone.memories ∙ (ap (λ bs. memories_kept bs x.device.memories) gone.blocks ∙ (memories_kept-without k x.device.memories x.device.blocks sized ∙ ap (without_memory k) (ended_memories task k s.records.ranges s.records.attached s.host s.memories))) in
-    record {
-      state = λ next. state_by (record given { present = r; device = e; attached = b }) next (step_state task (Dropped k true) (state_of x next)) ranges gone.blocks (forgot ∙ ap (λ (g : Environment). without_attachments k g.attached.attached) h) gone.births (ap (λ t. t.regions) removed ∙ ap (λ t. t.regions) counted) refl (ap (λ (g : Environment). g.host) h) memories;
-      counter_max = ap (λ t. t.counter_max) removed ∙ ap (λ t. t.counter_max) counted;
-      size = gone.size;
-      pointer_max = forgot_max ∙ ap (λ (g : Environment). g.attached.counter_max) h;
-      room = room_same x (record given { present = r; device = e; attached = b }) (kept_twice x.present.room q.room r.room first_room room2) gone.room spare;
-    }
-
--- a new range with one count
-born_ranges : (counter : Counter) (item : Item RegionClause) (section : Section) (k : ℕ) (p q r : PresentState) → AllByRecursion (λ x. x.block ≡ k → ⊥) p.table.ranges
-    → q.table ≡ with_ranges p.table (with_range (bare_range section k) p.table.ranges) → r.table ≡ with_ranges q.table (changed_at k (risen counter) q.table.ranges)
-    → r.table.ranges ≡ with_range (recounted (Enter counter item) (bare_range section k)) p.table.ranges
-born_ranges counter item section k p q r new put raised =
-    ap (λ t. t.ranges) raised ∙ (ap (λ t. changed_at k (risen counter) t.ranges) put
-    ∙ changed-with k (risen counter) (bare_range section k) p.table.ranges refl (recounted-section (Enter counter item) (bare_range section k)) new)
-
-some_same : (a b : ℕ) (o : Option ℕ) → o ≡ Some a → o ≡ Some b → a ≡ b
-some_same a b o e h = cc
-
--- the block that a birth adds is the one that the definitions name
-born_block : (counter : Counter) (item : Item RegionClause) (section : Section) (k n p q : ℕ) → k ≡ n → p ≡ q
-    → ◌≡◌ {A = Block} (record { number = n; place = q; len = section.len }) (record { number = (recounted (Enter counter item) (bare_range section k)).block; place = p; len = (recounted (Enter counter item) (bare_range section k)).section.len })
-born_block counter item section k n p q e h = rw (recounted-block (Enter counter item) (bare_range section k), recounted-section (Enter counter item) (bare_range section k), e, h) refl
-
-pub born_acts : (counter : Counter) (item : Item RegionClause) (k place : ℕ) (x : Environment) (q r : PresentState) (e : DeviceState) → CanBear x.present.table.counter_max x.device.size (section_of (Enter counter item)) k place (state_of x 0) → IsMade x.device e (section_of (Enter counter item)) item.clause x.host
-    → q.table ≡ with_ranges x.present.table (with_range (bare_range (section_of (Enter counter item)) k) x.present.table.ranges) → x.present.room.ranges ≤ q.room.ranges + 1 → x.present.room.regions ≤ q.room.regions → x.present.room.holdings ≤ q.room.holdings
-    → r.table ≡ with_ranges q.table (changed_at k (risen counter) q.table.ranges) → present.IsRoomKept q.room r.room → IsActedBy (Enter counter item) (Born k place) x (record x { present = r; device = e })
-unfolding step_state act_step records_after_birth
-born_acts counter item k place x q r e can made put ranges regions holdings raised room =
-    let s : State = state_of x 0 in
-    let new : Environment = record x { present = r; device = e } in
-    let where_it_is : place ≡ made.place = some_same place made.place _ can.place_is made.place_is in
-    let blocks : e.blocks ≡ (act_step (Enter counter item) (Born k place) s.records).blocks = made.blocks ∙ ap (λ b. x.device.blocks ++ b ∷ []) (born_block counter item (section_of (Enter counter item)) k (x.device.births + 1) place made.place can.number where_it_is) in
-    let memories : e.memories ≡ memories_made (transfer_of (Enter counter item) (Born k place) s.records.ranges) s.records.attached x.host (memories_begun (Enter counter item) (Born k place) x.device.memories) =
-    made.memories ∙ (ap (λ n. x.device.memories ++ record { block = n; bytes = bytes_made (section_of (Enter counter item)) item.clause x.host } ∷ []) (sym can.number)
-    ∙ born_memories counter item k place s.records.ranges s.records.attached x.host x.device.memories can.in_host can.no_memory can.no_pointer) in
-    record {
-      state = λ next. state_by new next (step_state (Enter counter item) (Born k place) (state_of x next)) (born_ranges counter item (section_of (Enter counter item)) k x.present q r can.no_range put raised) blocks refl made.births
-          (ap (λ t. t.regions) raised ∙ ap (λ t. t.regions) put) refl (born_host counter item k place s.records.ranges s.records.attached x.host x.device.memories) memories;
-      counter_max = ap (λ t. t.counter_max) raised ∙ ap (λ t. t.counter_max) put;
-      size = made.size;
-      pointer_max = refl;
-      room = record { births_are = made.room; ranges = omega (arith, ranges, room.ranges); regions = omega (arith, regions, room.regions); holdings = omega (arith, holdings, room.holdings); attachments = omega arith };
-    }
+pub dropped_acts : (task : Task) (k : ℕ) (x : Environment) (r : PresentState) → r.table ≡ with_ranges x.present.table (changed_at k (recounted task) x.present.table.ranges) → present.IsRoomKept x.present.room r.room → AreMarked x
+    → IsActedBy task (Dropped k false) x (record x { present = r })
+unfolding step_state act_step act_row with_range_changed
+dropped_acts task k x r e room marked = counts (step_state task (Dropped k false)) (λ q. puts_by q task (Dropped k false)) task k x r e room marked
+    (λ next. state_by (record x { present = r }) next (step_state task (Dropped k false) (state_of x next)) (ap (λ t. t.ranges) e) refl refl refl (sym (none_put (queue_of task) x.queues.queues)) (ap (λ t. t.regions) e) refl
+    (rw (none_made (queue_of task)) refl) (rw (none_made (queue_of task)) refl))
 
 -- ---- what the calls on the present table need
 
 -- an update changes no counter
-pub moved_table : (t : PresentTable) (task : Task) (k : ℕ) (if_present : Bool) (item : Item UpdateClause) → task ≡ Move if_present item → t ≡ with_ranges t (changed_at k (recounted task) t.ranges)
-moved_table t task k if_present item e = rw e (ap (with_ranges t) (sym (changed-same_ranges k (λ r. r) t.ranges (λ r. refl))))
+pub moved_table : (t : PresentTable) (task : Task) (k : ℕ) (if_present : Bool) (item : Item UpdateClause) (queue : Option ℕ) → task ≡ Move if_present item queue → t ≡ with_ranges t (changed_at k (recounted task) t.ranges)
+moved_table t task k if_present item queue e = rw e (ap (with_ranges t) (sym (changed-same_ranges k (λ r. r) t.ranges (λ r. refl))))
 
 -- no range has a new number
 pub new_absent : (k : ℕ) (ranges : List Range) → AllByRecursion (λ r. r.block ≡ k → ⊥) ranges → range_of k ranges ≡ None

@@ -7,7 +7,7 @@ use Rattle.acc_base.specs.declared.faults.Fault.{Fault}
 use Rattle.acc_base.specs.Results.{◌>>=◌}
 use Rattle.acc_base.specs.Limits.{Limits}
 use Rattle.acc_base.specs.Records.{Records, State}
-use Rattle.acc_base.specs.Tasks.{act, act_all}
+use Rattle.acc_base.specs.Steps.{act, act_all}
 use Rattle.acc_base.specs.Acting.{judge_task, judge_all, act_state, act_all_state}
 use Rattle.acc_base.specs.History.{AreJudged}
 use Rattle.acc_base.proofs.Walked.{records-act_all_state}

@@ -1,8 +1,9 @@
 -- What is known of a task before its step is done, and what the step takes of the room.
-use Rattle.std.specs.Prelude.{ℕ, ◌≡◌, ◌+◌, ◌<◌, ◌≤◌, ◌^◌, Bool, true, List, [], ◌∷◌, ◌++◌, length, replicate, if◌then◌else◌, Some, None, IsSome, Ok, ⊤}
+use Rattle.std.specs.Prelude.{ℕ, ◌≡◌, ◌+◌, ◌<◌, ◌≤◌, ◌^◌, Bool, true, false, ◌&&◌, List, [], ◌∷◌, ◌++◌, length, replicate, if◌then◌else◌, Option, Some, None, is_some, is_none, IsSome, Ok, ⊤}
 use Rattle.std.specs.List.{AllByRecursion}
 use Rattle.acc_base.specs.declared.addresses.TheConstants.{MEMORY_MAX}
 use Rattle.acc_base.specs.declared.items.Section.{Section}
+use Rattle.acc_base.specs.declared.items.Item.{Item}
 use Rattle.acc_base.specs.declared.items.RegionClause.{RegionClause}
 use Rattle.acc_base.specs.declared.mappings.Range.{Range}
 use Rattle.acc_base.specs.declared.mappings.Found.TheVariants.{Absent}
@@ -20,20 +21,28 @@ use Rattle.acc_base.specs.Ranges.{range_of, counter_of, where_is, ends_by}
 use Rattle.acc_base.specs.Blocks.{rounded, place_for, block_at}
 use Rattle.acc_base.specs.Attachments.{pointer_at, count_at}
 use Rattle.acc_base.specs.Records.{Records, State}
-use Rattle.acc_base.specs.Tasks.{section_of, recounted, judge_step, act}
-use Rattle.acc_base.specs.Clauses.{copies_in, is_zeroed}
+use Rattle.acc_base.specs.declared.transfers.Transfer.{Transfer}
+use Rattle.acc_base.specs.Queues.{queue_at, head_of, pins_of}
+use Rattle.acc_base.specs.Tasks.{section_of, queue_of, recounted}
+use Rattle.acc_base.specs.Transfers.{first_address, gives_bytes, transfer_at, transfer_of, at_once, room_for, queues_after}
+use Rattle.acc_base.specs.Waits.{stepped}
+use Rattle.acc_base.specs.Steps.{judge_step, act}
+use Rattle.acc_base.specs.Clauses.{is_attach, section_named, copies_in, is_zeroed}
 use Rattle.acc_base.specs.Register.{region_at}
-use Rattle.acc_base.specs.Bytes.{bytes_of, fill_byte, step_state}
+use Rattle.acc_base.specs.Bytes.{bytes_of, fill_byte, host_made, memories_made, step_state}
 use Rattle.acc_base.specs.Pointers.{aimed}
 use Rattle.acc_base.specs.Acting.{act_state}
 use Rattle.acc_base.specs.History.{IsAimLegal}
 use Rattle.acc_host.specs.Host.{bytes_in}
 use Rattle.acc_dev.specs.Device.{DeviceState, birth_place}
+use Rattle.acc_dev.specs.Marks.{new_mark}
+use Rattle.acc_queues.specs.Queued.{spare_at}
 use Rattle.acc_clauses.specs.declared.environments.Environment.{Environment}
 use Rattle.acc_clauses.specs.declared.plans.Head.{Head}
-use Rattle.acc_clauses.specs.declared.plans.Head.TheVariants.{Plain, Entry, Leaving}
+use Rattle.acc_clauses.specs.declared.plans.Head.TheVariants.{Plain, Entry, Leaving, Waiting, Stepping}
 use Rattle.acc_clauses.specs.Planned.{Planned, in_written_order, held_by}
-use Rattle.acc_clauses.specs.Contents.{Room, Contents, state_of, room_of}
+use Rattle.acc_clauses.specs.Contents.{Room, Contents, state_of, room_of, AreMarked}
+use Rattle.acc_clauses.specs.Overlays.{is_queue, puts_by, puts_in}
 
 -- ---- what is known of a task
 
@@ -51,10 +60,10 @@ pub record IsMappedAround (w : Records) (section : Section) (block : ℕ) : Type
 
 -- a task that undoes a holding finds the block that was counted
 abbrev pub IsKnown : Records → Task → Type 0
-IsKnown w (Enter counter item) = ⊤
+IsKnown w (Enter counter item queue) = ⊤
 IsKnown w (Leave holding) = (block : ℕ) → holding.block ≡ Some block → IsMappedAround w holding.item.section block
-IsKnown w (Exit finalize item) = ⊤
-IsKnown w (Move if_present item) = ⊤
+IsKnown w (Exit finalize item queue) = ⊤
+IsKnown w (Move if_present item queue) = ⊤
 
 -- each task that undoes a holding finds the block that was counted, in what the tasks before it leave
 abbrev pub AreKnown : List Task → List Did → Records → Type 0
@@ -65,17 +74,17 @@ AreKnown _ _ w = ⊤
 
 -- the counter that the task raises is below its limit
 abbrev pub IsBelowLimit : ℕ → Task → ℕ → List Range → Type 0
-IsBelowLimit counter_max (Enter counter item) block ranges = counter_of counter block ranges < counter_max
+IsBelowLimit counter_max (Enter counter item queue) block ranges = counter_of counter block ranges < counter_max
 IsBelowLimit counter_max (Leave holding) block ranges = ⊤
-IsBelowLimit counter_max (Exit finalize item) block ranges = ⊤
-IsBelowLimit counter_max (Move if_present item) block ranges = ⊤
+IsBelowLimit counter_max (Exit finalize item queue) block ranges = ⊤
+IsBelowLimit counter_max (Move if_present item queue) block ranges = ⊤
 
 -- entry is the one task that bears a block
 abbrev pub IsEnter : Task → Type 0
-IsEnter (Enter counter item) = ⊤
+IsEnter (Enter counter item queue) = ⊤
 IsEnter (Leave holding) = ⊥
-IsEnter (Exit finalize item) = ⊥
-IsEnter (Move if_present item) = ⊥
+IsEnter (Exit finalize item queue) = ⊥
+IsEnter (Move if_present item queue) = ⊥
 
 -- the range of the block can be counted by the task
 pub record CanCount (counter_max : ℕ) (task : Task) (block : ℕ) (ranges : List Range) : Type 0 where
@@ -92,6 +101,36 @@ pub record CanMove (section : Section) (block : ℕ) (s : State) : Type 0 where
   pub there : IsSome (block_at block s.records.blocks)
   pub len : length (bytes_of block s.memories) ≡ range.section.len
 
+-- the section can be copied between host memory and a block whose bytes are those from a host address on: it lies in host memory, and among them
+pub record CanCopy (section : Section) (block start : ℕ) (s : State) : Type 0 where
+  pub in_host : is_within section (host_memory (length s.host)) ≡ true
+  pub end : end_of section ≤ 2 ^ 40
+  pub there : IsSome (block_at block s.records.blocks)
+  pub within : is_within section (record { start = start; len = length (bytes_of block s.memories) }) ≡ true
+
+-- the transfer can be made
+abbrev pub CanTransfer : Transfer → State → Type 0
+CanTransfer t s = CanCopy t.section t.block (first_address t) s
+
+-- the transfer can be put into a queue, where it keeps its block
+pub record CanPut (q : ℕ) (t : Transfer) (x : Environment) : Type 0 where
+  pub room : length (queue_at q x.queues.queues) < x.queues.cap
+  pub spare : 1 ≤ spare_at q x.queues.spare
+  pub there : IsSome (block_at t.block x.device.blocks)
+
+-- so can the first one of a queue
+abbrev pub CanStep : ℕ → Environment → Type 0
+CanStep q x = (t : Transfer) → head_of q x.queues.queues ≡ Some t → CanTransfer t (state_of x 0)
+
+-- at once, or into the queue that is named
+abbrev pub CanMoveBytes : Option ℕ → Transfer → Environment → Type 0
+CanMoveBytes None t x = CanTransfer t (state_of x 0)
+CanMoveBytes (Some q) t x = CanPut q t x
+
+-- the queue of a task has room for the transfer of its step
+abbrev pub CanQueue : Task → Step → Environment → Type 0
+CanQueue task step x = room_for x.queues.cap (queue_of task) (transfer_of task step x.present.table.ranges) x.queues.queues ≡ Ok tt
+
 -- the section can be mapped to a new block of this number at this place
 pub record CanBear (counter_max device : ℕ) (section : Section) (block place : ℕ) (s : State) : Type 0 where
   pub in_host : is_within section (host_memory (length s.host)) ≡ true
@@ -103,6 +142,7 @@ pub record CanBear (counter_max device : ℕ) (section : Section) (block place :
   pub no_range : AllByRecursion (λ r. r.block ≡ block → ⊥) s.records.ranges
   pub no_memory : AllByRecursion (λ m. m.block ≡ block → ⊥) s.memories
   pub no_pointer : AllByRecursion (λ a. a.block ≡ block → ⊥) s.records.attached
+  pub no_transfer : pins_of block s.records.queues ≡ 0
   pub counted : 0 < counter_max
 
 -- a counter of the block's range can fall, for which no task that enters asks; and the mapping ends by it exactly if the step says so
@@ -141,16 +181,18 @@ CanAct counter_max device task (Moved block) s = CanMove (section_of task) block
 pub record CanEnter (x : Environment) (task : Task) (did : Did) : Type 0 where
   pub step : CanAct x.present.table.counter_max x.device.size task did.step (state_of x 0)
   pub aim : CanAim x.attached.counter_max did.aim (step_state task did.step (state_of x 0))
+  pub queue : CanQueue task did.step x
 
 pub record CanLeave (x : Environment) (task : Task) (did : Did) : Type 0 where
   pub aim : CanAim x.attached.counter_max did.aim (state_of x 0)
   pub step : CanAct x.present.table.counter_max x.device.size task did.step (aimed did.aim (state_of x 0))
+  pub queue : CanQueue task did.step x
 
 abbrev pub CanDo : Environment → Task → Did → Type 0
-CanDo x (Enter counter item) did = CanEnter x (Enter counter item) did
+CanDo x (Enter counter item queue) did = CanEnter x (Enter counter item queue) did
 CanDo x (Leave holding) did = CanLeave x (Leave holding) did
-CanDo x (Exit finalize item) did = CanLeave x (Exit finalize item) did
-CanDo x (Move if_present item) did = CanLeave x (Move if_present item) did
+CanDo x (Exit finalize item queue) did = CanLeave x (Exit finalize item queue) did
+CanDo x (Move if_present item queue) did = CanLeave x (Move if_present item queue) did
 
 -- ---- what a task takes of the room
 
@@ -186,40 +228,76 @@ pub record HasRoomFor (births : List ℕ) (room : Room) : Type 0 where
   pub births_are : room.births ≡ births ++ rest
   pub ranges : length births ≤ room.ranges
 
+-- there is room in the queues for so many transfers each
+abbrev pub HasPutRoom : (ℕ → ℕ) → Room → Type 0
+HasPutRoom puts room = (q : ℕ) → puts q ≤ spare_at q room.puts
+
 -- there is room for one region with so many holdings
 pub record HasRegionRoom (holdings : ℕ) (room : Room) : Type 0 where
   pub regions : 1 ≤ room.regions
   pub enough : holdings ≤ room.holdings
 
--- births of these lengths and so many attachment counters took their room, and nothing else was taken
-pub record IsRoomLeft (births : List ℕ) (pointers : ℕ) (old new : Room) : Type 0 where
+-- births of these lengths, so many attachment counters and so many transfers in each queue took their room, and nothing else was taken
+pub record IsRoomLeft (births : List ℕ) (pointers : ℕ) (put : ℕ → ℕ) (old new : Room) : Type 0 where
   pub births_are : old.births ≡ births ++ new.births
   pub ranges : old.ranges ≤ new.ranges + length births
   pub regions : old.regions ≤ new.regions
   pub holdings : old.holdings ≤ new.holdings
   pub attachments : old.attachments ≤ new.attachments + pointers
+  pub puts : (q : ℕ) → spare_at q old.puts ≤ spare_at q new.puts + put q
 
 -- ---- what a task makes of the parts
 
--- the parts before a change of their state and after it, which took this room
-pub record IsChangedBy (change : State → State) (births : List ℕ) (pointers : ℕ) (old new : Environment) : Type 0 where
+-- the parts before a change of their state and after it, which took this room and kept the marks of blocks right
+pub record IsChangedBy (change : State → State) (births : List ℕ) (pointers : ℕ) (put : ℕ → ℕ) (old new : Environment) : Type 0 where
   pub state : (next : ℕ) → state_of new next ≡ change (state_of old next)
   pub counter_max : new.present.table.counter_max ≡ old.present.table.counter_max
   pub size : new.device.size ≡ old.device.size
   pub pointer_max : new.attached.counter_max ≡ old.attached.counter_max
-  pub room : IsRoomLeft births pointers (room_of old) (room_of new)
+  pub queue_cap : new.queues.cap ≡ old.queues.cap
+  pub room : IsRoomLeft births pointers put (room_of old) (room_of new)
+  pub marked : AreMarked new
+
+-- one transfer, made at once or put into the queue that is named
+abbrev pub moved_state : Option ℕ → Transfer → State → State
+moved_state queue t s = record s {
+  records = record s.records { queues = queues_after queue (Some t) s.records.queues };
+  host = host_made (at_once queue (Some t)) s.records.attached s.memories s.host;
+  memories = memories_made (at_once queue (Some t)) s.records.attached s.host s.memories;
+}
+
+abbrev pub IsMovedBy : Option ℕ → Transfer → Environment → Environment → Type 0
+IsMovedBy queue t old new = IsChangedBy (moved_state queue t) [] 0 (λ q. if is_queue q queue then 1 else 0) old new
+
+-- the copy to a new block, if the clause copies, put into the queue that is named; without a queue it was made before
+abbrev pub filled_later : Option ℕ → Item RegionClause → ℕ → State → State
+filled_later queue item block s = if copies_in item.clause && is_some queue then moved_state queue (record { block = block; offset = 0; section = section_named (is_attach item.clause) item.section; out = false }) s else s
+
+abbrev pub IsFilledLater : Option ℕ → Item RegionClause → ℕ → Environment → Environment → Type 0
+IsFilledLater queue item block old new = IsChangedBy (filled_later queue item block) [] 0 (λ q. if is_queue q queue && copies_in item.clause then 1 else 0) old new
+
+-- the copy to host memory before a mapping ends, if the task copies
+abbrev pub given_state : Task → ℕ → State → State
+given_state task block s = if gives_bytes task then moved_state (queue_of task) (transfer_at task block s.records.ranges) s else s
+
+abbrev pub IsGivenBy : Task → ℕ → Environment → Environment → Type 0
+IsGivenBy task block old new = IsChangedBy (given_state task block) [] 0 (λ q. puts_by q task (Dropped block true)) old new
+
+-- the first transfer of a queue is made
+abbrev pub IsSteppedBy : ℕ → Environment → Environment → Type 0
+IsSteppedBy q old new = IsChangedBy (stepped q) [] 0 (λ q. 0) old new
 
 -- a step
 abbrev pub IsActedBy : Task → Step → Environment → Environment → Type 0
-IsActedBy task step old new = IsChangedBy (step_state task step) (birth_of task step) 0 old new
+IsActedBy task step old new = IsChangedBy (step_state task step) (birth_of task step) 0 (λ q. puts_by q task step) old new
 
 -- an attachment or a detachment
 abbrev pub IsAimedBy : Aim → Environment → Environment → Type 0
-IsAimedBy aim old new = IsChangedBy (aimed aim) [] (pointers_of aim) old new
+IsAimedBy aim old new = IsChangedBy (aimed aim) [] (pointers_of aim) (λ q. 0) old new
 
 -- both
 abbrev pub IsDoneBy : Task → Did → Environment → Environment → Type 0
-IsDoneBy task did old new = IsChangedBy (act_state task did) (birth_of task did.step) (pointers_of did.aim) old new
+IsDoneBy task did old new = IsChangedBy (act_state task did) (birth_of task did.step) (pointers_of did.aim) (λ q. puts_by q task did.step) old new
 
 -- ---- a new block
 
@@ -232,17 +310,22 @@ pub record CanMake (d : DeviceState) (host : List ℕ) (section : Section) : Typ
   pub rest : List ℕ
   pub room : d.room ≡ section.len ∷ rest
 
--- the bytes of a new block: those of the section, or the byte that fills it
-abbrev pub bytes_made : Section → RegionClause → List ℕ → List ℕ
-bytes_made section clause host = if copies_in clause then bytes_in host section else replicate section.len (fill_byte (is_zeroed clause))
+-- the bytes of a new block: those of the section, where it is copied at once, or the byte that fills it
+abbrev pub bytes_made : Bool → Section → RegionClause → List ℕ → List ℕ
+bytes_made copied section clause host = if copied then bytes_in host section else replicate section.len (fill_byte (is_zeroed clause))
+
+-- the section of a new block is copied there at once: by the clause, and without a queue
+abbrev pub is_copied_now : RegionClause → Option ℕ → Bool
+is_copied_now clause queue = copies_in clause && is_none queue
 
 -- the new device is the old one with a block more, which has these bytes
-pub record IsMade (old new : DeviceState) (section : Section) (clause : RegionClause) (host : List ℕ) : Type 0 where
+pub record IsMade (old new : DeviceState) (copied : Bool) (section : Section) (clause : RegionClause) (host : List ℕ) : Type 0 where
   pub place : ℕ
   pub place_is : birth_place old section.len ≡ Some place
   pub size : new.size ≡ old.size
   pub blocks : new.blocks ≡ old.blocks ++ record { number = old.births + 1; place = place; len = section.len } ∷ []
-  pub memories : new.memories ≡ old.memories ++ record { block = old.births + 1; bytes = bytes_made section clause host } ∷ []
+  pub memories : new.memories ≡ old.memories ++ record { block = old.births + 1; bytes = bytes_made copied section clause host } ∷ []
+  pub marks : new.marks ≡ old.marks ++ new_mark (old.births + 1) ∷ []
   pub births : new.births ≡ old.births + 1
   pub room : old.room ≡ section.len ∷ new.room
 
@@ -265,12 +348,15 @@ abbrev pub CanFinish : Head → ℕ → Contents → Type 0
 CanFinish Plain tasks c = ⊤
 CanFinish Entry tasks c = CanOpen tasks c
 CanFinish (Leaving number) tasks c = IsSome (region_at number c.state.register.regions)
+CanFinish (Waiting queue) tasks c = ⊤
+CanFinish (Stepping queue) tasks c = ⊤
 
 -- there is room for all that a plan takes in
 pub record HasPlanRoom (p : Planned) (room : Room) : Type 0 where
   pub births : HasRoomFor (lens_born p.tasks p.dids) room
   pub region : HasRegionRoom (length p.tasks) room
   pub pointers : pointers_in p.dids ≤ room.attachments
+  pub puts : HasPutRoom (λ q. puts_in q p.tasks p.dids) room
 
 -- ---- what a plan notes
 

@@ -1,30 +1,17 @@
 -- What a plan knows of pointers after its tasks: what each look-up answers then, from what it answers before them.
-use Rattle.std.specs.Prelude.{ℕ, Bool, false, if◌then◌else◌, ◌==◌, ◌&&◌, List, fold}
+use Rattle.std.specs.Prelude.{ℕ, if◌then◌else◌, ◌==◌, ◌&&◌, List, fold}
 use Rattle.acc_base.specs.declared.attachments.Aim.{Aim}
 use Rattle.acc_base.specs.declared.attachments.Aim.TheVariants as aims
 use Rattle.acc_base.specs.declared.events.Step.{Step}
 use Rattle.acc_base.specs.declared.events.Step.TheVariants.{Nothing, Counted, Born, Dropped, Moved}
-use Rattle.acc_base.specs.declared.events.Did.{Did}
 use Rattle.acc_base.specs.Attachments.{count_after}
 use Rattle.acc_clauses.specs.declared.acted.Acted.{Acted}
 
 -- ---- attachment counters
 
--- the step ends the mapping to the block
-abbrev pub ends : ℕ → Step → Bool
-ends block Nothing = false
-ends block (Counted b) = false
-ends block (Born b place) = false
-ends block (Dropped b ended) = ended && b == block
-ends block (Moved b) = false
-
--- the attachment counter of a pointer in a block after a task; one that ends a mapping has detached its pointer before
-abbrev pub count_by : ℕ → ℕ → ℕ → Did → ℕ
-count_by block pointer count did = if ends block did.step then 0 else count_after block pointer did.aim count
-
--- and after tasks
+-- the attachment counter of a pointer in a block after tasks; it is asked for a block that is mapped then
 abbrev pub count_over : ℕ → ℕ → ℕ → List Acted → ℕ
-count_over block pointer count xs = fold (λ n x. count_by block pointer n x.did) count xs
+count_over block pointer count xs = fold (λ n x. count_after block pointer x.did.aim n) count xs
 
 -- ---- places
 

@@ -1,17 +1,24 @@
 -- What contracts see of a store and of its parts: the limits, the state, and the room for more.
-use Rattle.std.specs.Prelude.{ℕ, ◌≡◌, List}
+use Rattle.std.specs.Prelude.{ℕ, ◌≡◌, List, is_none}
+use Rattle.std.specs.List.{AllByRecursion}
+use Rattle.acc_base.specs.declared.mappings.Range.{Range}
+use Rattle.acc_base.specs.declared.transfers.Transfer.{Transfer}
 use Rattle.acc_base.specs.Limits.{Limits}
 use Rattle.acc_base.specs.Records.{State, new_state}
+use Rattle.acc_base.specs.Ranges.{range_of}
+use Rattle.acc_base.specs.Queues.{pins_of}
 use Rattle.acc_base.specs.Accounts.{AreRecordsSound, AreMemoriesSized}
+use Rattle.acc_dev.specs.Marks.{Mark}
 use Rattle.acc_clauses.specs.declared.environments.Environment.{Environment}
 
--- what can be taken in without memory: births of blocks of these lengths, in this order; so many ranges; so many regions; so many holdings of the next region; and so many attachment counters
+-- what can be taken in without memory: births of blocks of these lengths, in this order; so many ranges; so many regions; so many holdings of the next region; so many attachment counters; and so many transfers in each queue
 pub record Room : Type 0 where
   pub births : List ℕ
   pub ranges : ℕ
   pub regions : ℕ
   pub holdings : ℕ
   pub attachments : ℕ
+  pub puts : List ℕ
 
 -- the limits, which stay; the state; and the room
 pub record Contents : Type 0 where
@@ -24,7 +31,7 @@ pub record Contents : Type 0 where
 -- the state that the parts come to, with the number of the next region
 abbrev pub state_of : Environment → ℕ → State
 state_of x next = record {
-  records = record { ranges = x.present.table.ranges; blocks = x.device.blocks; attached = x.attached.attached; births = x.device.births };
+  records = record { ranges = x.present.table.ranges; blocks = x.device.blocks; attached = x.attached.attached; births = x.device.births; queues = x.queues.queues };
   register = record { regions = x.present.table.regions; next = next };
   host = x.host;
   memories = x.device.memories;
@@ -32,7 +39,7 @@ state_of x next = record {
 
 -- and their room
 abbrev pub room_of : Environment → Room
-room_of x = record { births = x.device.room; ranges = x.present.room.ranges; regions = x.present.room.regions; holdings = x.present.room.holdings; attachments = x.attached.spare }
+room_of x = record { births = x.device.room; ranges = x.present.room.ranges; regions = x.present.room.regions; holdings = x.present.room.holdings; attachments = x.attached.spare; puts = x.queues.spare }
 
 abbrev pub contents_of : Limits → Environment → ℕ → Contents
 contents_of l x next = record { limits = l; state = state_of x next; room = room_of x }
@@ -42,6 +49,16 @@ pub record AreSizedBy (l : Limits) (x : Environment) : Type 0 where
   pub counters : x.present.table.counter_max ≡ l.counter_max
   pub device : x.device.size ≡ l.device
   pub pointers : x.attached.counter_max ≡ l.counter_max
+  pub queues : x.queues.cap ≡ l.queue_cap
+
+-- the mark of a block tells how many queued transfers name it, and whether its mapping has ended
+pub record IsMarkRight (ranges : List Range) (queues : List (List Transfer)) (m : Mark) : Type 0 where
+  pub pins : m.pins ≡ pins_of m.block queues
+  pub ended : m.ended ≡ is_none (range_of m.block ranges)
+
+-- so do all of them
+abbrev pub AreMarked : Environment → Type 0
+AreMarked x = AllByRecursion (IsMarkRight x.present.table.ranges x.queues.queues) x.device.marks
 
 -- what each step of a directive keeps: records that are sound, and memories in step with them
 pub record AreContentsSound (c : Contents) : Type 0 where
@@ -52,6 +69,7 @@ pub record AreContentsSound (c : Contents) : Type 0 where
 pub record ArePartsSound (l : Limits) (x : Environment) (next : ℕ) : Type 0 where
   pub sized : AreSizedBy l x
   pub sound : AreContentsSound (contents_of l x next)
+  pub marked : AreMarked x
 
 -- nothing is mapped, no region is open, and host memory is zero
 pub record AreNew (l : Limits) (c : Contents) : Type 0 where

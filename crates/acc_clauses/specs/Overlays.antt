@@ -1,6 +1,6 @@
 -- What a plan knows of the records after its tasks: what each look-up answers then, from what it answers before them.
-use Rattle.std.specs.Prelude.{ℕ, ◌-◌, ◌≡◌, ◌⊎◌, Bool, true, false, if◌then◌else◌, ◌==◌, ◌&&◌, ◌≤◌, length, List, [], ◌∷◌, ◌++◌, map, fold}
-use Rattle.std.specs.List.{list_all, list_any}
+use Rattle.std.specs.Prelude.{ℕ, ◌+◌, ◌-◌, ◌≡◌, ◌⊎◌, Bool, true, false, if◌then◌else◌, ◌==◌, ◌&&◌, ◌≤◌, length, List, [], ◌∷◌, ◌++◌, map, fold, Option, Some, None, Ok}
+use Rattle.std.specs.List.{AllByRecursion, list_all, list_any}
 use Rattle.acc_base.specs.declared.items.Section.{Section}
 use Rattle.acc_base.specs.declared.mappings.Range.{Range}
 use Rattle.acc_base.specs.declared.mappings.Counters.{Counters}
@@ -18,7 +18,10 @@ use Rattle.acc_base.specs.Section.{is_within, is_apart}
 use Rattle.acc_base.specs.Records.{Records, State}
 use Rattle.acc_base.specs.Acting.{act_all_state}
 use Rattle.acc_base.specs.Ranges.{counter_of}
-use Rattle.acc_base.specs.Tasks.{section_of, recounted, act_all}
+use Rattle.acc_base.specs.Queues.{queue_named}
+use Rattle.acc_base.specs.Tasks.{section_of, queue_of, recounted}
+use Rattle.acc_base.specs.Transfers.{gets_bytes, gives_bytes}
+use Rattle.acc_base.specs.Steps.{act_all}
 use Rattle.acc_base.specs.History.{AreJudged}
 use Rattle.acc_base.specs.Accounts.{AreRecordsSound}
 use Rattle.acc_clauses.specs.declared.acted.Acted.{Acted}
@@ -57,10 +60,10 @@ with_aim aim x = record { task = x.task; did = record { step = x.did.step; aim =
 
 -- the task is an entry: it may map a section to a new block, and ends no mapping
 abbrev pub enters : Task → Bool
-enters (Enter counter item) = true
+enters (Enter counter item queue) = true
 enters (Leave holding) = false
-enters (Exit finalize item) = false
-enters (Move if_present item) = false
+enters (Exit finalize item queue) = false
+enters (Move if_present item queue) = false
 
 -- all tasks enter, or none does
 abbrev pub AreUnmixed : List Task → Type 0
@@ -155,3 +158,32 @@ counters_by block c task (Moved b) = c
 -- the counters of a block's range after tasks
 abbrev pub counters_over : ℕ → Counters → List Acted → Counters
 counters_over block c xs = fold (λ d x. counters_by block d x.task x.did.step) c xs
+
+-- ---- queued transfers
+
+-- the step has a transfer
+abbrev pub moves : Task → Step → Bool
+moves task Nothing = false
+moves task (Counted block) = false
+moves task (Born block place) = gets_bytes task
+moves task (Dropped block true) = gives_bytes task
+moves task (Dropped block false) = false
+moves task (Moved block) = true
+
+-- it is this queue that is named
+abbrev pub is_queue : ℕ → Option ℕ → Bool
+is_queue q None = false
+is_queue q (Some named) = named == q
+
+-- how many transfers a task puts into a queue
+abbrev pub puts_by : ℕ → Task → Step → ℕ
+puts_by q task step = if is_queue q (queue_of task) && moves task step then 1 else 0
+
+-- and tasks
+abbrev pub puts_in : ℕ → List Task → List Did → ℕ
+puts_in q (task ∷ tasks) (did ∷ dids) = puts_by q task did.step + puts_in q tasks dids
+puts_in q _ _ = 0
+
+-- there are the queues that tasks name
+abbrev pub AreQueuesNamed : List Task → Type 0
+AreQueuesNamed tasks = AllByRecursion (λ t. queue_named (queue_of t) ≡ Ok tt) tasks

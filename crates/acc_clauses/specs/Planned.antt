@@ -1,44 +1,52 @@
 -- What contracts see of a plan, and what it rests on.
-use Rattle.std.specs.Prelude.{ℕ, ◌≡◌, ◌≤◌, List, [], ◌∷◌, ◌++◌, length, reverse, Result, Ok}
+use Rattle.std.specs.Prelude.{ℕ, ◌≡◌, ◌≤◌, List, [], ◌∷◌, ◌++◌, length, reverse, Option, Result, Ok}
 use Rattle.acc_base.specs.declared.directives.Directive.{Directive}
-use Rattle.acc_base.specs.declared.directives.Directive.TheVariants.{Enter, Exit, EnterData, ExitData, Update}
+use Rattle.acc_base.specs.declared.directives.Directive.TheVariants.{Enter, Exit, EnterData, ExitData, Update, Wait, Step}
 use Rattle.acc_base.specs.declared.regions.Holding.{Holding}
 use Rattle.acc_base.specs.declared.tasks.Task.{Task}
 use Rattle.acc_base.specs.declared.tasks.Task.TheVariants as tasks
 use Rattle.acc_base.specs.declared.events.Did.{Did}
 use Rattle.acc_base.specs.declared.faults.Fault.{Fault}
+use Rattle.acc_base.specs.declared.transfers.Transfer.{Transfer}
+use Rattle.acc_base.specs.Queues.{queue_named}
+use Rattle.acc_base.specs.Waits.{steps_of, drained}
 use Rattle.acc_base.specs.Results.{◌>>◌}
 use Rattle.acc_base.specs.Limits.{Limits}
 use Rattle.acc_base.specs.Register.{Region, Register, opened, closed}
 use Rattle.acc_base.specs.Records.{Layout, State}
-use Rattle.acc_base.specs.Judge.{few_items, tasks_of}
+use Rattle.acc_base.specs.Judge.{few_items, tasks_of, queue_in}
 use Rattle.acc_base.specs.Walk.{block_counted, pointer_attached}
 use Rattle.acc_base.specs.Acting.{judge_task}
 use Rattle.acc_base.specs.History.{AreJudged}
 use Rattle.acc_clauses.specs.declared.acted.Acted.{Acted}
 use Rattle.acc_clauses.specs.Overlays.{state_after}
 use Rattle.acc_clauses.specs.declared.plans.Head.{Head}
-use Rattle.acc_clauses.specs.declared.plans.Head.TheVariants.{Plain, Entry, Leaving}
+use Rattle.acc_clauses.specs.declared.plans.Head.TheVariants.{Plain, Entry, Leaving, Waiting, Stepping}
 
--- what the directive does to the register; its tasks in the order in which they act, and what each does
+-- what the directive does beside its tasks; the queue that it names; its tasks in the order in which they act, and what each does
 pub record Planned : Type 0 where
   pub head : Head
+  pub queue : Option ℕ
   pub tasks : List Task
   pub dids : List Did
 
--- what a directive does to the register
+-- what a directive does beside its tasks
 abbrev pub head_of : Directive → Head
 head_of (Enter items) = Entry
 head_of (Exit number) = Leaving number
-head_of (EnterData items) = Plain
-head_of (ExitData items finalize) = Plain
-head_of (Update items if_present) = Plain
+head_of (EnterData items queue) = Plain
+head_of (ExitData items finalize queue) = Plain
+head_of (Update items if_present queue) = Plain
+head_of (Wait queue) = Waiting queue
+head_of (Step queue) = Stepping queue
 
 -- what the items did, in written order: on a region's exit the last one acts first
 abbrev pub in_written_order : Head → List Did → List Did
 in_written_order Plain dids = dids
 in_written_order Entry dids = dids
 in_written_order (Leaving number) dids = reverse dids
+in_written_order (Waiting queue) dids = dids
+in_written_order (Stepping queue) dids = dids
 
 -- the region holds what at most 64 items counted
 abbrev pub HasFewHoldings : Region → Type 0
@@ -47,6 +55,8 @@ HasFewHoldings r = length r.holdings ≤ 64
 -- the plan is of the directive: it has its tasks, and each is judged in what those before it leave of this layout
 pub record IsPlannedOn (l : Limits) (d : Directive) (lay : Layout) (p : Planned) : Type 0 where
   pub head : p.head ≡ head_of d
+  pub queue : p.queue ≡ queue_in d
+  pub known : queue_named p.queue ≡ Ok tt
   pub tasks : tasks_of d lay.register ≡ Ok p.tasks
   pub judged : AreJudged l 0 p.tasks p.dids lay.records
   pub few : length p.tasks ≤ 64
@@ -65,10 +75,10 @@ asked_of d g = few_items d >> tasks_of d g
 
 -- what a task of an entry holds
 abbrev pub holding_by : Task → Did → List Holding
-holding_by (tasks.Enter counter item) did = record { item = item; block = block_counted did.step; aim = pointer_attached did.aim } ∷ []
+holding_by (tasks.Enter counter item queue) did = record { item = item; block = block_counted did.step; aim = pointer_attached did.aim } ∷ []
 holding_by (tasks.Leave holding) did = []
-holding_by (tasks.Exit finalize item) did = []
-holding_by (tasks.Move if_present item) did = []
+holding_by (tasks.Exit finalize item queue) did = []
+holding_by (tasks.Move if_present item queue) did = []
 
 -- what the tasks of an entry hold
 abbrev pub holdings_by : List Task → List Did → List Holding
@@ -80,13 +90,31 @@ abbrev pub held_by : Head → List Task → List Did → List Holding
 held_by Plain tasks dids = []
 held_by Entry tasks dids = holdings_by tasks dids
 held_by (Leaving number) tasks dids = []
+held_by (Waiting queue) tasks dids = []
+held_by (Stepping queue) tasks dids = []
 
 -- the register after a directive, whose entry holds these
 abbrev pub register_by : Head → List Holding → Register → Register
 register_by Plain holdings g = g
 register_by Entry holdings g = opened holdings g
 register_by (Leaving number) holdings g = closed number g
+register_by (Waiting queue) holdings g = g
+register_by (Stepping queue) holdings g = g
 
 -- the register after the plan is done
 abbrev pub register_planned : Planned → Register → Register
 register_planned p g = register_by p.head (holdings_by p.tasks p.dids) g
+
+-- ---- what it makes of the queues
+
+-- the queues whose first transfers it makes, in that order
+abbrev pub steps_by : Head → List (List Transfer) → List ℕ
+steps_by Plain queues = []
+steps_by Entry queues = []
+steps_by (Leaving number) queues = []
+steps_by (Waiting queue) queues = steps_of queue queues
+steps_by (Stepping queue) queues = queue ∷ []
+
+-- the state after the plan is done, from what its tasks left
+abbrev pub finished : Planned → State → State
+finished p s = record (drained (steps_by p.head s.records.queues) s) { register = register_planned p s.register }

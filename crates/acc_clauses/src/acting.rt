@@ -3,18 +3,19 @@
 ghost use Rattle.std.specs.Prelude.{◌≡◌, ◌++◌, ◌∷◌, ◌<◌, ◌≤◌, [], ℕ, IsSome, Some, true, false, length};
 ghost use Rattle.acc_base.specs.Ranges.{range_of, start_of, counter_of, changed_at, risen};
 ghost use Rattle.acc_base.specs.Tasks.{section_of, recounted};
-ghost use Rattle.acc_base.specs.Bytes.{transfer_of, host_made, memories_made};
+ghost use Rattle.acc_base.specs.Clauses.{is_attach, section_named, copies_in};
 ghost use Rattle.acc_base.specs.declared.tasks.Task.TheVariants.{Enter};
 ghost use Rattle.acc_base.specs.declared.events.Step.TheVariants.{Born, Dropped, Moved};
 ghost use Rattle.acc_present.specs.Present.{HasRange, with_ranges, IsRoomKept};
-ghost use Rattle.acc_clauses.specs.Contents.{state_of, room_of};
-ghost use Rattle.acc_clauses.specs.Acts.{CanAct, CanCount, CanBear, CanMove, CanDrop, HasRoomFor, IsRoomLeft, IsActedBy, CanMake, IsMade, birth_of, CanDo, IsDoneBy, pointers_of};
+ghost use Rattle.acc_clauses.specs.Contents.{AreMarked, state_of, room_of};
+ghost use Rattle.acc_clauses.specs.Overlays.{puts_by};
+ghost use Rattle.acc_clauses.specs.Acts.{CanAct, CanCount, CanBear, CanMove, CanDrop, HasRoomFor, IsRoomLeft, IsActedBy, CanMake, IsMade, is_copied_now, birth_of, CanDo, IsDoneBy, pointers_of, CanPut, CanQueue, HasPutRoom, IsFilledLater, IsGivenBy};
 
-use crate::copies::{copy_in, copy_out};
 use crate::environments::Environment;
 use crate::pointers::aim_on;
-use crate::rows::{copies_in, gives_bytes, goes_out, is_zeroed, section_of};
-use acc_base::{Counter, Did, Item, RegionClause, Section, Step, Task};
+use crate::rows::{copies_in, gives_bytes, is_zeroed, queue_of, section_of};
+use crate::transfers::{move_bytes, transfer_at};
+use acc_base::{Counter, Did, Item, RegionClause, Section, Step, Task, Transfer};
 use acc_dev::Device;
 use acc_host::HostMem;
 use acc_present::Present;
@@ -51,12 +52,25 @@ fn recount(present: &mut Present, task: Task, block: u64)
     }
 }
 
-/// A new block for a section that is mapped by a clause, with its bytes.
-fn make_block(device: &mut Device, host: &HostMem, section: Section, clause: RegionClause)
-    requires can { CanMake device.old host.now section }
-    ensures { IsMade device.old device.new section clause host.now }
+/// The section of a new block is copied there at once: by the clause, and without a queue.
+fn is_copied_now(clause: RegionClause, queue: Option<u64>) -> bool
+    ensures { result ≡ is_copied_now clause queue }
 {
-    if copies_in(clause) {
+    copies_in(clause) && queue.is_none()
+}
+
+/// A new block for a section that is mapped by a clause, with its bytes: copied at once, or filled.
+fn make_block(
+    device: &mut Device,
+    host: &HostMem,
+    copied: bool,
+    section: Section,
+    clause: RegionClause,
+)
+    requires can { CanMake device.old host.now section }
+    ensures { IsMade device.old device.new copied section clause host.now }
+{
+    if copied {
         let Some(bytes) = host.read(section) else {
             unreachable!()
         };
@@ -66,55 +80,105 @@ fn make_block(device: &mut Device, host: &HostMem, section: Section, clause: Reg
     }
 }
 
+/// Puts the copy to a new block into the queue that is named, if the clause copies.
+fn fill_later(
+    environment: &mut Environment,
+    queue: Option<u64>,
+    item: Item<RegionClause>,
+    block: u64,
+)
+    requires can { (q : ℕ) → queue ≡ Some q → copies_in item.clause ≡ true → CanPut q (record { block = block; offset = 0; section = section_named (is_attach item.clause) item.section; out = false }) environment.old }
+    requires marked { AreMarked environment.old }
+    ensures filled { IsFilledLater queue item block environment.old environment.new }
+{
+    if queue.is_some() && copies_in(item.clause) {
+        let section = section_of(Task::Enter {
+            counter: Counter::Dynamic,
+            item,
+            queue,
+        });
+        let t = Transfer {
+            block,
+            offset: 0,
+            section,
+            out: false,
+        };
+        move_bytes(environment, queue, t);
+    }
+}
+
 /// Maps the section of an item to a new block, with a counter of one.
 fn bear(
     environment: &mut Environment,
     counter: Counter,
     item: Item<RegionClause>,
+    queue: Option<u64>,
     block: u64,
     place: u64,
 )
-    requires can { CanBear environment.old.present.table.counter_max environment.old.device.size (section_of (Enter counter item)) block place (state_of environment.old 0) }
-    requires room { HasRoomFor ((section_of (Enter counter item)).len ∷ []) (room_of environment.old) }
-    ensures acted { IsActedBy (Enter counter item) (Born block place) environment.old environment.new }
+    requires can { CanBear environment.old.present.table.counter_max environment.old.device.size (section_of (Enter counter item queue)) block place (state_of environment.old 0) }
+    requires queue { CanQueue (Enter counter item queue) (Born block place) environment.old }
+    requires room { HasRoomFor ((section_of (Enter counter item queue)).len ∷ []) (room_of environment.old) }
+    requires puts { HasPutRoom (λ q. puts_by q (Enter counter item queue) (Born block place)) (room_of environment.old) }
+    requires marked { AreMarked environment.old }
+    ensures acted { IsActedBy (Enter counter item queue) (Born block place) environment.old environment.new }
 {
-    let section = section_of(Task::Enter { counter, item });
+    let section = section_of(Task::Enter {
+        counter,
+        item,
+        queue,
+    });
+    let copied = is_copied_now(item.clause, queue);
+    environment.device.laws();
     make_block(
         &mut environment.device,
         &environment.host,
+        copied,
         section,
         item.clause,
     );
     environment.present.add_reserved(section, block);
     raise(&mut environment.present, counter, block);
+    fill_later(environment, queue, item, block);
 }
 
-/// Where the task copies at the end of a mapping, host memory gets the bytes of the section.
+/// Where the task copies at the end of a mapping, host memory gets the bytes of the section, at once or later.
 fn give_bytes(environment: &mut Environment, task: Task, block: u64)
     requires can { CanMove (section_of task) block (state_of environment.old 0) }
-    ensures { let s = state_of environment.old 0 in environment.new ≡ record environment.old { host = host_made (transfer_of task (Dropped block true) s.records.ranges) s.records.attached s.memories s.host } }
+    requires queue { CanQueue task (Dropped block true) environment.old }
+    requires puts { HasPutRoom (λ q. puts_by q task (Dropped block true)) (room_of environment.old) }
+    requires marked { AreMarked environment.old }
+    ensures given { IsGivenBy task block environment.old environment.new }
 {
     if gives_bytes(task) {
-        copy_out(environment, section_of(task), block);
+        let t = transfer_at(&environment.present, task, block);
+        move_bytes(environment, queue_of(task), t);
     }
 }
 
-/// Ends the mapping to a block.
+/// Ends the mapping to a block. A block that a queued transfer names stays; else it is given back.
 fn end(environment: &mut Environment, task: Task, block: u64)
     requires can { CanDrop task block true (state_of environment.old 0) }
+    requires queue { CanQueue task (Dropped block true) environment.old }
+    requires puts { HasPutRoom (λ q. puts_by q task (Dropped block true)) (room_of environment.old) }
+    requires marked { AreMarked environment.old }
     ensures acted { IsActedBy task (Dropped block true) environment.old environment.new }
 {
-    environment.device.laws();
     give_bytes(environment, task, block);
+    environment.device.laws();
     recount(&mut environment.present, task, block);
     environment.present.remove(block);
-    environment.device.retire(block);
-    environment.attached.forget(block);
+    if environment.device.retire(block) {
+        environment.attached.forget(block);
+    }
 }
 
 /// Lowers the counters of a range, or ends its mapping where none is above zero then.
 fn lower(environment: &mut Environment, task: Task, block: u64, ended: bool)
     requires can { CanDrop task block ended (state_of environment.old 0) }
+    requires queue { CanQueue task (Dropped block ended) environment.old }
+    requires puts { HasPutRoom (λ q. puts_by q task (Dropped block ended)) (room_of environment.old) }
+    requires marked { AreMarked environment.old }
     ensures acted { IsActedBy task (Dropped block ended) environment.old environment.new }
 {
     if ended {
@@ -124,32 +188,40 @@ fn lower(environment: &mut Environment, task: Task, block: u64, ended: bool)
     }
 }
 
-/// Copies the section of an update.
+/// Copies the section of an update, at once or later.
 fn update(environment: &mut Environment, task: Task, block: u64)
     requires can { CanMove (section_of task) block (state_of environment.old 0) }
-    ensures { let s = state_of environment.old 0 in environment.new ≡ record environment.old { host = host_made (transfer_of task (Moved block) s.records.ranges) s.records.attached s.memories s.host; device = record environment.old.device { memories = memories_made (transfer_of task (Moved block) s.records.ranges) s.records.attached s.host s.memories } } }
+    requires queue { CanQueue task (Moved block) environment.old }
+    requires puts { HasPutRoom (λ q. puts_by q task (Moved block)) (room_of environment.old) }
+    requires marked { AreMarked environment.old }
+    ensures acted { IsActedBy task (Moved block) environment.old environment.new }
 {
-    if goes_out(task) {
-        copy_out(environment, section_of(task), block);
-    } else {
-        copy_in(environment, section_of(task), block);
-    }
+    let t = transfer_at(&environment.present, task, block);
+    move_bytes(environment, queue_of(task), t);
 }
 
 /// Does the step of a task.
 fn step_on(environment: &mut Environment, task: Task, step: Step)
     requires can { CanAct environment.old.present.table.counter_max environment.old.device.size task step (state_of environment.old 0) }
+    requires queue { CanQueue task step environment.old }
     requires room { HasRoomFor (birth_of task step) (room_of environment.old) }
+    requires puts { HasPutRoom (λ q. puts_by q task step) (room_of environment.old) }
+    requires marked { AreMarked environment.old }
     ensures acted { IsActedBy task step environment.old environment.new }
 {
     match step {
         Step::Nothing => {}
         Step::Counted { block } => recount(&mut environment.present, task, block),
         Step::Born { block, place } => {
-            let Task::Enter { counter, item } = task else {
+            let Task::Enter {
+                counter,
+                item,
+                queue,
+            } = task
+            else {
                 unreachable!()
             };
-            bear(environment, counter, item, block, place);
+            bear(environment, counter, item, queue, block, place);
         }
         Step::Dropped { block, ended } => lower(environment, task, block, ended),
         Step::Moved { block } => update(environment, task, block),
@@ -161,6 +233,8 @@ pub(crate) fn act_on(environment: &mut Environment, task: Task, did: Did)
     requires can { CanDo environment.old task did }
     requires room { HasRoomFor (birth_of task did.step) (room_of environment.old) }
     requires pointers { pointers_of did.aim ≤ (room_of environment.old).attachments }
+    requires puts { HasPutRoom (λ q. puts_by q task did.step) (room_of environment.old) }
+    requires marked { AreMarked environment.old }
     ensures done { IsDoneBy task did environment.old environment.new }
 {
     match task {

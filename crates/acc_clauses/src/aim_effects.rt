@@ -2,23 +2,10 @@
 
 ghost use Rattle.std.specs.Prelude.{◌≡◌, ◌+◌, ◌<◌, ◌≤◌, ◌^◌, length};
 ghost use Rattle.acc_base.specs.Attachments.{count_after};
-ghost use Rattle.acc_clauses.specs.Aims.{ends, count_by, count_over, place_by, place_over, value_by, value_over};
+ghost use Rattle.acc_clauses.specs.Aims.{count_over, place_by, place_over, value_by, value_over};
 
 use crate::acted::Acted;
 use acc_base::{Aim, Did, Step};
-
-// The step ends the mapping to the block.
-fn ends(block: u64, step: Step) -> bool
-    ensures { result ≡ ends block step }
-{
-    match step {
-        Step::Dropped { block: of, ended } => ended && of == block,
-        Step::Nothing => false,
-        Step::Counted { .. } => false,
-        Step::Born { .. } => false,
-        Step::Moved { .. } => false,
-    }
-}
 
 // What an attachment or a detachment makes of the count of one pointer in a block.
 fn count_after(block: u64, pointer: u64, aim: Aim, count: u64) -> u64
@@ -40,19 +27,6 @@ fn count_after(block: u64, pointer: u64, aim: Aim, count: u64) -> u64
     }
 }
 
-// The attachment counter of a pointer in a block after one task.
-fn count_by(block: u64, pointer: u64, count: u64, did: Did) -> u64
-    requires { count < 2 ^ 40 }
-    ensures value { result ≡ count_by block pointer count did }
-    ensures most { result ≤ count + 1 }
-{
-    if ends(block, did.step) {
-        0
-    } else {
-        count_after(block, pointer, did.aim, count)
-    }
-}
-
 /// The attachment counter of a pointer in a block after tasks.
 pub fn count_over(block: u64, pointer: u64, count: u64, acts: &[Acted]) -> u64
     requires few { length acts.now ≤ 64 }
@@ -61,7 +35,7 @@ pub fn count_over(block: u64, pointer: u64, count: u64, acts: &[Acted]) -> u64
 {
     let mut after = count;
     for x in acts {
-        after = count_by(block, pointer, after, x.did);
+        after = count_after(block, pointer, x.did.aim, after);
     }
     after
 }

@@ -4,7 +4,7 @@ ghost use Rattle.std.specs.Prelude.{◌≡◌, Ok, Some, true};
 ghost use Rattle.std.specs.List.{list_all};
 ghost use Rattle.acc_base.specs.Attachments.{detach};
 ghost use Rattle.acc_base.specs.Clauses.{pointer_checked};
-ghost use Rattle.acc_base.specs.Pointers.{judge_attach, judge_release};
+ghost use Rattle.acc_base.specs.Pointers.{block_with, judge_attach, judge_release};
 ghost use Rattle.acc_base.specs.Acting.{detach_if};
 ghost use Rattle.acc_clauses.specs.Overlays.{IsPlanned, AreUnmixed, tasks_in, records_after, state_after, enters};
 
@@ -43,6 +43,7 @@ pub(crate) fn attach(parts: &Parts, draft: &Draft, n: u64, pointer: u64) -> Resu
 // Detaching a pointer that lies in a block: its counter falls by one, or at once to zero.
 fn detach_from(parts: &Parts, draft: &Draft, immediate: bool, block: u64, pointer: u64) -> Aim
     requires planned { IsPlanned parts.now.limits draft.now parts.now.state.records }
+    requires there { block_with pointer (records_after draft.now parts.now.state.records).ranges ≡ Some block }
     ensures { result ≡ detach immediate block pointer (records_after draft.now parts.now.state.records).attached }
 {
     if count_after(parts, draft, block, pointer) == 0 {

@@ -7,7 +7,7 @@ ghost use Rattle.acc_base.specs.Bytes.{bytes_of, is_moved, bytes_moved_in, bytes
 ghost use Rattle.acc_dev.specs.Device.{HasBlock};
 ghost use Rattle.acc_present.specs.Present.{HasRange};
 ghost use Rattle.acc_clauses.specs.Contents.{state_of};
-ghost use Rattle.acc_clauses.specs.Acts.{CanMove};
+ghost use Rattle.acc_clauses.specs.Acts.{CanCopy};
 ghost use Rattle.acc_clauses.specs.Copies.{IsRunEnd};
 
 use crate::environments::Environment;
@@ -80,12 +80,12 @@ fn run_from(at: u64, stop: u64) -> Section
     }
 }
 
-/// Copies a section to host memory from the block that it is mapped to, but for the bytes of attached pointers.
-pub(crate) fn copy_out(environment: &mut Environment, section: Section, block: u64)
-    requires can { CanMove section block (state_of environment.old 0) }
-    ensures { let s = state_of environment.old 0 in environment.new ≡ record environment.old { host = bytes_moved_out (is_moved section block s.records.attached) (bytes_of block s.memories) (start_of block s.records.ranges) s.host } }
+/// Copies a section to host memory from a block whose bytes are those from the host address `start` on, but for the bytes
+/// of attached pointers.
+pub(crate) fn copy_out(environment: &mut Environment, section: Section, block: u64, start: u64)
+    requires can { CanCopy section block start (state_of environment.old 0) }
+    ensures { let s = state_of environment.old 0 in environment.new ≡ record environment.old { host = bytes_moved_out (is_moved section block s.records.attached) (bytes_of block s.memories) start s.host } }
 {
-    let start = start_of(&environment.present, block);
     let end = section.start + section.len;
     let mut at = section.start;
     while at < end {
@@ -101,12 +101,12 @@ pub(crate) fn copy_out(environment: &mut Environment, section: Section, block: u
     }
 }
 
-/// Copies a section of host memory to the block that it is mapped to, but for the bytes of attached pointers.
-pub(crate) fn copy_in(environment: &mut Environment, section: Section, block: u64)
-    requires can { CanMove section block (state_of environment.old 0) }
-    ensures { let s = state_of environment.old 0 in environment.new ≡ record environment.old { device = record environment.old.device { memories = map (memory_changed block (bytes_moved_in (is_moved section block s.records.attached) s.host (start_of block s.records.ranges))) s.memories } } }
+/// Copies a section of host memory to a block whose bytes are those from the host address `start` on, but for the bytes
+/// of attached pointers.
+pub(crate) fn copy_in(environment: &mut Environment, section: Section, block: u64, start: u64)
+    requires can { CanCopy section block start (state_of environment.old 0) }
+    ensures { let s = state_of environment.old 0 in environment.new ≡ record environment.old { device = record environment.old.device { memories = map (memory_changed block (bytes_moved_in (is_moved section block s.records.attached) s.host start)) s.memories } } }
 {
-    let start = start_of(&environment.present, block);
     let end = section.start + section.len;
     let mut at = section.start;
     while at < end {

@@ -1,10 +1,10 @@
 //! What look-ups answer after tasks that are only judged yet.
 
 ghost use Rattle.std.specs.Prelude.{◌≡◌, ◌+◌, ◌<◌, ◌≤◌, ◌^◌, length};
-ghost use Rattle.acc_clauses.specs.Overlays.{recount, are_zero, counters_by, counters_over, found_beside, found_by, found_over};
+ghost use Rattle.acc_clauses.specs.Overlays.{recount, are_zero, counters_by, counters_over, found_beside, found_by, found_over, tasks_in, dids_in, puts_by, puts_in};
 
 use crate::acted::Acted;
-use crate::rows::section_of;
+use crate::rows::{moves, queue_of, section_of};
 use crate::sections::{is_apart, is_within};
 use acc_base::{Counter, Counters, Found, Section, Step, Task};
 
@@ -135,4 +135,29 @@ pub fn found_over(section: Section, found: Found, acts: &[Acted]) -> Found
         after = found_by(section, after, *x);
     }
     after
+}
+
+// How many transfers a task puts into a queue.
+fn puts_by(q: u64, x: Acted) -> u64
+    ensures value { result ≡ puts_by q x.task x.did.step }
+    ensures most { result ≤ 1 }
+{
+    if queue_of(x.task) == Some(q) && moves(x.task, x.did.step) {
+        1
+    } else {
+        0
+    }
+}
+
+/// How many transfers these tasks put into a queue.
+pub fn puts_in(q: u64, acts: &[Acted]) -> u64
+    requires few { length acts.now ≤ 64 }
+    ensures value { result ≡ puts_in q (tasks_in acts.now) (dids_in acts.now) }
+    ensures most { result ≤ 64 }
+{
+    let mut count = 0;
+    for x in acts {
+        count += puts_by(q, *x);
+    }
+    count
 }

@@ -4,8 +4,9 @@ use acc_attach::Attached;
 use acc_dev::Device;
 use acc_host::HostMem;
 use acc_present::Present;
+use acc_queues::Queues;
 
-/// The present table, the device, host memory and the attachment counters, side by side. How they fit one another is said by what holds them.
+/// The present table, the device, host memory, the attachment counters and the queues, side by side. How they fit one another is said by what holds them.
 #[derive(Drop)]
 pub(crate) struct Environment {
     /// The mapped ranges and the open regions.
@@ -16,4 +17,6 @@ pub(crate) struct Environment {
     pub(crate) host: HostMem,
     /// The attachment counters of the pointers in the blocks.
     pub(crate) attached: Attached,
+    /// The transfers that are yet to be made.
+    pub(crate) queues: Queues,
 }

@@ -1,8 +1,10 @@
 //! One task after those that were judged before it: its step, and what becomes of its pointer.
 
 ghost use Rattle.std.specs.Prelude.{[], ◌∷◌, ◌++◌, ◌≡◌, ◌<◌, ◌^◌, true, length, MatchResult, Ok, Err};
-ghost use Rattle.acc_base.specs.Tasks.{judge_step};
+ghost use Rattle.acc_base.specs.Steps.{judge_step};
 ghost use Rattle.acc_base.specs.Acting.{judge_task};
+ghost use Rattle.acc_base.specs.Queues.{queue_named};
+ghost use Rattle.acc_base.specs.Tasks.{queue_of};
 ghost use Rattle.acc_clauses.specs.Overlays.{IsPlanned, AreUnmixed, enters, tasks_in, records_after, state_after};
 ghost use Rattle.acc_clauses.specs.Planned.{IsJudgedNext};
 
@@ -43,6 +45,7 @@ pub(crate) fn judge(parts: &Parts, draft: &mut Draft, n: u64, task: Task) -> Res
     requires planned { IsPlanned parts.now.limits draft.old parts.now.state.records }
     requires unmixed { AreUnmixed (tasks_in draft.old ++ task ∷ []) }
     requires births { parts.now.state.records.births < 2 ^ 48 }
+    requires queue { queue_named (queue_of task) ≡ Ok tt }
     requires place { n ≡ length draft.old }
     requires few { n < 64 }
     ensures { MatchResult result (λ _. IsJudgedNext parts.now.limits n task parts.now.state draft.old draft.new) (λ fault. judge_task parts.now.limits n task (state_after draft.old parts.now.state) ≡ Err fault) }

@@ -1,12 +1,15 @@
 //! The clause tables: what a task does after those that were judged before it, or why it is refused.
 
-ghost use Rattle.std.specs.Prelude.{ℕ, ◌≡◌, ◌+◌, ◌++◌, ◌∷◌, [], ◌<◌, ◌≤◌, ◌^◌, true};
+ghost use Rattle.std.specs.Prelude.{ℕ, ◌≡◌, ◌+◌, ◌++◌, ◌∷◌, [], ◌<◌, ◌≤◌, ◌^◌, Option, Ok, true};
 ghost use Rattle.std.specs.List.{list_all};
 ghost use Rattle.acc_base.specs.declared.addresses.TheConstants.{MEMORY_MAX};
 ghost use Rattle.acc_base.specs.Limits.{IsFromOne};
 ghost use Rattle.acc_base.specs.Ranges.{ends_by};
 ghost use Rattle.acc_base.specs.Clauses.{in_host, pointer_checked, born, enter_absent, counted, enter_row, leave_row, exit_row, move_row};
-ghost use Rattle.acc_base.specs.Tasks.{recounted, checked, judge_step};
+ghost use Rattle.acc_base.specs.Tasks.{queue_of, recounted, checked};
+ghost use Rattle.acc_base.specs.Steps.{judge_row, judge_step};
+ghost use Rattle.acc_base.specs.Queues.{queue_named};
+ghost use Rattle.acc_base.specs.Transfers.{transfer_of, room_for};
 ghost use Rattle.acc_base.specs.Blocks.{rounded};
 ghost use Rattle.acc_base.specs.declared.events.Step.TheVariants.{Dropped};
 ghost use Rattle.acc_clauses.specs.Overlays.{IsPlanned, AreUnmixed, tasks_in, records_after, enters};
@@ -14,8 +17,8 @@ ghost use Rattle.acc_clauses.specs.Overlays.{IsPlanned, AreUnmixed, tasks_in, re
 use crate::drafts::Draft;
 use crate::effects::{are_zero, recount};
 use crate::parts::Parts;
-use crate::readings::{counters_after, found_after, number_after, place_after};
-use crate::rows::{pointer_of, section_of};
+use crate::readings::{counters_after, found_after, number_after, place_after, queue_len_after};
+use crate::rows::{moves, pointer_of, queue_of, section_of};
 use crate::sections::{POINTER_LEN, is_within, pointer_at};
 use acc_base::{
     Counter, ExitClause, Fault, Found, HOST_BASE, Holding, Item, RegionClause, Section, Step, Task,
@@ -141,20 +144,25 @@ fn counted(
 }
 
 // An item of a region's entry, or of `enter data`.
-#[tactic(auto, using(crate::proofs::Laws::plan_laws), unfolding(acc_base::specs::Tasks::judge_step))]
+#[tactic(auto, using(crate::proofs::Laws::plan_laws), unfolding(acc_base::specs::Steps::judge_row))]
 fn enter(
     parts: &Parts,
     draft: &Draft,
     n: u64,
     counter: Counter,
     item: Item<RegionClause>,
+    queue: Option<u64>,
 ) -> Result<Step, Fault>
     requires planned { IsPlanned parts.now.limits draft.now parts.now.state.records }
     requires entering { list_all enters (tasks_in draft.now) ≡ true }
     requires births { parts.now.state.records.births < 2 ^ 48 }
-    ensures { result ≡ judge_step parts.now.limits n (Task.Enter counter item) (records_after draft.now parts.now.state.records) }
+    ensures { result ≡ judge_row parts.now.limits n (Task.Enter counter item queue) (records_after draft.now parts.now.state.records) }
 {
-    let task = Task::Enter { counter, item };
+    let task = Task::Enter {
+        counter,
+        item,
+        queue,
+    };
     checked(parts, n, task)?;
     let section = section_of(task);
     match found_after(parts, draft, section) {
@@ -177,10 +185,10 @@ fn dropped(parts: &Parts, draft: &Draft, task: Task, block: u64) -> Step
 }
 
 // Undoes what an item of a region's entry counted, and nothing else.
-#[tactic(auto, unfolding(acc_base::specs::Tasks::judge_step))]
+#[tactic(auto, unfolding(acc_base::specs::Steps::judge_row))]
 fn leave(parts: &Parts, draft: &Draft, holding: Holding) -> Result<Step, Fault>
     requires { IsPlanned parts.now.limits draft.now parts.now.state.records }
-    ensures { (n : ℕ) → result ≡ judge_step parts.now.limits n (Task.Leave holding) (records_after draft.now parts.now.state.records) }
+    ensures { (n : ℕ) → result ≡ judge_row parts.now.limits n (Task.Leave holding) (records_after draft.now parts.now.state.records) }
 {
     match holding.block {
         Some(block) => Ok(dropped(parts, draft, Task::Leave { holding }, block)),
@@ -189,19 +197,24 @@ fn leave(parts: &Parts, draft: &Draft, holding: Holding) -> Result<Step, Fault>
 }
 
 // An item of `exit data`.
-#[tactic(auto, unfolding(acc_base::specs::Tasks::judge_step))]
+#[tactic(auto, unfolding(acc_base::specs::Steps::judge_row))]
 fn exit(
     parts: &Parts,
     draft: &Draft,
     n: u64,
     finalize: bool,
     item: Item<ExitClause>,
+    queue: Option<u64>,
 ) -> Result<Step, Fault>
     requires planned { IsPlanned parts.now.limits draft.now parts.now.state.records }
     requires unmixed { AreUnmixed (tasks_in draft.now) }
-    ensures { result ≡ judge_step parts.now.limits n (Task.Exit finalize item) (records_after draft.now parts.now.state.records) }
+    ensures { result ≡ judge_row parts.now.limits n (Task.Exit finalize item queue) (records_after draft.now parts.now.state.records) }
 {
-    let task = Task::Exit { finalize, item };
+    let task = Task::Exit {
+        finalize,
+        item,
+        queue,
+    };
     checked(parts, n, task)?;
     match found_after(parts, draft, section_of(task)) {
         Found::Empty => Ok(Step::Nothing),
@@ -217,7 +230,7 @@ fn exit(
 }
 
 // An item of `update`.
-#[tactic(auto, unfolding(acc_base::specs::Tasks::judge_step))]
+#[tactic(auto, unfolding(acc_base::specs::Steps::judge_row))]
 fn copy(
     parts: &Parts,
     draft: &Draft,
@@ -227,7 +240,7 @@ fn copy(
 ) -> Result<Step, Fault>
     requires planned { IsPlanned parts.now.limits draft.now parts.now.state.records }
     requires unmixed { AreUnmixed (tasks_in draft.now) }
-    ensures { result ≡ judge_step parts.now.limits n (Task.Move if_present item) (records_after draft.now parts.now.state.records) }
+    ensures { (queue : Option ℕ) → result ≡ judge_row parts.now.limits n (Task.Move if_present item queue) (records_after draft.now parts.now.state.records) }
 {
     in_host(parts, n, item.section)?;
     match found_after(parts, draft, item.section) {
@@ -243,18 +256,60 @@ fn copy(
     }
 }
 
-/// The step of the task of the item at place `n` after those that were judged before it, or its refusal.
+// What the clause tables say of the task of the item at place `n` after those that were judged before it.
 #[tactic(auto, using(crate::proofs::Laws::kind_laws))]
+fn judge_row(parts: &Parts, draft: &Draft, n: u64, task: Task) -> Result<Step, Fault>
+    requires planned { IsPlanned parts.now.limits draft.now parts.now.state.records }
+    requires unmixed { AreUnmixed (tasks_in draft.now ++ task ∷ []) }
+    requires births { parts.now.state.records.births < 2 ^ 48 }
+    ensures { result ≡ judge_row parts.now.limits n task (records_after draft.now parts.now.state.records) }
+{
+    match task {
+        Task::Enter {
+            counter,
+            item,
+            queue,
+        } => enter(parts, draft, n, counter, item, queue),
+        Task::Leave { holding } => leave(parts, draft, holding),
+        Task::Exit {
+            finalize,
+            item,
+            queue,
+        } => exit(parts, draft, n, finalize, item, queue),
+        Task::Move {
+            if_present,
+            item,
+            ..
+        } => copy(parts, draft, n, if_present, item),
+    }
+}
+
+// The queue of a task has room for the transfer of its step.
+#[tactic(auto, using(crate::proofs::QueuesAfter::room_laws))]
+fn room_for(parts: &Parts, draft: &Draft, task: Task, step: Step) -> Result<(), Fault>
+    requires planned { IsPlanned parts.now.limits draft.now parts.now.state.records }
+    requires known { queue_named (queue_of task) ≡ Ok tt }
+    ensures { let w = records_after draft.now parts.now.state.records in result ≡ room_for parts.now.limits.queue_cap (queue_of task) (transfer_of task step w.ranges) w.queues }
+{
+    let Some(q) = queue_of(task) else {
+        return Ok(());
+    };
+    if moves(task, step) && parts.config().queue_cap() <= queue_len_after(parts, draft, q) {
+        return Err(Fault::QueueFull { q });
+    }
+    Ok(())
+}
+
+/// The step of the task of the item at place `n` after those that were judged before it, or its refusal.
+#[tactic(auto, unfolding(acc_base::specs::Steps::judge_step))]
 pub(crate) fn judge_step(parts: &Parts, draft: &Draft, n: u64, task: Task) -> Result<Step, Fault>
     requires planned { IsPlanned parts.now.limits draft.now parts.now.state.records }
     requires unmixed { AreUnmixed (tasks_in draft.now ++ task ∷ []) }
     requires births { parts.now.state.records.births < 2 ^ 48 }
+    requires known { queue_named (queue_of task) ≡ Ok tt }
     ensures { result ≡ judge_step parts.now.limits n task (records_after draft.now parts.now.state.records) }
 {
-    match task {
-        Task::Enter { counter, item } => enter(parts, draft, n, counter, item),
-        Task::Leave { holding } => leave(parts, draft, holding),
-        Task::Exit { finalize, item } => exit(parts, draft, n, finalize, item),
-        Task::Move { if_present, item } => copy(parts, draft, n, if_present, item),
-    }
+    let step = judge_row(parts, draft, n, task)?;
+    room_for(parts, draft, task, step)?;
+    Ok(step)
 }

@@ -1,4 +1,4 @@
-//! The clauses of data directives: a directive is judged whole, then all room is made, and then it is done.
+//! The clauses of data directives, and their queues: a directive is judged whole, then all room is made, and then it is done.
 //!
 //! Judging takes no memory and changes nothing; making room changes nothing else; and doing takes no memory and is never
 //! refused.
@@ -10,6 +10,7 @@ mod aim_effects;
 mod aims;
 mod copies;
 mod drafts;
+mod draining;
 mod effects;
 mod environments;
 mod heads;
@@ -27,6 +28,7 @@ mod sections;
 mod stores;
 mod targets;
 mod tasks;
+mod transfers;
 
 pub use acted::Acted;
 pub use planning::check_items;

@@ -33,6 +33,8 @@ pub fn tell_written(did: &mut ArrayVec<Did, 64>, head: Head, acts: &[Acted])
         Head::Plain => {}
         Head::Entry => {}
         Head::Leaving(_) => did.as_mut_slice().reverse(),
+        Head::Waiting(_) => {}
+        Head::Stepping(_) => {}
     }
 }
 
@@ -127,5 +129,7 @@ pub fn note_held(holdings: &mut ArrayVec<Holding, 64>, head: Head, acts: &[Acted
         Head::Plain => {}
         Head::Entry => note_holdings(holdings, acts),
         Head::Leaving(_) => {}
+        Head::Waiting(_) => {}
+        Head::Stepping(_) => {}
     }
 }

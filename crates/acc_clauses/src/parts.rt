@@ -1,6 +1,6 @@
 //! The parts of a data environment as one value.
 
-ghost use Rattle.std.specs.Prelude.{◌≡◌, ◌+◌, ◌++◌, ◌^◌, ◌<◌, ◌≤◌, ◌↔◌, All, IfOk, IfErr, OnOk, OnErr, IfSome, IfNone, MatchOption, IsSome, None, Some, length, true};
+ghost use Rattle.std.specs.Prelude.{◌≡◌, ◌+◌, ◌++◌, ◌^◌, ◌<◌, ◌≤◌, ◌↔◌, All, IfOk, IfErr, OnOk, OnErr, IfSome, IfNone, MatchOption, IsSome, None, Some, length, option_map, true};
 ghost use Rattle.acc_base.specs.declared.faults.Fault.TheVariants.{Memory};
 ghost use Rattle.acc_base.specs.Limits.{IsFromOne, IsWithinBounds};
 ghost use Rattle.acc_base.specs.declared.addresses.TheConstants.{MEMORY_MAX};
@@ -12,22 +12,31 @@ ghost use Rattle.acc_base.specs.Register.{holdings_at, region_at, newest_region,
 ghost use Rattle.acc_base.specs.Bytes.{bytes_of, host_after_write};
 ghost use Rattle.acc_base.specs.Pointers.{attachment_of};
 ghost use Rattle.acc_base.specs.Acting.{act_state};
+ghost use Rattle.acc_base.specs.declared.transfers.TheConstants.{QUEUE_COUNT};
+ghost use Rattle.acc_base.specs.Queues.{queue_at, head_of};
+ghost use Rattle.acc_base.specs.Waits.{stepped, ended_from};
+ghost use Rattle.acc_queues.specs.Queued.{spare_at};
+ghost use Rattle.acc_clauses.specs.Overlays.{puts_by};
 ghost use Rattle.acc_base.specs.Attachments.{pointer_at, count_at};
 ghost use Rattle.acc_base.specs.Pointers.{block_with, host_pointer, device_pointer};
 ghost use Rattle.acc_host.specs.Host.{bytes_in, IsRead, IsOutOfHost};
 ghost use Rattle.acc_placement.specs.Ranges.{IsTakeBelow};
 ghost use Rattle.acc_dev.specs.Device.{planned_blocks};
 ghost use Rattle.acc_clauses.specs.Contents.{AreNew, AreContentsSound};
-ghost use Rattle.acc_clauses.specs.Acts.{IsJudged, IsKnown, HasRoomFor, HasRegionRoom, CanWrite, IsRoomLeft, birth_of, pointers_of};
+ghost use Rattle.acc_clauses.specs.Acts.{IsJudged, IsKnown, HasRoomFor, HasPutRoom, HasRegionRoom, CanWrite, IsRoomLeft, birth_of, pointers_of};
 
 use crate::acting::act_on;
 use crate::environments::Environment;
 use crate::sections::pointer_at;
+use crate::transfers::step;
 use acc_attach::Attached;
-use acc_base::{Config, Counter, Counters, Did, Fault, Found, Holding, Range, Section, Task};
+use acc_base::{
+    Config, Counter, Counters, Did, Ended, Fault, Found, Holding, Range, Section, Task,
+};
 use acc_dev::Device;
 use acc_host::HostMem;
 use acc_present::Present;
+use acc_queues::Queues;
 use std::alloc::Global;
 use std::marker::Model;
 
@@ -60,6 +69,7 @@ impl Parts {
             device: Device::new(alloc, config.device())?,
             host: HostMem::new(alloc, config.host())?,
             attached: Attached::new(alloc, config.counter_max()),
+            queues: Queues::new(alloc, config.queue_cap())?,
         };
         Ok(Parts {
             config: *config,
@@ -88,7 +98,9 @@ impl Parts {
     pub(crate) fn range(&self, block: u64) -> Option<Range>
         ensures { result ≡ range_of block self.now.state.records.ranges }
     {
-        if self.environment.device.has(block) {
+        let device = &self.environment.device;
+        device.laws();
+        if device.has(block) && !device.has_ended(block) {
             Some(self.environment.present.range_at(block))
         } else {
             None
@@ -194,6 +206,33 @@ impl Parts {
         self.environment.device.used()
     }
 
+    /// The block of least place at or above a device address whose mapping has ended, if there is one.
+    pub(crate) fn ended(&self, from: u64) -> Option<Ended>
+        ensures { result ≡ ended_from from self.now.state.records }
+    {
+        self.environment.device.laws();
+        self.environment.device.ended(from)
+    }
+
+    // ---- queues
+
+    /// How many transfers wait in a queue; 0 where there is no such queue.
+    pub(crate) fn queue_len(&self, q: u64) -> u64
+        ensures value { result ≡ length (queue_at q self.now.state.records.queues) }
+        ensures limit { result ≤ self.now.limits.queue_cap }
+        ensures bound { self.now.limits.queue_cap ≤ 4096 }
+    {
+        self.laws();
+        self.environment.queues.len(q)
+    }
+
+    /// The block that the first transfer of a queue names, if it has one.
+    pub(crate) fn head_block(&self, q: u64) -> Option<u64>
+        ensures { result ≡ option_map (λ t. t.block) (head_of q self.now.state.records.queues) }
+    {
+        self.environment.queues.head(q).map(|t| t.block)
+    }
+
     // ---- regions
 
     /// What an open region holds. `None` exactly where no region of the number is open.
@@ -274,12 +313,22 @@ impl Parts {
         requires births { self.old.state.records.births < 2 ^ 48 }
         requires room { HasRoomFor (birth_of task did.step) self.old.room }
         requires pointers { pointers_of did.aim ≤ self.old.room.attachments }
+        requires puts { HasPutRoom (λ q. puts_by q task did.step) self.old.room }
         ensures limits { self.new.limits ≡ self.old.limits }
         ensures state { self.new.state ≡ act_state task did self.old.state }
-        ensures room { IsRoomLeft (birth_of task did.step) (pointers_of did.aim) self.old.room self.new.room }
+        ensures room { IsRoomLeft (birth_of task did.step) (pointers_of did.aim) (λ q. puts_by q task did.step) self.old.room self.new.room }
     {
         self.config.laws();
         act_on(&mut self.environment, task, did);
+    }
+
+    /// Makes the first transfer of a queue, if it has one. It takes no memory and is never refused.
+    pub(crate) fn step(&mut self, q: u64)
+        ensures limits { self.new.limits ≡ self.old.limits }
+        ensures state { self.new.state ≡ stepped q self.old.state }
+    {
+        self.laws();
+        step(&mut self.environment, q);
     }
 
     /// Makes room for births of blocks of these lengths, in this order, for one region with so many holdings, and for so
@@ -309,6 +358,27 @@ impl Parts {
             .reserve(lens.len() as u64, holdings)?;
         self.environment.attached.reserve(pointers)?;
         Ok(())
+    }
+
+    /// Makes room for so many transfers in a queue. Nothing else changes, also where it is refused.
+    ///
+    /// # Errors
+    ///
+    /// [`Fault::Memory`] alone.
+    pub(crate) fn reserve_puts(&mut self, q: u64, puts: u64) -> Result<(), Fault>
+        requires known { q < QUEUE_COUNT }
+        requires few { puts ≤ 64 }
+        ensures limits { self.new.limits ≡ self.old.limits }
+        ensures state { self.new.state ≡ self.old.state }
+        ensures room { OnOk result (puts ≤ spare_at q self.new.room.puts) }
+        ensures births { self.new.room.births ≡ self.old.room.births }
+        ensures ranges { self.new.room.ranges ≡ self.old.room.ranges }
+        ensures regions { self.new.room.regions ≡ self.old.room.regions }
+        ensures holdings { self.new.room.holdings ≡ self.old.room.holdings }
+        ensures attachments { self.new.room.attachments ≡ self.old.room.attachments }
+        ensures only { IfErr result (λ fault. fault ≡ Memory) }
+    {
+        self.environment.queues.reserve(q, puts)
     }
 
     /// Opens a region of the next number with these holdings, where there is room for them. It takes no memory.

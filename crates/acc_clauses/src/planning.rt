@@ -4,8 +4,10 @@ ghost use Rattle.std.specs.Prelude.{◌≡◌, ◌<◌, ◌≤◌, ◌^◌, Matc
 ghost use Rattle.std.specs.List.{AllByRecursion};
 ghost use Rattle.acc_base.specs.Records.{layout_of};
 ghost use Rattle.acc_base.specs.Acting.{judge_all};
-ghost use Rattle.acc_base.specs.Judge.{few_items, event_of, plan_of};
-ghost use Rattle.acc_clauses.specs.Overlays.{IsPlanned, AreUnmixed, tasks_in, dids_in};
+ghost use Rattle.acc_base.specs.Queues.{queue_named};
+ghost use Rattle.acc_base.specs.Tasks.{queue_of};
+ghost use Rattle.acc_base.specs.Judge.{few_items, queue_in, verdict_of, plan_of};
+ghost use Rattle.acc_clauses.specs.Overlays.{IsPlanned, AreUnmixed, AreQueuesNamed, tasks_in, dids_in};
 ghost use Rattle.acc_clauses.specs.Planned.{HasFewHoldings, asked_of, head_of, IsPlannedOn};
 
 use crate::drafts::Draft;
@@ -14,13 +16,14 @@ use crate::notes::{note_births, note_held, tell_written};
 use crate::parts::Parts;
 use crate::plans::{Head, Plan};
 use crate::tasks::{enter_data_tasks, enter_tasks, exit_tasks, leaving_tasks, move_tasks};
-use acc_base::{Directive, Fault, Task};
+use acc_base::{Directive, Fault, QUEUE_COUNT, Task};
 use arrayvec::ArrayVec;
 
 /// Judges each task as if those before it had acted.
 fn judge_all(parts: &Parts, tasks: &[Task], draft: &mut Draft) -> Result<(), Fault>
     requires few { length tasks.now ≤ 64 }
     requires unmixed { AreUnmixed tasks.now }
+    requires queues { AreQueuesNamed tasks.now }
     requires births { parts.now.state.records.births < 2 ^ 48 }
     ensures judged { MatchResult result (λ _. judge_all parts.now.limits 0 tasks.now parts.now.state ≡ Ok (dids_in draft.new)) (λ fault. judge_all parts.now.limits 0 tasks.now parts.now.state ≡ Err fault) }
     ensures asked { OnOk result (tasks_in draft.new ≡ tasks.now) }
@@ -64,6 +67,7 @@ fn tasks_of(
     requires { AllByRecursion HasFewHoldings parts.now.state.register.regions }
     ensures asked { let asked = asked_of directive.now parts.now.state.register in MatchResult result (λ _. asked ≡ Ok tasks.new.items) (λ fault. asked ≡ Err fault) }
     ensures unmixed { OnOk result (AreUnmixed tasks.new.items) }
+    ensures queues { OnOk result (AllByRecursion (λ t. queue_of t ≡ queue_in directive.now) tasks.new.items) }
     ensures few { OnOk result (length tasks.new.items ≤ 64) }
 {
     check_items(directive)?;
@@ -74,18 +78,51 @@ fn tasks_of(
             Some(holdings) => leaving_tasks(tasks, holdings),
             None => return Err(Fault::NoRegion { number: *number }),
         },
-        Directive::EnterData { items } => enter_data_tasks(tasks, items.as_slice()),
-        Directive::ExitData { items, finalize } => {
-            exit_tasks(tasks, items.as_slice(), *finalize);
+        Directive::EnterData { items, queue } => {
+            enter_data_tasks(tasks, items.as_slice(), *queue);
         }
-        Directive::Update { items, if_present } => {
-            move_tasks(tasks, items.as_slice(), *if_present);
-        }
+        Directive::ExitData {
+            items,
+            finalize,
+            queue,
+        } => exit_tasks(tasks, items.as_slice(), *finalize, *queue),
+        Directive::Update {
+            items,
+            if_present,
+            queue,
+        } => move_tasks(tasks, items.as_slice(), *if_present, *queue),
+        Directive::Wait { .. } => {}
+        Directive::Step { .. } => {}
     }
     Ok(())
 }
 
-// What a directive does to the register of open regions.
+// The queue that a directive names.
+fn queue_in(directive: &Directive) -> Option<u64>
+    ensures { result ≡ queue_in directive.now }
+{
+    match directive {
+        Directive::Enter { .. } => None,
+        Directive::Exit { .. } => None,
+        Directive::EnterData { queue, .. } => *queue,
+        Directive::ExitData { queue, .. } => *queue,
+        Directive::Update { queue, .. } => *queue,
+        Directive::Wait { queue } => *queue,
+        Directive::Step { queue } => Some(*queue),
+    }
+}
+
+// The queue that is named is there.
+fn check_queue(queue: Option<u64>) -> Result<(), Fault>
+    ensures { result ≡ queue_named queue }
+{
+    match queue {
+        Some(q) if q >= QUEUE_COUNT => Err(Fault::NoQueue { q }),
+        Some(_) | None => Ok(()),
+    }
+}
+
+// What a directive does beside its tasks.
 fn head_of(directive: &Directive) -> Head
     ensures { result ≡ head_of directive.now }
 {
@@ -95,6 +132,8 @@ fn head_of(directive: &Directive) -> Head
         Directive::EnterData { .. } => Head::Plain,
         Directive::ExitData { .. } => Head::Plain,
         Directive::Update { .. } => Head::Plain,
+        Directive::Wait { queue } => Head::Waiting(*queue),
+        Directive::Step { queue } => Head::Stepping(*queue),
     }
 }
 
@@ -103,17 +142,20 @@ fn head_of(directive: &Directive) -> Head
 ///
 /// # Errors
 ///
-/// [`Fault::TooManyItems`] above 64 items; [`Fault::NoRegion`] where the region that is left is not open; else the first
-/// refusal of an item: [`Fault::OutOfHost`], [`Fault::Misaligned`], [`Fault::PartlyPresent`], [`Fault::NotPresent`],
-/// [`Fault::CounterFull`] or [`Fault::DeviceFull`], with the item's place in the directive, counted from 0.
+/// [`Fault::TooManyItems`] above 64 items; [`Fault::NoRegion`] where the region that is left is not open;
+/// [`Fault::NoQueue`] where there is no queue of the number that it names; else the first refusal of an item:
+/// [`Fault::OutOfHost`], [`Fault::Misaligned`], [`Fault::PartlyPresent`], [`Fault::NotPresent`], [`Fault::CounterFull`] or
+/// [`Fault::DeviceFull`], with the item's place in the directive, counted from 0, or [`Fault::QueueFull`].
 #[tactic(auto, using(crate::proofs::Asking::event_laws))]
 pub(crate) fn plan(parts: &Parts, directive: &Directive, plan: &mut Plan) -> Result<(), Fault>
     requires births { parts.now.state.records.births < 2 ^ 48 }
     requires register { AllByRecursion HasFewHoldings parts.now.state.register.regions }
-    ensures judged { let s = parts.now.state in MatchResult result (λ _. plan_of parts.now.limits directive.now s ≡ Ok (event_of directive.now s.register plan.new.dids)) (λ fault. plan_of parts.now.limits directive.now s ≡ Err fault) }
+    ensures judged { let s = parts.now.state in MatchResult result (λ _. plan_of parts.now.limits directive.now s ≡ Ok (verdict_of directive.now s plan.new.dids)) (λ fault. plan_of parts.now.limits directive.now s ≡ Err fault) }
     ensures planned { OnOk result (IsPlannedOn parts.now.limits directive.now (layout_of parts.now.state) plan.new) }
 {
     tasks_of(parts, directive, &mut plan.asked)?;
+    plan.queue = queue_in(directive);
+    check_queue(plan.queue)?;
     let judged = judge_all(parts, &plan.asked, &mut plan.draft);
     plan.head = head_of(directive);
     let acts = plan.draft.acts();

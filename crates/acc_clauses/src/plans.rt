@@ -1,6 +1,6 @@
 //! The plan of a directive.
 
-ghost use Rattle.std.specs.Prelude.{◌≡◌, ◌≤◌, [], length};
+ghost use Rattle.std.specs.Prelude.{◌≡◌, ◌≤◌, [], None, length};
 ghost use Rattle.acc_clauses.specs.Overlays.{tasks_in, dids_in};
 ghost use Rattle.acc_clauses.specs.Planned.{in_written_order, held_by};
 ghost use Rattle.acc_clauses.specs.Acts.{lens_born};
@@ -12,7 +12,7 @@ use acc_base::{Did, Holding, Task};
 use arrayvec::ArrayVec;
 use std::marker::Model;
 
-/// What a directive does to the register of open regions.
+/// What a directive does beside its tasks.
 #[derive(Clone, Copy, Debug, PartialEq, Eq)]
 pub enum Head {
     /// Nothing.
@@ -21,6 +21,10 @@ pub enum Head {
     Entry,
     /// It leaves the region of this number.
     Leaving(u64),
+    /// It makes the transfers of this queue, or those of all queues.
+    Waiting(Option<u64>),
+    /// It makes the first transfer of this queue.
+    Stepping(u64),
 }
 
 /// A directive that was judged whole: what each of its items will do.
@@ -29,6 +33,8 @@ pub enum Head {
 #[derive(Drop)]
 pub struct Plan {
     pub(crate) head: Head,
+    // The queue that the directive names.
+    pub(crate) queue: Option<u64>,
     // What the items ask, in the order in which they act.
     pub(crate) asked: ArrayVec<Task, 64>,
     pub(crate) draft: Draft,
@@ -46,7 +52,7 @@ impl Model for Plan {
 
     ghost Value = { Planned };
 
-    ghost view = { λ p. record { head = p.head; tasks = tasks_in p.draft; dids = dids_in p.draft } };
+    ghost view = { λ p. record { head = p.head; queue = p.queue; tasks = tasks_in p.draft; dids = dids_in p.draft } };
 
     ghost invariant = { λ p. IsNoted p.head (tasks_in p.draft) (dids_in p.draft) p.did.items p.lens.items p.holdings.items };
 }
@@ -54,10 +60,11 @@ impl Model for Plan {
 impl Plan {
     /// A plan of nothing, to be filled by [`crate::Store::plan`]. It takes no memory.
     pub fn new() -> Self
-        ensures { result ≡ record { head = Plain; tasks = []; dids = [] } }
+        ensures { result ≡ record { head = Plain; queue = None; tasks = []; dids = [] } }
     {
         Plan {
             head: Head::Plain,
+            queue: None,
             asked: ArrayVec::new(),
             draft: Draft::new(),
             did: ArrayVec::new(),
@@ -66,11 +73,18 @@ impl Plan {
         }
     }
 
-    /// What the directive does to the register of open regions.
+    /// What the directive does beside its tasks.
     pub(crate) fn head(&self) -> Head
         ensures { result ≡ self.now.head }
     {
         self.head
+    }
+
+    /// The queue that the directive names.
+    pub(crate) fn queue(&self) -> Option<u64>
+        ensures { result ≡ self.now.queue }
+    {
+        self.queue
     }
 
     /// Its tasks in the order in which they act, each with what it does.

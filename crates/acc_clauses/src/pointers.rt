@@ -6,7 +6,7 @@ ghost use Rattle.acc_base.specs.declared.attachments.Aim.TheVariants.{Less};
 ghost use Rattle.acc_base.specs.Attachments.{pointer_at};
 ghost use Rattle.acc_base.specs.Bytes.{host_byte};
 ghost use Rattle.acc_base.specs.Pointers.{pointer_written};
-ghost use Rattle.acc_clauses.specs.Contents.{state_of, room_of};
+ghost use Rattle.acc_clauses.specs.Contents.{AreMarked, state_of, room_of};
 ghost use Rattle.acc_clauses.specs.Acts.{CanMove, CanDetach, CanAim, IsAimedBy, pointers_of, pointers_in};
 ghost use Rattle.acc_clauses.specs.Overlays.{dids_in};
 
@@ -47,6 +47,7 @@ fn write_back(environment: &mut Environment, pointer: u64, block: u64)
 /// Takes one from the counter of a pointer in a block; at zero its bytes there become those of the host's pointer.
 fn lessen(environment: &mut Environment, pointer: u64, block: u64)
     requires can { CanDetach pointer block (state_of environment.old 0) }
+    requires marked { AreMarked environment.old }
     ensures aimed { IsAimedBy (Less pointer block) environment.old environment.new }
 {
     match environment.attached.detach(block, pointer) {
@@ -59,6 +60,7 @@ fn lessen(environment: &mut Environment, pointer: u64, block: u64)
 pub(crate) fn aim_on(environment: &mut Environment, aim: Aim)
     requires can { CanAim environment.old.attached.counter_max aim (state_of environment.old 0) }
     requires room { pointers_of aim ≤ (room_of environment.old).attachments }
+    requires marked { AreMarked environment.old }
     ensures aimed { IsAimedBy aim environment.old environment.new }
 {
     match aim {

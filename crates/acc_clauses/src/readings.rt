@@ -1,15 +1,17 @@
 //! What look-ups answer in the records that the tasks judged so far will leave.
 
-ghost use Rattle.std.specs.Prelude.{◌≡◌, ◌+◌, ◌<◌, ◌^◌, true};
+ghost use Rattle.std.specs.Prelude.{◌≡◌, ◌+◌, ◌<◌, ◌^◌, length, true};
 ghost use Rattle.std.specs.List.{list_all};
 ghost use Rattle.acc_base.specs.declared.addresses.TheConstants.{MEMORY_MAX};
+ghost use Rattle.acc_base.specs.declared.transfers.TheConstants.{QUEUE_COUNT};
+ghost use Rattle.acc_base.specs.Queues.{queue_at};
 ghost use Rattle.acc_base.specs.Limits.{IsFromOne};
 ghost use Rattle.acc_base.specs.Ranges.{where_is};
 ghost use Rattle.acc_base.specs.Blocks.{rounded, place_for};
 ghost use Rattle.acc_clauses.specs.Overlays.{IsPlanned, AreUnmixed, tasks_in, records_after, enters, counters_at};
 
 use crate::drafts::Draft;
-use crate::effects::{counters_over, found_over};
+use crate::effects::{counters_over, found_over, puts_in};
 use crate::parts::Parts;
 use acc_base::{Counters, Found, Section};
 
@@ -56,4 +58,14 @@ pub(crate) fn number_after(parts: &Parts, draft: &Draft) -> u64
     ensures { result ≡ (records_after draft.now parts.now.state.records).births + 1 }
 {
     parts.next_block() + draft.births().len() as u64
+}
+
+/// How many transfers wait in a queue after the tasks.
+#[tactic(auto, using(crate::proofs::QueuesAfter::queue_laws))]
+pub(crate) fn queue_len_after(parts: &Parts, draft: &Draft, q: u64) -> u64
+    requires planned { IsPlanned parts.now.limits draft.now parts.now.state.records }
+    requires known { q < QUEUE_COUNT }
+    ensures { result ≡ length (queue_at q (records_after draft.now parts.now.state.records).queues) }
+{
+    parts.queue_len(q) + puts_in(q, draft.acts())
 }

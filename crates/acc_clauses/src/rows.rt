@@ -1,9 +1,11 @@
 //! What a task's row of the clause tables says of its bytes (OpenACC 3.3, section 2.7).
 
 ghost use Rattle.std.specs.Prelude.{◌≡◌};
-ghost use Rattle.acc_base.specs.Tasks.{section_of, pointer_of, is_action, pointer_aimed};
+ghost use Rattle.acc_base.specs.Tasks.{section_of, pointer_of, queue_of};
+ghost use Rattle.acc_base.specs.Steps.{is_action, pointer_aimed};
 ghost use Rattle.acc_base.specs.Clauses.{is_attach, is_detach, section_named, pointer_named, copies_in, copies_out, is_zeroed};
-ghost use Rattle.acc_base.specs.Bytes.{gives_bytes, goes_out};
+ghost use Rattle.acc_base.specs.Transfers.{gets_bytes, gives_bytes, goes_out};
+ghost use Rattle.acc_clauses.specs.Overlays.{moves};
 
 use acc_base::{ExitClause, RegionClause, Section, Step, Task, UpdateClause};
 
@@ -116,6 +118,18 @@ pub fn pointer_aimed(task: Task, step: Step) -> Option<u64>
     }
 }
 
+/// The queue into which its transfer is put; without one it is made at once.
+pub fn queue_of(task: Task) -> Option<u64>
+    ensures { result ≡ queue_of task }
+{
+    match task {
+        Task::Enter { queue, .. } => queue,
+        Task::Leave { .. } => None,
+        Task::Exit { queue, .. } => queue,
+        Task::Move { queue, .. } => queue,
+    }
+}
+
 /// A new block of this clause gets the bytes of the section.
 pub fn copies_in(clause: RegionClause) -> bool
     ensures { result ≡ copies_in clause }
@@ -158,6 +172,16 @@ pub fn is_zeroed(clause: RegionClause) -> bool
     }
 }
 
+// A birth by this task copies the section to the new block.
+fn gets_bytes(task: Task) -> bool
+    ensures { result ≡ gets_bytes task }
+{
+    match task {
+        Task::Enter { item, .. } => copies_in(item.clause),
+        Task::Leave { .. } | Task::Exit { .. } | Task::Move { .. } => false,
+    }
+}
+
 /// The end of a mapping by this task copies the section to the host.
 pub fn gives_bytes(task: Task) -> bool
     ensures { result ≡ gives_bytes task }
@@ -183,5 +207,17 @@ pub fn goes_out(task: Task) -> bool
             UpdateClause::ToSelf => true,
             UpdateClause::ToDevice => false,
         },
+    }
+}
+
+/// The step has a transfer.
+pub fn moves(task: Task, step: Step) -> bool
+    ensures { result ≡ moves task step }
+{
+    match step {
+        Step::Born { .. } => gets_bytes(task),
+        Step::Dropped { ended: true, .. } => gives_bytes(task),
+        Step::Moved { .. } => true,
+        Step::Nothing | Step::Counted { .. } | Step::Dropped { ended: false, .. } => false,
     }
 }

@@ -3,8 +3,8 @@
 ghost use Rattle.std.specs.Prelude.{◌≡◌, ◌<◌, ◌≤◌, ◌^◌, length};
 ghost use Rattle.acc_base.specs.Acting.{act_all_state};
 ghost use Rattle.acc_base.specs.History.{AreJudged};
-ghost use Rattle.acc_clauses.specs.Overlays.{tasks_in, dids_in};
-ghost use Rattle.acc_clauses.specs.Acts.{AreKnown, HasRoomFor, lens_born, pointers_in};
+ghost use Rattle.acc_clauses.specs.Overlays.{tasks_in, dids_in, puts_in};
+ghost use Rattle.acc_clauses.specs.Acts.{AreKnown, HasRoomFor, HasPutRoom, lens_born, pointers_in};
 
 use crate::acted::Acted;
 use crate::parts::Parts;
@@ -18,6 +18,7 @@ pub fn act_all(parts: &mut Parts, acts: &[Acted])
     requires births { parts.old.state.records.births < 2 ^ 47 }
     requires room { HasRoomFor (lens_born (tasks_in acts.now) (dids_in acts.now)) parts.old.room }
     requires pointers { pointers_in (dids_in acts.now) ≤ parts.old.room.attachments }
+    requires puts { HasPutRoom (λ q. puts_in q (tasks_in acts.now) (dids_in acts.now)) parts.old.room }
     ensures limits { parts.new.limits ≡ parts.old.limits }
     ensures state { parts.new.state ≡ act_all_state (tasks_in acts.now) (dids_in acts.now) parts.old.state }
     ensures room_regions { parts.old.room.regions ≤ parts.new.room.regions }

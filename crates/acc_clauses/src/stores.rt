@@ -1,6 +1,6 @@
 //! Everything that a table keeps beside its trace, as one value.
 
-ghost use Rattle.std.specs.Prelude.{◌≡◌, ◌<◌, ◌^◌, ◌↔◌, [], IfOk, IfErr, OnOk, MatchResult, Ok, Err, IfSome, IfNone, IsSome, length};
+ghost use Rattle.std.specs.Prelude.{◌≡◌, ◌<◌, ◌^◌, ◌↔◌, [], IfOk, IfErr, OnOk, MatchResult, Ok, Err, IfSome, IfNone, IsSome, length, option_map};
 ghost use Rattle.acc_base.specs.declared.faults.Fault.TheVariants.{Memory};
 ghost use Rattle.acc_base.specs.Limits.{IsWithinBounds};
 ghost use Rattle.acc_base.specs.Clauses.{in_host};
@@ -10,7 +10,10 @@ ghost use Rattle.acc_base.specs.Blocks.{block_at, place_of, used_bytes};
 ghost use Rattle.acc_base.specs.Bytes.{bytes_of, host_after_write};
 ghost use Rattle.acc_base.specs.Pointers.{attachment_of};
 ghost use Rattle.acc_base.specs.Acting.{after};
-ghost use Rattle.acc_base.specs.Judge.{event_of, plan_of};
+ghost use Rattle.acc_base.specs.Queues.{queue_at, head_of};
+ghost use Rattle.acc_base.specs.Waits.{steps_of, ended_from};
+ghost use Rattle.acc_base.specs.declared.events.Event.{Event};
+ghost use Rattle.acc_base.specs.Judge.{Makes, Idle, verdict_of, plan_of};
 ghost use Rattle.acc_base.specs.Records.{layout_of};
 ghost use Rattle.acc_base.specs.Register.{newest_region};
 ghost use Rattle.acc_base.specs.declared.directives.Directive.{Directive};
@@ -21,6 +24,8 @@ ghost use Rattle.acc_clauses.specs.Stored.{IsPlan};
 ghost use Rattle.acc_clauses.specs.Planned.{IsPlannedOn};
 ghost use Rattle.acc_clauses.specs.Acts.{CanWrite, HasPlanRoom};
 
+use crate::draining::waiting;
+use crate::effects::puts_in;
 use crate::heads::finish;
 use crate::judging::in_host;
 use crate::parts::Parts;
@@ -28,11 +33,12 @@ use crate::planning;
 use crate::plans::Plan;
 use crate::pointers::pointers_in;
 use crate::running::act_all;
-use acc_base::{Config, Counters, Directive, Fault, Found, Range, Section};
+use acc_base::{Config, Counters, Directive, Ended, Fault, Found, Range, Section};
 use std::alloc::Global;
 use std::marker::Model;
 
-/// Host memory, the blocks of the device, the mapped ranges with their counters, and the open data regions.
+/// Host memory, the blocks of the device, the mapped ranges with their counters, the open data regions, and the queues of
+/// transfers that are yet to be made.
 ///
 /// Contracts see the limits, the state, and the room that was made for more.
 #[derive(Drop)]
@@ -52,7 +58,7 @@ impl Model for Store {
 }
 
 impl Store {
-    /// Nothing is mapped, no region is open, and host memory is zero.
+    /// Nothing is mapped, no region is open, the queues are empty, and host memory is zero.
     ///
     /// # Errors
     ///
@@ -80,12 +86,12 @@ impl Store {
     ///
     /// # Errors
     ///
-    /// `TooManyItems` above 64 items; `NoRegion` where the region is not open; then the first refusal of the items in the
-    /// order in which they act: `OutOfHost`, `Misaligned`, `PartlyPresent`, `NotPresent`, `CounterFull` or `DeviceFull`. The
-    /// plan is then of no use.
+    /// `TooManyItems` above 64 items; `NoRegion` where the region is not open; `NoQueue` where there is no such queue; then
+    /// the first refusal of the items in the order in which they act: `OutOfHost`, `Misaligned`, `PartlyPresent`,
+    /// `NotPresent`, `CounterFull`, `DeviceFull` or `QueueFull`. The plan is then of no use.
     pub fn plan(&self, directive: &Directive, plan: &mut Plan) -> Result<(), Fault>
         requires births { self.now.state.records.births < 2 ^ 48 }
-        ensures judged { let s = self.now.state in MatchResult result (λ _. plan_of self.now.limits directive.now s ≡ Ok (event_of directive.now s.register plan.new.dids)) (λ fault. plan_of self.now.limits directive.now s ≡ Err fault) }
+        ensures judged { let s = self.now.state in MatchResult result (λ _. plan_of self.now.limits directive.now s ≡ Ok (verdict_of directive.now s plan.new.dids)) (λ fault. plan_of self.now.limits directive.now s ≡ Err fault) }
         ensures planned { OnOk result (IsPlannedOn self.now.limits directive.now (layout_of self.now.state) plan.new) }
     {
         planning::plan(&self.parts, directive, plan)
@@ -106,7 +112,11 @@ impl Store {
         self.parts.laws();
         let acts = plan.acts();
         self.parts
-            .reserve(plan.lens(), acts.len() as u64, pointers_in(acts))
+            .reserve(plan.lens(), acts.len() as u64, pointers_in(acts))?;
+        match plan.queue() {
+            Some(q) => self.parts.reserve_puts(q, puts_in(q, acts)),
+            None => Ok(()),
+        }
     }
 
     /// Does a plan of this store, for which room was made. It takes no memory and is never refused.
@@ -117,8 +127,9 @@ impl Store {
         requires room { HasPlanRoom plan.now self.old.room }
         ensures limits { self.new.limits ≡ self.old.limits }
 
-        // The state is that after the event of the directive.
-        ensures state { (d : Directive) → IsPlannedOn self.old.limits d (layout_of self.old.state) plan.now → self.new.state ≡ after (event_of d self.old.state.register plan.now.dids) [] self.old.state }
+        // The state is that after the event of the directive, and it stays where there is nothing to do.
+        ensures idle { (d : Directive) → IsPlannedOn self.old.limits d (layout_of self.old.state) plan.now → verdict_of d self.old.state plan.now.dids ≡ Idle → self.new.state ≡ self.old.state }
+        ensures state { (d : Directive) (e : Event) → IsPlannedOn self.old.limits d (layout_of self.old.state) plan.now → verdict_of d self.old.state plan.now.dids ≡ Makes e → self.new.state ≡ after e [] self.old.state }
     {
         self.parts.laws();
         act_all(&mut self.parts, plan.acts());
@@ -205,6 +216,35 @@ impl Store {
         ensures { result ≡ self.now.state.records.births }
     {
         self.parts.next_block() - 1
+    }
+
+    /// Of the blocks whose mapping has ended, the one of least place at or above a device address. A block stays after the
+    /// end of its mapping while a queued transfer names it (OpenACC 3.3, section 2.16).
+    pub fn ended(&self, from: u64) -> Option<Ended>
+        ensures { result ≡ ended_from from self.now.state.records }
+    {
+        self.parts.ended(from)
+    }
+
+    /// How many transfers wait in a queue; 0 where there is no such queue (OpenACC 3.3, section 2.16).
+    pub fn queue_len(&self, q: u64) -> u64
+        ensures { result ≡ length (queue_at q self.now.state.records.queues) }
+    {
+        self.parts.queue_len(q)
+    }
+
+    /// How many transfers wait in a queue, or in all queues together: as many as `wait` makes.
+    pub fn waiting(&self, queue: Option<u64>) -> u64
+        ensures { result ≡ length (steps_of queue self.now.state.records.queues) }
+    {
+        waiting(&self.parts, queue)
+    }
+
+    /// The number of the block that the first transfer of a queue names, if the queue has one.
+    pub fn head_block(&self, q: u64) -> Option<u64>
+        ensures { result ≡ option_map (λ t. t.block) (head_of q self.now.state.records.queues) }
+    {
+        self.parts.head_block(q)
     }
 
     /// The number that the next data region gets.

@@ -25,10 +25,11 @@ pub(crate) fn block_after(parts: &Parts, draft: &Draft, pointer: u64) -> Option<
     }
 }
 
-/// How often a pointer in a block is attached after the tasks.
+/// How often a pointer in a block is attached after the tasks, where the block holds it then.
 #[tactic(auto, using(crate::proofs::AimsCounted::count_laws))]
 pub(crate) fn count_after(parts: &Parts, draft: &Draft, block: u64, pointer: u64) -> u64
     requires planned { IsPlanned parts.now.limits draft.now parts.now.state.records }
+    requires there { block_with pointer (records_after draft.now parts.now.state.records).ranges ≡ Some block }
     ensures { result ≡ count_at block pointer (records_after draft.now parts.now.state.records).attached }
 {
     let count = parts.count(block, pointer);

@@ -1,9 +1,9 @@
 //! What the items of a directive ask, in the order in which they act. Each list is put into one that is there and empty.
 
 ghost use Rattle.std.specs.Prelude.{◌≡◌, ◌≤◌, [], length, map};
-ghost use Rattle.acc_base.specs.declared.tasks.Task.TheVariants.{Leave, Exit, Move};
+ghost use Rattle.acc_base.specs.declared.tasks.Task.TheVariants.{Leave};
 ghost use Rattle.acc_base.specs.Clauses.{as_region};
-ghost use Rattle.acc_base.specs.Walk.{enter_task, enter_data_task, leave_tasks};
+ghost use Rattle.acc_base.specs.Walk.{enter_task, enter_data_task, leave_tasks, exit_task, move_task};
 
 use acc_base::{Counter, EnterClause, ExitClause, Holding, Item, RegionClause, Task, UpdateClause};
 use arrayvec::ArrayVec;
@@ -18,6 +18,7 @@ pub fn enter_tasks(tasks: &mut ArrayVec<Task, 64>, items: &[Item<RegionClause>])
         tasks.push(Task::Enter {
             counter: Counter::Structured,
             item: *x,
+            queue: None,
         });
     }
 }
@@ -34,10 +35,14 @@ fn as_region(clause: EnterClause) -> RegionClause
 }
 
 /// The items of `enter data`.
-pub fn enter_data_tasks(tasks: &mut ArrayVec<Task, 64>, items: &[Item<EnterClause>])
+pub fn enter_data_tasks(
+    tasks: &mut ArrayVec<Task, 64>,
+    items: &[Item<EnterClause>],
+    queue: Option<u64>,
+)
     requires none { tasks.old.items ≡ [] }
     requires few { length items.now ≤ 64 }
-    ensures { tasks.new.items ≡ map enter_data_task items.now }
+    ensures { tasks.new.items ≡ map (enter_data_task queue) items.now }
 {
     for x in items {
         let item = Item {
@@ -48,31 +53,47 @@ pub fn enter_data_tasks(tasks: &mut ArrayVec<Task, 64>, items: &[Item<EnterClaus
         tasks.push(Task::Enter {
             counter: Counter::Dynamic,
             item,
+            queue,
         });
     }
 }
 
 /// The items of `exit data`.
-pub fn exit_tasks(tasks: &mut ArrayVec<Task, 64>, items: &[Item<ExitClause>], finalize: bool)
+pub fn exit_tasks(
+    tasks: &mut ArrayVec<Task, 64>,
+    items: &[Item<ExitClause>],
+    finalize: bool,
+    queue: Option<u64>,
+)
     requires none { tasks.old.items ≡ [] }
     requires few { length items.now ≤ 64 }
-    ensures { tasks.new.items ≡ map (Exit finalize) items.now }
+    ensures { tasks.new.items ≡ map (exit_task finalize queue) items.now }
 {
     for x in items {
-        tasks.push(Task::Exit { finalize, item: *x });
+        tasks.push(Task::Exit {
+            finalize,
+            item: *x,
+            queue,
+        });
     }
 }
 
 /// The items of `update`.
-pub fn move_tasks(tasks: &mut ArrayVec<Task, 64>, items: &[Item<UpdateClause>], if_present: bool)
+pub fn move_tasks(
+    tasks: &mut ArrayVec<Task, 64>,
+    items: &[Item<UpdateClause>],
+    if_present: bool,
+    queue: Option<u64>,
+)
     requires none { tasks.old.items ≡ [] }
     requires few { length items.now ≤ 64 }
-    ensures { tasks.new.items ≡ map (Move if_present) items.now }
+    ensures { tasks.new.items ≡ map (move_task if_present queue) items.now }
 {
     for x in items {
         tasks.push(Task::Move {
             if_present,
             item: *x,
+            queue,
         });
     }
 }

@@ -6,7 +6,7 @@ ghost use Rattle.acc_clauses.specs.Acts.{HasPlanRoom};
 ghost use Rattle.acc_clauses.specs.Stored.{IsPlan};
 
 use acc_base::{
-    Aim, Config, Counters, Directive, EnterClause, ExitClause, Fault, Found, Item, List,
+    Aim, Config, Counters, Directive, Ended, EnterClause, ExitClause, Fault, Found, Item, List,
     RegionClause, Section, Step, UpdateClause,
 };
 use acc_clauses::{Plan, Store};
@@ -32,6 +32,12 @@ enum Ask {
     EnterDataVia(Items<EnterClause>, u64),
     ExitDataVia(Items<ExitClause>, bool, u64),
     Update(Items<UpdateClause>),
+    /// With `async` of this queue.
+    EnterDataLater(Items<EnterClause>, u64),
+    ExitDataLater(Items<ExitClause>, u64),
+    UpdateLater(Items<UpdateClause>, u64),
+    Wait(Option<u64>),
+    Step(u64),
 }
 
 /// A directive with its answer, or a query with its answer.
@@ -59,6 +65,12 @@ enum Turn {
     Used(u64),
     /// The bytes of host memory from an address on.
     Host(u64, &'static [u8]),
+    /// How many transfers wait in a queue.
+    Queue(u64, u64),
+    /// How many transfers a wait makes.
+    Waiting(Option<u64>, u64),
+    /// The block of least place at or above a device address whose mapping has ended.
+    EndedFrom(u64, Option<Ended>),
 }
 
 /// Turns on a new store.
@@ -97,9 +109,10 @@ fn enter_data(
     alloc: Global,
     listed: &[(EnterClause, u64, u64)],
     pointer: Option<u64>,
+    queue: Option<u64>,
 ) -> Result<Directive, AllocError> {
     let items = items(alloc, listed, pointer)?;
-    Ok(Directive::EnterData { items })
+    Ok(Directive::EnterData { items, queue })
 }
 
 fn exit_data(
@@ -107,15 +120,28 @@ fn exit_data(
     listed: &[(ExitClause, u64, u64)],
     finalize: bool,
     pointer: Option<u64>,
+    queue: Option<u64>,
 ) -> Result<Directive, AllocError> {
     let items = items(alloc, listed, pointer)?;
-    Ok(Directive::ExitData { items, finalize })
+    Ok(Directive::ExitData {
+        items,
+        finalize,
+        queue,
+    })
 }
 
-fn update(alloc: Global, listed: &[(UpdateClause, u64, u64)]) -> Result<Directive, AllocError> {
+fn update(
+    alloc: Global,
+    listed: &[(UpdateClause, u64, u64)],
+    queue: Option<u64>,
+) -> Result<Directive, AllocError> {
     let items = items(alloc, listed, None)?;
     let if_present = false;
-    Ok(Directive::Update { items, if_present })
+    Ok(Directive::Update {
+        items,
+        if_present,
+        queue,
+    })
 }
 
 fn directive_of(alloc: Global, ask: Ask) -> Result<Directive, AllocError> {
@@ -123,13 +149,18 @@ fn directive_of(alloc: Global, ask: Ask) -> Result<Directive, AllocError> {
         Ask::Enter(listed) => enter(alloc, listed, None),
         Ask::EnterVia(listed, pointer) => enter(alloc, listed, Some(pointer)),
         Ask::Leave(number) => Ok(Directive::Exit { number }),
-        Ask::EnterData(listed) => enter_data(alloc, listed, None),
-        Ask::EnterDataVia(listed, pointer) => enter_data(alloc, listed, Some(pointer)),
-        Ask::ExitData(listed, finalize) => exit_data(alloc, listed, finalize, None),
+        Ask::EnterData(listed) => enter_data(alloc, listed, None, None),
+        Ask::EnterDataVia(listed, pointer) => enter_data(alloc, listed, Some(pointer), None),
+        Ask::EnterDataLater(listed, q) => enter_data(alloc, listed, None, Some(q)),
+        Ask::ExitData(listed, finalize) => exit_data(alloc, listed, finalize, None, None),
         Ask::ExitDataVia(listed, finalize, pointer) => {
-            exit_data(alloc, listed, finalize, Some(pointer))
+            exit_data(alloc, listed, finalize, Some(pointer), None)
         }
-        Ask::Update(listed) => update(alloc, listed),
+        Ask::ExitDataLater(listed, q) => exit_data(alloc, listed, false, None, Some(q)),
+        Ask::Update(listed) => update(alloc, listed, None),
+        Ask::UpdateLater(listed, q) => update(alloc, listed, Some(q)),
+        Ask::Wait(queue) => Ok(Directive::Wait { queue }),
+        Ask::Step(queue) => Ok(Directive::Step { queue }),
     }
 }
 
@@ -249,12 +280,15 @@ fn agrees(alloc: Global, store: &mut Store, turn: Turn) -> Result<bool, AllocErr
         Turn::Regions(regions) => Ok(store.regions() == regions),
         Turn::Used(used) => Ok(store.used() == used),
         Turn::Host(start, bytes) => Ok(host_has(store, start, bytes)),
+        Turn::Queue(q, len) => Ok(store.queue_len(q) == len),
+        Turn::Waiting(queue, count) => Ok(store.waiting(queue) == count),
+        Turn::EndedFrom(from, ended) => Ok(store.ended(from) == ended),
     }
 }
 
-/// A store of 64 bytes of host memory and 4096 of device memory.
+/// A store of 64 bytes of host memory and 4096 of device memory, whose queues have room for two transfers each.
 fn store_of(alloc: Global, counter_max: u64) -> Result<Store, Fault> {
-    let config = Config::new(64, 4_096, 64, 100, counter_max, 256, 100)?;
+    let config = Config::new(64, 4_096, 64, 100, counter_max, 2, 100)?;
     Store::new(alloc, &config)
 }
 

@@ -2,16 +2,18 @@
 //! 2.7, and the documents of this project.
 
 use crate::tests::Ask::{
-    Enter, EnterData, EnterDataVia, EnterVia, ExitData, ExitDataVia, Leave, Update,
+    Enter, EnterData, EnterDataLater, EnterDataVia, EnterVia, ExitData, ExitDataLater, ExitDataVia,
+    Leave, Step, Update, UpdateLater, Wait,
 };
 use crate::tests::Turn::{
-    Aims, Attached, Block, Counted as Counters, Does, Host, Lies, Refused, Regions, Used, Writes,
+    Aims, Attached, Block, Counted as Counters, Does, EndedFrom, Host, Lies, Queue, Refused,
+    Regions, Used, Waiting, Writes,
 };
 use crate::tests::{Ask, Row};
 use acc_base::RegionClause::{Copy, NoCreate, Present};
 use acc_base::Step::{Born, Counted, Dropped, Moved, Nothing};
 use acc_base::{
-    Aim, DEVICE_BASE, EnterClause, ExitClause, Fault, Found, HOST_BASE, RegionClause, Step,
+    Aim, DEVICE_BASE, Ended, EnterClause, ExitClause, Fault, Found, HOST_BASE, RegionClause,
     UpdateClause,
 };
 
@@ -20,29 +22,29 @@ const A: u64 = HOST_BASE;
 /// A section of 16 bytes behind A.
 const B: u64 = HOST_BASE + 16;
 
-const BORN_1: Step = Born {
+const BORN_1: acc_base::Step = Born {
     block: 1,
     place: DEVICE_BASE,
 };
 
-const BORN_2: Step = Born {
+const BORN_2: acc_base::Step = Born {
     block: 2,
     place: DEVICE_BASE + 16,
 };
 
-const COUNTED_1: Step = Counted { block: 1 };
+const COUNTED_1: acc_base::Step = Counted { block: 1 };
 
-const DROPPED_1: Step = Dropped {
+const DROPPED_1: acc_base::Step = Dropped {
     block: 1,
     ended: false,
 };
 
-const ENDED_1: Step = Dropped {
+const ENDED_1: acc_base::Step = Dropped {
     block: 1,
     ended: true,
 };
 
-const ENDED_2: Step = Dropped {
+const ENDED_2: acc_base::Step = Dropped {
     block: 2,
     ended: true,
 };
@@ -87,10 +89,11 @@ pub const GROWING: &[Ask] = &[
     EnterData(&[COPYIN_A]),
     Enter(&[(Copy, B, 16), (Present, A, 16)]),
     EnterData(&[(EnterClause::Attach, P, 8)]),
+    UpdateLater(&[(UpdateClause::ToSelf, A, 1)], 3),
     Enter(&[(NoCreate, A, 16), (RegionClause::Copyin, A + 32, 16)]),
 ];
 
-pub const ROWS: [Row; 13] = [
+pub const ROWS: [Row; 17] = [
     Row {
         name: "a region maps its sections while it is open, and copies out at its end",
         counter_max: 100,
@@ -330,6 +333,111 @@ pub const ROWS: [Row; 13] = [
             Attached(P, 0),
             Block(1, AS_HOST),
             Used(16),
+        ],
+    },
+    Row {
+        name: "a copy that waits keeps its block, and is made with the bytes of its moment",
+        counter_max: 100,
+        turns: &[
+            Writes(A, &[7]),
+            Does(EnterData(&[COPYIN_A]), &[BORN_1]),
+            Writes(A, &[9]),
+            Does(
+                ExitDataLater(&[(ExitClause::Copyout, A, 16)], 1),
+                &[ENDED_1],
+            ),
+            Lies(A, 16, Found::Absent),
+            Does(EnterData(&[CREATE_A]), &[BORN_2]),
+            EndedFrom(
+                0,
+                Some(Ended {
+                    place: DEVICE_BASE,
+                    size: 16,
+                    pins: 1,
+                }),
+            ),
+            EndedFrom(DEVICE_BASE + 1, None),
+            Queue(1, 1),
+            Waiting(None, 1),
+            Used(32),
+            Host(A, &[9]),
+            Does(Wait(Some(1)), &[]),
+            Host(A, &[7]),
+            EndedFrom(0, None),
+            Queue(1, 0),
+            Used(16),
+        ],
+    },
+    Row {
+        name: "a step makes the first transfer, with the bytes that it finds",
+        counter_max: 100,
+        turns: &[
+            Writes(A, &[1]),
+            Does(EnterData(&[(EnterClause::Copyin, A, 1)]), &[BORN_1]),
+            Does(
+                UpdateLater(
+                    &[(UpdateClause::ToSelf, A, 1), (UpdateClause::ToDevice, A, 1)],
+                    0,
+                ),
+                &[Moved { block: 1 }, Moved { block: 1 }],
+            ),
+            Writes(A, &[2]),
+            Does(
+                Update(&[(UpdateClause::ToDevice, A, 1)]),
+                &[Moved { block: 1 }],
+            ),
+            Writes(A, &[3]),
+            Does(Step(0), &[]),
+            Host(A, &[2]),
+            Queue(0, 1),
+            Does(Step(0), &[]),
+            Block(1, &[2]),
+            Does(Step(0), &[]),
+            Queue(0, 0),
+        ],
+    },
+    Row {
+        name: "a queue is full with the puts of earlier items, and other queues are not",
+        counter_max: 100,
+        turns: &[
+            Does(EnterData(&[COPYIN_A]), &[BORN_1]),
+            Refused(
+                UpdateLater(&[(UpdateClause::ToSelf, A, 16); 3], 4),
+                Fault::QueueFull { q: 4 },
+            ),
+            Queue(4, 0),
+            Does(
+                UpdateLater(&[(UpdateClause::ToSelf, A, 16); 2], 4),
+                &[Moved { block: 1 }, Moved { block: 1 }],
+            ),
+            Refused(
+                UpdateLater(&[(UpdateClause::ToSelf, A, 16)], 4),
+                Fault::QueueFull { q: 4 },
+            ),
+            Does(EnterDataLater(&[COPYIN_A], 4), &[COUNTED_1]),
+            Does(
+                UpdateLater(&[(UpdateClause::ToSelf, A, 16)], 5),
+                &[Moved { block: 1 }],
+            ),
+            Waiting(None, 3),
+            Waiting(Some(4), 2),
+        ],
+    },
+    Row {
+        name: "there is no queue above 15, which is told before the items",
+        counter_max: 100,
+        turns: &[
+            Refused(
+                UpdateLater(&[(UpdateClause::ToSelf, A, 16)], 16),
+                Fault::NoQueue { q: 16 },
+            ),
+            Refused(
+                UpdateLater(&[(UpdateClause::ToSelf, A, 16)], 15),
+                Fault::NotPresent { item: 0 },
+            ),
+            Refused(Wait(Some(16)), Fault::NoQueue { q: 16 }),
+            Refused(Step(16), Fault::NoQueue { q: 16 }),
+            Queue(16, 0),
         ],
     },
 ];

@@ -1,4 +1,5 @@
-use Rattle.acc_clauses.proofs.Doing.{not_entry, enters, leaves}
+use Rattle.acc_clauses.specs.Overlays.{puts_by}
+use Rattle.acc_clauses.proofs.Doing.{not_entry, enters, leaves, queues_kept, puts_kept, do_queue}
 use Rattle.acc_clauses.proofs.acting.act_on.Goals as goal
 
 pub returns-in-Enter : goal.returns-in-Enter
@@ -6,3 +7,11 @@ returns-in-Enter c = record { done = enters c.args.task c.args.did c.args.enviro
 
 pub returns-in-Leave : goal.returns-in-Leave
 returns-in-Leave c = record { done = leaves c.args.task c.args.did c.args.environment.now c.aim_on-in-Leave.new.environment c.step_on-in-Leave.new.environment (not_entry c.args.task c.in-Leave.is) c.aim_on-in-Leave.ensures.aimed c.step_on-in-Leave.ensures.acted }
+
+pub step_on-requires-in-Leave-clause-queue : goal.step_on-requires-in-Leave-clause-queue
+step_on-requires-in-Leave-clause-queue c =
+    let x = c.args.environment.now in
+    queues_kept c.args.did.aim c.args.task c.args.did.step x c.aim_on-in-Leave.new.environment c.aim_on-in-Leave.ensures.aimed (do_queue x c.args.task c.args.did c.requires.can)
+
+pub step_on-requires-in-Leave-clause-puts : goal.step_on-requires-in-Leave-clause-puts
+step_on-requires-in-Leave-clause-puts c = puts_kept c.args.did.aim (λ q. puts_by q c.args.task c.args.did.step) c.args.environment.now c.aim_on-in-Leave.new.environment c.aim_on-in-Leave.ensures.aimed c.requires.puts

@@ -1,4 +1,5 @@
-use Rattle.acc_clauses.proofs.Steps.{new_absent, new_there, new_below, born_acts}
+use Rattle.acc_clauses.proofs.Steps.{new_absent, new_there, new_below}
+use Rattle.acc_clauses.proofs.Bearing.{born_changes, born_can_put, born_acts}
 use Rattle.acc_clauses.proofs.acting.bear.Goals as goal
 
 pub add_reserved-requires-clause-new : goal.add_reserved-requires-clause-new
@@ -10,11 +11,25 @@ raise-requires-clause-there c = new_there c.section_of-section.result c.args.blo
 pub raise-requires-clause-below : goal.raise-requires-clause-below
 raise-requires-clause-below c = new_below c.args.counter c.section_of-section.result c.args.block c.args.environment.now.present.table c.add_reserved.new.self.table c.requires.can.no_range c.requires.can.counted c.add_reserved.ensures.table
 
-pub returns : goal.returns
-returns c =
+pub fill_later-requires-clause-can : goal.fill_later-requires-clause-can
+fill_later-requires-clause-can c q named copies =
+    let x = c.args.environment.now in
+    let made = rw c.section_of-section.ensures at c.make_block.ensures in
+    born_can_put c.args.counter c.args.item c.args.queue c.is_copied_now-copied.result c.args.block c.args.place q x c.raise.new.present c.make_block.new.device c.requires.queue c.requires.puts c.requires.can.number made c.laws.ensures.blocks_apart.born named copies
+
+pub fill_later-requires-clause-marked : goal.fill_later-requires-clause-marked
+fill_later-requires-clause-marked c =
     let made = rw c.section_of-section.ensures at c.make_block.ensures in
     let put = rw c.section_of-section.ensures at c.add_reserved.ensures.table in
-    record {
-      acted = born_acts c.args.counter c.args.item c.args.block c.args.place c.args.environment.now c.add_reserved.new.self c.raise.new.present c.make_block.new.device
-          c.requires.can made put c.add_reserved.ensures.room_ranges c.add_reserved.ensures.room_regions c.add_reserved.ensures.room_holdings c.raise.ensures.table c.raise.ensures.room;
-    }
+    let born = born_changes c.args.counter c.args.item c.args.queue c.is_copied_now-copied.result c.args.block c.args.place c.args.environment.now c.add_reserved.new.self c.raise.new.present c.make_block.new.device c.requires.can made put
+    c.add_reserved.ensures.room_ranges c.add_reserved.ensures.room_regions c.add_reserved.ensures.room_holdings c.raise.ensures.table c.raise.ensures.room c.laws.ensures.marks c.laws.ensures.blocks_apart.born c.requires.marked in
+    born.marked
+
+pub returns : goal.returns
+returns c =
+    let x = c.args.environment.now in
+    let made = rw c.section_of-section.ensures at c.make_block.ensures in
+    let put = rw c.section_of-section.ensures at c.add_reserved.ensures.table in
+    let born = born_changes c.args.counter c.args.item c.args.queue c.is_copied_now-copied.result c.args.block c.args.place x c.add_reserved.new.self c.raise.new.present c.make_block.new.device c.requires.can made put
+    c.add_reserved.ensures.room_ranges c.add_reserved.ensures.room_regions c.add_reserved.ensures.room_holdings c.raise.ensures.table c.raise.ensures.room c.laws.ensures.marks c.laws.ensures.blocks_apart.born c.requires.marked in
+    record { acted = born_acts c.args.counter c.args.item c.args.queue c.is_copied_now-copied.result c.args.block c.args.place x _ c.fill_later.new.environment c.requires.can c.is_copied_now-copied.ensures born c.fill_later.ensures.filled }

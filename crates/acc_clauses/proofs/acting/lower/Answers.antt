@@ -12,5 +12,5 @@ returns-else-ended c =
     let x = c.args.environment.now in
     record {
       acted = subst (λ (b : Bool). IsActedBy c.args.task (Dropped c.args.block b) x (record x { present = c.recount.new.present })) (sym c.if-ended.false)
-          (dropped_acts c.args.task c.args.block x c.recount.new.present c.recount.ensures.table c.recount.ensures.room);
+          (dropped_acts c.args.task c.args.block x c.recount.new.present c.recount.ensures.table c.recount.ensures.room c.requires.marked);
     }

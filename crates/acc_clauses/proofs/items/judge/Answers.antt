@@ -19,7 +19,7 @@ returns c =
     let step = c.in_ok-step.step in
     let each : (c.match-task.task ≡ task) × (judge_aim c.args.parts.now.limits n task step (state_after xs s) ≡ Ok c.match-task.aim) = elim c.match-task.branch [
       | in-Leave w ↦ (w.task-is ∙ sym w.in-Leave.is, left_aim c.args.parts.now.limits n xs task w.in-Leave.holding step _ s w.in-Leave.is (w.aim-is ∙ w.release-aim.ensures))
-      | in-Exit w ↦ (w.task-is ∙ sym w.in-Exit.is, exited_aim c.args.parts.now.limits n xs task w.in-Exit.finalize w.in-Exit.item step _ s w.in-Exit.is (w.aim-is ∙ (w.detach-aim.ensures ∙ ap (λ o. detach_if w.in-Exit.finalize o (records_after xs s.records)) w.pointer_aimed.ensures)))
-      | in-Move w ↦ (w.task-is, moved_aim c.args.parts.now.limits n xs task w.in-Move.if_present w.in-Move.item step _ s w.in-Move.is w.aim-is)
+      | in-Exit w ↦ (w.task-is ∙ sym w.in-Exit.is, exited_aim c.args.parts.now.limits n xs task w.in-Exit.finalize w.in-Exit.item w.in-Exit.queue step _ s w.in-Exit.is (w.aim-is ∙ (w.detach-aim.ensures ∙ ap (λ o. detach_if w.in-Exit.finalize o (records_after xs s.records)) w.pointer_aimed.ensures)))
+      | in-Move w ↦ (w.task-is, moved_aim c.args.parts.now.limits n xs task w.in-Move.if_present w.in-Move.item w.in-Move.queue step _ s w.in-Move.is w.aim-is)
     ] in
     both_judged c.args.parts.now.limits n xs _ task step c.match-task.aim s (sym c.in_ok-step.ensures) each.1 (rw each.0 at c.push.ensures)

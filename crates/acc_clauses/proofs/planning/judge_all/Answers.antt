@@ -1,4 +1,5 @@
 use Rattle.std.proofs.Common.{◌≡◌, ◌<◌, refl, length, arith, rules}
+use Rattle.acc_clauses.proofs.Asking.{queue_at_turn}
 use Rattle.acc_clauses.proofs.Turns.{turns_begun, turn, turn_refused, turns_done, unmixed_turn, asked_turn, few_turn, IsPlanned-next}
 use Rattle.acc_clauses.proofs.planning.judge_all.Goals as goal
 
@@ -17,6 +18,11 @@ pub judge-requires-clause-unmixed : goal.judge-requires-clause-unmixed
 judge-requires-clause-unmixed c =
     let within : c.loop-task.task-index < length c.args.tasks.now = omega arith in
     unmixed_turn c.loop-task.task-index _ _ c.args.tasks.now _ within refl c.loop-task.invariant.asked c.requires.unmixed
+
+pub judge-requires-clause-queue : goal.judge-requires-clause-queue
+judge-requires-clause-queue c =
+    let within : c.loop-task.task-index < length c.args.tasks.now = omega arith in
+    queue_at_turn c.args.tasks.now c.loop-task.task-index _ within c.requires.queues
 
 pub returns-in_err-judge-clause-judged : goal.returns-in_err-judge-clause-judged
 returns-in_err-judge-clause-judged c =

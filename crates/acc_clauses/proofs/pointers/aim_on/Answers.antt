@@ -6,7 +6,7 @@ use Rattle.acc_clauses.proofs.Aiming.{none_aims, new_aims, again_aims, cleared_a
 use Rattle.acc_clauses.proofs.pointers.aim_on.Goals as goal
 
 pub returns-in-None : goal.returns-in-None
-returns-in-None c = let x = c.args.environment.now in record { aimed = subst (λ (a : Aim). IsAimedBy a x x) (sym c.in-None.is) (none_aims x) }
+returns-in-None c = let x = c.args.environment.now in record { aimed = subst (λ (a : Aim). IsAimedBy a x x) (sym c.in-None.is) (none_aims x c.requires.marked) }
 
 pub returns-in-New : goal.returns-in-New
 returns-in-New c =
@@ -16,7 +16,7 @@ returns-in-New c =
     let b = c.aim_reserved.new.self in
     record {
       aimed = subst (λ (a : Aim). IsAimedBy a x (record y { attached = b })) (sym n.is)
-          (new_aims n.pointer n.block n.target x y _ b c.write_target.ensures (λ next. refl) c.aim_reserved.ensures.attached c.aim_reserved.ensures.counter_max c.aim_reserved.ensures.spare);
+          (new_aims n.pointer n.block n.target x y _ b c.write_target.ensures (λ next. refl) c.aim_reserved.ensures.attached c.aim_reserved.ensures.counter_max c.aim_reserved.ensures.spare c.requires.marked);
     }
 
 pub returns-in-Again : goal.returns-in-Again
@@ -25,7 +25,7 @@ returns-in-Again c =
     let b = c.aim_again.new.self in
     record {
       aimed = subst (λ (a : Aim). IsAimedBy a x (record x { attached = b })) (sym c.in-Again.is)
-          (again_aims c.in-Again.pointer c.in-Again.block x b c.aim_again.ensures.attached c.aim_again.ensures.counter_max c.aim_again.ensures.spare);
+          (again_aims c.in-Again.pointer c.in-Again.block x b c.aim_again.ensures.attached c.aim_again.ensures.counter_max c.aim_again.ensures.spare c.requires.marked);
     }
 
 pub returns-in-Cleared : goal.returns-in-Cleared
@@ -37,5 +37,5 @@ returns-in-Cleared c =
     let can = subst (λ (a : Aim). CanAim x.attached.counter_max a (state_of x 0)) n.is c.requires.can in
     record {
       aimed = subst (λ (a : Aim). IsAimedBy a x (record y { attached = b })) (sym n.is)
-          (cleared_aims n.pointer n.block x y b can c.write_back.ensures c.detach_now.ensures.attached c.detach_now.ensures.counter_max c.detach_now.ensures.spare);
+          (cleared_aims n.pointer n.block x y b can c.write_back.ensures c.detach_now.ensures.attached c.detach_now.ensures.counter_max c.detach_now.ensures.spare c.requires.marked);
     }

@@ -2,7 +2,7 @@ use Rattle.std.proofs.Common.{◌≡◌, ap, length}
 use Rattle.acc_base.specs.Attachments.{pointer_at}
 use Rattle.acc_clauses.specs.Contents.{state_of}
 use Rattle.acc_clauses.proofs.Moving.{put_in}
-use Rattle.acc_clauses.proofs.Steps.{within_block}
+use Rattle.acc_clauses.proofs.Giving.{within_block}
 use Rattle.acc_clauses.proofs.Aiming.{target_put}
 use Rattle.acc_clauses.proofs.pointers.write_target.Goals as goal
 

@@ -1,11 +1,11 @@
 use Rattle.std.proofs.Common.{◌<◌, arith, refl, length}
 use Rattle.std.proofs.lemmas.List.{drop_more}
-use Rattle.acc_clauses.proofs.Remaining.{first_judged, first_room, first_pointers, rest_can, births_next, rest_state, rest_done}
+use Rattle.acc_clauses.proofs.Remaining.{first_judged, first_room, first_pointers, first_puts, rest_can, births_next, rest_state, rest_done}
 use Rattle.acc_clauses.proofs.running.act_all.Goals as goal
 
 pub loop-x-init : goal.loop-x-init
 loop-x-init c = record {
-  can = record { limits = refl; item = 0; judged = c.requires.judged; known = c.requires.known; room = c.requires.room; pointers = c.requires.pointers };
+  can = record { limits = refl; item = 0; judged = c.requires.judged; known = c.requires.known; room = c.requires.room; pointers = c.requires.pointers; puts = c.requires.puts };
   births = omega arith;
   rest = refl;
   regions = omega arith;
@@ -39,6 +39,13 @@ act-requires-clause-pointers c =
     let cons = drop_more c.args.acts.now c.loop-x.x-index _ within in
     let can = rw cons at c.loop-x.invariant.can in
     first_pointers _ _ _ _ _ _ can
+
+pub act-requires-clause-puts : goal.act-requires-clause-puts
+act-requires-clause-puts c =
+    let within : c.loop-x.x-index < length c.args.acts.now = omega arith in
+    let cons = drop_more c.args.acts.now c.loop-x.x-index _ within in
+    let can = rw cons at c.loop-x.invariant.can in
+    first_puts _ _ _ _ _ _ can
 
 pub loop-x-preserved : goal.loop-x-preserved
 loop-x-preserved c =

@@ -1,7 +1,8 @@
 use Rattle.std.proofs.Common.{◌∙◌, ◌<◌, ◌≤◌, ◌^◌, sym, ap, subst}
 use Rattle.acc_base.specs.Acting.{act_state}
 use Rattle.acc_clauses.specs.Contents.{Contents, room_of}
-use Rattle.acc_clauses.specs.Acts.{IsJudged, IsKnown, HasRoomFor, IsRoomLeft, birth_of, pointers_of}
+use Rattle.acc_clauses.specs.Overlays.{puts_by}
+use Rattle.acc_clauses.specs.Acts.{IsJudged, IsKnown, HasRoomFor, HasPutRoom, IsRoomLeft, birth_of, pointers_of}
 use Rattle.acc_clauses.proofs.Ready.{can_do, parts_sound}
 use Rattle.acc_clauses.proofs.parts.Parts.act.Goals as goal
 
@@ -19,6 +20,9 @@ act_on-requires-clause-room c = subst (λ (k : Contents). HasRoomFor (birth_of c
 pub act_on-requires-clause-pointers : goal.act_on-requires-clause-pointers
 act_on-requires-clause-pointers c = subst (λ (k : Contents). pointers_of c.args.did.aim ≤ k.room.attachments) (sym c.self.view_is) c.requires.pointers
 
+pub act_on-requires-clause-puts : goal.act_on-requires-clause-puts
+act_on-requires-clause-puts c = subst (λ (k : Contents). HasPutRoom (λ q. puts_by q c.args.task c.args.did.step) k.room) (sym c.self.view_is) c.requires.puts
+
 pub invariant_of-self : goal.invariant_of-self
 invariant_of-self c =
     let p = c.self.inside in
@@ -29,5 +33,5 @@ pub returns : goal.returns
 returns c = record {
   limits = ap (λ (k : Contents). k.limits) c.self.view_is;
   state = c.act_on.ensures.done.state c.self.inside.next ∙ ap (λ (k : Contents). act_state c.args.task c.args.did k.state) c.self.view_is;
-  room = subst (λ (k : Contents). IsRoomLeft (birth_of c.args.task c.args.did.step) (pointers_of c.args.did.aim) k.room (room_of c.act_on.new.environment)) c.self.view_is c.act_on.ensures.done.room;
+  room = subst (λ (k : Contents). IsRoomLeft (birth_of c.args.task c.args.did.step) (pointers_of c.args.did.aim) (λ q. puts_by q c.args.task c.args.did.step) k.room (room_of c.act_on.new.environment)) c.self.view_is c.act_on.ensures.done.room;
 }

@@ -2,17 +2,19 @@ use Rattle.std.proofs.Common.{◌≡◌, ◌∙◌, ◌<◌, ◌≤◌, ◌^◌,
 use Rattle.acc_base.specs.declared.tasks.Task.{Task}
 use Rattle.acc_base.specs.declared.events.Did.{Did}
 use Rattle.acc_base.specs.Records.{State, layout_of}
-use Rattle.acc_base.specs.Acting.{after}
-use Rattle.acc_base.specs.Judge.{event_of}
+use Rattle.acc_base.specs.Acting.{act_all_state, after}
+use Rattle.acc_base.specs.declared.events.Event.{Event}
+use Rattle.acc_base.specs.Judge.{Makes, Idle, verdict_of}
 use Rattle.acc_base.specs.History.{AreJudged}
 use Rattle.acc_base.proofs.Walked.{register-act_all_state}
-use Rattle.acc_clauses.specs.Overlays.{tasks_in, dids_in}
-use Rattle.acc_clauses.specs.Planned.{IsPlannedOn}
+use Rattle.acc_clauses.specs.Overlays.{tasks_in, dids_in, puts_in}
+use Rattle.acc_clauses.specs.Planned.{IsPlannedOn, finished}
 use Rattle.acc_clauses.specs.Contents.{Contents}
-use Rattle.acc_clauses.specs.Acts.{AreKnown, HasRoomFor, HasPlanRoom, lens_born, pointers_in}
+use Rattle.acc_clauses.specs.Acts.{AreKnown, HasRoomFor, HasPutRoom, HasPlanRoom, lens_born, pointers_in}
 use Rattle.acc_clauses.specs.Stored.{IsPlan}
 use Rattle.acc_clauses.proofs.Finishing.{after_plan}
-use Rattle.acc_clauses.proofs.Committing.{plan_known, plan_can, finished, plan_sound}
+use Rattle.acc_clauses.proofs.Events.{event_of_plan, idle_plan}
+use Rattle.acc_clauses.proofs.Committing.{plan_known, plan_can, all_finished, plan_sound}
 use Rattle.acc_clauses.proofs.stores.Store.commit.Goals as goal
 
 pub act_all-requires-clause-judged : goal.act_all-requires-clause-judged
@@ -46,6 +48,14 @@ act_all-requires-clause-pointers c =
     let room : HasPlanRoom p k.room = subst (λ (x : Contents). HasPlanRoom p x.room) (sym c.self.view_is) c.requires.room in
     subst (λ (ds : List Did). pointers_in ds ≤ k.room.attachments) (sym c.acts.ensures.dids) room.pointers
 
+pub act_all-requires-clause-puts : goal.act_all-requires-clause-puts
+act_all-requires-clause-puts c =
+    let k : Contents = c.self.inside.parts in
+    let p = c.args.plan.now in
+    let room : HasPlanRoom p k.room = subst (λ (x : Contents). HasPlanRoom p x.room) (sym c.self.view_is) c.requires.room in
+    subst (λ (ts : List Task). HasPutRoom (λ q. puts_in q ts (dids_in c.acts.result.now)) k.room) (sym c.acts.ensures.tasks)
+    (subst (λ (ds : List Did). HasPutRoom (λ q. puts_in q p.tasks ds) k.room) (sym c.acts.ensures.dids) room.puts)
+
 pub finish-requires : goal.finish-requires
 finish-requires c =
     let k : Contents = c.self.inside.parts in
@@ -65,15 +75,25 @@ invariant_of-self c =
     let acts = c.acts.result.now in
     let planned : IsPlan k p = subst (λ (x : Contents). IsPlan x p) (sym c.self.view_is) c.requires.planned in
     plan_sound planned.0 k c.finish.new.parts p c.laws.ensures.limits c.self.invariant planned.1 (c.finish.ensures.limits ∙ c.act_all.ensures.limits)
-    (finished p (tasks_in acts) (dids_in acts) k.state c.act_all.new.parts.state c.finish.new.parts.state c.acts.ensures.tasks c.acts.ensures.dids c.act_all.ensures.state c.finish.ensures.state)
+    (all_finished p (tasks_in acts) (dids_in acts) k.state c.act_all.new.parts.state c.finish.new.parts.state c.acts.ensures.tasks c.acts.ensures.dids c.act_all.ensures.state c.finish.ensures.state)
     c.laws-2.ensures.used
 
 pub returns-clause-state : goal.returns-clause-state
-returns-clause-state c = λ d given.
+returns-clause-state c = λ d e given.
     let k : Contents = c.self.inside.parts in
     let p = c.args.plan.now in
     let acts = c.acts.result.now in
-    let P : Contents → Type 0 = λ x. IsPlannedOn x.limits d (layout_of x.state) p → c.finish.new.parts.state ≡ after (event_of d x.state.register p.dids) [] x.state in
+    let P : Contents → Type 0 = λ x. IsPlannedOn x.limits d (layout_of x.state) p → verdict_of d x.state p.dids ≡ Makes e → c.finish.new.parts.state ≡ after e [] x.state in
     subst P c.self.view_is
-    (λ on. finished p (tasks_in acts) (dids_in acts) k.state c.act_all.new.parts.state c.finish.new.parts.state c.acts.ensures.tasks c.acts.ensures.dids c.act_all.ensures.state c.finish.ensures.state
-    ∙ sym (after_plan k.limits d k.state p on)) given
+    (λ on makes. all_finished p (tasks_in acts) (dids_in acts) k.state c.act_all.new.parts.state c.finish.new.parts.state c.acts.ensures.tasks c.acts.ensures.dids c.act_all.ensures.state c.finish.ensures.state
+    ∙ sym (after_plan k.limits p k.state e (event_of_plan k.limits d k.state p e on makes))) given
+
+pub returns-clause-idle : goal.returns-clause-idle
+returns-clause-idle c = λ d given.
+    let k : Contents = c.self.inside.parts in
+    let p = c.args.plan.now in
+    let acts = c.acts.result.now in
+    let P : Contents → Type 0 = λ x. IsPlannedOn x.limits d (layout_of x.state) p → verdict_of d x.state p.dids ≡ Idle → c.finish.new.parts.state ≡ x.state in
+    subst P c.self.view_is
+    (λ on idle. all_finished p (tasks_in acts) (dids_in acts) k.state c.act_all.new.parts.state c.finish.new.parts.state c.acts.ensures.tasks c.acts.ensures.dids c.act_all.ensures.state c.finish.ensures.state
+    ∙ idle_plan k.limits d k.state p on idle) given

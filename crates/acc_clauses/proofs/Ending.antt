@@ -1,0 +1,162 @@
+-- What the end of a mapping leaves of the parts: the copy to host memory, and then the range and the block.
+use Rattle.std.proofs.Common.{ℕ, ◌≡◌, ◌≤◌, refl, sym, ◌∙◌, ap, Bool, true, false, cond, List, [], Option, Some, None, arith}
+use Rattle.std.specs.Prelude.{IsSome, is_none}
+use Rattle.std.specs.List.{AllZip}
+use Rattle.acc_base.specs.declared.mappings.Range.{Range}
+use Rattle.acc_base.specs.declared.tasks.Task.{Task}
+use Rattle.acc_base.specs.declared.tasks.Task.TheVariants.{Enter, Leave, Exit, Move}
+use Rattle.acc_base.specs.declared.transfers.Transfer.{Transfer}
+use Rattle.acc_base.specs.declared.events.Step.TheVariants.{Dropped}
+use Rattle.acc_base.specs.Records.{Records, State}
+use Rattle.acc_base.specs.Ranges.{range_of, changed_at, without_range, ends_by}
+use Rattle.acc_base.specs.Blocks.{block_at}
+use Rattle.acc_base.specs.Attachments.{without_attachments}
+use Rattle.acc_base.specs.Tasks.{queue_of, recounted}
+use Rattle.acc_base.specs.Transfers.{gives_bytes, transfer_at, at_once, queues_after}
+use Rattle.acc_base.specs.Steps.{is_in_use, released, records_after_end, act_row, act_step}
+use Rattle.acc_base.specs.Bytes.{host_made, memories_made, memories_kept, memories_released, step_state}
+use Rattle.acc_base.specs.Accounts.{IsMemoryOf}
+use Rattle.acc_base.proofs.Lookups.{at-without_same}
+use Rattle.acc_base.proofs.KeptMemories.{memories_kept-without}
+use Rattle.acc_base.proofs.Memories.{recounted-block}
+use Rattle.acc_present.specs.Present.{PresentState, with_ranges}
+use Rattle.acc_present.specs.Present as present
+use Rattle.acc_dev.specs.Marks.{pins_at, is_ended_at, IsMarkOf}
+use Rattle.acc_dev.specs.Device.{DeviceState, IsEnded, IsRetired}
+use Rattle.acc_attach.specs.Attached.{AttachedState}
+use Rattle.acc_clauses.specs.declared.environments.Environment.{Environment}
+use Rattle.acc_clauses.specs.Contents.{AreMarked, state_of}
+use Rattle.acc_clauses.specs.Overlays.{puts_by}
+use Rattle.acc_clauses.specs.Acts.{CanCount, CanDrop, IsEnter, given_state, moved_state, IsChangedBy, IsGivenBy, IsActedBy}
+use Rattle.acc_clauses.proofs.Changes.{state_by, room_same, kept_twice, both}
+use Rattle.acc_clauses.proofs.Marked.{IsMarkAt, mark_told, marks_ended, marks_gone}
+use Rattle.acc_clauses.proofs.Putting.{unused, used_pinned}
+use Rattle.acc_clauses.proofs.Steps.{is_some, without-changed}
+
+-- ---- after the copy to host memory
+
+-- the copy changes no range and no block
+given_ranges : (task : Task) (k : ℕ) (s : State) → (given_state task k s).records.ranges ≡ s.records.ranges
+given_ranges task k s = go (gives_bytes task)
+  where
+    go : (b : Bool) → (cond b (moved_state (queue_of task) (transfer_at task k s.records.ranges) s) s).records.ranges ≡ s.records.ranges
+    go true = refl
+    go false = refl
+
+given_blocks : (task : Task) (k : ℕ) (s : State) → (given_state task k s).records.blocks ≡ s.records.blocks
+given_blocks task k s = go (gives_bytes task)
+  where
+    go : (b : Bool) → (cond b (moved_state (queue_of task) (transfer_at task k s.records.ranges) s) s).records.blocks ≡ s.records.blocks
+    go true = refl
+    go false = refl
+
+pub same_ranges : (task : Task) (k : ℕ) (x y : Environment) → IsGivenBy task k x y → y.present.table.ranges ≡ x.present.table.ranges
+same_ranges task k x y given = ap (λ (s : State). s.records.ranges) (given.state 0) ∙ given_ranges task k (state_of x 0)
+
+pub same_blocks : (task : Task) (k : ℕ) (x y : Environment) → IsGivenBy task k x y → y.device.blocks ≡ x.device.blocks
+same_blocks task k x y given = ap (λ (s : State). s.records.blocks) (given.state 0) ∙ given_blocks task k (state_of x 0)
+
+-- the range is there still
+pub range_there : (task : Task) (k : ℕ) (ended : Bool) (x y : Environment) (can : CanDrop task k ended (state_of x 0)) → IsGivenBy task k x y → range_of k y.present.table.ranges ≡ Some can.move.range
+range_there task k ended x y can given = ap (range_of k) (same_ranges task k x y given) ∙ can.move.range_is
+
+-- and it ends by the task
+pub range_ends : (task : Task) (k : ℕ) (ended : Bool) (x y : Environment) (can : CanDrop task k ended (state_of x 0)) → IsGivenBy task k x y → ends_by (recounted task) k y.present.table.ranges ≡ ended
+range_ends task k ended x y can given = ap (ends_by (recounted task) k) (same_ranges task k x y given) ∙ can.ends
+
+-- a task that does not enter raises no counter
+pub falls : (most : ℕ) (task : Task) (k : ℕ) (ranges : List Range) (r : Range) → (IsEnter task → ⊥) → range_of k ranges ≡ Some r → CanCount most task k ranges
+falls most (Enter counter item queue) k ranges r other is = absurd (other tt)
+falls most (Leave holding) k ranges r other is = record { there = is_some (range_of k ranges) r is; below = tt }
+falls most (Exit finalize item queue) k ranges r other is = record { there = is_some (range_of k ranges) r is; below = tt }
+falls most (Move if_present item queue) k ranges r other is = record { there = is_some (range_of k ranges) r is; below = tt }
+
+pub block_there : (task : Task) (k : ℕ) (ended : Bool) (x y : Environment) → CanDrop task k ended (state_of x 0) → IsGivenBy task k x y → IsSome (block_at k y.device.blocks)
+block_there task k ended x y can given = rw (same_blocks task k x y given) can.move.there
+
+-- the block has a mark, by which its mapping has not ended
+pub end_mark : (task : Task) (k : ℕ) (ended : Bool) (x y : Environment) → CanDrop task k ended (state_of x 0) → IsGivenBy task k x y → AllZip IsMarkOf y.device.marks y.device.blocks → IsMarkAt y.present.table.ranges y.queues.queues y.device.marks k
+end_mark task k ended x y can given zip = mark_told y.present.table.ranges y.queues.queues k y.device.marks y.device.blocks zip (block_there task k ended x y can given) given.marked
+
+pub end_mapped : (task : Task) (k : ℕ) (ended : Bool) (x y : Environment) → CanDrop task k ended (state_of x 0) → IsGivenBy task k x y → AllZip IsMarkOf y.device.marks y.device.blocks → is_ended_at k y.device.marks ≡ false
+end_mapped task k ended x y can given zip = (end_mark task k ended x y can given zip).ended ∙ ap is_none (range_there task k ended x y can given)
+
+-- ---- the range and the block
+
+-- the state after the mapping to a block has ended
+abbrev pub ended_state : ℕ → State → State
+ended_state k s = record s { records = records_after_end k s.records; memories = memories_released k (records_after_end k s.records) s.memories }
+
+-- the records without the range
+abbrev unmapped : ℕ → Environment → Records
+unmapped k y = record (state_of y 0).records { ranges = without_range k y.present.table.ranges }
+
+gone_range : (k : ℕ) (y : Environment) → is_none (range_of k (unmapped k y).ranges) ≡ true
+gone_range k y = ap is_none (at-without_same (λ (x : Range). x.block) k y.present.table.ranges)
+
+-- the ranges after its counters fell and it was removed
+ranges_gone : (task : Task) (k : ℕ) (y : Environment) (q r : PresentState) → q.table ≡ with_ranges y.present.table (changed_at k (recounted task) y.present.table.ranges) → r.table ≡ with_ranges q.table (without_range k q.table.ranges)
+    → r.table ≡ with_ranges y.present.table (without_range k y.present.table.ranges)
+ranges_gone task k y q r counted removed = removed ∙ (ap (λ t. with_ranges t (without_range k t.ranges)) counted ∙ ap (with_ranges y.present.table) (without-changed k (recounted task) y.present.table.ranges (recounted-block task)))
+
+-- the block is given back, with its attachment counters
+pub gone_changes : (task : Task) (k : ℕ) (y : Environment) (q r : PresentState) (e : DeviceState) (b : AttachedState) → AreMarked y → AllZip IsMemoryOf y.device.memories y.device.blocks → IsMarkAt y.present.table.ranges y.queues.queues y.device.marks k
+    → q.table ≡ with_ranges y.present.table (changed_at k (recounted task) y.present.table.ranges) → present.IsRoomKept y.present.room q.room → r.table ≡ with_ranges q.table (without_range k q.table.ranges) → present.IsRoomKept q.room r.room
+    → pins_at k y.device.marks ≡ 0 → IsRetired y.device e k → b.attached ≡ without_attachments k y.attached.attached → b.counter_max ≡ y.attached.counter_max → y.attached.spare ≤ b.spare
+    → IsChangedBy (ended_state k) [] 0 (λ n. 0) y (record y { present = r; device = e; attached = b })
+unfolding records_after_end released
+gone_changes task k y q r e b marked sized mark counted room1 removed room2 free retired forgot limit spare =
+    let new : Environment = record y { present = r; device = e; attached = b } in
+    let table : r.table ≡ with_ranges y.present.table (without_range k y.present.table.ranges) = ranges_gone task k y q r counted removed in
+    let ranges : r.table.ranges ≡ without_range k y.present.table.ranges = ap (λ t. t.ranges) table in
+    let idle : is_in_use k (unmapped k y) ≡ false = unused k (unmapped k y) (gone_range k y) (sym mark.pins ∙ free) in
+    let memories : e.memories ≡ _ = retired.memories ∙ (ap (λ bs. memories_kept bs y.device.memories) retired.blocks ∙ memories_kept-without k y.device.memories y.device.blocks sized) in
+    record {
+      state = λ next. state_by new next (ended_state k (state_of y next)) ranges (rw idle retired.blocks) (rw idle forgot) retired.births refl (ap (λ t. t.regions) table) refl refl (rw idle memories);
+      counter_max = ap (λ t. t.counter_max) table;
+      size = retired.size;
+      pointer_max = limit;
+      queue_cap = refl;
+      room = room_same (λ n. 0) y new (kept_twice y.present.room q.room r.room room1 room2) retired.room spare (λ n. omega arith);
+      marked = rw (ranges, retired.marks) (marks_gone y.present.table.ranges k y.queues.queues y.device.marks marked);
+    }
+
+-- the block is kept by a transfer
+pub kept_changes : (task : Task) (k : ℕ) (y : Environment) (q r : PresentState) (e : DeviceState) → AreMarked y → IsMarkAt y.present.table.ranges y.queues.queues y.device.marks k
+    → q.table ≡ with_ranges y.present.table (changed_at k (recounted task) y.present.table.ranges) → present.IsRoomKept y.present.room q.room → r.table ≡ with_ranges q.table (without_range k q.table.ranges) → present.IsRoomKept q.room r.room
+    → (pins_at k y.device.marks ≡ 0 → ⊥) → IsEnded y.device e k → IsChangedBy (ended_state k) [] 0 (λ n. 0) y (record y { present = r; device = e })
+unfolding records_after_end released
+kept_changes task k y q r e marked mark counted room1 removed room2 some ended =
+    let new : Environment = record y { present = r; device = e } in
+    let table : r.table ≡ with_ranges y.present.table (without_range k y.present.table.ranges) = ranges_gone task k y q r counted removed in
+    let ranges : r.table.ranges ≡ without_range k y.present.table.ranges = ap (λ t. t.ranges) table in
+    let used : is_in_use k (unmapped k y) ≡ true = used_pinned k (unmapped k y) (λ none. some (mark.pins ∙ none)) in
+    record {
+      state = λ next. state_by new next (ended_state k (state_of y next)) ranges (rw used ended.blocks) (rw used refl) ended.births refl (ap (λ t. t.regions) table) refl refl (rw used ended.memories);
+      counter_max = ap (λ t. t.counter_max) table;
+      size = ended.size;
+      pointer_max = refl;
+      queue_cap = refl;
+      room = room_same (λ n. 0) y new (kept_twice y.present.room q.room r.room room1 room2) ended.room (omega arith) (λ n. omega arith);
+      marked = rw (ranges, ended.marks) (marks_ended y.present.table.ranges k y.queues.queues y.device.marks marked);
+    }
+
+-- ---- both are the step
+
+-- what the copy leaves, whether there is one or not
+given_is : (b : Bool) (o : Option ℕ) (t : Transfer) (s : State) → cond b (moved_state o t s) s ≡ record s {
+  records = record s.records { queues = queues_after o (cond b (Some t) None) s.records.queues };
+  host = host_made (at_once o (cond b (Some t) None)) s.records.attached s.memories s.host;
+  memories = memories_made (at_once o (cond b (Some t) None)) s.records.attached s.host s.memories;
+}
+given_is true o t s = refl
+given_is false None t s = refl
+given_is false (Some q) t s = refl
+
+ended_whole : (task : Task) (k : ℕ) (s : State) → ended_state k (given_state task k s) ≡ step_state task (Dropped k true) s
+unfolding step_state act_step act_row
+ended_whole task k s = ap (ended_state k) (given_is (gives_bytes task) (queue_of task) (transfer_at task k s.records.ranges) s)
+
+pub ended_acts : (task : Task) (k : ℕ) (x y z : Environment) → IsGivenBy task k x y → IsChangedBy (ended_state k) [] 0 (λ n. 0) y z → IsActedBy task (Dropped k true) x z
+ended_acts task k x y z given ended = both (given_state task k) (ended_state k) (step_state task (Dropped k true)) [] [] [] 0 0 0 (λ q. puts_by q task (Dropped k true)) (λ n. 0) (λ q. puts_by q task (Dropped k true)) x y z
+    (λ next. ended_whole task k (state_of x next)) refl (omega arith) (λ q. omega arith) given ended

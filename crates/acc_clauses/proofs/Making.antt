@@ -1,0 +1,64 @@
+-- The first transfer of a queue can be made, and leaves the parts sound.
+use Rattle.std.proofs.Common.{ℕ, ◌≡◌, ◌+◌, ◌-◌, ◌≤◌, sym, ◌∙◌, subst, true, List, [], ◌∷◌, length, Some, arith}
+use Rattle.std.specs.Prelude.{drop}
+use Rattle.std.specs.List.{AllByRecursion}
+use Rattle.std.proofs.lemmas.Bool.Decides.{nat_tests}
+use Rattle.acc_base.specs.declared.items.Section.{Section}
+use Rattle.acc_base.specs.declared.transfers.Transfer.{Transfer}
+use Rattle.acc_base.specs.Limits.{Limits, IsWithinBounds}
+use Rattle.acc_base.specs.Section.{is_within, host_memory}
+use Rattle.acc_base.specs.Records.{State}
+use Rattle.acc_base.specs.Blocks.{block_at}
+use Rattle.acc_base.specs.Bytes.{bytes_of}
+use Rattle.acc_base.specs.Queues.{queue_at, head_of}
+use Rattle.acc_base.specs.Waits.{stepped, records_drained, drained}
+use Rattle.acc_base.specs.Accounts.{IsTransferSound, AreRecordsSound, AreMemoriesSized}
+use Rattle.acc_base.proofs.Queued.{all-at, head_first}
+use Rattle.acc_base.proofs.Sound.{stepped_sound}
+use Rattle.acc_base.proofs.Walked.{records-drained}
+use Rattle.acc_base.proofs.Memories.{drained_sized}
+use Rattle.acc_clauses.specs.declared.environments.Environment.{Environment}
+use Rattle.acc_clauses.specs.Contents.{state_of, ArePartsSound}
+use Rattle.acc_clauses.specs.Acts.{CanStep, IsSteppedBy}
+use Rattle.acc_clauses.proofs.Moving.{bytes_of-len}
+use Rattle.acc_clauses.proofs.Steps.{is_some}
+use Rattle.acc_clauses.proofs.Legal.{host_end}
+
+-- ---- before it
+
+-- the section of a transfer lies among the bytes of its block
+lies_within : (s : Section) (offset len bytes : ℕ) → offset ≤ s.start → offset + s.len ≤ len → bytes ≡ len → is_within s (record { start = s.start - offset; len = bytes }) ≡ true
+lies_within s offset len bytes first last same = grind (arith, nat_tests)
+
+-- the first transfer has what all of a queue have
+first_has : (P : Transfer → Type 0) (q : ℕ) (t : Transfer) (queues : List (List Transfer)) → head_of q queues ≡ Some t → AllByRecursion (AllByRecursion P) queues → P t
+first_has P q t queues e h =
+    let each : AllByRecursion P (t ∷ drop 1 (queue_at q queues)) = subst (AllByRecursion P) (head_first (queue_at q queues) t e) (all-at (AllByRecursion P) queues q [] tt h) in
+    each.0
+
+pub can_step : (l : Limits) (x : Environment) (next q : ℕ) → IsWithinBounds l → ArePartsSound l x next → CanStep q x
+can_step l x next q bounds sound t e =
+    let has : IsTransferSound l x.device.blocks t = first_has (IsTransferSound l x.device.blocks) q t x.queues.queues e sound.sound.records.queues.transfers in
+    record {
+      in_host = subst (λ n. is_within t.section (host_memory n) ≡ true) (sym sound.sound.memories.host) has.in_host.within;
+      end = host_end t.section l.host has.in_host.within bounds.host.1;
+      there = is_some (block_at t.block x.device.blocks) has.block has.there;
+      within = lies_within t.section t.offset has.block.len (length (bytes_of t.block x.device.memories)) has.offset has.within (bytes_of-len t.block x.device.memories x.device.blocks has.block sound.sound.memories.blocks has.there);
+    }
+
+-- ---- after it
+
+step_sound : (l : Limits) (q : ℕ) (s : State) → AreRecordsSound l s.records → AreMemoriesSized l s → AreRecordsSound l (stepped q s).records × AreMemoriesSized l (stepped q s)
+unfolding drained records_drained
+step_sound l q s h m = (subst (AreRecordsSound l) (sym (records-drained (q ∷ []) s)) (stepped_sound l q s.records h), drained_sized l (q ∷ []) s m)
+
+pub stepped_parts : (l : Limits) (x y : Environment) (next q : ℕ) → ArePartsSound l x next → IsSteppedBy q x y → ArePartsSound l y next
+stepped_parts l x y next q sound done =
+    let after : AreRecordsSound l (stepped q (state_of x next)).records × AreMemoriesSized l (stepped q (state_of x next)) = step_sound l q (state_of x next) sound.sound.records sound.sound.memories in
+    let there : AreRecordsSound l (state_of y next).records × AreMemoriesSized l (state_of y next) =
+    subst (λ (s : State). AreRecordsSound l s.records × AreMemoriesSized l s) (sym (done.state next)) after in
+    record {
+      sized = record { counters = done.counter_max ∙ sound.sized.counters; device = done.size ∙ sound.sized.device; pointers = done.pointer_max ∙ sound.sized.pointers; queues = done.queue_cap ∙ sound.sized.queues };
+      sound = record { records = there.0; memories = there.1 };
+      marked = done.marked;
+    }

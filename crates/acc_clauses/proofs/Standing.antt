@@ -1,0 +1,121 @@
+-- Which blocks have a range, and which have ended and are kept by queued transfers, as the marks of the device tell it.
+use Rattle.std.proofs.Common.{ℕ, ◌≡◌, ◌<◌, refl, sym, ◌∙◌, ap, Bool, true, false, cond, List, [], ◌∷◌, Option, Some, None, arith}
+use Rattle.std.specs.Prelude.{◌==◌, ◌&&◌, nat_le, filter, is_none, unwrap_or, option_map, IfSome, IsSome}
+use Rattle.std.specs.List.{AllByRecursion, AllZip}
+use Rattle.acc_base.specs.declared.mappings.Range.{Range}
+use Rattle.acc_base.specs.declared.mappings.Block.{Block}
+use Rattle.acc_base.specs.declared.transfers.Transfer.{Transfer}
+use Rattle.acc_base.specs.Limits.{Limits}
+use Rattle.acc_base.specs.Ranges.{range_of}
+use Rattle.acc_base.specs.Blocks.{block_at, lower, lowest}
+use Rattle.acc_base.specs.Queues.{pins_of}
+use Rattle.acc_base.specs.Waits.{told_ended, ended_from}
+use Rattle.acc_base.specs.Accounts.{IsClearOf, EachPair}
+use Rattle.acc_base.proofs.Results.{equal}
+use Rattle.acc_base.proofs.Elements.{AllByRecursion-weaker, AllByRecursion-filter, EachPair-weaker}
+use Rattle.acc_base.proofs.Lookups.{at-own}
+use Rattle.acc_dev.specs.Marks.{Mark, mark_at, pins_at, is_ended_at, ended_of, lowest_ended, IsMarkOf}
+use Rattle.acc_clauses.specs.declared.environments.Environment.{Environment}
+use Rattle.acc_clauses.specs.Contents.{state_of, IsMarkRight, ArePartsSound}
+use Rattle.acc_clauses.proofs.Steps.{is_some}
+
+-- ---- the mark of a block
+
+abbrev number_of : Block → ℕ
+number_of b = b.number
+
+-- the block has a mark, which is right
+record HasMark (k : ℕ) (ranges : List Range) (queues : List (List Transfer)) (ms : List Mark) : Type 0 where
+  mark : Mark
+  mark_is : mark_at k ms ≡ Some mark
+  own : mark.block ≡ k
+  right : IsMarkRight ranges queues mark
+
+mark_of : (k : ℕ) (ranges : List Range) (queues : List (List Transfer)) (ms : List Mark) (bs : List Block) → AllZip IsMarkOf ms bs → AllByRecursion (IsMarkRight ranges queues) ms → IsSome (block_at k bs) → HasMark k ranges queues ms
+mark_of k ranges queues [] [] zip right there = cc
+mark_of k ranges queues [] (b ∷ bs) zip right there = absurd zip
+mark_of k ranges queues (m ∷ ms) [] zip right there = cc
+mark_of k ranges queues (m ∷ ms) (b ∷ bs) zip right there = go (mark_of k ranges queues ms bs zip.1 right.1) (b.number == k) refl there
+  where
+    same : (m.block == k) ≡ (b.number == k)
+    same = ap (λ n. n == k) zip.0
+
+    go : (IsSome (block_at k bs) → HasMark k ranges queues ms) → (t : Bool) → (b.number == k) ≡ t → IsSome (cond t (Some b) (block_at k bs)) → HasMark k ranges queues (m ∷ ms)
+    go rest true e some = record { mark = m; mark_is = rw (same ∙ e) refl; own = zip.0 ∙ equal b.number k e; right = right.0 }
+    go rest false e some =
+        let later : HasMark k ranges queues ms = rest some in
+        record { mark = later.mark; mark_is = rw (same ∙ e) later.mark_is; own = later.own; right = later.right }
+
+-- what it tells of a block
+record IsTold (ranges : List Range) (queues : List (List Transfer)) (ms : List Mark) (k : ℕ) : Type 0 where
+  pins : pins_at k ms ≡ pins_of k queues
+  ended : is_ended_at k ms ≡ is_none (range_of k ranges)
+
+told_by : (k : ℕ) (ranges : List Range) (queues : List (List Transfer)) (ms : List Mark) → HasMark k ranges queues ms → IsTold ranges queues ms k
+told_by k ranges queues ms h = record {
+  pins = ap (λ (o : Option Mark). unwrap_or (option_map (λ (m : Mark). m.pins) o) 0) h.mark_is ∙ h.right.pins ∙ ap (λ n. pins_of n queues) h.own;
+  ended = ap (λ (o : Option Mark). unwrap_or (option_map (λ (m : Mark). m.ended) o) false) h.mark_is ∙ h.right.ended ∙ ap (λ n. is_none (range_of n ranges)) h.own;
+}
+
+told : (l : Limits) (x : Environment) (next k : ℕ) → ArePartsSound l x next → AllZip IsMarkOf x.device.marks x.device.blocks → IsSome (block_at k x.device.blocks) → IsTold x.present.table.ranges x.queues.queues x.device.marks k
+told l x next k sound zip there = told_by k x.present.table.ranges x.queues.queues x.device.marks (mark_of k x.present.table.ranges x.queues.queues x.device.marks x.device.blocks zip sound.marked there)
+
+-- ---- the range of a block
+
+some_range : (o : Option Range) → is_none o ≡ false → IsSome o
+some_range None e = cc
+some_range (Some r) e = refl
+
+no_range : (o : Option Range) → is_none o ≡ true → o ≡ None
+no_range None e = refl
+no_range (Some r) e = cc
+
+-- a block that has not ended has a range
+pub has_range : (l : Limits) (x : Environment) (next k : ℕ) → ArePartsSound l x next → AllZip IsMarkOf x.device.marks x.device.blocks → IsSome (block_at k x.device.blocks) → is_ended_at k x.device.marks ≡ false → IsSome (range_of k x.present.table.ranges)
+has_range l x next k sound zip there e =
+    let says : IsTold x.present.table.ranges x.queues.queues x.device.marks k = told l x next k sound zip there in
+    some_range (range_of k x.present.table.ranges) (sym says.ended ∙ e)
+
+-- and one that has ended has none
+pub has_no_range : (l : Limits) (x : Environment) (next k : ℕ) → ArePartsSound l x next → AllZip IsMarkOf x.device.marks x.device.blocks → IsSome (block_at k x.device.blocks) → is_ended_at k x.device.marks ≡ true → range_of k x.present.table.ranges ≡ None
+has_no_range l x next k sound zip there e =
+    let says : IsTold x.present.table.ranges x.queues.queues x.device.marks k = told l x next k sound zip there in
+    no_range (range_of k x.present.table.ranges) (sym says.ended ∙ e)
+
+-- ---- the lowest block that has ended
+
+-- two tests that agree on each block keep the same ones
+filter-same : (p q : Block → Bool) (bs : List Block) → AllByRecursion (λ b. p b ≡ q b) bs → filter p bs ≡ filter q bs
+filter-same p q [] h = refl
+filter-same p q (b ∷ bs) h = rw h.0 (ap (λ rest. cond (q b) (b ∷ rest) rest) (filter-same p q bs h.1))
+
+lowest_has : (P : Block → Type 0) (bs : List Block) → AllByRecursion P bs → IfSome (lowest bs) P
+lowest_has P [] h = tt
+lowest_has P (b ∷ bs) h = go (lowest bs) (lowest_has P bs h.1)
+  where
+    go : (o : Option Block) → IfSome o P → P (lower b o)
+    go None rest = h.0
+    go (Some c) rest = elim (nat_le b.place c.place) as (λ t. P (cond t b c)) [ true ↦ h.0 | false ↦ rest ]
+
+told_same : (queues : List (List Transfer)) (ms : List Mark) (o : Option Block) → IfSome o (λ b. pins_at b.number ms ≡ pins_of b.number queues) → option_map (ended_of ms) o ≡ option_map (told_ended queues) o
+told_same queues ms None h = refl
+told_same queues ms (Some b) h = rw h refl
+
+lowest_same : (from : ℕ) (ranges : List Range) (queues : List (List Transfer)) (ms : List Mark) (bs : List Block) → AllByRecursion (λ b. IsTold ranges queues ms b.number) bs
+    → lowest_ended from ms bs ≡ option_map (told_ended queues) (lowest (filter (λ b. is_none (range_of b.number ranges) && nat_le from b.place) bs))
+lowest_same from ranges queues ms bs h =
+    let p : Block → Bool = λ b. is_ended_at b.number ms && nat_le from b.place in
+    let q : Block → Bool = λ b. is_none (range_of b.number ranges) && nat_le from b.place in
+    let same : filter p bs ≡ filter q bs = filter-same p q bs (AllByRecursion-weaker (λ (b : Block). IsTold ranges queues ms b.number) (λ b. p b ≡ q b) bs (λ b t. ap (λ e. e && nat_le from b.place) t.ended) h) in
+    let pins : AllByRecursion (λ (b : Block). pins_at b.number ms ≡ pins_of b.number queues) (filter q bs) =
+    AllByRecursion-filter (λ (b : Block). pins_at b.number ms ≡ pins_of b.number queues) q bs (AllByRecursion-weaker (λ (b : Block). IsTold ranges queues ms b.number) (λ (b : Block). pins_at b.number ms ≡ pins_of b.number queues) bs (λ b t. t.pins) h) in
+    ap (λ cs. option_map (ended_of ms) (lowest cs)) same ∙ told_same queues ms (lowest (filter q bs)) (lowest_has (λ b. pins_at b.number ms ≡ pins_of b.number queues) (filter q bs) pins)
+
+-- the device finds the block that the records say
+pub ended_is : (l : Limits) (x : Environment) (next from : ℕ) → ArePartsSound l x next → AllZip IsMarkOf x.device.marks x.device.blocks → lowest_ended from x.device.marks x.device.blocks ≡ ended_from from (state_of x next).records
+ended_is l x next from sound zip =
+    let distinct : EachPair (λ (b : Block) (c : Block). b.number ≡ c.number → ⊥) x.device.blocks =
+    EachPair-weaker IsClearOf (λ (b : Block) (c : Block). b.number ≡ c.number → ⊥) x.device.blocks (λ b c clear same. let less : b.number < c.number = clear.numbers in omega arith) sound.sound.records.blocks_apart.apart in
+    lowest_same from x.present.table.ranges x.queues.queues x.device.marks x.device.blocks
+    (AllByRecursion-weaker (λ (b : Block). block_at b.number x.device.blocks ≡ Some b) (λ (b : Block). IsTold x.present.table.ranges x.queues.queues x.device.marks b.number) x.device.blocks
+    (λ b own. told l x next b.number sound zip (is_some (block_at b.number x.device.blocks) b own)) (at-own number_of x.device.blocks distinct))

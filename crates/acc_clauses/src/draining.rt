@@ -1,0 +1,52 @@
+//! Queued transfers that are made one after the other (OpenACC 3.3, section 2.16 and the wait directive).
+
+ghost use Rattle.std.specs.Prelude.{◌≡◌, length, replicate};
+ghost use Rattle.acc_base.specs.Queues.{queue_at};
+ghost use Rattle.acc_base.specs.Waits.{steps_of, drained};
+
+use crate::parts::Parts;
+use acc_base::QUEUE_COUNT;
+
+// Makes the transfers of one queue until it is empty.
+fn drain_queue(parts: &mut Parts, q: u64)
+    ensures limits { parts.new.limits ≡ parts.old.limits }
+    ensures state { parts.new.state ≡ drained (replicate (length (queue_at q parts.old.state.records.queues)) q) parts.old.state }
+{
+    let count = parts.queue_len(q);
+    for _ in 0..count {
+        parts.step(q);
+    }
+}
+
+/// Makes the transfers of a queue, or those of all queues from the first to the last. It takes no memory.
+pub fn drain(parts: &mut Parts, queue: Option<u64>)
+    ensures limits { parts.new.limits ≡ parts.old.limits }
+    ensures state { parts.new.state ≡ drained (steps_of queue parts.old.state.records.queues) parts.old.state }
+{
+    match queue {
+        Some(q) => drain_queue(parts, q),
+        None => {
+            for q in 0..QUEUE_COUNT {
+                drain_queue(parts, q);
+            }
+            parts.laws();
+        }
+    }
+}
+
+/// How many transfers wait in a queue, or in all queues together.
+pub fn waiting(parts: &Parts, queue: Option<u64>) -> u64
+    ensures { result ≡ length (steps_of queue parts.now.state.records.queues) }
+{
+    match queue {
+        Some(q) => parts.queue_len(q),
+        None => {
+            let mut count = 0;
+            for q in 0..QUEUE_COUNT {
+                count += parts.queue_len(q);
+            }
+            parts.laws();
+            count
+        }
+    }
+}

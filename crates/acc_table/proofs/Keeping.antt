@@ -1,23 +1,26 @@
 -- Each accepted call keeps what a table keeps.
-use Rattle.std.proofs.Common.{ℕ, ◌≡◌, ◌+◌, ◌≤◌, refl, sym, subst, true, false, List, [], ◌∷◌, ◌++◌, length, Result, Ok, Err, arith, length-append}
-use Rattle.std.specs.Prelude.{OnOk, OnErr}
+use Rattle.std.proofs.Common.{ℕ, ◌≡◌, ◌+◌, ◌≤◌, refl, sym, ◌∙◌, ap, subst, true, false, List, [], ◌∷◌, ◌++◌, length, Option, Some, None, Result, Ok, Err, arith, length-append}
+use Rattle.std.specs.Prelude.{IfOk, OnOk, OnErr}
 use Rattle.acc_base.specs.declared.faults.Fault.{Fault}
 use Rattle.acc_base.specs.declared.directives.Directive.{Directive}
 use Rattle.acc_base.specs.declared.calls.Call.{Call}
 use Rattle.acc_base.specs.declared.calls.Call.TheVariants.{Do, HostWrite}
+use Rattle.acc_base.specs.declared.transfers.Transfer.{Transfer}
 use Rattle.acc_base.specs.declared.tasks.Task.{Task}
 use Rattle.acc_base.specs.declared.events.Step.{Step}
 use Rattle.acc_base.specs.declared.events.Step.TheVariants.{Nothing, Counted, Born, Dropped, Moved}
 use Rattle.acc_base.specs.declared.events.Did.{Did}
 use Rattle.acc_base.specs.declared.events.Event.{Event}
-use Rattle.acc_base.specs.declared.events.Event.TheVariants.{Entered, Left, EnteredData, ExitedData, Updated, HostWritten}
+use Rattle.acc_base.specs.declared.events.Event.TheVariants.{Entered, Left, EnteredData, ExitedData, Updated, Waited, Stepped, HostWritten}
 use Rattle.acc_base.specs.Limits.{Limits, IsWithinBounds}
 use Rattle.acc_base.specs.Records.{Records, Layout, layout_of}
-use Rattle.acc_base.specs.Tasks.{act_step, act, act_all, records_after_birth, records_after_end, with_range_changed}
-use Rattle.acc_base.specs.Walk.{walk, asked_in, done_in}
+use Rattle.acc_base.specs.Steps.{act_row, act_step, act, act_all, released, records_after_birth, records_after_end, with_range_changed}
+use Rattle.acc_base.specs.Queues.{head_of}
+use Rattle.acc_base.specs.Waits.{records_made, records_stepped, records_drained}
+use Rattle.acc_base.specs.Walk.{walk, asked_in, done_in, stepped_in}
 use Rattle.acc_base.specs.Acting.{after}
-use Rattle.acc_base.specs.Judge.{event_of}
-use Rattle.acc_base.specs.Calls.{World, Makes, judge, world_after, bytes_brought, new_world}
+use Rattle.acc_base.specs.Calls.{World, judge, world_after, bytes_brought, new_world}
+use Rattle.acc_base.specs.Judge.{Verdict, Makes, Idle, verdict_of}
 use Rattle.acc_base.proofs.SameMapping.{mapping-act}
 use Rattle.acc_base.proofs.Walked.{layout-after}
 use Rattle.acc_base.proofs.Accounted.{accepted_accounted, new_accounted}
@@ -26,13 +29,13 @@ use Rattle.acc_clauses.specs.Planned.{Planned, IsPlannedOn}
 use Rattle.acc_clauses.proofs.Events.{planned_asked}
 use Rattle.acc_table.specs.declared.calls.Reply.{Reply}
 use Rattle.acc_table.specs.Kept.{IsKept, world_of}
-use Rattle.acc_table.specs.Making.{planned_event, IsCommitted, IsAsBefore}
+use Rattle.acc_table.specs.Making.{planned_verdict, IsCommitted, IsAsBefore}
 use Rattle.acc_table.proofs.Verdicts.{committed, unchanged}
 
 -- ---- births, of which a directive has at most 64
 
 step_births : (task : Task) (step : Step) (w : Records) → (act_step task step w).births ≤ w.births + 1
-unfolding act_step with_range_changed records_after_birth records_after_end
+unfolding act_step act_row with_range_changed records_after_birth records_after_end released
 step_births task Nothing w = omega arith
 step_births task (Counted k) w = omega arith
 step_births task (Born k p) w = omega arith
@@ -50,9 +53,25 @@ all_births [] (d ∷ ds) w = omega arith
 all_births (t ∷ ts) [] w = omega arith
 all_births (t ∷ ts) (d ∷ ds) w = omega (arith, act_births t d w, all_births ts ds (act t d w))
 
+-- transfers that are made bear none
+stepped_births : (q : ℕ) (w : Records) → (records_stepped q w).births ≡ w.births
+unfolding records_stepped released
+stepped_births q w = go (head_of q w.queues)
+  where
+    go : (o : Option Transfer) → (records_made q o w).births ≡ w.births
+    go None = refl
+    go (Some t) = refl
+
+drained_births : (qs : List ℕ) (w : Records) → (records_drained qs w).births ≡ w.births
+unfolding records_drained
+drained_births [] w = refl
+drained_births (q ∷ qs) w = drained_births qs (records_stepped q w) ∙ stepped_births q w
+
 walk_births : (e : Event) (lay : Layout) (tasks : List Task) → asked_in e lay.register ≡ tasks → (walk e lay).records.births ≤ lay.records.births + length tasks
 unfolding walk
-walk_births e lay tasks is = subst (λ ts. (act_all ts (done_in e) lay.records).births ≤ lay.records.births + length tasks) (sym is) (all_births tasks (done_in e) lay.records)
+walk_births e lay tasks is =
+    let most : (act_all (asked_in e lay.register) (done_in e) lay.records).births ≤ lay.records.births + length tasks = subst (λ ts. (act_all ts (done_in e) lay.records).births ≤ lay.records.births + length tasks) (sym is) (all_births tasks (done_in e) lay.records) in
+    subst (λ n. n ≤ lay.records.births + length tasks) (sym (drained_births (stepped_in e lay.records.queues) (act_all (asked_in e lay.register) (done_in e) lay.records))) most
 
 -- ---- region numbers, of which an event uses at most one
 
@@ -60,9 +79,11 @@ walk_regions : (e : Event) (lay : Layout) → (walk e lay).register.next ≤ lay
 unfolding walk
 walk_regions (Entered number items did) lay = omega arith
 walk_regions (Left number did) lay = omega arith
-walk_regions (EnteredData items did) lay = omega arith
-walk_regions (ExitedData items finalize did) lay = omega arith
-walk_regions (Updated items if_present did) lay = omega arith
+walk_regions (EnteredData items queue did) lay = omega arith
+walk_regions (ExitedData items finalize queue did) lay = omega arith
+walk_regions (Updated items if_present queue did) lay = omega arith
+walk_regions (Waited queue count) lay = omega arith
+walk_regions (Stepped queue block) lay = omega arith
 walk_regions (HostWritten addr len) lay = omega arith
 
 -- ---- a call
@@ -81,16 +102,20 @@ kept_after w call e tasks k h asked few =
       regions = omega (arith, regions, more, k.regions);
     }
 
-pub kept_directive : (w : World) (d : Directive) (p : Planned) → IsKept w → IsPlannedOn w.limits d (layout_of w.state) p → judge w (Do d) ≡ Ok (Makes (event_of d w.state.register p.dids)) → IsKept (world_after (Do d) (event_of d w.state.register p.dids) w)
-kept_directive w d p k planned h = kept_after w (Do d) (event_of d w.state.register p.dids) p.tasks k h (planned_asked w.limits d (layout_of w.state) p planned) planned.few
+pub kept_directive : (w : World) (d : Directive) (p : Planned) (e : Event) → IsKept w → IsPlannedOn w.limits d (layout_of w.state) p → verdict_of d w.state p.dids ≡ Makes e → judge w (Do d) ≡ Ok (Makes e) → IsKept (world_after (Do d) e w)
+kept_directive w d p e k planned is h = kept_after w (Do d) e p.tasks k h (planned_asked w.limits d w.state p e planned is) planned.few
 
 pub kept_write : (w : World) (addr : ℕ) (bytes : List ℕ) → IsKept w → judge w (HostWrite addr bytes) ≡ Ok (Makes (HostWritten addr (length bytes))) → IsKept (world_after (HostWrite addr bytes) (HostWritten addr (length bytes)) w)
 kept_write w addr bytes k h = kept_after w (HostWrite addr bytes) (HostWritten addr (length bytes)) [] k h refl (omega arith)
 
 -- what a store and a trace keep that carried a directive out, or were asked in vain
 pub kept_carried : (d : Directive) (p : Planned) (old new : Contents) (trace longer : List Event) (r : Result Reply (Directive × Fault)) → IsKept (world_of old trace) → OnOk r (IsPlannedOn old.limits d (layout_of old.state) p)
-    → OnOk r (judge (world_of old trace) (Do d) ≡ Ok (Makes (planned_event d p old))) → OnOk r (IsCommitted d p old new trace longer) → OnErr r (IsAsBefore old new trace longer) → IsKept (world_of new longer)
-kept_carried d p old new trace longer (Ok reply) k planned h done same = subst (λ (w : World). IsKept w) (sym (committed d p old new trace longer done)) (kept_directive (world_of old trace) d p k planned h)
+    → OnOk r (judge (world_of old trace) (Do d) ≡ Ok (planned_verdict d p old)) → IfOk r (λ reply. IsCommitted (planned_verdict d p old) reply old new trace longer) → OnErr r (IsAsBefore old new trace longer) → IsKept (world_of new longer)
+kept_carried d p old new trace longer (Ok reply) k planned h done same = go (planned_verdict d p old) refl done
+  where
+    go : (v : Verdict) → planned_verdict d p old ≡ v → IsCommitted v reply old new trace longer → IsKept (world_of new longer)
+    go (Makes e) is x = subst (λ (w : World). IsKept w) (sym (committed d e reply old new trace longer x)) (kept_directive (world_of old trace) d p e k planned is (h ∙ ap Ok is))
+    go Idle is x = subst (λ (w : World). IsKept w) (sym (unchanged old new trace longer x.1)) k
 kept_carried d p old new trace longer (Err back) k planned h done same = subst (λ (w : World). IsKept w) (sym (unchanged old new trace longer same)) k
 
 -- ---- a new table

@@ -3,13 +3,13 @@ use Rattle.std.proofs.Common.{◌≡◌, refl, ap, subst, List, [], ◌∷◌, �
 use Rattle.std.specs.Prelude.{MatchResult}
 use Rattle.acc_base.specs.declared.calls.Call.{Call}
 use Rattle.acc_base.specs.declared.faults.Fault.{Fault}
-use Rattle.acc_base.specs.declared.faults.Fault.TheVariants.{Memory}
-use Rattle.acc_base.specs.Calls.{World, Verdict, Makes, Idle, judge}
+use Rattle.acc_base.specs.Calls.{World, judge}
+use Rattle.acc_base.specs.Judge.{Verdict, Makes, Idle}
 use Rattle.acc_table.specs.declared.calls.Turn.{Turn}
 use Rattle.acc_table.specs.declared.calls.Answer.{Answer}
 use Rattle.acc_table.specs.declared.calls.Answer.TheVariants.{Refused}
 use Rattle.acc_table.specs.declared.calls.Reply.{Reply}
-use Rattle.acc_table.specs.Calls.{IsCarriedOut, IsDone, IsRefusal}
+use Rattle.acc_table.specs.Calls.{IsCarriedOut, IsDone, MayWantMemory, IsRefusal}
 use Rattle.acc_table.specs.Turns.{answer_to, asked_by, MayAnswer, IsRun}
 
 -- the answer to a turn whose call was carried out
@@ -18,15 +18,16 @@ answered w next call reply done = go (judge w call) done
   where
     go : (r : Result Verdict Fault) → MatchResult r (λ verdict. IsCarriedOut w call verdict reply next) (λ fault. ⊥) → MayAnswer w call r (answer_to reply) next
     go (Ok (Makes e)) h = inr (record { answer_is = ap answer_to h.0; next_is = h.1 })
-    go (Ok Idle) h = absurd h
+    go (Ok Idle) h = record { answer_is = ap answer_to h.0; same = h.1 }
     go (Err fault) h = absurd h
 
 -- and to one whose call was refused
 pub refused : (w next : World) (call : Call) (fault : Fault) → IsRefusal w call fault → next ≡ w → MayAnswer w call (judge w call) (Refused fault) next
 refused w next call fault told same = go (judge w call) told
   where
-    go : (r : Result Verdict Fault) → MatchResult r (λ verdict. fault ≡ Memory) (λ refusal. fault ≡ refusal) → MayAnswer w call r (Refused fault) next
-    go (Ok verdict) h = inl (record { answer_is = ap Refused h; same = same })
+    go : (r : Result Verdict Fault) → MatchResult r (λ verdict. MayWantMemory verdict fault) (λ refusal. fault ≡ refusal) → MayAnswer w call r (Refused fault) next
+    go (Ok (Makes e)) h = inl (record { answer_is = ap Refused h; same = same })
+    go (Ok Idle) h = absurd h
     go (Err refusal) h = record { answer_is = ap Refused h; same = same }
 
 -- one turn more

@@ -1,48 +1,89 @@
 -- A directive that was judged becomes its event, and a call its verdict.
-use Rattle.std.proofs.Common.{ℕ, ◌≡◌, ◌<◌, Bool, true, false, arith, refl, sym, ◌∙◌, subst, List, [], ◌∷◌, ◌++◌, length, Result, Ok, Err}
-use Rattle.std.specs.Prelude.{⊤, not, ◌&&◌, IfOk, IfErr, OnOk}
+use Rattle.std.proofs.Common.{ℕ, ◌≡◌, ◌<◌, Bool, true, false, arith, refl, sym, ◌∙◌, subst, List, [], ◌∷◌, ◌++◌, length, Option, Some, None, Result, Ok, Err}
+use Rattle.std.specs.Prelude.{⊤, not, is_none, option_map, ◌&&◌, IfOk, IfErr, OnOk}
 use Rattle.std.proofs.lemmas.Bool.Decides.{nat_tests}
 use Rattle.acc_base.specs.declared.items.Section.{Section}
 use Rattle.acc_base.specs.Section.{is_empty, is_within, host_memory}
 use Rattle.acc_base.proofs.Results.{then_ok, refused_not}
 use Rattle.acc_base.specs.declared.directives.Directive.{Directive}
-use Rattle.acc_base.specs.declared.directives.Directive.TheVariants.{Enter, Exit, EnterData, ExitData, Update}
+use Rattle.acc_base.specs.declared.directives.Directive.TheVariants.{Enter, Exit, EnterData, ExitData, Update, Wait, Step}
 use Rattle.acc_base.specs.declared.calls.Call.TheVariants.{Do, HostWrite}
 use Rattle.acc_base.specs.declared.events.Event.{Event}
-use Rattle.acc_base.specs.declared.events.Event.TheVariants.{HostWritten}
+use Rattle.acc_base.specs.declared.events.Event.TheVariants.{Stepped, HostWritten}
 use Rattle.acc_base.specs.declared.events.Did.{Did}
+use Rattle.acc_base.specs.declared.transfers.Transfer.{Transfer}
 use Rattle.acc_base.specs.declared.faults.Fault.{Fault}
 use Rattle.acc_base.specs.Results.{◌>>=◌, ◌>>◌}
-use Rattle.acc_base.specs.Register.{Register}
+use Rattle.acc_base.specs.Records.{State}
+use Rattle.acc_base.specs.Queues.{head_of as head_of_queue}
 use Rattle.acc_base.specs.Bytes.{host_after_write}
+use Rattle.acc_base.specs.Waits.{drained}
 use Rattle.acc_base.specs.Acting.{act_all_state, after}
 use Rattle.acc_base.specs.Clauses.{in_host}
-use Rattle.acc_base.specs.Judge.{few_items, directive_event, event_of, plan_of, host_write_event}
-use Rattle.acc_base.specs.Calls.{World, Makes, judge, ticket, allowance, trace_room, world_after}
+use Rattle.acc_base.specs.Judge.{few_items, step_verdict, verdict_of, directive_verdict, plan_of, host_write_event}
+use Rattle.acc_base.specs.Calls.{World, judge, ticket, allowance, trace_room, world_after}
+use Rattle.acc_base.specs.Judge.{Verdict, Makes, Idle}
 use Rattle.acc_clauses.specs.Contents.{Contents}
 use Rattle.acc_clauses.specs.Planned.{Planned, head_of, in_written_order}
 use Rattle.acc_table.specs.declared.calls.Reply.{Reply}
 use Rattle.acc_table.specs.declared.calls.Reply.TheVariants.{Done}
-use Rattle.acc_table.specs.Calls.{reply_of, IsDone, IsRefusal}
+use Rattle.acc_table.specs.Calls.{IsCarriedOut, IsDone, IsRefusal}
 use Rattle.acc_table.specs.Kept.{world_of}
-use Rattle.acc_table.specs.Making.{event_stored, admitted, write_admitted, planned_event, MayBeToldOf, IsCommitted, IsAsBefore}
+use Rattle.acc_table.specs.Making.{verdict_stored, verdict_told, is_idle, admitted, write_admitted, planned_verdict, MayBeToldOf, IsMadeInto, IsCommitted, IsAsBefore}
 
 -- ---- the event
 
--- the event that is stored is that of the directive
-pub stored : (d : Directive) (g : Register) (dids : List Did) → event_stored d g.next (in_written_order (head_of d) dids) ≡ event_of d g dids
-stored (Enter items) g dids = refl
-stored (Exit number) g dids = refl
-stored (EnterData items) g dids = refl
-stored (ExitData items finalize) g dids = refl
-stored (Update items if_present) g dids = refl
+-- the verdict of which the event is stored is that of the directive
+pub stored : (d : Directive) (s : State) (dids : List Did) → verdict_stored d s (in_written_order (head_of d) dids) ≡ verdict_of d s dids
+stored (Enter items) s dids = refl
+stored (Exit number) s dids = refl
+stored (EnterData items queue) s dids = refl
+stored (ExitData items finalize queue) s dids = refl
+stored (Update items if_present queue) s dids = refl
+stored (Wait queue) s dids = refl
+stored (Step queue) s dids = refl
+
+-- a step makes the transfer of the block that is told, and nothing where none is
+pub step_told : (queue : ℕ) (head : Option Transfer) (block : Option ℕ) → block ≡ option_map (λ t. t.block) head → verdict_told (option_map (Stepped queue) block) ≡ step_verdict queue head
+step_told queue None None e = refl
+step_told queue None (Some b) e = cc
+step_told queue (Some t) None e = cc
+step_told queue (Some t) (Some b) e = let same : b ≡ t.block = cc in rw same refl
+
+-- where there is nothing to do, the directive is the step of an empty queue
+pub idle_told : (d : Directive) (s : State) (did : List Did) → verdict_stored d s did ≡ Idle → is_idle d s ≡ true
+idle_told (Enter items) s did e = cc
+idle_told (Exit number) s did e = cc
+idle_told (EnterData items queue) s did e = cc
+idle_told (ExitData items finalize queue) s did e = cc
+idle_told (Update items if_present queue) s did e = cc
+idle_told (Wait queue) s did e = cc
+idle_told (Step queue) s did e = go (head_of_queue queue s.records.queues) e
+  where
+    go : (o : Option Transfer) → step_verdict queue o ≡ Idle → is_none (option_map (λ (t : Transfer). t.block) o) ≡ true
+    go None x = refl
+    go (Some t) x = cc
+
+-- and the other way round
+pub told_idle : (d : Directive) (s : State) (dids : List Did) → is_idle d s ≡ true → verdict_of d s dids ≡ Idle
+told_idle (Enter items) s dids e = cc
+told_idle (Exit number) s dids e = cc
+told_idle (EnterData items queue) s dids e = cc
+told_idle (ExitData items finalize queue) s dids e = cc
+told_idle (Update items if_present queue) s dids e = cc
+told_idle (Wait queue) s dids e = cc
+told_idle (Step queue) s dids e = go (head_of_queue queue s.records.queues) e
+  where
+    go : (o : Option Transfer) → is_none (option_map (λ (t : Transfer). t.block) o) ≡ true → step_verdict queue o ≡ Idle
+    go None x = refl
+    go (Some t) x = cc
 
 -- ---- the world
 
 -- the world of a store and a trace after a directive is the world after its event
-pub committed : (d : Directive) (p : Planned) (old new : Contents) (trace longer : List Event) → IsCommitted d p old new trace longer → world_of new longer ≡ world_after (Do d) (planned_event d p old) (world_of old trace)
+pub committed : (d : Directive) (e : Event) (reply : Reply) (old new : Contents) (trace longer : List Event) → IsMadeInto e reply old new trace longer → world_of new longer ≡ world_after (Do d) e (world_of old trace)
 unfolding world_after
-committed d p old new trace longer h = rw (h.limits, h.state, h.trace) refl
+committed d e reply old new trace longer h = rw (h.limits, h.state, h.trace) refl
 
 -- and as before where only room was made
 pub unchanged : (old new : Contents) (trace same : List Event) → IsAsBefore old new trace same → world_of new same ≡ world_of old trace
@@ -51,18 +92,18 @@ unchanged old new trace same h = rw (h.limits, h.state, h.trace) refl
 -- the world of a store and a trace after a write of the host
 pub written : (addr : ℕ) (bytes : List ℕ) (old new : Contents) (trace longer : List Event) → new.limits ≡ old.limits → new.state ≡ record old.state { host = host_after_write addr (length bytes) bytes old.state.host } → longer ≡ trace ++ HostWritten addr (length bytes) ∷ []
     → world_of new longer ≡ world_after (HostWrite addr bytes) (HostWritten addr (length bytes)) (world_of old trace)
-unfolding world_after after act_all_state
+unfolding world_after after act_all_state drained
 written addr bytes old new trace longer l s t = rw (l, s, t) refl
 
 -- ---- the verdict
 
 -- the verdict on a directive, from what is told before its items are judged and from the plan of the items
-pub judge_directive : (w : World) (d : Directive) → judge w (Do d) ≡ (admitted w d >> (plan_of w.limits d w.state >>= λ e. Ok (Makes e)))
+pub judge_directive : (w : World) (d : Directive) → judge w (Do d) ≡ (admitted w d >> plan_of w.limits d w.state)
 unfolding judge admitted plan_of
 judge_directive w d = go (ticket w) (allowance w d) (few_items d) (trace_room w)
   where
     go : (a b c t : Result ⊤ Fault)
-        → (a >> (b >> (c >> (t >> (directive_event w.limits d w.state >>= λ x. Ok (Makes x)))))) ≡ ((a >> (b >> (c >> t))) >> ((c >> directive_event w.limits d w.state) >>= λ x. Ok (Makes x)))
+        → (a >> (b >> (c >> (t >> directive_verdict w.limits d w.state)))) ≡ ((a >> (b >> (c >> t))) >> (c >> directive_verdict w.limits d w.state))
     go (Err f) b c t = refl
     go (Ok x) (Err f) c t = refl
     go (Ok x) (Ok y) (Err f) t = refl
@@ -70,16 +111,16 @@ judge_directive w d = go (ticket w) (allowance w d) (few_items d) (trace_room w)
     go (Ok x) (Ok y) (Ok z) (Ok u) = refl
 
 -- what a plan answers is the verdict, where nothing was told before
-pub judged_plan : (w : World) (d : Directive) (e : Event) → admitted w d ≡ Ok tt → plan_of w.limits d w.state ≡ Ok e → judge w (Do d) ≡ Ok (Makes e)
-judged_plan w d e ok h = judge_directive w d ∙ rw (ok, h) refl
+pub judged_plan : (w : World) (d : Directive) (v : Verdict) → admitted w d ≡ Ok tt → plan_of w.limits d w.state ≡ Ok v → judge w (Do d) ≡ Ok v
+judged_plan w d v ok h = judge_directive w d ∙ rw (ok, h) refl
 
 -- so is what is told of a plan
 pub refused_plan : (w : World) (d : Directive) (fault : Fault) → admitted w d ≡ Ok tt → MayBeToldOf (plan_of w.limits d w.state) fault → IsRefusal w (Do d) fault
 refused_plan w d fault ok told = go (plan_of w.limits d w.state) refl told
   where
-    go : (r : Result Event Fault) → plan_of w.limits d w.state ≡ r → MayBeToldOf r fault → IsRefusal w (Do d) fault
-    go (Ok e) is h = let v : judge w (Do d) ≡ Ok (Makes e) = judged_plan w d e ok is in rw v h
-    go (Err refusal) is h = let v : judge w (Do d) ≡ Err refusal = judge_directive w d ∙ rw (ok, is) refl in rw v h
+    go : (r : Result Verdict Fault) → plan_of w.limits d w.state ≡ r → MayBeToldOf r fault → IsRefusal w (Do d) fault
+    go (Ok v) is h = let says : judge w (Do d) ≡ Ok v = judged_plan w d v ok is in rw says h
+    go (Err refusal) is h = let says : judge w (Do d) ≡ Err refusal = judge_directive w d ∙ rw (ok, is) refl in rw says h
 
 -- and what is told before
 pub refused_before : (w : World) (d : Directive) (fault : Fault) → admitted w d ≡ Err fault → IsRefusal w (Do d) fault
@@ -115,14 +156,19 @@ can_write w s admitted size some =
 
 -- ---- a call that was carried out
 
-pub directive_done : (d : Directive) (p : Planned) (old new : Contents) (trace longer : List Event) (r : Result Reply (Directive × Fault)) → OnOk r (judge (world_of old trace) (Do d) ≡ Ok (Makes (planned_event d p old)))
-    → IfOk r (λ reply. reply ≡ reply_of (planned_event d p old)) → OnOk r (IsCommitted d p old new trace longer) → IfOk r (λ reply. IsDone (world_of old trace) (Do d) reply (world_of new longer))
-directive_done d p old new trace longer (Ok reply) h ok done = rw h (ok, committed d p old new trace longer done)
-directive_done d p old new trace longer (Err back) h ok done = tt
+-- what a directive came to, which was judged so, is done
+carried_out : (d : Directive) (v : Verdict) (reply : Reply) (old new : Contents) (trace longer : List Event) → IsCommitted v reply old new trace longer → IsCarriedOut (world_of old trace) (Do d) v reply (world_of new longer)
+carried_out d (Makes e) reply old new trace longer h = (h.reply, committed d e reply old new trace longer h)
+carried_out d Idle reply old new trace longer h = (h.0, unchanged old new trace longer h.1)
+
+pub directive_done : (d : Directive) (p : Planned) (old new : Contents) (trace longer : List Event) (r : Result Reply (Directive × Fault)) → OnOk r (judge (world_of old trace) (Do d) ≡ Ok (planned_verdict d p old))
+    → IfOk r (λ reply. IsCommitted (planned_verdict d p old) reply old new trace longer) → IfOk r (λ reply. IsDone (world_of old trace) (Do d) reply (world_of new longer))
+directive_done d p old new trace longer (Ok reply) h done = rw h (carried_out d (planned_verdict d p old) reply old new trace longer done)
+directive_done d p old new trace longer (Err back) h done = tt
 
 pub directive_judged : (d : Directive) (p : Planned) (old : Contents) (trace : List Event) (r : Result Reply (Directive × Fault)) → admitted (world_of old trace) d ≡ Ok tt
-    → OnOk r (plan_of old.limits d old.state ≡ Ok (planned_event d p old)) → OnOk r (judge (world_of old trace) (Do d) ≡ Ok (Makes (planned_event d p old)))
-directive_judged d p old trace (Ok reply) ok h = judged_plan (world_of old trace) d (planned_event d p old) ok h
+    → OnOk r (plan_of old.limits d old.state ≡ Ok (planned_verdict d p old)) → OnOk r (judge (world_of old trace) (Do d) ≡ Ok (planned_verdict d p old))
+directive_judged d p old trace (Ok reply) ok h = judged_plan (world_of old trace) d (planned_verdict d p old) ok h
 directive_judged d p old trace (Err back) ok h = tt
 
 pub directive_refused : (d : Directive) (old : Contents) (trace : List Event) (r : Result Reply (Directive × Fault)) → admitted (world_of old trace) d ≡ Ok tt

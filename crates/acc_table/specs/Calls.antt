@@ -5,28 +5,36 @@ use Rattle.acc_base.specs.declared.events.Event.{Event}
 use Rattle.acc_base.specs.declared.events.Event.TheVariants as events
 use Rattle.acc_base.specs.declared.faults.Fault.{Fault}
 use Rattle.acc_base.specs.declared.faults.Fault.TheVariants.{Memory}
-use Rattle.acc_base.specs.Calls.{World, Verdict, Makes, Idle, judge, world_after}
+use Rattle.acc_base.specs.Calls.{World, judge, world_after}
+use Rattle.acc_base.specs.Judge.{Verdict, Makes, Idle}
 use Rattle.acc_table.specs.declared.calls.Reply.{Reply}
-use Rattle.acc_table.specs.declared.calls.Reply.TheVariants.{Done, Entered}
+use Rattle.acc_table.specs.declared.calls.Reply.TheVariants as replies
 
--- what a call that made this event answers: an entry to a region, its number
+-- what a call that made this event answers: an entry to a region its number, and a wait how many transfers it made
 abbrev pub reply_of : Event → Reply
-reply_of (events.Entered number items did) = Entered number
-reply_of (events.Left number did) = Done
-reply_of (events.EnteredData items did) = Done
-reply_of (events.ExitedData items finalize did) = Done
-reply_of (events.Updated items if_present did) = Done
-reply_of (events.HostWritten addr len) = Done
+reply_of (events.Entered number items did) = replies.Entered number
+reply_of (events.Left number did) = replies.Done
+reply_of (events.EnteredData items queue did) = replies.Done
+reply_of (events.ExitedData items finalize queue did) = replies.Done
+reply_of (events.Updated items if_present queue did) = replies.Done
+reply_of (events.Waited queue count) = replies.Drained count
+reply_of (events.Stepped queue block) = replies.Done
+reply_of (events.HostWritten addr len) = replies.Done
 
--- the reply is that of the event, and the world is that after it; no call is idle so far
+-- the reply is that of the event, and the world is that after it; where there was nothing to do, the world is the same
 abbrev pub IsCarriedOut : World → Call → Verdict → Reply → World → Type 0
 IsCarriedOut w call (Makes e) reply v = (reply ≡ reply_of e) × (v ≡ world_after call e w)
-IsCarriedOut w call Idle reply v = ⊥
+IsCarriedOut w call Idle reply v = (reply ≡ replies.Idle) × (v ≡ w)
 
 -- the call was accepted, and carried out
 abbrev pub IsDone : World → Call → Reply → World → Type 0
 IsDone w call reply v = MatchResult (judge w call) (λ verdict. IsCarriedOut w call verdict reply v) (λ fault. ⊥)
 
+-- where there is something to do, memory may be wanted for it
+abbrev pub MayWantMemory : Verdict → Fault → Type 0
+MayWantMemory (Makes e) fault = fault ≡ Memory
+MayWantMemory Idle fault = ⊥
+
 -- the fault is the call's first refusal, or want of memory where there is none
 abbrev pub IsRefusal : World → Call → Fault → Type 0
-IsRefusal w call fault = MatchResult (judge w call) (λ verdict. fault ≡ Memory) (λ refusal. fault ≡ refusal)
+IsRefusal w call fault = MatchResult (judge w call) (λ verdict. MayWantMemory verdict fault) (λ refusal. fault ≡ refusal)

@@ -1,28 +1,50 @@
 -- How a directive that was judged becomes an event, and what is refused before its items are judged.
-use Rattle.std.specs.Prelude.{ℕ, ◌≡◌, ◌++◌, ◌∷◌, [], List, Result, MatchResult, ⊤}
+use Rattle.std.specs.Prelude.{◌≡◌, ◌++◌, ◌∷◌, [], Bool, false, List, length, Option, Some, None, is_none, option_map, Result, MatchResult, ⊤}
 use Rattle.acc_base.specs.declared.items.Section.{Section}
 use Rattle.acc_base.specs.declared.directives.Directive.{Directive}
-use Rattle.acc_base.specs.declared.directives.Directive.TheVariants.{Enter, Exit, EnterData, ExitData, Update}
+use Rattle.acc_base.specs.declared.directives.Directive.TheVariants.{Enter, Exit, EnterData, ExitData, Update, Wait, Step}
 use Rattle.acc_base.specs.declared.events.Did.{Did}
 use Rattle.acc_base.specs.declared.events.Event.{Event}
 use Rattle.acc_base.specs.declared.events.Event.TheVariants as events
 use Rattle.acc_base.specs.declared.faults.Fault.{Fault}
-use Rattle.acc_base.specs.declared.faults.Fault.TheVariants.{Memory}
 use Rattle.acc_base.specs.Results.{◌>>◌}
 use Rattle.acc_base.specs.Acting.{after}
+use Rattle.acc_base.specs.Records.{State}
+use Rattle.acc_base.specs.Queues.{head_of}
+use Rattle.acc_base.specs.Waits.{steps_of}
 use Rattle.acc_base.specs.Clauses.{in_host}
-use Rattle.acc_base.specs.Judge.{few_items, event_of}
+use Rattle.acc_base.specs.Judge.{Verdict, Makes, Idle, few_items, step_verdict, verdict_of}
 use Rattle.acc_base.specs.Calls.{World, ticket, allowance, trace_room}
 use Rattle.acc_clauses.specs.Contents.{Contents}
 use Rattle.acc_clauses.specs.Planned.{Planned}
+use Rattle.acc_table.specs.declared.calls.Reply.{Reply}
+use Rattle.acc_table.specs.declared.calls.Reply.TheVariants as replies
+use Rattle.acc_table.specs.Calls.{reply_of, MayWantMemory}
 
--- the event of a directive whose items did this, in written order; an entry opens the region of this number
-abbrev pub event_stored : Directive → ℕ → List Did → Event
-event_stored (Enter items) number did = events.Entered number items did
-event_stored (Exit number) next did = events.Left number did
-event_stored (EnterData items) number did = events.EnteredData items did
-event_stored (ExitData items finalize) number did = events.ExitedData items finalize did
-event_stored (Update items if_present) number did = events.Updated items if_present did
+-- what a directive comes to whose items did this, in written order
+abbrev pub verdict_stored : Directive → State → List Did → Verdict
+verdict_stored (Enter items) s did = Makes (events.Entered s.register.next items did)
+verdict_stored (Exit number) s did = Makes (events.Left number did)
+verdict_stored (EnterData items queue) s did = Makes (events.EnteredData items queue did)
+verdict_stored (ExitData items finalize queue) s did = Makes (events.ExitedData items finalize queue did)
+verdict_stored (Update items if_present queue) s did = Makes (events.Updated items if_present queue did)
+verdict_stored (Wait queue) s did = Makes (events.Waited queue (length (steps_of queue s.records.queues)))
+verdict_stored (Step queue) s did = step_verdict queue (head_of queue s.records.queues)
+
+-- an event, or none where there is nothing to do
+abbrev pub verdict_told : Option Event → Verdict
+verdict_told None = Idle
+verdict_told (Some e) = Makes e
+
+-- the directive is the step of an empty queue
+abbrev pub is_idle : Directive → State → Bool
+is_idle (Enter items) s = false
+is_idle (Exit number) s = false
+is_idle (EnterData items queue) s = false
+is_idle (ExitData items finalize queue) s = false
+is_idle (Update items if_present queue) s = false
+is_idle (Wait queue) s = false
+is_idle (Step queue) s = is_none (option_map (λ t. t.block) (head_of queue s.records.queues))
 
 -- the refusals of a directive that come before those of its items
 unfoldable pub admitted : World → Directive → Result ⊤ Fault
@@ -39,22 +61,28 @@ write_admitted w section = do
   trace_room w
   in_host w.limits 0 section
 
--- the event of a plan for a directive
-abbrev pub planned_event : Directive → Planned → Contents → Event
-planned_event d p c = event_of d c.state.register p.dids
+-- what a directive comes to for which this was planned
+abbrev pub planned_verdict : Directive → Planned → Contents → Verdict
+planned_verdict d p c = verdict_of d c.state p.dids
 
--- the fault is what a judgement refuses, or want of memory where it refuses nothing
-abbrev pub MayBeToldOf : Result Event Fault → Fault → Type 0
-MayBeToldOf judged fault = MatchResult judged (λ e. fault ≡ Memory) (λ refusal. fault ≡ refusal)
-
--- a store and a trace after a directive for which this was planned
-pub record IsCommitted (d : Directive) (p : Planned) (old new : Contents) (before after_it : List Event) : Type 0 where
-  pub limits : new.limits ≡ old.limits
-  pub state : new.state ≡ after (planned_event d p old) [] old.state
-  pub trace : after_it ≡ before ++ planned_event d p old ∷ []
+-- the fault is what a judgement refuses, or want of memory where it refuses nothing and there is something to do
+abbrev pub MayBeToldOf : Result Verdict Fault → Fault → Type 0
+MayBeToldOf judged fault = MatchResult judged (λ verdict. MayWantMemory verdict fault) (λ refusal. fault ≡ refusal)
 
 -- what a store and a trace hold is as before; only room may have been made
 pub record IsAsBefore (old new : Contents) (before after_it : List Event) : Type 0 where
   pub limits : new.limits ≡ old.limits
   pub state : new.state ≡ old.state
   pub trace : after_it ≡ before
+
+-- a store and a trace after an event, which was answered so
+pub record IsMadeInto (e : Event) (answered : Reply) (old new : Contents) (before after_it : List Event) : Type 0 where
+  pub reply : answered ≡ reply_of e
+  pub limits : new.limits ≡ old.limits
+  pub state : new.state ≡ after e [] old.state
+  pub trace : after_it ≡ before ++ e ∷ []
+
+-- a store and a trace after what a directive came to
+abbrev pub IsCommitted : Verdict → Reply → Contents → Contents → List Event → List Event → Type 0
+IsCommitted (Makes e) reply old new before after_it = IsMadeInto e reply old new before after_it
+IsCommitted Idle reply old new before after_it = (reply ≡ replies.Idle) × IsAsBefore old new before after_it

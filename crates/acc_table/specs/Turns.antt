@@ -5,13 +5,14 @@ use Rattle.acc_base.specs.declared.calls.Call.TheVariants.{Do, HostWrite}
 use Rattle.acc_base.specs.declared.events.Event.{Event}
 use Rattle.acc_base.specs.declared.faults.Fault.{Fault}
 use Rattle.acc_base.specs.declared.faults.Fault.TheVariants.{Memory}
-use Rattle.acc_base.specs.Calls.{World, Verdict, Makes, Idle, judge, world_after}
+use Rattle.acc_base.specs.Calls.{World, judge, world_after}
+use Rattle.acc_base.specs.Judge.{Verdict, Makes, Idle}
 use Rattle.acc_table.specs.declared.calls.Turn.{Turn}
 use Rattle.acc_table.specs.declared.calls.Turn.TheVariants as turns
 use Rattle.acc_table.specs.declared.calls.Reply.{Reply}
-use Rattle.acc_table.specs.declared.calls.Reply.TheVariants.{Done, Entered}
+use Rattle.acc_table.specs.declared.calls.Reply.TheVariants as replies
 use Rattle.acc_table.specs.declared.calls.Answer.{Answer}
-use Rattle.acc_table.specs.declared.calls.Answer.TheVariants.{Replied, Refused}
+use Rattle.acc_table.specs.declared.calls.Answer.TheVariants as answers
 use Rattle.acc_table.specs.Calls.{reply_of}
 
 -- the call that the turn makes
@@ -19,14 +20,16 @@ abbrev pub asked_by : Turn → Call
 asked_by (turns.Do directive) = Do directive
 asked_by (turns.HostWrite addr bytes) = HostWrite addr bytes
 
--- the answer to a turn whose call was replied to so: the number of the region that it entered; it waited for no transfer
+-- the answer to a turn whose call was replied to so: the number of the region that it entered, and how many transfers it made
 abbrev pub answer_to : Reply → Answer
-answer_to Done = Replied 0 0
-answer_to (Entered number) = Replied number 0
+answer_to replies.Done = answers.Replied 0 0
+answer_to (replies.Entered number) = answers.Replied number 0
+answer_to (replies.Drained count) = answers.Replied 0 count
+answer_to replies.Idle = answers.Idle
 
 -- the turn was refused, and the world stayed
 pub record StaysRefused (w : World) (fault : Fault) (answer : Answer) (next : World) : Type 0 where
-  pub answer_is : answer ≡ Refused fault
+  pub answer_is : answer ≡ answers.Refused fault
   pub same : next ≡ w
 
 -- the turn made this event
@@ -34,15 +37,16 @@ pub record IsTurnDone (w : World) (call : Call) (e : Event) (answer : Answer) (n
   pub answer_is : answer ≡ answer_to (reply_of e)
   pub next_is : next ≡ world_after call e w
 
--- the turn was accepted; no call is idle so far
-abbrev pub IsTurnAccepted : World → Call → Verdict → Answer → World → Type 0
-IsTurnAccepted w call (Makes e) answer next = IsTurnDone w call e answer next
-IsTurnAccepted w call Idle answer next = ⊥
+-- there was nothing to do in the turn, and the world stayed
+pub record StaysIdle (w : World) (answer : Answer) (next : World) : Type 0 where
+  pub answer_is : answer ≡ answers.Idle
+  pub same : next ≡ w
 
--- the refusal is the answer; where there is none, want of memory may be
+-- the refusal is the answer; where there is none and something to do, want of memory may be
 abbrev pub MayAnswer : World → Call → Result Verdict Fault → Answer → World → Type 0
 MayAnswer w call (Err fault) answer next = StaysRefused w fault answer next
-MayAnswer w call (Ok verdict) answer next = StaysRefused w Memory answer next ⊎ IsTurnAccepted w call verdict answer next
+MayAnswer w call (Ok (Makes e)) answer next = StaysRefused w Memory answer next ⊎ IsTurnDone w call e answer next
+MayAnswer w call (Ok Idle) answer next = StaysIdle w answer next
 
 -- the turns lead from one world to another, one after the other, with these answers
 abbrev pub IsRun : World → List Turn → List Answer → World → Type 0

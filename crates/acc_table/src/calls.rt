@@ -12,6 +12,13 @@ pub enum Reply {
         /// The number of the region, by which it is exited. Numbers rise from 1, and none is used twice.
         number: u64,
     },
+    /// The queued transfers that a `wait` named were made.
+    Drained {
+        /// How many they were.
+        count: u64,
+    },
+    /// The queue of a step was empty: there was nothing to do, and it is no event.
+    Idle,
 }
 
 /// One of a list of calls that are made one after the other.
@@ -35,9 +42,11 @@ pub enum Answer {
     Replied {
         /// The number of the region that it entered, and else 0.
         number: u64,
-        /// How many transfers it made, where it waited for transfers, and else 0.
+        /// How many transfers it made, where it was a `wait`, and else 0.
         count: u64,
     },
+    /// It was the step of an empty queue: there was nothing to do, and it is no event.
+    Idle,
     /// It was refused, and nothing changed.
     Refused(Fault),
 }

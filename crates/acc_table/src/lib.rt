@@ -1,7 +1,7 @@
 //! The table of an OpenACC 3.3 data runtime on one device with memory of its own: one call is one event or no change.
 //!
 //! A [`Table`] holds both memories, the mapped ranges with their reference counters (OpenACC 3.3, section 2.6.7), the
-//! open data regions, the device blocks, and the trace of all events. Its contracts say what `acc_base` defines.
+//! open data regions, the device blocks, the queues of transfers, and the trace of all events. Its contracts say what `acc_base` defines.
 #![tactic(auto)]
 
 mod calls;

@@ -1,16 +1,18 @@
 //! What a table tells of itself. No query takes memory or is refused.
 
-ghost use Rattle.std.specs.Prelude.{◌≡◌, ◌-◌, ◌↔◌, IsTrue, option_map};
+ghost use Rattle.std.specs.Prelude.{◌≡◌, ◌-◌, ◌↔◌, IsTrue, length, option_map};
 ghost use Rattle.acc_base.specs.Blocks.{used_bytes};
 ghost use Rattle.acc_base.specs.Calls.{event_count, open_regions};
 ghost use Rattle.acc_base.specs.Register.{newest_region};
 ghost use Rattle.acc_base.specs.Ranges.{where_is, IsPlacedAt};
 ghost use Rattle.acc_base.specs.Pointers.{device_address_of, attachment_of};
+ghost use Rattle.acc_base.specs.Queues.{queue_at};
+ghost use Rattle.acc_base.specs.Waits.{ended_from};
 ghost use Rattle.acc_table.specs.Queries.{is_inside, IsInsideOne, counters_at, mapped_from, IsLeastFrom, host_read_of, device_read_of};
 
 use crate::calls::Mapped;
 use crate::tables::Table;
-use acc_base::{Config, Counters, Event, Found, Section};
+use acc_base::{Config, Counters, Ended, Event, Found, Section};
 
 /// The section is inside one range.
 fn is_inside(found: Found) -> bool
@@ -108,6 +110,21 @@ impl Table {
             }
             Found::Empty | Found::Partly | Found::Absent => None,
         }
+    }
+
+    /// Of the blocks whose mapping has ended, the one of least place at or above a device address: such a block stays while
+    /// a queued transfer names it (OpenACC 3.3, section 2.16, asynchronous behavior).
+    pub fn ended(&self, from: u64) -> Option<Ended>
+        ensures { result ≡ ended_from from self.now.state.records }
+    {
+        self.store.ended(from)
+    }
+
+    /// How many transfers wait in a queue; 0 where there is no such queue (OpenACC 3.3, section 2.16).
+    pub fn queue_len(&self, q: u64) -> u64
+        ensures { result ≡ length (queue_at q self.now.state.records.queues) }
+    {
+        self.store.queue_len(q)
     }
 
     /// The bytes of device memory that all blocks take, each rounded up to a multiple of 16.

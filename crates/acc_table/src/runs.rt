@@ -19,6 +19,8 @@ fn answer_to(reply: Reply) -> Answer
             count: 0,
         },
         Reply::Entered { number } => Answer::Replied { number, count: 0 },
+        Reply::Drained { count } => Answer::Replied { number: 0, count },
+        Reply::Idle => Answer::Idle,
     }
 }
 

@@ -17,8 +17,8 @@ use acc_clauses::{Plan, Store, check_items};
 use std::alloc::Global;
 use std::marker::Model;
 
-/// The data environment of one device: both memories, the mapped ranges and blocks, the open data regions, and the trace
-/// of all events (OpenACC 3.3, section 2.6).
+/// The data environment of one device: both memories, the mapped ranges and blocks, the open data regions, the queues of
+/// transfers, and the trace of all events (OpenACC 3.3, section 2.6).
 ///
 /// One call is one event or no change. Contracts see a table as a world: its limits, its history and its state.
 #[derive(Drop)]
@@ -60,8 +60,9 @@ impl Table {
     }
 
     /// What holds of every table: mapped ranges and blocks are apart and account for every used byte, each range has
-    /// a block of its own, no range has both counters zero, every counter is what the history gives and within its
-    /// limit, a structured counter is how often open regions hold its block, each memory has its size, the history is
+    /// a block of its own, each other block is named by a queued transfer, no range has both counters zero, every counter
+    /// is what the history gives and within its limit, a structured counter is how often open regions hold its block, each
+    /// queue is within its limit and each queued transfer within its block, each memory has its size, the history is
     /// legal, the limits are within their bounds, and blocks and holes are the device, with no address in two of them.
     /// Nothing is done.
     pub fn laws(&self)
@@ -73,7 +74,8 @@ impl Table {
     }
 
     /// Makes one call: an event, or no change (OpenACC 3.3, section 2.6.5, data construct; section 2.6.6, enter data and
-    /// exit data directives; and the update directive).
+    /// exit data directives; section 2.16, asynchronous behavior; and the update and wait directives). The step of an empty
+    /// queue is answered [`Reply::Idle`]: it is no event, takes no memory, and changes nothing.
     ///
     /// # Errors
     ///
@@ -84,17 +86,19 @@ impl Table {
     /// - [`Fault::TooManyItems`] where a directive has more than 64 items;
     /// - [`Fault::TraceFull`] where the stored trace has as many events as it may;
     /// - [`Fault::NoRegion`] where no region of the number is open that is exited;
+    /// - [`Fault::NoQueue`] where the directive names a queue above 15;
     /// - then, for the items in the order in which they act, each judged in what those before it leave, and told with its
     ///   place in the written list: for a section that is not empty, [`Fault::OutOfHost`] where it is not in host memory;
     ///   for the pointer of an item, [`Fault::OutOfHost`] where its eight bytes are not, and [`Fault::Misaligned`] where
     ///   its address is no multiple of 8; [`Fault::PartlyPresent`] where some of the section's addresses are mapped but no
     ///   one range has them all, [`Fault::NotPresent`] where `present`, or `update` without `if_present`, names a section
     ///   that is absent, [`Fault::CounterFull`] where an entry would raise a reference counter above the limit,
-    ///   [`Fault::DeviceFull`] where it needs a new block that fits nowhere, and last [`Fault::CounterFull`] where it
-    ///   would raise the attachment counter of its pointer above the limit;
+    ///   [`Fault::DeviceFull`] where it needs a new block that fits nowhere, [`Fault::QueueFull`] where its transfer is put
+    ///   into a queue that has as many as the limit says, and last [`Fault::CounterFull`] where it would raise the
+    ///   attachment counter of its pointer above the limit;
     /// - for a host write of some bytes, [`Fault::OutOfHost`] with item 0 where one of the addresses is not in host
     ///   memory;
-    /// - last [`Fault::Memory`], where there is no other refusal and memory cannot be had.
+    /// - last [`Fault::Memory`], where there is no other refusal, something to do, and memory cannot be had.
     pub fn apply(&mut self, call: Call) -> Result<Reply, (Call, Fault)>
         ensures done { IfOk result (λ reply. IsDone self.old call reply self.new) }
         ensures refused { IfErr result (λ back. IsRefusal self.old call back.1) }
@@ -152,6 +156,8 @@ impl Table {
             Directive::EnterData { .. } => Ok(()),
             Directive::ExitData { .. } => Ok(()),
             Directive::Update { .. } => Ok(()),
+            Directive::Wait { .. } => Ok(()),
+            Directive::Step { .. } => Ok(()),
         }
     }
 

@@ -25,7 +25,8 @@ fn used_by_one_array(alloc: Global) -> Result<u64, Fault> {
             pointer: None
         },
     ]?);
-    match table.apply(Call::Do(Directive::EnterData { items })) {
+    let queue = None;
+    match table.apply(Call::Do(Directive::EnterData { items, queue })) {
         Ok(_) => Ok(table.used()),
         Err((_, fault)) => Err(fault),
     }
@@ -38,8 +39,8 @@ fn an_array_of_20_bytes_takes_32(rt: HostRuntime) -> Result<(), Fail> {
 }
 
 #[test]
-fn an_event_takes_64_bytes_and_each_item_96(rt: HostRuntime) {
-    assert_eq!(&rt; size_of::<Event>(), 64);
+fn an_event_takes_80_bytes_and_each_item_96(rt: HostRuntime) {
+    assert_eq!(&rt; size_of::<Event>(), 80);
     assert_eq!(&rt; size_of::<Item<RegionClause>>(), 40);
     assert_eq!(&rt; size_of::<Did>(), 56);
 }

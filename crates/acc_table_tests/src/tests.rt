@@ -2,8 +2,8 @@
 //! the table as it was. What a script can say is a row of the script tests.
 
 use acc_base::{
-    Aim, Call, Config, Counters, Did, Directive, EnterClause, Event, ExitClause, Fault, Found,
-    Item, List, RegionClause, Section, Step, UpdateClause,
+    Aim, Call, Config, Counters, Did, Directive, Ended, EnterClause, Event, ExitClause, Fault,
+    Found, Item, List, RegionClause, Section, Step, UpdateClause,
 };
 use acc_table::{Answer, Mapped, Table, Turn};
 use rows::{LIFE, ROWS, WIDE};
@@ -38,6 +38,11 @@ enum Ask {
     Finalize(Items<ExitClause>),
     Update(Items<UpdateClause>),
     UpdateIfPresent(Items<UpdateClause>),
+    /// With `async` of this queue.
+    ExitDataLater(Items<ExitClause>, u64),
+    UpdateLater(Items<UpdateClause>, u64),
+    Wait(Option<u64>),
+    Step(u64),
     Write(u64, &'static [u8]),
 }
 
@@ -57,6 +62,10 @@ enum Check {
     Aim(usize, Option<Aim>),
     /// How often the pointer at this address is attached.
     Attached(u64, u64),
+    /// How many transfers wait in a queue.
+    Queue(u64, u64),
+    /// The block of least place at or above a device address whose mapping has ended.
+    EndedFrom(u64, Option<Ended>),
     Used(u64),
     Events(u64),
     TicketBook(u64),
@@ -98,9 +107,14 @@ fn update(
     alloc: Global,
     listed: &[(UpdateClause, u64, u64)],
     if_present: bool,
+    queue: Option<u64>,
 ) -> Result<Call, AllocError> {
     let items = items(alloc, listed, None)?;
-    Ok(Call::Do(Directive::Update { items, if_present }))
+    Ok(Call::Do(Directive::Update {
+        items,
+        if_present,
+        queue,
+    }))
 }
 
 fn write(alloc: Global, addr: u64, bytes: &[u8]) -> Result<Call, AllocError> {
@@ -119,16 +133,22 @@ fn enter_data(
     pointer: Option<u64>,
 ) -> Result<Call, AllocError> {
     let items = items(alloc, listed, pointer)?;
-    Ok(Call::Do(Directive::EnterData { items }))
+    let queue = None;
+    Ok(Call::Do(Directive::EnterData { items, queue }))
 }
 
 fn exit_data(
     alloc: Global,
     listed: &[(ExitClause, u64, u64)],
     finalize: bool,
+    queue: Option<u64>,
 ) -> Result<Call, AllocError> {
     let items = items(alloc, listed, None)?;
-    Ok(Call::Do(Directive::ExitData { items, finalize }))
+    Ok(Call::Do(Directive::ExitData {
+        items,
+        finalize,
+        queue,
+    }))
 }
 
 fn call_of(alloc: Global, ask: Ask) -> Result<Call, AllocError> {
@@ -137,10 +157,14 @@ fn call_of(alloc: Global, ask: Ask) -> Result<Call, AllocError> {
         Ask::Exit(number) => Ok(Call::Do(Directive::Exit { number })),
         Ask::EnterData(listed) => enter_data(alloc, listed, None),
         Ask::EnterDataVia(listed, pointer) => enter_data(alloc, listed, Some(pointer)),
-        Ask::ExitData(listed) => exit_data(alloc, listed, false),
-        Ask::Finalize(listed) => exit_data(alloc, listed, true),
-        Ask::Update(listed) => update(alloc, listed, false),
-        Ask::UpdateIfPresent(listed) => update(alloc, listed, true),
+        Ask::ExitData(listed) => exit_data(alloc, listed, false, None),
+        Ask::ExitDataLater(listed, q) => exit_data(alloc, listed, false, Some(q)),
+        Ask::Finalize(listed) => exit_data(alloc, listed, true, None),
+        Ask::Update(listed) => update(alloc, listed, false, None),
+        Ask::UpdateIfPresent(listed) => update(alloc, listed, true, None),
+        Ask::UpdateLater(listed, q) => update(alloc, listed, false, Some(q)),
+        Ask::Wait(queue) => Ok(Call::Do(Directive::Wait { queue })),
+        Ask::Step(queue) => Ok(Call::Do(Directive::Step { queue })),
         Ask::Write(addr, bytes) => write(alloc, addr, bytes),
     }
 }
@@ -183,7 +207,7 @@ fn did_first(event: &Event) -> Option<Did> {
         Event::EnteredData { did, .. } => did,
         Event::ExitedData { did, .. } => did,
         Event::Updated { did, .. } => did,
-        Event::HostWritten { .. } => return None,
+        Event::Waited { .. } | Event::Stepped { .. } | Event::HostWritten { .. } => return None,
     };
     match did.as_slice() {
         [] => None,
@@ -244,6 +268,8 @@ fn check_one(rt: &impl Abort, row: &str, table: &Table, check: Check) {
         Check::Attached(pointer, wanted) => same(rt, row, table.attachment(pointer), wanted),
         Check::Host(at, wanted) => same_bytes(rt, row, table.host_read(section(at)), wanted),
         Check::Device(at, wanted) => same_bytes(rt, row, table.device_read(section(at)), wanted),
+        Check::Queue(q, wanted) => same(rt, row, table.queue_len(q), wanted),
+        Check::EndedFrom(from, wanted) => same(rt, row, table.ended(from), wanted),
         Check::Used(wanted) => same(rt, row, table.used(), wanted),
         Check::Events(wanted) => same(rt, row, table.events(), wanted),
         Check::TicketBook(wanted) => same(rt, row, table.ticket_book(), wanted),
@@ -328,7 +354,7 @@ fn a_refused_growth_changes_nothing(rt: HostRuntime) -> Result<(), Fail> {
         Err(_) => table_of(rt.alloc(), WIDE)?,
     };
     live(&rt, &mut table)?;
-    same(&rt, "a refused growth", table.events(), 13);
+    same(&rt, "a refused growth", table.events(), 16);
     same(&rt, "a refused growth", table.used(), 0);
     Ok(())
 }

@@ -2,18 +2,19 @@
 //! OpenACC 3.3, sections 2.6 and 2.7, and the documents of this project.
 
 use crate::tests::Ask::{
-    Enter, EnterData, EnterDataVia, Exit, ExitData, Finalize, Update, UpdateIfPresent, Write,
+    Enter, EnterData, EnterDataVia, Exit, ExitData, ExitDataLater, Finalize, Step, Update,
+    UpdateIfPresent, UpdateLater, Wait, Write,
 };
 use crate::tests::Check::{
-    Address, Aim as Aimed, Attached, Counted, Device, Events, Found as Finds, Host, MappedFrom,
-    Newest, Present, RegionBook, Regions, Step as Did, TicketBook, Used,
+    Address, Aim as Aimed, Attached, Counted, Device, EndedFrom, Events, Found as Finds, Host,
+    MappedFrom, Newest, Present, Queue, RegionBook, Regions, Step as Did, TicketBook, Used,
 };
 use crate::tests::{Ask, Limits, Row};
 use Answer::Refused;
 use acc_base::EnterClause::{Attach, Copyin, Create};
 use acc_base::ExitClause::{Copyout, Delete, Detach};
 use acc_base::UpdateClause::{ToDevice, ToSelf};
-use acc_base::{Aim, DEVICE_BASE, Fault, Found, HOST_BASE, RegionClause, Step};
+use acc_base::{Aim, DEVICE_BASE, Ended, Fault, Found, HOST_BASE, RegionClause};
 use acc_table::{Answer, Mapped};
 
 /// Limits that no turn reaches.
@@ -49,7 +50,8 @@ const TO_HOST: &[u8] = &[0x10, 0x10, 0, 0, 0, 0, 0, 0];
 
 const TO_DEVICE: &[u8] = &[0x10, 0, 0, 0, 1, 0, 0, 0];
 
-/// A whole life of an array, of a second one, of a pointer in the first one to the second, and of two regions.
+/// A whole life of an array, of a second one, of a pointer in the first one to the second, of two queues, and of two
+/// regions. One transfer is in a queue at a time.
 pub const LIFE: &[Ask] = &[
     Write(A, &[1, 2]),
     EnterData(&[(Copyin, A, 16)]),
@@ -57,8 +59,11 @@ pub const LIFE: &[Ask] = &[
     Write(A + 8, TO_HOST),
     EnterData(&[(Attach, A + 8, 8)]),
     Update(&[(ToSelf, A + 16, 2)]),
+    UpdateLater(&[(ToSelf, A + 16, 2)], 0),
+    Step(0),
     ExitData(&[(Detach, A + 8, 8)]),
-    ExitData(&[(Copyout, A + 16, 16)]),
+    ExitDataLater(&[(Copyout, A + 16, 16)], 1),
+    Wait(None),
     Enter(&[
         (RegionClause::Present, A, 16),
         (RegionClause::Copy, A + 16, 16),
@@ -69,7 +74,7 @@ pub const LIFE: &[Ask] = &[
     ExitData(&[(Delete, A, 16)]),
 ];
 
-pub const ROWS: [Row; 15] = [
+pub const ROWS: [Row; 19] = [
     Row {
         name: "one ticket makes one event, and is told before the items are counted",
         limits: Limits { tickets: 1, ..WIDE },
@@ -174,8 +179,8 @@ pub const ROWS: [Row; 15] = [
             Counted((A, 16), Some((1, 0))),
             Newest(Some(2)),
             Regions(1),
-            Did(0, Some(Step::Nothing)),
-            Did(2, Some(Step::Nothing)),
+            Did(0, Some(acc_base::Step::Nothing)),
+            Did(2, Some(acc_base::Step::Nothing)),
         ],
     },
     Row {
@@ -195,7 +200,7 @@ pub const ROWS: [Row; 15] = [
             RegionBook(2),
             Did(
                 3,
-                Some(Step::Dropped {
+                Some(acc_base::Step::Dropped {
                     block: 1,
                     ended: true,
                 }),
@@ -214,7 +219,7 @@ pub const ROWS: [Row; 15] = [
             Counted((A, 16), Some((1, 0))),
             Did(
                 2,
-                Some(Step::Dropped {
+                Some(acc_base::Step::Dropped {
                     block: 1,
                     ended: false,
                 }),
@@ -255,36 +260,36 @@ pub const ROWS: [Row; 15] = [
         checks: &[
             Did(
                 0,
-                Some(Step::Born {
+                Some(acc_base::Step::Born {
                     block: 1,
                     place: DEVICE,
                 }),
             ),
             Did(
                 1,
-                Some(Step::Born {
+                Some(acc_base::Step::Born {
                     block: 2,
                     place: DEVICE + 16,
                 }),
             ),
-            Did(2, Some(Step::Counted { block: 1 })),
-            Did(3, Some(Step::Moved { block: 2 })),
-            Did(4, Some(Step::Nothing)),
+            Did(2, Some(acc_base::Step::Counted { block: 1 })),
+            Did(3, Some(acc_base::Step::Moved { block: 2 })),
+            Did(4, Some(acc_base::Step::Nothing)),
             Did(
                 5,
-                Some(Step::Dropped {
+                Some(acc_base::Step::Dropped {
                     block: 1,
                     ended: false,
                 }),
             ),
             Did(
                 6,
-                Some(Step::Dropped {
+                Some(acc_base::Step::Dropped {
                     block: 1,
                     ended: true,
                 }),
             ),
-            Did(7, Some(Step::Nothing)),
+            Did(7, Some(acc_base::Step::Nothing)),
             Did(8, None),
             Events(9),
         ],
@@ -424,5 +429,78 @@ pub const ROWS: [Row; 15] = [
             ),
         ],
         checks: &[Attached(A + 8, 0), Used(0), Events(1)],
+    },
+    Row {
+        name: "a queue has as many transfers as the limit says, also within one directive",
+        limits: WIDE,
+        turns: &[
+            (EnterData(&[(Copyin, A, 16)]), DONE),
+            (
+                UpdateLater(&[(ToSelf, A, 16), (ToSelf, A, 16)], 0),
+                Refused(Fault::QueueFull { q: 0 }),
+            ),
+        ],
+        checks: &[Queue(0, 0), Events(1)],
+    },
+    Row {
+        name: "a copy that waits keeps its block and its place",
+        limits: WIDE,
+        turns: &[
+            (EnterData(&[(Copyin, A, 16)]), DONE),
+            (ExitDataLater(&[(Copyout, A, 16)], 1), DONE),
+            (EnterData(&[(Create { zero: false }, A, 16)]), DONE),
+        ],
+        checks: &[
+            Address(A, Some(DEVICE + 16)),
+            EndedFrom(
+                DEVICE,
+                Some(Ended {
+                    place: DEVICE,
+                    size: 16,
+                    pins: 1,
+                }),
+            ),
+            EndedFrom(DEVICE + 1, None),
+            Queue(1, 1),
+            Used(32),
+        ],
+    },
+    Row {
+        name: "a wait tells how many transfers it made, from the first queue to the last",
+        limits: WIDE,
+        turns: &[
+            (Write(A, &[6]), DONE),
+            (EnterData(&[(Copyin, A, 1)]), DONE),
+            (Write(A, &[5]), DONE),
+            (UpdateLater(&[(ToSelf, A, 1)], 3), DONE),
+            (UpdateLater(&[(ToDevice, A, 1)], 1), DONE),
+            (
+                Wait(None),
+                Answer::Replied {
+                    number: 0,
+                    count: 2,
+                },
+            ),
+            (Wait(Some(3)), DONE),
+        ],
+        checks: &[
+            Host((A, 1), Some(&[5])),
+            Device((A, 1), Some(&[5])),
+            Queue(1, 0),
+            Queue(3, 0),
+            Events(7),
+        ],
+    },
+    Row {
+        name: "the step of an empty queue is no event, and tickets and the queue are told before",
+        limits: Limits { tickets: 1, ..WIDE },
+        turns: &[
+            (Step(3), Answer::Idle),
+            (Step(16), Refused(Fault::NoQueue { q: 16 })),
+            (Wait(Some(16)), Refused(Fault::NoQueue { q: 16 })),
+            (Wait(Some(15)), DONE),
+            (Step(3), Refused(Fault::NoTickets { left: 0 })),
+        ],
+        checks: &[Events(1), TicketBook(0)],
     },
 ];

@@ -1,6 +1,6 @@
 -- Looking for the end of clauses meets the faults of reading them.
 use Rattle.std.proofs.Common.{◌≡◌, ℕ, zero, suc, ◌+◌, Bool, true, false, cond, List, [], ◌∷◌, ◌++◌, length, length-append, Option, Some, None, Result, Ok, Err, refl, arith}
-use Rattle.std.specs.Prelude.{not, ◌==◌, codes, if◌then◌else◌}
+use Rattle.std.specs.Prelude.{not, is_some, ◌==◌, codes, if◌then◌else◌}
 use Rattle.std.proofs.lemmas.Bool.Decides.{nat_tests}
 use Rattle.acc_base.specs.declared.faults.ScriptFault.{ScriptFault}
 use Rattle.acc_base.specs.declared.faults.ScriptFault.TheVariants.{Syntax}
@@ -20,10 +20,11 @@ use Rattle.acc_read.specs.Reading.{◌>>=◌, wants, always, Holds, Gives}
 use Rattle.acc_read.specs.Tokens.{word_at, keyword_at, mark_at, is_mark_next, is_at_end, skip_comma, comma, left_parenthesis, right_parenthesis}
 use Rattle.acc_read.specs.Layout.{Layout}
 use Rattle.acc_read.specs.Items.{named_at, item_of}
+use Rattle.acc_read.specs.Queues.{queue_at}
 use Rattle.acc_read.specs.Grammar.{Grammar, region_grammar, enter_grammar, exit_grammar, update_grammar}
-use Rattle.acc_read.specs.Clauses.{items_at, modified_at, group_at, ClausesRead, nothing_read, listed, passed_over, clause_at, with_clause, clauses_at}
+use Rattle.acc_read.specs.Clauses.{items_at, modified_at, group_at, ClausesRead, nothing_read, listed, passed_over, with_queue, queued, clause_at, with_clause, clauses_at}
 use Rattle.acc_read.specs.Meanings.{read_of}
-use Rattle.acc_read.specs.Checked.{items_end, group_end, nothing_seen, listed_end, option_end, clause_end, seen_clause, clauses_end}
+use Rattle.acc_read.specs.Checked.{items_end, group_end, nothing_seen, listed_end, option_end, with_queue_end, queue_end, clause_end, seen_clause, clauses_end}
 use Rattle.acc_read.specs.Statements.{Direct, takes_memory, data_at, enter_at, exit_at, update_at}
 use Rattle.acc_read.proofs.HeldClauses.{after_named, after_clause}
 use Rattle.acc_read.proofs.ClauseEnds.{after_named_end, after_clause_end}
@@ -81,7 +82,7 @@ module _ {C : Type 0} where
 
   -- what was read, as what was seen of it
   abbrev seen_of : ClausesRead C → Seen
-  seen_of read = record { clause = not (length read.items == 0); has_option = read.has_option }
+  seen_of read = record { clause = not (length read.items == 0); has_option = read.has_option; has_queue = is_some read.queue }
 
   -- the same fault, or what was seen of the clause and the same text after it
   abbrev SeenAs : Result (ClausesRead C × List ℕ) ScriptFault → Result (Seen × List ℕ) ScriptFault → Type 0
@@ -90,7 +91,7 @@ module _ {C : Type 0} where
 
   -- the items of a clause, behind those before
   group_seen : (before : ClausesRead C) (items : Result (List (Item C) × List ℕ) ScriptFault) (end : Result (List ℕ) ScriptFault) → EndsAs items end
-      → SeenAs (items >>= (λ read. Ok (record { items = read.0; has_option = before.has_option }, read.1))) (end >>= (λ after. Ok (record { clause = true; has_option = before.has_option }, after)))
+      → SeenAs (items >>= (λ read. Ok (record before { items = read.0 }, read.1))) (end >>= (λ after. Ok (record { clause = true; has_option = before.has_option; has_queue = is_some before.queue }, after)))
   group_seen before (Err kind) end h = rw h refl
   group_seen before (Ok read) end h = rw (h.0, h.1) refl
 
@@ -101,23 +102,40 @@ module _ {C : Type 0} where
 
   -- the option
   option_seen : (before : ClausesRead C) (rest : List ℕ) (b : Bool)
-      → SeenAs (cond b (Err Syntax) (Ok (record { items = before.items; has_option = true }, rest))) (cond b (Err Syntax) (Ok (record { clause = not (length before.items == 0); has_option = true }, rest)))
+      → SeenAs (cond b (Err Syntax) (Ok (record before { has_option = true }, rest))) (cond b (Err Syntax) (Ok (record { clause = not (length before.items == 0); has_option = true; has_queue = is_some before.queue }, rest)))
   option_seen before rest true = refl
   option_seen before rest false = refl
+
+  -- the queue of `async`
+  named_queue_seen : (before : ClausesRead C) (rest : List ℕ) → SeenAs (with_queue before rest) (with_queue_end (seen_of before) rest)
+  named_queue_seen before rest = by (queue_at rest)
+    where
+      by : (r : Result (ℕ × List ℕ) ScriptFault)
+          → SeenAs (r >>= (λ queue. Ok (record before { queue = Some queue.0 }, queue.1))) (r >>= (λ queue. Ok (record { clause = not (length before.items == 0); has_option = before.has_option; has_queue = true }, queue.1)))
+      by (Ok queue) = refl
+      by (Err kind) = refl
+
+  -- `async`
+  queue_seen : (before : ClausesRead C) (rest : List ℕ) (b : Bool) → SeenAs (cond b (Err Syntax) (with_queue before rest)) (cond b (Err Syntax) (with_queue_end (seen_of before) rest))
+  queue_seen before rest true = refl
+  queue_seen before rest false = named_queue_seen before rest
 
   -- a clause or an option
   clause_seen : (grammar : Grammar C) (layout : Layout) (before : ClausesRead C) (text : List ℕ) → SeenAs (clause_at grammar layout before text) (clause_end grammar layout (seen_of before) text)
   unfolding clause_at clause_end
   clause_seen grammar layout before text = by (word_at text)
     where
-      turn : (word : List ℕ × List ℕ) (b : Bool) → SeenAs (cond b (passed_over before word.1) (listed (grammar.clause_of word.0) grammar layout before word.1)) (cond b (option_end (seen_of before) word.1) (listed_end (grammar.clause_of word.0) grammar layout (seen_of before) word.1))
-      turn word true = option_seen before word.1 before.has_option
-      turn word false = listed_seen (grammar.clause_of word.0) grammar layout before word.1
+      turn : (word : List ℕ × List ℕ) (b q : Bool)
+          → SeenAs (cond b (passed_over before word.1) (cond q (queued before word.1) (listed (grammar.clause_of word.0) grammar layout before word.1)))
+          (cond b (option_end (seen_of before) word.1) (cond q (queue_end (seen_of before) word.1) (listed_end (grammar.clause_of word.0) grammar layout (seen_of before) word.1)))
+      turn word true q = option_seen before word.1 before.has_option
+      turn word false true = queue_seen before word.1 (is_some before.queue)
+      turn word false false = listed_seen (grammar.clause_of word.0) grammar layout before word.1
 
       by : (r : Result (List ℕ × List ℕ) ScriptFault)
-          → SeenAs (r >>= (λ word. if grammar.is_option word.0 then passed_over before word.1 else listed (grammar.clause_of word.0) grammar layout before word.1))
-          (r >>= (λ word. if grammar.is_option word.0 then option_end (seen_of before) word.1 else listed_end (grammar.clause_of word.0) grammar layout (seen_of before) word.1))
-      by (Ok word) = turn word (grammar.is_option word.0)
+          → SeenAs (r >>= (λ word. if grammar.is_option word.0 then passed_over before word.1 else if grammar.is_async word.0 then queued before word.1 else listed (grammar.clause_of word.0) grammar layout before word.1))
+          (r >>= (λ word. if grammar.is_option word.0 then option_end (seen_of before) word.1 else if grammar.is_async word.0 then queue_end (seen_of before) word.1 else listed_end (grammar.clause_of word.0) grammar layout (seen_of before) word.1))
+      by (Ok word) = turn word (grammar.is_option word.0) (grammar.is_async word.0)
       by (Err kind) = refl
 
   -- the same fault, or what was seen of the clauses
@@ -188,7 +206,7 @@ pub enter_wants : (layout : Layout) (text rest : List ℕ) → keyword_at (codes
 unfolding enter_at
 enter_wants layout text rest e right = rw e (by (clauses_at (length rest) enter_grammar layout nothing_read rest) right)
   where
-    by : (r : Result (ClausesRead EnterClause) ScriptFault) → wants always r ≡ true → wants takes_memory (r >>= (λ read. Ok (Direct (EnterData read.items)))) ≡ true
+    by : (r : Result (ClausesRead EnterClause) ScriptFault) → wants always r ≡ true → wants takes_memory (r >>= (λ read. Ok (Direct (EnterData read.items read.queue)))) ≡ true
     by (Ok read) h = refl
     by (Err kind) h = absurd cc
 
@@ -197,7 +215,7 @@ pub exit_wants : (layout : Layout) (text rest : List ℕ) → keyword_at (codes 
 unfolding exit_at
 exit_wants layout text rest e right = rw e (by (clauses_at (length rest) exit_grammar layout nothing_read rest) right)
   where
-    by : (r : Result (ClausesRead ExitClause) ScriptFault) → wants always r ≡ true → wants takes_memory (r >>= (λ read. Ok (Direct (ExitData read.items read.has_option)))) ≡ true
+    by : (r : Result (ClausesRead ExitClause) ScriptFault) → wants always r ≡ true → wants takes_memory (r >>= (λ read. Ok (Direct (ExitData read.items read.has_option read.queue)))) ≡ true
     by (Ok read) h = refl
     by (Err kind) h = absurd cc
 
@@ -206,6 +224,6 @@ pub update_wants : (layout : Layout) (text : List ℕ) → wants always (clauses
 unfolding update_at
 update_wants layout text right = by (clauses_at (length text) update_grammar layout nothing_read text) right
   where
-    by : (r : Result (ClausesRead UpdateClause) ScriptFault) → wants always r ≡ true → wants takes_memory (r >>= (λ read. Ok (Direct (Update read.items read.has_option)))) ≡ true
+    by : (r : Result (ClausesRead UpdateClause) ScriptFault) → wants always r ≡ true → wants takes_memory (r >>= (λ read. Ok (Direct (Update read.items read.has_option read.queue)))) ≡ true
     by (Ok read) h = refl
     by (Err kind) h = absurd cc

@@ -1,6 +1,6 @@
 -- The fuel of a repetition is enough: each turn takes a byte at least, so more fuel changes nothing.
 use Rattle.std.proofs.Common.{◌≡◌, ℕ, zero, suc, ◌+◌, ◌<◌, ◌≤◌, Bool, true, false, cond, List, [], ◌∷◌, ◌++◌, length, take, drop, length-drop, Option, Some, None, Result, Ok, Err, refl, sym, ap, subst, ◌∙◌, arith}
-use Rattle.std.specs.Prelude.{if◌then◌else◌, ◌==◌, codes}
+use Rattle.std.specs.Prelude.{is_some, if◌then◌else◌, ◌==◌, codes}
 use Rattle.std.specs.List.{prefix_len}
 use Rattle.std.specs.Str.{bytes_eq}
 use Rattle.std.proofs.lemmas.Bool.{eqb-false}
@@ -20,8 +20,9 @@ use Rattle.acc_read.specs.Tokens.{is_word_byte, is_blank, word_len, skip_blanks,
 use Rattle.acc_read.specs.Layout.{Layout, array_of, whole, part_of, byte_of}
 use Rattle.acc_read.specs.Places.{known, known_at, offset_at, address_at, part_at, section_at}
 use Rattle.acc_read.specs.Items.{via_at, aim_at, named_at, item_of}
+use Rattle.acc_read.specs.Queues.{queue_number_at, queue_at, first_queue}
 use Rattle.acc_read.specs.Grammar.{Grammar}
-use Rattle.acc_read.specs.Clauses.{items_at, some_clause, modifier_at, modified_at, group_at, ClausesRead, listed, passed_over, clause_at, with_clause, clauses_at}
+use Rattle.acc_read.specs.Clauses.{items_at, some_clause, modifier_at, modified_at, group_at, ClausesRead, listed, passed_over, with_queue, queued, clause_at, with_clause, clauses_at}
 use Rattle.acc_read.proofs.HeldClauses.{after_named, after_clause}
 
 -- ---- a reading that went well, as its steps
@@ -40,6 +41,11 @@ then_ok false kind x y e = (refl, cc)
 else_ok : {A : Type 0} (b : Bool) (kind : ScriptFault) (x y : A) → cond b (Ok x) (Err kind) ≡ Ok y → x ≡ y
 else_ok true kind x y e = cc
 else_ok false kind x y e = absurd cc
+
+-- a choice between a fault and a reading that went well, faults first
+then_read : {A : Type 0} (b : Bool) (kind : ScriptFault) (read : Result A ScriptFault) (y : A) → cond b (Err kind) read ≡ Ok y → read ≡ Ok y
+then_read true kind read y e = absurd cc
+then_read false kind read y e = e
 
 -- a reading that went well
 abbrev read_ok : {A : Type 0} → A → List ℕ → Result (A × List ℕ) ScriptFault
@@ -203,6 +209,26 @@ named_shorter Pointers layout text named e =
     let pointer = bind_is (address_at layout text) (λ pointer. Ok (record { section = pointer_at pointer.0; pointer = None }, pointer.1)) named e in
     omega (arith, rest_len (only_section (pointer_at pointer.0.0)) pointer.0.1 named pointer.2, address_shorter layout text pointer.0 pointer.1)
 
+-- ---- queues
+
+-- reading the number of a queue makes no text longer
+queue_number_shorter : (text : List ℕ) (queue : ℕ × List ℕ) → queue_number_at text ≡ Ok queue → length queue.1 ≤ length text
+unfolding queue_number_at
+queue_number_shorter text queue e =
+    let inside = bind_is (mark_at left_parenthesis text) (λ inside. number_at number_limit inside >>= (λ number. mark_at right_parenthesis number.1 >>= (λ close. Ok (number.0, close)))) queue e in
+    let number = bind_is (number_at number_limit inside.0) (λ number. mark_at right_parenthesis number.1 >>= (λ close. Ok (number.0, close))) queue inside.2 in
+    let close = bind_is (mark_at right_parenthesis number.0.1) (λ close. Ok (number.0.0, close)) queue number.2 in
+    omega (arith, rest_len number.0.0 close.0 queue close.2, mark_shorter left_parenthesis text inside.0 inside.1, number_shorter number_limit inside.0 number.0 number.1, mark_shorter right_parenthesis number.0.1 close.0 close.1)
+
+-- reading the queue of `async` makes no text longer
+queue_le : (text : List ℕ) (queue : ℕ × List ℕ) → queue_at text ≡ Ok queue → length queue.1 ≤ length text
+unfolding queue_at
+queue_le text queue e = by (is_mark_next left_parenthesis text) e
+  where
+    by : (b : Bool) → cond b (queue_number_at text) (Ok (first_queue, text)) ≡ Ok queue → length queue.1 ≤ length text
+    by true h = queue_number_shorter text queue h
+    by false h = omega (arith, rest_len first_queue text queue h)
+
 -- ---- the items of a clause
 
 -- no item stands in an empty text
@@ -294,26 +320,34 @@ module _ {C : Type 0} where
   listed_le : (o : Option C) (grammar : Grammar C) (layout : Layout) (before : ClausesRead C) (text : List ℕ) (read : ClausesRead C × List ℕ) → listed o grammar layout before text ≡ Ok read → length read.1 ≤ length text
   listed_le None grammar layout before text read e = absurd cc
   listed_le (Some clause) grammar layout before text read e =
-      let items = bind_is (group_at grammar clause layout before.items text) (λ items. Ok (record { items = items.0; has_option = before.has_option }, items.1)) read e in
-      let same : (record { items = items.0.0; has_option = before.has_option }, items.0.1) ≡ read = cc in
+      let items = bind_is (group_at grammar clause layout before.items text) (λ items. Ok (record before { items = items.0 }, items.1)) read e in
+      let same : (record before { items = items.0.0 }, items.0.1) ≡ read = cc in
       subst (λ (x : ClausesRead C × List ℕ). length x.1 ≤ length text) same (group_le grammar clause layout before.items text items.0 items.1)
 
   -- reading an option makes no text longer
   passed_le : (before : ClausesRead C) (text : List ℕ) (read : ClausesRead C × List ℕ) → passed_over before text ≡ Ok read → length read.1 ≤ length text
   passed_le before text read e =
-      let parts = then_ok before.has_option Syntax (record { items = before.items; has_option = true }, text) read e in
+      let parts = then_ok before.has_option Syntax (record before { has_option = true }, text) read e in
       subst (λ (x : ClausesRead C × List ℕ). length x.1 ≤ length text) parts.1 (omega arith)
+
+  -- reading `async` and its queue makes no text longer
+  queued_le : (before : ClausesRead C) (text : List ℕ) (read : ClausesRead C × List ℕ) → queued before text ≡ Ok read → length read.1 ≤ length text
+  queued_le before text read e =
+      let queue = bind_is (queue_at text) (λ queue. Ok (record before { queue = Some queue.0 }, queue.1)) read (then_read (is_some before.queue) Syntax (with_queue before text) read e) in
+      let same : (record before { queue = Some queue.0.0 }, queue.0.1) ≡ read = cc in
+      subst (λ (x : ClausesRead C × List ℕ). length x.1 ≤ length text) same (queue_le text queue.0 queue.1)
 
   -- reading a clause or an option takes a byte at least
   clause_shorter : (grammar : Grammar C) (layout : Layout) (before : ClausesRead C) (text : List ℕ) (read : ClausesRead C × List ℕ) → clause_at grammar layout before text ≡ Ok read → length read.1 < length text
   unfolding clause_at
   clause_shorter grammar layout before text read e =
-      let word = bind_is (word_at text) (λ word. if grammar.is_option word.0 then passed_over before word.1 else listed (grammar.clause_of word.0) grammar layout before word.1) read e in
-      by (grammar.is_option word.0.0) (grammar.clause_of word.0.0) word.0.1 (word_shorter text word.0 word.1) word.2
+      let word = bind_is (word_at text) (λ word. if grammar.is_option word.0 then passed_over before word.1 else if grammar.is_async word.0 then queued before word.1 else listed (grammar.clause_of word.0) grammar layout before word.1) read e in
+      by (grammar.is_option word.0.0) (grammar.is_async word.0.0) (grammar.clause_of word.0.0) word.0.1 (word_shorter text word.0 word.1) word.2
     where
-      by : (b : Bool) (o : Option C) (rest : List ℕ) → length rest < length text → cond b (passed_over before rest) (listed o grammar layout before rest) ≡ Ok read → length read.1 < length text
-      by true o rest less h = omega (arith, passed_le before rest read h)
-      by false o rest less h = omega (arith, listed_le o grammar layout before rest read h)
+      by : (b q : Bool) (o : Option C) (rest : List ℕ) → length rest < length text → cond b (passed_over before rest) (cond q (queued before rest) (listed o grammar layout before rest)) ≡ Ok read → length read.1 < length text
+      by true q o rest less h = omega (arith, passed_le before rest read h)
+      by false true o rest less h = omega (arith, queued_le before rest read h)
+      by false false o rest less h = omega (arith, listed_le o grammar layout before rest read h)
 
   -- no clause stands in an empty text
   no_clause : (grammar : Grammar C) (layout : Layout) (before : ClausesRead C) → clause_at grammar layout before [] ≡ Err Syntax

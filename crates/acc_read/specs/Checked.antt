@@ -9,6 +9,7 @@ use Rattle.acc_read.specs.Reading.{◌>>=◌}
 use Rattle.acc_read.specs.Tokens.{word_at, mark_at, is_mark_next, is_at_end, skip_comma, left_parenthesis, right_parenthesis, comma}
 use Rattle.acc_read.specs.Layout.{Layout}
 use Rattle.acc_read.specs.Items.{named_at}
+use Rattle.acc_read.specs.Queues.{queue_at}
 use Rattle.acc_read.specs.Grammar.{Grammar}
 use Rattle.acc_read.specs.Clauses.{modified_at}
 
@@ -27,20 +28,30 @@ group_end grammar clause layout text = do
   rest ← items_end (length modified.1) (grammar.lists modified.0) layout modified.1
   mark_at right_parenthesis rest
 
--- no clause, and no option
+-- no clause, no option and no queue
 abbrev pub nothing_seen : Seen
-nothing_seen = record { clause = false; has_option = false }
+nothing_seen = record { clause = false; has_option = false; has_queue = false }
 
 -- the text after a clause of a word, if the word is one
 abbrev pub listed_end : {C : Type 0} → Option C → Grammar C → Layout → Seen → List ℕ → Result (Seen × List ℕ) ScriptFault
 listed_end None grammar layout seen rest = Err Syntax
 listed_end (Some clause) grammar layout seen rest = do
   after ← group_end grammar clause layout rest
-  Ok (record { clause = true; has_option = seen.has_option }, after)
+  Ok (record seen { clause = true }, after)
 
 -- the text after the option, which stands once at most
 abbrev pub option_end : Seen → List ℕ → Result (Seen × List ℕ) ScriptFault
-option_end seen rest = if seen.has_option then Err Syntax else Ok (record { clause = seen.clause; has_option = true }, rest)
+option_end seen rest = if seen.has_option then Err Syntax else Ok (record seen { has_option = true }, rest)
+
+-- the text after the queue of `async`
+abbrev pub with_queue_end : Seen → List ℕ → Result (Seen × List ℕ) ScriptFault
+with_queue_end seen rest = do
+  queue ← queue_at rest
+  Ok (record seen { has_queue = true }, queue.1)
+
+-- the text after `async`, which stands once at most
+abbrev pub queue_end : Seen → List ℕ → Result (Seen × List ℕ) ScriptFault
+queue_end seen rest = if seen.has_queue then Err Syntax else with_queue_end seen rest
 
 -- the text after a clause or an option, and what was seen with it
 unfoldable pub clause_end : {C : Type 0} → Grammar C → Layout → Seen → List ℕ → Result (Seen × List ℕ) ScriptFault
@@ -48,6 +59,7 @@ clause_end grammar layout seen text = do
   word ← word_at text
   if grammar.is_option word.0
       then option_end seen word.1
+      else if grammar.is_async word.0 then queue_end seen word.1
       else listed_end (grammar.clause_of word.0) grammar layout seen word.1
 
 -- what was seen up to the end of the line, if a clause was among it

@@ -1,5 +1,5 @@
 -- The clauses and options of a directive.
-use Rattle.std.specs.Prelude.{ℕ, zero, suc, Bool, true, false, List, [], ◌∷◌, ◌++◌, length, Option, Some, None, Result, Ok, Err, ◌==◌, if◌then◌else◌}
+use Rattle.std.specs.Prelude.{ℕ, zero, suc, Bool, true, false, List, [], ◌∷◌, ◌++◌, length, Option, Some, None, Result, Ok, Err, is_some, ◌==◌, if◌then◌else◌}
 use Rattle.acc_base.specs.declared.faults.ScriptFault.{ScriptFault}
 use Rattle.acc_base.specs.declared.faults.ScriptFault.TheVariants.{Syntax}
 use Rattle.acc_base.specs.declared.items.Item.{Item}
@@ -8,6 +8,7 @@ use Rattle.acc_read.specs.Reading.{◌>>=◌}
 use Rattle.acc_read.specs.Tokens.{word_at, mark_at, is_mark_next, is_word_before, is_at_end, skip_comma, left_parenthesis, right_parenthesis, colon, comma}
 use Rattle.acc_read.specs.Layout.{Layout}
 use Rattle.acc_read.specs.Items.{named_at, item_of}
+use Rattle.acc_read.specs.Queues.{queue_at}
 use Rattle.acc_read.specs.Grammar.{Grammar}
 
 -- ---- the items of a clause
@@ -51,25 +52,36 @@ group_at grammar clause layout before text = do
 
 -- ---- clauses and options
 
--- the items so far, and whether the option stood before
+-- the items so far, whether the option stood before, and the queue, if one was named
 pub record ClausesRead (C : Type 0) : Type 0 where
   pub items : List (Item C)
   pub has_option : Bool
+  pub queue : Option ℕ
 
--- no clause and no option
+-- no clause, no option and no queue
 abbrev pub nothing_read : {C : Type 0} → ClausesRead C
-nothing_read = record { items = []; has_option = false }
+nothing_read = record { items = []; has_option = false; queue = None }
 
 -- the items of the clause of a word, behind those before, if the word is one
 abbrev pub listed : {C : Type 0} → Option C → Grammar C → Layout → ClausesRead C → List ℕ → Result (ClausesRead C × List ℕ) ScriptFault
 listed None grammar layout before rest = Err Syntax
 listed (Some clause) grammar layout before rest = do
   items ← group_at grammar clause layout before.items rest
-  Ok (record { items = items.0; has_option = before.has_option }, items.1)
+  Ok (record before { items = items.0 }, items.1)
 
 -- the option, which stands once at most
 abbrev pub passed_over : {C : Type 0} → ClausesRead C → List ℕ → Result (ClausesRead C × List ℕ) ScriptFault
-passed_over before rest = if before.has_option then Err Syntax else Ok (record { items = before.items; has_option = true }, rest)
+passed_over before rest = if before.has_option then Err Syntax else Ok (record before { has_option = true }, rest)
+
+-- the queue of `async`
+abbrev pub with_queue : {C : Type 0} → ClausesRead C → List ℕ → Result (ClausesRead C × List ℕ) ScriptFault
+with_queue before rest = do
+  queue ← queue_at rest
+  Ok (record before { queue = Some queue.0 }, queue.1)
+
+-- `async`, which stands once at most
+abbrev pub queued : {C : Type 0} → ClausesRead C → List ℕ → Result (ClausesRead C × List ℕ) ScriptFault
+queued before rest = if is_some before.queue then Err Syntax else with_queue before rest
 
 -- a clause or an option
 unfoldable pub clause_at : {C : Type 0} → Grammar C → Layout → ClausesRead C → List ℕ → Result (ClausesRead C × List ℕ) ScriptFault
@@ -77,6 +89,7 @@ clause_at grammar layout before text = do
   word ← word_at text
   if grammar.is_option word.0
       then passed_over before word.1
+      else if grammar.is_async word.0 then queued before word.1
       else listed (grammar.clause_of word.0) grammar layout before word.1
 
 -- what was read, if a clause was among it: each clause has an item

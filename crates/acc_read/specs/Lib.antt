@@ -6,6 +6,7 @@ pub mod Coding
 pub mod Naming
 pub mod Places
 pub mod Items
+pub mod Queues
 pub mod Bytes
 pub mod Grammar
 pub mod Clauses

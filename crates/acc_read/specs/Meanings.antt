@@ -19,4 +19,4 @@ meaning_of code.Report = Report
 
 -- what clauses in memory say
 abbrev pub read_of : {C : Type 0} → Clauses C → ClausesRead C
-read_of clauses = record { items = clauses.items.items; has_option = clauses.has_option }
+read_of clauses = record { items = clauses.items.items; has_option = clauses.has_option; queue = clauses.queue }

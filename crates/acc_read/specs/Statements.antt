@@ -6,13 +6,14 @@ use Rattle.std.specs.Int.{to_le_bytes, w64}
 use Rattle.acc_base.specs.declared.faults.ScriptFault.{ScriptFault}
 use Rattle.acc_base.specs.declared.faults.ScriptFault.TheVariants.{TooLong, NotText, Syntax, Number, NameTaken, HostFull, NoOpenRegion}
 use Rattle.acc_base.specs.declared.directives.Directive.{Directive}
-use Rattle.acc_base.specs.declared.directives.Directive.TheVariants.{Enter, Exit, EnterData, ExitData, Update}
+use Rattle.acc_base.specs.declared.directives.Directive.TheVariants.{Enter, Exit, EnterData, ExitData, Update, Wait, Step}
 use Rattle.acc_base.specs.declared.items.Section.{Section}
 use Rattle.acc_read.specs.declared.arrays.Array.{Array}
 use Rattle.acc_read.specs.Reading.{◌>>=◌}
 use Rattle.acc_read.specs.Tokens.{word_at, keyword_at, name_at, number_at, number_limit, is_at_end, tab}
 use Rattle.acc_read.specs.Layout.{Layout, array_of, next_array}
 use Rattle.acc_read.specs.Places.{address_at, last_address_at, last_section_at}
+use Rattle.acc_read.specs.Queues.{last_queue_at}
 use Rattle.acc_read.specs.Bytes.{bytes_of}
 use Rattle.acc_read.specs.Grammar.{region_grammar, enter_grammar, exit_grammar, update_grammar}
 use Rattle.acc_read.specs.Clauses.{nothing_read, clauses_at}
@@ -74,25 +75,41 @@ end_at innermost text = do
   rest ← keyword_at (codes "data") text
   if is_at_end rest then exited innermost else Err Syntax
 
--- `enter data CLAUSES` (OpenACC 3.3, the enter data directive)
+-- `enter data CLAUSES`, with the option `async` (OpenACC 3.3, the enter data directive)
 unfoldable pub enter_at : Layout → List ℕ → Result Meaning ScriptFault
 enter_at layout text = do
   rest ← keyword_at (codes "data") text
   read ← clauses_at (length rest) enter_grammar layout nothing_read rest
-  Ok (Direct (EnterData read.items))
+  Ok (Direct (EnterData read.items read.queue))
 
--- `exit data CLAUSES`, with the option `finalize` (OpenACC 3.3, the exit data directive)
+-- `exit data CLAUSES`, with the options `finalize` and `async` (OpenACC 3.3, the exit data directive)
 unfoldable pub exit_at : Layout → List ℕ → Result Meaning ScriptFault
 exit_at layout text = do
   rest ← keyword_at (codes "data") text
   read ← clauses_at (length rest) exit_grammar layout nothing_read rest
-  Ok (Direct (ExitData read.items read.has_option))
+  Ok (Direct (ExitData read.items read.has_option read.queue))
 
--- `update CLAUSES`, with the option `if_present` (OpenACC 3.3, the update directive)
+-- `update CLAUSES`, with the options `if_present` and `async` (OpenACC 3.3, the update directive)
 unfoldable pub update_at : Layout → List ℕ → Result Meaning ScriptFault
 update_at layout text = do
   read ← clauses_at (length text) update_grammar layout nothing_read text
-  Ok (Direct (Update read.items read.has_option))
+  Ok (Direct (Update read.items read.has_option read.queue))
+
+-- `wait(N)`, of one queue
+unfoldable pub wait_one_at : List ℕ → Result Meaning ScriptFault
+wait_one_at text = do
+  queue ← last_queue_at text
+  Ok (Direct (Wait (Some queue)))
+
+-- `wait`, of all queues, or `wait(N)` (OpenACC 3.3, the wait directive)
+unfoldable pub wait_at : List ℕ → Result Meaning ScriptFault
+wait_at text = if is_at_end text then Ok (Direct (Wait None)) else wait_one_at text
+
+-- `step(N)`: the next transfer of a queue is made (OpenACC 3.3, section 2.16, asynchronous behavior)
+unfoldable pub step_at : List ℕ → Result Meaning ScriptFault
+step_at text = do
+  queue ← last_queue_at text
+  Ok (Direct (Step queue))
 
 -- ---- writes
 
@@ -151,6 +168,8 @@ statement_at layout innermost text = do
       else if bytes_eq word.0 (codes "enter") then enter_at layout word.1
       else if bytes_eq word.0 (codes "exit") then exit_at layout word.1
       else if bytes_eq word.0 (codes "update") then update_at layout word.1
+      else if bytes_eq word.0 (codes "wait") then wait_at word.1
+      else if bytes_eq word.0 (codes "step") then step_at word.1
       else if bytes_eq word.0 (codes "write") then write_at layout word.1
       else if bytes_eq word.0 (codes "point") then point_at layout word.1
       else question_at word.0 layout word.1

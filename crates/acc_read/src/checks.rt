@@ -2,12 +2,13 @@
 
 ghost use Rattle.std.specs.Prelude.{length};
 ghost use Rattle.acc_read.specs.Reading.{Reads};
-ghost use Rattle.acc_read.specs.Checked.{items_end, group_end, clause_end, seen_clause, nothing_seen, clauses_end};
+ghost use Rattle.acc_read.specs.Checked.{items_end, group_end, clause_end, queue_end, seen_clause, nothing_seen, clauses_end};
 
 use crate::arrays::Arrays;
 use crate::clauses::modified_at;
 use crate::grammar::Clause;
 use crate::items::{Kind, named_at};
+use crate::queues::queue_at;
 use crate::tokens::{is_at_end, is_mark_next, mark_at, skip_comma, word_at};
 use acc_base::ScriptFault;
 
@@ -18,6 +19,8 @@ pub struct Seen {
     pub clause: bool,
     /// The option.
     pub has_option: bool,
+    /// A queue.
+    pub has_queue: bool,
 }
 
 /// The text after one item or more, separated by commas.
@@ -51,6 +54,21 @@ fn group_end<'a, C: Clause>(
     mark_at(b')', rest)
 }
 
+/// What is seen with the queue of `async`, and the text after it.
+fn queue_end(seen: Seen, text: &[u8]) -> Result<(Seen, &[u8]), ScriptFault>
+    ensures { Reads (λ x. (x.0, x.1.now)) result (queue_end seen text.now) }
+{
+    if seen.has_queue {
+        return Err(ScriptFault::Syntax);
+    }
+    let (_, rest) = queue_at(text)?;
+    let seen = Seen {
+        has_queue: true,
+        ..seen
+    };
+    Ok((seen, rest))
+}
+
 /// What is seen with the next clause or option, and the text after it.
 #[tactic(auto, unfolding(crate::specs::Checked::clause_end))]
 fn clause_end<'a, C: Clause>(
@@ -66,17 +84,20 @@ fn clause_end<'a, C: Clause>(
             return Err(ScriptFault::Syntax);
         }
         let seen = Seen {
-            clause: seen.clause,
             has_option: true,
+            ..seen
         };
         return Ok((seen, rest));
+    }
+    if C::is_async(word) {
+        return queue_end(seen, rest);
     }
     match C::from_word(word) {
         None => Err(ScriptFault::Syntax),
         Some(clause) => {
             let seen = Seen {
                 clause: true,
-                has_option: seen.has_option,
+                ..seen
             };
             Ok((seen, group_end(clause, arrays, rest)?))
         }
@@ -102,6 +123,7 @@ pub fn clauses_end<C: Clause>(arrays: &Arrays, text: &[u8]) -> Result<Seen, Scri
     let mut seen = Seen {
         clause: false,
         has_option: false,
+        has_queue: false,
     };
     let mut rest = text;
     for _ in 0..text.len() {

@@ -2,13 +2,14 @@
 
 ghost use Rattle.std.specs.Prelude.{length};
 ghost use Rattle.acc_read.specs.Reading.{Reads, Holds, Gives, always};
-ghost use Rattle.acc_read.specs.Clauses.{items_at, modifier_at, modified_at, group_at, nothing_read, clause_at, with_clause, clauses_at};
+ghost use Rattle.acc_read.specs.Clauses.{items_at, modifier_at, modified_at, group_at, nothing_read, queued, clause_at, with_clause, clauses_at};
 ghost use Rattle.acc_read.specs.Meanings.{read_of};
 
 use crate::arrays::Arrays;
 use crate::checks::clauses_end;
 use crate::grammar::Clause;
 use crate::items::{Kind, item_of, named_at};
+use crate::queues::queue_at;
 use crate::tokens::{is_at_end, is_mark_next, is_word_before, mark_at, skip_comma, word_at};
 use crate::troubles::Trouble;
 use acc_base::{Item, ScriptFault};
@@ -21,6 +22,8 @@ pub struct Clauses<C> {
     pub items: Vec<Item<C>>,
     /// The option stands among them.
     pub has_option: bool,
+    /// The queue of `async`, if it stands among them.
+    pub queue: Option<u64>,
 }
 
 /// One item or more, separated by commas, behind the items before; the text after them.
@@ -89,6 +92,18 @@ fn group_at<'a, C: Clause>(
     Ok(mark_at(b')', rest)?)
 }
 
+/// The queue of `async`, which stands once at most; the text after it.
+fn queued<'a, C>(clauses: &mut Clauses<C>, text: &'a [u8]) -> Result<&'a [u8], ScriptFault>
+    ensures { Reads (λ x. (read_of clauses.new, x.now)) result (queued (read_of clauses.old) text.now) }
+{
+    if clauses.queue.is_some() {
+        return Err(ScriptFault::Syntax);
+    }
+    let (queue, rest) = queue_at(text)?;
+    clauses.queue = Some(queue);
+    Ok(rest)
+}
+
 /// A clause or an option, behind those before; the text after it.
 #[tactic(auto, unfolding(crate::specs::Clauses::clause_at))]
 fn clause_at<'a, C: Clause>(
@@ -105,6 +120,9 @@ fn clause_at<'a, C: Clause>(
         }
         clauses.has_option = true;
         return Ok(rest);
+    }
+    if C::is_async(word) {
+        return Ok(queued(clauses, rest)?);
     }
     match C::from_word(word) {
         None => Err(Trouble::Line(ScriptFault::Syntax)),
@@ -135,6 +153,7 @@ fn held_clauses<C: Clause>(
     let mut clauses = Clauses {
         items: Vec::new(alloc),
         has_option: false,
+        queue: None,
     };
     let mut rest = text;
     for _ in 0..text.len() {

@@ -1,11 +1,12 @@
 //! The directives of a script.
 
 ghost use Rattle.acc_read.specs.Reading.{Reads, Gives};
-ghost use Rattle.acc_read.specs.Statements.{data_at, end_at, enter_at, exit_at, update_at, takes_memory};
+ghost use Rattle.acc_read.specs.Statements.{data_at, end_at, enter_at, exit_at, update_at, wait_one_at, wait_at, step_at, takes_memory};
 ghost use Rattle.acc_read.specs.Meanings.{meaning_of};
 
 use crate::arrays::Arrays;
 use crate::clauses::clauses_at;
+use crate::queues::last_queue_at;
 use crate::statements::Statement;
 use crate::tokens::{is_at_end, keyword_at};
 use crate::troubles::Trouble;
@@ -42,8 +43,11 @@ pub fn enter_at(alloc: Global, arrays: &Arrays, text: &[u8]) -> Result<Statement
     ensures { Gives takes_memory meaning_of result (enter_at arrays.now text.now) }
 {
     let rest = keyword_at("data", text)?;
-    let items = List::from_vec(clauses_at(alloc, arrays, rest)?.items);
-    Ok(Statement::Direct(Directive::EnterData { items }))
+    let clauses = clauses_at(alloc, arrays, rest)?;
+    Ok(Statement::Direct(Directive::EnterData {
+        queue: clauses.queue,
+        items: List::from_vec(clauses.items),
+    }))
 }
 
 /// The `exit data` directive.
@@ -55,6 +59,7 @@ pub fn exit_at(alloc: Global, arrays: &Arrays, text: &[u8]) -> Result<Statement<
     let clauses = clauses_at(alloc, arrays, rest)?;
     Ok(Statement::Direct(Directive::ExitData {
         finalize: clauses.has_option,
+        queue: clauses.queue,
         items: List::from_vec(clauses.items),
     }))
 }
@@ -67,6 +72,36 @@ pub fn update_at(alloc: Global, arrays: &Arrays, text: &[u8]) -> Result<Statemen
     let clauses = clauses_at(alloc, arrays, text)?;
     Ok(Statement::Direct(Directive::Update {
         if_present: clauses.has_option,
+        queue: clauses.queue,
         items: List::from_vec(clauses.items),
     }))
+}
+
+/// The `wait` directive, of one queue.
+#[tactic(auto, unfolding(crate::specs::Statements::wait_one_at))]
+fn wait_one_at(text: &[u8]) -> Result<Statement<'static>, ScriptFault>
+    ensures { Reads meaning_of result (wait_one_at text.now) }
+{
+    let queue = Some(last_queue_at(text)?);
+    Ok(Statement::Direct(Directive::Wait { queue }))
+}
+
+/// The `wait` directive, of one queue or of all.
+#[tactic(auto, unfolding(crate::specs::Statements::wait_at))]
+pub fn wait_at(text: &[u8]) -> Result<Statement<'static>, ScriptFault>
+    ensures { Reads meaning_of result (wait_at text.now) }
+{
+    if is_at_end(text) {
+        return Ok(Statement::Direct(Directive::Wait { queue: None }));
+    }
+    wait_one_at(text)
+}
+
+/// The step of a queue.
+#[tactic(auto, unfolding(crate::specs::Statements::step_at))]
+pub fn step_at(text: &[u8]) -> Result<Statement<'static>, ScriptFault>
+    ensures { Reads meaning_of result (step_at text.now) }
+{
+    let queue = last_queue_at(text)?;
+    Ok(Statement::Direct(Directive::Step { queue }))
 }

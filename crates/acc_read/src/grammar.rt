@@ -9,7 +9,7 @@ use acc_base::{EnterClause, ExitClause, RegionClause, UpdateClause};
 
 /// The clauses of a directive.
 pub trait Clause: Copy {
-    /// The words of the clauses, their modifiers, what each lists, and the option.
+    /// The words of the clauses, their modifiers, what each lists, the option, and `async`.
     ghost grammar: { Grammar Self };
 
     /// The clause of a word, where the directive has one.
@@ -27,6 +27,10 @@ pub trait Clause: Copy {
     /// The word is the option of the directive, where it has one.
     fn is_option(word: &[u8]) -> bool
         ensures { result ≡ grammar.is_option word.now };
+
+    /// The word is `async`, where the directive has it.
+    fn is_async(word: &[u8]) -> bool
+        ensures { result ≡ grammar.is_async word.now };
 }
 
 impl Clause for RegionClause {
@@ -86,6 +90,10 @@ impl Clause for RegionClause {
     fn is_option(_word: &[u8]) -> bool {
         false
     }
+
+    fn is_async(_word: &[u8]) -> bool {
+        false
+    }
 }
 
 impl Clause for EnterClause {
@@ -123,6 +131,10 @@ impl Clause for EnterClause {
     fn is_option(_word: &[u8]) -> bool {
         false
     }
+
+    fn is_async(word: &[u8]) -> bool {
+        is_text(word, "async")
+    }
 }
 
 impl Clause for ExitClause {
@@ -154,6 +166,10 @@ impl Clause for ExitClause {
     fn is_option(word: &[u8]) -> bool {
         is_text(word, "finalize")
     }
+
+    fn is_async(word: &[u8]) -> bool {
+        is_text(word, "async")
+    }
 }
 
 impl Clause for UpdateClause {
@@ -179,5 +195,9 @@ impl Clause for UpdateClause {
 
     fn is_option(word: &[u8]) -> bool {
         is_text(word, "if_present")
+    }
+
+    fn is_async(word: &[u8]) -> bool {
+        is_text(word, "async")
     }
 }

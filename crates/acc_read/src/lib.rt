@@ -13,6 +13,7 @@ mod grammar;
 mod items;
 mod lines;
 mod places;
+mod queues;
 mod statements;
 mod tokens;
 mod troubles;

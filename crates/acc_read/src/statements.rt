@@ -7,7 +7,7 @@ ghost use Rattle.acc_read.specs.Statements.{length_at, array_at, question_at, st
 ghost use Rattle.acc_read.specs.Meanings.{meaning_of};
 
 use crate::arrays::{Array, Arrays};
-use crate::directives::{data_at, end_at, enter_at, exit_at, update_at};
+use crate::directives::{data_at, end_at, enter_at, exit_at, step_at, update_at, wait_at};
 use crate::places::{last_address_at, last_section_at};
 use crate::tokens::{is_at_end, is_text, name_at, number_at, word_at};
 use crate::troubles::Trouble;
@@ -127,6 +127,10 @@ fn statement_at<'a>(
         exit_at(alloc, arrays, rest)
     } else if is_text(word, "update") {
         update_at(alloc, arrays, rest)
+    } else if is_text(word, "wait") {
+        Ok(wait_at(rest)?)
+    } else if is_text(word, "step") {
+        Ok(step_at(rest)?)
     } else if is_text(word, "write") {
         write_at(alloc, arrays, rest)
     } else if is_text(word, "point") {

@@ -7,7 +7,7 @@ use Rattle.acc_base.specs.declared.items.RegionClause.TheVariants as region
 use Rattle.acc_base.specs.declared.calls.Call.{Call}
 use Rattle.acc_base.specs.declared.calls.Call.TheVariants.{Do, HostWrite}
 use Rattle.acc_base.specs.declared.directives.Directive.{Directive}
-use Rattle.acc_base.specs.declared.directives.Directive.TheVariants.{Enter, Exit, EnterData, ExitData, Update}
+use Rattle.acc_base.specs.declared.directives.Directive.TheVariants as directives
 use Rattle.acc_base.specs.declared.events.Did.{Did}
 use Rattle.acc_base.specs.declared.events.Event.{Event}
 use Rattle.acc_base.specs.declared.events.Event.TheVariants.{HostWritten}
@@ -15,12 +15,14 @@ use Rattle.acc_base.specs.declared.events.Step.{Step}
 use Rattle.acc_base.specs.declared.events.Step.TheVariants as steps
 use Rattle.acc_base.specs.declared.attachments.Aim.TheVariants as aims
 use Rattle.acc_base.specs.declared.faults.Fault.{Fault}
-use Rattle.acc_base.specs.declared.faults.Fault.TheVariants.{Memory, NoTickets, NoAllowance, TooManyItems, TraceFull, OutOfHost, Misaligned, NotPresent, CounterFull}
+use Rattle.acc_base.specs.declared.faults.Fault.TheVariants.{Memory, NoTickets, NoAllowance, TooManyItems, TraceFull, OutOfHost, Misaligned, NoQueue, NotPresent, CounterFull, QueueFull}
 use Rattle.acc_base.specs.declared.mappings.Counter.{Counter}
 use Rattle.acc_base.specs.declared.mappings.Found.{Found}
 use Rattle.acc_base.specs.declared.mappings.Found.TheVariants.{Empty, Inside, Partly, Absent}
 use Rattle.acc_base.specs.declared.mappings.Range.{Range}
 use Rattle.acc_base.specs.declared.regions.Holding.{Holding}
+use Rattle.acc_base.specs.declared.transfers.Transfer.{Transfer}
+use Rattle.acc_base.specs.declared.transfers.TheConstants.{QUEUE_COUNT}
 use Rattle.acc_base.specs.declared.tasks.Task.{Task}
 use Rattle.acc_base.specs.declared.tasks.Task.TheVariants as tasks
 use Rattle.acc_base.specs.Results.{◌>>=◌, ◌>>◌, refuse_if}
@@ -31,14 +33,17 @@ use Rattle.acc_base.specs.Blocks.{rounded, place_for}
 use Rattle.acc_base.specs.Records.{Records, State}
 use Rattle.acc_base.specs.Register.{Register, holdings_at}
 use Rattle.acc_base.specs.Clauses.{in_host, pointer_checked, born_at, enter_absent, counted, enter_row, leave_row, exit_row, move_row}
-use Rattle.acc_base.specs.Tasks.{section_of, pointer_of, recounted, checked, judge_step, pointer_aimed}
+use Rattle.acc_base.specs.Tasks.{section_of, pointer_of, queue_of, recounted, checked}
+use Rattle.acc_base.specs.Queues.{queue_at, queue_named, queue_room}
+use Rattle.acc_base.specs.Transfers.{transfer_of, room_for}
+use Rattle.acc_base.specs.Steps.{judge_row, judge_step, pointer_aimed}
 use Rattle.acc_base.specs.Attachments.{pointer_at, count_at}
 use Rattle.acc_base.specs.Bytes.{step_state}
 use Rattle.acc_base.specs.Pointers.{device_pointer, block_with, target_of, attach_there, judge_attach}
 use Rattle.acc_base.specs.Acting.{attach_if, judge_aim, judge_task, act_state, judge_all}
-use Rattle.acc_base.specs.Judge.{item_limit, item_count, few_items, tasks_of_region, tasks_of, event_of, directive_event, host_write_event}
-use Rattle.acc_base.specs.Calls.{World, Verdict, Makes, event_count, open_regions, ticket, allowance, trace_room, judge}
-use Rattle.acc_table.specs.Calls.{IsRefusal}
+use Rattle.acc_base.specs.Judge.{Verdict, Makes, item_limit, item_count, few_items, tasks_of_region, tasks_of, queue_in, verdict_of, directive_verdict, host_write_event}
+use Rattle.acc_base.specs.Calls.{World, event_count, open_regions, ticket, allowance, trace_room, judge}
+use Rattle.acc_table.specs.Calls.{MayWantMemory, IsRefusal}
 
 -- no want of memory is among the answers
 abbrev Tells : {A : Type 0} → Result A Fault → Type 0
@@ -128,19 +133,35 @@ pointer_tells l n (Some pointer) =
 checked_tells : (l : Limits) (n : ℕ) (task : Task) → Tells (checked l n task)
 checked_tells l n task = then_tells (in_host l n (section_of task)) (pointer_checked l n (pointer_of task)) (host_tells l n (section_of task)) (pointer_tells l n (pointer_of task))
 
+-- what the clause tables say of an item tells no want of memory
+row_tells : (l : Limits) (n : ℕ) (task : Task) (w : Records) → Tells (judge_row l n task w)
+unfolding judge_row
+row_tells l n (tasks.Enter counter item queue) w =
+    let section = section_of (tasks.Enter counter item queue) in
+    then_tells (checked l n (tasks.Enter counter item queue)) (enter_row (where_is section w.ranges) l counter item.clause n section w) (checked_tells l n (tasks.Enter counter item queue)) (enter_tells (where_is section w.ranges) l counter item.clause n section w)
+row_tells l n (tasks.Leave holding) w = leave_tells holding.block (recounted (tasks.Leave holding)) w
+row_tells l n (tasks.Exit finalize item queue) w =
+    let found = where_is (section_of (tasks.Exit finalize item queue)) w.ranges in
+    then_tells (checked l n (tasks.Exit finalize item queue)) (exit_row found (recounted (tasks.Exit finalize item queue)) n w) (checked_tells l n (tasks.Exit finalize item queue)) (exit_tells found (recounted (tasks.Exit finalize item queue)) n w)
+row_tells l n (tasks.Move if_present item queue) w =
+    let found = where_is item.section w.ranges in
+    then_tells (in_host l n item.section) (move_row found if_present n) (host_tells l n item.section) (move_tells found if_present n)
+
+-- nor does the look for room in a queue
+queue_tells : (queue_cap q : ℕ) (queues : List (List Transfer)) → Tells (queue_room queue_cap q queues)
+queue_tells queue_cap q queues = either_tells (nat_le queue_cap (length (queue_at q queues))) (Err (QueueFull q)) (Ok tt) tt tt
+
+-- nor does that for a transfer, where there is one and it has a queue
+transfer_tells : (queue_cap : ℕ) (queue : Option ℕ) (t : Option Transfer) (queues : List (List Transfer)) → Tells (room_for queue_cap queue t queues)
+transfer_tells queue_cap None t queues = tt
+transfer_tells queue_cap (Some q) None queues = tt
+transfer_tells queue_cap (Some q) (Some t) queues = queue_tells queue_cap q queues
+
 -- the step of an item tells no want of memory
 step_tells : (l : Limits) (n : ℕ) (task : Task) (w : Records) → Tells (judge_step l n task w)
 unfolding judge_step
-step_tells l n (tasks.Enter counter item) w =
-    let section = section_of (tasks.Enter counter item) in
-    then_tells (checked l n (tasks.Enter counter item)) (enter_row (where_is section w.ranges) l counter item.clause n section w) (checked_tells l n (tasks.Enter counter item)) (enter_tells (where_is section w.ranges) l counter item.clause n section w)
-step_tells l n (tasks.Leave holding) w = leave_tells holding.block (recounted (tasks.Leave holding)) w
-step_tells l n (tasks.Exit finalize item) w =
-    let found = where_is (section_of (tasks.Exit finalize item)) w.ranges in
-    then_tells (checked l n (tasks.Exit finalize item)) (exit_row found (recounted (tasks.Exit finalize item)) n w) (checked_tells l n (tasks.Exit finalize item)) (exit_tells found (recounted (tasks.Exit finalize item)) n w)
-step_tells l n (tasks.Move if_present item) w =
-    let found = where_is item.section w.ranges in
-    then_tells (in_host l n item.section) (move_row found if_present n) (host_tells l n item.section) (move_tells found if_present n)
+step_tells l n task w = bind_tells (judge_row l n task w) (λ step. room_for l.queue_cap (queue_of task) (transfer_of task step w.ranges) w.queues >> Ok step) (row_tells l n task w)
+    (λ step. then_tells (room_for l.queue_cap (queue_of task) (transfer_of task step w.ranges) w.queues) (Ok step) (transfer_tells l.queue_cap (queue_of task) (transfer_of task step w.ranges) w.queues) tt)
 
 -- an attachment tells no want of memory
 attach_tells : (l : Limits) (n pointer : ℕ) (s : State) → Tells (judge_attach l n pointer s)
@@ -159,14 +180,14 @@ attach_tells l n pointer s = go (block_with pointer s.records.ranges) (target_of
 -- what becomes of an item's pointer tells no want of memory
 aim_tells : (l : Limits) (n : ℕ) (task : Task) (step : Step) (s : State) → Tells (judge_aim l n task step s)
 unfolding judge_aim
-aim_tells l n (tasks.Enter counter item) step s = go (pointer_aimed (tasks.Enter counter item) step)
+aim_tells l n (tasks.Enter counter item queue) step s = go (pointer_aimed (tasks.Enter counter item queue) step)
   where
-    go : (named : Option ℕ) → Tells (attach_if l n named (step_state (tasks.Enter counter item) step s))
+    go : (named : Option ℕ) → Tells (attach_if l n named (step_state (tasks.Enter counter item queue) step s))
     go None = tt
-    go (Some pointer) = attach_tells l n pointer (step_state (tasks.Enter counter item) step s)
+    go (Some pointer) = attach_tells l n pointer (step_state (tasks.Enter counter item queue) step s)
 aim_tells l n (tasks.Leave holding) step s = tt
-aim_tells l n (tasks.Exit finalize item) step s = tt
-aim_tells l n (tasks.Move if_present item) step s = tt
+aim_tells l n (tasks.Exit finalize item queue) step s = tt
+aim_tells l n (tasks.Move if_present item queue) step s = tt
 
 -- what one item asks tells no want of memory
 task_tells : (l : Limits) (n : ℕ) (task : Task) (s : State) → Tells (judge_task l n task s)
@@ -192,19 +213,27 @@ region_tells number (Some holdings) = tt
 
 -- what a directive asks tells no want of memory
 asked_tells : (directive : Directive) (g : Register) → Tells (tasks_of directive g)
-asked_tells (Enter items) g = tt
-asked_tells (Exit number) g = region_tells number (holdings_at number g.regions)
-asked_tells (EnterData items) g = tt
-asked_tells (ExitData items finalize) g = tt
-asked_tells (Update items if_present) g = tt
+asked_tells (directives.Enter items) g = tt
+asked_tells (directives.Exit number) g = region_tells number (holdings_at number g.regions)
+asked_tells (directives.EnterData items queue) g = tt
+asked_tells (directives.ExitData items finalize queue) g = tt
+asked_tells (directives.Update items if_present queue) g = tt
+asked_tells (directives.Wait queue) g = tt
+asked_tells (directives.Step queue) g = tt
+
+-- a look for a queue tells no want of memory
+named_tells : (queue : Option ℕ) → Tells (queue_named queue)
+named_tells None = tt
+named_tells (Some q) = either_tells (nat_le QUEUE_COUNT q) (Err (NoQueue q)) (Ok tt) tt tt
 
 -- a directive tells no want of memory
-directive_tells : (l : Limits) (directive : Directive) (s : State) → Tells (directive_event l directive s)
-unfolding directive_event
+directive_tells : (l : Limits) (directive : Directive) (s : State) → Tells (directive_verdict l directive s)
+unfolding directive_verdict
 directive_tells l directive s =
-    let event : List Did → Result Event Fault = λ dids. Ok (event_of directive s.register dids) in
-    bind_tells (tasks_of directive s.register) (λ asked. judge_all l 0 asked s >>= event) (asked_tells directive s.register)
-    (λ asked. bind_tells (judge_all l 0 asked s) event (all_tells l 0 asked s) (λ dids. tt))
+    let verdict : List Did → Result Verdict Fault = λ dids. Ok (verdict_of directive s dids) in
+    bind_tells (tasks_of directive s.register) (λ asked. queue_named (queue_in directive) >> (judge_all l 0 asked s >>= verdict)) (asked_tells directive s.register)
+    (λ asked. then_tells (queue_named (queue_in directive)) (judge_all l 0 asked s >>= verdict) (named_tells (queue_in directive))
+    (bind_tells (judge_all l 0 asked s) verdict (all_tells l 0 asked s) (λ dids. tt)))
 
 -- a write of the host tells no want of memory
 write_tells : (l : Limits) (addr len : ℕ) → Tells (host_write_event l addr len)
@@ -219,11 +248,13 @@ ticket_tells w = either_tells (nat_le w.limits.tickets (event_count w.history)) 
 
 -- the check for one more region tells no want of memory
 allowance_tells : (w : World) (directive : Directive) → Tells (allowance w directive)
-allowance_tells w (Enter items) = either_tells (nat_le w.limits.regions (open_regions w.state)) (Err (NoAllowance 0)) (Ok tt) tt tt
-allowance_tells w (Exit number) = tt
-allowance_tells w (EnterData items) = tt
-allowance_tells w (ExitData items finalize) = tt
-allowance_tells w (Update items if_present) = tt
+allowance_tells w (directives.Enter items) = either_tells (nat_le w.limits.regions (open_regions w.state)) (Err (NoAllowance 0)) (Ok tt) tt tt
+allowance_tells w (directives.Exit number) = tt
+allowance_tells w (directives.EnterData items queue) = tt
+allowance_tells w (directives.ExitData items finalize queue) = tt
+allowance_tells w (directives.Update items if_present queue) = tt
+allowance_tells w (directives.Wait queue) = tt
+allowance_tells w (directives.Step queue) = tt
 
 -- the check for room in the trace tells no want of memory
 room_tells : (w : World) → Tells (trace_room w)
@@ -233,7 +264,7 @@ room_tells w = either_tells (nat_le w.limits.trace_cap (length w.history.trace))
 few_tells : (directive : Directive) → Tells (few_items directive)
 few_tells directive = either_tells (nat_lt item_limit (item_count directive)) (Err (TooManyItems (item_count directive))) (Ok tt) tt tt
 
--- what follows the checks of a call tells no want of memory
+-- nor does what follows the check of a write
 makes_tells : (r : Result Event Fault) → Tells r → Tells (r >>= (λ e. Ok (Makes e)))
 makes_tells r h = bind_tells r (λ e. Ok (Makes e)) h (λ e. tt)
 
@@ -241,12 +272,11 @@ makes_tells r h = bind_tells r (λ e. Ok (Makes e)) h (λ e. tt)
 judge_tells : (w : World) (call : Call) → Tells (judge w call)
 unfolding judge
 judge_tells w (Do directive) =
-    let event : Result Verdict Fault = directive_event w.limits directive w.state >>= (λ e. Ok (Makes e)) in
-    then_tells (ticket w) (allowance w directive >> (few_items directive >> (trace_room w >> event))) (ticket_tells w)
-    (then_tells (allowance w directive) (few_items directive >> (trace_room w >> event)) (allowance_tells w directive)
-    (then_tells (few_items directive) (trace_room w >> event) (few_tells directive)
-    (then_tells (trace_room w) event (room_tells w)
-    (makes_tells (directive_event w.limits directive w.state) (directive_tells w.limits directive w.state)))))
+    let verdict : Result Verdict Fault = directive_verdict w.limits directive w.state in
+    then_tells (ticket w) (allowance w directive >> (few_items directive >> (trace_room w >> verdict))) (ticket_tells w)
+    (then_tells (allowance w directive) (few_items directive >> (trace_room w >> verdict)) (allowance_tells w directive)
+    (then_tells (few_items directive) (trace_room w >> verdict) (few_tells directive)
+    (then_tells (trace_room w) verdict (room_tells w) (directive_tells w.limits directive w.state))))
 judge_tells w (HostWrite addr bytes) =
     let event : Result Verdict Fault = host_write_event w.limits addr (length bytes) >>= (λ e. Ok (Makes e)) in
     then_tells (ticket w) (trace_room w >> event) (ticket_tells w)
@@ -257,7 +287,7 @@ judge_tells w (HostWrite addr bytes) =
 pub accepted : (w : World) (call : Call) → IsRefusal w call Memory → IsOk (judge w call)
 accepted w call refusal = by (judge w call) (judge_tells w call) refusal
   where
-    by : (r : Result Verdict Fault) → Tells r → MatchResult r (λ verdict. Memory ≡ Memory) (λ fault. Memory ≡ fault) → IsOk r
+    by : (r : Result Verdict Fault) → Tells r → MatchResult r (λ verdict. MayWantMemory verdict Memory) (λ fault. Memory ≡ fault) → IsOk r
     by (Ok verdict) told h = refl
     by (Err Memory) told h = absurd told
     by (Err _) told h = absurd cc

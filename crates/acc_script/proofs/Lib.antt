@@ -7,5 +7,8 @@ pub mod Digits
 pub mod Parts
 pub mod LineByLine
 pub mod RisingRanges
+pub mod LeftToWrite
 pub mod AttachedWords
+pub mod RisingBlocks
+pub mod WaitingQueues
 pub mod Encoded

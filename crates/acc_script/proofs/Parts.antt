@@ -6,7 +6,7 @@ use Rattle.acc_base.specs.declared.faults.Fault.{Fault}
 use Rattle.acc_base.specs.Faults.{number_of, name_of, fields_text}
 use Rattle.acc_base.specs.Blocks.{used_bytes}
 use Rattle.acc_base.specs.Calls.{World, event_count, open_regions}
-use Rattle.acc_script.specs.Texts.{refusal_start, refusal_text, sizes_text, ranges_text, totals_text, report_text}
+use Rattle.acc_script.specs.Texts.{refusal_start, refusal_text, sizes_text, device_text, totals_text, report_text}
 
 -- the texts of a refusal, grouped as they are written
 regrouped : (line number name fields : List ℕ) → ((codes "line " ++ (line ++ (codes ": refused " ++ (number ++ (codes " " ++ name))))) ++ fields) ++ codes "\n" ≡ codes "line " ++ (line ++ (codes ": refused " ++ ((number ++ codes " " ++ name ++ fields) ++ codes "\n")))
@@ -23,15 +23,15 @@ refusal_parts line fault = sym (regrouped (decimal line) (decimal (number_of fau
 abbrev pub sizes_of : World → List ℕ
 sizes_of w = sizes_text w.limits.host w.limits.device (used_bytes w.state.records.blocks)
 
--- the lines of ranges of a world
-abbrev pub ranges_of : World → List ℕ
-ranges_of w = ranges_text w.state.records
+-- the lines of a world's device
+abbrev pub device_of : World → List ℕ
+device_of w = device_text w.state.records
 
 -- the line of totals of a world
 abbrev pub totals_of : World → List ℕ
 totals_of w = totals_text (open_regions w.state) (event_count w.history)
 
--- a report as its lines of sizes, ranges and totals
-pub report_parts : (w : World) → report_text w ≡ (sizes_of w ++ ranges_of w) ++ totals_of w
+-- a report as its lines of sizes, of the device and of totals
+pub report_parts : (w : World) → report_text w ≡ (sizes_of w ++ device_of w) ++ totals_of w
 unfolding report_text
 report_parts w = refl

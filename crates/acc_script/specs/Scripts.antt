@@ -8,13 +8,14 @@ use Rattle.acc_base.specs.declared.faults.ScriptFault.{ScriptFault}
 use Rattle.acc_base.specs.declared.faults.ScriptFault.TheVariants.{Unclosed}
 use Rattle.acc_base.specs.declared.items.Section.{Section}
 use Rattle.acc_base.specs.Limits.{Limits}
-use Rattle.acc_base.specs.Calls.{World, new_world, Verdict, Makes, Idle, judge, world_after, open_regions}
+use Rattle.acc_base.specs.Calls.{World, new_world, judge, world_after, open_regions}
+use Rattle.acc_base.specs.Judge.{Verdict, Makes, Idle}
 use Rattle.acc_base.specs.Register.{newest_region}
 use Rattle.acc_base.specs.Ranges.{where_is}
 use Rattle.acc_base.specs.Pointers.{device_address_of}
 use Rattle.acc_table.specs.Queries.{is_inside, host_read_of, device_read_of}
 use Rattle.acc_script.specs.declared.print.effects.Effect.{Effect}
-use Rattle.acc_script.specs.declared.print.effects.Effect.TheVariants.{Nothing, Refused, HostBytes, DeviceBytes, Presence, Place, Reported}
+use Rattle.acc_script.specs.declared.print.effects.Effect.TheVariants.{Nothing, EmptyQueue, Refused, HostBytes, DeviceBytes, Presence, Place, Reported}
 use Rattle.acc_script.specs.declared.runs.Status.{Status}
 use Rattle.acc_script.specs.declared.runs.Status.TheVariants as statuses
 use Rattle.acc_read.specs.Reading.{◌>>=◌, wants}
@@ -22,7 +23,7 @@ use Rattle.acc_read.specs.Lines.{lines_of}
 use Rattle.acc_read.specs.Layout.{Layout, new_layout, with_array}
 use Rattle.acc_read.specs.Statements.{Meaning, Blank, Declare, Direct, Write, Show, Peek, Present, Address, Report, takes_memory, line_at}
 use Rattle.acc_script.specs.Texts.{refusal_text, report_text}
-use Rattle.acc_script.specs.Shown.{read_text, presence_text, place_text}
+use Rattle.acc_script.specs.Shown.{idle_text, read_text, presence_text, place_text}
 
 -- a table's world, and the arrays of the script
 pub record State : Type 0 where
@@ -44,10 +45,11 @@ pub record Turned : Type 0 where
 abbrev pub answered : State → Effect → Turned
 answered s effect = record { state = s; effect = effect }
 
--- a call changes the world where the table accepts it and makes an event
+-- a call changes the world where the table accepts it and makes an event; what is accepted and makes none is the step of
+-- an empty queue
 abbrev pub called : State → Call → Result Verdict Fault → Turned
 called s call (Ok (Makes event)) = record { state = record { world = world_after call event s.world; layout = s.layout }; effect = Nothing }
-called s call (Ok Idle) = answered s Nothing
+called s call (Ok Idle) = answered s EmptyQueue
 called s call (Err fault) = answered s (Refused fault)
 
 -- the host's bytes of a section can be shown where host memory has them
@@ -70,6 +72,7 @@ turned s Report = answered s Reported
 -- what the line of a number prints
 abbrev pub effect_text : ℕ → World → Effect → List ℕ
 effect_text number w Nothing = []
+effect_text number w EmptyQueue = idle_text
 effect_text number w (Refused fault) = refusal_text number fault
 effect_text number w (HostBytes section) = read_text (host_read_of section w.state.host)
 effect_text number w (DeviceBytes section) = read_text (device_read_of section w.state)

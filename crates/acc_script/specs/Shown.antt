@@ -1,4 +1,4 @@
--- What the statements print that ask of a memory or of a mapping.
+-- What the statements print that ask of a memory or of a mapping, and the step of an empty queue.
 use Rattle.std.specs.Prelude.{ℕ, Bool, List, ◌++◌, length, Option, Some, None, ◌==◌, if◌then◌else◌, codes}
 use Rattle.hex.specs.Hex.{encode_lower}
 use Rattle.acc_script.specs.Texts.{address}
@@ -20,3 +20,7 @@ presence_text present = if present then codes "yes\n" else codes "no\n"
 abbrev pub place_text : Option ℕ → List ℕ
 place_text None = codes "none\n"
 place_text (Some place) = address place ++ codes "\n"
+
+-- the queue that was to make its next transfer has none
+abbrev pub idle_text : List ℕ
+idle_text = codes "idle\n"

@@ -1,12 +1,16 @@
 -- What a script prints.
-use Rattle.std.specs.Prelude.{ℕ, zero, suc, ◌+◌, ◌-◌, ◌*◌, ◌/◌, false, List, [], ◌++◌, ◌==◌, if◌then◌else◌, codes}
+use Rattle.std.specs.Prelude.{ℕ, zero, suc, ◌+◌, ◌-◌, ◌*◌, ◌/◌, false, List, [], ◌∷◌, ◌++◌, length, ◌==◌, nat_le, if◌then◌else◌, codes}
 use Rattle.std.specs.Fmt.{decimal, digits}
 use Rattle.std.specs.List.{flat_map}
 use Rattle.acc_base.specs.declared.faults.Fault.{Fault}
 use Rattle.acc_base.specs.Faults.{number_of, name_of, fault_text}
+use Rattle.acc_base.specs.declared.mappings.Block.{Block}
+use Rattle.acc_base.specs.declared.mappings.Ended.{Ended}
+use Rattle.acc_base.specs.declared.transfers.Transfer.{Transfer}
 use Rattle.acc_base.specs.Blocks.{used_bytes}
 use Rattle.acc_base.specs.Records.{Records}
 use Rattle.acc_base.specs.Pointers.{attachment_of}
+use Rattle.acc_base.specs.Waits.{ended_blocks, told_ended}
 use Rattle.acc_base.specs.Calls.{World, event_count, open_regions}
 use Rattle.acc_table.specs.declared.calls.Mapped.{Mapped}
 use Rattle.acc_table.specs.Queries.{mapped_as}
@@ -84,9 +88,50 @@ range_text w m = mapped_text m ++ pointers_text m.start m.len w
 abbrev pub ranges_text : Records → List ℕ
 ranges_text w = flat_map (λ r. range_text w (mapped_as w.blocks r)) w.ranges
 
+-- ---- blocks whose mapping has ended
+
+-- where such a block lies, what it takes, and how many queued transfers name it
+abbrev pub ended_text : Ended → List ℕ
+ended_text e = codes "ended " ++ (address e.place ++ (codes " " ++ (decimal e.size ++ (codes " pins " ++ (decimal e.pins ++ codes "\n")))))
+
+-- a block among others that stand by rising place
+abbrev pub placed_among : Block → List Block → List Block
+placed_among b [] = b ∷ []
+placed_among b (c ∷ cs) = if nat_le b.place c.place then b ∷ c ∷ cs else c ∷ placed_among b cs
+
+-- blocks by rising place
+abbrev pub by_place : List Block → List Block
+by_place [] = []
+by_place (b ∷ bs) = placed_among b (by_place bs)
+
+-- the blocks whose mapping has ended that lie at or above a device address, by rising place
+abbrev pub ended_texts : ℕ → Records → List ℕ
+ended_texts from w = flat_map (λ b. ended_text (told_ended w.queues b)) (by_place (ended_blocks from w))
+
+-- ---- queues
+
+-- how many transfers wait in a queue
+abbrev pub queue_text : ℕ → ℕ → List ℕ
+queue_text q len = codes "queue " ++ (decimal q ++ (codes " length " ++ (decimal len ++ codes "\n")))
+
+-- a queue of this length, where it is not empty
+abbrev pub waiting_text : ℕ → ℕ → List ℕ
+waiting_text q len = if len == 0 then [] else queue_text q len
+
+-- the queues from a number on, each where it is not empty
+abbrev pub queues_text : ℕ → List (List Transfer) → List ℕ
+queues_text q [] = []
+queues_text q (transfers ∷ queues) = waiting_text q (length transfers) ++ queues_text (suc q) queues
+
+-- ---- all of it
+
+-- what the device has: mapped ranges, blocks whose mapping has ended, and queues
+abbrev pub device_text : Records → List ℕ
+device_text w = ranges_text w ++ ended_texts 0 w ++ queues_text 0 w.queues
+
 -- the report of a table
 unfoldable pub report_text : World → List ℕ
 report_text w =
     sizes_text w.limits.host w.limits.device (used_bytes w.state.records.blocks)
-    ++ ranges_text w.state.records
+    ++ device_text w.state.records
     ++ totals_text (open_regions w.state) (event_count w.history)

@@ -67,7 +67,8 @@ impl Session {
         ensures { CallsFor (state_of self.old) call (state_of self.new) result }
     {
         match self.table.apply(call) {
-            Ok(Reply::Done | Reply::Entered { .. }) => Ok(Effect::Nothing),
+            Ok(Reply::Done | Reply::Entered { .. } | Reply::Drained { .. }) => Ok(Effect::Nothing),
+            Ok(Reply::Idle) => Ok(Effect::EmptyQueue),
             Err((_, Fault::Memory)) => Err(Fault::Memory),
             Err((_, fault)) => Ok(Effect::Refused(fault)),
         }

@@ -4,6 +4,7 @@
 use acc_base::{Config, Fault, ScriptFault};
 use acc_script::{MemorySink, MemorySource, Status, run};
 use faults::{FAULTS, LONG};
+use queues::QUEUES;
 use rows::{REGIONS, SCRIPTS, SMALL, WIDE};
 use std::alloc::AllocError;
 use std::fmt::Debug;
@@ -14,6 +15,7 @@ use std::thread::Threads;
 
 mod ends;
 mod faults;
+mod queues;
 mod rows;
 
 /// The sizes of host and device, and the limits of regions, tickets, counters, queues and trace.
@@ -91,6 +93,9 @@ fn scripts_print_and_end(rt: HostRuntime) -> Result<(), Fail> {
         check(&rt, &WIDE, script.as_bytes(), printed, end)?;
     }
     for (script, printed, end) in REGIONS {
+        check(&rt, &WIDE, script.as_bytes(), printed, end)?;
+    }
+    for (script, printed, end) in QUEUES {
         check(&rt, &WIDE, script.as_bytes(), printed, end)?;
     }
     Ok(())

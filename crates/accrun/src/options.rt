@@ -85,13 +85,16 @@ Statements, one to a line, with comments after '#':
   update self(REFS)        copy its bytes from the device to host memory;
                            host(REFS) says the same
   update device(REFS)      copy its bytes from host memory to the device
+  wait, wait(QUEUE)        make all copies that wait in the queues, or in one
+  step(QUEUE)              make the next copy of a queue, or print idle
   show REF                 its bytes in host memory
   peek REF                 its bytes on the device, or none
   present REF              whether all of it lies in one mapped range: yes or no
   address PLACE            its device address, or none
   report                   the sizes, the mapped ranges with their counters, the
-                           attached pointers, the numbers of open regions and of
-                           events
+                           attached pointers, the blocks that only queued copies
+                           keep, the queues that are not empty, the numbers of
+                           open regions and of events
 NAME is a lower-case letter, then lower-case letters, digits and '_', 32 at
 most. REF is NAME, or NAME[OFFSET:LENGTH], in bytes from the start of the array.
 REFS is one REF or more, separated by commas. PLACE is NAME[OFFSET], and PLACES
@@ -102,8 +105,11 @@ A directive has one clause or more, and 64 REFs at most. create(zero: REFS), and
 copyout(zero: REFS) of a region, fill a new block with zero; copyin(readonly:
 REFS) is copyin(REFS). An exit data with the option finalize takes all counts of
 enter data. An update with the option if_present passes over what is absent, and
-not over what is partly mapped. A region that is open at the end of the script
-is a fault.
+not over what is partly mapped. With the option async(QUEUE), or async for queue
+0, the copies of enter data, exit data and update wait in a queue, in order; a
+block of the device stays while a copy of it waits. A QUEUE is from 0 to 15, and
+256 copies may wait in it. A region that is open at the end of the script is a
+fault.
 
 A statement that is refused changes nothing and prints 'line L: refused ..'; the
 script goes on. A line that is at fault ends the script.

@@ -4,7 +4,7 @@ use crate::outputs::Output;
 use crate::tools::{tell_words, tool};
 use crate::words::{WordsFault, read_words};
 use acc_script::{MemorySink, MemorySource};
-use rows::{COPIES, FAULTS, LIVES, REFUSALS, Row};
+use rows::{COPIES, FAULTS, LIVES, QUEUES, REFUSALS, Row};
 use std::alloc::{AllocError, Global};
 use std::env::{Env, FillError};
 use std::fmt::Debug;
@@ -108,6 +108,7 @@ fn check_rows<R: Threads + Wait + Sync + AllocGlobal + Abort>(
 fn scripts_print_and_end_as_they_should(rt: HostRuntime) -> Result<(), Fail> {
     check_rows(&rt, &LIVES)?;
     check_rows(&rt, &COPIES)?;
+    check_rows(&rt, &QUEUES)?;
     check_rows(&rt, &REFUSALS)?;
     check_rows(&rt, &FAULTS)?;
     Ok(())
@@ -160,7 +161,7 @@ fn command_lines_are_read(rt: HostRuntime) -> Result<(), Fail> {
 }
 
 /// What the help has to name.
-const HELP_WORDS: [&str; 29] = [
+const HELP_WORDS: [&str; 32] = [
     "< SCRIPT",
     "read whole",
     "array NAME",
@@ -184,6 +185,9 @@ const HELP_WORDS: [&str; 29] = [
     "finalize",
     "update self(REFS)",
     "update device(REFS)",
+    "wait, wait(QUEUE)",
+    "step(QUEUE)",
+    "async(QUEUE)",
     "show REF",
     "peek REF",
     "present REF",

@@ -1,9 +1,9 @@
-//! Bytes, presence and device addresses, each written without memory.
+//! Bytes, presence, device addresses and the step of an empty queue, each written without memory.
 
 ghost use Rattle.std.specs.Prelude.{◌≡◌, ◌≤◌, ◌*◌, length, option_map};
 ghost use Rattle.hex.specs.Hex.{encode_lower};
 ghost use Rattle.acc_script.specs.Ends.{Wrote};
-ghost use Rattle.acc_script.specs.Shown.{bytes_text, read_text, presence_text, place_text};
+ghost use Rattle.acc_script.specs.Shown.{idle_text, bytes_text, read_text, presence_text, place_text};
 
 use crate::Sink;
 use crate::ends::whole::{write_all, write_pieces};
@@ -68,6 +68,13 @@ fn put_digits(piece: &[u8], digits: &mut [u8])
     ensures { digits.new ≡ encode_lower piece.now }
 {
     let _ = hex::encode_to_slice(piece, digits);
+}
+
+/// Writes that the queue of a step was empty; false where the sink failed.
+pub fn write_idle<W: Sink>(writer: &mut W) -> bool
+    ensures { Wrote (W.told writer.old) (W.told writer.new) idle_text result }
+{
+    write_all(writer, b"idle\n")
 }
 
 /// Writes whether a section is present; false where the sink failed.

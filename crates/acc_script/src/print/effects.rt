@@ -5,7 +5,7 @@ ghost use Rattle.acc_script.specs.Ends.{Wrote};
 ghost use Rattle.acc_script.specs.Scripts.{is_refused, effect_text};
 
 use crate::Sink;
-use crate::print::answers::{write_place, write_presence, write_read};
+use crate::print::answers::{write_idle, write_place, write_presence, write_read};
 use crate::print::refusals::write_refusal;
 use crate::print::reports::write_report;
 use acc_base::{Fault, Section};
@@ -16,6 +16,8 @@ use acc_table::Table;
 pub enum Effect {
     /// Nothing.
     Nothing,
+    /// That the queue of a step was empty.
+    EmptyQueue,
     /// That its line was refused.
     Refused(Fault),
     /// The bytes of a section of host memory.
@@ -46,6 +48,7 @@ pub fn write_effect<W: Sink>(writer: &mut W, number: u64, table: &Table, effect:
 {
     match effect {
         Effect::Nothing => true,
+        Effect::EmptyQueue => write_idle(writer),
         Effect::Refused(fault) => write_refusal(writer, number, fault),
         Effect::HostBytes(section) => write_read(writer, table.host_read(section)),
         Effect::DeviceBytes(section) => write_read(writer, table.device_read(section)),

@@ -3,7 +3,9 @@
 
 mod addresses;
 mod answers;
+mod blocks;
 pub mod effects;
 mod pointers;
+mod queues;
 mod refusals;
 pub mod reports;

@@ -2,20 +2,23 @@
 
 ghost use Rattle.std.specs.Prelude.{◌+◌, ◌<◌, ◌^◌};
 ghost use Rattle.acc_script.specs.Ends.{Wrote};
-ghost use Rattle.acc_script.specs.Texts.{mapped_text, range_text, ranges_text, report_text, sizes_text, mapping_text, counters_text, totals_text};
+ghost use Rattle.acc_script.specs.Texts.{mapped_text, range_text, ranges_text, device_text, report_text, sizes_text, mapping_text, counters_text, totals_text};
 ghost use Rattle.acc_script.specs.Runs.{Printed};
 
 use crate::Sink;
 use crate::ends::whole::write_pieces;
 use crate::print::addresses::AddressBuffer;
+use crate::print::blocks::write_ended;
 use crate::print::pointers::write_pointers;
+use crate::print::queues::write_queues;
 use acc_base::Fault;
 use acc_table::{Mapped, Table};
 use itoa::Buffer;
 
 /// Writes the report of a table: the sizes of its memories, its mapped ranges by rising start with their counters
-/// and the attached pointers in them, and the numbers of open regions and of events. Takes no memory. What was written
-/// is proved where the sink tells its bytes.
+/// and the attached pointers in them, the blocks whose mapping has ended by rising place, the queues that are not empty,
+/// and the numbers of open regions and of events. Takes no memory. What was written is proved where the sink tells its
+/// bytes.
 ///
 /// # Errors
 ///
@@ -38,10 +41,23 @@ pub fn write_report<W: Sink>(table: &Table, writer: &mut W) -> bool
     if !write_sizes(writer, config.host(), config.device(), table.used()) {
         return false;
     }
-    if !write_ranges(table, writer) {
+    if !write_device(table, writer) {
         return false;
     }
     write_totals(writer, table.regions(), table.events())
+}
+
+/// The lines of mapped ranges, of blocks whose mapping has ended, and of queues; false where the sink failed.
+fn write_device<W: Sink>(table: &Table, writer: &mut W) -> bool
+    ensures { Wrote (W.told writer.old) (W.told writer.new) (device_text table.now.state.records) result }
+{
+    if !write_ranges(table, writer) {
+        return false;
+    }
+    if !write_ended(table, writer) {
+        return false;
+    }
+    write_queues(table, writer)
 }
 
 /// A line for each mapped range and each attached pointer; false where the sink failed.

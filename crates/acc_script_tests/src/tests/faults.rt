@@ -22,6 +22,9 @@ pub const FAULTS: [(ScriptFault, &[&str]); 6] = [
             "write a[4294967296] 01g",
             "point a[4294967296] to b",
             "enter data copyin(a via a[4294967296] !",
+            "enter data copyin(a) async(4294967296 !",
+            "wait(4294967296",
+            "step(99999999999) !",
         ],
     ),
     (
@@ -43,6 +46,8 @@ pub const FAULTS: [(ScriptFault, &[&str]); 6] = [
             "enter data copyin(a via b !",
             "data copy(b via a)",
             "exit data detach(b !",
+            "enter data async copyin(b) async",
+            "exit data finalize async(1), delete(b)",
         ],
     ),
     (ScriptFault::HostFull, &["array b 4294967295"]),
@@ -85,7 +90,6 @@ pub const FAULTS: [(ScriptFault, &[&str]); 6] = [
             "enter data copyin(a) delete(b)",
             "enter data copyin(a) if_present",
             "enter data copyin(a) finalize",
-            "enter data copyin(a) async",
             "exit data copyin(a)",
             "exit data copyout(zero: b)",
             "exit data delete(readonly: a)",
@@ -117,6 +121,27 @@ pub const FAULTS: [(ScriptFault, &[&str]); 6] = [
             "data copy(a) if_present",
             "data copy(a) finalize",
             "data copy(a) async",
+            "data async(1) copy(a)",
+            "enter data async(1)",
+            "enter data copyin(a) async async(1)",
+            "enter data copyin(a) async()",
+            "enter data copyin(a) async(a)",
+            "enter data copyin(a) async(1",
+            "enter data copyin(async: a)",
+            "exit data async finalize async(b !",
+            "exit data delete(a) async[1]",
+            "update async,, self(a)",
+            "update self(a) async(0x1)",
+            "async",
+            "wait a",
+            "wait()",
+            "wait(1) 1",
+            "wait 1",
+            "step",
+            "step()",
+            "step(1",
+            "step(1) a",
+            "step 1",
             "end",
             "end date",
             "end data a",
@@ -151,13 +176,12 @@ pub const FAULTS: [(ScriptFault, &[&str]); 6] = [
             "data detach(a[0])",
             "update attach(a[0])",
             "update self(a via a[0])",
-            "wait",
         ],
     ),
 ];
 
 /// Long lines: the parts of a script, what it prints, and how it ends.
-pub const LONG: [(Parts<'static>, &str, End); 8] = [
+pub const LONG: [(Parts<'static>, &str, End); 9] = [
     (
         Parts {
             first: "array a 64\nwrite a[0]",
@@ -177,6 +201,17 @@ pub const LONG: [(Parts<'static>, &str, End); 8] = [
         },
         "",
         Err((2, ScriptFault::Number)),
+    ),
+    // A queue has 256 transfers at most.
+    (
+        Parts {
+            first: "array a 1\nenter data copyin(a)\n",
+            piece: "update self(a) async\n",
+            count: 257,
+            last: "update self(a) async(1)\nreport\n",
+        },
+        "line 259: refused 15 QueueFull q 0\nhost 65536 device 65536 used 16\nmap 0x1000 1 at 0x100000000 structured 0 dynamic 1\nqueue 0 length 256\nqueue 1 length 1\nregions 0 events 258\n",
+        REFUSED,
     ),
     // A directive has 64 items at most.
     (

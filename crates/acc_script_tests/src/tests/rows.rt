@@ -199,7 +199,7 @@ pub const REGIONS: [(&str, &str, End); 12] = [
 const TWICE: &str = "array a 20\nenter data copyin(a)\nenter data copyin(a)\n";
 
 /// Small tables: their limits, a script, what it prints, how it ends.
-pub const SMALL: [(Limits, &str, &str, End); 7] = [
+pub const SMALL: [(Limits, &str, &str, End); 8] = [
     (
         [64, 64, 1, 1, 8, 1, 8],
         TWICE,
@@ -222,6 +222,13 @@ pub const SMALL: [(Limits, &str, &str, End); 7] = [
         [64, 16, 1, 8, 8, 1, 8],
         TWICE,
         "line 2: refused 14 DeviceFull item 0 need 32\nline 3: refused 14 DeviceFull item 0 need 32\n",
+        REFUSED,
+    ),
+    // A queue is full for a transfer alone, and for that queue; a wait empties it.
+    (
+        [64, 64, 1, 8, 8, 1, 8],
+        "array a 20\nenter data copyin(a) async\nupdate self(a) async\nupdate if_present self(a[0:0]) async\nupdate self(a) async(1)\nwait\nupdate self(a) async\nreport\n",
+        "line 3: refused 15 QueueFull q 0\nhost 64 device 64 used 32\nmap 0x1000 20 at 0x100000000 structured 0 dynamic 1\nqueue 0 length 1\nregions 0 events 5\n",
         REFUSED,
     ),
     // The first place at which a block fits exactly; a refused second item takes the first one back.

@@ -124,6 +124,24 @@ pub const COPIES: [Row; 7] = [
     ),
 ];
 
+/// Copies that wait in queues.
+pub const QUEUES: [Row; 2] = [
+    (
+        "",
+        "array a 16\nwrite a[0] 07\nenter data copyin(a)\nwrite a[0] 09\nexit data copyout(a) async(1)\nenter data create(a)\nreport\nshow a[0:1]\nwait(1)\nshow a[0:1]\nreport\n",
+        "host 65536 device 65536 used 32\nmap 0x1000 16 at 0x100000010 structured 0 dynamic 1\nended 0x100000000 16 pins 1\nqueue 1 length 1\nregions 0 events 5\n09\n07\nhost 65536 device 65536 used 16\nmap 0x1000 16 at 0x100000010 structured 0 dynamic 1\nregions 0 events 6\n",
+        "",
+        0,
+    ),
+    (
+        "",
+        "array a 1\nwrite a[0] 01\nenter data copyin(a)\nupdate self(a) device(a) async\nwrite a[0] 02\nupdate device(a)\nwrite a[0] 03\nstep(0)\nshow a\nstep(0)\npeek a\nstep(0)\n",
+        "02\n02\nidle\n",
+        "",
+        0,
+    ),
+];
+
 /// Statements that are refused, after which the script goes on.
 pub const REFUSALS: [Row; 5] = [
     (
@@ -135,8 +153,8 @@ pub const REFUSALS: [Row; 5] = [
     ),
     (
         "",
-        "array s 16\nupdate self(s)\nupdate self(s) if_present\nwrite s[65536] 01\npresent s\naddress s[0]\n",
-        "line 2: refused 11 NotPresent item 0\nline 4: refused 7 OutOfHost item 0\nno\nnone\n",
+        "array s 16\nenter data attach(s[4])\nupdate self(s)\nupdate self(s) if_present\nwait(16)\nwrite s[65536] 01\npresent s\naddress s[0]\n",
+        "line 2: refused 8 Misaligned item 0\nline 3: refused 11 NotPresent item 0\nline 5: refused 9 NoQueue q 16\nline 6: refused 7 OutOfHost item 0\nno\nnone\n",
         "",
         1,
     ),

@@ -1,7 +1,8 @@
 use Rattle.std.proofs.Common.{◌+◌, ◌-◌, arith}
 use Rattle.acc_base.specs.Pointers.{attachment_of}
 use Rattle.acc_script.specs.Texts.{attached_text, words_text, first_word, word_count, pointers_text}
-use Rattle.acc_script.proofs.AttachedWords.{word_turn, no_word_left, all_words_left, leaves_less, leaves_lost, leaves_none}
+use Rattle.acc_script.proofs.AttachedWords.{word_turn, no_word_left, all_words_left}
+use Rattle.acc_script.proofs.LeftToWrite.{leaves_less, leaves_lost, leaves_none}
 use Rattle.acc_script.proofs.print.pointers.write_pointers.Goals as goal
 
 pub loop-init : goal.loop-init

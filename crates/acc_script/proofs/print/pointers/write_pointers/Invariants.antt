@@ -1,6 +1,6 @@
 use Rattle.std.proofs.Common.{◌≡◌, ◌+◌, ◌-◌, ◌*◌}
 use Rattle.acc_script.specs.Texts.{words_text, first_word, word_count, pointers_text}
-use Rattle.acc_script.proofs.AttachedWords.{Leaves}
+use Rattle.acc_script.proofs.LeftToWrite.{Leaves}
 use Rattle.acc_script.proofs.print.pointers.write_pointers.Given as goal
 
 -- the words before this one are written

@@ -1,0 +1,43 @@
+//! The queues that options and statements name.
+
+ghost use Rattle.acc_read.specs.Reading.{Reads};
+ghost use Rattle.acc_read.specs.Queues.{queue_number_at, queue_at, last_queue_at};
+
+use crate::tokens::{is_at_end, is_mark_next, mark_at, number_at};
+use acc_base::ScriptFault;
+
+/// The number of a queue in parentheses, and the text after it.
+#[tactic(auto, unfolding(crate::specs::Queues::queue_number_at))]
+fn queue_number_at(text: &[u8]) -> Result<(u64, &[u8]), ScriptFault>
+    ensures { Reads (λ x. (x.0, x.1.now)) result (queue_number_at text.now) }
+{
+    let inside = mark_at(b'(', text)?;
+    let (number, rest) = number_at(u32::MAX, inside)?;
+    let rest = mark_at(b')', rest)?;
+    Ok((u64::from(number), rest))
+}
+
+/// The queue of `async`, and the text after it: the number in parentheses where they stand next, and else the first
+/// queue.
+#[tactic(auto, unfolding(crate::specs::Queues::queue_at))]
+pub fn queue_at(text: &[u8]) -> Result<(u64, &[u8]), ScriptFault>
+    ensures { Reads (λ x. (x.0, x.1.now)) result (queue_at text.now) }
+{
+    if is_mark_next(b'(', text) {
+        queue_number_at(text)
+    } else {
+        Ok((0, text))
+    }
+}
+
+/// The number of a queue in parentheses, up to the end of the line.
+#[tactic(auto, unfolding(crate::specs::Queues::last_queue_at))]
+pub fn last_queue_at(text: &[u8]) -> Result<u64, ScriptFault>
+    ensures { Reads (λ x. x) result (last_queue_at text.now) }
+{
+    let (queue, rest) = queue_number_at(text)?;
+    if !is_at_end(rest) {
+        return Err(ScriptFault::Syntax);
+    }
+    Ok(queue)
+}

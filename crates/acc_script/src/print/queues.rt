@@ -1,0 +1,49 @@
+//! The queues in which transfers wait, written without memory.
+
+ghost use Rattle.acc_script.specs.Ends.{Wrote};
+ghost use Rattle.acc_script.specs.Texts.{queue_text, waiting_text, queues_text};
+
+use crate::Sink;
+use crate::ends::whole::write_pieces;
+use acc_base::QUEUE_COUNT;
+use acc_table::Table;
+use itoa::Buffer;
+
+/// A line for each queue that is not empty, by rising number; false where the sink failed.
+pub fn write_queues<W: Sink>(table: &Table, writer: &mut W) -> bool
+    ensures { Wrote (W.told writer.old) (W.told writer.new) (queues_text 0 table.now.state.records.queues) result }
+{
+    table.laws();
+    for q in 0..QUEUE_COUNT {
+        if !write_waiting(writer, q, table.queue_len(q)) {
+            return false;
+        }
+    }
+    true
+}
+
+/// The line of a queue, where it is not empty; false where the sink failed.
+#[tactic(auto, using(crate::proofs::Fronts::took_nothing))]
+fn write_waiting<W: Sink>(writer: &mut W, q: u64, len: u64) -> bool
+    ensures { Wrote (W.told writer.old) (W.told writer.new) (waiting_text q len) result }
+{
+    if len == 0 {
+        return true;
+    }
+    write_queue(writer, q, len)
+}
+
+/// The line of a queue with its length; false where the sink failed.
+fn write_queue<W: Sink>(writer: &mut W, q: u64, len: u64) -> bool
+    ensures { Wrote (W.told writer.old) (W.told writer.new) (queue_text q len) result }
+{
+    let mut number_buffer = Buffer::new();
+    let mut len_buffer = Buffer::new();
+    let number = number_buffer.format(q);
+    let len = len_buffer.format(len);
+    let start: &[u8] = b"queue ";
+    write_pieces(
+        writer,
+        &[start, number.as_bytes(), b" length ", len.as_bytes(), b"\n"],
+    )
+}

@@ -159,14 +159,19 @@ fn make_pair(alloc: Global, first: u32, items: u32) -> Result<Pair, AllocError> 
 /// An `enter data copyin` of so many sections from a number on.
 fn enter_data(alloc: Global, first: u32, items: u32) -> Result<Directive, AllocError> {
     let items = make_items(alloc, EnterClause::Copyin, first, items)?;
-    Ok(Directive::EnterData { items })
+    let queue = None;
+    Ok(Directive::EnterData { items, queue })
 }
 
 /// An `exit data delete` of so many sections from a number on.
 fn exit_data(alloc: Global, first: u32, items: u32) -> Result<Directive, AllocError> {
     let items = make_items(alloc, ExitClause::Delete, first, items)?;
     let finalize = false;
-    Ok(Directive::ExitData { items, finalize })
+    Ok(Directive::ExitData {
+        items,
+        finalize,
+        queue: None,
+    })
 }
 
 /// Items of a clause for so many sections from a number on.

@@ -9,6 +9,7 @@ mod device;
 mod limits;
 mod placement;
 mod present;
+mod queues;
 mod rows;
 mod script;
 mod table;

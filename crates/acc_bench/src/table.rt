@@ -3,6 +3,7 @@
 ghost use Rattle.std.specs.Prelude.{◌<◌};
 
 use crate::limits::largest;
+use crate::queues::measure_queues;
 use crate::rows::tell;
 use acc_base::{
     Call, Directive, EnterClause, ExitClause, Fault, HOST_BASE, Item, List, RegionClause, Section,
@@ -29,13 +30,17 @@ enum Pair {
 /// Prints how long an `update` of 64 KiB and one of 16 MiB take beside a plain copy of as many bytes, and one of 64 KiB
 /// that leaves 1,000 attached pointers out; and how long
 /// `enter data` with `exit data`, and a data region, take for 16 bytes beside growing numbers of other ranges: where they
-/// map the bytes, and where the bytes are present.
+/// map the bytes, and where the bytes are present. And how long an `update` of 16 bytes takes beside other ranges: made at
+/// once, put into a queue and stepped, and made by a `wait` for many.
 pub fn run<R: Print + Clock + AllocGlobal>(rt: &R) -> Result<()> {
     measure_updates(rt, 65_536, 1_000)?;
     measure_updates(rt, 16_777_216, 20)?;
     measure_pointers(rt, 1_000, 1_000)?;
     for count in [0, 1_000, 10_000] {
         measure_mappings(rt, count)?;
+    }
+    for count in [0, 10_000] {
+        measure_queues(rt, count)?;
     }
     Ok(())
 }
@@ -137,7 +142,7 @@ fn tell_updates<R: Print + Clock + AllocGlobal>(
 }
 
 /// Maps a section.
-fn map(
+pub fn map(
     table: &mut Table,
     alloc: Global,
     clause: EnterClause,
@@ -147,7 +152,7 @@ fn map(
 }
 
 /// How long an update of a section takes.
-fn time_updates<R: Clock + AllocGlobal>(
+pub fn time_updates<R: Clock + AllocGlobal>(
     rt: &R,
     table: &mut Table,
     clause: UpdateClause,
@@ -196,7 +201,7 @@ fn make_updates(
     rounds: u32,
 ) -> Result<(), Fault> {
     for _ in 0..rounds {
-        apply(table, update(alloc, clause, section)?)?;
+        apply(table, update(alloc, clause, section, None)?)?;
     }
     Ok(())
 }
@@ -283,7 +288,7 @@ fn time_pairs<R: Clock + AllocGlobal>(
 }
 
 /// Maps so many ranges of 16 bytes that do not touch.
-fn map_others(table: &mut Table, alloc: Global, count: u32) -> Result<(), Fault> {
+pub fn map_others(table: &mut Table, alloc: Global, count: u32) -> Result<(), Fault> {
     for number in 0..count {
         map(table, alloc, EnterClause::Copyin, sixteen_bytes_at(number))?;
     }
@@ -291,7 +296,7 @@ fn map_others(table: &mut Table, alloc: Global, count: u32) -> Result<(), Fault>
 }
 
 /// The place of the range of a number, counted from 0.
-fn sixteen_bytes_at(number: u32) -> Section {
+pub fn sixteen_bytes_at(number: u32) -> Section {
     Section {
         start: HOST_BASE + 32 * number as u64,
         len: 16,
@@ -321,7 +326,7 @@ fn make_pair(table: &mut Table, alloc: Global, pair: Pair, section: Section) -> 
 }
 
 /// A table with as much memory as there may be.
-fn new_table(alloc: Global) -> Result<Table, Fault> {
+pub fn new_table(alloc: Global) -> Result<Table, Fault> {
     Table::new(alloc, largest()?)
 }
 
@@ -335,6 +340,7 @@ fn enter(alloc: Global, clause: EnterClause, section: Section) -> Result<Directi
                 pointer: None
             },
         ]?),
+        queue: None,
     })
 }
 
@@ -364,11 +370,17 @@ fn exit(alloc: Global, section: Section) -> Result<Directive, AllocError> {
             },
         ]?),
         finalize: false,
+        queue: None,
     })
 }
 
-/// An `update` of one section.
-fn update(alloc: Global, clause: UpdateClause, section: Section) -> Result<Directive, AllocError> {
+/// An `update` of one section, made at once or put into a queue.
+pub fn update(
+    alloc: Global,
+    clause: UpdateClause,
+    section: Section,
+    queue: Option<u64>,
+) -> Result<Directive, AllocError> {
     Ok(Directive::Update {
         items: List::from_vec(vec![in alloc;
             Item {
@@ -378,14 +390,14 @@ fn update(alloc: Global, clause: UpdateClause, section: Section) -> Result<Direc
             },
         ]?),
         if_present: false,
+        queue,
     })
 }
 
 /// Carries out a directive.
-fn apply(table: &mut Table, directive: Directive) -> Result<(), Fault> {
+pub fn apply(table: &mut Table, directive: Directive) -> Result<(), Fault> {
     match table.apply(Call::Do(directive)) {
-        Ok(Reply::Done) => Ok(()),
-        Ok(Reply::Entered { .. }) => Ok(()),
+        Ok(_) => Ok(()),
         Err((_, fault)) => Err(fault),
     }
 }
@@ -393,8 +405,8 @@ fn apply(table: &mut Table, directive: Directive) -> Result<(), Fault> {
 /// Enters a data region, and answers its number.
 fn enter_region(table: &mut Table, directive: Directive) -> Result<u64, Fault> {
     match table.apply(Call::Do(directive)) {
-        Ok(Reply::Done) => Ok(0),
         Ok(Reply::Entered { number }) => Ok(number),
+        Ok(_) => Ok(0),
         Err((_, fault)) => Err(fault),
     }
 }

@@ -1,0 +1,87 @@
+//! How long queued transfers take.
+
+use crate::rows::tell;
+use crate::table::{apply, map, map_others, new_table, sixteen_bytes_at, time_updates, update};
+use acc_base::{Directive, EnterClause, Fault, Section, UpdateClause};
+use acc_table::Table;
+use anyhow::Result;
+use std::alloc::Global;
+use std::rt::Clock;
+use std::time::{Duration, Instant};
+
+/// How many transfers one measurement makes: as many as a queue holds.
+const TRANSFERS: u32 = 4_096;
+
+/// Measures transfers of 16 bytes beside so many other ranges.
+pub fn measure_queues<R: Print + Clock + AllocGlobal>(rt: &R, count: u32) -> Result<()> {
+    let mut table = new_table(rt.alloc())?;
+    map_others(&mut table, rt.alloc(), count)?;
+    let section = sixteen_bytes_at(count);
+    map(&mut table, rt.alloc(), EnterClause::Copyin, section)?;
+    measure_transfers(rt, &mut table, section, count)
+}
+
+/// Measures transfers of a section.
+fn measure_transfers<R: Print + Clock + AllocGlobal>(
+    rt: &R,
+    table: &mut Table,
+    section: Section,
+    count: u32,
+) -> Result<()> {
+    let at_once = time_updates(rt, table, UpdateClause::ToDevice, section, TRANSFERS)?;
+    let stepped = time_steps(rt, table, section)?;
+    put_all(table, rt.alloc(), section)?;
+    let waited = time_wait(rt, table)?;
+    let rows = [
+        ("an update", at_once),
+        ("put and stepped", stepped),
+        ("made by a wait", waited),
+    ];
+    let place = "table: a transfer of 16 bytes, ranges beside";
+    tell(rt, place, u64::from(count), &rows)
+}
+
+/// How long it takes to put a transfer into a queue and to step it.
+fn time_steps<R: Clock + AllocGlobal>(
+    rt: &R,
+    table: &mut Table,
+    section: Section,
+) -> Result<Duration> {
+    let start = Instant::now(rt)?;
+    step_all(table, rt.alloc(), section)?;
+    let taken = start.elapsed(rt)?;
+    Ok(taken / TRANSFERS)
+}
+
+/// Puts a transfer into a queue and steps it, again and again.
+fn step_all(table: &mut Table, alloc: Global, section: Section) -> Result<(), Fault> {
+    for _ in 0..TRANSFERS {
+        put(table, alloc, section)?;
+        apply(table, Directive::Step { queue: 0 })?;
+    }
+    Ok(())
+}
+
+/// Puts as many transfers into a queue as it holds.
+fn put_all(table: &mut Table, alloc: Global, section: Section) -> Result<(), Fault> {
+    for _ in 0..TRANSFERS {
+        put(table, alloc, section)?;
+    }
+    Ok(())
+}
+
+/// Puts a transfer into a queue.
+fn put(table: &mut Table, alloc: Global, section: Section) -> Result<(), Fault> {
+    apply(
+        table,
+        update(alloc, UpdateClause::ToDevice, section, Some(0))?,
+    )
+}
+
+/// How long each transfer of a wait takes.
+fn time_wait<R: Clock>(rt: &R, table: &mut Table) -> Result<Duration> {
+    let start = Instant::now(rt)?;
+    apply(table, Directive::Wait { queue: None })?;
+    let taken = start.elapsed(rt)?;
+    Ok(taken / TRANSFERS)
+}

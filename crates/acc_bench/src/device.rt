@@ -94,7 +94,7 @@ fn retire_newest(device: &mut Device) -> Result<(), Fault>
 {
     for _ in 0..ROUNDS {
         let block = device.born(16, false)?;
-        device.retire(block);
+        retire_if_there(device, block);
     }
     Ok(())
 }
@@ -121,11 +121,11 @@ fn oldest_at(round: u64, count: u64, first: u64) -> u64 {
     }
 }
 
-/// Gives a block back, if the device has it.
+/// Ends the mapping of a block, if the device has it: as no transfer names it, it is given back.
 fn retire_if_there(device: &mut Device, block: u64)
     ensures { device.new.births ≡ device.old.births }
 {
-    if device.has(block) {
+    if device.has(block) && !device.has_ended(block) {
         device.retire(block);
     }
 }

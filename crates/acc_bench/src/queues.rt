@@ -12,6 +12,9 @@ use std::time::{Duration, Instant};
 /// How many transfers one measurement makes: as many as a queue holds.
 const TRANSFERS: u32 = 4_096;
 
+/// How often a time is taken. The least one is told, since a trace that grows moves all its events.
+const ROUNDS: u32 = 3;
+
 /// Measures transfers of 16 bytes beside so many other ranges.
 pub fn measure_queues<R: Print + Clock + AllocGlobal>(rt: &R, count: u32) -> Result<()> {
     let mut table = new_table(rt.alloc())?;
@@ -28,8 +31,8 @@ fn measure_transfers<R: Print + Clock + AllocGlobal>(
     section: Section,
     count: u32,
 ) -> Result<()> {
-    let at_once = time_updates(rt, table, UpdateClause::ToDevice, section, TRANSFERS)?;
-    let stepped = time_steps(rt, table, section)?;
+    let at_once = least_of_updates(rt, table, section)?;
+    let stepped = least_of_steps(rt, table, section)?;
     put_all(table, rt.alloc(), section)?;
     let waited = time_wait(rt, table)?;
     let rows = [
@@ -41,7 +44,34 @@ fn measure_transfers<R: Print + Clock + AllocGlobal>(
     tell(rt, place, u64::from(count), &rows)
 }
 
-/// How long it takes to put a transfer into a queue and to step it.
+/// How long an update takes, at least.
+fn least_of_updates<R: Clock + AllocGlobal>(
+    rt: &R,
+    table: &mut Table,
+    section: Section,
+) -> Result<Duration> {
+    let mut least = Duration::MAX;
+    for _ in 0..ROUNDS {
+        let taken = time_updates(rt, table, UpdateClause::ToDevice, section, TRANSFERS)?;
+        least = least.min(taken);
+    }
+    Ok(least)
+}
+
+/// How long it takes, at least, to put a transfer into a queue and to step it.
+fn least_of_steps<R: Clock + AllocGlobal>(
+    rt: &R,
+    table: &mut Table,
+    section: Section,
+) -> Result<Duration> {
+    let mut least = Duration::MAX;
+    for _ in 0..ROUNDS {
+        least = least.min(time_steps(rt, table, section)?);
+    }
+    Ok(least)
+}
+
+/// How long it takes to put a transfer into a queue and to step it, over so many of them.
 fn time_steps<R: Clock + AllocGlobal>(
     rt: &R,
     table: &mut Table,

@@ -1,5 +1,5 @@
 -- What attaching and detaching a pointer leaves: the records stay sound, and memories keep their lengths.
-use Rattle.std.proofs.Common.{ℕ, ◌≡◌, ◌+◌, ◌-◌, ◌≤◌, refl, sym, ◌∙◌, ap, subst, Bool, true, false, cond, List, [], ◌∷◌, Option, Some, None, Ok, arith}
+use Rattle.std.proofs.Common.{ℕ, ◌≡◌, ◌+◌, ◌-◌, ◌≤◌, refl, sym, ◌∙◌, ap, subst, Bool, true, false, cond, List, [], ◌∷◌, Option, Some, None, arith}
 use Rattle.std.specs.Prelude.{◌==◌, IsSome}
 use Rattle.std.specs.List.{AllByRecursion}
 use Rattle.acc_base.specs.declared.mappings.Range.{Range}
@@ -24,18 +24,16 @@ use Rattle.acc_base.specs.Ranges.{where_is, counter_of}
 use Rattle.acc_base.specs.Blocks.{block_at}
 use Rattle.acc_base.specs.Attachments.{pointer_at, is_before, count_at, with_attachment, without_attachment, with_count, detach, attached_by}
 use Rattle.acc_base.specs.Records.{Records}
-use Rattle.acc_base.specs.Pointers.{block_in, block_with, detach_there, judge_detach, release_there, judge_release}
-use Rattle.acc_base.specs.Tasks.{queue_of}
-use Rattle.acc_base.specs.Transfers.{transfer_of, room_for}
+use Rattle.acc_base.specs.Detaching.{block_aimed, block_in, block_with, detach_there, judge_detach, release_there, judge_release}
 use Rattle.acc_base.specs.Steps.{pointer_aimed, records_aimed, act_step, act}
-use Rattle.acc_base.specs.Acting.{detach_if}
+use Rattle.acc_base.specs.Detaching.{detach_if}
 use Rattle.acc_base.specs.History.{IsAttachLegal, IsAimLegal}
 use Rattle.acc_base.specs.Accounts.{IsMapped, AreAttachmentsSound, AreRecordsSound}
 use Rattle.acc_base.proofs.Results.{equal}
 use Rattle.acc_base.proofs.Elements.{AllByRecursion-filter, found_has}
 use Rattle.acc_base.proofs.Where.{IsInsideOf, inside_says}
 use Rattle.acc_base.proofs.Attached.{rising-attached_by, rising-with_count, counted-with_count, detached_within}
-use Rattle.acc_base.proofs.Judged.{IsJudgedTo}
+use Rattle.acc_base.proofs.Judged.{IsJudgedTo, IsStepFree}
 use Rattle.acc_base.proofs.Puts.{acted_sound}
 use Rattle.acc_base.proofs.Recounted.{moved_by, names, counter-act}
 
@@ -81,19 +79,11 @@ there-with_count blocks block pointer count xs n h = go (count == 0)
 
 -- with these counters
 with_attached : (l : Limits) (w : Records) (xs : List Attachment) → AreRecordsSound l w → AreAttachmentsSound l w.blocks xs → AreRecordsSound l (record w { attached = xs })
-with_attached l w xs h k = record { ranges_apart = h.ranges_apart; blocks_apart = record { on_device = h.blocks_apart.on_device; apart = h.blocks_apart.apart; born = h.blocks_apart.born }; one_block_each = record { mapped = h.one_block_each.mapped; distinct = h.one_block_each.distinct; in_use = h.one_block_each.in_use }; counted = h.counted; attached = k; queues = h.queues }
+with_attached l w xs h k = record { ranges_apart = h.ranges_apart; blocks_apart = record { on_device = h.blocks_apart.on_device; apart = h.blocks_apart.apart; born = h.blocks_apart.born }; one_block_each = record { mapped = h.one_block_each.mapped; distinct = h.one_block_each.distinct; in_use = h.one_block_each.in_use }; counted = h.counted; attached = k; queues = h.queues; loans = h.loans }
 
--- the block that an attachment or a detachment names
-abbrev pub aimed_block : Aim → Option ℕ
-aimed_block aims.None = None
-aimed_block (aims.New pointer block target) = Some block
-aimed_block (aims.Again pointer block) = Some block
-aimed_block (aims.Less pointer block) = Some block
-aimed_block (aims.Cleared pointer block) = Some block
-
--- it is there
+-- the block that an attachment or a detachment names is there
 abbrev pub IsAimThere : List Block → Aim → Type 0
-IsAimThere blocks aim = (block : ℕ) → aimed_block aim ≡ Some block → IsSome (block_at block blocks)
+IsAimThere blocks aim = (block : ℕ) → block_aimed aim ≡ Some block → IsSome (block_at block blocks)
 
 aimed_there : (blocks : List Block) (aim : Aim) (xs : List Attachment) → IsAimThere blocks aim → AreThere blocks xs → AreThere blocks (attached_by aim xs)
 aimed_there blocks aims.None xs there h = h
@@ -102,10 +92,10 @@ aimed_there blocks (aims.Again pointer block) xs there h = there-with_count bloc
 aimed_there blocks (aims.Less pointer block) xs there h = there-with_count blocks block pointer (count_at block pointer xs - 1) xs (there block refl) h
 aimed_there blocks (aims.Cleared pointer block) xs there h = there-with_count blocks block pointer 0 xs (there block refl) h
 
-detach_block : (immediate : Bool) (block pointer k : ℕ) (xs : List Attachment) → aimed_block (detach immediate block pointer xs) ≡ Some k → block ≡ k
+detach_block : (immediate : Bool) (block pointer k : ℕ) (xs : List Attachment) → block_aimed (detach immediate block pointer xs) ≡ Some k → block ≡ k
 detach_block immediate block pointer k xs e = go (count_at block pointer xs == 0) immediate e
   where
-    go : (b i : Bool) → aimed_block (cond b aims.None (cond i (aims.Cleared pointer block) (aims.Less pointer block))) ≡ Some k → block ≡ k
+    go : (b i : Bool) → block_aimed (cond b aims.None (cond i (aims.Cleared pointer block) (aims.Less pointer block))) ≡ Some k → block ≡ k
     go true i h = cc
     go false true h = cc
     go false false h = cc
@@ -160,7 +150,7 @@ judged_release_sound l (Some aim) w h = go (block_with aim.0 w.ranges) refl
 pub legal_attach_sound : (l : Limits) (named : Option ℕ) (aim : Aim) (w : Records) → IsWithinBounds l → AreRecordsSound l w → IsAttachLegal l named aim w → AreRecordsSound l (records_aimed aim w)
 legal_attach_sound l named aims.None w bounds h legal = none_sound l w h
 legal_attach_sound l named (aims.New pointer block target) w bounds h legal = counted_sound l block pointer 1 w h bounds.counter_max.0 (mapped_there l w pointer block h legal.1)
-legal_attach_sound l named (aims.Again pointer block) w bounds h legal = counted_sound l block pointer (count_at block pointer w.attached + 1) w h (omega (arith, legal.3)) (mapped_there l w pointer block h legal.1)
+legal_attach_sound l named (aims.Again pointer block) w bounds h legal = counted_sound l block pointer (count_at block pointer w.attached + 1) w h (omega (arith, legal.4)) (mapped_there l w pointer block h legal.1)
 legal_attach_sound l named (aims.Less pointer block) w bounds h legal = absurd legal
 legal_attach_sound l named (aims.Cleared pointer block) w bounds h legal = absurd legal
 
@@ -244,18 +234,18 @@ pub record IsLeft (l : Limits) (task : Task) (did : Did) (w v : Records) : Type 
   pub counter_is : (counter : Counter) (b : ℕ) → counter_of counter b v.ranges ≡ cond (names b did.step) (moved_by counter task (counter_of counter b w.ranges)) (counter_of counter b w.ranges)
 
 -- the step of a task, after a detachment
-then_left : (l : Limits) (task : Task) (did : Did) (w : Records) → IsWithinBounds l → AreRecordsSound l (records_aimed did.aim w) → IsJudgedTo l task did.step w → room_for l.queue_cap (queue_of task) (transfer_of task did.step w.ranges) w.queues ≡ Ok tt → IsLeft l task did w (act_step task did.step (records_aimed did.aim w))
-then_left l task did w bounds h says room = record {
-  sound = acted_sound l task did.step (records_aimed did.aim w) bounds (says_aimed l task did.step did.aim w says) room h;
+then_left : (l : Limits) (task : Task) (did : Did) (w : Records) → IsWithinBounds l → AreRecordsSound l (records_aimed did.aim w) → IsJudgedTo l task did.step w → IsStepFree l task did.step w → IsLeft l task did w (act_step task did.step (records_aimed did.aim w))
+then_left l task did w bounds h says free = record {
+  sound = acted_sound l task did.step (records_aimed did.aim w) bounds (says_aimed l task did.step did.aim w says) (record { needed = free.needed; room = free.room }) h;
   counter_is = λ counter b. counter-act l task did.step (records_aimed did.aim w) counter b h (says_aimed l task did.step did.aim w says);
 }
 
-pub task_left : (l : Limits) (task : Task) (did : Did) (w : Records) → IsWithinBounds l → AreRecordsSound l w → IsJudgedTo l task did.step w → room_for l.queue_cap (queue_of task) (transfer_of task did.step w.ranges) w.queues ≡ Ok tt → IsAimLegal l task did w → IsLeft l task did w (act task did w)
+pub task_left : (l : Limits) (task : Task) (did : Did) (w : Records) → IsWithinBounds l → AreRecordsSound l w → IsJudgedTo l task did.step w → IsStepFree l task did.step w → IsAimLegal l task did w → IsLeft l task did w (act task did w)
 unfolding act
-task_left l (Enter counter item queue) did w bounds h says room legal = record {
-  sound = legal_attach_sound l (pointer_aimed (Enter counter item queue) did.step) did.aim (act_step (Enter counter item queue) did.step w) bounds (acted_sound l (Enter counter item queue) did.step w bounds says room h) legal;
+task_left l (Enter counter item queue) did w bounds h says free legal = record {
+  sound = legal_attach_sound l (pointer_aimed (Enter counter item queue) did.step) did.aim (act_step (Enter counter item queue) did.step w) bounds (acted_sound l (Enter counter item queue) did.step w bounds says free h) legal;
   counter_is = λ one b. counter-act l (Enter counter item queue) did.step w one b h says;
 }
-task_left l (Leave holding) did w bounds h says room legal = then_left l (Leave holding) did w bounds (leave_sound l holding did w h legal) says room
-task_left l (Exit finalize item queue) did w bounds h says room legal = then_left l (Exit finalize item queue) did w bounds (exit_sound l finalize item queue did w h legal) says room
-task_left l (Move if_present item queue) did w bounds h says room legal = then_left l (Move if_present item queue) did w bounds (move_sound l if_present item queue did w h legal) says room
+task_left l (Leave holding) did w bounds h says free legal = then_left l (Leave holding) did w bounds (leave_sound l holding did w h legal) says free
+task_left l (Exit finalize item queue) did w bounds h says free legal = then_left l (Exit finalize item queue) did w bounds (exit_sound l finalize item queue did w h legal) says free
+task_left l (Move if_present item queue) did w bounds h says free legal = then_left l (Move if_present item queue) did w bounds (move_sound l if_present item queue did w h legal) says free

@@ -23,7 +23,7 @@ use Rattle.acc_base.specs.Steps.{act, act_all}
 use Rattle.acc_base.specs.Walk.{enter_task, exit_task, block_counted, pointer_attached, holdings_of}
 use Rattle.acc_base.specs.History.{counts, drops, count_counted, count_dropped, dynamic_dropped, AreJudged}
 use Rattle.acc_base.specs.Accounts.{AreRecordsSound}
-use Rattle.acc_base.proofs.Judged.{IsJudgedTo, IsJudgedStep, step_judged, task_says}
+use Rattle.acc_base.proofs.Judged.{IsJudgedTo, step_judged, task_says}
 use Rattle.acc_base.proofs.Recounted.{moved_by, names}
 use Rattle.acc_base.proofs.Aimed.{IsLeft, task_left}
 
@@ -45,7 +45,7 @@ all_left l n [] [] w bounds h judged = record { sound = h; counter_is = λ count
 all_left l n [] (did ∷ dids) w bounds h judged = absurd judged
 all_left l n (task ∷ tasks) [] w bounds h judged = absurd judged
 all_left l n (task ∷ tasks) (did ∷ dids) w bounds h judged =
-    let first : IsLeft l task did w (act task did w) = task_left l task did w bounds h (task_says l n task w did.step judged.0) (step_judged l n task w did.step judged.0).room judged.1 in
+    let first : IsLeft l task did w (act task did w) = task_left l task did w bounds h (task_says l n task w did.step judged.0) (step_judged l n task w did.step judged.0).free judged.1 in
     let later : AreLeft l tasks dids (act task did w) (act_all tasks dids (act task did w)) = all_left l (suc n) tasks dids (act task did w) bounds first.sound judged.2 in
     record { sound = later.sound; counter_is = λ counter b. later.counter_is counter b ∙ ap (λ m. recount counter b tasks dids m) (first.counter_is counter b) }
 

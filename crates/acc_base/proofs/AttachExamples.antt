@@ -16,6 +16,7 @@ use Rattle.acc_base.specs.declared.events.Step.TheVariants.{Nothing, Counted, Bo
 use Rattle.acc_base.specs.declared.events.Did.{Did}
 use Rattle.acc_base.specs.declared.events.Event.TheVariants.{Entered, Left, EnteredData, ExitedData, HostWritten}
 use Rattle.acc_base.specs.declared.faults.Fault.TheVariants.{OutOfHost, Misaligned, PartlyPresent, CounterFull}
+use Rattle.acc_base.specs.Loans.{Leased}
 use Rattle.acc_base.specs.Limits.{Limits}
 use Rattle.acc_base.specs.Steps.{did_of}
 use Rattle.acc_base.specs.History.{attached_in}
@@ -43,7 +44,7 @@ abbrev alone : {C : Type 0} → C → Item C
 alone clause = item clause (at 0x1008 8)
 
 -- the host's pointer is made to hold an address below 0x1100
-abbrev point_to : ℕ → Call
+abbrev point_to : ℕ → Call Leased
 point_to low = HostWrite 0x1008 (low ∷ 0x10 ∷ 0 ∷ 0 ∷ 0 ∷ 0 ∷ 0 ∷ 0 ∷ [])
 
 abbrev did : Step → Aim → Did
@@ -64,10 +65,10 @@ as_host low = low ∷ 0x10 ∷ 0 ∷ 0 ∷ 0 ∷ 0 ∷ 0 ∷ 0 ∷ []
 
 -- ---- `attach` twice at one target, then at another, then `detach` twice
 
-abbrev mapped : List Call
+abbrev mapped : List (Call Leased)
 mapped = point_to 0x10 ∷ enter_data_of (item enter.Copyin structure ∷ item enter.Copyin first ∷ item enter.Copyin second ∷ []) ∷ []
 
-abbrev attached_twice : List Call
+abbrev attached_twice : List (Call Leased)
 attached_twice = mapped ++ enter_data_of (alone enter.Attach ∷ []) ∷ enter_data_of (alone enter.Attach ∷ []) ∷ []
 
 attached_twice_counts : (ran_with limits attached_twice).world.state.records.attached ≡ counts 1 2 ∷ []
@@ -83,7 +84,7 @@ attached_full : (ran_with limits (attached_twice ++ enter_data_of (alone enter.A
 unfolding ran_with
 attached_full = refl
 
-abbrev aimed_elsewhere : List Call
+abbrev aimed_elsewhere : List (Call Leased)
 aimed_elsewhere = attached_twice ++ point_to 0x20 ∷ enter_data_of (alone enter.Attach ∷ []) ∷ []
 
 aimed_elsewhere_counts : (ran_with limits aimed_elsewhere).world.state.records.attached ≡ counts 1 1 ∷ []
@@ -94,7 +95,7 @@ aimed_elsewhere_bytes : (ran_with limits aimed_elsewhere).world.state.memories �
 unfolding ran_with
 aimed_elsewhere_bytes = refl
 
-abbrev detached : List Call
+abbrev detached : List (Call Leased)
 detached = aimed_elsewhere ++ exit_data_of (alone exit.Detach ∷ []) ∷ exit_data_of (alone exit.Detach ∷ []) ∷ []
 
 detached_told : (ran_with limits detached).world.history.trace
@@ -114,7 +115,7 @@ detached_bytes = refl
 abbrev ones : List ℕ
 ones = replicate 8 0x11
 
-abbrev entered_with : List Call
+abbrev entered_with : List (Call Leased)
 entered_with = point_to 0x10 ∷ enter_data_of (item enter.Copyin structure ∷ via enter.Copyin first ∷ []) ∷ []
 
 entered_with_counts : (ran_with limits entered_with).world.state.records.attached ≡ counts 1 1 ∷ []
@@ -122,7 +123,7 @@ unfolding ran_with
 entered_with_counts = refl
 
 -- and it keeps that, whatever the host's structure becomes and is copied
-abbrev copied_over : List Call
+abbrev copied_over : List (Call Leased)
 copied_over = entered_with ++ HostWrite 0x1000 ones ∷ point_to 0 ∷ update_of (item ToDevice structure ∷ []) ∷ []
 
 copied_over_bytes : (ran_with limits copied_over).world.state.memories ≡ memory 1 (ones ++ to_first) ∷ memory 2 (replicate 16 0) ∷ []
@@ -136,14 +137,14 @@ entered_again = refl
 
 -- ---- `exit data` detaches before the counter falls, and at once with `finalize`
 
-abbrev exited_with : List Call
+abbrev exited_with : List (Call Leased)
 exited_with = entered_with ++ enter_data_of (via enter.Copyin first ∷ []) ∷ exit_data_of (via exit.Copyout first ∷ []) ∷ []
 
 exited_with_counts : (ran_with limits exited_with).world.state.records.attached ≡ counts 1 1 ∷ []
 unfolding ran_with
 exited_with_counts = refl
 
-abbrev finalized_with : List Call
+abbrev finalized_with : List (Call Leased)
 finalized_with = entered_with ++ enter_data_of (via enter.Copyin first ∷ []) ∷ finalize_of (via exit.Delete first ∷ via exit.Delete first ∷ []) ∷ []
 
 finalized_with_told : (ran_with limits finalized_with).world.history.trace
@@ -171,7 +172,7 @@ exited_idle = refl
 
 -- ---- a region detaches what its own items attached, from the last to the first
 
-abbrev in_region : List Call
+abbrev in_region : List (Call Leased)
 in_region = point_to 0x10 ∷ enter_of (item region.Copyin structure ∷ via region.Copyin first ∷ alone region.Attach ∷ via region.NoCreate second ∷ []) ∷ []
 
 in_region_told : (ran_with limits (in_region ++ exit_of 1 ∷ [])).world.history.trace
@@ -183,7 +184,7 @@ unfolding ran_with
 in_region_told = refl
 
 -- and not the pointer of a block that was born since at the same addresses
-abbrev born_since : List Call
+abbrev born_since : List (Call Leased)
 born_since = mapped ++ enter_of (alone region.Attach ∷ []) ∷ exit_data_of (item exit.Delete structure ∷ []) ∷ enter_data_of (item enter.Copyin structure ∷ alone enter.Attach ∷ []) ∷ exit_of 1 ∷ []
 
 born_since_counts : (ran_with limits born_since).world.state.records.attached ≡ counts 4 1 ∷ []

@@ -10,6 +10,7 @@ use Rattle.acc_base.specs.declared.events.Step.TheVariants.{Nothing, Counted, Bo
 use Rattle.acc_base.specs.declared.faults.Fault.TheVariants.{NoTickets, TooManyItems, TraceFull, OutOfHost, PartlyPresent, NotPresent, CounterFull, DeviceFull}
 use Rattle.acc_base.specs.declared.mappings.Range.{Range}
 use Rattle.acc_base.specs.declared.mappings.Found.TheVariants.{Empty, Inside, Partly, Absent}
+use Rattle.acc_base.specs.Loans.{Leased}
 use Rattle.acc_base.specs.Limits.{Limits}
 use Rattle.acc_base.specs.Queues.{new_queues}
 use Rattle.acc_base.specs.Records.{new_state}
@@ -21,10 +22,10 @@ use Rattle.acc_base.proofs.Runs.{ran_with, ran, small, at, item, enter_data_of, 
 
 -- ---- an array is mapped and deleted
 
-abbrev a : ℕ → Call
+abbrev a : ℕ → Call Leased
 a len = enter_data_of (item enter.Copyin (at 0x1000 len) ∷ [])
 
-mapped : (ran (a 32 ∷ [])).world.state.records ≡ record { ranges = range (at 0x1000 32) 1 0 1 ∷ []; blocks = block 1 0x1_0000_0000 32 ∷ []; attached = []; births = 1; queues = new_queues }
+mapped : (ran (a 32 ∷ [])).world.state.records ≡ record { ranges = range (at 0x1000 32) 1 0 1 ∷ []; blocks = block 1 0x1_0000_0000 32 ∷ []; attached = []; births = 1; queues = new_queues; loans = [] }
 unfolding ran
 mapped = refl
 
@@ -32,10 +33,10 @@ mapped_bytes : (ran (a 3 ∷ [])).world.state.memories ≡ memory 1 (0 ∷ 0 ∷
 unfolding ran
 mapped_bytes = refl
 
-abbrev mapped_and_deleted : List Call
+abbrev mapped_and_deleted : List (Call Leased)
 mapped_and_deleted = a 32 ∷ exit_data_of (item exit.Delete (at 0x1000 32) ∷ []) ∷ []
 
-deleted : (ran mapped_and_deleted).world.state.records ≡ record { ranges = []; blocks = []; attached = []; births = 1; queues = new_queues }
+deleted : (ran mapped_and_deleted).world.state.records ≡ record { ranges = []; blocks = []; attached = []; births = 1; queues = new_queues; loans = [] }
 unfolding ran
 deleted = refl
 
@@ -49,7 +50,7 @@ unfolding ran
 deleted_told = refl
 
 -- deleting what is absent does nothing, before it was mapped and after
-abbrev deleted_where_absent : List Call
+abbrev deleted_where_absent : List (Call Leased)
 deleted_where_absent = exit_data_of (item exit.Delete (at 0x1000 16) ∷ []) ∷ enter_data_of (item (enter.Create true) (at 0x1000 16) ∷ []) ∷ exit_data_of (item exit.Delete (at 0x1000 16) ∷ []) ∷ exit_data_of (item exit.Delete (at 0x1000 16) ∷ []) ∷ []
 
 deleted_where_absent_told : (ran deleted_where_absent).world.history.trace
@@ -60,20 +61,20 @@ deleted_where_absent_told = refl
 
 -- ---- a section over the end of a range is partly present, one inside it counts
 
-abbrev over_the_end : List Call
+abbrev over_the_end : List (Call Leased)
 over_the_end = a 16 ∷ enter_data_of (item enter.Copyin (at 0x1008 16) ∷ []) ∷ enter_data_of (item enter.Copyin (at 0x1004 4) ∷ []) ∷ []
 
 over_the_end_refused : (ran over_the_end).refused ≡ None ∷ Some (PartlyPresent 0) ∷ None ∷ []
 unfolding ran
 over_the_end_refused = refl
 
-over_the_end_counted : (ran over_the_end).world.state.records ≡ record { ranges = range (at 0x1000 16) 1 0 2 ∷ []; blocks = block 1 0x1_0000_0000 16 ∷ []; attached = []; births = 1; queues = new_queues }
+over_the_end_counted : (ran over_the_end).world.state.records ≡ record { ranges = range (at 0x1000 16) 1 0 2 ∷ []; blocks = block 1 0x1_0000_0000 16 ∷ []; attached = []; births = 1; queues = new_queues; loans = [] }
 unfolding ran
 over_the_end_counted = refl
 
 -- ---- the counter falls, and at zero the mapping ends
 
-abbrev counted_twice : List Call
+abbrev counted_twice : List (Call Leased)
 counted_twice = a 16 ∷ a 16 ∷ exit_data_of (item exit.Delete (at 0x1004 4) ∷ []) ∷ []
 
 falls : (ran counted_twice).world.state.records.ranges ≡ range (at 0x1000 16) 1 0 1 ∷ []
@@ -84,10 +85,10 @@ fall_told : dynamic_in 1 (ran counted_twice).world.history ≡ 1
 unfolding ran
 fall_told = refl
 
-abbrev counted_once : List Call
+abbrev counted_once : List (Call Leased)
 counted_once = a 16 ∷ exit_data_of (item exit.Delete (at 0x1004 4) ∷ []) ∷ exit_data_of (item exit.Delete (at 0x1000 16) ∷ []) ∷ []
 
-ends : (ran counted_once).world.state.records ≡ record { ranges = []; blocks = []; attached = []; births = 1; queues = new_queues }
+ends : (ran counted_once).world.state.records ≡ record { ranges = []; blocks = []; attached = []; births = 1; queues = new_queues; loans = [] }
 unfolding ran
 ends = refl
 
@@ -100,10 +101,10 @@ nothing_refused = refl
 abbrev few : Limits
 few = record { host = 96; device = 64; regions = 4; tickets = 100; counter_max = 100; queue_cap = 4; trace_cap = 100 }
 
-abbrev three_counts : Call
+abbrev three_counts : Call Leased
 three_counts = enter_data_of (item enter.Copyin (at 0x1000 16) ∷ item enter.Copyin (at 0x1000 16) ∷ item (enter.Create true) (at 0x1004 4) ∷ [])
 
-three_counted : (ran_with few (three_counts ∷ [])).world.state.records ≡ record { ranges = range (at 0x1000 16) 1 0 3 ∷ []; blocks = block 1 0x1_0000_0000 16 ∷ []; attached = []; births = 1; queues = new_queues }
+three_counted : (ran_with few (three_counts ∷ [])).world.state.records ≡ record { ranges = range (at 0x1000 16) 1 0 3 ∷ []; blocks = block 1 0x1_0000_0000 16 ∷ []; attached = []; births = 1; queues = new_queues; loans = [] }
 unfolding ran_with
 three_counted = refl
 
@@ -117,7 +118,7 @@ unfolding ran_with
 three_in = refl
 
 -- of four items that delete it the last finds it absent
-abbrev dropped_by_four : List Call
+abbrev dropped_by_four : List (Call Leased)
 dropped_by_four = three_counts ∷ exit_data_of (replicate 4 (item exit.Delete (at 0x1000 16))) ∷ []
 
 dropped_told : (ran_with few dropped_by_four).world.history.trace
@@ -131,10 +132,10 @@ unfolding ran_with
 dropped_in = refl
 
 -- `finalize` takes all three at once, and a second item finds the section absent
-abbrev finalized : List Call
+abbrev finalized : List (Call Leased)
 finalized = three_counts ∷ finalize_of (item exit.Delete (at 0x1000 16) ∷ item exit.Delete (at 0x1000 16) ∷ []) ∷ []
 
-finalized_records : (ran_with few finalized).world.state.records ≡ record { ranges = []; blocks = []; attached = []; births = 1; queues = new_queues }
+finalized_records : (ran_with few finalized).world.state.records ≡ record { ranges = []; blocks = []; attached = []; births = 1; queues = new_queues; loans = [] }
 unfolding ran_with
 finalized_records = refl
 
@@ -158,10 +159,10 @@ unfolding ran
 overlapping_left = refl
 
 -- two items of one directive are two births, at two places
-abbrev two_births : List Call
+abbrev two_births : List (Call Leased)
 two_births = HostWrite 0x1000 (1 ∷ 2 ∷ 3 ∷ []) ∷ enter_data_of (item enter.Copyin (at 0x1001 2) ∷ item (enter.Create false) (at 0x1000 1) ∷ []) ∷ []
 
-two_births_records : (ran two_births).world.state.records ≡ record { ranges = range (at 0x1000 1) 2 0 1 ∷ range (at 0x1001 2) 1 0 1 ∷ []; blocks = block 1 0x1_0000_0000 2 ∷ block 2 0x1_0000_0010 1 ∷ []; attached = []; births = 2; queues = new_queues }
+two_births_records : (ran two_births).world.state.records ≡ record { ranges = range (at 0x1000 1) 2 0 1 ∷ range (at 0x1001 2) 1 0 1 ∷ []; blocks = block 1 0x1_0000_0000 2 ∷ block 2 0x1_0000_0010 1 ∷ []; attached = []; births = 2; queues = new_queues; loans = [] }
 unfolding ran
 two_births_records = refl
 
@@ -198,7 +199,7 @@ three_of_two_left = refl
 
 -- ---- want of device memory: the hole of 16 bytes is too small for 17, and for a second block
 
-abbrev device_filled : List Call
+abbrev device_filled : List (Call Leased)
 device_filled = enter_data_of (item enter.Copyin (at 0x1000 16) ∷ item enter.Copyin (at 0x1010 16) ∷ item enter.Copyin (at 0x1020 32) ∷ []) ∷ exit_data_of (item exit.Delete (at 0x1000 16) ∷ [])
     ∷ enter_data_of (item (enter.Create false) (at 0x1040 17) ∷ []) ∷ enter_data_of (item (enter.Create false) (at 0x1040 16) ∷ item (enter.Create false) (at 0x1050 1) ∷ []) ∷ []
 
@@ -207,7 +208,7 @@ unfolding ran_with
 device_filled_refused = refl
 
 -- the first item of the refused directive was not mapped
-device_filled_left : (ran_with few device_filled).world.state.records ≡ record { ranges = range (at 0x1010 16) 2 0 1 ∷ range (at 0x1020 32) 3 0 1 ∷ []; blocks = block 2 0x1_0000_0010 16 ∷ block 3 0x1_0000_0020 32 ∷ []; attached = []; births = 3; queues = new_queues }
+device_filled_left : (ran_with few device_filled).world.state.records ≡ record { ranges = range (at 0x1010 16) 2 0 1 ∷ range (at 0x1020 32) 3 0 1 ∷ []; blocks = block 2 0x1_0000_0010 16 ∷ block 3 0x1_0000_0020 32 ∷ []; attached = []; births = 3; queues = new_queues; loans = [] }
 unfolding ran_with
 device_filled_left = refl
 
@@ -234,7 +235,7 @@ of_no_address = refl
 
 -- ---- a block takes the place of least address that is large enough, and a number of its own
 
-abbrev holes : List Call
+abbrev holes : List (Call Leased)
 holes = a 20 ∷ enter_data_of (item enter.Copyin (at 0x1014 1) ∷ []) ∷ exit_data_of (item exit.Delete (at 0x1000 20) ∷ []) ∷ enter_data_of (item enter.Copyin (at 0x1015 1) ∷ []) ∷ []
 
 first_fit : (ran holes).world.state.records.blocks ≡ block 2 0x1_0000_0020 1 ∷ block 3 0x1_0000_0000 1 ∷ []
@@ -247,14 +248,14 @@ first_fit_used = refl
 
 -- ---- refusals leave the world as it was
 
-abbrev refusals : List Call
+abbrev refusals : List (Call Leased)
 refusals = a 65 ∷ enter_data_of (item enter.Copyin (at 0xfff 1) ∷ []) ∷ a 0 ∷ a 33 ∷ enter_data_of (item enter.Copyin (at 0x1021 17) ∷ []) ∷ a 1 ∷ a 1 ∷ exit_data_of (item exit.Delete (at 0x1000 64) ∷ []) ∷ []
 
 all_refused : (ran refusals).refused ≡ Some (OutOfHost 0) ∷ Some (OutOfHost 0) ∷ None ∷ None ∷ Some (DeviceFull 0 32) ∷ None ∷ Some (CounterFull 0) ∷ Some (PartlyPresent 0) ∷ []
 unfolding ran
 all_refused = refl
 
-all_left : (ran refusals).world.state.records ≡ record { ranges = range (at 0x1000 33) 1 0 2 ∷ []; blocks = block 1 0x1_0000_0000 33 ∷ []; attached = []; births = 1; queues = new_queues }
+all_left : (ran refusals).world.state.records ≡ record { ranges = range (at 0x1000 33) 1 0 2 ∷ []; blocks = block 1 0x1_0000_0000 33 ∷ []; attached = []; births = 1; queues = new_queues; loans = [] }
 unfolding ran
 all_left = refl
 
@@ -274,7 +275,7 @@ ticket_gone = refl
 
 -- ---- the host writes an array
 
-abbrev wrote : List Call
+abbrev wrote : List (Call Leased)
 wrote = HostWrite 0x1002 (1 ∷ 2 ∷ 3 ∷ []) ∷ []
 
 wrote_bytes : (ran wrote).world.state.host ≡ host_of (0 ∷ 0 ∷ 1 ∷ 2 ∷ 3 ∷ []) 59
@@ -291,7 +292,7 @@ unfolding ran
 writes_refused = refl
 
 -- what is mapped keeps its bytes when the host writes
-abbrev written_over : List Call
+abbrev written_over : List (Call Leased)
 written_over = HostWrite 0x1000 (1 ∷ 2 ∷ []) ∷ a 2 ∷ HostWrite 0x1000 (5 ∷ 6 ∷ []) ∷ []
 
 written_over_host : (ran written_over).world.state.host ≡ host_of (5 ∷ 6 ∷ []) 62
@@ -313,7 +314,7 @@ unfolding ran
 created_zero = refl
 
 -- what is mapped already is counted, and not filled
-abbrev created_again : List Call
+abbrev created_again : List (Call Leased)
 created_again = HostWrite 0x1000 (1 ∷ 2 ∷ 3 ∷ []) ∷ a 3 ∷ enter_data_of (item (enter.Create true) (at 0x1001 2) ∷ []) ∷ []
 
 created_again_counted : (ran created_again).world.state.records.ranges ≡ range (at 0x1000 3) 1 0 2 ∷ []
@@ -326,7 +327,7 @@ created_again_bytes = refl
 
 -- ---- an update moves the section only
 
-abbrev to_device : List Call
+abbrev to_device : List (Call Leased)
 to_device = HostWrite 0x1004 (1 ∷ 2 ∷ 3 ∷ 4 ∷ []) ∷ enter_data_of (item (enter.Create false) (at 0x1004 4) ∷ []) ∷ update_of (item ToDevice (at 0x1005 2) ∷ []) ∷ []
 
 to_device_bytes : (ran to_device).world.state.memories ≡ memory 1 (0xa5 ∷ 2 ∷ 3 ∷ 0xa5 ∷ []) ∷ []
@@ -343,7 +344,7 @@ unfolding ran
 to_device_told = refl
 
 -- the counter is neither raised nor lowered
-to_device_counted : (ran to_device).world.state.records ≡ record { ranges = range (at 0x1004 4) 1 0 1 ∷ []; blocks = block 1 0x1_0000_0000 4 ∷ []; attached = []; births = 1; queues = new_queues }
+to_device_counted : (ran to_device).world.state.records ≡ record { ranges = range (at 0x1004 4) 1 0 1 ∷ []; blocks = block 1 0x1_0000_0000 4 ∷ []; attached = []; births = 1; queues = new_queues; loans = [] }
 unfolding ran
 to_device_counted = refl
 
@@ -353,7 +354,7 @@ to_second : (ran (HostWrite 0x1000 (1 ∷ 2 ∷ 3 ∷ 4 ∷ []) ∷ enter_data_o
 unfolding ran
 to_second = refl
 
-abbrev to_self : List Call
+abbrev to_self : List (Call Leased)
 to_self = HostWrite 0x1004 (1 ∷ 2 ∷ 3 ∷ 4 ∷ []) ∷ enter_data_of (item enter.Copyin (at 0x1004 4) ∷ []) ∷ HostWrite 0x1002 (5 ∷ 6 ∷ 7 ∷ 8 ∷ 9 ∷ 10 ∷ []) ∷ update_of (item ToSelf (at 0x1005 2) ∷ []) ∷ []
 
 to_self_host : (ran to_self).world.state.host ≡ host_of (0 ∷ 0 ∷ 5 ∷ 6 ∷ 7 ∷ 2 ∷ 3 ∷ 10 ∷ []) 56
@@ -369,7 +370,7 @@ unfolding ran
 to_self_counted = refl
 
 -- the items of an update move in written order
-abbrev there_and_back : List Call
+abbrev there_and_back : List (Call Leased)
 there_and_back = HostWrite 0x1000 (1 ∷ 2 ∷ []) ∷ enter_data_of (item (enter.Create true) (at 0x1000 2) ∷ []) ∷ update_of (item ToDevice (at 0x1000 1) ∷ item ToSelf (at 0x1000 2) ∷ []) ∷ []
 
 there_and_back_host : (ran there_and_back).world.state.host ≡ host_of (1 ∷ []) 63
@@ -382,7 +383,7 @@ there_and_back_bytes = refl
 
 -- ---- what is absent is refused, or passed over with `if_present`; what is partly present is refused with it too
 
-abbrev updates : List Call
+abbrev updates : List (Call Leased)
 updates = a 16 ∷ update_of (item ToDevice (at 0x1010 4) ∷ []) ∷ update_if_present_of (item ToDevice (at 0x1010 4) ∷ []) ∷ update_of (item ToSelf (at 0x1000 1) ∷ item ToSelf (at 0x1008 16) ∷ []) ∷ update_if_present_of (item ToSelf (at 0x1010 1) ∷ item ToSelf (at 0x1008 16) ∷ [])
     ∷ update_if_present_of (item ToSelf (at 0x1000 65) ∷ []) ∷ update_of (item ToSelf (at 0x1020 0) ∷ []) ∷ []
 
@@ -390,7 +391,7 @@ updates_refused : (ran updates).refused ≡ None ∷ Some (NotPresent 0) ∷ Non
 unfolding ran
 updates_refused = refl
 
-abbrev passed_over : List Call
+abbrev passed_over : List (Call Leased)
 passed_over = HostWrite 0x1000 (1 ∷ []) ∷ update_if_present_of (item ToSelf (at 0x1000 1) ∷ []) ∷ []
 
 passed_over_told : (ran passed_over).world.history.trace ≡ HostWritten 0x1000 1 ∷ Updated (item ToSelf (at 0x1000 1) ∷ []) true None (did_of Nothing ∷ []) ∷ []
@@ -403,14 +404,14 @@ passed_over_host = refl
 
 -- ---- where the mapping ends, its section alone is copied out, and the whole mapping is gone
 
-abbrev copied_out : List Call
+abbrev copied_out : List (Call Leased)
 copied_out = HostWrite 0x1000 (1 ∷ 2 ∷ 3 ∷ 4 ∷ []) ∷ a 4 ∷ HostWrite 0x1000 (5 ∷ 6 ∷ 7 ∷ 8 ∷ []) ∷ exit_data_of (item exit.Copyout (at 0x1001 2) ∷ []) ∷ []
 
 copied_out_host : (ran copied_out).world.state.host ≡ host_of (5 ∷ 2 ∷ 3 ∷ 8 ∷ []) 60
 unfolding ran
 copied_out_host = refl
 
-copied_out_records : (ran copied_out).world.state.records ≡ record { ranges = []; blocks = []; attached = []; births = 1; queues = new_queues }
+copied_out_records : (ran copied_out).world.state.records ≡ record { ranges = []; blocks = []; attached = []; births = 1; queues = new_queues; loans = [] }
 unfolding ran
 copied_out_records = refl
 
@@ -419,14 +420,14 @@ unfolding ran
 copied_out_memories = refl
 
 -- where the counter stays above zero nothing is copied
-abbrev still_mapped : List Call
+abbrev still_mapped : List (Call Leased)
 still_mapped = HostWrite 0x1000 (1 ∷ 2 ∷ []) ∷ a 2 ∷ a 2 ∷ HostWrite 0x1000 (5 ∷ 6 ∷ []) ∷ exit_data_of (item exit.Copyout (at 0x1000 2) ∷ []) ∷ []
 
 still_mapped_host : (ran still_mapped).world.state.host ≡ host_of (5 ∷ 6 ∷ []) 62
 unfolding ran
 still_mapped_host = refl
 
-still_mapped_records : (ran still_mapped).world.state.records ≡ record { ranges = range (at 0x1000 2) 1 0 1 ∷ []; blocks = block 1 0x1_0000_0000 2 ∷ []; attached = []; births = 1; queues = new_queues }
+still_mapped_records : (ran still_mapped).world.state.records ≡ record { ranges = range (at 0x1000 2) 1 0 1 ∷ []; blocks = block 1 0x1_0000_0000 2 ∷ []; attached = []; births = 1; queues = new_queues; loans = [] }
 unfolding ran
 still_mapped_records = refl
 

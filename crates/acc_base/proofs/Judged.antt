@@ -18,7 +18,7 @@ use Rattle.acc_base.specs.declared.tasks.Task.{Task}
 use Rattle.acc_base.specs.declared.tasks.Task.TheVariants.{Enter, Leave, Exit, Move}
 use Rattle.acc_base.specs.declared.events.Step.{Step}
 use Rattle.acc_base.specs.declared.events.Step.TheVariants.{Nothing, Counted, Born, Dropped, Moved}
-use Rattle.acc_base.specs.declared.faults.Fault.TheVariants.{CounterFull}
+use Rattle.acc_base.specs.declared.faults.Fault.TheVariants.{CounterFull, Lent}
 use Rattle.acc_base.specs.Results.{◌>>◌, refuse_if}
 use Rattle.acc_base.specs.Limits.{Limits}
 use Rattle.acc_base.specs.Section.{is_empty, is_within, host_memory}
@@ -27,8 +27,10 @@ use Rattle.acc_base.specs.Ranges.{where_is, range_of, counter_of, dynamic_of, en
 use Rattle.acc_base.specs.Blocks.{rounded, place_for}
 use Rattle.acc_base.specs.Clauses.{in_host, pointer_checked, born_at, enter_absent, enter_row, leave_row, exit_row, move_row}
 use Rattle.acc_base.specs.Tasks.{section_of, pointer_of, queue_of, recounted, checked}
+use Rattle.acc_base.specs.declared.loans.Loan.{Loan}
+use Rattle.acc_base.specs.Loans.{is_lent, not_lent}
 use Rattle.acc_base.specs.Transfers.{transfer_of, room_for}
-use Rattle.acc_base.specs.Steps.{judge_row, judge_step}
+use Rattle.acc_base.specs.Steps.{judge_row, block_detached, block_needed, judge_step}
 use Rattle.acc_base.proofs.Results.{chosen, bind_ok, then_ok, ok_same, refused_not, equal_self}
 use Rattle.acc_base.proofs.Elements.{find_passes, find_none}
 use Rattle.acc_base.proofs.Where.{IsInsideOf, inside_says, absent_says}
@@ -215,18 +217,31 @@ row_says l n (Move if_present item queue) w step e =
     let both : (in_host l n item.section ≡ Ok tt) × (move_row (where_is item.section w.ranges) if_present n ≡ Ok step) = then_ok _ _ step e in
     moved_says l if_present item queue n w step (where_is item.section w.ranges) refl both.0 both.1
 
--- what the judgement of a step says of the clause tables, and of the queue of its transfer
+-- the block that a step needs is not lent, and the queue of its transfer has room for it
+pub record IsStepFree (l : Limits) (task : Task) (step : Step) (w : Records) : Type 0 where
+  pub needed : not_lent (block_needed task step) w.loans ≡ Ok tt
+  pub room : room_for l.queue_cap (queue_of task) (transfer_of task step w.ranges) w.queues ≡ Ok tt
+
+-- what the judgement of a step says of the clause tables, of the block in which it detaches a pointer, and of what it needs
 pub record IsJudgedStep (l : Limits) (n : ℕ) (task : Task) (w : Records) (step : Step) : Type 0 where
   pub row : judge_row l n task w ≡ Ok step
-  pub room : room_for l.queue_cap (queue_of task) (transfer_of task step w.ranges) w.queues ≡ Ok tt
+  pub detached : not_lent (block_detached task step w) w.loans ≡ Ok tt
+  pub free : IsStepFree l task step w
 
 pub step_judged : (l : Limits) (n : ℕ) (task : Task) (w : Records) (step : Step) → judge_step l n task w ≡ Ok step → IsJudgedStep l n task w step
 unfolding judge_step
 step_judged l n task w step e =
-    let first : (x : Step) × (judge_row l n task w ≡ Ok x) × ((room_for l.queue_cap (queue_of task) (transfer_of task x w.ranges) w.queues >> Ok x) ≡ Ok step)
-    = bind_ok (judge_row l n task w) (λ x. room_for l.queue_cap (queue_of task) (transfer_of task x w.ranges) w.queues >> Ok x) step e in
-    let second : (room_for l.queue_cap (queue_of task) (transfer_of task first.0 w.ranges) w.queues ≡ Ok tt) × (Ok first.0 ≡ Ok step) = then_ok _ _ step first.2 in
-    subst (IsJudgedStep l n task w) (ok_same _ _ second.1) (record { row = first.1; room = second.0 })
+    let first : (x : Step) × (judge_row l n task w ≡ Ok x) × ((not_lent (block_detached task x w) w.loans >> (not_lent (block_needed task x) w.loans >> (room_for l.queue_cap (queue_of task) (transfer_of task x w.ranges) w.queues >> Ok x))) ≡ Ok step)
+    = bind_ok (judge_row l n task w) (λ x. not_lent (block_detached task x w) w.loans >> (not_lent (block_needed task x) w.loans >> (room_for l.queue_cap (queue_of task) (transfer_of task x w.ranges) w.queues >> Ok x))) step e in
+    let x : Step = first.0 in
+    let second : (not_lent (block_detached task x w) w.loans ≡ Ok tt) × ((not_lent (block_needed task x) w.loans >> (room_for l.queue_cap (queue_of task) (transfer_of task x w.ranges) w.queues >> Ok x)) ≡ Ok step) = then_ok _ _ step first.2 in
+    let third : (not_lent (block_needed task x) w.loans ≡ Ok tt) × ((room_for l.queue_cap (queue_of task) (transfer_of task x w.ranges) w.queues >> Ok x) ≡ Ok step) = then_ok _ _ step second.1 in
+    let fourth : (room_for l.queue_cap (queue_of task) (transfer_of task x w.ranges) w.queues ≡ Ok tt) × (Ok x ≡ Ok step) = then_ok _ _ step third.1 in
+    subst (IsJudgedStep l n task w) (ok_same _ _ fourth.1) (record { row = first.1; detached = second.0; free = record { needed = third.0; room = fourth.0 } })
+
+-- a block that must not be lent is not
+pub not_lent_says : (block : ℕ) (loans : List Loan) → not_lent (Some block) loans ≡ Ok tt → is_lent block loans ≡ false
+not_lent_says block loans e = refused_not (is_lent block loans) (Lent block) e
 
 pub task_says : (l : Limits) (n : ℕ) (task : Task) (w : Records) (step : Step) → judge_step l n task w ≡ Ok step → IsJudgedTo l task step w
 task_says l n task w step e = row_says l n task w step (step_judged l n task w step e).row

@@ -4,6 +4,7 @@ use Rattle.std.specs.Prelude.{◌==◌, filter, not}
 use Rattle.std.specs.List.{AllByRecursion, AllZip, list_any}
 use Rattle.std.proofs.lemmas.Bool.Decides.{nat_tests}
 use Rattle.acc_base.specs.declared.mappings.Block.{Block}
+use Rattle.acc_base.specs.declared.loans.Loan.{Loan}
 use Rattle.acc_base.specs.Records.{Memory}
 use Rattle.acc_base.specs.Blocks.{without_block}
 use Rattle.acc_base.specs.Bytes.{memories_kept}
@@ -21,13 +22,13 @@ or_true : (x y : Bool) → y ≡ true → (x || y) ≡ true
 or_true true y e = refl
 or_true false y e = e
 
-owners_there : (ms : List Memory) (bs : List Block) → AllZip IsMemoryOf ms bs → AllByRecursion (λ m. has bs m.block ≡ true) ms
-owners_there [] [] h = tt
-owners_there [] (b ∷ bs) h = absurd h
-owners_there (m ∷ ms) [] h = absurd h
-owners_there (m ∷ ms) (b ∷ bs) h = (
+owners_there : (ls : List Loan) (ms : List Memory) (bs : List Block) → AllZip (IsMemoryOf ls) ms bs → AllByRecursion (λ m. has bs m.block ≡ true) ms
+owners_there ls [] [] h = tt
+owners_there ls [] (b ∷ bs) h = absurd h
+owners_there ls (m ∷ ms) [] h = absurd h
+owners_there ls (m ∷ ms) (b ∷ bs) h = (
   (let e : (b.number == m.block) ≡ true = rw h.0.block (equal_self b.number) in rw e),
-  AllByRecursion-weaker (λ x. has bs x.block ≡ true) (λ x. has (b ∷ bs) x.block ≡ true) ms (λ x e. or_true (b.number == x.block) (has bs x.block) e) (owners_there ms bs h.1),
+  AllByRecursion-weaker (λ x. has bs x.block ≡ true) (λ x. has (b ∷ bs) x.block ≡ true) ms (λ x e. or_true (b.number == x.block) (has bs x.block) e) (owners_there ls ms bs h.1),
 )
 
 filter-all : {X : Type 0} (p : X → Bool) (xs : List X) → AllByRecursion (λ x. p x ≡ true) xs → filter p xs ≡ xs
@@ -35,8 +36,8 @@ filter-all p [] h = refl
 filter-all p (x ∷ xs) h = rw h.0 (ap (λ ys. x ∷ ys) (filter-all p xs h.1))
 
 -- no block is gone, so no memory is
-pub memories_kept-same : (ms : List Memory) (bs : List Block) → AllZip IsMemoryOf ms bs → memories_kept bs ms ≡ ms
-memories_kept-same ms bs h = filter-all (λ m. has bs m.block) ms (owners_there ms bs h)
+pub memories_kept-same : (ls : List Loan) (ms : List Memory) (bs : List Block) → AllZip (IsMemoryOf ls) ms bs → memories_kept bs ms ≡ ms
+memories_kept-same ls ms bs h = filter-all (λ m. has bs m.block) ms (owners_there ls ms bs h)
 
 has-without : (k n : ℕ) (blocks : List Block) → has (without_block k blocks) n ≡ (not (n == k) && has blocks n)
 has-without k n [] = go (n == k)
@@ -64,6 +65,6 @@ and_unit true = refl
 and_unit false = refl
 
 -- one block is gone, and its memory with it
-pub memories_kept-without : (k : ℕ) (ms : List Memory) (bs : List Block) → AllZip IsMemoryOf ms bs → memories_kept (without_block k bs) ms ≡ filter (λ m. not (m.block == k)) ms
-memories_kept-without k ms bs h = filter-same (λ m. has (without_block k bs) m.block) (λ m. not (m.block == k)) ms
-    (AllByRecursion-weaker (λ m. has bs m.block ≡ true) (λ m. has (without_block k bs) m.block ≡ not (m.block == k)) ms (λ m there. has-without k m.block bs ∙ (ap (λ t. not (m.block == k) && t) there ∙ and_unit (not (m.block == k)))) (owners_there ms bs h))
+pub memories_kept-without : (ls : List Loan) (k : ℕ) (ms : List Memory) (bs : List Block) → AllZip (IsMemoryOf ls) ms bs → memories_kept (without_block k bs) ms ≡ filter (λ m. not (m.block == k)) ms
+memories_kept-without ls k ms bs h = filter-same (λ m. has (without_block k bs) m.block) (λ m. not (m.block == k)) ms
+    (AllByRecursion-weaker (λ m. has bs m.block ≡ true) (λ m. has (without_block k bs) m.block ≡ not (m.block == k)) ms (λ m there. has-without k m.block bs ∙ (ap (λ t. not (m.block == k) && t) there ∙ and_unit (not (m.block == k)))) (owners_there ls ms bs h))

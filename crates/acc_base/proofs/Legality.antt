@@ -12,10 +12,12 @@ use Rattle.acc_base.specs.declared.faults.Fault.TheVariants.{CounterFull}
 use Rattle.acc_base.specs.Results.{◌>>=◌, ◌>>◌, refuse_if}
 use Rattle.acc_base.specs.Limits.{Limits}
 use Rattle.acc_base.specs.Records.{Records, State}
-use Rattle.acc_base.specs.Attachments.{count_at}
+use Rattle.acc_base.specs.Attachments.{count_at, attach}
 use Rattle.acc_base.specs.Steps.{pointer_aimed, judge_step}
 use Rattle.acc_base.specs.Bytes.{step_state}
-use Rattle.acc_base.specs.Pointers.{host_pointer, device_pointer, block_with, target_of, attach_there, judge_attach}
+use Rattle.acc_base.specs.Loans.{is_lent, not_lent}
+use Rattle.acc_base.specs.Detaching.{block_with}
+use Rattle.acc_base.specs.Pointers.{host_pointer, device_pointer, target_of, attach_there, judge_attach}
 use Rattle.acc_base.specs.Acting.{attach_if, judge_aim, judge_task}
 use Rattle.acc_base.specs.History.{IsAttachLegal, IsAimLegal}
 use Rattle.acc_base.proofs.Results.{and_true, bind_ok, then_ok, ok_same, refused_not}
@@ -35,18 +37,20 @@ attach_legal l n pointer aim s e = go (block_with pointer s.records.ranges) refl
     legal x = IsAttachLegal l (Some pointer) x s.records
 
     here : (block target : ℕ) → block_with pointer s.records.ranges ≡ Some block → target_of pointer s ≡ Some target → (b : Bool) → (not (count_at block pointer s.records.attached == 0) && (device_pointer block pointer s == target)) ≡ b
-        → cond b (refuse_if (nat_le l.counter_max (count_at block pointer s.records.attached)) (CounterFull n) >> Ok (aims.Again pointer block)) (Ok (aims.New pointer block target)) ≡ Ok aim → legal aim
-    here block target at aims_at true t k =
+        → is_lent block s.records.loans ≡ false → cond b (refuse_if (nat_le l.counter_max (count_at block pointer s.records.attached)) (CounterFull n) >> Ok (aims.Again pointer block)) (Ok (aims.New pointer block target)) ≡ Ok aim → legal aim
+    here block target at aims_at true t free k =
         let both : (refuse_if (nat_le l.counter_max (count_at block pointer s.records.attached)) (CounterFull n) ≡ Ok tt) × (Ok (aims.Again pointer block) ≡ Ok aim) = then_ok _ _ aim k in
         let some : 0 < count_at block pointer s.records.attached = above_zero _ (and_true _ _ t).0 in
         let room : count_at block pointer s.records.attached < l.counter_max = below _ _ (refused_not _ _ both.0) in
-        subst legal (ok_same _ _ both.1) (refl, at, some, room)
-    here block target at aims_at false t k = subst legal (ok_same _ _ k) (refl, at, (host_pointer pointer s, aims_at))
+        subst legal (ok_same _ _ both.1) (refl, at, free, some, room)
+    here block target at aims_at false t free k = subst legal (ok_same _ _ k) (refl, at, free, (host_pointer pointer s, aims_at))
 
     go : (b : Option ℕ) → block_with pointer s.records.ranges ≡ b → (t : Option ℕ) → target_of pointer s ≡ t → attach_there l n pointer b t s ≡ Ok aim → legal aim
     go None at t aims_at k = subst legal (ok_same _ _ k) tt
     go (Some block) at None aims_at k = subst legal (ok_same _ _ k) tt
-    go (Some block) at (Some target) aims_at k = here block target at aims_at (not (count_at block pointer s.records.attached == 0) && (device_pointer block pointer s == target)) refl k
+    go (Some block) at (Some target) aims_at k =
+        let both : (not_lent (Some block) s.records.loans ≡ Ok tt) × (attach l.counter_max n block pointer target (device_pointer block pointer s) s.records.attached ≡ Ok aim) = then_ok _ _ aim k in
+        here block target at aims_at (not (count_at block pointer s.records.attached == 0) && (device_pointer block pointer s == target)) refl (refused_not _ _ both.0) both.1
 
 attach_if_legal : (l : Limits) (n : ℕ) (named : Option ℕ) (aim : Aim) (s : State) → attach_if l n named s ≡ Ok aim → IsAttachLegal l named aim s.records
 attach_if_legal l n None aim s e = subst (λ x. IsAttachLegal l None x s.records) (ok_same _ _ e) tt

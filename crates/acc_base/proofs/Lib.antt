@@ -8,7 +8,9 @@ pub mod Places
 pub mod Counting
 pub mod Judged
 pub mod Queued
+pub mod Lending
 pub mod Sound
+pub mod Loaned
 pub mod Puts
 pub mod Recounted
 pub mod SameMapping
@@ -29,3 +31,4 @@ mod RegionExamples
 mod PointerExamples
 mod AttachExamples
 mod QueueExamples
+mod LoanExamples

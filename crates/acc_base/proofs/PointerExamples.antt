@@ -8,11 +8,13 @@ use Rattle.acc_base.specs.declared.calls.Call.TheVariants.{HostWrite}
 use Rattle.acc_base.specs.declared.attachments.Aim.{Aim}
 use Rattle.acc_base.specs.declared.attachments.Aim.TheVariants as aims
 use Rattle.acc_base.specs.declared.faults.Fault.TheVariants.{OutOfHost, Misaligned, CounterFull}
+use Rattle.acc_base.specs.Loans.{Leased}
 use Rattle.acc_base.specs.Limits.{Limits}
 use Rattle.acc_base.specs.Records.{State}
 use Rattle.acc_base.specs.Calls.{World}
 use Rattle.acc_base.specs.Clauses.{pointer_checked}
-use Rattle.acc_base.specs.Pointers.{device_pointer, block_with, target_of, judge_attach, judge_detach, judge_release, aimed}
+use Rattle.acc_base.specs.Detaching.{block_with, judge_detach, judge_release}
+use Rattle.acc_base.specs.Pointers.{device_pointer, target_of, judge_attach, aimed}
 use Rattle.acc_base.proofs.Runs.{ran_in, ran_with, at, item, enter_data_of, exit_data_of, update_of, memory}
 
 abbrev limits : Limits
@@ -21,7 +23,7 @@ limits = record { host = 64; device = 64; regions = 3; tickets = 100; counter_ma
 -- ---- a pointer at 0x1008, in the range of its structure, and two targets
 
 -- the host's pointer is made to hold an address below 0x1100
-abbrev point_to : ℕ → Call
+abbrev point_to : ℕ → Call Leased
 point_to low = HostWrite 0x1008 (low ∷ 0x10 ∷ 0 ∷ 0 ∷ 0 ∷ 0 ∷ 0 ∷ 0 ∷ [])
 
 -- the structure and both targets are mapped, and the pointer holds the first target's address
@@ -33,7 +35,7 @@ abbrev start : State
 start = mapped.state
 
 -- what calls leave of a state
-after_calls : List Call → State → State
+after_calls : List (Call Leased) → State → State
 unfolding ran_in
 after_calls calls s = (ran_in calls (record mapped { state = s })).world.state
 
@@ -159,7 +161,7 @@ abbrev ones : List ℕ
 ones = replicate 8 0x11
 
 -- the host's structure is all new, and copied to the device
-abbrev copied_in : List Call
+abbrev copied_in : List (Call Leased)
 copied_in = HostWrite 0x1000 (ones ++ ones) ∷ update_of (item ToDevice (at 0x1000 16) ∷ []) ∷ []
 
 copied_in_bytes : (after_calls copied_in once).memories ≡ memory 1 (ones ++ 0x10 ∷ 0 ∷ 0 ∷ 0 ∷ 1 ∷ 0 ∷ 0 ∷ 0 ∷ []) ∷ memory 2 (replicate 16 0) ∷ memory 3 (replicate 16 0) ∷ []

@@ -1,7 +1,6 @@
 -- A task that was judged keeps the records sound, with what it puts into a queue.
-use Rattle.std.proofs.Common.{ℕ, ◌≡◌, ◌+◌, ◌-◌, ◌≤◌, refl, sym, ap, subst, Bool, true, false, cond, List, [], ◌∷◌, ◌++◌, Option, Some, None, Ok, arith, ◌<◌}
+use Rattle.std.proofs.Common.{ℕ, ◌≡◌, ◌+◌, ◌-◌, ◌≤◌, refl, ap, subst, Bool, true, false, cond, List, [], ◌∷◌, ◌++◌, Option, Some, None, Ok, arith, ◌<◌}
 use Rattle.std.specs.Prelude.{◌==◌, not, ◌||◌, is_some, unwrap_or, option_map, IfSome, ⊤}
-use Rattle.std.specs.List.{AllByRecursion}
 use Rattle.std.proofs.lemmas.Bool.Decides.{nat_tests}
 use Rattle.acc_base.specs.declared.items.Section.{Section}
 use Rattle.acc_base.specs.declared.mappings.Counter.TheVariants.{Structured, Dynamic}
@@ -20,41 +19,43 @@ use Rattle.acc_base.specs.Blocks.{block_at}
 use Rattle.acc_base.specs.Queues.{put, pins_of, queue_room}
 use Rattle.acc_base.specs.Clauses.{copies_in, is_copyout, is_to_self}
 use Rattle.acc_base.specs.Tasks.{section_of, queue_of, recounted}
+use Rattle.acc_base.specs.Loans.{not_lent}
+use Rattle.acc_base.specs.Steps.{block_needed}
 use Rattle.acc_base.specs.Transfers.{transfer_at, transfer_of, room_for, queues_after}
-use Rattle.acc_base.specs.Steps.{is_in_use, records_after_birth, records_after_end, with_range_changed, act_row, with_put, act_step, judge_step}
+use Rattle.acc_base.specs.Steps.{is_in_use, records_after_birth, with_range_changed, act_row, with_put, act_step, judge_step}
 use Rattle.acc_base.specs.Accounts.{IsMapped, IsTransferSound, AreRecordsSound}
 use Rattle.acc_base.proofs.Elements.{AllByRecursion-weaker, found_has}
 use Rattle.acc_base.proofs.Lookups.{at-own, at-none, at-push_new}
 use Rattle.acc_base.proofs.Where.{IsInsideOf, inside_says, absent_says}
-use Rattle.acc_base.proofs.Judged.{IsBirth, IsInRangeOf, IsJudgedTo, IsJudgedStep, step_judged, task_says}
+use Rattle.acc_base.proofs.Judged.{IsBirth, IsInRangeOf, IsJudgedTo, step_judged, task_says, IsStepFree, not_lent_says}
 use Rattle.acc_base.proofs.Queued.{pins-le_put, queues-put}
 use Rattle.acc_base.proofs.Sound.{KeepsPlace, block_of, number_of_block, recounted_keeps, counted_sound, dropped_sound, ended_sound, birth_sound, first_counted}
 
 -- ---- the clause tables
 
-row_sound : (l : Limits) (task : Task) (step : Step) (w : Records) → IsWithinBounds l → IsJudgedTo l task step w → AreRecordsSound l w → AreRecordsSound l (act_row task step w)
+row_sound : (l : Limits) (task : Task) (step : Step) (w : Records) → IsWithinBounds l → IsJudgedTo l task step w → not_lent (block_needed task step) w.loans ≡ Ok tt → AreRecordsSound l w → AreRecordsSound l (act_row task step w)
 unfolding act_row
-row_sound l task Nothing w bounds says h = h
-row_sound l (Enter counter item queue) (Counted k) w bounds says h = counted_sound l counter item queue k w h says
-row_sound l (Enter Structured item queue) (Born k p) w bounds says h = birth_sound l (risen Structured (bare_range (section_of (Enter Structured item queue)) k)) p w (first_counted l Structured (section_of (Enter Structured item queue)) k bounds) says h
-row_sound l (Enter Dynamic item queue) (Born k p) w bounds says h = birth_sound l (risen Dynamic (bare_range (section_of (Enter Dynamic item queue)) k)) p w (first_counted l Dynamic (section_of (Enter Dynamic item queue)) k bounds) says h
-row_sound l (Enter counter item queue) (Dropped k ended) w bounds says h = absurd says
-row_sound l (Enter counter item queue) (Moved k) w bounds says h = h
-row_sound l (Leave holding) (Counted k) w bounds says h = absurd says
-row_sound l (Leave holding) (Born k p) w bounds says h = absurd says
-row_sound l (Leave holding) (Dropped k true) w bounds says h = ended_sound l k w h
-row_sound l (Leave holding) (Dropped k false) w bounds says h = dropped_sound l (recounted (Leave holding)) k w (recounted_keeps (Leave holding)) (λ r. omega arith) (λ r. omega arith) h says.1
-row_sound l (Leave holding) (Moved k) w bounds says h = h
-row_sound l (Exit finalize item queue) (Counted k) w bounds says h = absurd says
-row_sound l (Exit finalize item queue) (Born k p) w bounds says h = absurd says
-row_sound l (Exit finalize item queue) (Dropped k true) w bounds says h = ended_sound l k w h
-row_sound l (Exit true item queue) (Dropped k false) w bounds says h = dropped_sound l (recounted (Exit true item queue)) k w (recounted_keeps (Exit true item queue)) (λ r. omega arith) (λ r. omega arith) h says.ended_is
-row_sound l (Exit false item queue) (Dropped k false) w bounds says h = dropped_sound l (recounted (Exit false item queue)) k w (recounted_keeps (Exit false item queue)) (λ r. omega arith) (λ r. omega arith) h says.ended_is
-row_sound l (Exit finalize item queue) (Moved k) w bounds says h = h
-row_sound l (Move if_present item queue) (Counted k) w bounds says h = absurd says
-row_sound l (Move if_present item queue) (Born k p) w bounds says h = absurd says
-row_sound l (Move if_present item queue) (Dropped k ended) w bounds says h = absurd says
-row_sound l (Move if_present item queue) (Moved k) w bounds says h = h
+row_sound l task Nothing w bounds says free h = h
+row_sound l (Enter counter item queue) (Counted k) w bounds says free h = counted_sound l counter item queue k w h says
+row_sound l (Enter Structured item queue) (Born k p) w bounds says free h = birth_sound l (risen Structured (bare_range (section_of (Enter Structured item queue)) k)) p w (first_counted l Structured (section_of (Enter Structured item queue)) k bounds) says h
+row_sound l (Enter Dynamic item queue) (Born k p) w bounds says free h = birth_sound l (risen Dynamic (bare_range (section_of (Enter Dynamic item queue)) k)) p w (first_counted l Dynamic (section_of (Enter Dynamic item queue)) k bounds) says h
+row_sound l (Enter counter item queue) (Dropped k ended) w bounds says free h = absurd says
+row_sound l (Enter counter item queue) (Moved k) w bounds says free h = h
+row_sound l (Leave holding) (Counted k) w bounds says free h = absurd says
+row_sound l (Leave holding) (Born k p) w bounds says free h = absurd says
+row_sound l (Leave holding) (Dropped k true) w bounds says free h = ended_sound l k w (not_lent_says k w.loans free) h
+row_sound l (Leave holding) (Dropped k false) w bounds says free h = dropped_sound l (recounted (Leave holding)) k w (recounted_keeps (Leave holding)) (λ r. omega arith) (λ r. omega arith) h says.1
+row_sound l (Leave holding) (Moved k) w bounds says free h = h
+row_sound l (Exit finalize item queue) (Counted k) w bounds says free h = absurd says
+row_sound l (Exit finalize item queue) (Born k p) w bounds says free h = absurd says
+row_sound l (Exit finalize item queue) (Dropped k true) w bounds says free h = ended_sound l k w (not_lent_says k w.loans free) h
+row_sound l (Exit true item queue) (Dropped k false) w bounds says free h = dropped_sound l (recounted (Exit true item queue)) k w (recounted_keeps (Exit true item queue)) (λ r. omega arith) (λ r. omega arith) h says.ended_is
+row_sound l (Exit false item queue) (Dropped k false) w bounds says free h = dropped_sound l (recounted (Exit false item queue)) k w (recounted_keeps (Exit false item queue)) (λ r. omega arith) (λ r. omega arith) h says.ended_is
+row_sound l (Exit finalize item queue) (Moved k) w bounds says free h = h
+row_sound l (Move if_present item queue) (Counted k) w bounds says free h = absurd says
+row_sound l (Move if_present item queue) (Born k p) w bounds says free h = absurd says
+row_sound l (Move if_present item queue) (Dropped k ended) w bounds says free h = absurd says
+row_sound l (Move if_present item queue) (Moved k) w bounds says free h = h
 
 -- ---- one transfer more in a queue
 
@@ -65,6 +66,7 @@ more_pins (Some x) m n le e = refl
 
 pub put_sound : (l : Limits) (q : ℕ) (t : Transfer) (w : Records) → IsTransferSound l w.blocks t → queue_room l.queue_cap q w.queues ≡ Ok tt → AreRecordsSound l w → AreRecordsSound l (record w { queues = put q t w.queues })
 put_sound l q t w sound room h = record {
+  loans = h.loans;
   ranges_apart = h.ranges_apart;
   blocks_apart = h.blocks_apart;
   one_block_each = record {
@@ -168,16 +170,16 @@ start_sound l (Move if_present item queue) k p w says h = absurd says
 
 -- ---- a task
 
--- a step that was judged, with room in its queue
-pub acted_sound : (l : Limits) (task : Task) (step : Step) (w : Records) → IsWithinBounds l → IsJudgedTo l task step w → room_for l.queue_cap (queue_of task) (transfer_of task step w.ranges) w.queues ≡ Ok tt → AreRecordsSound l w → AreRecordsSound l (act_step task step w)
+-- a step that was judged, of a block that is not lent, with free.room in its queue
+pub acted_sound : (l : Limits) (task : Task) (step : Step) (w : Records) → IsWithinBounds l → IsJudgedTo l task step w → IsStepFree l task step w → AreRecordsSound l w → AreRecordsSound l (act_step task step w)
 unfolding act_step act_row records_after_birth with_range_changed
-acted_sound l task Nothing w bounds says room h = put_if l (queue_of task) None w (none_put l w.blocks (queue_of task)) room h
-acted_sound l task (Counted k) w bounds says room h = put_if l (queue_of task) None (act_row task (Counted k) w) (none_put l w.blocks (queue_of task)) room (row_sound l task (Counted k) w bounds says h)
-acted_sound l task (Born k p) w bounds says room h = put_if l (queue_of task) (transfer_of task (Born k p) w.ranges) (act_row task (Born k p) w) (start_sound l task k p w says h) room (row_sound l task (Born k p) w bounds says h)
-acted_sound l task (Dropped k true) w bounds says room h = ended_sound l k (with_put task (Dropped k true) w) (put_if l (queue_of task) (transfer_of task (Dropped k true) w.ranges) w (end_sound l task k w says h) room h)
-acted_sound l task (Dropped k false) w bounds says room h = put_if l (queue_of task) None (act_row task (Dropped k false) w) (none_put l w.blocks (queue_of task)) room (row_sound l task (Dropped k false) w bounds says h)
-acted_sound l task (Moved k) w bounds says room h = put_if l (queue_of task) (transfer_of task (Moved k) w.ranges) w (moved_sound l task k w says h) room h
+acted_sound l task Nothing w bounds says free h = put_if l (queue_of task) None w (none_put l w.blocks (queue_of task)) free.room h
+acted_sound l task (Counted k) w bounds says free h = put_if l (queue_of task) None (act_row task (Counted k) w) (none_put l w.blocks (queue_of task)) free.room (row_sound l task (Counted k) w bounds says free.needed h)
+acted_sound l task (Born k p) w bounds says free h = put_if l (queue_of task) (transfer_of task (Born k p) w.ranges) (act_row task (Born k p) w) (start_sound l task k p w says h) free.room (row_sound l task (Born k p) w bounds says free.needed h)
+acted_sound l task (Dropped k true) w bounds says free h = ended_sound l k (with_put task (Dropped k true) w) (not_lent_says k w.loans free.needed) (put_if l (queue_of task) (transfer_of task (Dropped k true) w.ranges) w (end_sound l task k w says h) free.room h)
+acted_sound l task (Dropped k false) w bounds says free h = put_if l (queue_of task) None (act_row task (Dropped k false) w) (none_put l w.blocks (queue_of task)) free.room (row_sound l task (Dropped k false) w bounds says free.needed h)
+acted_sound l task (Moved k) w bounds says free h = put_if l (queue_of task) (transfer_of task (Moved k) w.ranges) w (moved_sound l task k w says h) free.room h
 
 -- a task that was judged keeps the records sound
 pub judged_sound : (l : Limits) (n : ℕ) (task : Task) (step : Step) (w : Records) → IsWithinBounds l → judge_step l n task w ≡ Ok step → AreRecordsSound l w → AreRecordsSound l (act_step task step w)
-judged_sound l n task step w bounds e h = acted_sound l task step w bounds (task_says l n task w step e) (step_judged l n task w step e).room h
+judged_sound l n task step w bounds e h = acted_sound l task step w bounds (task_says l n task w step e) (step_judged l n task w step e).free h

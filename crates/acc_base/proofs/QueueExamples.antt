@@ -1,5 +1,5 @@
 -- Transfers that wait in queues, and blocks that outlive their mapping, with values worked out by hand.
-use Rattle.std.proofs.Common.{ℕ, ◌≡◌, refl, List, [], ◌∷◌, ◌++◌, length, Option, Some, None, true, false, replicate}
+use Rattle.std.proofs.Common.{ℕ, ◌≡◌, refl, List, [], ◌∷◌, ◌++◌, Some, None, true, false, replicate}
 use Rattle.acc_base.specs.declared.items.Section.{Section}
 use Rattle.acc_base.specs.declared.items.Item.{Item}
 use Rattle.acc_base.specs.declared.items.EnterClause.{EnterClause}
@@ -11,11 +11,10 @@ use Rattle.acc_base.specs.declared.items.UpdateClause.TheVariants.{ToSelf, ToDev
 use Rattle.acc_base.specs.declared.directives.Directive.TheVariants.{EnterData, ExitData, Update, Wait, Step}
 use Rattle.acc_base.specs.declared.calls.Call.{Call}
 use Rattle.acc_base.specs.declared.calls.Call.TheVariants.{Do, HostWrite}
-use Rattle.acc_base.specs.declared.mappings.Ended.{Ended}
-use Rattle.acc_base.specs.declared.transfers.Transfer.{Transfer}
 use Rattle.acc_base.specs.declared.events.Step.TheVariants.{Born, Dropped, Moved}
 use Rattle.acc_base.specs.declared.events.Event.TheVariants.{EnteredData, ExitedData, Updated, Waited, Stepped, HostWritten}
 use Rattle.acc_base.specs.declared.faults.Fault.TheVariants.{NoQueue, NotPresent, QueueFull}
+use Rattle.acc_base.specs.Loans.{Leased}
 use Rattle.acc_base.specs.Limits.{Limits}
 use Rattle.acc_base.specs.Queues.{new_queues, queue_at}
 use Rattle.acc_base.specs.Steps.{did_of}
@@ -27,22 +26,22 @@ abbrev limits : Limits
 limits = record { host = 64; device = 64; regions = 1; tickets = 100; counter_max = 4; queue_cap = 2; trace_cap = 100 }
 
 -- directives with `async`
-abbrev enter_later : ℕ → List (Item EnterClause) → Call
+abbrev enter_later : ℕ → List (Item EnterClause) → Call Leased
 enter_later q items = Do (EnterData items (Some q))
 
-abbrev exit_later : ℕ → List (Item ExitClause) → Call
+abbrev exit_later : ℕ → List (Item ExitClause) → Call Leased
 exit_later q items = Do (ExitData items false (Some q))
 
-abbrev update_later : ℕ → List (Item UpdateClause) → Call
+abbrev update_later : ℕ → List (Item UpdateClause) → Call Leased
 update_later q items = Do (Update items false (Some q))
 
-abbrev wait_all : Call
+abbrev wait_all : Call Leased
 wait_all = Do (Wait None)
 
-abbrev wait_for : ℕ → Call
+abbrev wait_for : ℕ → Call Leased
 wait_for q = Do (Wait (Some q))
 
-abbrev step : ℕ → Call
+abbrev step : ℕ → Call Leased
 step q = Do (Step q)
 
 abbrev array : Section
@@ -52,12 +51,12 @@ abbrev byte : Section
 byte = at 0x1000 1
 
 -- the host writes the first byte
-abbrev first_is : ℕ → Call
+abbrev first_is : ℕ → Call Leased
 first_is b = HostWrite 0x1000 (b ∷ [])
 
 -- ---- a copy to host memory is put into a queue, the mapping ends, and the section is mapped again
 
-abbrev ended : List Call
+abbrev ended : List (Call Leased)
 ended = first_is 7 ∷ enter_data_of (item enter.Copyin array ∷ []) ∷ first_is 9 ∷ exit_later 1 (item exit.Copyout array ∷ []) ∷ enter_data_of (item (enter.Create false) array ∷ []) ∷ []
 
 -- the first block stays, so the new one lies behind it
@@ -86,7 +85,7 @@ unfolding ran_with
 ended_host = refl
 
 -- then the copy is made, and the block is given back with it
-abbrev waited : List Call
+abbrev waited : List (Call Leased)
 waited = ended ++ wait_for 1 ∷ []
 
 waited_host : (ran_with limits waited).world.state.host ≡ host_of (7 ∷ []) 63
@@ -113,7 +112,7 @@ waited_told = refl
 
 -- ---- a transfer uses the bytes of the moment in which it is made
 
-abbrev put_twice : List Call
+abbrev put_twice : List (Call Leased)
 put_twice = first_is 1 ∷ enter_data_of (item enter.Copyin byte ∷ []) ∷ update_later 0 (item ToSelf byte ∷ item ToDevice byte ∷ []) ∷ first_is 2 ∷ update_of (item ToDevice byte ∷ []) ∷ first_is 3 ∷ []
 
 put_twice_host : (ran_with limits put_twice).world.state.host ≡ host_of (3 ∷ []) 63
@@ -121,7 +120,7 @@ unfolding ran_with
 put_twice_host = refl
 
 -- the first one brings what the device has then
-abbrev stepped_once : List Call
+abbrev stepped_once : List (Call Leased)
 stepped_once = put_twice ++ step 0 ∷ []
 
 stepped_once_host : (ran_with limits stepped_once).world.state.host ≡ host_of (2 ∷ []) 63
@@ -129,7 +128,7 @@ unfolding ran_with
 stepped_once_host = refl
 
 -- the second one what the host has then
-abbrev stepped_twice : List Call
+abbrev stepped_twice : List (Call Leased)
 stepped_twice = stepped_once ++ step 0 ∷ []
 
 stepped_twice_bytes : (ran_with limits stepped_twice).world.state.memories ≡ memory 1 (2 ∷ []) ∷ []
@@ -149,7 +148,7 @@ stepped_told = refl
 
 -- ---- the limit of a queue, where earlier items of the same directive count, and other queues do not
 
-abbrev three_put : List Call
+abbrev three_put : List (Call Leased)
 three_put = enter_data_of (item enter.Copyin byte ∷ []) ∷ update_later 4 (item ToSelf byte ∷ item ToSelf byte ∷ item ToSelf byte ∷ []) ∷ update_later 4 (item ToSelf byte ∷ item ToSelf byte ∷ []) ∷ update_later 4 (item ToSelf byte ∷ []) ∷ update_later 5 (item ToSelf byte ∷ []) ∷ []
 
 three_put_refused : (ran_with limits three_put).refused ≡ None ∷ Some (QueueFull 4) ∷ None ∷ Some (QueueFull 4) ∷ None ∷ []
@@ -157,7 +156,7 @@ unfolding ran_with
 three_put_refused = refl
 
 -- an item that moves nothing needs no room
-abbrev full_queue : List Call
+abbrev full_queue : List (Call Leased)
 full_queue = enter_data_of (item enter.Copyin byte ∷ []) ∷ update_later 4 (item ToSelf byte ∷ item ToSelf byte ∷ []) ∷ enter_later 4 (item enter.Copyin byte ∷ []) ∷ exit_later 4 (item exit.Copyout byte ∷ []) ∷ exit_later 4 (item exit.Copyout byte ∷ []) ∷ []
 
 full_queue_refused : (ran_with limits full_queue).refused ≡ None ∷ None ∷ None ∷ None ∷ Some (QueueFull 4) ∷ []
@@ -173,7 +172,7 @@ no_queue = refl
 
 -- ---- a wait for all queues goes from the first to the last: the device gets the host's byte before the host gets the device's
 
-abbrev two_queues : List Call
+abbrev two_queues : List (Call Leased)
 two_queues = first_is 6 ∷ enter_data_of (item enter.Copyin byte ∷ []) ∷ first_is 5 ∷ update_later 3 (item ToSelf byte ∷ []) ∷ update_later 1 (item ToDevice byte ∷ []) ∷ wait_all ∷ []
 
 two_queues_host : (ran_with limits two_queues).world.state.host ≡ host_of (5 ∷ []) 63
@@ -193,7 +192,7 @@ two_queues_told = refl
 -- ---- a new block that is to be filled later, and which is given back before
 
 -- it is filled with 0xA5 till then
-abbrev filled_later : List Call
+abbrev filled_later : List (Call Leased)
 filled_later = first_is 8 ∷ enter_later 2 (item enter.Copyin byte ∷ []) ∷ []
 
 filled_later_bytes : (ran_with limits filled_later).world.state.memories ≡ memory 1 (0xa5 ∷ []) ∷ []
@@ -201,7 +200,7 @@ unfolding ran_with
 filled_later_bytes = refl
 
 -- its transfer keeps it when its mapping ends
-abbrev deleted_before : List Call
+abbrev deleted_before : List (Call Leased)
 deleted_before = filled_later ++ exit_data_of (item exit.Delete byte ∷ []) ∷ []
 
 deleted_before_bytes : (ran_with limits deleted_before).world.state.memories ≡ memory 1 (0xa5 ∷ []) ∷ []
@@ -214,7 +213,7 @@ deleted_before_gone = refl
 
 -- ---- a block that has ended keeps its attached pointers till it is given back, and no transfer touches their bytes
 
-abbrev pointed : List Call
+abbrev pointed : List (Call Leased)
 pointed = HostWrite 0x1000 (0x10 ∷ 0x10 ∷ []) ∷ enter_data_of (item enter.Copyin (at 0x1000 16) ∷ item enter.Copyin (at 0x1010 8) ∷ []) ∷ enter_data_of (item enter.Attach (at 0x1000 8) ∷ [])
     ∷ exit_later 0 (item exit.Copyout (at 0x1000 16) ∷ []) ∷ HostWrite 0x1000 (replicate 16 1) ∷ []
 

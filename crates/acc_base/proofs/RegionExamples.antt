@@ -11,6 +11,7 @@ use Rattle.acc_base.specs.declared.calls.Call.TheVariants.{HostWrite}
 use Rattle.acc_base.specs.declared.events.Event.TheVariants.{Entered, Left, EnteredData, ExitedData}
 use Rattle.acc_base.specs.declared.events.Step.TheVariants.{Nothing, Counted, Born, Dropped}
 use Rattle.acc_base.specs.declared.faults.Fault.TheVariants.{NoTickets, NoAllowance, TooManyItems, TraceFull, OutOfHost, PartlyPresent, NotPresent, CounterFull, DeviceFull, NoRegion}
+use Rattle.acc_base.specs.Loans.{Leased}
 use Rattle.acc_base.specs.Limits.{Limits}
 use Rattle.acc_base.specs.Queues.{new_queues}
 use Rattle.acc_base.specs.Records.{new_state}
@@ -29,25 +30,25 @@ a = at 0x1000 16
 abbrev four : Section
 four = at 0x1000 4
 
-abbrev wrote_first : Call
+abbrev wrote_first : Call Leased
 wrote_first = HostWrite 0x1000 (1 ∷ 2 ∷ 3 ∷ 4 ∷ [])
 
-abbrev wrote_then : Call
+abbrev wrote_then : Call Leased
 wrote_then = HostWrite 0x1000 (5 ∷ 6 ∷ 7 ∷ 8 ∷ [])
 
-abbrev enter_one : RegionClause → Section → Call
+abbrev enter_one : RegionClause → Section → Call Leased
 enter_one clause s = enter_of (item clause s ∷ [])
 
 -- ---- a region that counted nothing undoes nothing, also where its section was mapped since
 
-abbrev mapped_later : List Call
+abbrev mapped_later : List (Call Leased)
 mapped_later = enter_one NoCreate a ∷ enter_one Copyin a ∷ exit_of 1 ∷ []
 
 mapped_later_ranges : (ran_with limits mapped_later).world.state.records.ranges ≡ range a 1 1 0 ∷ []
 unfolding ran_with
 mapped_later_ranges = refl
 
-mapped_later_register : (ran_with limits mapped_later).world.state.register ≡ record { regions = region 2 (holding Copyin a (Some 1) ∷ []) ∷ []; next = 3 }
+mapped_later_register : (ran_with limits mapped_later).world.state.register ≡ record { regions = region 2 (holding Copyin a (Some 1) ∷ []) ∷ []; next = 3; serial = 1 }
 unfolding ran_with
 mapped_later_register = refl
 
@@ -56,7 +57,7 @@ unfolding ran_with
 mapped_later_in = refl
 
 -- the region that counted it ends the mapping, and is open no longer
-abbrev mapped_later_left : List Call
+abbrev mapped_later_left : List (Call Leased)
 mapped_later_left = mapped_later ++ exit_of 2 ∷ exit_of 2 ∷ []
 
 mapped_later_left_refused : (ran_with limits mapped_later_left).refused ≡ None ∷ None ∷ None ∷ None ∷ Some (NoRegion 2) ∷ []
@@ -68,11 +69,11 @@ mapped_later_left_told : (ran_with limits mapped_later_left).world.history.trace
 unfolding ran_with
 mapped_later_left_told = refl
 
-mapped_later_left_records : (ran_with limits mapped_later_left).world.state.records ≡ record { ranges = []; blocks = []; attached = []; births = 1; queues = new_queues }
+mapped_later_left_records : (ran_with limits mapped_later_left).world.state.records ≡ record { ranges = []; blocks = []; attached = []; births = 1; queues = new_queues; loans = [] }
 unfolding ran_with
 mapped_later_left_records = refl
 
-mapped_later_left_register : (ran_with limits mapped_later_left).world.state.register ≡ record { regions = []; next = 3 }
+mapped_later_left_register : (ran_with limits mapped_later_left).world.state.register ≡ record { regions = []; next = 3; serial = 1 }
 unfolding ran_with
 mapped_later_left_register = refl
 
@@ -81,14 +82,14 @@ unfolding ran_with
 mapped_later_left_in = refl
 
 -- a `no_create` of a mapped section counts, and where it falls last the mapping ends
-abbrev counted_without_create : List Call
+abbrev counted_without_create : List (Call Leased)
 counted_without_create = enter_one Copyin a ∷ enter_one NoCreate (at 0x1004 4) ∷ exit_of 1 ∷ []
 
 counted_without_create_ranges : (ran_with limits counted_without_create).world.state.records.ranges ≡ range a 1 1 0 ∷ []
 unfolding ran_with
 counted_without_create_ranges = refl
 
-counted_without_create_left : (ran_with limits (counted_without_create ++ exit_of 2 ∷ [])).world.state.records ≡ record { ranges = []; blocks = []; attached = []; births = 1; queues = new_queues }
+counted_without_create_left : (ran_with limits (counted_without_create ++ exit_of 2 ∷ [])).world.state.records ≡ record { ranges = []; blocks = []; attached = []; births = 1; queues = new_queues; loans = [] }
 unfolding ran_with
 counted_without_create_left = refl
 
@@ -115,7 +116,7 @@ unfolding ran_with
 entered_copies = refl
 
 -- a present section is counted whatever the clause, and no byte of its block changes
-abbrev entered_present : List Call
+abbrev entered_present : List (Call Leased)
 entered_present = wrote_first ∷ enter_data_of (item enter.Copyin four ∷ []) ∷ wrote_then
     ∷ enter_of (item Copy four ∷ item Copyin four ∷ item (Copyout true) four ∷ item (Create true) four ∷ item NoCreate four ∷ item Present four ∷ []) ∷ []
 
@@ -162,7 +163,7 @@ unfolding ran_with
 left_create = refl
 
 -- while the dynamic counter is above zero nothing is copied, and the mapping stays
-abbrev left_while_dynamic : List Call
+abbrev left_while_dynamic : List (Call Leased)
 left_while_dynamic = wrote_first ∷ enter_one Copy four ∷ wrote_then ∷ enter_data_of (item enter.Copyin four ∷ []) ∷ exit_of 1 ∷ []
 
 left_while_dynamic_host : (ran_with limits left_while_dynamic).world.state.host ≡ host_of (5 ∷ 6 ∷ 7 ∷ 8 ∷ []) 60
@@ -178,7 +179,7 @@ unfolding ran_with
 left_while_dynamic_memories = refl
 
 -- a region that only counted copies nothing out where the mapping stays, and the `copyout` that ends it does
-abbrev copied_out_last : List Call
+abbrev copied_out_last : List (Call Leased)
 copied_out_last = wrote_first ∷ enter_data_of (item enter.Copyin four ∷ []) ∷ wrote_then ∷ enter_one Copy four ∷ update_of (item ToDevice (at 0x1000 2) ∷ []) ∷ HostWrite 0x1000 (9 ∷ 9 ∷ 9 ∷ 9 ∷ []) ∷ exit_of 1 ∷ []
 
 copied_out_last_left : (ran_with limits copied_out_last).world.state.host ≡ host_of (9 ∷ 9 ∷ 9 ∷ 9 ∷ []) 60
@@ -190,14 +191,14 @@ unfolding ran_with
 copied_out_last_host = refl
 
 -- where a part of a range was named, its end copies that part out, and the whole range is mapped no longer
-abbrev part_copied : List Call
+abbrev part_copied : List (Call Leased)
 part_copied = wrote_first ∷ enter_data_of (item enter.Copyin four ∷ []) ∷ wrote_then ∷ enter_one Copy (at 0x1001 2) ∷ exit_data_of (item exit.Delete four ∷ []) ∷ exit_of 1 ∷ []
 
 part_copied_host : (ran_with limits part_copied).world.state.host ≡ host_of (5 ∷ 2 ∷ 3 ∷ 8 ∷ []) 60
 unfolding ran_with
 part_copied_host = refl
 
-part_copied_records : (ran_with limits part_copied).world.state.records ≡ record { ranges = []; blocks = []; attached = []; births = 1; queues = new_queues }
+part_copied_records : (ran_with limits part_copied).world.state.records ≡ record { ranges = []; blocks = []; attached = []; births = 1; queues = new_queues; loans = [] }
 unfolding ran_with
 part_copied_records = refl
 
@@ -207,7 +208,7 @@ part_copied_memories = refl
 
 -- ---- exit acts from the last item to the first: the first one ends the mapping, and copies out all four bytes
 
-abbrev last_to_first : List Call
+abbrev last_to_first : List (Call Leased)
 last_to_first = wrote_first ∷ enter_of (item Copy four ∷ item Copy (at 0x1001 2) ∷ []) ∷ wrote_then ∷ exit_of 1 ∷ []
 
 last_to_first_host : (ran_with limits last_to_first).world.state.host ≡ host_of (1 ∷ 2 ∷ 3 ∷ 4 ∷ []) 60
@@ -226,11 +227,11 @@ unfolding ran_with
 last_to_first_without_copy = refl
 
 -- of three items the middle one counted nothing
-abbrev three_held : List Call
+abbrev three_held : List (Call Leased)
 three_held = enter_of (item (Create false) (at 0x1000 2) ∷ item NoCreate (at 0x1020 2) ∷ item (Create false) (at 0x1010 2) ∷ []) ∷ []
 
 three_held_register : (ran_with limits three_held).world.state.register
-    ≡ record { regions = region 1 (holding (Create false) (at 0x1000 2) (Some 1) ∷ holding NoCreate (at 0x1020 2) None ∷ holding (Create false) (at 0x1010 2) (Some 2) ∷ []) ∷ []; next = 2 }
+    ≡ record { regions = region 1 (holding (Create false) (at 0x1000 2) (Some 1) ∷ holding NoCreate (at 0x1020 2) None ∷ holding (Create false) (at 0x1010 2) (Some 2) ∷ []) ∷ []; next = 2; serial = 1 }
 unfolding ran_with
 three_held_register = refl
 
@@ -242,7 +243,7 @@ three_left_told = refl
 
 -- ---- `finalize` sets the dynamic counter to zero, and leaves the structured one
 
-abbrev finalized_inside : List Call
+abbrev finalized_inside : List (Call Leased)
 finalized_inside = wrote_first ∷ enter_data_of (item enter.Copyin four ∷ item enter.Copyin four ∷ item enter.Copyin four ∷ []) ∷ enter_one Present four ∷ wrote_then ∷ finalize_of (item exit.Copyout four ∷ item exit.Copyout four ∷ []) ∷ []
 
 finalized_inside_ranges : (ran_with limits finalized_inside).world.state.records.ranges ≡ range four 1 1 0 ∷ []
@@ -276,7 +277,7 @@ finalized_left_host : (ran_with limits (finalized_inside ++ exit_of 1 ∷ [])).w
 unfolding ran_with
 finalized_left_host = refl
 
-finalized_left_records : (ran_with limits (finalized_inside ++ exit_of 1 ∷ [])).world.state.records ≡ record { ranges = []; blocks = []; attached = []; births = 1; queues = new_queues }
+finalized_left_records : (ran_with limits (finalized_inside ++ exit_of 1 ∷ [])).world.state.records ≡ record { ranges = []; blocks = []; attached = []; births = 1; queues = new_queues; loans = [] }
 unfolding ran_with
 finalized_left_records = refl
 
@@ -287,7 +288,7 @@ only_structured = refl
 
 -- ---- sections of length zero: nothing of them is checked, and they do nothing
 
-abbrev empty_sections : List Call
+abbrev empty_sections : List (Call Leased)
 empty_sections = enter_of (item Present (at 0x1000 0) ∷ item Copy (at 0xffff_ffff 0) ∷ []) ∷ exit_of 1 ∷ []
 
 empty_sections_told : (ran_with limits empty_sections).world.history.trace ≡ Entered 1 (item Present (at 0x1000 0) ∷ item Copy (at 0xffff_ffff 0) ∷ []) (did_of Nothing ∷ did_of Nothing ∷ []) ∷ Left 1 (did_of Nothing ∷ did_of Nothing ∷ []) ∷ []
@@ -305,7 +306,7 @@ sixty_four_counted : (ran_with limits (enter_of (replicate 64 (item Copyin a)) �
 unfolding ran_with
 sixty_four_counted = refl
 
-sixty_four_left : (ran_with limits (enter_of (replicate 64 (item Copyin a)) ∷ exit_of 1 ∷ [])).world.state.records ≡ record { ranges = []; blocks = []; attached = []; births = 1; queues = new_queues }
+sixty_four_left : (ran_with limits (enter_of (replicate 64 (item Copyin a)) ∷ exit_of 1 ∷ [])).world.state.records ≡ record { ranges = []; blocks = []; attached = []; births = 1; queues = new_queues; loans = [] }
 unfolding ran_with
 sixty_four_left = refl
 
@@ -314,14 +315,14 @@ unfolding ran_with
 sixty_five_refused = refl
 
 -- the two counters have the limit each for itself, and a refused directive counts nothing
-abbrev counters_full : List Call
+abbrev counters_full : List (Call Leased)
 counters_full = enter_of (item Copyin a ∷ item Copyin a ∷ item Copyin a ∷ []) ∷ enter_of (item Copyin a ∷ item Copyin a ∷ []) ∷ enter_data_of (item enter.Copyin a ∷ item enter.Copyin a ∷ []) ∷ enter_one Present a ∷ enter_data_of (item enter.Copyin (at 0x1010 1) ∷ item enter.Copyin a ∷ []) ∷ []
 
 counters_full_refused : (ran_with (record limits { counter_max = 2 }) counters_full).refused ≡ Some (CounterFull 2) ∷ None ∷ None ∷ Some (CounterFull 0) ∷ Some (CounterFull 1) ∷ []
 unfolding ran_with
 counters_full_refused = refl
 
-counters_full_ranges : (ran_with (record limits { counter_max = 2 }) counters_full).world.state.records ≡ record { ranges = range a 1 2 2 ∷ []; blocks = block 1 0x1_0000_0000 16 ∷ []; attached = []; births = 1; queues = new_queues }
+counters_full_ranges : (ran_with (record limits { counter_max = 2 }) counters_full).world.state.records ≡ record { ranges = range a 1 2 2 ∷ []; blocks = block 1 0x1_0000_0000 16 ∷ []; attached = []; births = 1; queues = new_queues; loans = [] }
 unfolding ran_with
 counters_full_ranges = refl
 
@@ -331,19 +332,19 @@ three_of_two_left = refl
 
 -- ---- numbers of regions rise, and refused entries use none
 
-abbrev numbered : List Call
+abbrev numbered : List (Call Leased)
 numbered = enter_of [] ∷ enter_one Present a ∷ exit_of 1 ∷ enter_of [] ∷ enter_of [] ∷ exit_of 2 ∷ []
 
 numbered_told : (ran_with limits numbered).world.history.trace ≡ Entered 1 [] [] ∷ Left 1 [] ∷ Entered 2 [] [] ∷ Entered 3 [] [] ∷ Left 2 [] ∷ []
 unfolding ran_with
 numbered_told = refl
 
-numbered_register : (ran_with limits numbered).world.state.register ≡ record { regions = region 3 [] ∷ []; next = 4 }
+numbered_register : (ran_with limits numbered).world.state.register ≡ record { regions = region 3 [] ∷ []; next = 4; serial = 1 }
 unfolding ran_with
 numbered_register = refl
 
 -- two open regions are two
-both_open : (ran_with limits (enter_one Copyin a ∷ enter_one Present a ∷ [])).world.state.register ≡ record { regions = region 1 (holding Copyin a (Some 1) ∷ []) ∷ region 2 (holding Present a (Some 1) ∷ []) ∷ []; next = 3 }
+both_open : (ran_with limits (enter_one Copyin a ∷ enter_one Present a ∷ [])).world.state.register ≡ record { regions = region 1 (holding Copyin a (Some 1) ∷ []) ∷ region 2 (holding Present a (Some 1) ∷ []) ∷ []; next = 3; serial = 1 }
 unfolding ran_with
 both_open = refl
 
@@ -353,7 +354,7 @@ second_refused : (ran_with (record limits { regions = 1 }) (enter_of [] ∷ ente
 unfolding ran_with
 second_refused = refl
 
-abbrev all_wrong : List Call
+abbrev all_wrong : List (Call Leased)
 all_wrong = enter_of [] ∷ enter_of (replicate 65 (item Copyin (at 0 1))) ∷ exit_of 7 ∷ []
 
 no_ticket_first : (ran_with (record limits { regions = 1; tickets = 1; trace_cap = 1 }) all_wrong).refused ≡ None ∷ Some (NoTickets 0) ∷ Some (NoTickets 0) ∷ []

@@ -1,5 +1,5 @@
 -- A task that was judged keeps the records sound: ranges and blocks stay apart, each range has a block of its own, and no range has both counters zero.
-use Rattle.std.proofs.Common.{ℕ, zero, suc, ◌≡◌, ◌+◌, ◌%◌, ◌<◌, ◌≤◌, refl, sym, ◌∙◌, ap, subst, Bool, true, false, cond, List, [], ◌∷◌, ◌++◌, Option, Some, None, Ok, arith}
+use Rattle.std.proofs.Common.{ℕ, zero, suc, ◌≡◌, ◌+◌, ◌%◌, ◌<◌, ◌≤◌, refl, sym, ◌∙◌, ap, subst, Bool, true, false, cond, List, [], ◌∷◌, ◌++◌, Option, Some, None, arith}
 use Rattle.std.specs.Prelude.{◌⊎◌, ◌==◌, ◌&&◌, ◌||◌, not, nat_lt, nat_le, unwrap_or, option_map, is_some, length, replicate, IsSome, IfSome, ⊤}
 use Rattle.std.specs.List.{AllByRecursion, list_all}
 use Rattle.std.proofs.lemmas.Bool.Decides.{nat_tests}
@@ -21,10 +21,10 @@ use Rattle.acc_base.specs.Ranges.{range_of, counter_in, counter_of, with_range, 
 use Rattle.acc_base.specs.Blocks.{rounded, fits_at, is_clear_of, block_end, block_at, without_block}
 use Rattle.acc_base.specs.Attachments.{without_attachments}
 use Rattle.acc_base.specs.Queues.{new_queues, head_of, popped, pins_of}
-use Rattle.acc_base.specs.Tasks.{section_of, recounted}
+use Rattle.acc_base.specs.Tasks.{recounted}
 use Rattle.acc_base.specs.Steps.{is_in_use, released, records_after_birth, records_after_end, with_range_changed}
 use Rattle.acc_base.specs.Waits.{records_made, records_stepped, records_drained}
-use Rattle.acc_base.specs.Accounts.{EachPair, IsInHost, IsBelow, AreRangesApart, IsOnDevice, IsClearOf, AreBlocksApart, IsMapped, HasOneBlockEach, IsCounted, AreAttachmentsSound, IsTransferSound, AreQueuesSound, AreRecordsSound}
+use Rattle.acc_base.specs.Accounts.{EachPair, IsInHost, IsBelow, AreRangesApart, IsOnDevice, IsClearOf, AreBlocksApart, IsMapped, HasOneBlockEach, IsCounted, AreAttachmentsSound, IsTransferSound, AreQueuesSound, AreRecordsSound, IsLoanSound, AreLoansSound}
 use Rattle.acc_base.proofs.Results.{and_true, equal}
 use Rattle.acc_base.proofs.Elements.{AllByRecursion-weaker, AllByRecursion-both, AllByRecursion-filter, AllByRecursion-passed, AllByRecursion-map, AllByRecursion-append, EachPair-filter, EachPair-push, EachPair-map, list_all-from, find_none, found_has}
 use Rattle.acc_base.proofs.Lookups.{change_at, number-change, at-changed, at-without_other, at-push_there, at-push_new, at-own, at-none}
@@ -33,6 +33,9 @@ use Rattle.acc_base.proofs.Where.{absent_says}
 use Rattle.acc_base.proofs.Places.{place_for-found, IsFoundPlace, place_for-even}
 use Rattle.acc_base.proofs.Attached.{rising-without, within-without}
 use Rattle.acc_base.proofs.Queued.{pins-popped, none_named, queues-popped, queues-blocks}
+use Rattle.acc_base.specs.declared.loans.Loan.{Loan}
+use Rattle.acc_base.specs.Loans.{is_lent}
+use Rattle.acc_base.proofs.Lending.{loans-weaker, loans-other, range_of-with_other}
 use Rattle.acc_base.proofs.Judged.{IsBirth, IsCount}
 
 -- ---- a change of the counters of one range
@@ -122,6 +125,15 @@ counter_is counter k ranges r e = ap (λ o. unwrap_or (option_map (counter_in co
 ends_by_is : (f : Range → Range) (k : ℕ) (ranges : List Range) (r : Range) → range_of k ranges ≡ Some r → ends_by f k ranges ≡ is_unused (f r)
 ends_by_is f k ranges r e = ap (λ o. unwrap_or (option_map (λ (t : Range). is_unused (f t)) o) false) e
 
+-- the range of a loan keeps its length
+changed_loan : (k : ℕ) (f : Range → Range) (rs : List Range) → KeepsPlace f → (x : Loan) → IsLoanSound rs x → IsLoanSound (changed_at k f rs) x
+changed_loan k f rs keeps x p = record {
+  range = change_at block_of k f p.range;
+  mapped = at-changed block_of k x.block f rs keeps.block ∙ ap (option_map (change_at block_of k f)) p.mapped;
+  some = p.some;
+  within = subst (λ (s : Section). x.offset + x.len ≤ s.len) (sym (section-change k f keeps p.range)) p.within;
+}
+
 changed_sound : (l : Limits) (k : ℕ) (f : Range → Range) (w : Records) → KeepsPlace f → AreRecordsSound l w → ((r : Range) → range_of k w.ranges ≡ Some r → IsCounted l r → IsCounted l (f r)) → AreRecordsSound l (with_range_changed k f w)
 unfolding with_range_changed
 changed_sound l k f w keeps h counts = record {
@@ -131,6 +143,7 @@ changed_sound l k f w keeps h counts = record {
   counted = changed_counted l k f w h counts;
   attached = h.attached;
   queues = h.queues;
+  loans = loans-weaker w.ranges (changed_at k f w.ranges) w.loans (λ x p. changed_loan k f w.ranges keeps x p) h.loans;
 }
 
 risen_counted : (l : Limits) (counter : Counter) (r : Range) → counter_in counter r < l.counter_max → IsCounted l r → IsCounted l (risen counter r)
@@ -185,6 +198,7 @@ pub record IsLoose (l : Limits) (k : ℕ) (w : Records) : Type 0 where
   pub counted : AllByRecursion (IsCounted l) w.ranges
   pub attached : AreAttachmentsSound l w.blocks w.attached
   pub queues : AreQueuesSound l w.blocks w.queues
+  pub loans : AreLoansSound w.ranges w.loans
 
 -- no range has the block, and no queued transfer
 no_use : {X : Type 0} (o : Option X) (pins : ℕ) → (is_some o || not (pins == 0)) ≡ false → (o ≡ None) × (pins ≡ 0)
@@ -212,6 +226,7 @@ released_sound l k w h = go (is_in_use k w) refl
       counted = h.counted;
       attached = h.attached;
       queues = h.queues;
+      loans = h.loans;
     }
     go false e =
         let none : (range_of k w.ranges ≡ None) × (pins_of k w.queues ≡ 0) = no_use (range_of k w.ranges) (pins_of k w.queues) e in
@@ -230,12 +245,13 @@ released_sound l k w h = go (is_in_use k w) refl
           counted = h.counted;
           attached = ended_attached l k w.blocks w.attached h.attached;
           queues = unpinned_queues l k w.blocks w.queues none.1 h.queues;
+          loans = h.loans;
         }
 
--- the mapping to a block ends
-pub ended_sound : (l : Limits) (k : ℕ) (w : Records) → AreRecordsSound l w → AreRecordsSound l (records_after_end k w)
+-- the mapping to a block ends that is not lent
+pub ended_sound : (l : Limits) (k : ℕ) (w : Records) → is_lent k w.loans ≡ false → AreRecordsSound l w → AreRecordsSound l (records_after_end k w)
 unfolding records_after_end
-ended_sound l k w h = released_sound l k (record w { ranges = without_range k w.ranges }) (record {
+ended_sound l k w free h = released_sound l k (record w { ranges = without_range k w.ranges }) (record {
   ranges_apart = record {
     in_host = AllByRecursion-filter (λ r. IsInHost l r.section) (λ r. not (r.block == k)) w.ranges h.ranges_apart.in_host;
     rising = EachPair-filter (λ r t. IsBelow r.section t.section) (λ r. not (r.block == k)) w.ranges h.ranges_apart.rising;
@@ -248,6 +264,8 @@ ended_sound l k w h = released_sound l k (record w { ranges = without_range k w.
   counted = AllByRecursion-filter (IsCounted l) (λ r. not (r.block == k)) w.ranges h.counted;
   attached = h.attached;
   queues = h.queues;
+  loans = loans-other k w.ranges (without_range k w.ranges) w.loans free
+      (λ x other p. record { range = p.range; mapped = at-without_other block_of k x.block w.ranges other ∙ p.mapped; some = p.some; within = p.within }) h.loans;
 })
 
 -- the first transfer of a queue is made
@@ -277,6 +295,7 @@ stepped_sound l q w h = go (head_of q w.queues) refl
       counted = h.counted;
       attached = h.attached;
       queues = queues-popped l w.blocks q w.queues h.queues;
+      loans = h.loans;
     })
 
 -- it leaves the ranges
@@ -418,6 +437,8 @@ birth_sound l new p w counted birth h =
       queues = queues-blocks l (λ t. ⊤) w.blocks (w.blocks ++ born_block new.block p new.section.len ∷ []) w.queues
           (λ t any s. record { block = s.block; there = at-push_there number_of_block t.block w.blocks (born_block new.block p new.section.len) s.block s.there; in_host = s.in_host; offset = s.offset; within = s.within })
           (all_any w.queues) h.queues;
+      loans = loans-weaker w.ranges (with_range new w.ranges) w.loans
+          (λ x s. record { range = s.range; mapped = range_of-with_other new x.block w.ranges (other_block x s) ∙ s.mapped; some = s.some; within = s.within }) h.loans;
     }
   where
     each_any : (ts : List Transfer) → AllByRecursion (λ (t : Transfer). ⊤) ts
@@ -427,6 +448,16 @@ birth_sound l new p w counted birth h =
     all_any : (queues : List (List Transfer)) → AllByRecursion (AllByRecursion (λ (t : Transfer). ⊤)) queues
     all_any [] = tt
     all_any (ts ∷ queues) = (each_any ts, all_any queues)
+
+    -- the new block is no lent one: that is mapped, and so was born before
+    other_block : (x : Loan) → IsLoanSound w.ranges x → (new.block == x.block) ≡ false
+    other_block x s =
+        let mapped : IsMapped w.blocks s.range × ((s.range.block == x.block) ≡ true) = found_has (IsMapped w.blocks) (λ r. r.block == x.block) w.ranges s.range h.one_block_each.mapped s.mapped in
+        let before : (mapped.0.0.number ≤ w.births) × ((mapped.0.0.number == s.range.block) ≡ true) = found_has (λ b. b.number ≤ w.births) (λ b. b.number == s.range.block) w.blocks mapped.0.0 h.blocks_apart.born mapped.0.1 in
+        apart new.block x.block w.births birth.number mapped.0.0.number before.0 s.range.block before.1 mapped.1
+      where
+        apart : (a b n : ℕ) → a ≡ n + 1 → (c : ℕ) → c ≤ n → (d : ℕ) → (c == d) ≡ true → (d == b) ≡ true → (a == b) ≡ false
+        apart a b n first c le d same owner = grind (arith, nat_tests)
 
 -- the range of a birth by entry has one count
 pub first_counted : (l : Limits) (counter : Counter) (section : Section) (k : ℕ) → IsWithinBounds l → IsCounted l (risen counter (bare_range section k))
@@ -443,6 +474,7 @@ new_sound l = record {
   counted = tt;
   attached = record { rising = tt; counted = tt; there = tt };
   queues = record { all = refl; limit = new_limit; transfers = new_transfers };
+  loans = record { rising = tt; sound = tt };
 }
   where
     new_limit : AllByRecursion (λ (ts : List Transfer). length ts ≤ l.queue_cap) new_queues

@@ -13,7 +13,7 @@ use Rattle.acc_base.specs.declared.tasks.Task.{Task}
 use Rattle.acc_base.specs.declared.tasks.Task.TheVariants.{Leave}
 use Rattle.acc_base.specs.declared.events.Did.{Did}
 use Rattle.acc_base.specs.declared.events.Event.{Event}
-use Rattle.acc_base.specs.declared.events.Event.TheVariants.{Entered, Left, EnteredData, ExitedData, Updated, Waited, Stepped, HostWritten}
+use Rattle.acc_base.specs.declared.events.Event.TheVariants.{Entered, Left, EnteredData, ExitedData, Updated, Waited, Stepped, HostWritten, Lent, Gathered}
 use Rattle.acc_base.specs.Limits.{Limits, IsWithinBounds}
 use Rattle.acc_base.specs.Records.{Records, Layout, new_layout}
 use Rattle.acc_base.specs.Register.{Region, Register, holdings_at, opened, closed, is_counted_block, count_held, held_in}
@@ -21,13 +21,14 @@ use Rattle.acc_base.specs.Ranges.{range_of, structured_of, dynamic_of}
 use Rattle.acc_base.specs.Clauses.{as_region}
 use Rattle.acc_base.specs.Steps.{act_all}
 use Rattle.acc_base.specs.Waits.{records_drained}
-use Rattle.acc_base.specs.Walk.{enter_task, enter_data_task, exit_task, move_task, asked_in, done_in, stepped_in, register_after, holdings_of, walk, walk_all}
+use Rattle.acc_base.specs.Walk.{enter_task, enter_data_task, exit_task, move_task, asked_in, done_in, stepped_in, register_after, holdings_of, walk, walk_all, loaned}
 use Rattle.acc_base.specs.History.{NamesRight, drops, count_counted, count_dropped, entries_of, exits_of, structured_in, dynamic_in, dynamic_after, IsLegal, AreLegal}
 use Rattle.acc_base.specs.Calls.{History}
 use Rattle.acc_base.specs.Accounts.{EachPair, AreRecordsSound, AreHeld, IsHistoryLegal}
 use Rattle.acc_base.proofs.Results.{equal_self}
 use Rattle.acc_base.proofs.Elements.{AllByRecursion-weaker, IfSome-weaker}
 use Rattle.acc_base.proofs.Sound.{ranges-drained, drained_sound, new_sound}
+use Rattle.acc_base.proofs.Loaned.{ranges-loaned, loaned_sound}
 use Rattle.acc_base.proofs.AllTasks.{recount_same, AreLeft, all_left, AreSaid, all_said, entered_recount, held-entered, exited_recount, left_recount, held-left, sum_by-reverse}
 use Rattle.acc_base.proofs.Registers.{IsNumbered, new_numbered, opened_numbered, opened_held, closed_numbered, closed_held}
 
@@ -70,6 +71,8 @@ recounted_by l (Updated items if_present queue did) g w b said left = record {
 recounted_by l (Waited queue count) g w b said left = record { structured = left.counter_is Structured b ∙ omega arith; dynamic = left.counter_is Dynamic b }
 recounted_by l (Stepped queue block) g w b said left = record { structured = left.counter_is Structured b ∙ omega arith; dynamic = left.counter_is Dynamic b }
 recounted_by l (HostWritten addr len) g w b said left = record { structured = left.counter_is Structured b ∙ omega arith; dynamic = left.counter_is Dynamic b }
+recounted_by l (Lent region section block serial) g w b said left = record { structured = left.counter_is Structured b ∙ omega arith; dynamic = left.counter_is Dynamic b }
+recounted_by l (Gathered serial block) g w b said left = record { structured = left.counter_is Structured b ∙ omega arith; dynamic = left.counter_is Dynamic b }
 
 -- what a number of a region holds, where one of that number is open
 holds : (o : Option (List Holding)) → IsSome o → o ≡ Some (unwrap_or o [])
@@ -95,6 +98,8 @@ held_by l (Updated items if_present queue did) lay b h legal said = record { hel
 held_by l (Waited queue count) lay b h legal said = record { held = refl }
 held_by l (Stepped queue block) lay b h legal said = record { held = refl }
 held_by l (HostWritten addr len) lay b h legal said = record { held = refl }
+held_by l (Lent region section block serial) lay b h legal said = record { held = refl }
+held_by l (Gathered serial block) lay b h legal said = record { held = refl }
 
 numbered_by : (e : Event) (g : Register) → IsNumbered g → IsNumbered (register_after e g)
 numbered_by (Entered number items did) g h = opened_numbered (holdings_of items did) g h
@@ -105,6 +110,8 @@ numbered_by (Updated items if_present queue did) g h = h
 numbered_by (Waited queue count) g h = h
 numbered_by (Stepped queue block) g h = h
 numbered_by (HostWritten addr len) g h = h
+numbered_by (Lent region section block serial) g h = record { first = h.first; rising = h.rising; known = h.known }
+numbered_by (Gathered serial block) g h = h
 
 -- what holds of a layout, with how often each block was counted and dropped by regions, and its dynamic counter
 pub record IsTold (l : Limits) (lay : Layout) (entries exits dynamics : ℕ → ℕ) : Type 0 where
@@ -123,9 +130,10 @@ event_told l e lay entries exits dynamics bounds h legal =
     let said : AreSaid l tasks (done_in e) = all_said l 0 tasks (done_in e) lay.records legal.judged in
     let left : AreLeft l tasks (done_in e) lay.records (act_all tasks (done_in e) lay.records) = all_left l 0 tasks (done_in e) lay.records bounds h.sound legal.judged in
     let qs : List ℕ = stepped_in e lay.records.queues in
-    let same : (records_drained qs (act_all tasks (done_in e) lay.records)).ranges ≡ (act_all tasks (done_in e) lay.records).ranges = ranges-drained qs (act_all tasks (done_in e) lay.records) in
+    let made : Records = records_drained qs (act_all tasks (done_in e) lay.records) in
+    let same : (loaned e made).ranges ≡ (act_all tasks (done_in e) lay.records).ranges = ranges-loaned e made ∙ ranges-drained qs (act_all tasks (done_in e) lay.records) in
     record {
-      sound = drained_sound l qs (act_all tasks (done_in e) lay.records) left.sound;
+      sound = loaned_sound l e lay legal.names (drained_sound l qs (act_all tasks (done_in e) lay.records) left.sound);
       numbered = numbered_by e lay.register h.numbered;
       held = λ b. ap (structured_of b) same ∙ held_still b (recounted_by l e lay.register lay.records b said left) (held_by l e lay b h.numbered legal said);
       structured = λ b. ap (λ rs. structured_of b rs + (exits b + exits_of b e)) same ∙ counted_still b (recounted_by l e lay.register lay.records b said left) (held_by l e lay b h.numbered legal said);
@@ -199,6 +207,8 @@ with_number (Updated items if_present queue did) numbers = numbers
 with_number (Waited queue count) numbers = numbers
 with_number (Stepped queue block) numbers = numbers
 with_number (HostWritten addr len) numbers = numbers
+with_number (Lent region section block serial) numbers = numbers
+with_number (Gathered serial block) numbers = numbers
 
 -- the numbers of the regions that were entered, in order
 abbrev pub numbers_in : List Event → List ℕ
@@ -222,6 +232,8 @@ numbers_from l (e ∷ events) lay legal = go e legal.0.names (numbers_from l eve
     go (Waited queue count) names later = later
     go (Stepped queue block) names later = later
     go (HostWritten addr len) names later = later
+    go (Lent region section block serial) names later = later
+    go (Gathered serial block) names later = later
 
 -- they rise, so no number is used twice
 pub numbers_rise : (l : Limits) (events : List Event) (lay : Layout) → AreLegal l events lay → EachPair (λ (m : ℕ) (n : ℕ). m < n) (numbers_in events)
@@ -238,6 +250,8 @@ numbers_rise l (e ∷ events) lay legal = go e legal.0.names (numbers_from l eve
     go (Waited queue count) names from later = later
     go (Stepped queue block) names from later = later
     go (HostWritten addr len) names from later = later
+    go (Lent region section block serial) names from later = later
+    go (Gathered serial block) names from later = later
 
 -- the numbers count up by one from this one
 abbrev pub AreConsecutive : ℕ → List ℕ → Type 0
@@ -259,6 +273,8 @@ numbers_consecutive l (e ∷ events) lay legal = go e legal.0.names (numbers_con
     go (Waited queue count) names later = later
     go (Stepped queue block) names later = later
     go (HostWritten addr len) names later = later
+    go (Lent region section block serial) names later = later
+    go (Gathered serial block) names later = later
 
 -- ---- what open regions hold
 

@@ -1,5 +1,5 @@
 -- The attachment counters of every block are those of the history that leads to it.
-use Rattle.std.proofs.Common.{ℕ, suc, ◌≡◌, ◌+◌, ◌-◌, ◌<◌, ◌≤◌, refl, sym, ◌∙◌, ap, subst, Bool, true, false, cond, List, [], ◌∷◌, ◌++◌, Option, Some, None, Ok, arith}
+use Rattle.std.proofs.Common.{ℕ, suc, ◌≡◌, ◌+◌, ◌-◌, ◌<◌, ◌≤◌, refl, sym, ◌∙◌, ap, subst, Bool, true, false, cond, List, [], ◌∷◌, ◌++◌, Option, Some, None, arith}
 use Rattle.std.specs.Prelude.{◌==◌, ◌&&◌, fold, unwrap_or, option_map, IsSome}
 use Rattle.std.proofs.lemmas.Bool.Decides.{nat_tests}
 use Rattle.acc_base.specs.declared.mappings.Block.{Block}
@@ -13,17 +13,17 @@ use Rattle.acc_base.specs.declared.events.Step.{Step}
 use Rattle.acc_base.specs.declared.events.Step.TheVariants.{Nothing, Counted, Born, Dropped, Moved}
 use Rattle.acc_base.specs.declared.events.Did.{Did}
 use Rattle.acc_base.specs.declared.events.Event.{Event}
+use Rattle.acc_base.specs.declared.events.Event.TheVariants.{Entered, Left, EnteredData, ExitedData, Updated, Waited, Stepped, HostWritten, Lent, Gathered}
 use Rattle.acc_base.specs.Limits.{Limits, IsWithinBounds}
 use Rattle.acc_base.specs.Records.{Records, Layout, new_layout}
 use Rattle.acc_base.specs.Ranges.{bare_range, without_range}
 use Rattle.acc_base.specs.Blocks.{block_at, without_block}
 use Rattle.acc_base.specs.Attachments.{is_of, count_at, count_after, without_attachments}
 use Rattle.acc_base.specs.Queues.{head_of, popped}
-use Rattle.acc_base.specs.Tasks.{section_of, queue_of, recounted}
-use Rattle.acc_base.specs.Transfers.{transfer_of, room_for}
+use Rattle.acc_base.specs.Tasks.{section_of, recounted}
 use Rattle.acc_base.specs.Steps.{is_in_use, released, records_after_birth, records_after_end, with_range_changed, act_row, with_put, act_step, records_aimed, act, act_all}
 use Rattle.acc_base.specs.Waits.{records_made, records_stepped, records_drained}
-use Rattle.acc_base.specs.Walk.{asked_in, done_in, stepped_in, walk, walk_all}
+use Rattle.acc_base.specs.Walk.{asked_in, done_in, stepped_in, walk, walk_all, loaned}
 use Rattle.acc_base.specs.Calls.{History}
 use Rattle.acc_base.specs.History.{attached_after, IsAimLegal, AreJudged, AreLegal}
 use Rattle.acc_base.specs.Accounts.{AreRecordsSound, AreAttachmentsTraced, IsHistoryLegal}
@@ -31,11 +31,12 @@ use Rattle.acc_base.proofs.Results.{equal}
 use Rattle.acc_base.proofs.Elements.{AllByRecursion-weaker, found_has, find-none}
 use Rattle.acc_base.proofs.Lookups.{at-without_same, at-without_other}
 use Rattle.acc_base.proofs.Attached.{same_block, count_at-attached_by, count_at-without_other}
-use Rattle.acc_base.proofs.Judged.{IsJudgedTo, IsJudgedStep, step_judged, task_says}
+use Rattle.acc_base.proofs.Judged.{IsJudgedTo, step_judged, task_says, IsStepFree}
 use Rattle.acc_base.proofs.Memories.{recounted-block}
 use Rattle.acc_base.proofs.Aimed.{IsAimThere, attach_block, leave_block, exit_block, leave_sound, exit_sound, move_sound, says_aimed, IsLeft, task_left}
 use Rattle.acc_base.proofs.Sound.{drained_sound, new_sound}
 use Rattle.acc_base.proofs.Puts.{acted_sound}
+use Rattle.acc_base.proofs.Loaned.{loaned_sound}
 use Rattle.acc_base.proofs.AllTasks.{AreLeft, all_left}
 
 number_of : Block → ℕ
@@ -183,17 +184,17 @@ then_told : (l : Limits) (task : Task) (did : Did) (w : Records) (pointers : ℕ
     → AreTold (told_after did pointers) (act_step task did.step (records_aimed did.aim w))
 then_told l task did w pointers sound aimed there says h = step_told l task did.step (records_aimed did.aim w) (told_after did pointers) aimed (says_aimed l task did.step did.aim w says) (aim_told l did.aim w pointers sound there h)
 
-task_told : (l : Limits) (task : Task) (did : Did) (w : Records) (pointers : ℕ → ℕ → ℕ) → IsWithinBounds l → AreRecordsSound l w → IsJudgedTo l task did.step w → room_for l.queue_cap (queue_of task) (transfer_of task did.step w.ranges) w.queues ≡ Ok tt → IsAimLegal l task did w → AreTold pointers w → AreTold (told_after did pointers) (act task did w)
+task_told : (l : Limits) (task : Task) (did : Did) (w : Records) (pointers : ℕ → ℕ → ℕ) → IsWithinBounds l → AreRecordsSound l w → IsJudgedTo l task did.step w → IsStepFree l task did.step w → IsAimLegal l task did w → AreTold pointers w → AreTold (told_after did pointers) (act task did w)
 unfolding act
-task_told l (Enter counter item queue) did w pointers bounds sound says room legal h =
+task_told l (Enter counter item queue) did w pointers bounds sound says free legal h =
     let v : Records = act_step (Enter counter item queue) did.step w in
-    let stepped : AreRecordsSound l v = acted_sound l (Enter counter item queue) did.step w bounds says room sound in
+    let stepped : AreRecordsSound l v = acted_sound l (Enter counter item queue) did.step w bounds says free sound in
     aim_told l did.aim v pointers stepped (attach_block l _ did.aim v stepped legal) (step_told l (Enter counter item queue) did.step w pointers sound says h)
-task_told l (Leave holding) did w pointers bounds sound says room legal h =
+task_told l (Leave holding) did w pointers bounds sound says free legal h =
     then_told l (Leave holding) did w pointers sound (leave_sound l holding did w sound legal) (subst (IsAimThere w.blocks) (sym legal) (leave_block l holding.aim w sound)) says h
-task_told l (Exit finalize item queue) did w pointers bounds sound says room legal h =
+task_told l (Exit finalize item queue) did w pointers bounds sound says free legal h =
     then_told l (Exit finalize item queue) did w pointers sound (exit_sound l finalize item queue did w sound legal) (subst (IsAimThere w.blocks) (sym legal) (exit_block l finalize _ w sound)) says h
-task_told l (Move if_present item queue) did w pointers bounds sound says room legal h =
+task_told l (Move if_present item queue) did w pointers bounds sound says free legal h =
     then_told l (Move if_present item queue) did w pointers sound (move_sound l if_present item queue did w sound legal) (subst (IsAimThere w.blocks) (sym legal) (λ k e. cc)) says h
 
 tasks_told : (l : Limits) (n : ℕ) (tasks : List Task) (dids : List Did) (w : Records) (pointers : ℕ → ℕ → ℕ) → IsWithinBounds l → AreRecordsSound l w → AreJudged l n tasks dids w → AreTold pointers w
@@ -204,9 +205,23 @@ tasks_told l n [] (did ∷ dids) w pointers bounds sound judged h = absurd judge
 tasks_told l n (task ∷ tasks) [] w pointers bounds sound judged h = absurd judged
 tasks_told l n (task ∷ tasks) (did ∷ dids) w pointers bounds sound judged h =
     let says : IsJudgedTo l task did.step w = task_says l n task w did.step judged.0 in
-    let room : room_for l.queue_cap (queue_of task) (transfer_of task did.step w.ranges) w.queues ≡ Ok tt = (step_judged l n task w did.step judged.0).room in
-    let left : IsLeft l task did w (act task did w) = task_left l task did w bounds sound says room judged.1 in
-    tasks_told l (suc n) tasks dids (act task did w) (told_after did pointers) bounds left.sound judged.2 (task_told l task did w pointers bounds sound says room judged.1 h)
+    let free : IsStepFree l task did.step w = (step_judged l n task w did.step judged.0).free in
+    let left : IsLeft l task did w (act task did w) = task_left l task did w bounds sound says free judged.1 in
+    tasks_told l (suc n) tasks dids (act task did w) (told_after did pointers) bounds left.sound judged.2 (task_told l task did w pointers bounds sound says free judged.1 h)
+
+-- lending and gathering leave the attachment counters
+loaned_told : (e : Event) (w : Records) (pointers : ℕ → ℕ → ℕ) → AreTold pointers w → AreTold pointers (loaned e w)
+unfolding loaned
+loaned_told (Entered number items did) w pointers h = h
+loaned_told (Left number did) w pointers h = h
+loaned_told (EnteredData items queue did) w pointers h = h
+loaned_told (ExitedData items finalize queue did) w pointers h = h
+loaned_told (Updated items if_present queue did) w pointers h = h
+loaned_told (Waited queue count) w pointers h = h
+loaned_told (Stepped queue block) w pointers h = h
+loaned_told (HostWritten addr len) w pointers h = h
+loaned_told (Lent region section block serial) w pointers h = record { there = h.there; unborn = h.unborn }
+loaned_told (Gathered serial block) w pointers h = record { there = h.there; unborn = h.unborn }
 
 events_told : (l : Limits) (events : List Event) (lay : Layout) (pointers : ℕ → ℕ → ℕ) → IsWithinBounds l → AreRecordsSound l lay.records → AreLegal l events lay → AreTold pointers lay.records
     → AreTold (λ block pointer. fold (attached_after block pointer) (pointers block pointer) events) (walk_all events lay).records
@@ -217,8 +232,10 @@ events_told l (e ∷ events) lay pointers bounds sound legal h =
     let qs : List ℕ = stepped_in e lay.records.queues in
     let v : Records = act_all tasks (done_in e) lay.records in
     let left : AreLeft l tasks (done_in e) lay.records v = all_left l 0 tasks (done_in e) lay.records bounds sound legal.0.judged in
-    events_told l events (walk e lay) (λ block pointer. attached_after block pointer (pointers block pointer) e) bounds (drained_sound l qs v left.sound) legal.1
-    (drained_told qs v (λ block pointer. attached_after block pointer (pointers block pointer) e) (tasks_told l 0 tasks (done_in e) lay.records pointers bounds sound legal.0.judged h))
+    let told : AreTold (λ block pointer. attached_after block pointer (pointers block pointer) e) (records_drained qs v)
+    = drained_told qs v (λ block pointer. attached_after block pointer (pointers block pointer) e) (tasks_told l 0 tasks (done_in e) lay.records pointers bounds sound legal.0.judged h) in
+    events_told l events (walk e lay) (λ block pointer. attached_after block pointer (pointers block pointer) e) bounds (loaned_sound l e lay legal.0.names (drained_sound l qs v left.sound)) legal.1
+    (loaned_told e (records_drained qs v) (λ block pointer. attached_after block pointer (pointers block pointer) e) told)
 
 nothing_told : AreTold (λ block pointer. 0) new_layout.records
 nothing_told = record { there = λ block pointer there. refl; unborn = λ block pointer later. refl }

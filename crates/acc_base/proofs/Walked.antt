@@ -7,7 +7,7 @@ use Rattle.acc_base.specs.declared.events.Did.{Did}
 use Rattle.acc_base.specs.declared.events.Event.{Event}
 use Rattle.acc_base.specs.Records.{State, Records, layout_of}
 use Rattle.acc_base.specs.Steps.{act, act_all}
-use Rattle.acc_base.specs.Walk.{walk, asked_in, done_in, stepped_in, register_after}
+use Rattle.acc_base.specs.Walk.{walk, asked_in, done_in, stepped_in, loaned, register_after}
 use Rattle.acc_base.specs.Queues.{head_of}
 use Rattle.acc_base.specs.Bytes.{step_state}
 use Rattle.acc_base.specs.Waits.{records_made, records_stepped, state_made, stepped, records_drained, drained}
@@ -62,5 +62,5 @@ records-drained (q ∷ qs) s = records-drained qs (stepped q s) ∙ ap (records_
 -- the layout after an event, whatever bytes its call brought
 pub layout-after : (e : Event) (brought : List ℕ) (s : State) → layout_of (after e brought s) ≡ walk e (layout_of s)
 unfolding after walk
-layout-after e brought s = ap (λ (w : Records). record { records = w; register = register_after e s.register })
+layout-after e brought s = ap (λ (w : Records). record { records = loaned e w; register = register_after e s.register })
     (records-drained (stepped_in e s.records.queues) (act_all_state (asked_in e s.register) (done_in e) s) ∙ ap (records_drained (stepped_in e s.records.queues)) (records-act_all_state (asked_in e s.register) (done_in e) s))

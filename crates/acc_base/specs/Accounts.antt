@@ -1,17 +1,19 @@
 -- What holds of every world that accepted calls lead to: ranges and blocks are apart and account for every used byte, and every counter is what the history gives.
-use Rattle.std.specs.Prelude.{ℕ, ◌+◌, ◌%◌, ◌≡◌, ◌<◌, ◌≤◌, ◌⊎◌, true, List, [], ◌∷◌, length, Some, IsSome, ⊤}
+use Rattle.std.specs.Prelude.{ℕ, ◌+◌, ◌%◌, ◌≡◌, ◌<◌, ◌≤◌, ◌⊎◌, true, false, List, [], ◌∷◌, length, Some, IsSome, ⊤}
 use Rattle.std.specs.List.{AllByRecursion, AllZip}
 use Rattle.acc_base.specs.declared.items.Section.{Section}
 use Rattle.acc_base.specs.declared.mappings.Range.{Range}
 use Rattle.acc_base.specs.declared.mappings.Block.{Block}
 use Rattle.acc_base.specs.declared.attachments.Attachment.{Attachment}
 use Rattle.acc_base.specs.declared.transfers.Transfer.{Transfer}
+use Rattle.acc_base.specs.declared.loans.Loan.{Loan}
 use Rattle.acc_base.specs.declared.transfers.TheConstants.{QUEUE_COUNT}
 use Rattle.acc_base.specs.Limits.{Limits}
 use Rattle.acc_base.specs.Section.{end_of, is_within, host_memory, device_base}
 use Rattle.acc_base.specs.Ranges.{range_of, structured_of}
 use Rattle.acc_base.specs.Blocks.{block_at, block_end, used_bytes}
 use Rattle.acc_base.specs.Attachments.{IsBefore, IsCountWithin, count_at}
+use Rattle.acc_base.specs.Loans.{is_lent}
 use Rattle.acc_base.specs.Register.{Region, Register, held_in}
 use Rattle.acc_base.specs.Records.{Records, Memory, Layout, State, new_layout, layout_of}
 use Rattle.acc_base.specs.Steps.{is_in_use}
@@ -115,17 +117,31 @@ pub record IsRegisterSound (g : Register) : Type 0 where
 abbrev pub AreHeld : Layout → Type 0
 AreHeld lay = (block : ℕ) → structured_of block lay.records.ranges ≡ held_in block lay.register.regions
 
+-- ---- loans
+
+-- the block of the loan is mapped, and the section, which is not empty, lies in it
+pub record IsLoanSound (ranges : List Range) (l : Loan) : Type 0 where
+  pub range : Range
+  pub mapped : range_of l.block ranges ≡ Some range
+  pub some : 0 < l.len
+  pub within : l.offset + l.len ≤ range.section.len
+
+-- a block is lent once at most, and only while it is mapped
+pub record AreLoansSound (ranges : List Range) (loans : List Loan) : Type 0 where
+  pub rising : EachPair (λ (l : Loan) (m : Loan). l.block < m.block) loans
+  pub sound : AllByRecursion (IsLoanSound ranges) loans
+
 -- ---- memories
 
--- the memory is the block's, and as long
-pub record IsMemoryOf (m : Memory) (b : Block) : Type 0 where
+-- the memory is the block's, and as long, unless the block is lent
+pub record IsMemoryOf (loans : List Loan) (m : Memory) (b : Block) : Type 0 where
   pub block : m.block ≡ b.number
-  pub len : length m.bytes ≡ b.len
+  pub len : is_lent b.number loans ≡ false → length m.bytes ≡ b.len
 
 -- host memory has its size, and each block, in order, a memory
 pub record AreMemoriesSized (l : Limits) (s : State) : Type 0 where
   pub host : length s.host ≡ l.host
-  pub blocks : AllZip IsMemoryOf s.memories s.records.blocks
+  pub blocks : AllZip (IsMemoryOf s.records.loans) s.memories s.records.blocks
 
 -- ---- what holds of a state, whatever led to it
 
@@ -137,6 +153,7 @@ pub record AreRecordsSound (l : Limits) (w : Records) : Type 0 where
   pub counted : AllByRecursion (IsCounted l) w.ranges
   pub attached : AreAttachmentsSound l w.blocks w.attached
   pub queues : AreQueuesSound l w.blocks w.queues
+  pub loans : AreLoansSound w.ranges w.loans
 
 -- records and register together, which a directive keeps as a whole
 pub record IsLayoutSound (l : Limits) (lay : Layout) : Type 0 where

@@ -1,5 +1,5 @@
 -- What an item does, its step and what becomes of its pointer: judged, and done. And what a directive and an event leave of the state.
-use Rattle.std.specs.Prelude.{ℕ, suc, Bool, List, [], ◌∷◌, Option, Some, None, Result, Ok}
+use Rattle.std.specs.Prelude.{ℕ, suc, List, [], ◌∷◌, map, Option, Some, None, Result, Ok}
 use Rattle.acc_base.specs.declared.attachments.Aim.{Aim}
 use Rattle.acc_base.specs.declared.attachments.Aim.TheVariants as aims
 use Rattle.acc_base.specs.declared.tasks.Task.{Task}
@@ -7,16 +7,17 @@ use Rattle.acc_base.specs.declared.tasks.Task.TheVariants.{Enter, Leave, Exit, M
 use Rattle.acc_base.specs.declared.events.Step.{Step}
 use Rattle.acc_base.specs.declared.events.Did.{Did}
 use Rattle.acc_base.specs.declared.events.Event.{Event}
-use Rattle.acc_base.specs.declared.events.Event.TheVariants.{Entered, Left, EnteredData, ExitedData, Updated, Waited, Stepped, HostWritten}
+use Rattle.acc_base.specs.declared.events.Event.TheVariants.{Entered, Left, EnteredData, ExitedData, Updated, Waited, Stepped, HostWritten, Lent, Gathered}
 use Rattle.acc_base.specs.declared.faults.Fault.{Fault}
 use Rattle.acc_base.specs.Results.{◌>>=◌}
 use Rattle.acc_base.specs.Limits.{Limits}
-use Rattle.acc_base.specs.Records.{Records, State}
+use Rattle.acc_base.specs.Records.{Memory, State}
 use Rattle.acc_base.specs.Steps.{pointer_aimed, judge_step}
 use Rattle.acc_base.specs.Waits.{drained}
-use Rattle.acc_base.specs.Walk.{asked_in, done_in, stepped_in, register_after}
-use Rattle.acc_base.specs.Bytes.{step_state, host_after_write}
-use Rattle.acc_base.specs.Pointers.{judge_attach, judge_detach, judge_release, aimed}
+use Rattle.acc_base.specs.Walk.{asked_in, done_in, stepped_in, loaned, register_after}
+use Rattle.acc_base.specs.Bytes.{memory_changed, step_state, host_after_write}
+use Rattle.acc_base.specs.Detaching.{detach_if, judge_release}
+use Rattle.acc_base.specs.Pointers.{judge_attach, aimed}
 
 -- ---- one item
 
@@ -24,11 +25,6 @@ use Rattle.acc_base.specs.Pointers.{judge_attach, judge_detach, judge_release, a
 abbrev pub attach_if : Limits → ℕ → Option ℕ → State → Result Aim Fault
 attach_if l n None s = Ok aims.None
 attach_if l n (Some pointer) s = judge_attach l n pointer s
-
--- detaching a pointer, if there is one
-abbrev pub detach_if : Bool → Option ℕ → Records → Aim
-detach_if immediate None w = aims.None
-detach_if immediate (Some pointer) w = judge_detach immediate pointer w
 
 -- what becomes of the pointer of the item at place n, whose step is this: on entry it is attached in what the step left, on exit it is detached before the step
 unfoldable pub judge_aim : Limits → ℕ → Task → Step → State → Result Aim Fault
@@ -77,9 +73,24 @@ host_after (Updated items if_present queue did) brought host = host
 host_after (Waited queue count) brought host = host
 host_after (Stepped queue block) brought host = host
 host_after (HostWritten addr len) brought host = host_after_write addr len brought host
+host_after (Lent region section block serial) brought host = host
+host_after (Gathered serial block) brought host = host
+
+-- what an event leaves of the blocks' bytes beside the transfers that it makes: those of a lent block are in its lease, until its call brings them back
+abbrev pub memories_after : Event → List ℕ → List Memory → List Memory
+memories_after (Entered number items did) brought memories = memories
+memories_after (Left number did) brought memories = memories
+memories_after (EnteredData items queue did) brought memories = memories
+memories_after (ExitedData items finalize queue did) brought memories = memories
+memories_after (Updated items if_present queue did) brought memories = memories
+memories_after (Waited queue count) brought memories = memories
+memories_after (Stepped queue block) brought memories = memories
+memories_after (HostWritten addr len) brought memories = memories
+memories_after (Lent region section block serial) brought memories = map (memory_changed block (λ _. [])) memories
+memories_after (Gathered serial block) brought memories = map (memory_changed block (λ _. brought)) memories
 
 -- the state after an event, and with the bytes that its call brought
 unfoldable pub after : Event → List ℕ → State → State
 after e brought s =
     let acted : State = drained (stepped_in e s.records.queues) (act_all_state (asked_in e s.register) (done_in e) s) in
-    record { records = acted.records; register = register_after e s.register; host = host_after e brought acted.host; memories = acted.memories }
+    record { records = loaned e acted.records; register = register_after e s.register; host = host_after e brought acted.host; memories = memories_after e brought acted.memories }

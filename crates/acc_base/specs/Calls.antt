@@ -3,15 +3,16 @@ use Rattle.std.specs.Prelude.{ℕ, nat_le, List, [], ◌∷◌, ◌++◌, length
 use Rattle.acc_base.specs.declared.directives.Directive.{Directive}
 use Rattle.acc_base.specs.declared.directives.Directive.TheVariants.{Enter, Exit, EnterData, ExitData, Update, Wait, Step}
 use Rattle.acc_base.specs.declared.calls.Call.{Call}
-use Rattle.acc_base.specs.declared.calls.Call.TheVariants.{Do, HostWrite}
+use Rattle.acc_base.specs.declared.calls.Call.TheVariants.{Do, HostWrite, Lend, Gather}
 use Rattle.acc_base.specs.declared.events.Event.{Event}
 use Rattle.acc_base.specs.declared.faults.Fault.{Fault}
 use Rattle.acc_base.specs.declared.faults.Fault.TheVariants.{NoTickets, NoAllowance, TraceFull}
 use Rattle.acc_base.specs.Results.{◌>>=◌, ◌>>◌, refuse_if}
 use Rattle.acc_base.specs.Limits.{Limits}
+use Rattle.acc_base.specs.Loans.{Leased}
 use Rattle.acc_base.specs.Records.{State, new_state}
 use Rattle.acc_base.specs.Acting.{after}
-use Rattle.acc_base.specs.Judge.{Verdict, Makes, Idle, few_items, directive_verdict, host_write_event}
+use Rattle.acc_base.specs.Judge.{Verdict, Makes, few_items, directive_verdict, host_write_event, lend_event, gather_event}
 
 -- the events since a table was new
 pub record History : Type 0 where
@@ -53,7 +54,7 @@ abbrev pub trace_room : World → Result ⊤ Fault
 trace_room w = refuse_if (nat_le w.limits.trace_cap (length w.history.trace)) (TraceFull (length w.history.trace))
 
 -- the first refusal of a call in the order of refusals, or what it comes to
-unfoldable pub judge : World → Call → Result Verdict Fault
+unfoldable pub judge : World → Call Leased → Result Verdict Fault
 judge w (Do directive) = do
   ticket w
   allowance w directive
@@ -65,14 +66,26 @@ judge w (HostWrite addr bytes) = do
   trace_room w
   e ← host_write_event w.limits addr (length bytes)
   Ok (Makes e)
+judge w (Lend region section) = do
+  ticket w
+  trace_room w
+  e ← lend_event w.limits region section w.state
+  Ok (Makes e)
+judge w (Gather lease) = do
+  ticket w
+  trace_room w
+  e ← gather_event lease w.state.records
+  Ok (Makes e)
 
 -- the bytes that a call brings
-abbrev pub bytes_brought : Call → List ℕ
+abbrev pub bytes_brought : Call Leased → List ℕ
 bytes_brought (Do directive) = []
 bytes_brought (HostWrite addr bytes) = bytes
+bytes_brought (Lend region section) = []
+bytes_brought (Gather lease) = lease.bytes
 
 -- the world after an event of a call
-unfoldable pub world_after : Call → Event → World → World
+unfoldable pub world_after : Call Leased → Event → World → World
 world_after call e w = record {
   limits = w.limits;
   history = record { trace = w.history.trace ++ e ∷ [] };

@@ -4,21 +4,23 @@ use Rattle.acc_base.specs.declared.events.Step.{Step}
 use Rattle.acc_base.specs.declared.events.Step.TheVariants.{Nothing, Counted, Born, Dropped, Moved}
 use Rattle.acc_base.specs.declared.events.Did.{Did}
 use Rattle.acc_base.specs.declared.events.Event.{Event}
-use Rattle.acc_base.specs.declared.events.Event.TheVariants.{Entered, Left, EnteredData, ExitedData, Updated, Waited, Stepped, HostWritten}
+use Rattle.acc_base.specs.declared.events.Event.TheVariants.{Entered, Left, EnteredData, ExitedData, Updated, Waited, Stepped, HostWritten, Lent, Gathered}
 use Rattle.acc_base.specs.declared.attachments.Aim.{Aim}
 use Rattle.acc_base.specs.declared.attachments.Aim.TheVariants as aims
 use Rattle.acc_base.specs.declared.tasks.Task.{Task}
 use Rattle.acc_base.specs.declared.tasks.Task.TheVariants.{Enter, Leave, Exit, Move}
 use Rattle.acc_base.specs.Limits.{Limits}
 use Rattle.acc_base.specs.Records.{Records, Layout}
+use Rattle.acc_base.specs.Ranges.{where_is}
 use Rattle.acc_base.specs.Register.{holdings_at}
 use Rattle.acc_base.specs.Clauses.{in_host}
 use Rattle.acc_base.specs.Attachments.{count_at, count_after}
 use Rattle.acc_base.specs.Steps.{pointer_aimed, judge_step, act_step, act}
-use Rattle.acc_base.specs.Pointers.{block_with, device_address_of, judge_release}
-use Rattle.acc_base.specs.Acting.{detach_if}
+use Rattle.acc_base.specs.Loans.{is_lent, loan_of, none_lent}
+use Rattle.acc_base.specs.Detaching.{block_in, block_with, detach_if, judge_release}
+use Rattle.acc_base.specs.Pointers.{device_address_of}
 use Rattle.acc_base.specs.Queues.{head_of, queue_named}
-use Rattle.acc_base.specs.Waits.{steps_of}
+use Rattle.acc_base.specs.Waits.{steps_of, transfers_of}
 use Rattle.acc_base.specs.Walk.{asked_in, done_in, walk}
 use Rattle.acc_base.specs.Calls.{History}
 
@@ -58,6 +60,8 @@ entries_of block (Updated items if_present queue did) = 0
 entries_of block (Waited queue count) = 0
 entries_of block (Stepped queue b) = 0
 entries_of block (HostWritten addr len) = 0
+entries_of block (Lent region section b serial) = 0
+entries_of block (Gathered serial b) = 0
 
 -- how often an event's exit from a region dropped it
 abbrev pub exits_of : ℕ → Event → ℕ
@@ -69,6 +73,8 @@ exits_of block (Updated items if_present queue did) = 0
 exits_of block (Waited queue count) = 0
 exits_of block (Stepped queue b) = 0
 exits_of block (HostWritten addr len) = 0
+exits_of block (Lent region section b serial) = 0
+exits_of block (Gathered serial b) = 0
 
 abbrev pub structured_in : ℕ → History → ℕ
 structured_in block h = sum_by (entries_of block) h.trace - sum_by (exits_of block) h.trace
@@ -89,6 +95,8 @@ dynamic_after block n (Updated items if_present queue did) = n
 dynamic_after block n (Waited queue count) = n
 dynamic_after block n (Stepped queue b) = n
 dynamic_after block n (HostWritten addr len) = n
+dynamic_after block n (Lent region section b serial) = n
+dynamic_after block n (Gathered serial b) = n
 
 abbrev pub dynamic_in : ℕ → History → ℕ
 dynamic_in block h = fold (dynamic_after block) 0 h.trace
@@ -108,11 +116,11 @@ attached_in block pointer h = fold (attached_after block pointer) 0 h.trace
 abbrev pub IsTarget : ℕ → Records → Type 0
 IsTarget target w = (address : ℕ) × (device_address_of address w ≡ Some target)
 
--- the pointer can have been attached so: it is present in the block, the target is the device address of a mapped address, and it is attached again only where it is attached, below the limit
+-- the pointer can have been attached so: it is present in the block, which is not lent, the target is the device address of a mapped address, and it is attached again only where it is attached, below the limit
 abbrev pub IsAttachLegal : Limits → Option ℕ → Aim → Records → Type 0
 IsAttachLegal l named aims.None w = ⊤
-IsAttachLegal l named (aims.New pointer block target) w = (named ≡ Some pointer) × (block_with pointer w.ranges ≡ Some block) × IsTarget target w
-IsAttachLegal l named (aims.Again pointer block) w = (named ≡ Some pointer) × (block_with pointer w.ranges ≡ Some block) × (0 < count_at block pointer w.attached) × (count_at block pointer w.attached < l.counter_max)
+IsAttachLegal l named (aims.New pointer block target) w = (named ≡ Some pointer) × (block_with pointer w.ranges ≡ Some block) × (is_lent block w.loans ≡ false) × IsTarget target w
+IsAttachLegal l named (aims.Again pointer block) w = (named ≡ Some pointer) × (block_with pointer w.ranges ≡ Some block) × (is_lent block w.loans ≡ false) × (0 < count_at block pointer w.attached) × (count_at block pointer w.attached < l.counter_max)
 IsAttachLegal l named (aims.Less pointer block) w = ⊥
 IsAttachLegal l named (aims.Cleared pointer block) w = ⊥
 
@@ -130,16 +138,18 @@ AreJudged l n [] (did ∷ dids) w = ⊥
 AreJudged l n (task ∷ tasks) [] w = ⊥
 AreJudged l n (task ∷ tasks) (did ∷ dids) w = (judge_step l n task w ≡ Ok did.step) × IsAimLegal l task did w × AreJudged l (suc n) tasks dids (act task did w)
 
--- what an event names is so: a new region has the next number, a region that is left is open, there is the queue, a wait makes as many transfers as wait there, a step makes the first one, and a write lies in host memory
+-- what an event names is so: a new region has the next number, a region that is left is open, there is the queue, a wait makes as many transfers as wait there, a step makes the first one, none of them of a lent block, a write lies in host memory, a loan is of a section inside a range whose block is not lent, in an open region and under the next serial number, and a block comes back that is lent under that number
 abbrev pub NamesRight : Limits → Event → Layout → Type 0
 NamesRight l (Entered number items did) lay = number ≡ lay.register.next
 NamesRight l (Left number did) lay = IsSome (holdings_at number lay.register.regions)
 NamesRight l (EnteredData items queue did) lay = queue_named queue ≡ Ok tt
 NamesRight l (ExitedData items finalize queue did) lay = queue_named queue ≡ Ok tt
 NamesRight l (Updated items if_present queue did) lay = queue_named queue ≡ Ok tt
-NamesRight l (Waited queue count) lay = (queue_named queue ≡ Ok tt) × (count ≡ length (steps_of queue lay.records.queues))
-NamesRight l (Stepped queue block) lay = option_map (λ t. t.block) (head_of queue lay.records.queues) ≡ Some block
+NamesRight l (Waited queue count) lay = (queue_named queue ≡ Ok tt) × (count ≡ length (steps_of queue lay.records.queues)) × (none_lent (transfers_of queue lay.records.queues) lay.records.loans ≡ Ok tt)
+NamesRight l (Stepped queue block) lay = (option_map (λ t. t.block) (head_of queue lay.records.queues) ≡ Some block) × (is_lent block lay.records.loans ≡ false)
 NamesRight l (HostWritten addr len) lay = in_host l 0 (record { start = addr; len = len }) ≡ Ok tt
+NamesRight l (Lent region section block serial) lay = IsSome (holdings_at region lay.register.regions) × (block_in (where_is section lay.records.ranges) ≡ Some block) × (is_lent block lay.records.loans ≡ false) × (serial ≡ lay.register.serial)
+NamesRight l (Gathered serial block) lay = option_map (λ l. l.serial) (loan_of block lay.records.loans) ≡ Some serial
 
 pub record IsLegal (l : Limits) (e : Event) (lay : Layout) : Type 0 where
   pub names : NamesRight l e lay

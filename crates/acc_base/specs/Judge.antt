@@ -1,24 +1,30 @@
--- What each directive is refused for, in order, and else the event that it makes.
-use Rattle.std.specs.Prelude.{ℕ, nat_lt, List, [], map, length, reverse, Option, Some, None, Result, Ok, Err, ⊤}
+-- What each directive, write and loan is refused for, in order, and else the event that it makes.
+use Rattle.std.specs.Prelude.{ℕ, not, nat_lt, List, [], map, take, length, reverse, Option, is_none, Some, None, Result, Ok, Err, ⊤}
 use Rattle.acc_base.specs.declared.directives.Directive.{Directive}
 use Rattle.acc_base.specs.declared.directives.Directive.TheVariants.{Enter, Exit, EnterData, ExitData, Update, Wait, Step}
+use Rattle.acc_base.specs.declared.items.Section.{Section}
+use Rattle.acc_base.specs.declared.mappings.Found.{Found}
+use Rattle.acc_base.specs.declared.mappings.Found.TheVariants.{Empty, Inside, Partly, Absent}
+use Rattle.acc_base.specs.declared.loans.Loan.{Loan}
 use Rattle.acc_base.specs.declared.regions.Holding.{Holding}
 use Rattle.acc_base.specs.declared.transfers.Transfer.{Transfer}
 use Rattle.acc_base.specs.declared.tasks.Task.{Task}
-use Rattle.acc_base.specs.declared.tasks.Task.TheVariants as tasks
 use Rattle.acc_base.specs.declared.events.Did.{Did}
 use Rattle.acc_base.specs.declared.events.Event.{Event}
 use Rattle.acc_base.specs.declared.events.Event.TheVariants as events
 use Rattle.acc_base.specs.declared.faults.Fault.{Fault}
-use Rattle.acc_base.specs.declared.faults.Fault.TheVariants.{TooManyItems, NoRegion}
+use Rattle.acc_base.specs.declared.faults.Fault.TheVariants.{TooManyItems, PartlyPresent, NotPresent, NoRegion, NoLease}
 use Rattle.acc_base.specs.Results.{◌>>=◌, ◌>>◌, refuse_if}
 use Rattle.acc_base.specs.Limits.{Limits}
-use Rattle.acc_base.specs.Records.{State}
+use Rattle.acc_base.specs.Records.{Records, State}
+use Rattle.acc_base.specs.Ranges.{where_is}
 use Rattle.acc_base.specs.Register.{Register, holdings_at}
+use Rattle.acc_base.specs.Loans.{Leased, not_lent, none_lent, is_returnable}
+use Rattle.acc_base.specs.Bytes.{bytes_of}
 use Rattle.acc_base.specs.Clauses.{in_host}
 use Rattle.acc_base.specs.Acting.{judge_all}
-use Rattle.acc_base.specs.Queues.{head_of, queue_named}
-use Rattle.acc_base.specs.Waits.{steps_of}
+use Rattle.acc_base.specs.Queues.{queue_at, head_of, queue_named}
+use Rattle.acc_base.specs.Waits.{steps_of, transfers_of}
 use Rattle.acc_base.specs.Walk.{enter_task, enter_data_task, exit_task, move_task, leave_tasks}
 
 -- how many items a directive may have
@@ -63,6 +69,16 @@ queue_in (Update items if_present queue) = queue
 queue_in (Wait queue) = queue
 queue_in (Step queue) = Some queue
 
+-- the queued transfers that a directive makes
+abbrev pub transfers_in : Directive → List (List Transfer) → List Transfer
+transfers_in (Enter items) queues = []
+transfers_in (Exit number) queues = []
+transfers_in (EnterData items queue) queues = []
+transfers_in (ExitData items finalize queue) queues = []
+transfers_in (Update items if_present queue) queues = []
+transfers_in (Wait queue) queues = transfers_of queue queues
+transfers_in (Step queue) queues = take 1 (queue_at queue queues)
+
 -- what an accepted call comes to: an event, or nothing to do
 pub data Verdict : Type 0 where
   Makes : Event → Verdict
@@ -83,12 +99,13 @@ verdict_of (Update items if_present queue) s dids = Makes (events.Updated items 
 verdict_of (Wait queue) s dids = Makes (events.Waited queue (length (steps_of queue s.records.queues)))
 verdict_of (Step queue) s dids = step_verdict queue (head_of queue s.records.queues)
 
--- the first refusal of a directive, or what it comes to: an unknown region is told first, then an unknown queue, and then its items in the order in which they act
+-- the first refusal of a directive, or what it comes to: an unknown region is told first, then an unknown queue, and then its items, or the transfers that it makes, in the order in which they act
 unfoldable pub directive_verdict : Limits → Directive → State → Result Verdict Fault
 directive_verdict l d s = do
   tasks ← tasks_of d s.register
   queue_named (queue_in d)
   dids ← judge_all l 0 tasks s
+  none_lent (transfers_in d s.records.queues) s.records.loans
   Ok (verdict_of d s dids)
 
 -- what planning a directive answers: too many items are told before all else
@@ -98,3 +115,28 @@ plan_of l d s = few_items d >> directive_verdict l d s
 -- the event of a write of so many bytes from a host address on
 unfoldable pub host_write_event : Limits → ℕ → ℕ → Result Event Fault
 host_write_event l addr len = in_host l 0 (record { start = addr; len = len }) >> Ok (events.HostWritten addr len)
+
+-- ---- loans
+
+-- a region of the number is open
+abbrev pub region_open : ℕ → Register → Result ⊤ Fault
+region_open number g = refuse_if (is_none (holdings_at number g.regions)) (NoRegion number)
+
+-- the event of a loan of a section that lies there
+abbrev pub lend_there : Found → ℕ → Section → State → Result Event Fault
+lend_there Empty region section s = Err (NotPresent 0)
+lend_there (Inside block offset) region section s = not_lent (Some block) s.records.loans >> Ok (events.Lent region section block s.register.serial)
+lend_there Partly region section s = Err (PartlyPresent 0)
+lend_there Absent region section s = Err (NotPresent 0)
+
+-- the loan of a section of host memory, which is mapped and not lent, in an open region
+unfoldable pub lend_event : Limits → ℕ → Section → State → Result Event Fault
+lend_event l region section s = region_open region s.register >> (in_host l 0 section >> lend_there (where_is section s.records.ranges) region section s)
+
+-- what the lease of a loan holds
+abbrev pub leased : Loan → State → Leased
+leased loan s = record { serial = loan.serial; block = loan.block; offset = loan.offset; len = loan.len; bytes = bytes_of loan.block s.memories }
+
+-- a lease brings its block back
+unfoldable pub gather_event : Leased → Records → Result Event Fault
+gather_event lease w = refuse_if (not (is_returnable lease w.blocks w.loans)) (NoLease lease.serial) >> Ok (events.Gathered lease.serial lease.block)

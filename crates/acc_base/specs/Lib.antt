@@ -5,6 +5,7 @@ pub mod Section
 pub mod Ranges
 pub mod Attachments
 pub mod Blocks
+pub mod Loans
 pub mod Holes
 pub mod Queues
 pub mod Register
@@ -12,6 +13,7 @@ pub mod Records
 pub mod Clauses
 pub mod Tasks
 pub mod Transfers
+pub mod Detaching
 pub mod Steps
 pub mod Bytes
 pub mod Waits

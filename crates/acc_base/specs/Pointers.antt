@@ -1,11 +1,9 @@
--- Pointers: where one lies on the device, what it is to be aimed at, and what attaching and detaching it does (OpenACC 3.3, sections 2.6.8 and 2.7.2).
-use Rattle.std.specs.Prelude.{ℕ, ◌+◌, ◌-◌, Bool, false, if◌then◌else◌, ◌==◌, List, map, take, drop, Option, Some, None, unwrap_or, option_map, slice_index, Result, Ok}
+-- Pointers: what one holds, what it is to be aimed at, what attaching it does, and what attaching and detaching leave of the bytes (OpenACC 3.3, sections 2.6.8 and 2.7.2).
+use Rattle.std.specs.Prelude.{ℕ, ◌+◌, ◌-◌, if◌then◌else◌, ◌==◌, List, map, take, drop, Option, Some, None, unwrap_or, option_map, slice_index, Result, Ok}
 use Rattle.std.specs.Int.{to_le_bytes, from_le_bytes, w64}
-use Rattle.acc_base.specs.declared.mappings.Range.{Range}
 use Rattle.acc_base.specs.declared.mappings.Block.{Block}
 use Rattle.acc_base.specs.declared.mappings.Found.{Found}
 use Rattle.acc_base.specs.declared.mappings.Found.TheVariants.{Empty, Inside, Partly, Absent}
-use Rattle.acc_base.specs.declared.attachments.Attachment.{Attachment}
 use Rattle.acc_base.specs.declared.attachments.Aim.{Aim}
 use Rattle.acc_base.specs.declared.attachments.Aim.TheVariants as aims
 use Rattle.acc_base.specs.declared.faults.Fault.{Fault}
@@ -13,23 +11,15 @@ use Rattle.acc_base.specs.Limits.{Limits}
 use Rattle.acc_base.specs.Section.{covers, host_base, only}
 use Rattle.acc_base.specs.Ranges.{where_is, start_of}
 use Rattle.acc_base.specs.Blocks.{place_of}
-use Rattle.acc_base.specs.Attachments.{pointer_at, count_at, attach, detach}
+use Rattle.acc_base.specs.Attachments.{pointer_at, count_at, attach}
+use Rattle.acc_base.specs.Results.{◌>>◌}
+use Rattle.acc_base.specs.Loans.{not_lent}
 use Rattle.acc_base.specs.Records.{Records, Memory, State}
+use Rattle.acc_base.specs.Detaching.{block_with}
 use Rattle.acc_base.specs.Steps.{records_aimed}
 use Rattle.acc_base.specs.Bytes.{bytes_of, host_byte, written_bytes, memory_changed}
 
--- ---- where a pointer lies, and what it holds
-
--- the block of the range that a section is inside
-abbrev pub block_in : Found → Option ℕ
-block_in Empty = None
-block_in (Inside block offset) = Some block
-block_in Partly = None
-block_in Absent = None
-
--- the block that holds a pointer: its eight bytes are inside one range
-abbrev pub block_with : ℕ → List Range → Option ℕ
-block_with pointer ranges = block_in (where_is (pointer_at pointer) ranges)
+-- ---- what a pointer holds, and where its target lies
 
 -- the number that the eight bytes of a pointer are, in bytes of which the first has this address
 abbrev pub pointer_in : ℕ → ℕ → List ℕ → ℕ
@@ -62,34 +52,17 @@ target_of pointer s = device_address_of (host_pointer pointer s) s.records
 abbrev pub attachment_of : ℕ → Records → ℕ
 attachment_of pointer w = unwrap_or (option_map (λ block. count_at block pointer w.attached) (block_with pointer w.ranges)) 0
 
--- ---- attaching and detaching
+-- ---- attaching
 
--- a pointer that lies in a block is aimed at a target; where one of them is missing, nothing is done
+-- a pointer that lies in a block, which is not lent, is aimed at a target; where pointer or target is missing, nothing is done
 abbrev pub attach_there : Limits → ℕ → ℕ → Option ℕ → Option ℕ → State → Result Aim Fault
 attach_there l n pointer None target s = Ok aims.None
 attach_there l n pointer (Some block) None s = Ok aims.None
-attach_there l n pointer (Some block) (Some target) s = attach l.counter_max n block pointer target (device_pointer block pointer s) s.records.attached
+attach_there l n pointer (Some block) (Some target) s = not_lent (Some block) s.records.loans >> attach l.counter_max n block pointer target (device_pointer block pointer s) s.records.attached
 
 -- attaching the pointer of the item at place n
 unfoldable pub judge_attach : Limits → ℕ → ℕ → State → Result Aim Fault
 judge_attach l n pointer s = attach_there l n pointer (block_with pointer s.records.ranges) (target_of pointer s) s
-
-abbrev pub detach_there : Bool → ℕ → Option ℕ → List Attachment → Aim
-detach_there immediate pointer None attached = aims.None
-detach_there immediate pointer (Some block) attached = detach immediate block pointer attached
-
--- detaching a pointer where it is present, with `finalize` at once
-unfoldable pub judge_detach : Bool → ℕ → Records → Aim
-judge_detach immediate pointer w = detach_there immediate pointer (block_with pointer w.ranges) w.attached
-
-abbrev pub release_there : ℕ → ℕ → Option ℕ → List Attachment → Aim
-release_there pointer block None attached = aims.None
-release_there pointer block (Some now) attached = if now == block then detach false block pointer attached else aims.None
-
--- detaching the pointer that an entry to a region attached, where it is still present in the block of then
-unfoldable pub judge_release : Option (ℕ × ℕ) → Records → Aim
-judge_release None w = aims.None
-judge_release (Some aim) w = release_there aim.0 aim.1 (block_with aim.0 w.ranges) w.attached
 
 -- ---- what it leaves of the bytes
 

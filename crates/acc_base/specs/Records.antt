@@ -4,18 +4,20 @@ use Rattle.acc_base.specs.declared.mappings.Range.{Range}
 use Rattle.acc_base.specs.declared.mappings.Block.{Block}
 use Rattle.acc_base.specs.declared.attachments.Attachment.{Attachment}
 use Rattle.acc_base.specs.declared.transfers.Transfer.{Transfer}
+use Rattle.acc_base.specs.declared.loans.Loan.{Loan}
 use Rattle.acc_base.specs.Queues.{new_queues}
 use Rattle.acc_base.specs.Register.{Register, new_register}
 
--- everything of a device but bytes: the mapped ranges by rising start, the blocks by rising number, the attachment counters above zero by rising block and pointer, how many blocks were ever born, and the queued transfers
+-- everything of a device but bytes: the mapped ranges by rising start, the blocks by rising number, the attachment counters above zero by rising block and pointer, how many blocks were ever born, the queued transfers, and the loans by rising block
 pub record Records : Type 0 where
   pub ranges : List Range
   pub blocks : List Block
   pub attached : List Attachment
   pub births : ℕ
   pub queues : List (List Transfer)
+  pub loans : List Loan
 
--- the bytes of a block, each at its offset
+-- the bytes of a block, each at its offset; none while it is lent
 pub record Memory : Type 0 where
   pub block : ℕ
   pub bytes : List ℕ
@@ -36,9 +38,9 @@ pub record State : Type 0 where
 abbrev pub layout_of : State → Layout
 layout_of s = record { records = s.records; register = s.register }
 
--- nothing is mapped, no block was born, and the queues are empty
+-- nothing is mapped, no block was born, the queues are empty, and nothing is lent
 abbrev pub new_records : Records
-new_records = record { ranges = []; blocks = []; attached = []; births = 0; queues = new_queues }
+new_records = record { ranges = []; blocks = []; attached = []; births = 0; queues = new_queues; loans = [] }
 
 -- nothing is mapped, and no region is open
 abbrev pub new_layout : Layout

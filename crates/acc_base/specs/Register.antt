@@ -1,4 +1,4 @@
--- The open data regions, each with what its own entry counted (OpenACC 3.3, sections 2.6.5 and 2.6.7).
+-- What there is once, whatever the device: the open data regions, each with what its own entry counted (OpenACC 3.3, sections 2.6.5 and 2.6.7), and the numbers of the next region and the next loan.
 use Rattle.std.specs.Prelude.{ℕ, ◌+◌, Bool, false, not, if◌then◌else◌, nat_lt, ◌==◌, List, [], ◌∷◌, Option, Some, None, find, filter, option_map, sum_by, count_by}
 use Rattle.acc_base.specs.declared.regions.Holding.{Holding}
 
@@ -7,14 +7,15 @@ pub record Region : Type 0 where
   pub number : ℕ
   pub holdings : List Holding
 
--- the open regions by rising number, and the number of the next one
+-- the open regions by rising number, the number of the next one, and the serial number of the next loan
 pub record Register : Type 0 where
   pub regions : List Region
   pub next : ℕ
+  pub serial : ℕ
 
--- no region was opened; the first one has the number 1
+-- no region was opened and nothing was lent; the first region and the first loan have the number 1
 abbrev pub new_register : Register
-new_register = record { regions = []; next = 1 }
+new_register = record { regions = []; next = 1; serial = 1 }
 
 -- the open region of a number
 abbrev pub region_at : ℕ → List Region → Option Region
@@ -41,11 +42,15 @@ without_region number regions = filter (λ r. not (r.number == number)) regions
 
 -- a region of the next number is open
 abbrev pub opened : List Holding → Register → Register
-opened holdings g = record { regions = with_region (record { number = g.next; holdings = holdings }) g.regions; next = g.next + 1 }
+opened holdings g = record { regions = with_region (record { number = g.next; holdings = holdings }) g.regions; next = g.next + 1; serial = g.serial }
 
 -- the region of a number is open no longer
 abbrev pub closed : ℕ → Register → Register
-closed number g = record { regions = without_region number g.regions; next = g.next }
+closed number g = record { regions = without_region number g.regions; next = g.next; serial = g.serial }
+
+-- a loan has taken the next serial number
+abbrev pub numbered : Register → Register
+numbered g = record { regions = g.regions; next = g.next; serial = g.serial + 1 }
 
 -- ---- how often a block is held
 

@@ -1,6 +1,5 @@
 -- The step of an item: its refusal, or what it does to mappings and counters, and to the queues. And what its pointer leaves of the records.
-use Rattle.std.specs.Prelude.{ℕ, ◌+◌, Bool, true, false, not, ◌||◌, if◌then◌else◌, ◌==◌, List, [], ◌∷◌, ◌++◌, Option, None, is_some, Result, Ok}
-use Rattle.acc_base.specs.declared.items.Section.{Section}
+use Rattle.std.specs.Prelude.{ℕ, ◌+◌, Bool, true, false, not, ◌||◌, if◌then◌else◌, ◌==◌, List, [], ◌∷◌, ◌++◌, Option, None, Some, is_none, is_some, Result, Ok}
 use Rattle.acc_base.specs.declared.mappings.Range.{Range}
 use Rattle.acc_base.specs.declared.tasks.Task.{Task}
 use Rattle.acc_base.specs.declared.tasks.Task.TheVariants.{Enter, Leave, Exit, Move}
@@ -18,8 +17,44 @@ use Rattle.acc_base.specs.Blocks.{without_block}
 use Rattle.acc_base.specs.Queues.{pins_of}
 use Rattle.acc_base.specs.Attachments.{without_attachments, attached_by}
 use Rattle.acc_base.specs.Clauses.{is_attach, is_detach, in_host, enter_row, leave_row, exit_row, move_row}
+use Rattle.acc_base.specs.Loans.{not_lent}
+use Rattle.acc_base.specs.Detaching.{detach_if, judge_release, block_aimed}
 use Rattle.acc_base.specs.Tasks.{section_of, pointer_of, queue_of, recounted, checked}
 use Rattle.acc_base.specs.Transfers.{transfer_of, room_for, queues_after}
+
+-- ---- its pointer beside its step
+
+-- the step did something
+abbrev pub is_action : Step → Bool
+is_action Nothing = false
+is_action (Counted block) = true
+is_action (Born block place) = true
+is_action (Dropped block ended) = true
+is_action (Moved block) = true
+
+-- the pointer that an item attaches or detaches beside its step: the one that it names, where the step did something or the clause names a pointer alone
+abbrev pub pointer_aimed : Task → Step → Option ℕ
+pointer_aimed (Enter counter item queue) step = if is_attach item.clause || is_action step then pointer_of (Enter counter item queue) else None
+pointer_aimed (Leave holding) step = None
+pointer_aimed (Exit finalize item queue) step = if is_detach item.clause || is_action step then pointer_of (Exit finalize item queue) else None
+pointer_aimed (Move if_present item queue) step = None
+
+-- ---- the blocks that must not be lent
+
+-- the block in which the task detaches a pointer before its step
+abbrev pub block_detached : Task → Step → Records → Option ℕ
+block_detached (Enter counter item queue) step w = None
+block_detached (Leave holding) step w = block_aimed (judge_release holding.aim w)
+block_detached (Exit finalize item queue) step w = block_aimed (detach_if finalize (pointer_aimed (Exit finalize item queue) step) w)
+block_detached (Move if_present item queue) step w = None
+
+-- the block that the step takes a counter from, or whose bytes it copies at once
+abbrev pub block_needed : Task → Step → Option ℕ
+block_needed task Nothing = None
+block_needed task (Counted block) = None
+block_needed task (Born block place) = None
+block_needed task (Dropped block ended) = Some block
+block_needed task (Moved block) = if is_none (queue_of task) then Some block else None
 
 -- ---- its refusal, or its step
 
@@ -30,10 +65,12 @@ judge_row l n (Leave holding) w = leave_row holding.block (recounted (Leave hold
 judge_row l n (Exit finalize item queue) w = checked l n (Exit finalize item queue) >> exit_row (where_is (section_of (Exit finalize item queue)) w.ranges) (recounted (Exit finalize item queue)) n w
 judge_row l n (Move if_present item queue) w = in_host l n item.section >> move_row (where_is item.section w.ranges) if_present n
 
--- and then the queue of its transfer, if it has one, has room for it
+-- then what it needs is not lent, first for its pointer and then for its step, and the queue of its transfer, if it has one, has room for it
 unfoldable pub judge_step : Limits → ℕ → Task → Records → Result Step Fault
 judge_step l n task w = do
   step ← judge_row l n task w
+  not_lent (block_detached task step w) w.loans
+  not_lent (block_needed task step) w.loans
   room_for l.queue_cap (queue_of task) (transfer_of task step w.ranges) w.queues
   Ok step
 
@@ -83,22 +120,7 @@ with_put task step w = record w { queues = queues_after (queue_of task) (transfe
 unfoldable pub act_step : Task → Step → Records → Records
 act_step task step w = act_row task step (with_put task step w)
 
--- ---- its pointer (OpenACC 3.3, sections 2.6.8 and 2.7.2)
-
--- the step did something
-abbrev pub is_action : Step → Bool
-is_action Nothing = false
-is_action (Counted block) = true
-is_action (Born block place) = true
-is_action (Dropped block ended) = true
-is_action (Moved block) = true
-
--- the pointer that an item attaches or detaches beside its step: the one that it names, where the step did something or the clause names a pointer alone
-abbrev pub pointer_aimed : Task → Step → Option ℕ
-pointer_aimed (Enter counter item queue) step = if is_attach item.clause || is_action step then pointer_of (Enter counter item queue) else None
-pointer_aimed (Leave holding) step = None
-pointer_aimed (Exit finalize item queue) step = if is_detach item.clause || is_action step then pointer_of (Exit finalize item queue) else None
-pointer_aimed (Move if_present item queue) step = None
+-- ---- what its pointer leaves of the records (OpenACC 3.3, sections 2.6.8 and 2.7.2)
 
 -- the records after an attachment or a detachment
 abbrev pub records_aimed : Aim → Records → Records

@@ -1,5 +1,6 @@
 -- Queued transfers are made: the first of a queue, or all of one queue or of all of them (OpenACC 3.3, section 2.16 and the wait directive).
 use Rattle.std.specs.Prelude.{ℕ, suc, ◌&&◌, nat_le, List, [], ◌∷◌, ◌++◌, length, filter, replicate, Option, Some, None, is_none, option_map}
+use Rattle.std.specs.List.{flat_map}
 use Rattle.acc_base.specs.declared.mappings.Block.{Block}
 use Rattle.acc_base.specs.declared.mappings.Ended.{Ended}
 use Rattle.acc_base.specs.declared.transfers.Transfer.{Transfer}
@@ -52,6 +53,11 @@ steps_from q (transfers ∷ queues) = replicate (length transfers) q ++ steps_fr
 abbrev pub steps_of : Option ℕ → List (List Transfer) → List ℕ
 steps_of (Some q) queues = replicate (length (queue_at q queues)) q
 steps_of None queues = steps_from 0 queues
+
+-- the transfers of a wait, in the order in which it makes them
+abbrev pub transfers_of : Option ℕ → List (List Transfer) → List Transfer
+transfers_of (Some q) queues = queue_at q queues
+transfers_of None queues = flat_map (λ transfers. transfers) queues
 
 -- ---- blocks whose mapping has ended
 

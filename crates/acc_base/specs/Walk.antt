@@ -1,11 +1,14 @@
 -- What an event asked and did, and what it leaves of the records and the register. It reads the event alone, and no bytes.
-use Rattle.std.specs.Prelude.{ℕ, Bool, List, [], ◌∷◌, map, reverse, Option, Some, None, unwrap_or}
+use Rattle.std.specs.Prelude.{ℕ, ◌-◌, Bool, List, [], ◌∷◌, map, reverse, Option, Some, None, unwrap_or}
+use Rattle.acc_base.specs.declared.items.Section.{Section}
 use Rattle.acc_base.specs.declared.items.Item.{Item}
 use Rattle.acc_base.specs.declared.items.RegionClause.{RegionClause}
 use Rattle.acc_base.specs.declared.items.EnterClause.{EnterClause}
 use Rattle.acc_base.specs.declared.items.ExitClause.{ExitClause}
 use Rattle.acc_base.specs.declared.items.UpdateClause.{UpdateClause}
 use Rattle.acc_base.specs.declared.transfers.Transfer.{Transfer}
+use Rattle.acc_base.specs.declared.loans.Loan.{Loan}
+use Rattle.acc_base.specs.declared.mappings.Range.{Range}
 use Rattle.acc_base.specs.declared.mappings.Counter.TheVariants.{Structured, Dynamic}
 use Rattle.acc_base.specs.declared.regions.Holding.{Holding}
 use Rattle.acc_base.specs.declared.tasks.Task.{Task}
@@ -16,9 +19,11 @@ use Rattle.acc_base.specs.declared.events.Step.{Step}
 use Rattle.acc_base.specs.declared.events.Step.TheVariants.{Nothing, Counted, Born, Dropped, Moved}
 use Rattle.acc_base.specs.declared.events.Did.{Did}
 use Rattle.acc_base.specs.declared.events.Event.{Event}
-use Rattle.acc_base.specs.declared.events.Event.TheVariants.{Entered, Left, EnteredData, ExitedData, Updated, Waited, Stepped, HostWritten}
-use Rattle.acc_base.specs.Records.{Layout}
-use Rattle.acc_base.specs.Register.{Register, holdings_at, opened, closed}
+use Rattle.acc_base.specs.declared.events.Event.TheVariants.{Entered, Left, EnteredData, ExitedData, Updated, Waited, Stepped, HostWritten, Lent, Gathered}
+use Rattle.acc_base.specs.Records.{Records, Layout}
+use Rattle.acc_base.specs.Register.{Register, holdings_at, opened, closed, numbered}
+use Rattle.acc_base.specs.Ranges.{start_of}
+use Rattle.acc_base.specs.Loans.{with_loan, without_loan}
 use Rattle.acc_base.specs.Clauses.{as_region}
 use Rattle.acc_base.specs.Steps.{act_all}
 use Rattle.acc_base.specs.Waits.{records_drained, steps_of}
@@ -54,6 +59,8 @@ asked_in (Updated items if_present queue did) g = map (move_task if_present queu
 asked_in (Waited queue count) g = []
 asked_in (Stepped queue block) g = []
 asked_in (HostWritten addr len) g = []
+asked_in (Lent region section block serial) g = []
+asked_in (Gathered serial block) g = []
 
 -- what was done, in the same order
 abbrev pub done_in : Event → List Did
@@ -65,6 +72,8 @@ done_in (Updated items if_present queue did) = did
 done_in (Waited queue count) = []
 done_in (Stepped queue block) = []
 done_in (HostWritten addr len) = []
+done_in (Lent region section block serial) = []
+done_in (Gathered serial block) = []
 
 -- the queues whose first transfers it made, in that order
 abbrev pub stepped_in : Event → List (List Transfer) → List ℕ
@@ -76,6 +85,8 @@ stepped_in (Updated items if_present queue did) queues = []
 stepped_in (Waited queue count) queues = steps_of queue queues
 stepped_in (Stepped queue block) queues = queue ∷ []
 stepped_in (HostWritten addr len) queues = []
+stepped_in (Lent region section block serial) queues = []
+stepped_in (Gathered serial block) queues = []
 
 -- ---- what it leaves of the register
 
@@ -100,7 +111,7 @@ abbrev pub holdings_of : List (Item RegionClause) → List Did → List Holding
 holdings_of (item ∷ items) (did ∷ dids) = record { item = item; block = block_counted did.step; aim = pointer_attached did.aim } ∷ holdings_of items dids
 holdings_of _ _ = []
 
--- entry and exit of a region alone change the register
+-- entry to a region, exit from one and a loan alone change the register
 abbrev pub register_after : Event → Register → Register
 register_after (Entered number items did) g = opened (holdings_of items did) g
 register_after (Left number did) g = closed number g
@@ -110,12 +121,32 @@ register_after (Updated items if_present queue did) g = g
 register_after (Waited queue count) g = g
 register_after (Stepped queue block) g = g
 register_after (HostWritten addr len) g = g
+register_after (Lent region section block serial) g = numbered g
+register_after (Gathered serial block) g = g
+
+-- ---- what it leaves of the loans
+
+-- the loan of a section of a block
+abbrev pub loan_at : ℕ → ℕ → Section → List Range → Loan
+loan_at serial block section ranges = record { serial = serial; block = block; offset = section.start - start_of block ranges; len = section.len }
+
+unfoldable pub loaned : Event → Records → Records
+loaned (Entered number items did) w = w
+loaned (Left number did) w = w
+loaned (EnteredData items queue did) w = w
+loaned (ExitedData items finalize queue did) w = w
+loaned (Updated items if_present queue did) w = w
+loaned (Waited queue count) w = w
+loaned (Stepped queue block) w = w
+loaned (HostWritten addr len) w = w
+loaned (Lent region section block serial) w = record w { loans = with_loan (loan_at serial block section w.ranges) w.loans }
+loaned (Gathered serial block) w = record w { loans = without_loan block w.loans }
 
 -- ---- the layout after an event
 
 unfoldable pub walk : Event → Layout → Layout
 walk e lay = record {
-  records = records_drained (stepped_in e lay.records.queues) (act_all (asked_in e lay.register) (done_in e) lay.records);
+  records = loaned e (records_drained (stepped_in e lay.records.queues) (act_all (asked_in e lay.register) (done_in e) lay.records));
   register = register_after e lay.register;
 }
 

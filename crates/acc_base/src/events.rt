@@ -1,6 +1,6 @@
 //! What an accepted call did, as it is kept in the trace of a table.
 
-use crate::{Aim, EnterClause, ExitClause, Item, List, RegionClause, UpdateClause};
+use crate::{Aim, EnterClause, ExitClause, Item, List, RegionClause, Section, UpdateClause};
 
 /// What an item of a data clause did to mappings, counters and bytes.
 #[derive(Clone, Copy, Debug, Default, PartialEq, Eq)]
@@ -113,5 +113,23 @@ pub enum Event {
         addr: u64,
         /// How many bytes were written.
         len: u64,
+    },
+    /// The block of a section was lent to a kernel.
+    Lent {
+        /// The number of the open region in which it was lent.
+        region: u64,
+        /// The section that the kernel may read and write.
+        section: Section,
+        /// The number of the block.
+        block: u64,
+        /// The serial number of the loan.
+        serial: u64,
+    },
+    /// A lent block came back. Its bytes are not stored here.
+    Gathered {
+        /// The serial number of the loan.
+        serial: u64,
+        /// The number of the block.
+        block: u64,
     },
 }

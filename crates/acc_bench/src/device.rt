@@ -121,11 +121,11 @@ fn oldest_at(round: u64, count: u64, first: u64) -> u64 {
     }
 }
 
-/// Ends the mapping of a block, if the device has it: as no transfer names it, it is given back.
+/// Ends the mapping of a block, if the device has it and it is not lent: as no transfer names it, it is given back.
 fn retire_if_there(device: &mut Device, block: u64)
     ensures { device.new.births ≡ device.old.births }
 {
-    if device.has(block) && !device.has_ended(block) {
+    if device.has(block) && !device.has_ended(block) && device.bytes(block).is_some() {
         device.retire(block);
     }
 }

@@ -6,10 +6,10 @@ use crate::limits::largest;
 use crate::queues::measure_queues;
 use crate::rows::tell;
 use acc_base::{
-    Call, Directive, EnterClause, ExitClause, Fault, HOST_BASE, Item, List, RegionClause, Section,
+    Directive, EnterClause, ExitClause, Fault, HOST_BASE, Item, List, RegionClause, Section,
     UpdateClause,
 };
-use acc_table::{Reply, Table};
+use acc_table::{Call, Reply, Table, abandon};
 use anyhow::Result;
 use std::alloc::{AllocError, Global};
 use std::rt::Clock;
@@ -113,10 +113,7 @@ fn attach_pointers(table: &mut Table, alloc: Global, count: u64) -> Result<(), F
 /// Writes into host memory.
 fn write(table: &mut Table, alloc: Global, addr: u64, bytes: &[u8]) -> Result<(), Fault> {
     let bytes = List::from_vec(Vec::from_slice(alloc, bytes)?);
-    match table.apply(Call::HostWrite { addr, bytes }) {
-        Ok(_) => Ok(()),
-        Err((_, fault)) => Err(fault),
-    }
+    make(table, Call::HostWrite { addr, bytes })
 }
 
 /// Measures updates of a section both ways, and a plain copy of as many bytes.
@@ -396,9 +393,20 @@ pub fn update(
 
 /// Carries out a directive.
 pub fn apply(table: &mut Table, directive: Directive) -> Result<(), Fault> {
-    match table.apply(Call::Do(directive)) {
-        Ok(_) => Ok(()),
-        Err((_, fault)) => Err(fault),
+    make(table, Call::Do(directive))
+}
+
+/// Makes a call, whose answer is not looked at.
+fn make(table: &mut Table, call: Call) -> Result<(), Fault> {
+    match table.apply(call) {
+        Ok(reply) => {
+            reply.abandon();
+            Ok(())
+        }
+        Err((call, fault)) => {
+            abandon(call);
+            Err(fault)
+        }
     }
 }
 
@@ -406,7 +414,13 @@ pub fn apply(table: &mut Table, directive: Directive) -> Result<(), Fault> {
 fn enter_region(table: &mut Table, directive: Directive) -> Result<u64, Fault> {
     match table.apply(Call::Do(directive)) {
         Ok(Reply::Entered { number }) => Ok(number),
-        Ok(_) => Ok(0),
-        Err((_, fault)) => Err(fault),
+        Ok(other) => {
+            other.abandon();
+            Ok(0)
+        }
+        Err((call, fault)) => {
+            abandon(call);
+            Err(fault)
+        }
     }
 }

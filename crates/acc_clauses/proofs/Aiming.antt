@@ -16,8 +16,9 @@ use Rattle.acc_dev.specs.Device.{DeviceState}
 use Rattle.acc_attach.specs.Attached.{AttachedState, left_of}
 use Rattle.acc_attach.specs.declared.left.Left.{Left}
 use Rattle.acc_attach.specs.declared.left.Left.TheVariants as left
+use Rattle.acc_clauses.specs.declared.numbers.Numbers.{Numbers}
 use Rattle.acc_clauses.specs.declared.environments.Environment.{Environment}
-use Rattle.acc_clauses.specs.Contents.{AreMarked, state_of}
+use Rattle.acc_clauses.specs.Contents.{AreMarked, state_of, bare_state}
 use Rattle.acc_clauses.specs.Acts.{CanDetach, pointers_of, IsAimedBy}
 use Rattle.acc_clauses.proofs.Changes.{state_by}
 
@@ -29,7 +30,7 @@ with_put pointer block x start bytes = record x { device = record x.device { mem
 pub target_put : (pointer block target start : ℕ) (x : Environment) (new : DeviceState) (bytes : List ℕ)
     → new ≡ record x.device { memories = map (memory_changed block (written_bytes (covers (pointer_at pointer)) (λ a. slice_index bytes (a - pointer)) start)) x.device.memories }
     → bytes ≡ to_le_bytes w64 target → start ≡ start_of block x.present.table.ranges
-    → record x { device = new } ≡ record x { device = record x.device { memories = pointer_written block pointer (λ a. slice_index (to_le_bytes w64 target) (a - pointer)) (state_of x 0) } }
+    → record x { device = new } ≡ record x { device = record x.device { memories = pointer_written block pointer (λ a. slice_index (to_le_bytes w64 target) (a - pointer)) (bare_state x) } }
 target_put pointer block target start x new bytes put eight first =
     ap (λ (d : DeviceState). let y : Environment = record x { device = d } in y) put
     ∙ (ap (with_put pointer block x start) eight ∙ ap (λ n. with_put pointer block x n (to_le_bytes w64 target)) first)
@@ -39,11 +40,11 @@ abbrev pub with_pointers : Environment → List Memory → AttachedState → Env
 with_pointers x ms b = record x { device = record x.device { memories = ms }; attached = b }
 
 -- they are what an attachment or a detachment leaves
-aims_by : (aim : Aim) (x : Environment) (ms : List Memory) (b : AttachedState) → ((next : ℕ) → ms ≡ memories_aimed aim (state_of x next)) → b.attached ≡ attached_by aim x.attached.attached → b.counter_max ≡ x.attached.counter_max
+aims_by : (aim : Aim) (x : Environment) (ms : List Memory) (b : AttachedState) → ((next : Numbers) → ms ≡ memories_aimed aim (state_of x next)) → b.attached ≡ attached_by aim x.attached.attached → b.counter_max ≡ x.attached.counter_max
     → x.attached.spare ≤ b.spare + pointers_of aim → AreMarked x → IsAimedBy aim x (with_pointers x ms b)
 unfolding aimed
 aims_by aim x ms b memories attached limit spare marked = record {
-  state = λ next. state_by (with_pointers x ms b) next (aimed aim (state_of x next)) refl refl attached refl refl refl refl refl (memories next);
+  state = λ next. state_by (with_pointers x ms b) next (aimed aim (state_of x next)) refl refl attached refl refl refl refl refl refl refl (memories next);
   counter_max = refl;
   size = refl;
   pointer_max = limit;
@@ -55,7 +56,7 @@ aims_by aim x ms b memories attached limit spare marked = record {
 pub none_aims : (x : Environment) → AreMarked x → IsAimedBy aims.None x x
 none_aims x marked = aims_by aims.None x x.device.memories x.attached (λ next. refl) refl refl (omega arith) marked
 
-pub new_aims : (pointer block target : ℕ) (x y : Environment) (ms : List Memory) (b : AttachedState) → y ≡ record x { device = record x.device { memories = ms } } → ((next : ℕ) → ms ≡ memories_aimed (aims.New pointer block target) (state_of x next))
+pub new_aims : (pointer block target : ℕ) (x y : Environment) (ms : List Memory) (b : AttachedState) → y ≡ record x { device = record x.device { memories = ms } } → ((next : Numbers) → ms ≡ memories_aimed (aims.New pointer block target) (state_of x next))
     → b.attached ≡ with_count block pointer 1 y.attached.attached → b.counter_max ≡ y.attached.counter_max → y.attached.spare ≤ b.spare + 1 → AreMarked x → IsAimedBy (aims.New pointer block target) x (record y { attached = b })
 new_aims pointer block target x y ms b e memories attached limit spare marked =
     let first : b.attached ≡ with_count block pointer 1 x.attached.attached = rw e at attached in
@@ -73,14 +74,14 @@ again_aims pointer block x b attached limit spare marked = aims_by (aims.Again p
 detached : (immediate : Bool) (block pointer : ℕ) (xs : List Attachment) → 0 < count_at block pointer xs → detach immediate block pointer xs ≡ cond immediate (aims.Cleared pointer block) (aims.Less pointer block)
 detached immediate block pointer xs some = let more : (count_at block pointer xs == 0) ≡ false = grind (arith, nat_tests) in rw more refl
 
-pub cleared_aims : (pointer block : ℕ) (x y : Environment) (b : AttachedState) → CanDetach pointer block (state_of x 0)
-    → y ≡ record x { device = record x.device { memories = pointer_written block pointer (host_byte x.host) (state_of x 0) } }
+pub cleared_aims : (pointer block : ℕ) (x y : Environment) (b : AttachedState) → CanDetach pointer block (bare_state x)
+    → y ≡ record x { device = record x.device { memories = pointer_written block pointer (host_byte x.host) (bare_state x) } }
     → b.attached ≡ attached_by (detach true block pointer y.attached.attached) y.attached.attached → b.counter_max ≡ y.attached.counter_max → y.attached.spare ≤ b.spare → AreMarked x → IsAimedBy (aims.Cleared pointer block) x (record y { attached = b })
 cleared_aims pointer block x y b can e attached limit spare marked =
     let first : b.attached ≡ attached_by (detach true block pointer x.attached.attached) x.attached.attached = rw e at attached in
     let second : b.counter_max ≡ x.attached.counter_max = rw e at limit in
     let third : x.attached.spare ≤ b.spare = rw e at spare in
-    rw e (aims_by (aims.Cleared pointer block) x (pointer_written block pointer (host_byte x.host) (state_of x 0)) b (λ next. refl)
+    rw e (aims_by (aims.Cleared pointer block) x (pointer_written block pointer (host_byte x.host) (bare_state x)) b (λ next. refl)
     (first ∙ ap (λ a. attached_by a x.attached.attached) (detached true block pointer x.attached.attached can.some)) second (omega (arith, third)) marked)
 
 -- what is left of a counter tells whether it was one
@@ -104,18 +105,18 @@ pub not_zero : (l : Left) → (l ≡ left.Nothing) ⊎ (l ≡ left.Less) → lef
 not_zero l (inl e) z = cc
 not_zero l (inr e) z = cc
 
-less_attached : (pointer block : ℕ) (x : Environment) (b : AttachedState) → CanDetach pointer block (state_of x 0) → b.attached ≡ attached_by (detach false block pointer x.attached.attached) x.attached.attached
+less_attached : (pointer block : ℕ) (x : Environment) (b : AttachedState) → CanDetach pointer block (bare_state x) → b.attached ≡ attached_by (detach false block pointer x.attached.attached) x.attached.attached
     → b.attached ≡ attached_by (aims.Less pointer block) x.attached.attached
 less_attached pointer block x b can e = e ∙ ap (λ a. attached_by a x.attached.attached) (detached false block pointer x.attached.attached can.some)
 
-pub zero_aims : (pointer block : ℕ) (x y : Environment) (b : AttachedState) → CanDetach pointer block (state_of x 0) → left.Zero ≡ left_of false (count_at block pointer x.attached.attached)
+pub zero_aims : (pointer block : ℕ) (x y : Environment) (b : AttachedState) → CanDetach pointer block (bare_state x) → left.Zero ≡ left_of false (count_at block pointer x.attached.attached)
     → b.attached ≡ attached_by (detach false block pointer x.attached.attached) x.attached.attached → b.counter_max ≡ x.attached.counter_max → x.attached.spare ≤ b.spare
-    → y ≡ with_pointers x (pointer_written block pointer (host_byte x.host) (state_of x 0)) b → AreMarked x → IsAimedBy (aims.Less pointer block) x y
+    → y ≡ with_pointers x (pointer_written block pointer (host_byte x.host) (bare_state x)) b → AreMarked x → IsAimedBy (aims.Less pointer block) x y
 zero_aims pointer block x y b can zero attached limit spare e marked =
     let one : (count_at block pointer x.attached.attached == 1) ≡ true = was_one _ zero in
-    rw e (aims_by (aims.Less pointer block) x (pointer_written block pointer (host_byte x.host) (state_of x 0)) b (λ next. rw one refl) (less_attached pointer block x b can attached) limit (omega (arith, spare)) marked)
+    rw e (aims_by (aims.Less pointer block) x (pointer_written block pointer (host_byte x.host) (bare_state x)) b (λ next. rw one refl) (less_attached pointer block x b can attached) limit (omega (arith, spare)) marked)
 
-pub less_aims : (pointer block : ℕ) (x : Environment) (b : AttachedState) → CanDetach pointer block (state_of x 0) → (left.Zero ≡ left_of false (count_at block pointer x.attached.attached) → ⊥)
+pub less_aims : (pointer block : ℕ) (x : Environment) (b : AttachedState) → CanDetach pointer block (bare_state x) → (left.Zero ≡ left_of false (count_at block pointer x.attached.attached) → ⊥)
     → b.attached ≡ attached_by (detach false block pointer x.attached.attached) x.attached.attached → b.counter_max ≡ x.attached.counter_max → x.attached.spare ≤ b.spare → AreMarked x → IsAimedBy (aims.Less pointer block) x (record x { attached = b })
 less_aims pointer block x b can more attached limit spare marked =
     let other : (count_at block pointer x.attached.attached == 1) ≡ false = was_more _ can.some more in

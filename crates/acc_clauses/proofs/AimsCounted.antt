@@ -16,7 +16,7 @@ use Rattle.acc_base.specs.Ranges.{range_of, counter_in, counter_of, without_rang
 use Rattle.acc_base.specs.Attachments.{count_at, count_after, without_attachments}
 use Rattle.acc_base.specs.Tasks.{recounted}
 use Rattle.acc_base.specs.Steps.{records_aimed, records_after_birth, records_after_end, released, is_in_use, with_range_changed, with_put, act_row, act_step, act, act_all}
-use Rattle.acc_base.specs.Pointers.{block_with}
+use Rattle.acc_base.specs.Detaching.{block_with}
 use Rattle.acc_base.specs.History.{AreJudged}
 use Rattle.acc_base.specs.Accounts.{IsCounted, AreRecordsSound}
 use Rattle.acc_base.proofs.Results.{equal, equal_self}
@@ -95,7 +95,7 @@ unfolding act_all
 gone-after l n [] w block bounds h judged gone = gone
 gone-after l n (x ∷ xs) w block bounds h judged gone =
     let says = task_says l n x.task w x.did.step judged.0 in
-    let left : IsLeft l x.task x.did w (act x.task x.did w) = task_left l x.task x.did w bounds h says (step_judged l n x.task w x.did.step judged.0).room judged.1 in
+    let left : IsLeft l x.task x.did w (act x.task x.did w) = task_left l x.task x.did w bounds h says (step_judged l n x.task w x.did.step judged.0).free judged.1 in
     gone-after l (suc n) xs (act x.task x.did w) block bounds left.sound judged.2 (gone-act l x.task x.did w block h says left gone)
 
 -- the block whose mapping a task ends was born
@@ -158,7 +158,7 @@ ends_none l n x xs w block bounds h judged mapped = go x.did.step refl
     says = task_says l n x.task w x.did.step judged.0
 
     sound : AreRecordsSound l (act x.task x.did w)
-    sound = (task_left l x.task x.did w bounds h says (step_judged l n x.task w x.did.step judged.0).room judged.1).sound
+    sound = (task_left l x.task x.did w bounds h says (step_judged l n x.task w x.did.step judged.0).free judged.1).sound
 
     gone : (k : ℕ) → x.did.step ≡ Dropped k true → IsGone (act x.task x.did w) k
     gone k is =
@@ -185,7 +185,7 @@ unfolding act_all
 count-after l n [] w block pointer bounds h judged mapped = refl
 count-after l n (x ∷ xs) w block pointer bounds h judged mapped =
     let says = task_says l n x.task w x.did.step judged.0 in
-    let left : IsLeft l x.task x.did w (act x.task x.did w) = task_left l x.task x.did w bounds h says (step_judged l n x.task w x.did.step judged.0).room judged.1 in
+    let left : IsLeft l x.task x.did w (act x.task x.did w) = task_left l x.task x.did w bounds h says (step_judged l n x.task w x.did.step judged.0).free judged.1 in
     ap (λ c. count_over block pointer c xs) (sym (count-act x.task x.did w block pointer (ends_none l n x xs w block bounds h judged mapped)))
     ∙ count-after l (suc n) xs (act x.task x.did w) block pointer bounds left.sound judged.2 mapped
 

@@ -25,7 +25,8 @@ use Rattle.acc_base.specs.Blocks.{rounded, block_at, place_of}
 use Rattle.acc_base.specs.Attachments.{pointer_at}
 use Rattle.acc_base.specs.Tasks.{section_of, recounted}
 use Rattle.acc_base.specs.Steps.{records_after_birth, with_range_changed, act_row, act_step, act, act_all}
-use Rattle.acc_base.specs.Pointers.{block_in, block_with, address_in}
+use Rattle.acc_base.specs.Detaching.{block_in, block_with}
+use Rattle.acc_base.specs.Pointers.{address_in}
 use Rattle.acc_base.specs.History.{IsTarget, AreJudged}
 use Rattle.acc_base.specs.Accounts.{IsOnDevice, IsMapped, AreRecordsSound}
 use Rattle.acc_base.proofs.Results.{and_true}
@@ -145,7 +146,7 @@ before-after l n (x ∷ xs) w pointer block bounds h judged entries there e =
     let says = task_says l n x.task w x.did.step judged.0 in
     let kinds = and_true (enters x.task) (list_all enters (tasks_in xs)) entries in
     before-act l x.task x.did w pointer block h says kinds.0 there
-    (before-after l (suc n) xs (act x.task x.did w) pointer block bounds (task_left l x.task x.did w bounds h says (step_judged l n x.task w x.did.step judged.0).room judged.1).sound judged.2 kinds.1 (there-act l x.task x.did w block says kinds.0 there) e)
+    (before-after l (suc n) xs (act x.task x.did w) pointer block bounds (task_left l x.task x.did w bounds h says (step_judged l n x.task w x.did.step judged.0).free judged.1).sound judged.2 kinds.1 (there-act l x.task x.did w block says kinds.0 there) e)
 
 -- ---- targets
 

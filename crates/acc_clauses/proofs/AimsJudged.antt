@@ -16,9 +16,12 @@ use Rattle.acc_base.specs.Ranges.{start_of}
 use Rattle.acc_base.specs.Blocks.{block_at}
 use Rattle.acc_base.specs.Attachments.{count_at, attach}
 use Rattle.acc_base.specs.Bytes.{bytes_of}
-use Rattle.acc_base.specs.Pointers.{block_with, pointer_in, host_pointer, device_pointer, device_address_of, attach_there, judge_attach}
+use Rattle.acc_base.specs.Detaching.{block_with}
+use Rattle.acc_base.specs.Loans.{is_lent, not_lent}
+use Rattle.acc_base.specs.Pointers.{pointer_in, host_pointer, device_pointer, device_address_of, attach_there, judge_attach}
 use Rattle.acc_base.specs.Accounts.{AreRecordsSound, AreMemoriesSized}
 use Rattle.acc_base.proofs.Walked.{records-act_all_state}
+use Rattle.acc_base.proofs.Loaned.{loans-act_all}
 use Rattle.acc_clauses.specs.declared.acted.Acted.{Acted}
 use Rattle.acc_clauses.specs.Overlays.{tasks_in, dids_in, records_after, state_after, enters, IsPlanned}
 use Rattle.acc_clauses.proofs.Moving.{bytes_of-len}
@@ -31,12 +34,12 @@ use Rattle.acc_clauses.proofs.AimsFound.{IsPointerIn, pointer_in_block}
 pub pointer_there : (l : Limits) (w : Records) (block pointer : ℕ) → AreRecordsSound l w → block_with pointer w.ranges ≡ Some block → IsSome (block_at block w.blocks)
 pointer_there l w block pointer h e = let at : IsPointerIn block pointer w = pointer_in_block l w block pointer h e in rw at.there refl
 
--- and has its eight bytes
-pub pointer_fits : (l : Limits) (s : State) (block pointer : ℕ) → AreRecordsSound l s.records → AreMemoriesSized l s → block_with pointer s.records.ranges ≡ Some block
+-- and has its eight bytes, where it is not lent
+pub pointer_fits : (l : Limits) (s : State) (block pointer : ℕ) → AreRecordsSound l s.records → AreMemoriesSized l s → block_with pointer s.records.ranges ≡ Some block → is_lent block s.records.loans ≡ false
     → (start_of block s.records.ranges ≤ pointer) × (pointer + 8 ≤ start_of block s.records.ranges + length (bytes_of block s.memories))
-pointer_fits l s block pointer h sized e =
+pointer_fits l s block pointer h sized e free =
     let at : IsPointerIn block pointer s.records = pointer_in_block l s.records block pointer h e in
-    let len = bytes_of-len block s.memories s.records.blocks at.block_there sized.blocks at.there in
+    let len = bytes_of-len s.records.loans block s.memories s.records.blocks at.block_there sized.blocks free at.there in
     let high = at.high in
     (at.low, omega (arith, high, len))
 
@@ -69,15 +72,32 @@ module _ (l : Limits) (n pointer : ℕ) (xs : List Acted) (s : State) (p : IsPla
       go None = refl
       go (Some block) = refl
 
-  -- it is aimed at a target
-  pub attach-targeted : (block target address : ℕ) → Some block ≡ block_with pointer (records_after xs s.records).ranges → address ≡ host_pointer pointer s → Some target ≡ device_address_of address (records_after xs s.records)
-      → judge_attach l n pointer (state_after xs s) ≡ attach l.counter_max n block pointer target (device_pointer block pointer (state_after xs s)) (records_after xs s.records).attached
-  attach-targeted block target address e read f =
-      let some : Some target ≡ device_address_of (host_pointer pointer s) (records_after xs s.records) = f ∙ ap (λ a. device_address_of a (records_after xs s.records)) read in
+  -- it is aimed at a target, where its block is not lent
+  attach-there : (block target address : ℕ) → Some block ≡ block_with pointer (records_after xs s.records).ranges → address ≡ host_pointer pointer s → Some target ≡ device_address_of address (records_after xs s.records)
+      → judge_attach l n pointer (state_after xs s) ≡ (not_lent (Some block) s.records.loans >> attach l.counter_max n block pointer target (device_pointer block pointer (state_after xs s)) (records_after xs s.records).attached)
+  attach-there block target address e read f =
+      let t : State = state_after xs s in
+      let w : Records = records_after xs s.records in
+      let some : Some target ≡ device_address_of (host_pointer pointer s) w = f ∙ ap (λ a. device_address_of a w) read in
       attach-read l n pointer xs s p entries
-      ∙ (ap (λ b. attach_there l n pointer b (device_address_of (host_pointer pointer s) (records_after xs s.records)) (state_after xs s)) (sym e)
-      ∙ (ap (λ t. attach_there l n pointer (Some block) t (state_after xs s)) (sym some)
-      ∙ ap (λ (w : Records). attach l.counter_max n block pointer target (device_pointer block pointer (state_after xs s)) w.attached) (records-act_all_state (tasks_in xs) (dids_in xs) s)))
+      ∙ (ap (λ b. attach_there l n pointer b (device_address_of (host_pointer pointer s) w) t) (sym e)
+      ∙ (ap (λ a. attach_there l n pointer (Some block) a t) (sym some)
+      ∙ (ap (λ (v : Records). not_lent (Some block) v.loans >> attach l.counter_max n block pointer target (device_pointer block pointer t) v.attached) (records-act_all_state (tasks_in xs) (dids_in xs) s)
+      ∙ ap (λ loans. not_lent (Some block) loans >> attach l.counter_max n block pointer target (device_pointer block pointer t) w.attached) (loans-act_all (tasks_in xs) (dids_in xs) s.records))))
+
+  pub attach-targeted : (block target address : ℕ) → Some block ≡ block_with pointer (records_after xs s.records).ranges → address ≡ host_pointer pointer s → Some target ≡ device_address_of address (records_after xs s.records)
+      → Ok tt ≡ not_lent (Some block) s.records.loans
+      → judge_attach l n pointer (state_after xs s) ≡ attach l.counter_max n block pointer target (device_pointer block pointer (state_after xs s)) (records_after xs s.records).attached
+  attach-targeted block target address e read f free =
+      attach-there block target address e read f
+      ∙ ap (λ r. r >> attach l.counter_max n block pointer target (device_pointer block pointer (state_after xs s)) (records_after xs s.records).attached) (sym free)
+
+  -- it lies in a block that is lent
+  pub attach-lent : (block target address : ℕ) (fault : Fault) → Some block ≡ block_with pointer (records_after xs s.records).ranges → address ≡ host_pointer pointer s → Some target ≡ device_address_of address (records_after xs s.records)
+      → Err fault ≡ not_lent (Some block) s.records.loans → ◌≡◌ {A = Result Aim Fault} (Err fault) (judge_attach l n pointer (state_after xs s))
+  attach-lent block target address fault e read f lent =
+      sym (attach-there block target address e read f
+      ∙ ap (λ r. r >> attach l.counter_max n block pointer target (device_pointer block pointer (state_after xs s)) (records_after xs s.records).attached) (sym lent))
 
 -- a pointer that is not attached, or holds another address
 pub attach-new : (most n block pointer target now : ℕ) (attached : List Attachment) → (count_at block pointer attached ≡ 0) ⊎ (now ≡ target → ⊥) → ◌≡◌ {A = Result Aim Fault} (Ok (aims.New pointer block target)) (attach most n block pointer target now attached)

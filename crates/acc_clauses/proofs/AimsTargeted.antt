@@ -9,7 +9,8 @@ use Rattle.acc_base.specs.Records.{Records, State}
 use Rattle.acc_base.specs.Ranges.{where_is}
 use Rattle.acc_base.specs.Blocks.{place_of}
 use Rattle.acc_base.specs.Attachments.{count_at}
-use Rattle.acc_base.specs.Pointers.{block_with, device_pointer}
+use Rattle.acc_base.specs.Detaching.{block_with}
+use Rattle.acc_base.specs.Pointers.{device_pointer}
 use Rattle.acc_base.specs.Accounts.{AreMemoriesSized}
 use Rattle.acc_base.proofs.AllTasks.{all_left}
 use Rattle.acc_clauses.specs.declared.acted.Acted.{Acted}

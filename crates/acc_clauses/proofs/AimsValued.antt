@@ -27,7 +27,9 @@ use Rattle.acc_base.specs.Tasks.{section_of, pointer_of, recounted}
 use Rattle.acc_base.specs.Transfers.{at_once}
 use Rattle.acc_base.specs.Steps.{is_action, pointer_aimed, judge_row, judge_step, records_after_birth, with_range_changed, act_row, act_step, act, act_all}
 use Rattle.acc_base.specs.Bytes.{bytes_of, is_moved, bytes_moved_in, written_bytes, memories_made, fill_of, step_state}
-use Rattle.acc_base.specs.Pointers.{block_with, pointer_in, device_pointer, aimed}
+use Rattle.acc_base.specs.Detaching.{block_with}
+use Rattle.acc_base.specs.Loans.{is_lent}
+use Rattle.acc_base.specs.Pointers.{pointer_in, device_pointer, aimed}
 use Rattle.acc_base.specs.Acting.{act_state, act_all_state}
 use Rattle.acc_base.specs.History.{IsAttachLegal, IsAimLegal, AreJudged}
 use Rattle.acc_base.specs.Accounts.{AreRecordsSound, AreMemoriesSized}
@@ -148,11 +150,11 @@ IsAbove block pointer w = IsSome (block_at block w.blocks) → start_of block w.
 
 module _ (l : Limits) (block pointer : ℕ) (even : pointer % 8 ≡ 0) (s : State) (bounds : IsWithinBounds l) (sound : AreRecordsSound l s.records) (sized : AreMemoriesSized l s) (above : IsAbove block pointer s.records) where
   -- the pointer itself is written
-  new_same : (target : ℕ) → target < 2 ^ 64 → block_with pointer s.records.ranges ≡ Some block → device_pointer block pointer (aimed (aims.New pointer block target) s) ≡ target
+  new_same : (target : ℕ) → target < 2 ^ 64 → block_with pointer s.records.ranges ≡ Some block → is_lent block s.records.loans ≡ false → device_pointer block pointer (aimed (aims.New pointer block target) s) ≡ target
   unfolding aimed
-  new_same target below there =
+  new_same target below there free =
       let at : IsPointerIn block pointer s.records = pointer_in_block l s.records block pointer sound there in
-      let len = bytes_of-len block s.memories s.records.blocks at.block_there sized.blocks at.there in
+      let len = bytes_of-len s.records.loans block s.memories s.records.blocks at.block_there sized.blocks free at.there in
       let first : ℕ = start_of block s.records.ranges in
       let low = at.low in
       let high = at.high in
@@ -177,9 +179,9 @@ module _ (l : Limits) (block pointer : ℕ) (even : pointer % 8 ≡ 0) (s : Stat
   count_other : (p b target : ℕ) → (b == block && p == pointer) ≡ false → (count_at block pointer (attached_by (aims.New p b target) s.records.attached) ≡ 0 → ⊥) → count_at block pointer s.records.attached ≡ 0 → ⊥
   count_other p b target differs some none = some (count_at-with_count_other block pointer b p 1 s.records.attached differs ∙ none)
 
-  holds-new : (p b target value : ℕ) → p % 8 ≡ 0 → target < 2 ^ 64 → block_with p s.records.ranges ≡ Some b → Holds block pointer value s → Holds block pointer (value_by block pointer value (aims.New p b target)) (aimed (aims.New p b target) s)
+  holds-new : (p b target value : ℕ) → p % 8 ≡ 0 → target < 2 ^ 64 → block_with p s.records.ranges ≡ Some b → is_lent b s.records.loans ≡ false → Holds block pointer value s → Holds block pointer (value_by block pointer value (aims.New p b target)) (aimed (aims.New p b target) s)
   unfolding aimed
-  holds-new p b target value e below there h some = go (b == block) refl (p == pointer) refl
+  holds-new p b target value e below there free h some = go (b == block) refl (p == pointer) refl
     where
       before : (b == block && p == pointer) ≡ false → count_at block pointer s.records.attached ≡ 0 → ⊥
       before differs = count_other p b target differs some
@@ -189,7 +191,7 @@ module _ (l : Limits) (block pointer : ℕ) (even : pointer % 8 ≡ 0) (s : Stat
           let b_is : b ≡ block = equal b block f in
           let p_is : p ≡ pointer = equal p pointer g in
           let here : block_with pointer s.records.ranges ≡ Some block = ap (λ n. block_with n s.records.ranges) (sym p_is) ∙ (there ∙ ap Some b_is) in
-          rw (b_is, p_is) (new_same target below here)
+          rw (b_is, p_is) (new_same target below here (subst (λ k. is_lent k s.records.loans ≡ false) b_is free))
       go true f false g =
           let b_is : b ≡ block = equal b block f in
           let differs : (b == block && p == pointer) ≡ false = rw (f, g) refl in
@@ -214,9 +216,9 @@ module _ (l : Limits) (block pointer : ℕ) (even : pointer % 8 ≡ 0) (s : Stat
   unfolding aimed
   holds-aim named aims.None value evens legal h = h
   holds-aim named (aims.New p b target) value evens legal h =
-      let bound : target < 2 ^ 42 = target_bound l s.records target bounds sound legal.2 in
-      holds-new p b target value (evens p legal.0) (omega (arith, bound)) legal.1 h
-  holds-aim named (aims.Again p b) value evens legal h = holds-again p b value legal.2 h
+      let bound : target < 2 ^ 42 = target_bound l s.records target bounds sound legal.3 in
+      holds-new p b target value (evens p legal.0) (omega (arith, bound)) legal.1 legal.2 h
+  holds-aim named (aims.Again p b) value evens legal h = holds-again p b value legal.3 h
   holds-aim named (aims.Less p b) value evens legal h = absurd legal
   holds-aim named (aims.Cleared p b) value evens legal h = absurd legal
 
@@ -237,7 +239,7 @@ holds-act l n block pointer value (Enter counter item queue) did s bounds h size
     let task : Task = Enter counter item queue in
     let says = task_says l n task s.records did.step judged in
     let stepped : State = step_state task did.step s in
-    holds-aim l block pointer even stepped bounds (acted_sound l task did.step s.records bounds says (step_judged l n task s.records did.step judged).room h) (step_sized l task did.step s sized) above
+    holds-aim l block pointer even stepped bounds (acted_sound l task did.step s.records bounds says (step_judged l n task s.records did.step judged).free h) (step_sized l task did.step s sized) above
     (pointer_aimed task did.step) did.aim value (λ p e. named_aligned l n counter item queue did.step s.records p judged e) legal
     (λ some. holds-before says some)
   where
@@ -260,7 +262,7 @@ holds-after l n block pointer value (x ∷ xs) s bounds h sized judged entries e
     let is : next.records ≡ w = records-act_state x.task x.did s in
     let says = task_says l n x.task s.records x.did.step judged.0 in
     let kinds = and_true (enters x.task) (list_all enters (tasks_in xs)) entries in
-    let sound : AreRecordsSound l w = (task_left l x.task x.did s.records bounds h says (step_judged l n x.task s.records x.did.step judged.0).room judged.1).sound in
+    let sound : AreRecordsSound l w = (task_left l x.task x.did s.records bounds h says (step_judged l n x.task s.records x.did.step judged.0).free judged.1).sound in
     let above : IsAbove block pointer w = (λ here. (pointer_in_block l w block pointer sound (before-after l (suc n) xs w pointer block bounds sound judged.2 kinds.1 here there)).low) in
     holds-after l (suc n) block pointer (value_by block pointer value x.did.aim) xs next bounds (subst (AreRecordsSound l) (sym is) sound) (act_sized l x.task x.did s sized)
     (subst (AreJudged l (suc n) (tasks_in xs) (dids_in xs)) (sym is) judged.2) kinds.1 even (subst (λ v. block_with pointer (records_after xs v).ranges ≡ Some block) (sym is) there)

@@ -23,7 +23,8 @@ use Rattle.acc_base.specs.Acting.{judge_all}
 use Rattle.acc_base.specs.Walk.{enter_task, enter_data_task, exit_task, move_task, leave_tasks}
 use Rattle.acc_base.specs.Queues.{queue_named}
 use Rattle.acc_base.specs.Tasks.{queue_of}
-use Rattle.acc_base.specs.Judge.{few_items, tasks_of, queue_in, verdict_of, directive_verdict, plan_of}
+use Rattle.acc_base.specs.Loans.{none_lent}
+use Rattle.acc_base.specs.Judge.{Verdict, few_items, tasks_of, queue_in, transfers_in, verdict_of, directive_verdict, plan_of}
 use Rattle.acc_base.proofs.Elements.{found_has}
 use Rattle.acc_clauses.specs.Overlays.{AreUnmixed, AreQueuesNamed, enters}
 use Rattle.acc_clauses.specs.Planned.{HasFewHoldings, asked_of}
@@ -110,12 +111,16 @@ queue_at_turn (t ∷ ts) (suc i) d within all = queue_at_turn ts i d (omega (ari
 
 -- ---- the verdict
 
-plan_asked : (l : Limits) (d : Directive) (s : State) → plan_of l d s ≡ (asked_of d s.register >>= λ tasks. queue_named (queue_in d) >> (judge_all l 0 tasks s >>= λ dids. Ok (verdict_of d s dids)))
+-- the verdict of a directive whose tasks did this, where no transfer that it makes is of a block that is lent
+abbrev verdict_free : Directive → State → List Did → Result Verdict Fault
+verdict_free d s dids = none_lent (transfers_in d s.records.queues) s.records.loans >> Ok (verdict_of d s dids)
+
+plan_asked : (l : Limits) (d : Directive) (s : State) → plan_of l d s ≡ (asked_of d s.register >>= λ tasks. queue_named (queue_in d) >> (judge_all l 0 tasks s >>= verdict_free d s))
 unfolding plan_of directive_verdict
 plan_asked l d s = go (few_items d)
   where
-    go : (few : Result ⊤ Fault) → (few >> (tasks_of d s.register >>= λ tasks. queue_named (queue_in d) >> (judge_all l 0 tasks s >>= λ dids. Ok (verdict_of d s dids))))
-        ≡ ((few >> tasks_of d s.register) >>= λ tasks. queue_named (queue_in d) >> (judge_all l 0 tasks s >>= λ dids. Ok (verdict_of d s dids)))
+    go : (few : Result ⊤ Fault) → (few >> (tasks_of d s.register >>= λ tasks. queue_named (queue_in d) >> (judge_all l 0 tasks s >>= verdict_free d s)))
+        ≡ ((few >> tasks_of d s.register) >>= λ tasks. queue_named (queue_in d) >> (judge_all l 0 tasks s >>= verdict_free d s))
     go (Ok x) = refl
     go (Err fault) = refl
 
@@ -131,17 +136,16 @@ plan_unqueued l d s tasks fault e q = plan_asked l d s ∙ rw (e, q) refl
 pub plan_refused : (l : Limits) (d : Directive) (s : State) (tasks : List Task) (fault : Fault) → asked_of d s.register ≡ Ok tasks → queue_named (queue_in d) ≡ Ok tt → judge_all l 0 tasks s ≡ Err fault → plan_of l d s ≡ Err fault
 plan_refused l d s tasks fault e q f = plan_asked l d s ∙ rw (e, q, f) refl
 
--- else it is the verdict of what they do
-pub plan_judged : (l : Limits) (d : Directive) (s : State) (tasks : List Task) (dids : List Did) → asked_of d s.register ≡ Ok tasks → queue_named (queue_in d) ≡ Ok tt → judge_all l 0 tasks s ≡ Ok dids
-    → plan_of l d s ≡ Ok (verdict_of d s dids)
+-- and else as the transfers are that it makes
+plan_judged : (l : Limits) (d : Directive) (s : State) (tasks : List Task) (dids : List Did) → asked_of d s.register ≡ Ok tasks → queue_named (queue_in d) ≡ Ok tt → judge_all l 0 tasks s ≡ Ok dids
+    → plan_of l d s ≡ verdict_free d s dids
 plan_judged l d s tasks dids e q f = plan_asked l d s ∙ rw (e, q, f) refl
 
--- what judging its tasks answers is what its plan is
-pub plan_told : (l : Limits) (d : Directive) (s : State) (tasks : List Task) (dids : List Did) (r : Result ⊤ Fault) → asked_of d s.register ≡ Ok tasks → queue_named (queue_in d) ≡ Ok tt
-    → MatchResult r (λ _. judge_all l 0 tasks s ≡ Ok dids) (λ fault. judge_all l 0 tasks s ≡ Err fault)
-    → MatchResult r (λ _. plan_of l d s ≡ Ok (verdict_of d s dids)) (λ fault. plan_of l d s ≡ Err fault)
-plan_told l d s tasks dids (Ok x) e q h = plan_judged l d s tasks dids e q h
-plan_told l d s tasks dids (Err fault) e q h = plan_refused l d s tasks fault e q h
+-- where none of them is of a block that is lent, it is the verdict of what its tasks do
+pub plan_told : (l : Limits) (d : Directive) (s : State) (tasks : List Task) (dids : List Did) (r : Result ⊤ Fault) → asked_of d s.register ≡ Ok tasks → queue_named (queue_in d) ≡ Ok tt → judge_all l 0 tasks s ≡ Ok dids
+    → r ≡ none_lent (transfers_in d s.records.queues) s.records.loans → MatchResult r (λ _. plan_of l d s ≡ Ok (verdict_of d s dids)) (λ fault. plan_of l d s ≡ Err fault)
+plan_told l d s tasks dids (Ok x) e q h free = plan_judged l d s tasks dids e q h ∙ rw (← free) refl
+plan_told l d s tasks dids (Err fault) e q h lent = plan_judged l d s tasks dids e q h ∙ rw (← lent) refl
 
 asked_ok : (few : Result ⊤ Fault) (r : Result (List Task) Fault) (tasks : List Task) → (few >> r) ≡ Ok tasks → r ≡ Ok tasks
 asked_ok (Ok x) r tasks e = e
@@ -151,4 +155,4 @@ asked_ok (Err fault) r tasks e = absurd cc
 pub tasks_asked : (d : Directive) (g : Register) (tasks : List Task) → asked_of d g ≡ Ok tasks → tasks_of d g ≡ Ok tasks
 tasks_asked d g tasks e = asked_ok (few_items d) (tasks_of d g) tasks e
 
-pub ruleset event_laws = (plan_unasked, plan_unqueued, plan_refused, plan_judged, tasks_asked)
+pub ruleset event_laws = (plan_unasked, plan_unqueued, plan_refused, tasks_asked)

@@ -5,6 +5,7 @@ use Rattle.std.specs.List.{AllByRecursion}
 use Rattle.std.proofs.lemmas.Bool.Decides.{nat_tests}
 use Rattle.std.proofs.lemmas.Grind.{reverse_onto}
 use Rattle.std.proofs.lemmas.List.{length-append}
+use Rattle.acc_base.specs.Loans.{none_lent}
 use Rattle.acc_base.specs.declared.items.Item.{Item}
 use Rattle.acc_base.specs.declared.items.RegionClause.{RegionClause}
 use Rattle.acc_base.specs.declared.directives.Directive.{Directive}
@@ -35,14 +36,14 @@ use Rattle.acc_base.proofs.AllTasks.{sum_by-reverse}
 use Rattle.acc_base.proofs.Registers.{IsNumbered, AreFew, next_region, opened_regions, opened_few, closed_few, closed_held}
 use Rattle.acc_clauses.specs.declared.plans.Head.{Head}
 use Rattle.acc_clauses.specs.declared.plans.Head.TheVariants.{Plain, Entry, Leaving, Waiting, Stepping}
-use Rattle.acc_clauses.specs.Planned.{Planned, IsPlannedOn, head_of, holding_by, holdings_by, held_by, register_by, register_planned, steps_by, finished}
+use Rattle.acc_clauses.specs.Planned.{Planned, IsPlannedOn, head_of, holding_by, holdings_by, held_by, register_by, register_planned, steps_by, finished, transfers_by}
 use Rattle.acc_clauses.specs.Contents.{Contents}
 use Rattle.acc_clauses.specs.Acts.{IsKnown, AreKnown, HasRegionRoom, CanFinish}
 use Rattle.acc_clauses.specs.Stored.{IsHeldWithin, IsHoldingWithin, AreHoldingsWithin, IsStoreSound}
 use Rattle.acc_clauses.proofs.Holding.{leaves_known}
 use Rattle.acc_clauses.proofs.Entering.{regions_within, entered_within}
 use Rattle.acc_clauses.proofs.Events.{IsEventOf, event_of_plan, planned_legal, idle_plan}
-use Rattle.acc_clauses.proofs.Finishing.{after_plan, event_sound}
+use Rattle.acc_clauses.proofs.Finishing.{IsPlain, brought-plain, plain_verdict, after_plan, event_sound}
 
 -- ---- the tasks of a directive
 
@@ -111,23 +112,39 @@ some_region : (o : Option Region) (hs : List Holding) → option_map (λ (r : Re
 some_region None hs e = cc
 some_region (Some r) hs e = refl
 
--- the register is ready for the head of a plan
+-- without tasks nothing is done
+no_tasks : (tasks : List Task) (dids : List Did) (s : State) → [] ≡ tasks → act_all_state tasks dids s ≡ s
+unfolding act_all_state
+no_tasks tasks dids s none = ap (λ ts. act_all_state ts dids s) (sym none) ∙ go dids
+  where
+    go : (ds : List Did) → act_all_state [] ds s ≡ s
+    go [] = refl
+    go (d ∷ ds) = refl
+
+-- the transfers that a plan without tasks makes are of no block that is lent
+free_then : (head : Head) (c f : Contents) (p : Planned) → p.head ≡ head → [] ≡ p.tasks → f.state ≡ act_all_state p.tasks p.dids c.state → none_lent (transfers_by p.head c.state.records.queues) c.state.records.loans ≡ Ok tt
+    → none_lent (transfers_by head f.state.records.queues) f.state.records.loans ≡ Ok tt
+free_then head c f p at none acted free =
+    let same : f.state ≡ c.state = acted ∙ no_tasks p.tasks p.dids c.state none in
+    subst (λ (x : State). none_lent (transfers_by head x.records.queues) x.records.loans ≡ Ok tt) (sym same) (subst (λ (x : Head). none_lent (transfers_by x c.state.records.queues) c.state.records.loans ≡ Ok tt) at free)
+
+-- the head of a plan can be done
 pub plan_can : (d : Directive) (c f : Contents) (p : Planned) → IsStoreSound c → IsPlannedOn c.limits d (layout_of c.state) p → c.state.register.next < 2 ^ 48 → HasRegionRoom (length p.tasks) c.room
-    → f.state.register ≡ c.state.register → c.room.regions ≤ f.room.regions → c.room.holdings ≤ f.room.holdings → CanFinish p.head (length p.tasks) f
-plan_can (directives.Enter items) c f p h planned next room same regions holdings = subst (λ (x : Head). CanFinish x (length p.tasks) f) (sym planned.head) (record {
+    → f.state ≡ act_all_state p.tasks p.dids c.state → f.state.register ≡ c.state.register → c.room.regions ≤ f.room.regions → c.room.holdings ≤ f.room.holdings → CanFinish p.head (length p.tasks) f
+plan_can (directives.Enter items) c f p h planned next room acted same regions holdings = subst (λ (x : Head). CanFinish x (length p.tasks) f) (sym planned.head) (record {
   next = rw same next;
   new = rw same (find-none (λ (r : Region). r.number == c.state.register.next) c.state.register.regions
       (AllByRecursion-weaker (λ (r : Region). r.number < c.state.register.next) (λ (r : Region). (r.number == c.state.register.next) ≡ false) c.state.register.regions (λ r low. below_differs r.number c.state.register.next low) h.sound.layout.register.known));
   room = record { regions = omega (arith, room.regions, regions); enough = omega (arith, room.enough, holdings) };
 })
-plan_can (directives.Exit number) c f p h planned next room same regions holdings =
+plan_can (directives.Exit number) c f p h planned next room acted same regions holdings =
     let o : IsOpen number c.state.register p.tasks = open_region number c.state.register p.tasks planned.tasks in
     subst (λ (x : Head). CanFinish x (length p.tasks) f) (sym planned.head) (rw same (some_region (region_at number c.state.register.regions) o.holdings o.open_is))
-plan_can (directives.EnterData items queue) c f p h planned next room same regions holdings = subst (λ (x : Head). CanFinish x (length p.tasks) f) (sym planned.head) tt
-plan_can (directives.ExitData items finalize queue) c f p h planned next room same regions holdings = subst (λ (x : Head). CanFinish x (length p.tasks) f) (sym planned.head) tt
-plan_can (directives.Update items if_present queue) c f p h planned next room same regions holdings = subst (λ (x : Head). CanFinish x (length p.tasks) f) (sym planned.head) tt
-plan_can (directives.Wait queue) c f p h planned next room same regions holdings = subst (λ (x : Head). CanFinish x (length p.tasks) f) (sym planned.head) tt
-plan_can (directives.Step queue) c f p h planned next room same regions holdings = subst (λ (x : Head). CanFinish x (length p.tasks) f) (sym planned.head) tt
+plan_can (directives.EnterData items queue) c f p h planned next room acted same regions holdings = subst (λ (x : Head). CanFinish x (length p.tasks) f) (sym planned.head) tt
+plan_can (directives.ExitData items finalize queue) c f p h planned next room acted same regions holdings = subst (λ (x : Head). CanFinish x (length p.tasks) f) (sym planned.head) tt
+plan_can (directives.Update items if_present queue) c f p h planned next room acted same regions holdings = subst (λ (x : Head). CanFinish x (length p.tasks) f) (sym planned.head) tt
+plan_can (directives.Wait queue) c f p h planned next room acted same regions holdings = subst (λ (x : Head). CanFinish x (length p.tasks) f) (sym planned.head) (free_then (Waiting queue) c f p planned.head (tasks_same [] p.tasks planned.tasks) acted planned.free)
+plan_can (directives.Step queue) c f p h planned next room acted same regions holdings = subst (λ (x : Head). CanFinish x (length p.tasks) f) (sym planned.head) (free_then (Stepping queue) c f p planned.head (tasks_same [] p.tasks planned.tasks) acted planned.free)
 
 -- what an entry holds is read of its tasks
 held_asked : (items : List (Item RegionClause)) (dids : List Did) → holdings_of items dids ≡ holdings_by (map enter_task items) dids
@@ -257,11 +274,11 @@ same_sound c f limits state h =
 
 -- and so is one after the event of the plan
 made_sound : (d : Directive) (c f : Contents) (p : Planned) (e : Event) → IsWithinBounds c.limits → IsStoreSound c → IsPlannedOn c.limits d (layout_of c.state) p → f.limits ≡ c.limits
-    → f.state ≡ finished p (act_all_state p.tasks p.dids c.state) → used_bytes f.state.records.blocks ≤ f.limits.device → IsEventOf c.limits p c.state e → IsStoreSound f
-made_sound d c f p e bounds h planned limits state used is =
+    → f.state ≡ finished p (act_all_state p.tasks p.dids c.state) → used_bytes f.state.records.blocks ≤ f.limits.device → IsEventOf c.limits p c.state e → IsPlain e → IsStoreSound f
+made_sound d c f p e bounds h planned limits state used is plain =
     let l : Limits = c.limits in
     let P : State → Type 0 = λ s. AreHoldingsWithin s.records s.register.regions in
-    event_sound l e c f bounds refl limits h (planned_legal l d c.state p e planned is) (state ∙ sym (after_plan l p c.state e is))
+    event_sound l e [] c f bounds refl limits h (planned_legal l d c.state p e planned is) (brought-plain e c.state.records plain) (state ∙ sym (after_plan l p c.state e is plain))
     (subst AreFew (sym is.register) (few_after d c p h planned))
     (subst (λ (m : Limits). used_bytes f.state.records.blocks ≤ m.device) limits used)
     (subst P (sym state) (within_finished d c p bounds h planned))
@@ -271,5 +288,5 @@ pub plan_sound : (d : Directive) (c f : Contents) (p : Planned) → IsWithinBoun
 plan_sound d c f p bounds h planned limits state used = go (verdict_of d c.state p.dids) refl
   where
     go : (v : Verdict) → verdict_of d c.state p.dids ≡ v → IsStoreSound f
-    go (Makes e) made = made_sound d c f p e bounds h planned limits state used (event_of_plan c.limits d c.state p e planned made)
+    go (Makes e) made = made_sound d c f p e bounds h planned limits state used (event_of_plan c.limits d c.state p e planned made) (plain_verdict d c.state p.dids e made)
     go Idle idle = same_sound c f limits (state ∙ idle_plan c.limits d c.state p planned idle) h

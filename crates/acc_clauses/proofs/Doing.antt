@@ -1,5 +1,5 @@
 -- A step and an attachment or a detachment, one after the other.
-use Rattle.std.proofs.Common.{ℕ, ◌≡◌, refl, ap, [], Option, arith, append-nil, Bool, inl, inr}
+use Rattle.std.proofs.Common.{ℕ, ◌≡◌, refl, ap, [], Option, arith, append-nil, Bool, inl, inr, subst, sym}
 use Rattle.std.specs.Prelude.{◌⊎◌}
 use Rattle.acc_base.specs.declared.items.Item.{Item}
 use Rattle.acc_base.specs.declared.items.ExitClause.{ExitClause}
@@ -15,9 +15,9 @@ use Rattle.acc_base.specs.Bytes.{step_state}
 use Rattle.acc_base.specs.Pointers.{aimed}
 use Rattle.acc_base.specs.Acting.{act_state}
 use Rattle.acc_clauses.specs.declared.environments.Environment.{Environment}
-use Rattle.acc_clauses.specs.Contents.{state_of, room_of}
+use Rattle.acc_clauses.specs.Contents.{state_of, room_of, bare_numbers, bare_state}
 use Rattle.acc_clauses.specs.Overlays.{puts_by}
-use Rattle.acc_clauses.specs.Acts.{IsEnter, CanDo, CanQueue, HasPutRoom, birth_of, pointers_of, IsActedBy, IsAimedBy, IsDoneBy}
+use Rattle.acc_clauses.specs.Acts.{IsEnter, CanDo, CanQueue, HasPutRoom, birth_of, pointers_of, IsActedBy, IsAimedBy, IsDoneBy, CanNeed, CanAim, CanAct}
 use Rattle.acc_clauses.proofs.Changes.{both}
 
 -- the task is no entry
@@ -50,18 +50,50 @@ pub leaves : (task : Task) (did : Did) (x y z : Environment) → (IsEnter task �
 leaves task did x y z other aims acted = both (aimed did.aim) (step_state task did.step) (act_state task did) [] (birth_of task did.step) (birth_of task did.step) (pointers_of did.aim) 0 (pointers_of did.aim) (λ q. 0) (λ q. puts_by q task did.step) (λ q. puts_by q task did.step) x y z
     (λ next. leave_whole task did (state_of x next) other) refl (omega arith) (λ q. omega arith) aims acted
 
+-- ---- what the second part of a task needs is there after the first one
+
+pub aim_after : (task : Task) (did : Did) (x y : Environment) → IsEnter task → CanDo x task did → IsActedBy task did.step x y → CanAim y.attached.counter_max did.aim (bare_state y)
+aim_after (Enter counter item queue) did x y entry can acted = subst (λ n. CanAim n did.aim (bare_state y)) (sym acted.pointer_max) (subst (CanAim x.attached.counter_max did.aim) (sym (acted.state bare_numbers)) can.aim)
+aim_after (Leave holding) did x y entry can acted = absurd entry
+aim_after (Exit finalize item queue) did x y entry can acted = absurd entry
+aim_after (Move if_present item queue) did x y entry can acted = absurd entry
+
+pub step_after : (task : Task) (did : Did) (x y : Environment) → (IsEnter task → ⊥) → CanDo x task did → IsAimedBy did.aim x y → CanAct y.present.table.counter_max y.device.size task did.step (bare_state y)
+step_after task did x y other can aims =
+    subst (λ n. CanAct n y.device.size task did.step (bare_state y)) (sym aims.counter_max) (subst (λ n. CanAct x.present.table.counter_max n task did.step (bare_state y)) (sym aims.size)
+    (subst (CanAct x.present.table.counter_max x.device.size task did.step) (sym (aims.state bare_numbers)) (go task other can)))
+  where
+    go : (t : Task) → (IsEnter t → ⊥) → CanDo x t did → CanAct x.present.table.counter_max x.device.size t did.step (aimed did.aim (bare_state x))
+    go (Enter counter item queue) enters can = absurd (enters tt)
+    go (Leave holding) enters can = can.step
+    go (Exit finalize item queue) enters can = can.step
+    go (Move if_present item queue) enters can = can.step
+
 -- what an attachment or a detachment leaves of the queues, and of the room in them
 pub queues_kept : (aim : Aim) (task : Task) (step : Step) (x y : Environment) → IsAimedBy aim x y → CanQueue task step x → CanQueue task step y
 unfolding aimed
 queues_kept aim task step x y h can =
-    let queues : y.queues.queues ≡ x.queues.queues = ap (λ (s : State). s.records.queues) (h.state 0) in
-    let ranges : y.present.table.ranges ≡ x.present.table.ranges = ap (λ (s : State). s.records.ranges) (h.state 0) in
+    let queues : y.queues.queues ≡ x.queues.queues = ap (λ (s : State). s.records.queues) (h.state bare_numbers) in
+    let ranges : y.present.table.ranges ≡ x.present.table.ranges = ap (λ (s : State). s.records.ranges) (h.state bare_numbers) in
     rw (h.queue_cap, queues, ranges) can
+
+-- and of the loans
+pub needed_kept : (aim : Aim) (task : Task) (step : Step) (x y : Environment) → IsAimedBy aim x y → CanNeed task step x → CanNeed task step y
+unfolding aimed
+needed_kept aim task step x y h can =
+    let loans : y.device.loans ≡ x.device.loans = ap (λ (s : State). s.records.loans) (h.state bare_numbers) in
+    rw loans can
 
 pub puts_kept : (aim : Aim) (puts : ℕ → ℕ) (x y : Environment) → IsAimedBy aim x y → HasPutRoom puts (room_of x) → HasPutRoom puts (room_of y)
 puts_kept aim puts x y h room q = omega (arith, h.room.puts q, room q)
 
 -- what a task can do has room in its queue
+pub do_needed : (x : Environment) (task : Task) (did : Did) → CanDo x task did → CanNeed task did.step x
+do_needed x (Enter counter item queue) did can = can.needed
+do_needed x (Leave holding) did can = can.needed
+do_needed x (Exit finalize item queue) did can = can.needed
+do_needed x (Move if_present item queue) did can = can.needed
+
 pub do_queue : (x : Environment) (task : Task) (did : Did) → CanDo x task did → CanQueue task did.step x
 do_queue x (Enter counter item queue) did can = can.queue
 do_queue x (Leave holding) did can = can.queue

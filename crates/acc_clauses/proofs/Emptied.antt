@@ -48,7 +48,7 @@ later-stepped q s = go (head_of q s.records.queues)
     go (Some t) = drop-set s.records.queues q (drop 1 (queue_at q s.records.queues))
 
 -- so do many
-later-drained : (q n : ℕ) (s : State) → drop (suc q) (drained (replicate n q) s).records.queues ≡ drop (suc q) s.records.queues
+pub later-drained : (q n : ℕ) (s : State) → drop (suc q) (drained (replicate n q) s).records.queues ≡ drop (suc q) s.records.queues
 unfolding drained
 later-drained q zero s = refl
 later-drained q (suc n) s = later-drained q n (stepped q s) ∙ later-stepped q s

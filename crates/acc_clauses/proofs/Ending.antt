@@ -2,6 +2,7 @@
 use Rattle.std.proofs.Common.{ℕ, ◌≡◌, ◌≤◌, refl, sym, ◌∙◌, ap, Bool, true, false, cond, List, [], Option, Some, None, arith}
 use Rattle.std.specs.Prelude.{IsSome, is_none}
 use Rattle.std.specs.List.{AllZip}
+use Rattle.acc_base.specs.Loans.{is_lent}
 use Rattle.acc_base.specs.declared.mappings.Range.{Range}
 use Rattle.acc_base.specs.declared.tasks.Task.{Task}
 use Rattle.acc_base.specs.declared.tasks.Task.TheVariants.{Enter, Leave, Exit, Move}
@@ -25,7 +26,7 @@ use Rattle.acc_dev.specs.Marks.{pins_at, is_ended_at, IsMarkOf}
 use Rattle.acc_dev.specs.Device.{DeviceState, IsEnded, IsRetired}
 use Rattle.acc_attach.specs.Attached.{AttachedState}
 use Rattle.acc_clauses.specs.declared.environments.Environment.{Environment}
-use Rattle.acc_clauses.specs.Contents.{AreMarked, state_of}
+use Rattle.acc_clauses.specs.Contents.{AreMarked, state_of, bare_state, bare_numbers}
 use Rattle.acc_clauses.specs.Overlays.{puts_by}
 use Rattle.acc_clauses.specs.Acts.{CanCount, CanDrop, IsEnter, given_state, moved_state, IsChangedBy, IsGivenBy, IsActedBy}
 use Rattle.acc_clauses.proofs.Changes.{state_by, room_same, kept_twice, both}
@@ -43,6 +44,13 @@ given_ranges task k s = go (gives_bytes task)
     go true = refl
     go false = refl
 
+given_loans : (task : Task) (k : ℕ) (s : State) → (given_state task k s).records.loans ≡ s.records.loans
+given_loans task k s = go (gives_bytes task)
+  where
+    go : (b : Bool) → (cond b (moved_state (queue_of task) (transfer_at task k s.records.ranges) s) s).records.loans ≡ s.records.loans
+    go true = refl
+    go false = refl
+
 given_blocks : (task : Task) (k : ℕ) (s : State) → (given_state task k s).records.blocks ≡ s.records.blocks
 given_blocks task k s = go (gives_bytes task)
   where
@@ -51,17 +59,21 @@ given_blocks task k s = go (gives_bytes task)
     go false = refl
 
 pub same_ranges : (task : Task) (k : ℕ) (x y : Environment) → IsGivenBy task k x y → y.present.table.ranges ≡ x.present.table.ranges
-same_ranges task k x y given = ap (λ (s : State). s.records.ranges) (given.state 0) ∙ given_ranges task k (state_of x 0)
+same_ranges task k x y given = ap (λ (s : State). s.records.ranges) (given.state bare_numbers) ∙ given_ranges task k (bare_state x)
 
 pub same_blocks : (task : Task) (k : ℕ) (x y : Environment) → IsGivenBy task k x y → y.device.blocks ≡ x.device.blocks
-same_blocks task k x y given = ap (λ (s : State). s.records.blocks) (given.state 0) ∙ given_blocks task k (state_of x 0)
+same_blocks task k x y given = ap (λ (s : State). s.records.blocks) (given.state bare_numbers) ∙ given_blocks task k (bare_state x)
+
+-- no block more is lent
+pub same_loans : (task : Task) (k : ℕ) (x y : Environment) → IsGivenBy task k x y → is_lent k x.device.loans ≡ false → is_lent k y.device.loans ≡ false
+same_loans task k x y given free = let same : y.device.loans ≡ x.device.loans = ap (λ (s : State). s.records.loans) (given.state bare_numbers) ∙ given_loans task k (bare_state x) in rw same free
 
 -- the range is there still
-pub range_there : (task : Task) (k : ℕ) (ended : Bool) (x y : Environment) (can : CanDrop task k ended (state_of x 0)) → IsGivenBy task k x y → range_of k y.present.table.ranges ≡ Some can.move.range
+pub range_there : (task : Task) (k : ℕ) (ended : Bool) (x y : Environment) (can : CanDrop task k ended (bare_state x)) → IsGivenBy task k x y → range_of k y.present.table.ranges ≡ Some can.move.range
 range_there task k ended x y can given = ap (range_of k) (same_ranges task k x y given) ∙ can.move.range_is
 
 -- and it ends by the task
-pub range_ends : (task : Task) (k : ℕ) (ended : Bool) (x y : Environment) (can : CanDrop task k ended (state_of x 0)) → IsGivenBy task k x y → ends_by (recounted task) k y.present.table.ranges ≡ ended
+pub range_ends : (task : Task) (k : ℕ) (ended : Bool) (x y : Environment) (can : CanDrop task k ended (bare_state x)) → IsGivenBy task k x y → ends_by (recounted task) k y.present.table.ranges ≡ ended
 range_ends task k ended x y can given = ap (ends_by (recounted task) k) (same_ranges task k x y given) ∙ can.ends
 
 -- a task that does not enter raises no counter
@@ -71,14 +83,14 @@ falls most (Leave holding) k ranges r other is = record { there = is_some (range
 falls most (Exit finalize item queue) k ranges r other is = record { there = is_some (range_of k ranges) r is; below = tt }
 falls most (Move if_present item queue) k ranges r other is = record { there = is_some (range_of k ranges) r is; below = tt }
 
-pub block_there : (task : Task) (k : ℕ) (ended : Bool) (x y : Environment) → CanDrop task k ended (state_of x 0) → IsGivenBy task k x y → IsSome (block_at k y.device.blocks)
+pub block_there : (task : Task) (k : ℕ) (ended : Bool) (x y : Environment) → CanDrop task k ended (bare_state x) → IsGivenBy task k x y → IsSome (block_at k y.device.blocks)
 block_there task k ended x y can given = rw (same_blocks task k x y given) can.move.there
 
 -- the block has a mark, by which its mapping has not ended
-pub end_mark : (task : Task) (k : ℕ) (ended : Bool) (x y : Environment) → CanDrop task k ended (state_of x 0) → IsGivenBy task k x y → AllZip IsMarkOf y.device.marks y.device.blocks → IsMarkAt y.present.table.ranges y.queues.queues y.device.marks k
+pub end_mark : (task : Task) (k : ℕ) (ended : Bool) (x y : Environment) → CanDrop task k ended (bare_state x) → IsGivenBy task k x y → AllZip IsMarkOf y.device.marks y.device.blocks → IsMarkAt y.present.table.ranges y.queues.queues y.device.marks k
 end_mark task k ended x y can given zip = mark_told y.present.table.ranges y.queues.queues k y.device.marks y.device.blocks zip (block_there task k ended x y can given) given.marked
 
-pub end_mapped : (task : Task) (k : ℕ) (ended : Bool) (x y : Environment) → CanDrop task k ended (state_of x 0) → IsGivenBy task k x y → AllZip IsMarkOf y.device.marks y.device.blocks → is_ended_at k y.device.marks ≡ false
+pub end_mapped : (task : Task) (k : ℕ) (ended : Bool) (x y : Environment) → CanDrop task k ended (bare_state x) → IsGivenBy task k x y → AllZip IsMarkOf y.device.marks y.device.blocks → is_ended_at k y.device.marks ≡ false
 end_mapped task k ended x y can given zip = (end_mark task k ended x y can given zip).ended ∙ ap is_none (range_there task k ended x y can given)
 
 -- ---- the range and the block
@@ -89,7 +101,7 @@ ended_state k s = record s { records = records_after_end k s.records; memories =
 
 -- the records without the range
 abbrev unmapped : ℕ → Environment → Records
-unmapped k y = record (state_of y 0).records { ranges = without_range k y.present.table.ranges }
+unmapped k y = record (bare_state y).records { ranges = without_range k y.present.table.ranges }
 
 gone_range : (k : ℕ) (y : Environment) → is_none (range_of k (unmapped k y).ranges) ≡ true
 gone_range k y = ap is_none (at-without_same (λ (x : Range). x.block) k y.present.table.ranges)
@@ -100,7 +112,7 @@ ranges_gone : (task : Task) (k : ℕ) (y : Environment) (q r : PresentState) →
 ranges_gone task k y q r counted removed = removed ∙ (ap (λ t. with_ranges t (without_range k t.ranges)) counted ∙ ap (with_ranges y.present.table) (without-changed k (recounted task) y.present.table.ranges (recounted-block task)))
 
 -- the block is given back, with its attachment counters
-pub gone_changes : (task : Task) (k : ℕ) (y : Environment) (q r : PresentState) (e : DeviceState) (b : AttachedState) → AreMarked y → AllZip IsMemoryOf y.device.memories y.device.blocks → IsMarkAt y.present.table.ranges y.queues.queues y.device.marks k
+pub gone_changes : (task : Task) (k : ℕ) (y : Environment) (q r : PresentState) (e : DeviceState) (b : AttachedState) → AreMarked y → AllZip (IsMemoryOf y.device.loans) y.device.memories y.device.blocks → IsMarkAt y.present.table.ranges y.queues.queues y.device.marks k
     → q.table ≡ with_ranges y.present.table (changed_at k (recounted task) y.present.table.ranges) → present.IsRoomKept y.present.room q.room → r.table ≡ with_ranges q.table (without_range k q.table.ranges) → present.IsRoomKept q.room r.room
     → pins_at k y.device.marks ≡ 0 → IsRetired y.device e k → b.attached ≡ without_attachments k y.attached.attached → b.counter_max ≡ y.attached.counter_max → y.attached.spare ≤ b.spare
     → IsChangedBy (ended_state k) [] 0 (λ n. 0) y (record y { present = r; device = e; attached = b })
@@ -110,9 +122,9 @@ gone_changes task k y q r e b marked sized mark counted room1 removed room2 free
     let table : r.table ≡ with_ranges y.present.table (without_range k y.present.table.ranges) = ranges_gone task k y q r counted removed in
     let ranges : r.table.ranges ≡ without_range k y.present.table.ranges = ap (λ t. t.ranges) table in
     let idle : is_in_use k (unmapped k y) ≡ false = unused k (unmapped k y) (gone_range k y) (sym mark.pins ∙ free) in
-    let memories : e.memories ≡ _ = retired.memories ∙ (ap (λ bs. memories_kept bs y.device.memories) retired.blocks ∙ memories_kept-without k y.device.memories y.device.blocks sized) in
+    let memories : e.memories ≡ _ = retired.memories ∙ (ap (λ bs. memories_kept bs y.device.memories) retired.blocks ∙ memories_kept-without y.device.loans k y.device.memories y.device.blocks sized) in
     record {
-      state = λ next. state_by new next (ended_state k (state_of y next)) ranges (rw idle retired.blocks) (rw idle forgot) retired.births refl (ap (λ t. t.regions) table) refl refl (rw idle memories);
+      state = λ next. state_by new next (ended_state k (state_of y next)) ranges (rw idle retired.blocks) (rw idle forgot) retired.births refl retired.loans (ap (λ t. t.regions) table) refl refl refl (rw idle memories);
       counter_max = ap (λ t. t.counter_max) table;
       size = retired.size;
       pointer_max = limit;
@@ -132,7 +144,7 @@ kept_changes task k y q r e marked mark counted room1 removed room2 some ended =
     let ranges : r.table.ranges ≡ without_range k y.present.table.ranges = ap (λ t. t.ranges) table in
     let used : is_in_use k (unmapped k y) ≡ true = used_pinned k (unmapped k y) (λ none. some (mark.pins ∙ none)) in
     record {
-      state = λ next. state_by new next (ended_state k (state_of y next)) ranges (rw used ended.blocks) (rw used refl) ended.births refl (ap (λ t. t.regions) table) refl refl (rw used ended.memories);
+      state = λ next. state_by new next (ended_state k (state_of y next)) ranges (rw used ended.blocks) (rw used refl) ended.births refl ended.loans (ap (λ t. t.regions) table) refl refl refl (rw used ended.memories);
       counter_max = ap (λ t. t.counter_max) table;
       size = ended.size;
       pointer_max = refl;

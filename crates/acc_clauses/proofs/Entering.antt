@@ -166,7 +166,7 @@ entered_within l n [] (d ∷ ds) w bounds sound judged = absurd judged
 entered_within l n (i ∷ is) [] w bounds sound judged = absurd judged
 entered_within l n (i ∷ is) (d ∷ ds) w bounds sound judged =
     let v : Records = act (Enter Structured i None) d w in
-    let later : AreRecordsSound l v = (task_left l (Enter Structured i None) d w bounds sound (task_says l n (Enter Structured i None) w d.step judged.0) (step_judged l n (Enter Structured i None) w d.step judged.0).room judged.1).sound in (
+    let later : AreRecordsSound l v = (task_left l (Enter Structured i None) d w bounds sound (task_says l n (Enter Structured i None) w d.step judged.0) (step_judged l n (Enter Structured i None) w d.step judged.0).free judged.1).sound in (
       (λ k e. within_all l (suc n) (map enter_task is) ds v i.section k judged.2 (held_act (Enter Structured i None) d w i.section k (first_within l n i d.step w sound judged.0 k e))),
       entered_within l (suc n) is ds v bounds later judged.2,
     )

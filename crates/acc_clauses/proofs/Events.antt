@@ -1,6 +1,6 @@
 -- The event of a plan is legal, and has the tasks, the steps, the queues and the register of the plan. Where a plan makes none, it changes nothing.
-use Rattle.std.proofs.Common.{ℕ, ◌≡◌, refl, sym, ap, subst, ◌∙◌, List, [], ◌∷◌, Option, Some, None, Result, Ok}
-use Rattle.std.specs.Prelude.{map, unwrap_or, option_map, IsSome}
+use Rattle.std.proofs.Common.{ℕ, ◌≡◌, refl, sym, ap, subst, ◌∙◌, false, List, [], ◌∷◌, Option, Some, None, Result, Ok}
+use Rattle.std.specs.Prelude.{map, take, slice_get, unwrap_or, option_map, IsSome}
 use Rattle.std.proofs.lemmas.List.{reverse-reverse}
 use Rattle.acc_base.specs.declared.directives.Directive.{Directive}
 use Rattle.acc_base.specs.declared.directives.Directive.TheVariants.{Enter, Exit, EnterData, ExitData, Update, Wait, Step}
@@ -16,13 +16,17 @@ use Rattle.acc_base.specs.declared.faults.Fault.{Fault}
 use Rattle.acc_base.specs.Limits.{Limits}
 use Rattle.acc_base.specs.Records.{Records, State, layout_of}
 use Rattle.acc_base.specs.Register.{holdings_at, opened}
-use Rattle.acc_base.specs.Queues.{head_of as first_of, queue_named}
+use Rattle.acc_base.specs.Queues.{queue_at, head_of as first_of, queue_named}
+use Rattle.acc_base.specs.declared.loans.Loan.{Loan}
+use Rattle.acc_base.specs.Loans.{is_lent, not_lent, none_lent}
 use Rattle.acc_base.specs.Waits.{state_made, stepped, drained, steps_of}
 use Rattle.acc_base.specs.Walk.{enter_task, leave_tasks, asked_in, done_in, stepped_in, holdings_of, register_after, block_counted, pointer_attached}
 use Rattle.acc_base.specs.Acting.{act_all_state, host_after}
 use Rattle.acc_base.specs.Judge.{tasks_of_region, Makes, Idle, step_verdict, verdict_of}
 use Rattle.acc_base.specs.History.{AreJudged, NamesRight, IsLegal}
-use Rattle.acc_clauses.specs.Planned.{Planned, IsPlannedOn, holdings_by, register_planned, steps_by, finished}
+use Rattle.acc_base.proofs.Results.{then_ok}
+use Rattle.acc_base.proofs.Judged.{not_lent_says}
+use Rattle.acc_clauses.specs.Planned.{Planned, IsPlannedOn, head_of, transfers_by, holdings_by, register_planned, steps_by, finished}
 
 -- what the event of a plan asks, does and names
 pub record IsEventOf (l : Limits) (p : Planned) (s : State) (e : Event) : Type 0 where
@@ -70,6 +74,17 @@ event_same a b e = cc
 known_queue : (l : Limits) (d : Directive) (s : State) (p : Planned) (queue : Option ℕ) → IsPlannedOn l d (layout_of s) p → p.queue ≡ queue → queue_named queue ≡ Ok tt
 known_queue l d s p queue h same = subst (λ o. queue_named o ≡ Ok tt) same h.known
 
+-- no transfer that the plan makes is of a block that is lent
+transfers_free : (l : Limits) (d : Directive) (s : State) (p : Planned) → IsPlannedOn l d (layout_of s) p → none_lent (transfers_by (head_of d) s.records.queues) s.records.loans ≡ Ok tt
+transfers_free l d s p h = subst (λ k. none_lent (transfers_by k s.records.queues) s.records.loans ≡ Ok tt) h.head h.free
+
+-- the first one is of a block that is not lent
+first_free : (ts : List Transfer) (loans : List Loan) (t : Transfer) → slice_get ts 0 ≡ Some t → none_lent (take 1 ts) loans ≡ Ok tt → is_lent t.block loans ≡ false
+first_free [] loans t first free = cc
+first_free (x ∷ ts) loans t first free =
+    let same : x ≡ t = cc in
+    subst (λ (y : Transfer). is_lent y.block loans ≡ false) same (not_lent_says x.block loans (then_ok (not_lent (Some x.block) loans) (none_lent [] loans) tt free).0)
+
 -- the first transfer of a queue is made
 step_event : (l : Limits) (queue : ℕ) (s : State) (p : Planned) (e : Event) → IsPlannedOn l (Step queue) (layout_of s) p → (o : Option Transfer) → first_of queue s.records.queues ≡ o → step_verdict queue o ≡ Makes e → IsEventOf l p s e
 step_event l queue s p e h None first made = cc
@@ -78,7 +93,7 @@ step_event l queue s p e h (Some t) first made = subst (IsEventOf l p s) (event_
   done = sym (none_done l 0 p.dids s.records (subst (λ ts. AreJudged l 0 ts p.dids s.records) (sym (asked_same _ _ h.tasks)) h.judged));
   steps = rw h.head refl;
   register = rw h.head refl;
-  names = ap (option_map (λ (x : Transfer). x.block)) first;
+  names = (ap (option_map (λ (x : Transfer). x.block)) first, first_free (queue_at queue s.records.queues) s.records.loans t first (transfers_free l (Step queue) s p h));
   host = λ bytes. refl;
 })
 
@@ -127,7 +142,7 @@ event_of_plan l (Wait queue) s p e h made =
       done = sym (none_done l 0 p.dids s.records (subst (λ ts. AreJudged l 0 ts p.dids s.records) (sym none) h.judged));
       steps = rw h.head (ap (λ (t : State). steps_of queue t.records.queues) (sym (still l (Wait queue) s p h none)));
       register = rw h.head refl;
-      names = (known_queue l (Wait queue) s p queue h h.queue, refl);
+      names = (known_queue l (Wait queue) s p queue h h.queue, refl, transfers_free l (Wait queue) s p h);
       host = λ bytes. refl;
     })
 event_of_plan l (Step queue) s p e h made = step_event l queue s p e h (first_of queue s.records.queues) refl made

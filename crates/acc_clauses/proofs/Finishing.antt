@@ -1,17 +1,25 @@
 -- What a planned directive makes of a store: the state after its event, and a store that is sound.
+use Rattle.std.specs.Prelude.{⊤, Option, Some, None}
 use Rattle.std.proofs.Common.{◌≡◌, ◌≤◌, refl, sym, ◌∙◌, ap, subst, ℕ, List, [], arith}
+use Rattle.acc_base.specs.declared.directives.Directive.{Directive}
+use Rattle.acc_base.specs.declared.directives.Directive.TheVariants as directives
+use Rattle.acc_base.specs.declared.transfers.Transfer.{Transfer}
+use Rattle.acc_base.specs.declared.events.Did.{Did}
 use Rattle.acc_base.specs.declared.events.Event.{Event}
+use Rattle.acc_base.specs.declared.events.Event.TheVariants.{Entered, Left, EnteredData, ExitedData, Updated, Waited, Stepped, HostWritten, Lent, Gathered}
 use Rattle.acc_base.specs.Limits.{Limits, IsWithinBounds}
-use Rattle.acc_base.specs.Records.{Layout, State, layout_of}
+use Rattle.acc_base.specs.Records.{Records, Layout, Memory, State, layout_of}
 use Rattle.acc_base.specs.Register.{Register}
 use Rattle.acc_base.specs.Ranges.{structured_of, dynamic_of}
 use Rattle.acc_base.specs.Blocks.{used_bytes}
 use Rattle.acc_base.specs.Waits.{drained}
-use Rattle.acc_base.specs.Walk.{asked_in, done_in, stepped_in, register_after, walk}
-use Rattle.acc_base.specs.Acting.{act_all_state, host_after, after}
+use Rattle.acc_base.specs.Walk.{asked_in, done_in, stepped_in, register_after, loaned, walk}
+use Rattle.acc_base.specs.Queues.{head_of}
+use Rattle.acc_base.specs.Judge.{Makes, step_verdict, verdict_of}
+use Rattle.acc_base.specs.Acting.{act_all_state, host_after, memories_after, after}
 use Rattle.acc_base.specs.History.{IsLegal}
 use Rattle.acc_base.specs.Accounts.{IsLayoutSound, IsSound}
-use Rattle.acc_base.proofs.Memories.{event_sized}
+use Rattle.acc_base.proofs.Memories.{AreBrought, event_sized}
 use Rattle.acc_base.proofs.Walked.{layout-after, register-act_all_state}
 use Rattle.acc_base.proofs.Registers.{AreFew, register_sound}
 use Rattle.acc_base.proofs.Told.{IsTold, event_told}
@@ -22,24 +30,93 @@ use Rattle.acc_clauses.proofs.Events.{IsEventOf}
 
 -- ---- the state
 
+-- the event of a directive or of a write: it lends nothing, and brings nothing back
+abbrev pub IsPlain : Event → Type 0
+IsPlain (Entered number items did) = ⊤
+IsPlain (Left number did) = ⊤
+IsPlain (EnteredData items queue did) = ⊤
+IsPlain (ExitedData items finalize queue did) = ⊤
+IsPlain (Updated items if_present queue did) = ⊤
+IsPlain (Waited queue count) = ⊤
+IsPlain (Stepped queue block) = ⊤
+IsPlain (HostWritten addr len) = ⊤
+IsPlain (Lent region section block serial) = ⊥
+IsPlain (Gathered serial block) = ⊥
+
+loaned-plain : (e : Event) (w : Records) → IsPlain e → loaned e w ≡ w
+unfolding loaned
+loaned-plain (Entered number items did) w plain = refl
+loaned-plain (Left number did) w plain = refl
+loaned-plain (EnteredData items queue did) w plain = refl
+loaned-plain (ExitedData items finalize queue did) w plain = refl
+loaned-plain (Updated items if_present queue did) w plain = refl
+loaned-plain (Waited queue count) w plain = refl
+loaned-plain (Stepped queue block) w plain = refl
+loaned-plain (HostWritten addr len) w plain = refl
+loaned-plain (Lent region section block serial) w plain = absurd plain
+loaned-plain (Gathered serial block) w plain = absurd plain
+
+memories-plain : (e : Event) (ms : List Memory) → IsPlain e → memories_after e [] ms ≡ ms
+memories-plain (Entered number items did) ms plain = refl
+memories-plain (Left number did) ms plain = refl
+memories-plain (EnteredData items queue did) ms plain = refl
+memories-plain (ExitedData items finalize queue did) ms plain = refl
+memories-plain (Updated items if_present queue did) ms plain = refl
+memories-plain (Waited queue count) ms plain = refl
+memories-plain (Stepped queue block) ms plain = refl
+memories-plain (HostWritten addr len) ms plain = refl
+memories-plain (Lent region section block serial) ms plain = absurd plain
+memories-plain (Gathered serial block) ms plain = absurd plain
+
+pub brought-plain : (e : Event) (w : Records) → IsPlain e → AreBrought e [] w
+brought-plain (Entered number items did) w plain = tt
+brought-plain (Left number did) w plain = tt
+brought-plain (EnteredData items queue did) w plain = tt
+brought-plain (ExitedData items finalize queue did) w plain = tt
+brought-plain (Updated items if_present queue did) w plain = tt
+brought-plain (Waited queue count) w plain = tt
+brought-plain (Stepped queue block) w plain = tt
+brought-plain (HostWritten addr len) w plain = tt
+brought-plain (Lent region section block serial) w plain = tt
+brought-plain (Gathered serial block) w plain = absurd plain
+
+plain_same : (x e : Event) → Makes x ≡ Makes e → IsPlain x → IsPlain e
+plain_same x e h plain = let is : x ≡ e = cc in subst IsPlain is plain
+
+-- so is the event of each directive
+pub plain_verdict : (d : Directive) (s : State) (dids : List Did) (e : Event) → verdict_of d s dids ≡ Makes e → IsPlain e
+plain_verdict (directives.Enter items) s dids e h = plain_same _ e h tt
+plain_verdict (directives.Exit number) s dids e h = plain_same _ e h tt
+plain_verdict (directives.EnterData items queue) s dids e h = plain_same _ e h tt
+plain_verdict (directives.ExitData items finalize queue) s dids e h = plain_same _ e h tt
+plain_verdict (directives.Update items if_present queue) s dids e h = plain_same _ e h tt
+plain_verdict (directives.Wait queue) s dids e h = plain_same _ e h tt
+plain_verdict (directives.Step queue) s dids e h = go (head_of queue s.records.queues) h
+  where
+    go : (o : Option Transfer) → step_verdict queue o ≡ Makes e → IsPlain e
+    go None made = cc
+    go (Some t) made = plain_same _ e made tt
+
 -- what an event without bytes makes of a state, once its steps and its register are known
-by_parts : (e : Event) (a b : State) (x y : Register) → a ≡ b → x ≡ y → ((bytes : List ℕ) → host_after e [] bytes ≡ bytes)
-    → ◌≡◌ {A = State} (record { records = a.records; register = x; host = host_after e [] a.host; memories = a.memories }) (record b { register = y })
-by_parts e a b x y same register host =
-    let P : List ℕ → State = λ bytes. record { records = a.records; register = x; host = bytes; memories = a.memories } in
+by_parts : (e : Event) (a b : State) (x y : Register) → a ≡ b → x ≡ y → ((bytes : List ℕ) → host_after e [] bytes ≡ bytes) → IsPlain e
+    → ◌≡◌ {A = State} (record { records = loaned e a.records; register = x; host = host_after e [] a.host; memories = memories_after e [] a.memories }) (record b { register = y })
+by_parts e a b x y same register host plain =
+    let P : List ℕ → State = λ bytes. record { records = loaned e a.records; register = x; host = bytes; memories = memories_after e [] a.memories } in
     let Q : State → State = λ t. record t { register = x } in
-    ap P (host a.host) ∙ ap Q same ∙ ap (λ (g : Register). record b { register = g }) register
+    let R : Records → State = λ w. record { records = w; register = x; host = a.host; memories = memories_after e [] a.memories } in
+    let S : List Memory → State = λ ms. record { records = a.records; register = x; host = a.host; memories = ms } in
+    ap P (host a.host) ∙ ap R (loaned-plain e a.records plain) ∙ ap S (memories-plain e a.memories plain) ∙ ap Q same ∙ ap (λ (g : Register). record b { register = g }) register
 
 -- the state after the event of a plan is that after its tasks, and then its queues and its register
-pub after_plan : (l : Limits) (p : Planned) (s : State) (e : Event) → IsEventOf l p s e → after e [] s ≡ finished p (act_all_state p.tasks p.dids s)
+pub after_plan : (l : Limits) (p : Planned) (s : State) (e : Event) → IsEventOf l p s e → IsPlain e → after e [] s ≡ finished p (act_all_state p.tasks p.dids s)
 unfolding after
-after_plan l p s e is =
+after_plan l p s e is plain =
     let t : State = act_all_state p.tasks p.dids s in
     let acted : act_all_state (asked_in e s.register) (done_in e) s ≡ t = ap (λ ts. act_all_state ts (done_in e) s) is.asked ∙ ap (λ ds. act_all_state p.tasks ds s) is.done in
     let made : drained (stepped_in e s.records.queues) (act_all_state (asked_in e s.register) (done_in e) s) ≡ drained (steps_by p.head t.records.queues) t =
     ap (λ qs. drained qs (act_all_state (asked_in e s.register) (done_in e) s)) is.steps ∙ ap (drained (steps_by p.head t.records.queues)) acted in
     by_parts e (drained (stepped_in e s.records.queues) (act_all_state (asked_in e s.register) (done_in e) s)) (drained (steps_by p.head t.records.queues) t) (register_after e s.register) (register_planned p t.register)
-    made (is.register ∙ ap (register_planned p) (sym (register-act_all_state p.tasks p.dids s))) is.host
+    made (is.register ∙ ap (register_planned p) (sym (register-act_all_state p.tasks p.dids s))) is.host plain
 
 -- ---- the layout
 
@@ -61,16 +138,16 @@ layout_kept l e lay bounds h legal few =
     record { records = kept.sound; register = register_sound (register_after e lay.register) kept.numbered few; held = kept.held }
 
 -- a store is sound after a legal event
-pub event_sound : (l : Limits) (e : Event) (c f : Contents) → IsWithinBounds l → c.limits ≡ l → f.limits ≡ l → IsStoreSound c → IsLegal l e (layout_of c.state) → f.state ≡ after e [] c.state
+pub event_sound : (l : Limits) (e : Event) (brought : List ℕ) (c f : Contents) → IsWithinBounds l → c.limits ≡ l → f.limits ≡ l → IsStoreSound c → IsLegal l e (layout_of c.state) → AreBrought e brought c.state.records → f.state ≡ after e brought c.state
     → AreFew (register_after e c.state.register) → used_bytes f.state.records.blocks ≤ l.device → AreHoldingsWithin f.state.records f.state.register.regions → IsStoreSound f
-event_sound l e c f bounds cl fl h legal is few used within =
+event_sound l e brought c f bounds cl fl h legal fits is few used within =
     let before : IsSound l c.state = subst (λ (m : Limits). IsSound m c.state) cl h.sound in
-    let layout : IsLayoutSound l (layout_of (after e [] c.state)) = subst (IsLayoutSound l) (sym (layout-after e [] c.state)) (layout_kept l e (layout_of c.state) bounds before.layout legal few) in
+    let layout : IsLayoutSound l (layout_of (after e brought c.state)) = subst (IsLayoutSound l) (sym (layout-after e brought c.state)) (layout_kept l e (layout_of c.state) bounds before.layout legal few) in
     record {
       sound = subst (λ (m : Limits). IsSound m f.state) (sym fl) (record {
         layout = subst (λ (s : State). IsLayoutSound l (layout_of s)) (sym is) layout;
         bytes_accounted = used;
-        memories_sized = rw is (event_sized l e [] c.state before.memories_sized);
+        memories_sized = rw is (event_sized l e brought c.state fits before.memories_sized);
       });
       holdings = within;
     }

@@ -2,6 +2,8 @@
 use Rattle.std.proofs.Common.{ℕ, ◌≡◌, ◌-◌, ◌<◌, ◌≤◌, refl, sym, ap, subst, Bool, true, false, cond, ◌&&◌, [], length, Option, Some, None, Ok, arith}
 use Rattle.std.specs.Prelude.{nat_le, unwrap_or, option_map, IsSome, is_some}
 use Rattle.std.proofs.lemmas.Bool.Decides.{nat_tests}
+use Rattle.acc_base.proofs.Judged.{not_lent_says}
+use Rattle.acc_base.specs.Loans.{is_lent, not_lent}
 use Rattle.acc_base.specs.declared.items.Section.{Section}
 use Rattle.acc_base.specs.declared.items.Item.{Item}
 use Rattle.acc_base.specs.declared.items.RegionClause.{RegionClause}
@@ -23,9 +25,9 @@ use Rattle.acc_base.specs.Bytes.{bytes_of, step_state}
 use Rattle.acc_base.proofs.Results.{equal_self, refused_not}
 use Rattle.acc_queues.specs.Queued.{spare_at}
 use Rattle.acc_clauses.specs.declared.environments.Environment.{Environment}
-use Rattle.acc_clauses.specs.Contents.{state_of, room_of}
+use Rattle.acc_clauses.specs.Contents.{state_of, room_of, bare_state}
 use Rattle.acc_clauses.specs.Overlays.{moves, is_queue, puts_by}
-use Rattle.acc_clauses.specs.Acts.{CanMove, CanPut, CanMoveBytes, CanQueue, HasPutRoom, moved_state, filled_later, given_state, IsMovedBy, IsFilledLater, IsGivenBy, IsActedBy}
+use Rattle.acc_clauses.specs.Acts.{CanMove, CanPut, CanMoveBytes, CanQueue, HasPutRoom, moved_state, filled_later, given_state, IsMovedBy, IsFilledLater, IsGivenBy, IsActedBy, CanNeed}
 use Rattle.acc_clauses.proofs.Changes.{changed_to}
 
 -- ---- a section that is inside the range of a block
@@ -40,11 +42,11 @@ first_low section k x m =
 first_is : (task : Task) (k : ℕ) (x : State) → CanMove (section_of task) k x → first_address (transfer_at task k x.records.ranges) ≡ start_of k x.records.ranges
 first_is task k x m = let low : start_of k x.records.ranges ≤ (section_of task).start = first_low (section_of task) k x m in omega (arith, low)
 
--- the section is within the bytes of the block
-pub within_block : (section : Section) (k start : ℕ) (x : State) → CanMove section k x → start ≡ start_of k x.records.ranges → is_within section (record { start = start; len = length (bytes_of k x.memories) }) ≡ true
-within_block section k start x m e =
+-- the section is within the bytes of a block that is not lent
+pub within_block : (section : Section) (k start : ℕ) (x : State) → CanMove section k x → is_lent k x.records.loans ≡ false → start ≡ start_of k x.records.ranges → is_within section (record { start = start; len = length (bytes_of k x.memories) }) ≡ true
+within_block section k start x m free e =
     let at : start_of k x.records.ranges ≡ m.range.section.start = ap (λ o. unwrap_or (option_map (λ (t : Range). t.section.start) o) 0) m.range_is in
-    rw (e, at, m.len) m.within
+    rw (e, at, m.len free) m.within
 
 -- ---- the transfer can be made or put
 
@@ -72,9 +74,9 @@ step_puts task step q t x y named is moving can puts same there = record {
 }
 
 -- a copy of the section of a task to or from the block that it is mapped to can be made at once, or be put into the queue that the task names
-pub can_move_bytes : (task : Task) (step : Step) (k : ℕ) (x : Environment) (queue : Option ℕ) (t : Transfer) → CanMove (section_of task) k (state_of x 0) → queue ≡ queue_of task → t ≡ transfer_at task k x.present.table.ranges
-    → transfer_of task step x.present.table.ranges ≡ Some (transfer_at task k x.present.table.ranges) → moves task step ≡ true → CanQueue task step x → HasPutRoom (λ q. puts_by q task step) (room_of x) → CanMoveBytes queue t x
-can_move_bytes task step k x queue t can named is moves_so moving room puts =
+pub can_move_bytes : (task : Task) (step : Step) (k : ℕ) (x : Environment) (queue : Option ℕ) (t : Transfer) → CanMove (section_of task) k (bare_state x) → queue ≡ queue_of task → t ≡ transfer_at task k x.present.table.ranges
+    → transfer_of task step x.present.table.ranges ≡ Some (transfer_at task k x.present.table.ranges) → moves task step ≡ true → (queue_of task ≡ None → is_lent k x.device.loans ≡ false) → CanQueue task step x → HasPutRoom (λ q. puts_by q task step) (room_of x) → CanMoveBytes queue t x
+can_move_bytes task step k x queue t can named is moves_so moving free room puts =
     subst (λ (u : Transfer). CanMoveBytes queue u x) (sym is) (go queue named)
   where
     go : (o : Option ℕ) → o ≡ queue_of task → CanMoveBytes o (transfer_at task k x.present.table.ranges) x
@@ -82,9 +84,16 @@ can_move_bytes task step k x queue t can named is moves_so moving room puts =
       in_host = can.in_host;
       end = can.end;
       there = can.there;
-      within = within_block (section_of task) k (first_address (transfer_at task k x.present.table.ranges)) (state_of x 0) can (first_is task k (state_of x 0) can);
+      free = free (sym e);
+      within = within_block (section_of task) k (first_address (transfer_at task k x.present.table.ranges)) (bare_state x) can (free (sym e)) (first_is task k (bare_state x) can);
     }
     go (Some q) e = step_puts task step q (transfer_at task k x.present.table.ranges) x x (sym e) moves_so moving room puts refl can.there
+
+-- a block that an update needs is not lent
+pub needed_free : (task : Task) (k : ℕ) (x : Environment) → CanNeed task (Moved k) x → queue_of task ≡ None → is_lent k x.device.loans ≡ false
+needed_free task k x needed none =
+    let one : not_lent (Some k) x.device.loans ≡ Ok tt = rw none at needed in
+    not_lent_says k x.device.loans one
 
 -- ---- what it leaves
 

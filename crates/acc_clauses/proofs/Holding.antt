@@ -152,7 +152,7 @@ leaves_known l n (h ∷ hs) (d ∷ ds) w bounds sound judged within covers = (kn
     says = task_says l n (Leave h) w d.step judged.0
 
     left : IsLeft l (Leave h) d w v
-    left = task_left l (Leave h) d w bounds sound says (step_judged l n (Leave h) w d.step judged.0).room judged.1
+    left = task_left l (Leave h) d w bounds sound says (step_judged l n (Leave h) w d.step judged.0).free judged.1
 
     known : IsKnown w (Leave h)
     known k e =

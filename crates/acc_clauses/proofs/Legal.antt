@@ -7,6 +7,9 @@ use Rattle.acc_base.specs.declared.addresses.TheConstants.{MEMORY_MAX}
 use Rattle.acc_base.specs.declared.items.Section.{Section}
 use Rattle.acc_base.specs.declared.mappings.Range.{Range}
 use Rattle.acc_base.specs.declared.mappings.Block.{Block}
+use Rattle.acc_base.specs.declared.loans.Loan.{Loan}
+use Rattle.acc_base.specs.Loans.{loan_of, is_lent}
+use Rattle.std.specs.Prelude as tests
 use Rattle.acc_base.specs.declared.mappings.Found.TheVariants.{Inside}
 use Rattle.acc_base.specs.declared.tasks.Task.{Task}
 use Rattle.acc_base.specs.declared.tasks.Task.TheVariants.{Enter, Leave, Exit, Move}
@@ -19,7 +22,7 @@ use Rattle.acc_base.specs.Records.{Records, Memory, State}
 use Rattle.acc_base.specs.Ranges.{where_is, range_of}
 use Rattle.acc_base.specs.Blocks.{block_at}
 use Rattle.acc_base.specs.Tasks.{section_of}
-use Rattle.acc_base.specs.Accounts.{IsInHost, IsMapped, IsCounted, HasOneBlockEach, IsMemoryOf, AreRecordsSound, AreMemoriesSized}
+use Rattle.acc_base.specs.Accounts.{IsInHost, IsMapped, IsCounted, HasOneBlockEach, IsMemoryOf, AreRecordsSound, AreMemoriesSized, IsLoanSound}
 use Rattle.acc_base.proofs.Results.{equal}
 use Rattle.acc_base.proofs.Elements.{AllByRecursion-weaker, AllByRecursion-both, found_has}
 use Rattle.acc_base.proofs.Lookups.{at-own}
@@ -70,7 +73,7 @@ can_move l s section k bounds h m around =
       range_is = around.range_is;
       within = around.within;
       there = is_some (block_at k s.records.blocks) b there;
-      len = bytes_of-len k s.memories s.records.blocks b m.blocks there ∙ has.0.mapped.2;
+      len = λ free. bytes_of-len s.records.loans k s.memories s.records.blocks b m.blocks free there ∙ has.0.mapped.2;
     }
 
 -- a block that is not there has no range
@@ -88,12 +91,12 @@ pub limit_of : (l : Limits) (w : Records) (k : ℕ) (r : Range) → AreRecordsSo
 limit_of l w k r h e = let has : IsCounted l r × ((r.block == k) ≡ true) = found_has (IsCounted l) (λ t. t.block == k) w.ranges r h.counted e in has.0
 
 -- the block of a number above the births has no memory
-no_memory : (k births : ℕ) (ms : List Memory) (bs : List Block) → AllZip IsMemoryOf ms bs → AllByRecursion (λ b. b.number ≤ births) bs → k ≡ births + 1 → AllByRecursion (λ m. m.block ≡ k → ⊥) ms
-no_memory k births [] bs h low e = tt
-no_memory k births (m ∷ ms) [] h low e = absurd h
-no_memory k births (m ∷ ms) (b ∷ bs) h low e = (
+no_memory : (ls : List Loan) (k births : ℕ) (ms : List Memory) (bs : List Block) → AllZip (IsMemoryOf ls) ms bs → AllByRecursion (λ b. b.number ≤ births) bs → k ≡ births + 1 → AllByRecursion (λ m. m.block ≡ k → ⊥) ms
+no_memory ls k births [] bs h low e = tt
+no_memory ls k births (m ∷ ms) [] h low e = absurd h
+no_memory ls k births (m ∷ ms) (b ∷ bs) h low e = (
   (λ same. let below : b.number ≤ births = low.0 in let owner : m.block ≡ b.number = h.0.block in omega (arith, e, below, owner, same)),
-  no_memory k births ms bs h.1 low.1 e,
+  no_memory ls k births ms bs h.1 low.1 e,
 )
 
 -- nor has it an attachment counter
@@ -103,6 +106,21 @@ no_pointer l k w h e = AllByRecursion-weaker (λ a. IsSome (block_at a.block w.b
     let has : (b.0.number ≤ w.births) × ((b.0.number == a.block) ≡ true) = found_has (λ b. b.number ≤ w.births) (λ b. b.number == a.block) w.blocks b.0 h.blocks_apart.born b.1 in
     let own : b.0.number ≡ a.block = equal b.0.number a.block has.1 in
     omega (arith, e, own, same, has.0)) h.attached.there
+
+-- nor a loan
+unborn_free : (l : Limits) (w : Records) (k : ℕ) → k ≡ w.births + 1 → AreRecordsSound l w → is_lent k w.loans ≡ false
+unborn_free l w k number h = go (loan_of k w.loans) refl
+  where
+    apart : (r : Range) → r.block ≤ w.births → (r.block == k) ≡ true → ⊥
+    apart r low same = let is : r.block ≡ k = equal r.block k same in omega (arith, number, low, is)
+
+    go : (o : Option Loan) → loan_of k w.loans ≡ o → tests.is_some o ≡ false
+    go None e = refl
+    go (Some x) e =
+        let has : IsLoanSound w.ranges x × ((x.block == k) ≡ true) = found_has (IsLoanSound w.ranges) (λ y. y.block == k) w.loans x h.loans.sound e in
+        let mapped : (has.0.range.block ≤ w.births) × ((has.0.range.block == x.block) ≡ true) = found_has (λ r. r.block ≤ w.births) (λ r. r.block == x.block) w.ranges has.0.range (ranges_born l w h) has.0.mapped in
+        let own : x.block ≡ k = equal x.block k has.1 in
+        absurd (apart has.0.range mapped.0 (subst (λ n. (has.0.range.block == n) ≡ true) own mapped.1))
 
 -- a look-up that does not find nothing finds something
 not_none : {X : Type 0} (o : Option X) → (o ≡ None → ⊥) → IsSome o
@@ -133,9 +151,10 @@ can_bear l s section k place bounds h m few says =
       place_is = says.place_is;
       few = few;
       no_range = AllByRecursion-weaker (λ (r : Range). r.block ≤ s.records.births) (λ r. r.block ≡ k → ⊥) s.records.ranges (λ r n same. let number : k ≡ s.records.births + 1 = says.number in omega arith) (ranges_born l s.records h);
-      no_memory = no_memory k s.records.births s.memories s.records.blocks m.blocks h.blocks_apart.born says.number;
+      no_memory = no_memory s.records.loans k s.records.births s.memories s.records.blocks m.blocks h.blocks_apart.born says.number;
       no_pointer = no_pointer l k s.records h says.number;
       no_transfer = subst (λ n. pins_of n s.records.queues ≡ 0) (sym says.number) (unborn_unpinned l s.records.blocks s.records.births s.records.queues h.blocks_apart.born h.queues);
+      no_loan = unborn_free l s.records k says.number h;
       counted = bounds.counter_max.0;
     }
 

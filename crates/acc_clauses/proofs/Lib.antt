@@ -7,6 +7,7 @@ pub mod Turns
 pub mod Pointed
 pub mod Asking
 pub mod Events
+mod Freed
 mod Runs
 mod Copying
 mod Moving
@@ -22,6 +23,7 @@ pub mod Legal
 mod Standing
 mod Making
 mod Emptied
+mod Emptying
 mod Finished
 mod Reserved
 mod Ready
@@ -40,3 +42,4 @@ mod AimsWritten
 pub mod AimsValued
 pub mod AimsJudged
 pub mod AimsTargeted
+pub mod Lends

@@ -4,11 +4,14 @@ use Rattle.std.specs.Prelude.{◌==◌, find, IsSome, slice_index, unwrap_or, op
 use Rattle.std.specs.List.{AllByRecursion, AllZip}
 use Rattle.acc_base.specs.declared.items.Section.{Section}
 use Rattle.acc_base.specs.declared.mappings.Block.{Block}
+use Rattle.acc_base.specs.declared.loans.Loan.{Loan}
+use Rattle.acc_base.specs.Loans.{is_lent}
 use Rattle.acc_base.specs.Section.{covers, is_within, host_memory}
 use Rattle.acc_base.specs.Records.{Memory}
 use Rattle.acc_base.specs.Blocks.{block_at}
 use Rattle.acc_base.specs.Bytes.{bytes_of, written_bytes, memory_changed, bytes_moved_in, bytes_moved_out}
 use Rattle.acc_base.specs.Accounts.{EachPair, IsClearOf, IsMemoryOf}
+use Rattle.acc_base.proofs.Results.{equal}
 use Rattle.acc_base.proofs.Elements.{AllByRecursion-weaker, EachPair-weaker}
 use Rattle.acc_base.proofs.Lookups.{at-own}
 use Rattle.acc_host.specs.Host.{bytes_in, with_bytes}
@@ -44,64 +47,64 @@ lens_of block blocks b apart there = AllByRecursion-weaker (λ c. block_at c.num
     (own_blocks blocks apart)
 
 -- and so is each memory of it
-memories_long : (block len : ℕ) (memories : List Memory) (blocks : List Block) → AllZip IsMemoryOf memories blocks → AllByRecursion (λ b. b.number ≡ block → b.len ≡ len) blocks
+memories_long : (ls : List Loan) (block len : ℕ) (memories : List Memory) (blocks : List Block) → AllZip (IsMemoryOf ls) memories blocks → is_lent block ls ≡ false → AllByRecursion (λ b. b.number ≡ block → b.len ≡ len) blocks
     → AllByRecursion (λ m. m.block ≡ block → length m.bytes ≡ len) memories
-memories_long block len [] [] h k = tt
-memories_long block len [] (b ∷ bs) h k = absurd h
-memories_long block len (m ∷ ms) [] h k = absurd h
-memories_long block len (m ∷ ms) (b ∷ bs) h k = ((λ is. h.0.len ∙ k.0 (sym h.0.block ∙ is)), memories_long block len ms bs h.1 k.1)
+memories_long ls block len [] [] h free k = tt
+memories_long ls block len [] (b ∷ bs) h free k = absurd h
+memories_long ls block len (m ∷ ms) [] h free k = absurd h
+memories_long ls block len (m ∷ ms) (b ∷ bs) h free k = ((λ is. let own : b.number ≡ block = sym h.0.block ∙ is in h.0.len (rw own free) ∙ k.0 own), memories_long ls block len ms bs h.1 free k.1)
 
--- a block that is there has a memory as long
-pub bytes_of-len : (block : ℕ) (memories : List Memory) (blocks : List Block) (b : Block) → AllZip IsMemoryOf memories blocks → block_at block blocks ≡ Some b → length (bytes_of block memories) ≡ b.len
-bytes_of-len block [] [] b h e = cc
-bytes_of-len block [] (c ∷ cs) b h e = absurd h
-bytes_of-len block (m ∷ ms) [] b h e = absurd h
-bytes_of-len block (m ∷ ms) (c ∷ cs) b h e = subst (λ n. length (unwrap_or (option_map (λ x. x.bytes) (cond (n == block) (Some m) (find (λ x. x.block == block) ms))) []) ≡ b.len) (sym h.0.block) (go (bytes_of-len block ms cs b h.1) (c.number == block) e)
+-- a block that is there and not lent has a memory as long
+pub bytes_of-len : (ls : List Loan) (block : ℕ) (memories : List Memory) (blocks : List Block) (b : Block) → AllZip (IsMemoryOf ls) memories blocks → is_lent block ls ≡ false → block_at block blocks ≡ Some b → length (bytes_of block memories) ≡ b.len
+bytes_of-len ls block [] [] b h free e = cc
+bytes_of-len ls block [] (c ∷ cs) b h free e = absurd h
+bytes_of-len ls block (m ∷ ms) [] b h free e = absurd h
+bytes_of-len ls block (m ∷ ms) (c ∷ cs) b h free e = subst (λ n. length (unwrap_or (option_map (λ x. x.bytes) (cond (n == block) (Some m) (find (λ x. x.block == block) ms))) []) ≡ b.len) (sym h.0.block) (go (bytes_of-len ls block ms cs b h.1 free) (c.number == block) refl e)
   where
-    go : (block_at block cs ≡ Some b → length (bytes_of block ms) ≡ b.len) → (t : Bool) → cond t (Some c) (block_at block cs) ≡ Some b
+    go : (block_at block cs ≡ Some b → length (bytes_of block ms) ≡ b.len) → (t : Bool) → (c.number == block) ≡ t → cond t (Some c) (block_at block cs) ≡ Some b
         → length (unwrap_or (option_map (λ x. x.bytes) (cond t (Some m) (find (λ x. x.block == block) ms))) []) ≡ b.len
-    go rest true k = let same : c ≡ b = cc in h.0.len ∙ ap (λ (x : Block). x.len) same
-    go rest false k = rest k
+    go rest true is k = let same : c ≡ b = cc in h.0.len (subst (λ n. is_lent n ls ≡ false) (sym (equal _ _ is)) free) ∙ ap (λ (x : Block). x.len) same
+    go rest false is k = rest k
 
 -- what is there is something
 pub some_of : {X : Type 0} (o : Option X) → IsSome o → (x : X) × (o ≡ Some x)
 some_of None h = cc
 some_of (Some x) h = (x, refl)
 
--- each memory of a block that is there is as long as its bytes
-lens_by : (d : DeviceState) (block : ℕ) → HasBlocksApart d → AllZip IsMemoryOf d.memories d.blocks → IsSome (block_at block d.blocks) → AllByRecursion (λ m. m.block ≡ block → length m.bytes ≡ length (bytes_of block d.memories)) d.memories
-lens_by d block apart sized there =
+-- each memory of a block that is there and not lent is as long as its bytes
+lens_by : (d : DeviceState) (block : ℕ) → HasBlocksApart d → AllZip (IsMemoryOf d.loans) d.memories d.blocks → is_lent block d.loans ≡ false → IsSome (block_at block d.blocks) → AllByRecursion (λ m. m.block ≡ block → length m.bytes ≡ length (bytes_of block d.memories)) d.memories
+lens_by d block apart sized free there =
     let b : (b : Block) × (block_at block d.blocks ≡ Some b) = some_of (block_at block d.blocks) there in
-    subst (λ n. AllByRecursion (λ m. m.block ≡ block → length m.bytes ≡ n) d.memories) (sym (bytes_of-len block d.memories d.blocks b.0 sized b.1))
-    (memories_long block b.0.len d.memories d.blocks sized (lens_of block d.blocks b.0 apart.apart b.1))
+    subst (λ n. AllByRecursion (λ m. m.block ≡ block → length m.bytes ≡ n) d.memories) (sym (bytes_of-len d.loans block d.memories d.blocks b.0 sized free b.1))
+    (memories_long d.loans block b.0.len d.memories d.blocks sized free (lens_of block d.blocks b.0 apart.apart b.1))
 
 -- ---- to a block
 
 -- a device after a write has other memories, and nothing else changed
 pub device_written : (old new : DeviceState) (block offset : ℕ) (bytes : List ℕ) (ms : List Memory) → IsWritten old new block offset bytes → map (memory_changed block (overwritten offset bytes)) old.memories ≡ ms → new ≡ record old { memories = ms }
-device_written old new block offset bytes ms h e = remade new (record old { memories = ms }) h.size h.blocks (h.memories ∙ e) h.marks h.births h.room
+device_written old new block offset bytes ms h e = remade new (record old { memories = ms }) h.size h.blocks (h.memories ∙ e) h.marks h.loans h.births h.room
   where
-    remade : (a b : DeviceState) → a.size ≡ b.size → a.blocks ≡ b.blocks → a.memories ≡ b.memories → a.marks ≡ b.marks → a.births ≡ b.births → a.room ≡ b.room → a ≡ b
-    remade a b p q r m s t = let e : record { size = a.size; blocks = a.blocks; memories = a.memories; marks = a.marks; births = a.births; room = a.room } ≡ b = rw (p, q, r, m, s, t) refl in e
+    remade : (a b : DeviceState) → a.size ≡ b.size → a.blocks ≡ b.blocks → a.memories ≡ b.memories → a.marks ≡ b.marks → a.loans ≡ b.loans → a.births ≡ b.births → a.room ≡ b.room → a ≡ b
+    remade a b p q r m i s t = let e : record { size = a.size; blocks = a.blocks; memories = a.memories; marks = a.marks; loans = a.loans; births = a.births; room = a.room } ≡ b = rw (p, q, r, m, i, s, t) refl in e
 
-pub copied_in : (s : Section) (start : ℕ) (host bytes : List ℕ) (d new : DeviceState) (block : ℕ) → HasBlocksApart d → AllZip IsMemoryOf d.memories d.blocks → IsSome (block_at block d.blocks)
+pub copied_in : (s : Section) (start : ℕ) (host bytes : List ℕ) (d new : DeviceState) (block : ℕ) → HasBlocksApart d → AllZip (IsMemoryOf d.loans) d.memories d.blocks → is_lent block d.loans ≡ false → IsSome (block_at block d.blocks)
     → is_within s (host_memory (length host)) ≡ true → is_within s (record { start = start; len = length (bytes_of block d.memories) }) ≡ true → bytes ≡ bytes_in host s → IsWritten d new block (s.start - start) bytes
     → new ≡ record d { memories = map (memory_changed block (bytes_moved_in (covers s) host start)) d.memories }
-copied_in s start host bytes d new block apart sized there in_host within bytes_are h =
+copied_in s start host bytes d new block apart sized free there in_host within bytes_are h =
     device_written d new block (s.start - start) bytes _ h (rw bytes_are (changed-same block (overwritten (s.start - start) (bytes_in host s)) (bytes_moved_in (covers s) host start) d.memories
     (AllByRecursion-weaker (λ y. y.block ≡ block → length y.bytes ≡ length (bytes_of block d.memories)) (λ y. y.block ≡ block → overwritten (s.start - start) (bytes_in host s) y.bytes ≡ bytes_moved_in (covers s) host start y.bytes) d.memories
-    (λ y len e. sym (moved_in s host start y.bytes in_host (rw (len e) within))) (lens_by d block apart sized there))))
+    (λ y len e. sym (moved_in s host start y.bytes in_host (rw (len e) within))) (lens_by d block apart sized free there))))
 
 -- ---- a pointer in a block
 
 -- bytes that are written over a section of a block
-pub put_in : (s : Section) (start : ℕ) (bytes : List ℕ) (d new : DeviceState) (block : ℕ) → HasBlocksApart d → AllZip IsMemoryOf d.memories d.blocks → IsSome (block_at block d.blocks)
+pub put_in : (s : Section) (start : ℕ) (bytes : List ℕ) (d new : DeviceState) (block : ℕ) → HasBlocksApart d → AllZip (IsMemoryOf d.loans) d.memories d.blocks → is_lent block d.loans ≡ false → IsSome (block_at block d.blocks)
     → is_within s (record { start = start; len = length (bytes_of block d.memories) }) ≡ true → length bytes ≡ s.len → IsWritten d new block (s.start - start) bytes
     → new ≡ record d { memories = map (memory_changed block (written_bytes (covers s) (λ a. slice_index bytes (a - s.start)) start)) d.memories }
-put_in s start bytes d new block apart sized there within len h =
+put_in s start bytes d new block apart sized free there within len h =
     let n : ℕ = length (bytes_of block d.memories) in
     let to : IsPartAt s start n (s.start - start) = part_at s (record { start = start; len = n }) within in
     device_written d new block (s.start - start) bytes _ h (changed-same block (overwritten (s.start - start) bytes) (written_bytes (covers s) (λ a. slice_index bytes (a - s.start)) start) d.memories
     (AllByRecursion-weaker (λ y. y.block ≡ block → length y.bytes ≡ n) (λ y. y.block ≡ block → overwritten (s.start - start) bytes y.bytes ≡ written_bytes (covers s) (λ a. slice_index bytes (a - s.start)) start y.bytes) d.memories
     (λ y long e. let same : length y.bytes ≡ n = long e in
-    sym (written-overwritten s (λ a. slice_index bytes (a - s.start)) (s.start - start) start y.bytes bytes to.at_is (omega (arith, to.fits, same)) len (from_all s.start bytes))) (lens_by d block apart sized there)))
+    sym (written-overwritten s (λ a. slice_index bytes (a - s.start)) (s.start - start) start y.bytes bytes to.at_is (omega (arith, to.fits, same)) len (from_all s.start bytes))) (lens_by d block apart sized free there)))

@@ -156,7 +156,7 @@ pub sound-after : (l : Limits) (n : ℕ) (xs : List Acted) (w : Records) → IsW
 unfolding act_all
 sound-after l n [] w bounds h judged = h
 sound-after l n (x ∷ xs) w bounds h judged =
-    let left = task_left l x.task x.did w bounds h (task_says l n x.task w x.did.step judged.0) (step_judged l n x.task w x.did.step judged.0).room judged.1 in
+    let left = task_left l x.task x.did w bounds h (task_says l n x.task w x.did.step judged.0) (step_judged l n x.task w x.did.step judged.0).free judged.1 in
     sound-after l (suc n) xs (act x.task x.did w) bounds left.sound judged.2
 
 -- both counters of a block after tasks
@@ -165,7 +165,7 @@ pub counters-after : (l : Limits) (n : ℕ) (xs : List Acted) (w : Records) (b :
 unfolding act_all
 counters-after l n [] w b bounds h judged = refl
 counters-after l n (x ∷ xs) w b bounds h judged =
-    let left = task_left l x.task x.did w bounds h (task_says l n x.task w x.did.step judged.0) (step_judged l n x.task w x.did.step judged.0).room judged.1 in
+    let left = task_left l x.task x.did w bounds h (task_says l n x.task w x.did.step judged.0) (step_judged l n x.task w x.did.step judged.0).free judged.1 in
     ap (λ c. counters_over b c xs) (sym (counters-left x.task x.did.step b w.ranges (act x.task x.did w).ranges (λ c. left.counter_is c b)))
     ∙ counters-after l (suc n) xs (act x.task x.did w) b bounds left.sound judged.2
 

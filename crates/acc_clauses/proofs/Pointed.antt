@@ -1,31 +1,34 @@
 -- A task judged whole after others: its step, and what becomes of its pointer.
-use Rattle.std.proofs.Common.{ℕ, ◌≡◌, refl, ap, ◌∙◌, Bool, true, false, cond, List, [], ◌∷◌, ◌++◌, length, Option, Some, None, Result, Ok, Err}
-use Rattle.std.specs.Prelude.{◌||◌}
+use Rattle.std.proofs.Common.{ℕ, ◌≡◌, refl, sym, ap, ◌∙◌, Bool, true, false, cond, List, [], ◌∷◌, ◌++◌, length, Option, Some, None, Result, Ok, Err}
+use Rattle.std.specs.Prelude.{◌||◌, ⊤}
 use Rattle.std.proofs.lemmas.Bool.{false≢true}
 use Rattle.acc_base.specs.declared.attachments.Aim.{Aim}
 use Rattle.acc_base.specs.declared.attachments.Aim.TheVariants as aims
-use Rattle.acc_base.specs.declared.regions.Holding.{Holding}
+use Rattle.acc_base.specs.declared.mappings.Counter.{Counter}
 use Rattle.acc_base.specs.declared.items.Item.{Item}
-use Rattle.acc_base.specs.declared.items.ExitClause.{ExitClause}
-use Rattle.acc_base.specs.declared.items.UpdateClause.{UpdateClause}
+use Rattle.acc_base.specs.declared.items.RegionClause.{RegionClause}
 use Rattle.acc_base.specs.declared.tasks.Task.{Task}
 use Rattle.acc_base.specs.declared.tasks.Task.TheVariants.{Enter, Leave, Exit, Move}
 use Rattle.acc_base.specs.declared.events.Step.{Step}
 use Rattle.acc_base.specs.declared.faults.Fault.{Fault}
-use Rattle.acc_base.specs.Results.{◌>>=◌}
+use Rattle.acc_base.specs.Results.{◌>>=◌, ◌>>◌}
 use Rattle.acc_base.specs.Limits.{Limits}
 use Rattle.acc_base.specs.Records.{Records, State}
 use Rattle.acc_base.specs.Clauses.{is_attach, pointer_checked}
-use Rattle.acc_base.specs.Tasks.{pointer_of, checked}
-use Rattle.acc_base.specs.Steps.{is_action, pointer_aimed, did_of, judge_row, judge_step}
+use Rattle.acc_base.specs.Tasks.{pointer_of, queue_of, checked}
+use Rattle.acc_base.specs.Transfers.{transfer_of, room_for}
+use Rattle.acc_base.specs.Loans.{not_lent}
+use Rattle.acc_base.specs.Steps.{is_action, pointer_aimed, did_of, block_detached, block_needed, judge_row, judge_step}
 use Rattle.acc_base.specs.Bytes.{step_state}
-use Rattle.acc_base.specs.Pointers.{aimed, judge_release}
-use Rattle.acc_base.specs.Acting.{attach_if, detach_if, judge_aim, judge_task, act_state}
+use Rattle.acc_base.specs.Pointers.{aimed}
+use Rattle.acc_base.specs.Detaching.{block_aimed}
+use Rattle.acc_base.specs.Acting.{attach_if, judge_aim, judge_task, act_state}
 use Rattle.acc_base.specs.History.{IsAimLegal}
 use Rattle.acc_base.proofs.Results.{then_ok}
 use Rattle.acc_base.proofs.Judged.{step_judged, pointer_checked_by}
 use Rattle.acc_clauses.specs.declared.acted.Acted.{Acted}
 use Rattle.acc_clauses.specs.Overlays.{IsPlanned, enters, records_after, state_after}
+use Rattle.acc_clauses.specs.Aims.{aim_before, step_free}
 use Rattle.acc_clauses.specs.Planned.{IsJudgedNext}
 use Rattle.acc_clauses.proofs.Turns.{state_after-push, state_after-records, IsPlanned-push}
 
@@ -105,17 +108,55 @@ entry_aim l n xs ys task step named s entry more is =
 
 -- ---- the others: the pointer is judged before the step
 
-pub left_aim : (l : Limits) (n : ℕ) (xs : List Acted) (task : Task) (holding : Holding) (step : Step) (aim : Aim) (s : State)
-    → task ≡ Leave holding → aim ≡ judge_release holding.aim (records_after xs s.records) → judge_aim l n task step (state_after xs s) ≡ Ok aim
+-- it is detached in what was there before
+aim_left : (l : Limits) (n : ℕ) (task : Task) (step : Step) (s : State) → enters task ≡ false → judge_aim l n task step s ≡ Ok (aim_before task step s.records)
 unfolding judge_aim
-left_aim l n xs task holding step aim s is e = rw (is, e, state_after-records xs s) refl
+aim_left l n (Enter counter item queue) step s other = absurd (false≢true (sym other))
+aim_left l n (Leave holding) step s other = refl
+aim_left l n (Exit finalize item queue) step s other = refl
+aim_left l n (Move if_present item queue) step s other = refl
 
-pub exited_aim : (l : Limits) (n : ℕ) (xs : List Acted) (task : Task) (finalize : Bool) (item : Item ExitClause) (queue : Option ℕ) (step : Step) (aim : Aim) (s : State)
-    → task ≡ Exit finalize item queue → aim ≡ detach_if finalize (pointer_aimed (Exit finalize item queue) step) (records_after xs s.records) → judge_aim l n task step (state_after xs s) ≡ Ok aim
-unfolding judge_aim
-exited_aim l n xs task finalize item queue step aim s is e = rw (e, is, state_after-records xs s) refl
+-- a task that is no entry
+pub enters_not : (task : Task) → ((counter : Counter) (item : Item RegionClause) (queue : Option ℕ) → task ≡ Enter counter item queue → ⊥) → enters task ≡ false
+enters_not (Enter counter item queue) other = absurd (other counter item queue refl)
+enters_not (Leave holding) other = refl
+enters_not (Exit finalize item queue) other = refl
+enters_not (Move if_present item queue) other = refl
 
-pub moved_aim : (l : Limits) (n : ℕ) (xs : List Acted) (task : Task) (if_present : Bool) (item : Item UpdateClause) (queue : Option ℕ) (step : Step) (aim : Aim) (s : State)
-    → task ≡ Move if_present item queue → aim ≡ aims.None → judge_aim l n task step (state_after xs s) ≡ Ok aim
-unfolding judge_aim
-moved_aim l n xs task if_present item queue step aim s is e = rw (is, e) refl
+-- so both are what it does
+pub left_judged : (l : Limits) (n : ℕ) (xs ys : List Acted) (task : Task) (step : Step) (aim : Aim) (s : State) → enters task ≡ false → judge_step l n task (records_after xs s.records) ≡ Ok step
+    → aim ≡ aim_before task step (records_after xs s.records) → ys ≡ xs ++ record { task = task; did = record { step = step; aim = aim } } ∷ [] → IsJudgedNext l n task s xs ys
+left_judged l n xs ys task step aim s other e before more =
+    let same : aim_before task step (state_after xs s).records ≡ aim = ap (aim_before task step) (state_after-records xs s) ∙ sym before in
+    both_judged l n xs ys task step aim s e (aim_left l n task step (state_after xs s) other ∙ ap Ok same) more
+
+-- ---- a step: what the tables say, and whether it can be done
+
+-- the block in which a task detaches a pointer before its step
+detached-before : (task : Task) (step : Step) (w : Records) → block_aimed (aim_before task step w) ≡ block_detached task step w
+detached-before (Enter counter item queue) step w = refl
+detached-before (Leave holding) step w = refl
+detached-before (Exit finalize item queue) step w = refl
+detached-before (Move if_present item queue) step w = refl
+
+-- three tests in a row
+three_tests : (a b c : Result ⊤ Fault) (step : Step) → (a >> (b >> (c >> Ok step))) ≡ ((a >> (b >> c)) >> Ok step)
+three_tests (Ok x) (Ok y) c step = refl
+three_tests (Ok x) (Err fault) c step = refl
+three_tests (Err fault) b c step = refl
+
+-- a step is refused as it cannot be done
+pub step_after : (l : Limits) (n : ℕ) (task : Task) (step : Step) (before : Aim) (w : Records) (r : Result ⊤ Fault) → Ok step ≡ judge_row l n task w → before ≡ aim_before task step w → r ≡ step_free task step before l.queue_cap w
+    → judge_step l n task w ≡ (r >> Ok step)
+unfolding judge_step
+step_after l n task step before w r row aim free =
+    let rest : Result ⊤ Fault = room_for l.queue_cap (queue_of task) (transfer_of task step w.ranges) w.queues in
+    let block : block_detached task step w ≡ block_aimed before = sym (detached-before task step w) ∙ ap block_aimed (sym aim) in
+    rw (← row) (ap (λ o. not_lent o w.loans >> (not_lent (block_needed task step) w.loans >> (rest >> Ok step))) block
+    ∙ three_tests (not_lent (block_aimed before) w.loans) (not_lent (block_needed task step) w.loans) rest step
+    ∙ ap (λ q. q >> Ok step) (sym free))
+
+-- or as the tables refuse it
+pub row_refused : (l : Limits) (n : ℕ) (task : Task) (w : Records) (fault : Fault) → Err fault ≡ judge_row l n task w → judge_step l n task w ≡ Err fault
+unfolding judge_step
+row_refused l n task w fault e = rw (← e) refl

@@ -22,7 +22,7 @@ use Rattle.acc_dev.specs.Marks.{pins_at, is_ended_at, IsMarkOf}
 use Rattle.acc_dev.specs.Device.{DeviceState, IsPinned, IsUnpinned, IsRetired}
 use Rattle.acc_attach.specs.Attached.{AttachedState}
 use Rattle.acc_clauses.specs.declared.environments.Environment.{Environment}
-use Rattle.acc_clauses.specs.Contents.{AreMarked, state_of}
+use Rattle.acc_clauses.specs.Contents.{AreMarked, state_of, bare_state}
 use Rattle.acc_clauses.specs.Overlays.{is_queue}
 use Rattle.acc_clauses.specs.Acts.{moved_state, IsMovedBy, IsSteppedBy}
 use Rattle.acc_clauses.proofs.Changes.{state_by, room_same, none_taken}
@@ -54,7 +54,7 @@ pub put_moves : (q : ℕ) (t : Transfer) (x : Environment) (queues : QueuesState
 put_moves q t x queues device known marked more limit room pinned =
     let new : Environment = record x { device = device; queues = queues } in
     record {
-      state = λ next. state_by new next (moved_state (Some q) t (state_of x next)) refl pinned.blocks refl pinned.births more refl refl refl pinned.memories;
+      state = λ next. state_by new next (moved_state (Some q) t (state_of x next)) refl pinned.blocks refl pinned.births more pinned.loans refl refl refl refl pinned.memories;
       counter_max = refl;
       size = pinned.size;
       pointer_max = refl;
@@ -91,7 +91,7 @@ unfolding stepped
 none_steps q x queues empty same limit room marked =
     let new : Environment = record x { queues = queues } in
     record {
-      state = λ next. state_by new next (state_of x next) refl refl refl refl same refl refl refl refl ∙ ap (λ o. state_made q o (state_of x next)) (sym empty);
+      state = λ next. state_by new next (state_of x next) refl refl refl refl same refl refl refl refl refl refl ∙ ap (λ o. state_made q o (state_of x next)) (sym empty);
       counter_max = refl;
       size = refl;
       pointer_max = refl;
@@ -130,7 +130,7 @@ taken queues x = record x { queues = queues }
 
 -- the records once it is gone
 abbrev pub left : ℕ → Environment → Records
-left q x = record (state_of x 0).records { queues = popped q x.queues.queues }
+left q x = record (bare_state x).records { queues = popped q x.queues.queues }
 
 -- the block of the first transfer has a mark
 pub head_mark : (q : ℕ) (t : Transfer) (x y : Environment) (queues : QueuesState) → AreMarked x → y ≡ made t (taken queues x) → AllZip IsMarkOf y.device.marks y.device.blocks → IsSome (block_at t.block x.device.blocks)
@@ -169,20 +169,20 @@ more_used q t x y first mark other = go (is_ended_at t.block y.device.marks) ref
 
 -- its block is given back, with its attachment counters
 pub last_steps : (q : ℕ) (t : Transfer) (x y : Environment) (queues : QueuesState) (e : DeviceState) (b : AttachedState) → head_of q x.queues.queues ≡ Some t → queues.queues ≡ popped q x.queues.queues → queues.cap ≡ x.queues.cap → IsRoomKept x.queues.spare queues.spare → AreMarked x
-    → y ≡ made t (taken queues x) → AllZip IsMemoryOf y.device.memories y.device.blocks → IsMarkAt x.present.table.ranges x.queues.queues y.device.marks t.block → (is_ended_at t.block y.device.marks ≡ true) × (pins_at t.block y.device.marks ≡ 1)
+    → y ≡ made t (taken queues x) → AllZip (IsMemoryOf y.device.loans) y.device.memories y.device.blocks → IsMarkAt x.present.table.ranges x.queues.queues y.device.marks t.block → (is_ended_at t.block y.device.marks ≡ true) × (pins_at t.block y.device.marks ≡ 1)
     → IsRetired y.device e t.block → b.attached ≡ without_attachments t.block y.attached.attached → b.counter_max ≡ y.attached.counter_max → y.attached.spare ≤ b.spare → IsSteppedBy q x (record y { device = e; attached = b })
 unfolding stepped released
 last_steps q t x y queues e b first gone limit room marked is sized mark last retired forgot forgot_max forgot_spare =
-    let sized' : AllZip IsMemoryOf (made t (taken queues x)).device.memories x.device.blocks = rw is at sized in
+    let sized' : AllZip (IsMemoryOf x.device.loans) (made t (taken queues x)).device.memories x.device.blocks = rw is at sized in
     let end : IsRetired (made t (taken queues x)).device e t.block = rw is at retired in
     let spare : x.attached.spare ≤ b.spare = rw is at forgot_spare in
     let forgot' : b.attached ≡ without_attachments t.block x.attached.attached = rw is at forgot in
     let max : b.counter_max ≡ x.attached.counter_max = rw is at forgot_max in
     let free : is_in_use t.block (left q x) ≡ false = last_unused q t x y first mark last in
-    let memories : e.memories ≡ _ = end.memories ∙ (ap (λ bs. memories_kept bs (made t (taken queues x)).device.memories) end.blocks ∙ memories_kept-without t.block (made t (taken queues x)).device.memories x.device.blocks sized') in
+    let memories : e.memories ≡ _ = end.memories ∙ (ap (λ bs. memories_kept bs (made t (taken queues x)).device.memories) end.blocks ∙ memories_kept-without x.device.loans t.block (made t (taken queues x)).device.memories x.device.blocks sized') in
     let new : Environment = record (made t (taken queues x)) { device = e; attached = b } in
     rw is (record {
-      state = λ next. state_by new next (state_made q (Some t) (state_of x next)) refl (rw free end.blocks) (rw free forgot') end.births gone refl refl refl (rw free memories) ∙ ap (λ o. state_made q o (state_of x next)) (sym first);
+      state = λ next. state_by new next (state_made q (Some t) (state_of x next)) refl (rw free end.blocks) (rw free forgot') end.births gone end.loans refl refl refl refl (rw free memories) ∙ ap (λ o. state_made q o (state_of x next)) (sym first);
       counter_max = refl;
       size = end.size;
       pointer_max = max;
@@ -201,7 +201,7 @@ more_steps q t x y queues e first gone limit room marked is mark more unpinned =
     let used : is_in_use t.block (left q x) ≡ true = more_used q t x y first mark more in
     let new : Environment = record (made t (taken queues x)) { device = e } in
     rw is (record {
-      state = λ next. state_by new next (state_made q (Some t) (state_of x next)) refl (rw used kept.blocks) (rw used refl) kept.births gone refl refl refl (rw used kept.memories) ∙ ap (λ o. state_made q o (state_of x next)) (sym first);
+      state = λ next. state_by new next (state_made q (Some t) (state_of x next)) refl (rw used kept.blocks) (rw used refl) kept.births gone kept.loans refl refl refl refl (rw used kept.memories) ∙ ap (λ o. state_made q o (state_of x next)) (sym first);
       counter_max = refl;
       size = kept.size;
       pointer_max = refl;

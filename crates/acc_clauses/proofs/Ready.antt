@@ -2,6 +2,7 @@
 use Rattle.std.proofs.Common.{ℕ, ◌≡◌, ◌<◌, ◌^◌, refl, sym, ◌∙◌, ap, subst, Bool, true, false, cond, Option, Some, None, Ok, arith}
 use Rattle.std.specs.Prelude.{◌==◌}
 use Rattle.std.proofs.lemmas.Bool.Decides.{nat_tests}
+use Rattle.acc_base.specs.Loans.{is_lent, not_lent}
 use Rattle.acc_base.specs.declared.mappings.Found.{Found}
 use Rattle.acc_base.specs.declared.mappings.Found.TheVariants.{Empty, Inside, Partly, Absent}
 use Rattle.acc_base.specs.declared.mappings.Counter.{Counter}
@@ -20,19 +21,22 @@ use Rattle.acc_base.specs.Tasks.{queue_of}
 use Rattle.acc_base.specs.Transfers.{transfer_of, room_for}
 use Rattle.acc_base.specs.Bytes.{step_state}
 use Rattle.acc_base.specs.Attachments.{pointer_at, count_at, detach}
-use Rattle.acc_base.specs.Pointers.{block_in, block_with, detach_there, judge_detach, release_there, judge_release, aimed}
-use Rattle.acc_base.specs.Steps.{pointer_aimed, records_aimed}
-use Rattle.acc_base.specs.Acting.{detach_if, act_state}
+use Rattle.acc_base.specs.Detaching.{block_in, block_with, detach_there, judge_detach, release_there, judge_release, block_aimed}
+use Rattle.acc_base.specs.Pointers.{aimed}
+use Rattle.acc_base.specs.Steps.{pointer_aimed, records_aimed, block_detached}
+use Rattle.acc_base.specs.Detaching.{detach_if}
+use Rattle.acc_base.specs.Acting.{act_state}
 use Rattle.acc_base.specs.History.{IsAttachLegal}
 use Rattle.acc_base.specs.Accounts.{AreRecordsSound, AreMemoriesSized}
 use Rattle.acc_base.proofs.Results.{equal}
-use Rattle.acc_base.proofs.Judged.{IsJudgedTo, task_says, step_judged}
+use Rattle.acc_base.proofs.Judged.{IsJudgedTo, task_says, step_judged, not_lent_says, IsStepFree}
 use Rattle.acc_base.proofs.Puts.{acted_sound}
 use Rattle.acc_base.proofs.Aimed.{leave_sound, exit_sound, move_sound, says_aimed, task_left}
 use Rattle.acc_base.proofs.Walked.{records-act_state}
 use Rattle.acc_base.proofs.Memories.{step_sized, aimed_sized, act_sized}
+use Rattle.acc_clauses.specs.declared.numbers.Numbers.{Numbers}
 use Rattle.acc_clauses.specs.declared.environments.Environment.{Environment}
-use Rattle.acc_clauses.specs.Contents.{state_of, AreSizedBy, ArePartsSound}
+use Rattle.acc_clauses.specs.Contents.{state_of, AreSizedBy, ArePartsSound, bare_state}
 use Rattle.acc_clauses.specs.Acts.{IsJudged, IsMappedAround, IsKnown, CanMove, CanAct, CanDetach, CanAim, CanEnter, CanLeave, CanQueue, CanDo, IsDoneBy}
 use Rattle.acc_clauses.proofs.Legal.{mapped_around, can_move, can_by}
 
@@ -52,44 +56,45 @@ with_pointer l s pointer block bounds h m e = go (where_is (pointer_at pointer) 
 
 can_attach : (l : Limits) (s : State) (named : Option ℕ) (aim : Aim) → IsWithinBounds l → AreRecordsSound l s.records → AreMemoriesSized l s → IsAttachLegal l named aim s.records → CanAim l.counter_max aim s
 can_attach l s named aims.None bounds h m legal = tt
-can_attach l s named (aims.New pointer block target) bounds h m legal = with_pointer l s pointer block bounds h m legal.1
-can_attach l s named (aims.Again pointer block) bounds h m legal = record { some = legal.2; below = legal.3 }
+can_attach l s named (aims.New pointer block target) bounds h m legal = record { move = with_pointer l s pointer block bounds h m legal.1; free = legal.2 }
+can_attach l s named (aims.Again pointer block) bounds h m legal = record { some = legal.3; below = legal.4 }
 can_attach l s named (aims.Less pointer block) bounds h m legal = absurd legal
 can_attach l s named (aims.Cleared pointer block) bounds h m legal = absurd legal
 
 can_detach : (l : Limits) (s : State) (immediate : Bool) (pointer block : ℕ) → IsWithinBounds l → AreRecordsSound l s.records → AreMemoriesSized l s → block_with pointer s.records.ranges ≡ Some block
-    → CanAim l.counter_max (detach immediate block pointer s.records.attached) s
-can_detach l s immediate pointer block bounds h m e = go (count_at block pointer s.records.attached == 0) immediate refl
+    → not_lent (block_aimed (detach immediate block pointer s.records.attached)) s.records.loans ≡ Ok tt → CanAim l.counter_max (detach immediate block pointer s.records.attached) s
+can_detach l s immediate pointer block bounds h m e free = go (count_at block pointer s.records.attached == 0) immediate refl free
   where
-    can : (count_at block pointer s.records.attached == 0) ≡ false → CanDetach pointer block s
-    can more = record { some = grind (arith, nat_tests); move = with_pointer l s pointer block bounds h m e }
+    can : (count_at block pointer s.records.attached == 0) ≡ false → is_lent block s.records.loans ≡ false → CanDetach pointer block s
+    can more out = record { some = grind (arith, nat_tests); move = with_pointer l s pointer block bounds h m e; free = out }
 
-    go : (b i : Bool) → (count_at block pointer s.records.attached == 0) ≡ b → CanAim l.counter_max (cond b aims.None (cond i (aims.Cleared pointer block) (aims.Less pointer block))) s
-    go true i n = tt
-    go false true n = can n
-    go false false n = can n
+    go : (b i : Bool) → (count_at block pointer s.records.attached == 0) ≡ b → not_lent (block_aimed (cond b aims.None (cond i (aims.Cleared pointer block) (aims.Less pointer block)))) s.records.loans ≡ Ok tt
+        → CanAim l.counter_max (cond b aims.None (cond i (aims.Cleared pointer block) (aims.Less pointer block))) s
+    go true i n out = tt
+    go false true n out = can n (not_lent_says block s.records.loans out)
+    go false false n out = can n (not_lent_says block s.records.loans out)
 
-can_judged : (l : Limits) (s : State) (immediate : Bool) (named : Option ℕ) → IsWithinBounds l → AreRecordsSound l s.records → AreMemoriesSized l s → CanAim l.counter_max (detach_if immediate named s.records) s
+can_judged : (l : Limits) (s : State) (immediate : Bool) (named : Option ℕ) → IsWithinBounds l → AreRecordsSound l s.records → AreMemoriesSized l s → not_lent (block_aimed (detach_if immediate named s.records)) s.records.loans ≡ Ok tt → CanAim l.counter_max (detach_if immediate named s.records) s
 unfolding judge_detach
-can_judged l s immediate None bounds h m = tt
-can_judged l s immediate (Some pointer) bounds h m = go (block_with pointer s.records.ranges) refl
+can_judged l s immediate None bounds h m free = tt
+can_judged l s immediate (Some pointer) bounds h m free = go (block_with pointer s.records.ranges) refl free
   where
-    go : (o : Option ℕ) → block_with pointer s.records.ranges ≡ o → CanAim l.counter_max (detach_there immediate pointer o s.records.attached) s
-    go None e = tt
-    go (Some block) e = can_detach l s immediate pointer block bounds h m e
+    go : (o : Option ℕ) → block_with pointer s.records.ranges ≡ o → not_lent (block_aimed (detach_there immediate pointer o s.records.attached)) s.records.loans ≡ Ok tt → CanAim l.counter_max (detach_there immediate pointer o s.records.attached) s
+    go None e out = tt
+    go (Some block) e out = can_detach l s immediate pointer block bounds h m e out
 
-can_release : (l : Limits) (s : State) (held : Option (ℕ × ℕ)) → IsWithinBounds l → AreRecordsSound l s.records → AreMemoriesSized l s → CanAim l.counter_max (judge_release held s.records) s
+can_release : (l : Limits) (s : State) (held : Option (ℕ × ℕ)) → IsWithinBounds l → AreRecordsSound l s.records → AreMemoriesSized l s → not_lent (block_aimed (judge_release held s.records)) s.records.loans ≡ Ok tt → CanAim l.counter_max (judge_release held s.records) s
 unfolding judge_release
-can_release l s None bounds h m = tt
-can_release l s (Some held) bounds h m = go (block_with held.0 s.records.ranges) refl
+can_release l s None bounds h m free = tt
+can_release l s (Some held) bounds h m free = go (block_with held.0 s.records.ranges) refl free
   where
-    here : (now : ℕ) → block_with held.0 s.records.ranges ≡ Some now → (b : Bool) → (now == held.1) ≡ b → CanAim l.counter_max (cond b (detach false held.1 held.0 s.records.attached) aims.None) s
-    here now e true same = can_detach l s false held.0 held.1 bounds h m (e ∙ ap Some (equal now held.1 same))
-    here now e false same = tt
+    here : (now : ℕ) → block_with held.0 s.records.ranges ≡ Some now → (b : Bool) → (now == held.1) ≡ b → not_lent (block_aimed (cond b (detach false held.1 held.0 s.records.attached) aims.None)) s.records.loans ≡ Ok tt → CanAim l.counter_max (cond b (detach false held.1 held.0 s.records.attached) aims.None) s
+    here now e true same out = can_detach l s false held.0 held.1 bounds h m (e ∙ ap Some (equal now held.1 same)) out
+    here now e false same out = tt
 
-    go : (o : Option ℕ) → block_with held.0 s.records.ranges ≡ o → CanAim l.counter_max (release_there held.0 held.1 o s.records.attached) s
-    go None e = tt
-    go (Some now) e = here now e (now == held.1) refl
+    go : (o : Option ℕ) → block_with held.0 s.records.ranges ≡ o → not_lent (block_aimed (release_there held.0 held.1 o s.records.attached)) s.records.loans ≡ Ok tt → CanAim l.counter_max (release_there held.0 held.1 o s.records.attached) s
+    go None e out = tt
+    go (Some now) e out = here now e (now == held.1) refl out
 
 -- ---- what each task needs
 
@@ -105,13 +110,17 @@ pub record IsReady (l : Limits) (s : State) (task : Task) (did : Did) : Type 0 w
 says : (l : Limits) (s : State) (task : Task) (did : Did) → IsReady l s task did → IsJudgedTo l task did.step s.records
 says l s task did h = task_says l h.judged.item task s.records did.step h.judged.step
 
--- the queue of its transfer has room for it
-has_queue : (l : Limits) (s : State) (task : Task) (did : Did) → IsReady l s task did → room_for l.queue_cap (queue_of task) (transfer_of task did.step s.records.ranges) s.records.queues ≡ Ok tt
-has_queue l s task did h = (step_judged l h.judged.item task s.records did.step h.judged.step).room
+-- what its step needs is not lent, and the queue of its transfer has room for it
+has_free : (l : Limits) (s : State) (task : Task) (did : Did) → IsReady l s task did → IsStepFree l task did.step s.records
+has_free l s task did h = (step_judged l h.judged.item task s.records did.step h.judged.step).free
+
+-- and the block in which it detaches a pointer is not lent
+has_detached : (l : Limits) (s : State) (task : Task) (did : Did) → IsReady l s task did → not_lent (block_detached task did.step s.records) s.records.loans ≡ Ok tt
+has_detached l s task did h = (step_judged l h.judged.item task s.records did.step h.judged.step).detached
 
 -- with the limits of the parts
-sized_queue : (l : Limits) (x : Environment) (task : Task) (did : Did) → AreSizedBy l x → IsReady l (state_of x 0) task did → CanQueue task did.step x
-sized_queue l x task did sized h = subst (λ n. room_for n (queue_of task) (transfer_of task did.step x.present.table.ranges) x.queues.queues ≡ Ok tt) (sym sized.queues) (has_queue l (state_of x 0) task did h)
+sized_queue : (l : Limits) (x : Environment) (task : Task) (did : Did) → AreSizedBy l x → IsReady l (bare_state x) task did → CanQueue task did.step x
+sized_queue l x task did sized h = subst (λ n. room_for n (queue_of task) (transfer_of task did.step x.present.table.ranges) x.queues.queues ≡ Ok tt) (sym sized.queues) (has_free l (bare_state x) task did h).room
 
 sized_step : (l : Limits) (x : Environment) (s : State) (task : Task) (step : Step) → AreSizedBy l x → CanAct l.counter_max l.device task step s → CanAct x.present.table.counter_max x.device.size task step s
 sized_step l x s task step sized can = subst (λ n. CanAct x.present.table.counter_max n task step s) (sym sized.device) (subst (λ n. CanAct n l.device task step s) (sym sized.counters) can)
@@ -127,39 +136,41 @@ known_aimed w aim (Exit finalize item queue) known = tt
 known_aimed w aim (Move if_present item queue) known = tt
 
 -- after a detachment the step can be done
-can_leave : (l : Limits) (x : Environment) (task : Task) (did : Did) → AreSizedBy l x → IsReady l (state_of x 0) task did → CanAim l.counter_max did.aim (state_of x 0) → AreRecordsSound l (records_aimed did.aim (state_of x 0).records) → CanLeave x task did
+can_leave : (l : Limits) (x : Environment) (task : Task) (did : Did) → AreSizedBy l x → IsReady l (bare_state x) task did → CanAim l.counter_max did.aim (bare_state x) → AreRecordsSound l (records_aimed did.aim (bare_state x).records) → CanLeave x task did
 unfolding aimed
 can_leave l x task did sized h can later =
-    let s : State = state_of x 0 in
+    let s : State = bare_state x in
     record {
       aim = sized_aim l x s did.aim sized can;
       step = sized_step l x (aimed did.aim s) task did.step sized
           (can_by l (aimed did.aim s) task did.step h.bounds later (aimed_sized l did.aim s h.sized) h.few (known_aimed s.records did.aim task h.known) (says_aimed l task did.step did.aim s.records (says l s task did h)));
+      needed = (has_free l s task did h).needed;
       queue = sized_queue l x task did sized h;
     }
 
-can_enter : (l : Limits) (x : Environment) (counter : Counter) (item : Item RegionClause) (queue : Option ℕ) (did : Did) → AreSizedBy l x → IsReady l (state_of x 0) (Enter counter item queue) did → CanEnter x (Enter counter item queue) did
+can_enter : (l : Limits) (x : Environment) (counter : Counter) (item : Item RegionClause) (queue : Option ℕ) (did : Did) → AreSizedBy l x → IsReady l (bare_state x) (Enter counter item queue) did → CanEnter x (Enter counter item queue) did
 unfolding step_state
 can_enter l x counter item queue did sized h =
-    let s : State = state_of x 0 in
+    let s : State = bare_state x in
     let task : Task = Enter counter item queue in
     record {
       step = sized_step l x s task did.step sized (can_by l s task did.step h.bounds h.sound h.sized h.few h.known (says l s task did h));
       aim = sized_aim l x (step_state task did.step s) did.aim sized
-          (can_attach l (step_state task did.step s) (pointer_aimed task did.step) did.aim h.bounds (acted_sound l task did.step s.records h.bounds (says l s task did h) (has_queue l s task did h) h.sound) (step_sized l task did.step s h.sized) h.judged.aim);
+          (can_attach l (step_state task did.step s) (pointer_aimed task did.step) did.aim h.bounds (acted_sound l task did.step s.records h.bounds (says l s task did h) (has_free l s task did h) h.sound) (step_sized l task did.step s h.sized) h.judged.aim);
+      needed = (has_free l s task did h).needed;
       queue = sized_queue l x task did sized h;
     }
 
-can_of : (l : Limits) (x : Environment) (task : Task) (did : Did) → AreSizedBy l x → IsReady l (state_of x 0) task did → CanDo x task did
+can_of : (l : Limits) (x : Environment) (task : Task) (did : Did) → AreSizedBy l x → IsReady l (bare_state x) task did → CanDo x task did
 can_of l x (Enter counter item queue) did sized h = can_enter l x counter item queue did sized h
 can_of l x (Leave holding) did sized h = can_leave l x (Leave holding) did sized h
-    (subst (λ a. CanAim l.counter_max a (state_of x 0)) (sym h.judged.aim) (can_release l (state_of x 0) holding.aim h.bounds h.sound h.sized)) (leave_sound l holding did (state_of x 0).records h.sound h.judged.aim)
+    (subst (λ a. CanAim l.counter_max a (bare_state x)) (sym h.judged.aim) (can_release l (bare_state x) holding.aim h.bounds h.sound h.sized (has_detached l (bare_state x) (Leave holding) did h))) (leave_sound l holding did (bare_state x).records h.sound h.judged.aim)
 can_of l x (Exit finalize item queue) did sized h = can_leave l x (Exit finalize item queue) did sized h
-    (subst (λ a. CanAim l.counter_max a (state_of x 0)) (sym h.judged.aim) (can_judged l (state_of x 0) finalize (pointer_aimed (Exit finalize item queue) did.step) h.bounds h.sound h.sized)) (exit_sound l finalize item queue did (state_of x 0).records h.sound h.judged.aim)
+    (subst (λ a. CanAim l.counter_max a (bare_state x)) (sym h.judged.aim) (can_judged l (bare_state x) finalize (pointer_aimed (Exit finalize item queue) did.step) h.bounds h.sound h.sized (has_detached l (bare_state x) (Exit finalize item queue) did h))) (exit_sound l finalize item queue did (bare_state x).records h.sound h.judged.aim)
 can_of l x (Move if_present item queue) did sized h = can_leave l x (Move if_present item queue) did sized h
-    (subst (λ a. CanAim l.counter_max a (state_of x 0)) (sym h.judged.aim) tt) (move_sound l if_present item queue did (state_of x 0).records h.sound h.judged.aim)
+    (subst (λ a. CanAim l.counter_max a (bare_state x)) (sym h.judged.aim) tt) (move_sound l if_present item queue did (bare_state x).records h.sound h.judged.aim)
 
-pub can_do : (l : Limits) (x : Environment) (next : ℕ) (task : Task) (did : Did) → IsWithinBounds l → ArePartsSound l x next → x.device.births < 2 ^ 48
+pub can_do : (l : Limits) (x : Environment) (next : Numbers) (task : Task) (did : Did) → IsWithinBounds l → ArePartsSound l x next → x.device.births < 2 ^ 48
     → IsKnown (state_of x next).records task → IsJudged l task did (state_of x next).records → CanDo x task did
 can_do l x next task did bounds sound few known judged = can_of l x task did sound.sized (record {
   bounds = bounds;
@@ -176,11 +187,11 @@ can_do l x next task did bounds sound few known judged = can_of l x task did sou
 done_sound : (l : Limits) (s : State) (task : Task) (did : Did) → IsWithinBounds l → AreRecordsSound l s.records → AreMemoriesSized l s → IsJudged l task did s.records
     → AreRecordsSound l (act_state task did s).records × AreMemoriesSized l (act_state task did s)
 done_sound l s task did bounds h m judged = (
-  subst (AreRecordsSound l) (sym (records-act_state task did s)) (task_left l task did s.records bounds h (task_says l judged.item task s.records did.step judged.step) (step_judged l judged.item task s.records did.step judged.step).room judged.aim).sound,
+  subst (AreRecordsSound l) (sym (records-act_state task did s)) (task_left l task did s.records bounds h (task_says l judged.item task s.records did.step judged.step) (step_judged l judged.item task s.records did.step judged.step).free judged.aim).sound,
   act_sized l task did s m,
 )
 
-pub parts_sound : (l : Limits) (x y : Environment) (next : ℕ) (task : Task) (did : Did) → IsWithinBounds l → ArePartsSound l x next → IsJudged l task did (state_of x next).records → IsDoneBy task did x y → ArePartsSound l y next
+pub parts_sound : (l : Limits) (x y : Environment) (next : Numbers) (task : Task) (did : Did) → IsWithinBounds l → ArePartsSound l x next → IsJudged l task did (state_of x next).records → IsDoneBy task did x y → ArePartsSound l y next
 parts_sound l x y next task did bounds sound judged done =
     let after : AreRecordsSound l (act_state task did (state_of x next)).records × AreMemoriesSized l (act_state task did (state_of x next)) =
     done_sound l (state_of x next) task did bounds sound.sound.records sound.sound.memories judged in

@@ -1,7 +1,10 @@
 -- Which blocks have a range, and which have ended and are kept by queued transfers, as the marks of the device tell it.
-use Rattle.std.proofs.Common.{ℕ, ◌≡◌, ◌<◌, refl, sym, ◌∙◌, ap, Bool, true, false, cond, List, [], ◌∷◌, Option, Some, None, arith}
+use Rattle.std.proofs.Common.{ℕ, ◌≡◌, ◌<◌, refl, sym, ◌∙◌, ap, Bool, true, false, cond, List, [], ◌∷◌, Option, Some, None, arith, subst}
 use Rattle.std.specs.Prelude.{◌==◌, ◌&&◌, nat_le, filter, is_none, unwrap_or, option_map, IfSome, IsSome}
 use Rattle.std.specs.List.{AllByRecursion, AllZip}
+use Rattle.acc_base.specs.declared.loans.Loan.{Loan}
+use Rattle.acc_base.specs.Loans.{loan_of}
+use Rattle.acc_dev.specs.Device.{DeviceState, HasBlock, IsLoanOn}
 use Rattle.acc_base.specs.declared.mappings.Range.{Range}
 use Rattle.acc_base.specs.declared.mappings.Block.{Block}
 use Rattle.acc_base.specs.declared.transfers.Transfer.{Transfer}
@@ -12,9 +15,10 @@ use Rattle.acc_base.specs.Queues.{pins_of}
 use Rattle.acc_base.specs.Waits.{told_ended, ended_from}
 use Rattle.acc_base.specs.Accounts.{IsClearOf, EachPair}
 use Rattle.acc_base.proofs.Results.{equal}
-use Rattle.acc_base.proofs.Elements.{AllByRecursion-weaker, AllByRecursion-filter, EachPair-weaker}
+use Rattle.acc_base.proofs.Elements.{AllByRecursion-weaker, AllByRecursion-filter, EachPair-weaker, found_has}
 use Rattle.acc_base.proofs.Lookups.{at-own}
 use Rattle.acc_dev.specs.Marks.{Mark, mark_at, pins_at, is_ended_at, ended_of, lowest_ended, IsMarkOf}
+use Rattle.acc_clauses.specs.declared.numbers.Numbers.{Numbers}
 use Rattle.acc_clauses.specs.declared.environments.Environment.{Environment}
 use Rattle.acc_clauses.specs.Contents.{state_of, IsMarkRight, ArePartsSound}
 use Rattle.acc_clauses.proofs.Steps.{is_some}
@@ -47,9 +51,9 @@ mark_of k ranges queues (m ∷ ms) (b ∷ bs) zip right there = go (mark_of k ra
         record { mark = later.mark; mark_is = rw (same ∙ e) later.mark_is; own = later.own; right = later.right }
 
 -- what it tells of a block
-record IsTold (ranges : List Range) (queues : List (List Transfer)) (ms : List Mark) (k : ℕ) : Type 0 where
-  pins : pins_at k ms ≡ pins_of k queues
-  ended : is_ended_at k ms ≡ is_none (range_of k ranges)
+pub record IsTold (ranges : List Range) (queues : List (List Transfer)) (ms : List Mark) (k : ℕ) : Type 0 where
+  pub pins : pins_at k ms ≡ pins_of k queues
+  pub ended : is_ended_at k ms ≡ is_none (range_of k ranges)
 
 told_by : (k : ℕ) (ranges : List Range) (queues : List (List Transfer)) (ms : List Mark) → HasMark k ranges queues ms → IsTold ranges queues ms k
 told_by k ranges queues ms h = record {
@@ -57,7 +61,7 @@ told_by k ranges queues ms h = record {
   ended = ap (λ (o : Option Mark). unwrap_or (option_map (λ (m : Mark). m.ended) o) false) h.mark_is ∙ h.right.ended ∙ ap (λ n. is_none (range_of n ranges)) h.own;
 }
 
-told : (l : Limits) (x : Environment) (next k : ℕ) → ArePartsSound l x next → AllZip IsMarkOf x.device.marks x.device.blocks → IsSome (block_at k x.device.blocks) → IsTold x.present.table.ranges x.queues.queues x.device.marks k
+pub told : (l : Limits) (x : Environment) (next : Numbers) (k : ℕ) → ArePartsSound l x next → AllZip IsMarkOf x.device.marks x.device.blocks → IsSome (block_at k x.device.blocks) → IsTold x.present.table.ranges x.queues.queues x.device.marks k
 told l x next k sound zip there = told_by k x.present.table.ranges x.queues.queues x.device.marks (mark_of k x.present.table.ranges x.queues.queues x.device.marks x.device.blocks zip sound.marked there)
 
 -- ---- the range of a block
@@ -71,13 +75,13 @@ no_range None e = refl
 no_range (Some r) e = cc
 
 -- a block that has not ended has a range
-pub has_range : (l : Limits) (x : Environment) (next k : ℕ) → ArePartsSound l x next → AllZip IsMarkOf x.device.marks x.device.blocks → IsSome (block_at k x.device.blocks) → is_ended_at k x.device.marks ≡ false → IsSome (range_of k x.present.table.ranges)
+pub has_range : (l : Limits) (x : Environment) (next : Numbers) (k : ℕ) → ArePartsSound l x next → AllZip IsMarkOf x.device.marks x.device.blocks → IsSome (block_at k x.device.blocks) → is_ended_at k x.device.marks ≡ false → IsSome (range_of k x.present.table.ranges)
 has_range l x next k sound zip there e =
     let says : IsTold x.present.table.ranges x.queues.queues x.device.marks k = told l x next k sound zip there in
     some_range (range_of k x.present.table.ranges) (sym says.ended ∙ e)
 
 -- and one that has ended has none
-pub has_no_range : (l : Limits) (x : Environment) (next k : ℕ) → ArePartsSound l x next → AllZip IsMarkOf x.device.marks x.device.blocks → IsSome (block_at k x.device.blocks) → is_ended_at k x.device.marks ≡ true → range_of k x.present.table.ranges ≡ None
+pub has_no_range : (l : Limits) (x : Environment) (next : Numbers) (k : ℕ) → ArePartsSound l x next → AllZip IsMarkOf x.device.marks x.device.blocks → IsSome (block_at k x.device.blocks) → is_ended_at k x.device.marks ≡ true → range_of k x.present.table.ranges ≡ None
 has_no_range l x next k sound zip there e =
     let says : IsTold x.present.table.ranges x.queues.queues x.device.marks k = told l x next k sound zip there in
     no_range (range_of k x.present.table.ranges) (sym says.ended ∙ e)
@@ -112,10 +116,22 @@ lowest_same from ranges queues ms bs h =
     ap (λ cs. option_map (ended_of ms) (lowest cs)) same ∙ told_same queues ms (lowest (filter q bs)) (lowest_has (λ b. pins_at b.number ms ≡ pins_of b.number queues) (filter q bs) pins)
 
 -- the device finds the block that the records say
-pub ended_is : (l : Limits) (x : Environment) (next from : ℕ) → ArePartsSound l x next → AllZip IsMarkOf x.device.marks x.device.blocks → lowest_ended from x.device.marks x.device.blocks ≡ ended_from from (state_of x next).records
+pub ended_is : (l : Limits) (x : Environment) (next : Numbers) (from : ℕ) → ArePartsSound l x next → AllZip IsMarkOf x.device.marks x.device.blocks → lowest_ended from x.device.marks x.device.blocks ≡ ended_from from (state_of x next).records
 ended_is l x next from sound zip =
     let distinct : EachPair (λ (b : Block) (c : Block). b.number ≡ c.number → ⊥) x.device.blocks =
     EachPair-weaker IsClearOf (λ (b : Block) (c : Block). b.number ≡ c.number → ⊥) x.device.blocks (λ b c clear same. let less : b.number < c.number = clear.numbers in omega arith) sound.sound.records.blocks_apart.apart in
     lowest_same from x.present.table.ranges x.queues.queues x.device.marks x.device.blocks
     (AllByRecursion-weaker (λ (b : Block). block_at b.number x.device.blocks ≡ Some b) (λ (b : Block). IsTold x.present.table.ranges x.queues.queues x.device.marks b.number) x.device.blocks
     (λ b own. told l x next b.number sound zip (is_some (block_at b.number x.device.blocks) b own)) (at-own number_of x.device.blocks distinct))
+
+-- ---- loans
+
+-- a block that is not there is not lent
+pub no_loan : (k : ℕ) (d : DeviceState) → AllByRecursion (IsLoanOn d) d.loans → (HasBlock d k → ⊥) → loan_of k d.loans ≡ None
+no_loan k d h none = go (loan_of k d.loans) refl
+  where
+    go : (o : Option Loan) → loan_of k d.loans ≡ o → o ≡ None
+    go None e = refl
+    go (Some x) e =
+        let has : IsLoanOn d x × ((x.block == k) ≡ true) = found_has (IsLoanOn d) (λ l. l.block == k) d.loans x h e in
+        absurd (none (subst (HasBlock d) (equal x.block k has.1) has.0.there))

@@ -25,6 +25,7 @@ use Rattle.acc_base.proofs.Sound.{counter_is}
 use Rattle.acc_base.proofs.Memories.{recounted-block}
 use Rattle.acc_present.specs.Present.{PresentTable, PresentState, with_ranges}
 use Rattle.acc_present.specs.Present as present
+use Rattle.acc_clauses.specs.declared.numbers.Numbers.{Numbers}
 use Rattle.acc_clauses.specs.declared.environments.Environment.{Environment}
 use Rattle.acc_clauses.specs.Contents.{AreMarked, state_of}
 use Rattle.acc_clauses.specs.Overlays.{puts_by}
@@ -97,7 +98,7 @@ none_made None = refl
 none_made (Some q) = refl
 
 -- the parts stay
-pub stays : (change : State → State) (puts : ℕ → ℕ) (x : Environment) → AreMarked x → ((next : ℕ) → state_of x next ≡ change (state_of x next)) → IsChangedBy change [] 0 puts x x
+pub stays : (change : State → State) (puts : ℕ → ℕ) (x : Environment) → AreMarked x → ((next : Numbers) → state_of x next ≡ change (state_of x next)) → IsChangedBy change [] 0 puts x x
 stays change puts x marked same = record {
   state = same;
   counter_max = refl;
@@ -111,7 +112,7 @@ stays change puts x marked same = record {
 pub nothing_acts : (task : Task) (x : Environment) → AreMarked x → IsActedBy task Nothing x x
 unfolding step_state act_step act_row
 nothing_acts task x marked = stays (step_state task Nothing) (λ q. puts_by q task Nothing) x marked
-    (λ next. state_by x next (step_state task Nothing (state_of x next)) refl refl refl refl (sym (none_put (queue_of task) x.queues.queues)) refl refl (rw (none_made (queue_of task)) refl) (rw (none_made (queue_of task)) refl))
+    (λ next. state_by x next (step_state task Nothing (state_of x next)) refl refl refl refl (sym (none_put (queue_of task) x.queues.queues)) refl refl refl refl (rw (none_made (queue_of task)) refl) (rw (none_made (queue_of task)) refl))
 
 -- the marks stay right where the counters of a range change
 pub counted_marked : (task : Task) (k : ℕ) (x : Environment) (r : PresentState) → r.table ≡ with_ranges x.present.table (changed_at k (recounted task) x.present.table.ranges) → AreMarked x → AreMarked (record x { present = r })
@@ -119,7 +120,7 @@ counted_marked task k x r e marked = rw e (marks_counted x.present.table.ranges 
 
 -- the counters of a range change, and nothing else
 counts : (change : State → State) (puts : ℕ → ℕ) (task : Task) (k : ℕ) (x : Environment) (r : PresentState) → r.table ≡ with_ranges x.present.table (changed_at k (recounted task) x.present.table.ranges) → present.IsRoomKept x.present.room r.room → AreMarked x
-    → ((next : ℕ) → state_of (record x { present = r }) next ≡ change (state_of x next)) → IsChangedBy change [] 0 puts x (record x { present = r })
+    → ((next : Numbers) → state_of (record x { present = r }) next ≡ change (state_of x next)) → IsChangedBy change [] 0 puts x (record x { present = r })
 counts change puts task k x r e room marked same = record {
   state = same;
   counter_max = ap (λ t. t.counter_max) e;
@@ -134,14 +135,14 @@ pub counted_acts : (task : Task) (k : ℕ) (x : Environment) (r : PresentState) 
     → IsActedBy task (Counted k) x (record x { present = r })
 unfolding step_state act_step act_row with_range_changed
 counted_acts task k x r e room marked = counts (step_state task (Counted k)) (λ q. puts_by q task (Counted k)) task k x r e room marked
-    (λ next. state_by (record x { present = r }) next (step_state task (Counted k) (state_of x next)) (ap (λ t. t.ranges) e) refl refl refl (sym (none_put (queue_of task) x.queues.queues)) (ap (λ t. t.regions) e) refl
+    (λ next. state_by (record x { present = r }) next (step_state task (Counted k) (state_of x next)) (ap (λ t. t.ranges) e) refl refl refl (sym (none_put (queue_of task) x.queues.queues)) refl (ap (λ t. t.regions) e) refl refl
     (rw (none_made (queue_of task)) refl) (rw (none_made (queue_of task)) refl))
 
 pub dropped_acts : (task : Task) (k : ℕ) (x : Environment) (r : PresentState) → r.table ≡ with_ranges x.present.table (changed_at k (recounted task) x.present.table.ranges) → present.IsRoomKept x.present.room r.room → AreMarked x
     → IsActedBy task (Dropped k false) x (record x { present = r })
 unfolding step_state act_step act_row with_range_changed
 dropped_acts task k x r e room marked = counts (step_state task (Dropped k false)) (λ q. puts_by q task (Dropped k false)) task k x r e room marked
-    (λ next. state_by (record x { present = r }) next (step_state task (Dropped k false) (state_of x next)) (ap (λ t. t.ranges) e) refl refl refl (sym (none_put (queue_of task) x.queues.queues)) (ap (λ t. t.regions) e) refl
+    (λ next. state_by (record x { present = r }) next (step_state task (Dropped k false) (state_of x next)) (ap (λ t. t.ranges) e) refl refl refl (sym (none_put (queue_of task) x.queues.queues)) refl (ap (λ t. t.regions) e) refl refl
     (rw (none_made (queue_of task)) refl) (rw (none_made (queue_of task)) refl))
 
 -- ---- what the calls on the present table need

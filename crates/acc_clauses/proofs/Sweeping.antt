@@ -9,7 +9,7 @@ use Rattle.acc_base.specs.Bytes.{bytes_of, host_byte, memory_changed, is_moved, 
 use Rattle.acc_base.proofs.Memories.{length-moved_in, length-moved_out}
 use Rattle.acc_dev.specs.Device.{DeviceState}
 use Rattle.acc_clauses.specs.declared.environments.Environment.{Environment}
-use Rattle.acc_clauses.specs.Contents.{state_of}
+use Rattle.acc_clauses.specs.Contents.{state_of, bare_state}
 use Rattle.acc_clauses.specs.Acts.{CanCopy}
 use Rattle.acc_clauses.specs.Copies.{moved_below, IsRunEnd}
 use Rattle.acc_clauses.proofs.Runs.{within_both, IsRun, run_within, written_next, written_start, written_end, changed-twice, changed-none, changed_same}
@@ -88,12 +88,12 @@ pub out_run : (section run : Section) (block start at stop : ℕ) (x y : Environ
     → IsRunEnd block y.attached.attached at (end_of section) stop → IsRun section run block x.attached.attached at stop
 out_run section run block start at stop x y e low inside first len ends = record { low = low; inside = inside; first = first; len = len; ends = rw e at ends }
 
-pub out_in_host : (section run : Section) (block start at stop : ℕ) (x y : Environment) → y ≡ swept_out section block start at x → IsRun section run block x.attached.attached at stop → CanCopy section block start (state_of x 0)
+pub out_in_host : (section run : Section) (block start at stop : ℕ) (x y : Environment) → y ≡ swept_out section block start at x → IsRun section run block x.attached.attached at stop → CanCopy section block start (bare_state x)
     → is_within run (host_memory (length y.host)) ≡ true
 out_in_host section run block start at stop x y e h can = run_fits section run block x.attached.attached at stop host_base (length x.host) (length y.host) h can.in_host
     (ap (λ (g : Environment). length g.host) e ∙ length-moved_out (moved_below section block x.attached.attached at) (bytes_of block x.device.memories) start x.host)
 
-pub out_within : (section run : Section) (block start at stop : ℕ) (x y : Environment) → y ≡ swept_out section block start at x → IsRun section run block x.attached.attached at stop → CanCopy section block start (state_of x 0)
+pub out_within : (section run : Section) (block start at stop : ℕ) (x y : Environment) → y ≡ swept_out section block start at x → IsRun section run block x.attached.attached at stop → CanCopy section block start (bare_state x)
     → is_within run (record { start = start; len = length (bytes_of block y.device.memories) }) ≡ true
 out_within section run block start at stop x y e h can = run_fits section run block x.attached.attached at stop start (length (bytes_of block x.device.memories)) (length (bytes_of block y.device.memories)) h
     can.within (ap (λ (g : Environment). length (bytes_of block g.device.memories)) e)
@@ -103,11 +103,11 @@ pub in_run : (section run : Section) (block start at stop : ℕ) (x y : Environm
     → IsRunEnd block y.attached.attached at (end_of section) stop → IsRun section run block x.attached.attached at stop
 in_run section run block start at stop x y e low inside first len ends = record { low = low; inside = inside; first = first; len = len; ends = rw e at ends }
 
-pub in_in_host : (section run : Section) (block start at stop : ℕ) (x y : Environment) → y ≡ swept_in section block start at x → IsRun section run block x.attached.attached at stop → CanCopy section block start (state_of x 0)
+pub in_in_host : (section run : Section) (block start at stop : ℕ) (x y : Environment) → y ≡ swept_in section block start at x → IsRun section run block x.attached.attached at stop → CanCopy section block start (bare_state x)
     → is_within run (host_memory (length y.host)) ≡ true
 in_in_host section run block start at stop x y e h can = run_fits section run block x.attached.attached at stop host_base (length x.host) (length y.host) h can.in_host (ap (λ (g : Environment). length g.host) e)
 
-pub in_within : (section run : Section) (block start at stop : ℕ) (x y : Environment) → y ≡ swept_in section block start at x → IsRun section run block x.attached.attached at stop → CanCopy section block start (state_of x 0)
+pub in_within : (section run : Section) (block start at stop : ℕ) (x y : Environment) → y ≡ swept_in section block start at x → IsRun section run block x.attached.attached at stop → CanCopy section block start (bare_state x)
     → is_within run (record { start = start; len = length (bytes_of block y.device.memories) }) ≡ true
 in_within section run block start at stop x y e h can = run_fits section run block x.attached.attached at stop start (length (bytes_of block x.device.memories)) (length (bytes_of block y.device.memories)) h
     can.within

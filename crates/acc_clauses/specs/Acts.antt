@@ -1,5 +1,5 @@
 -- What is known of a task before its step is done, and what the step takes of the room.
-use Rattle.std.specs.Prelude.{ℕ, ◌≡◌, ◌+◌, ◌<◌, ◌≤◌, ◌^◌, Bool, true, false, ◌&&◌, List, [], ◌∷◌, ◌++◌, length, replicate, if◌then◌else◌, Option, Some, None, is_some, is_none, IsSome, Ok, ⊤}
+use Rattle.std.specs.Prelude.{ℕ, ◌≡◌, ◌+◌, ◌<◌, ◌≤◌, ◌^◌, Bool, true, false, ◌&&◌, List, [], ◌∷◌, ◌++◌, length, take, replicate, if◌then◌else◌, Option, Some, None, is_some, is_none, IsSome, Ok, ⊤}
 use Rattle.std.specs.List.{AllByRecursion}
 use Rattle.acc_base.specs.declared.addresses.TheConstants.{MEMORY_MAX}
 use Rattle.acc_base.specs.declared.items.Section.{Section}
@@ -20,13 +20,14 @@ use Rattle.acc_base.specs.Section.{end_of, is_within, host_memory}
 use Rattle.acc_base.specs.Ranges.{range_of, counter_of, where_is, ends_by}
 use Rattle.acc_base.specs.Blocks.{rounded, place_for, block_at}
 use Rattle.acc_base.specs.Attachments.{pointer_at, count_at}
+use Rattle.acc_base.specs.Loans.{is_lent, not_lent, none_lent}
 use Rattle.acc_base.specs.Records.{Records, State}
 use Rattle.acc_base.specs.declared.transfers.Transfer.{Transfer}
 use Rattle.acc_base.specs.Queues.{queue_at, head_of, pins_of}
 use Rattle.acc_base.specs.Tasks.{section_of, queue_of, recounted}
 use Rattle.acc_base.specs.Transfers.{first_address, gives_bytes, transfer_at, transfer_of, at_once, room_for, queues_after}
-use Rattle.acc_base.specs.Waits.{stepped}
-use Rattle.acc_base.specs.Steps.{judge_step, act}
+use Rattle.acc_base.specs.Waits.{transfers_of, stepped}
+use Rattle.acc_base.specs.Steps.{block_needed, judge_step, act}
 use Rattle.acc_base.specs.Clauses.{is_attach, section_named, copies_in, is_zeroed}
 use Rattle.acc_base.specs.Register.{region_at}
 use Rattle.acc_base.specs.Bytes.{bytes_of, fill_byte, host_made, memories_made, step_state}
@@ -38,10 +39,11 @@ use Rattle.acc_dev.specs.Device.{DeviceState, birth_place}
 use Rattle.acc_dev.specs.Marks.{new_mark}
 use Rattle.acc_queues.specs.Queued.{spare_at}
 use Rattle.acc_clauses.specs.declared.environments.Environment.{Environment}
+use Rattle.acc_clauses.specs.declared.numbers.Numbers.{Numbers}
 use Rattle.acc_clauses.specs.declared.plans.Head.{Head}
 use Rattle.acc_clauses.specs.declared.plans.Head.TheVariants.{Plain, Entry, Leaving, Waiting, Stepping}
 use Rattle.acc_clauses.specs.Planned.{Planned, in_written_order, held_by}
-use Rattle.acc_clauses.specs.Contents.{Room, Contents, state_of, room_of, AreMarked}
+use Rattle.acc_clauses.specs.Contents.{Room, Contents, state_of, room_of, AreMarked, bare_state}
 use Rattle.acc_clauses.specs.Overlays.{is_queue, puts_by, puts_in}
 
 -- ---- what is known of a task
@@ -91,7 +93,7 @@ pub record CanCount (counter_max : ℕ) (task : Task) (block : ℕ) (ranges : Li
   pub there : IsSome (range_of block ranges)
   pub below : IsBelowLimit counter_max task block ranges
 
--- the section can be copied between host memory and a block: it lies in host memory, which is not too large, and in the range that is mapped to the block, which is there and as long as that range
+-- the section can be copied between host memory and a block: it lies in host memory, which is not too large, and in the range that is mapped to the block, which is there and, unless it is lent, as long as that range
 pub record CanMove (section : Section) (block : ℕ) (s : State) : Type 0 where
   pub in_host : is_within section (host_memory (length s.host)) ≡ true
   pub end : end_of section ≤ 2 ^ 40
@@ -99,13 +101,14 @@ pub record CanMove (section : Section) (block : ℕ) (s : State) : Type 0 where
   pub range_is : range_of block s.records.ranges ≡ Some range
   pub within : is_within section range.section ≡ true
   pub there : IsSome (block_at block s.records.blocks)
-  pub len : length (bytes_of block s.memories) ≡ range.section.len
+  pub len : is_lent block s.records.loans ≡ false → length (bytes_of block s.memories) ≡ range.section.len
 
--- the section can be copied between host memory and a block whose bytes are those from a host address on: it lies in host memory, and among them
+-- the section can be copied between host memory and a block that is not lent, whose bytes are those from a host address on: it lies in host memory, and among them
 pub record CanCopy (section : Section) (block start : ℕ) (s : State) : Type 0 where
   pub in_host : is_within section (host_memory (length s.host)) ≡ true
   pub end : end_of section ≤ 2 ^ 40
   pub there : IsSome (block_at block s.records.blocks)
+  pub free : is_lent block s.records.loans ≡ false
   pub within : is_within section (record { start = start; len = length (bytes_of block s.memories) }) ≡ true
 
 -- the transfer can be made
@@ -120,16 +123,20 @@ pub record CanPut (q : ℕ) (t : Transfer) (x : Environment) : Type 0 where
 
 -- so can the first one of a queue
 abbrev pub CanStep : ℕ → Environment → Type 0
-CanStep q x = (t : Transfer) → head_of q x.queues.queues ≡ Some t → CanTransfer t (state_of x 0)
+CanStep q x = (t : Transfer) → head_of q x.queues.queues ≡ Some t → CanTransfer t (bare_state x)
 
 -- at once, or into the queue that is named
 abbrev pub CanMoveBytes : Option ℕ → Transfer → Environment → Type 0
-CanMoveBytes None t x = CanTransfer t (state_of x 0)
+CanMoveBytes None t x = CanTransfer t (bare_state x)
 CanMoveBytes (Some q) t x = CanPut q t x
 
 -- the queue of a task has room for the transfer of its step
 abbrev pub CanQueue : Task → Step → Environment → Type 0
 CanQueue task step x = room_for x.queues.cap (queue_of task) (transfer_of task step x.present.table.ranges) x.queues.queues ≡ Ok tt
+
+-- the block that a step needs is not lent
+abbrev pub CanNeed : Task → Step → Environment → Type 0
+CanNeed task step x = not_lent (block_needed task step) x.device.loans ≡ Ok tt
 
 -- the section can be mapped to a new block of this number at this place
 pub record CanBear (counter_max device : ℕ) (section : Section) (block place : ℕ) (s : State) : Type 0 where
@@ -143,6 +150,7 @@ pub record CanBear (counter_max device : ℕ) (section : Section) (block place :
   pub no_memory : AllByRecursion (λ m. m.block ≡ block → ⊥) s.memories
   pub no_pointer : AllByRecursion (λ a. a.block ≡ block → ⊥) s.records.attached
   pub no_transfer : pins_of block s.records.queues ≡ 0
+  pub no_loan : is_lent block s.records.loans ≡ false
   pub counted : 0 < counter_max
 
 -- a counter of the block's range can fall, for which no task that enters asks; and the mapping ends by it exactly if the step says so
@@ -151,10 +159,16 @@ pub record CanDrop (task : Task) (block : ℕ) (ended : Bool) (s : State) : Type
   pub not_entry : IsEnter task → ⊥
   pub ends : ends_by (recounted task) block s.records.ranges ≡ ended
 
--- the counter of a pointer in a block can fall: it is above zero, and the block has the pointer's eight bytes
+-- the counter of a pointer in a block can be set: the block, which is not lent, has the pointer's eight bytes
+pub record CanAttach (pointer block : ℕ) (s : State) : Type 0 where
+  pub move : CanMove (pointer_at pointer) block s
+  pub free : is_lent block s.records.loans ≡ false
+
+-- the counter of a pointer in a block can fall: it is above zero, and the block, which is not lent, has the pointer's eight bytes
 pub record CanDetach (pointer block : ℕ) (s : State) : Type 0 where
   pub some : 0 < count_at block pointer s.records.attached
   pub move : CanMove (pointer_at pointer) block s
+  pub free : is_lent block s.records.loans ≡ false
 
 -- and can rise, up to its limit
 pub record CanAgain (pointer_max pointer block : ℕ) (s : State) : Type 0 where
@@ -164,7 +178,7 @@ pub record CanAgain (pointer_max pointer block : ℕ) (s : State) : Type 0 where
 -- before an attachment or a detachment, with the limit of the attachment counters
 abbrev pub CanAim : ℕ → Aim → State → Type 0
 CanAim pointer_max aims.None s = ⊤
-CanAim pointer_max (aims.New pointer block target) s = CanMove (pointer_at pointer) block s
+CanAim pointer_max (aims.New pointer block target) s = CanAttach pointer block s
 CanAim pointer_max (aims.Again pointer block) s = CanAgain pointer_max pointer block s
 CanAim pointer_max (aims.Less pointer block) s = CanDetach pointer block s
 CanAim pointer_max (aims.Cleared pointer block) s = CanDetach pointer block s
@@ -179,13 +193,15 @@ CanAct counter_max device task (Moved block) s = CanMove (section_of task) block
 
 -- before a task: entry attaches after its step, and exit detaches before its step
 pub record CanEnter (x : Environment) (task : Task) (did : Did) : Type 0 where
-  pub step : CanAct x.present.table.counter_max x.device.size task did.step (state_of x 0)
-  pub aim : CanAim x.attached.counter_max did.aim (step_state task did.step (state_of x 0))
+  pub step : CanAct x.present.table.counter_max x.device.size task did.step (bare_state x)
+  pub aim : CanAim x.attached.counter_max did.aim (step_state task did.step (bare_state x))
+  pub needed : CanNeed task did.step x
   pub queue : CanQueue task did.step x
 
 pub record CanLeave (x : Environment) (task : Task) (did : Did) : Type 0 where
-  pub aim : CanAim x.attached.counter_max did.aim (state_of x 0)
-  pub step : CanAct x.present.table.counter_max x.device.size task did.step (aimed did.aim (state_of x 0))
+  pub aim : CanAim x.attached.counter_max did.aim (bare_state x)
+  pub step : CanAct x.present.table.counter_max x.device.size task did.step (aimed did.aim (bare_state x))
+  pub needed : CanNeed task did.step x
   pub queue : CanQueue task did.step x
 
 abbrev pub CanDo : Environment → Task → Did → Type 0
@@ -250,7 +266,7 @@ pub record IsRoomLeft (births : List ℕ) (pointers : ℕ) (put : ℕ → ℕ) (
 
 -- the parts before a change of their state and after it, which took this room and kept the marks of blocks right
 pub record IsChangedBy (change : State → State) (births : List ℕ) (pointers : ℕ) (put : ℕ → ℕ) (old new : Environment) : Type 0 where
-  pub state : (next : ℕ) → state_of new next ≡ change (state_of old next)
+  pub state : (next : Numbers) → state_of new next ≡ change (state_of old next)
   pub counter_max : new.present.table.counter_max ≡ old.present.table.counter_max
   pub size : new.device.size ≡ old.device.size
   pub pointer_max : new.attached.counter_max ≡ old.attached.counter_max
@@ -326,6 +342,7 @@ pub record IsMade (old new : DeviceState) (copied : Bool) (section : Section) (c
   pub blocks : new.blocks ≡ old.blocks ++ record { number = old.births + 1; place = place; len = section.len } ∷ []
   pub memories : new.memories ≡ old.memories ++ record { block = old.births + 1; bytes = bytes_made copied section clause host } ∷ []
   pub marks : new.marks ≡ old.marks ++ new_mark (old.births + 1) ∷ []
+  pub loans : new.loans ≡ old.loans
   pub births : new.births ≡ old.births + 1
   pub room : old.room ≡ section.len ∷ new.room
 
@@ -348,8 +365,8 @@ abbrev pub CanFinish : Head → ℕ → Contents → Type 0
 CanFinish Plain tasks c = ⊤
 CanFinish Entry tasks c = CanOpen tasks c
 CanFinish (Leaving number) tasks c = IsSome (region_at number c.state.register.regions)
-CanFinish (Waiting queue) tasks c = ⊤
-CanFinish (Stepping queue) tasks c = ⊤
+CanFinish (Waiting queue) tasks c = none_lent (transfers_of queue c.state.records.queues) c.state.records.loans ≡ Ok tt
+CanFinish (Stepping queue) tasks c = none_lent (take 1 (queue_at queue c.state.records.queues)) c.state.records.loans ≡ Ok tt
 
 -- there is room for all that a plan takes in
 pub record HasPlanRoom (p : Planned) (room : Room) : Type 0 where

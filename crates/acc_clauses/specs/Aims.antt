@@ -1,10 +1,20 @@
 -- What a plan knows of pointers after its tasks: what each look-up answers then, from what it answers before them.
-use Rattle.std.specs.Prelude.{ℕ, if◌then◌else◌, ◌==◌, ◌&&◌, List, fold}
+use Rattle.std.specs.Prelude.{ℕ, if◌then◌else◌, ◌==◌, ◌&&◌, List, fold, Result, ⊤}
+use Rattle.acc_base.specs.declared.tasks.Task.{Task}
+use Rattle.acc_base.specs.declared.tasks.Task.TheVariants.{Enter, Leave, Exit, Move}
 use Rattle.acc_base.specs.declared.attachments.Aim.{Aim}
 use Rattle.acc_base.specs.declared.attachments.Aim.TheVariants as aims
 use Rattle.acc_base.specs.declared.events.Step.{Step}
 use Rattle.acc_base.specs.declared.events.Step.TheVariants.{Nothing, Counted, Born, Dropped, Moved}
 use Rattle.acc_base.specs.Attachments.{count_after}
+use Rattle.acc_base.specs.declared.faults.Fault.{Fault}
+use Rattle.acc_base.specs.Results.{◌>>◌}
+use Rattle.acc_base.specs.Records.{Records}
+use Rattle.acc_base.specs.Loans.{not_lent}
+use Rattle.acc_base.specs.Tasks.{queue_of}
+use Rattle.acc_base.specs.Transfers.{transfer_of, room_for}
+use Rattle.acc_base.specs.Detaching.{detach_if, judge_release, block_aimed}
+use Rattle.acc_base.specs.Steps.{block_needed, pointer_aimed}
 use Rattle.acc_clauses.specs.declared.acted.Acted.{Acted}
 
 -- ---- attachment counters
@@ -40,3 +50,16 @@ value_by block pointer value (aims.Cleared p b) = value
 -- and after entries
 abbrev pub value_over : ℕ → ℕ → ℕ → List Acted → ℕ
 value_over block pointer value xs = fold (λ v x. value_by block pointer v x.did.aim) value xs
+
+-- ---- before a step
+
+-- what becomes of the pointer of a task before its step: what leaves detaches it
+abbrev pub aim_before : Task → Step → Records → Aim
+aim_before (Enter counter item queue) step w = aims.None
+aim_before (Leave holding) step w = judge_release holding.aim w
+aim_before (Exit finalize item queue) step w = detach_if finalize (pointer_aimed (Exit finalize item queue) step) w
+aim_before (Move if_present item queue) step w = aims.None
+
+-- neither the block in which a task detaches a pointer before its step, nor the one that the step needs is lent, and its queue has room
+abbrev pub step_free : Task → Step → Aim → ℕ → Records → Result ⊤ Fault
+step_free task step before queue_cap w = not_lent (block_aimed before) w.loans >> (not_lent (block_needed task step) w.loans >> room_for queue_cap (queue_of task) (transfer_of task step w.ranges) w.queues)

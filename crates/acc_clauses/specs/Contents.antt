@@ -10,6 +10,7 @@ use Rattle.acc_base.specs.Queues.{pins_of}
 use Rattle.acc_base.specs.Accounts.{AreRecordsSound, AreMemoriesSized}
 use Rattle.acc_dev.specs.Marks.{Mark}
 use Rattle.acc_clauses.specs.declared.environments.Environment.{Environment}
+use Rattle.acc_clauses.specs.declared.numbers.Numbers.{Numbers}
 
 -- what can be taken in without memory: births of blocks of these lengths, in this order; so many ranges; so many regions; so many holdings of the next region; so many attachment counters; and so many transfers in each queue
 pub record Room : Type 0 where
@@ -28,20 +29,27 @@ pub record Contents : Type 0 where
 
 -- ---- what the parts come to
 
--- the state that the parts come to, with the number of the next region
-abbrev pub state_of : Environment → ℕ → State
+-- the state that the parts come to, with the numbers of the next region and the next loan
+abbrev pub state_of : Environment → Numbers → State
 state_of x next = record {
-  records = record { ranges = x.present.table.ranges; blocks = x.device.blocks; attached = x.attached.attached; births = x.device.births; queues = x.queues.queues };
-  register = record { regions = x.present.table.regions; next = next };
+  records = record { ranges = x.present.table.ranges; blocks = x.device.blocks; attached = x.attached.attached; births = x.device.births; queues = x.queues.queues; loans = x.device.loans };
+  register = record { regions = x.present.table.regions; next = next.region; serial = next.serial };
   host = x.host;
   memories = x.device.memories;
 }
+
+-- the state that the parts come to, whatever region or loan comes next
+abbrev pub bare_numbers : Numbers
+bare_numbers = record { region = 0; serial = 0 }
+
+abbrev pub bare_state : Environment → State
+bare_state x = state_of x bare_numbers
 
 -- and their room
 abbrev pub room_of : Environment → Room
 room_of x = record { births = x.device.room; ranges = x.present.room.ranges; regions = x.present.room.regions; holdings = x.present.room.holdings; attachments = x.attached.spare; puts = x.queues.spare }
 
-abbrev pub contents_of : Limits → Environment → ℕ → Contents
+abbrev pub contents_of : Limits → Environment → Numbers → Contents
 contents_of l x next = record { limits = l; state = state_of x next; room = room_of x }
 
 -- the parts have the sizes that the limits say
@@ -66,7 +74,7 @@ pub record AreContentsSound (c : Contents) : Type 0 where
   pub memories : AreMemoriesSized c.limits c.state
 
 -- the parts fit one another, and what they come to is sound
-pub record ArePartsSound (l : Limits) (x : Environment) (next : ℕ) : Type 0 where
+pub record ArePartsSound (l : Limits) (x : Environment) (next : Numbers) : Type 0 where
   pub sized : AreSizedBy l x
   pub sound : AreContentsSound (contents_of l x next)
   pub marked : AreMarked x

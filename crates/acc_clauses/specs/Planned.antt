@@ -1,5 +1,5 @@
 -- What contracts see of a plan, and what it rests on.
-use Rattle.std.specs.Prelude.{ℕ, ◌≡◌, ◌≤◌, List, [], ◌∷◌, ◌++◌, length, reverse, Option, Result, Ok}
+use Rattle.std.specs.Prelude.{ℕ, ◌≡◌, ◌≤◌, List, [], ◌∷◌, ◌++◌, length, take, reverse, Option, Result, Ok}
 use Rattle.acc_base.specs.declared.directives.Directive.{Directive}
 use Rattle.acc_base.specs.declared.directives.Directive.TheVariants.{Enter, Exit, EnterData, ExitData, Update, Wait, Step}
 use Rattle.acc_base.specs.declared.regions.Holding.{Holding}
@@ -8,8 +8,9 @@ use Rattle.acc_base.specs.declared.tasks.Task.TheVariants as tasks
 use Rattle.acc_base.specs.declared.events.Did.{Did}
 use Rattle.acc_base.specs.declared.faults.Fault.{Fault}
 use Rattle.acc_base.specs.declared.transfers.Transfer.{Transfer}
-use Rattle.acc_base.specs.Queues.{queue_named}
-use Rattle.acc_base.specs.Waits.{steps_of, drained}
+use Rattle.acc_base.specs.Queues.{queue_at, queue_named}
+use Rattle.acc_base.specs.Loans.{none_lent}
+use Rattle.acc_base.specs.Waits.{steps_of, transfers_of, drained}
 use Rattle.acc_base.specs.Results.{◌>>◌}
 use Rattle.acc_base.specs.Limits.{Limits}
 use Rattle.acc_base.specs.Register.{Region, Register, opened, closed}
@@ -52,13 +53,22 @@ in_written_order (Stepping queue) dids = dids
 abbrev pub HasFewHoldings : Region → Type 0
 HasFewHoldings r = length r.holdings ≤ 64
 
--- the plan is of the directive: it has its tasks, and each is judged in what those before it leave of this layout
+-- the queued transfers that a directive makes
+abbrev pub transfers_by : Head → List (List Transfer) → List Transfer
+transfers_by Plain queues = []
+transfers_by Entry queues = []
+transfers_by (Leaving number) queues = []
+transfers_by (Waiting queue) queues = transfers_of queue queues
+transfers_by (Stepping queue) queues = take 1 (queue_at queue queues)
+
+-- the plan is of the directive: it has its tasks, each is judged in what those before it leave of this layout, and no transfer that it makes is of a block that is lent
 pub record IsPlannedOn (l : Limits) (d : Directive) (lay : Layout) (p : Planned) : Type 0 where
   pub head : p.head ≡ head_of d
   pub queue : p.queue ≡ queue_in d
   pub known : queue_named p.queue ≡ Ok tt
   pub tasks : tasks_of d lay.register ≡ Ok p.tasks
   pub judged : AreJudged l 0 p.tasks p.dids lay.records
+  pub free : none_lent (transfers_by p.head lay.records.queues) lay.records.loans ≡ Ok tt
   pub few : length p.tasks ≤ 64
 
 -- the draft has one task more, which does what it is judged to do in what those before it leave of this state

@@ -2,14 +2,15 @@
 
 ghost use Rattle.std.specs.Prelude.{◌≡◌, ◌++◌, ◌∷◌, ◌<◌, ◌≤◌, [], ℕ, IsSome, Some, true, false, length};
 ghost use Rattle.acc_base.specs.Ranges.{range_of, start_of, counter_of, changed_at, risen};
+ghost use Rattle.acc_base.specs.Loans.{is_lent};
 ghost use Rattle.acc_base.specs.Tasks.{section_of, recounted};
 ghost use Rattle.acc_base.specs.Clauses.{is_attach, section_named, copies_in};
 ghost use Rattle.acc_base.specs.declared.tasks.Task.TheVariants.{Enter};
 ghost use Rattle.acc_base.specs.declared.events.Step.TheVariants.{Born, Dropped, Moved};
 ghost use Rattle.acc_present.specs.Present.{HasRange, with_ranges, IsRoomKept};
-ghost use Rattle.acc_clauses.specs.Contents.{AreMarked, state_of, room_of};
+ghost use Rattle.acc_clauses.specs.Contents.{AreMarked, state_of, room_of, bare_state};
 ghost use Rattle.acc_clauses.specs.Overlays.{puts_by};
-ghost use Rattle.acc_clauses.specs.Acts.{CanAct, CanCount, CanBear, CanMove, CanDrop, HasRoomFor, IsRoomLeft, IsActedBy, CanMake, IsMade, is_copied_now, birth_of, CanDo, IsDoneBy, pointers_of, CanPut, CanQueue, HasPutRoom, IsFilledLater, IsGivenBy};
+ghost use Rattle.acc_clauses.specs.Acts.{CanAct, CanCount, CanBear, CanMove, CanDrop, HasRoomFor, IsRoomLeft, IsActedBy, CanMake, IsMade, is_copied_now, birth_of, CanDo, IsDoneBy, pointers_of, CanPut, CanQueue, CanNeed, HasPutRoom, IsFilledLater, IsGivenBy};
 
 use crate::environments::Environment;
 use crate::pointers::aim_on;
@@ -116,7 +117,7 @@ fn bear(
     block: u64,
     place: u64,
 )
-    requires can { CanBear environment.old.present.table.counter_max environment.old.device.size (section_of (Enter counter item queue)) block place (state_of environment.old 0) }
+    requires can { CanBear environment.old.present.table.counter_max environment.old.device.size (section_of (Enter counter item queue)) block place (bare_state environment.old) }
     requires queue { CanQueue (Enter counter item queue) (Born block place) environment.old }
     requires room { HasRoomFor ((section_of (Enter counter item queue)).len ∷ []) (room_of environment.old) }
     requires puts { HasPutRoom (λ q. puts_by q (Enter counter item queue) (Born block place)) (room_of environment.old) }
@@ -144,7 +145,8 @@ fn bear(
 
 /// Where the task copies at the end of a mapping, host memory gets the bytes of the section, at once or later.
 fn give_bytes(environment: &mut Environment, task: Task, block: u64)
-    requires can { CanMove (section_of task) block (state_of environment.old 0) }
+    requires can { CanMove (section_of task) block (bare_state environment.old) }
+    requires free { is_lent block environment.old.device.loans ≡ false }
     requires queue { CanQueue task (Dropped block true) environment.old }
     requires puts { HasPutRoom (λ q. puts_by q task (Dropped block true)) (room_of environment.old) }
     requires marked { AreMarked environment.old }
@@ -158,7 +160,8 @@ fn give_bytes(environment: &mut Environment, task: Task, block: u64)
 
 /// Ends the mapping to a block. A block that a queued transfer names stays; else it is given back.
 fn end(environment: &mut Environment, task: Task, block: u64)
-    requires can { CanDrop task block true (state_of environment.old 0) }
+    requires can { CanDrop task block true (bare_state environment.old) }
+    requires free { is_lent block environment.old.device.loans ≡ false }
     requires queue { CanQueue task (Dropped block true) environment.old }
     requires puts { HasPutRoom (λ q. puts_by q task (Dropped block true)) (room_of environment.old) }
     requires marked { AreMarked environment.old }
@@ -175,7 +178,8 @@ fn end(environment: &mut Environment, task: Task, block: u64)
 
 /// Lowers the counters of a range, or ends its mapping where none is above zero then.
 fn lower(environment: &mut Environment, task: Task, block: u64, ended: bool)
-    requires can { CanDrop task block ended (state_of environment.old 0) }
+    requires can { CanDrop task block ended (bare_state environment.old) }
+    requires free { is_lent block environment.old.device.loans ≡ false }
     requires queue { CanQueue task (Dropped block ended) environment.old }
     requires puts { HasPutRoom (λ q. puts_by q task (Dropped block ended)) (room_of environment.old) }
     requires marked { AreMarked environment.old }
@@ -190,7 +194,8 @@ fn lower(environment: &mut Environment, task: Task, block: u64, ended: bool)
 
 /// Copies the section of an update, at once or later.
 fn update(environment: &mut Environment, task: Task, block: u64)
-    requires can { CanMove (section_of task) block (state_of environment.old 0) }
+    requires can { CanMove (section_of task) block (bare_state environment.old) }
+    requires needed { CanNeed task (Moved block) environment.old }
     requires queue { CanQueue task (Moved block) environment.old }
     requires puts { HasPutRoom (λ q. puts_by q task (Moved block)) (room_of environment.old) }
     requires marked { AreMarked environment.old }
@@ -202,7 +207,8 @@ fn update(environment: &mut Environment, task: Task, block: u64)
 
 /// Does the step of a task.
 fn step_on(environment: &mut Environment, task: Task, step: Step)
-    requires can { CanAct environment.old.present.table.counter_max environment.old.device.size task step (state_of environment.old 0) }
+    requires can { CanAct environment.old.present.table.counter_max environment.old.device.size task step (bare_state environment.old) }
+    requires needed { CanNeed task step environment.old }
     requires queue { CanQueue task step environment.old }
     requires room { HasRoomFor (birth_of task step) (room_of environment.old) }
     requires puts { HasPutRoom (λ q. puts_by q task step) (room_of environment.old) }

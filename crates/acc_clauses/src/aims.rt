@@ -4,14 +4,17 @@ ghost use Rattle.std.specs.Prelude.{◌≡◌, Ok, Some, true};
 ghost use Rattle.std.specs.List.{list_all};
 ghost use Rattle.acc_base.specs.Attachments.{detach};
 ghost use Rattle.acc_base.specs.Clauses.{pointer_checked};
-ghost use Rattle.acc_base.specs.Pointers.{block_with, judge_attach, judge_release};
-ghost use Rattle.acc_base.specs.Acting.{detach_if};
+ghost use Rattle.acc_base.specs.Detaching.{block_with, detach_if, judge_release};
+ghost use Rattle.acc_base.specs.Pointers.{judge_attach};
+ghost use Rattle.acc_clauses.specs.Aims.{aim_before};
 ghost use Rattle.acc_clauses.specs.Overlays.{IsPlanned, AreUnmixed, tasks_in, records_after, state_after, enters};
 
 use crate::drafts::Draft;
+use crate::lending::not_lent;
 use crate::parts::Parts;
+use crate::rows::pointer_aimed;
 use crate::targets::{address_after, block_after, count_after, value_after};
-use acc_base::{Aim, Fault};
+use acc_base::{Aim, Fault, Step, Task};
 
 /// What attaching a pointer does after the tasks, of which each enters.
 pub(crate) fn attach(parts: &Parts, draft: &Draft, n: u64, pointer: u64) -> Result<Aim, Fault>
@@ -26,6 +29,7 @@ pub(crate) fn attach(parts: &Parts, draft: &Draft, n: u64, pointer: u64) -> Resu
     let Some(target) = address_after(parts, draft, parts.host_pointer(pointer)) else {
         return Ok(Aim::None);
     };
+    not_lent(parts, Some(block))?;
     let count = count_after(parts, draft, block, pointer);
     if count == 0 || value_after(parts, draft, block, pointer) != target {
         return Ok(Aim::New {
@@ -57,8 +61,8 @@ fn detach_from(parts: &Parts, draft: &Draft, immediate: bool, block: u64, pointe
 }
 
 /// What detaching a pointer does after the tasks, if an item names one.
-#[tactic(auto, unfolding(acc_base::specs::Pointers::judge_detach))]
-pub(crate) fn detach(parts: &Parts, draft: &Draft, immediate: bool, pointer: Option<u64>) -> Aim
+#[tactic(auto, unfolding(acc_base::specs::Detaching::judge_detach))]
+fn detach(parts: &Parts, draft: &Draft, immediate: bool, pointer: Option<u64>) -> Aim
     requires planned { IsPlanned parts.now.limits draft.now parts.now.state.records }
     requires unmixed { AreUnmixed (tasks_in draft.now) }
     ensures { result ≡ detach_if immediate pointer (records_after draft.now parts.now.state.records) }
@@ -74,8 +78,8 @@ pub(crate) fn detach(parts: &Parts, draft: &Draft, immediate: bool, pointer: Opt
 
 /// What detaching the pointer does that an entry to a region attached, after the tasks. `held` is that pointer, and the
 /// block that held it then.
-#[tactic(auto, unfolding(acc_base::specs::Pointers::judge_release))]
-pub(crate) fn release(parts: &Parts, draft: &Draft, held: Option<(u64, u64)>) -> Aim
+#[tactic(auto, unfolding(acc_base::specs::Detaching::judge_release))]
+fn release(parts: &Parts, draft: &Draft, held: Option<(u64, u64)>) -> Aim
     requires planned { IsPlanned parts.now.limits draft.now parts.now.state.records }
     requires unmixed { AreUnmixed (tasks_in draft.now) }
     ensures { result ≡ judge_release held (records_after draft.now parts.now.state.records) }
@@ -87,5 +91,19 @@ pub(crate) fn release(parts: &Parts, draft: &Draft, held: Option<(u64, u64)>) ->
         detach_from(parts, draft, false, block, pointer)
     } else {
         Aim::None
+    }
+}
+
+/// What becomes of the pointer of a task before its step, after the tasks: what leaves detaches it.
+pub(crate) fn aim_before(parts: &Parts, draft: &Draft, task: Task, step: Step) -> Aim
+    requires planned { IsPlanned parts.now.limits draft.now parts.now.state.records }
+    requires unmixed { AreUnmixed (tasks_in draft.now) }
+    ensures { result ≡ aim_before task step (records_after draft.now parts.now.state.records) }
+{
+    match task {
+        Task::Enter { .. } => Aim::None,
+        Task::Leave { holding } => release(parts, draft, holding.aim),
+        Task::Exit { finalize, .. } => detach(parts, draft, finalize, pointer_aimed(task, step)),
+        Task::Move { .. } => Aim::None,
     }
 }

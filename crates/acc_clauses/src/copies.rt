@@ -1,12 +1,13 @@
 //! Copies between host memory and a block: one slice over another, with no buffer between.
 
-ghost use Rattle.std.specs.Prelude.{◌≡◌, ◌-◌, ◌<◌, length, map, true};
+ghost use Rattle.std.specs.Prelude.{◌≡◌, ◌-◌, ◌<◌, length, map, true, false};
 ghost use Rattle.acc_base.specs.Section.{covers, is_within, host_memory};
 ghost use Rattle.acc_base.specs.Ranges.{start_of};
 ghost use Rattle.acc_base.specs.Bytes.{bytes_of, is_moved, bytes_moved_in, bytes_moved_out, memory_changed};
+ghost use Rattle.acc_base.specs.Loans.{is_lent};
 ghost use Rattle.acc_dev.specs.Device.{HasBlock};
 ghost use Rattle.acc_present.specs.Present.{HasRange};
-ghost use Rattle.acc_clauses.specs.Contents.{state_of};
+ghost use Rattle.acc_clauses.specs.Contents.{state_of, bare_state};
 ghost use Rattle.acc_clauses.specs.Acts.{CanCopy};
 ghost use Rattle.acc_clauses.specs.Copies.{IsRunEnd};
 
@@ -18,10 +19,11 @@ use acc_dev::Device;
 use acc_host::HostMem;
 use acc_present::Present;
 
-/// Copies a run of bytes to host memory from a block that is mapped from the host address `start` on.
+/// Copies a run of bytes to host memory from a block that is not lent and is mapped from the host address `start` on.
 fn run_out(device: &Device, host: &mut HostMem, run: Section, block: u64, start: u64)
     requires in_host { is_within run (host_memory (length host.old)) ≡ true }
     requires there { HasBlock device.now block }
+    requires free { is_lent block device.now.loans ≡ false }
     requires within { is_within run (record { start = start; len = length (bytes_of block device.now.memories) }) ≡ true }
     ensures { host.new ≡ bytes_moved_out (covers run) (bytes_of block device.now.memories) start host.old }
 {
@@ -34,10 +36,11 @@ fn run_out(device: &Device, host: &mut HostMem, run: Section, block: u64, start:
     };
 }
 
-/// Copies a run of bytes of host memory to a block that is mapped from the host address `start` on.
+/// Copies a run of bytes of host memory to a block that is not lent and is mapped from the host address `start` on.
 pub(crate) fn run_in(device: &mut Device, host: &HostMem, run: Section, block: u64, start: u64)
     requires in_host { is_within run (host_memory (length host.now)) ≡ true }
     requires there { HasBlock device.old block }
+    requires free { is_lent block device.old.loans ≡ false }
     requires within { is_within run (record { start = start; len = length (bytes_of block device.old.memories) }) ≡ true }
     ensures { device.new ≡ record device.old { memories = map (memory_changed block (bytes_moved_in (covers run) host.now start)) device.old.memories } }
 {
@@ -83,8 +86,8 @@ fn run_from(at: u64, stop: u64) -> Section
 /// Copies a section to host memory from a block whose bytes are those from the host address `start` on, but for the bytes
 /// of attached pointers.
 pub(crate) fn copy_out(environment: &mut Environment, section: Section, block: u64, start: u64)
-    requires can { CanCopy section block start (state_of environment.old 0) }
-    ensures { let s = state_of environment.old 0 in environment.new ≡ record environment.old { host = bytes_moved_out (is_moved section block s.records.attached) (bytes_of block s.memories) start s.host } }
+    requires can { CanCopy section block start (bare_state environment.old) }
+    ensures { let s = bare_state environment.old in environment.new ≡ record environment.old { host = bytes_moved_out (is_moved section block s.records.attached) (bytes_of block s.memories) start s.host } }
 {
     let end = section.start + section.len;
     let mut at = section.start;
@@ -104,8 +107,8 @@ pub(crate) fn copy_out(environment: &mut Environment, section: Section, block: u
 /// Copies a section of host memory to a block whose bytes are those from the host address `start` on, but for the bytes
 /// of attached pointers.
 pub(crate) fn copy_in(environment: &mut Environment, section: Section, block: u64, start: u64)
-    requires can { CanCopy section block start (state_of environment.old 0) }
-    ensures { let s = state_of environment.old 0 in environment.new ≡ record environment.old { device = record environment.old.device { memories = map (memory_changed block (bytes_moved_in (is_moved section block s.records.attached) s.host start)) s.memories } } }
+    requires can { CanCopy section block start (bare_state environment.old) }
+    ensures { let s = bare_state environment.old in environment.new ≡ record environment.old { device = record environment.old.device { memories = map (memory_changed block (bytes_moved_in (is_moved section block s.records.attached) s.host start)) s.memories } } }
 {
     let end = section.start + section.len;
     let mut at = section.start;

@@ -9,9 +9,9 @@ ghost use Rattle.acc_clauses.specs.Overlays.{IsPlanned, AreUnmixed, enters, task
 ghost use Rattle.acc_clauses.specs.Planned.{IsJudgedNext};
 
 use crate::acted::Acted;
-use crate::aims::{attach, detach, release};
+use crate::aims::{aim_before, attach};
 use crate::drafts::Draft;
-use crate::judging::judge_step;
+use crate::judging::{judge_row, step_free};
 use crate::parts::Parts;
 use crate::rows::pointer_aimed;
 use acc_base::{Aim, Did, Fault, Step, Task};
@@ -50,13 +50,12 @@ pub(crate) fn judge(parts: &Parts, draft: &mut Draft, n: u64, task: Task) -> Res
     requires few { n < 64 }
     ensures { MatchResult result (λ _. IsJudgedNext parts.now.limits n task parts.now.state draft.old draft.new) (λ fault. judge_task parts.now.limits n task (state_after draft.old parts.now.state) ≡ Err fault) }
 {
-    let step = judge_step(parts, draft, n, task)?;
-    let aim = match task {
-        Task::Enter { .. } => return enter(parts, draft, n, task, step),
-        Task::Leave { holding } => release(parts, draft, holding.aim),
-        Task::Exit { finalize, .. } => detach(parts, draft, finalize, pointer_aimed(task, step)),
-        Task::Move { .. } => Aim::None,
-    };
+    let step = judge_row(parts, draft, n, task)?;
+    let aim = aim_before(parts, draft, task, step);
+    step_free(parts, draft, task, step, aim)?;
+    if let Task::Enter { .. } = task {
+        return enter(parts, draft, n, task, step);
+    }
     draft.push(Acted {
         task,
         did: Did { step, aim },

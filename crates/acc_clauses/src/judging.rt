@@ -7,7 +7,9 @@ ghost use Rattle.acc_base.specs.Limits.{IsFromOne};
 ghost use Rattle.acc_base.specs.Ranges.{ends_by};
 ghost use Rattle.acc_base.specs.Clauses.{in_host, pointer_checked, born, enter_absent, counted, enter_row, leave_row, exit_row, move_row};
 ghost use Rattle.acc_base.specs.Tasks.{queue_of, recounted, checked};
-ghost use Rattle.acc_base.specs.Steps.{judge_row, judge_step};
+ghost use Rattle.acc_base.specs.Detaching.{block_aimed};
+ghost use Rattle.acc_clauses.specs.Aims.{step_free};
+ghost use Rattle.acc_base.specs.Steps.{block_needed, judge_row};
 ghost use Rattle.acc_base.specs.Queues.{queue_named};
 ghost use Rattle.acc_base.specs.Transfers.{transfer_of, room_for};
 ghost use Rattle.acc_base.specs.Blocks.{rounded};
@@ -16,13 +18,14 @@ ghost use Rattle.acc_clauses.specs.Overlays.{IsPlanned, AreUnmixed, tasks_in, re
 
 use crate::drafts::Draft;
 use crate::effects::{are_zero, recount};
+use crate::lending::not_lent;
 use crate::parts::Parts;
 use crate::readings::{counters_after, found_after, number_after, place_after, queue_len_after};
 use crate::rows::{moves, pointer_of, queue_of, section_of};
 use crate::sections::{POINTER_LEN, is_within, pointer_at};
 use acc_base::{
-    Counter, ExitClause, Fault, Found, HOST_BASE, Holding, Item, RegionClause, Section, Step, Task,
-    UpdateClause,
+    Aim, Counter, ExitClause, Fault, Found, HOST_BASE, Holding, Item, RegionClause, Section, Step,
+    Task, UpdateClause,
 };
 
 /// A section that is not empty lies in host memory. Nothing of an empty one is checked.
@@ -256,9 +259,9 @@ fn copy(
     }
 }
 
-// What the clause tables say of the task of the item at place `n` after those that were judged before it.
+/// What the clause tables say of the task of the item at place `n` after those that were judged before it.
 #[tactic(auto, using(crate::proofs::Laws::kind_laws))]
-fn judge_row(parts: &Parts, draft: &Draft, n: u64, task: Task) -> Result<Step, Fault>
+pub(crate) fn judge_row(parts: &Parts, draft: &Draft, n: u64, task: Task) -> Result<Step, Fault>
     requires planned { IsPlanned parts.now.limits draft.now parts.now.state.records }
     requires unmixed { AreUnmixed (tasks_in draft.now ++ task ∷ []) }
     requires births { parts.now.state.records.births < 2 ^ 48 }
@@ -300,16 +303,44 @@ fn room_for(parts: &Parts, draft: &Draft, task: Task, step: Step) -> Result<(), 
     Ok(())
 }
 
-/// The step of the task of the item at place `n` after those that were judged before it, or its refusal.
-#[tactic(auto, unfolding(acc_base::specs::Steps::judge_step))]
-pub(crate) fn judge_step(parts: &Parts, draft: &Draft, n: u64, task: Task) -> Result<Step, Fault>
-    requires planned { IsPlanned parts.now.limits draft.now parts.now.state.records }
-    requires unmixed { AreUnmixed (tasks_in draft.now ++ task ∷ []) }
-    requires births { parts.now.state.records.births < 2 ^ 48 }
-    requires known { queue_named (queue_of task) ≡ Ok tt }
-    ensures { result ≡ judge_step parts.now.limits n task (records_after draft.now parts.now.state.records) }
+// The block that a step takes a counter from, or whose bytes it copies at once.
+fn block_needed(task: Task, step: Step) -> Option<u64>
+    ensures { result ≡ block_needed task step }
 {
-    let step = judge_row(parts, draft, n, task)?;
-    room_for(parts, draft, task, step)?;
-    Ok(step)
+    match step {
+        Step::Dropped { block, .. } => Some(block),
+        Step::Moved { block } if queue_of(task).is_none() => Some(block),
+        Step::Nothing | Step::Counted { .. } | Step::Born { .. } | Step::Moved { .. } => None,
+    }
+}
+
+// The block that holds the pointer of an attachment or a detachment.
+fn block_aimed(aim: Aim) -> Option<u64>
+    ensures { result ≡ block_aimed aim }
+{
+    match aim {
+        Aim::None => None,
+        Aim::New { block, .. } => Some(block),
+        Aim::Again { block, .. } => Some(block),
+        Aim::Less { block, .. } => Some(block),
+        Aim::Cleared { block, .. } => Some(block),
+    }
+}
+
+/// What the tables say of a task can be done: neither the block in which it detaches a pointer before its step, nor the
+/// one that the step needs is lent, and its queue has room.
+pub(crate) fn step_free(
+    parts: &Parts,
+    draft: &Draft,
+    task: Task,
+    step: Step,
+    before: Aim,
+) -> Result<(), Fault>
+    requires planned { IsPlanned parts.now.limits draft.now parts.now.state.records }
+    requires known { queue_named (queue_of task) ≡ Ok tt }
+    ensures { let w = records_after draft.now parts.now.state.records in result ≡ step_free task step before parts.now.limits.queue_cap w }
+{
+    not_lent(parts, block_aimed(before))?;
+    not_lent(parts, block_needed(task, step))?;
+    room_for(parts, draft, task, step)
 }

@@ -1,12 +1,13 @@
 //! The parts of a data environment as one value.
 
-ghost use Rattle.std.specs.Prelude.{◌≡◌, ◌+◌, ◌++◌, ◌^◌, ◌<◌, ◌≤◌, ◌↔◌, All, IfOk, IfErr, OnOk, OnErr, IfSome, IfNone, MatchOption, IsSome, None, Some, length, option_map, true};
+ghost use Rattle.std.specs.Prelude.{◌≡◌, ◌+◌, ◌++◌, ◌^◌, ◌<◌, ◌≤◌, ◌↔◌, All, IfOk, IfErr, OnOk, OnErr, IfSome, IfNone, MatchOption, IsSome, None, Some, Ok, length, take, option_map, slice_get, true, false};
 ghost use Rattle.acc_base.specs.declared.faults.Fault.TheVariants.{Memory};
 ghost use Rattle.acc_base.specs.Limits.{IsFromOne, IsWithinBounds};
 ghost use Rattle.acc_base.specs.declared.addresses.TheConstants.{MEMORY_MAX};
 ghost use Rattle.acc_base.specs.Section.{device_base, is_within, host_memory};
 ghost use Rattle.acc_base.specs.Holes.{IsDevice};
 ghost use Rattle.acc_base.specs.Ranges.{where_is, where_is_apart, range_of, range_from, structured_of, dynamic_of, counter_of, start_of};
+ghost use Rattle.acc_base.specs.Loans.{loan_of, is_lent, none_lent, is_returnable};
 ghost use Rattle.acc_base.specs.Blocks.{rounded, block_at, place_of, place_for, used_bytes};
 ghost use Rattle.acc_base.specs.Register.{holdings_at, region_at, newest_region, opened, closed};
 ghost use Rattle.acc_base.specs.Bytes.{bytes_of, host_after_write};
@@ -18,34 +19,41 @@ ghost use Rattle.acc_base.specs.Waits.{stepped, ended_from};
 ghost use Rattle.acc_queues.specs.Queued.{spare_at};
 ghost use Rattle.acc_clauses.specs.Overlays.{puts_by};
 ghost use Rattle.acc_base.specs.Attachments.{pointer_at, count_at};
-ghost use Rattle.acc_base.specs.Pointers.{block_with, host_pointer, device_pointer};
+ghost use Rattle.acc_base.specs.Detaching.{block_with};
+ghost use Rattle.acc_base.specs.Pointers.{host_pointer, device_pointer};
 ghost use Rattle.acc_host.specs.Host.{bytes_in, IsRead, IsOutOfHost};
 ghost use Rattle.acc_placement.specs.Ranges.{IsTakeBelow};
 ghost use Rattle.acc_dev.specs.Device.{planned_blocks};
 ghost use Rattle.acc_clauses.specs.Contents.{AreNew, AreContentsSound};
+ghost use Rattle.acc_base.specs.Judge.{leased};
+ghost use Rattle.acc_base.specs.Accounts.{IsLoanSound};
+ghost use Rattle.acc_clauses.specs.Lending.{lent_state, gathered_state};
 ghost use Rattle.acc_clauses.specs.Acts.{IsJudged, IsKnown, HasRoomFor, HasPutRoom, HasRegionRoom, CanWrite, IsRoomLeft, birth_of, pointers_of};
 
 use crate::acting::act_on;
 use crate::environments::Environment;
+use crate::numbers::Numbers;
 use crate::sections::pointer_at;
 use crate::transfers::step;
 use acc_attach::Attached;
 use acc_base::{
-    Config, Counter, Counters, Did, Ended, Fault, Found, Holding, Range, Section, Task,
+    Config, Counter, Counters, Did, Ended, Fault, Found, Holding, Loan, Range, Section, Task,
 };
 use acc_dev::Device;
 use acc_host::HostMem;
+use acc_lend::Lease;
 use acc_present::Present;
 use acc_queues::Queues;
 use std::alloc::Global;
 use std::marker::Model;
 
-/// The parts of a data environment, which fit one another, with the limits and the number of the next region.
+/// The parts of a data environment, which fit one another, with the limits and the numbers of the next region and the
+/// next loan.
 #[derive(Drop)]
 pub(crate) struct Parts {
     config: Config,
     environment: Environment,
-    next: u64,
+    numbers: Numbers,
 }
 
 impl Model for Parts {
@@ -53,9 +61,9 @@ impl Model for Parts {
 
     ghost Value = { Contents };
 
-    ghost view = { λ p. contents_of p.config p.environment p.next };
+    ghost view = { λ p. contents_of p.config p.environment p.numbers };
 
-    ghost invariant = { λ p. ArePartsSound p.config p.environment p.next };
+    ghost invariant = { λ p. ArePartsSound p.config p.environment p.numbers };
 }
 
 impl Parts {
@@ -74,7 +82,10 @@ impl Parts {
         Ok(Parts {
             config: *config,
             environment,
-            next: 1,
+            numbers: Numbers {
+                region: 1,
+                serial: 1,
+            },
         })
     }
 
@@ -214,6 +225,32 @@ impl Parts {
         self.environment.device.ended(from)
     }
 
+    /// The loan of a block, if there is such a block and it is lent.
+    pub(crate) fn loan(&self, block: u64) -> Option<Loan>
+        ensures { result ≡ loan_of block self.now.state.records.loans }
+    {
+        self.environment.device.laws();
+        if self.environment.device.has(block) {
+            self.environment.device.loan(block)
+        } else {
+            None
+        }
+    }
+
+    /// Whether a block is lent.
+    pub(crate) fn is_lent(&self, block: u64) -> bool
+        ensures { result ≡ is_lent block self.now.state.records.loans }
+    {
+        self.loan(block).is_some()
+    }
+
+    /// The serial number that the next loan gets.
+    pub(crate) fn next_serial(&self) -> u64
+        ensures { result ≡ self.now.state.register.serial }
+    {
+        self.numbers.serial
+    }
+
     // ---- queues
 
     /// How many transfers wait in a queue; 0 where there is no such queue.
@@ -231,6 +268,13 @@ impl Parts {
         ensures { result ≡ option_map (λ t. t.block) (head_of q self.now.state.records.queues) }
     {
         self.environment.queues.head(q).map(|t| t.block)
+    }
+
+    /// The block that the transfer at a place of a queue names, counted from its first one, if it has so many.
+    pub(crate) fn waiting_block(&self, q: u64, place: u64) -> Option<u64>
+        ensures { result ≡ option_map (λ t. t.block) (slice_get (queue_at q self.now.state.records.queues) place) }
+    {
+        self.environment.queues.at(q, place).map(|t| t.block)
     }
 
     // ---- regions
@@ -260,7 +304,7 @@ impl Parts {
     pub(crate) fn next_region(&self) -> u64
         ensures { result ≡ self.now.state.register.next }
     {
-        self.next
+        self.numbers.region
     }
 
     // ---- bytes
@@ -274,9 +318,9 @@ impl Parts {
         self.environment.host.read(section)
     }
 
-    /// The bytes of a block. `None` exactly where there is no such block.
+    /// The bytes of a block. `None` exactly where there is no such block, or it is lent.
     pub(crate) fn bytes(&self, block: u64) -> Option<&[u8]>
-        ensures there { IsSome result ↔ IsSome (block_at block self.now.state.records.blocks) }
+        ensures there { IsSome result ↔ (IsSome (block_at block self.now.state.records.blocks) × (is_lent block self.now.state.records.loans ≡ false)) }
         ensures bytes { IfSome result (λ bytes. bytes.now ≡ bytes_of block self.now.state.memories) }
     {
         if self.environment.device.has(block) {
@@ -322,8 +366,9 @@ impl Parts {
         act_on(&mut self.environment, task, did);
     }
 
-    /// Makes the first transfer of a queue, if it has one. It takes no memory and is never refused.
+    /// Makes the first transfer of a queue, if it has one; its block is not lent. It takes no memory and is never refused.
     pub(crate) fn step(&mut self, q: u64)
+        requires free { none_lent (take 1 (queue_at q self.old.state.records.queues)) self.old.state.records.loans ≡ Ok tt }
         ensures limits { self.new.limits ≡ self.old.limits }
         ensures state { self.new.state ≡ stepped q self.old.state }
     {
@@ -389,8 +434,10 @@ impl Parts {
         ensures limits { self.new.limits ≡ self.old.limits }
         ensures state { self.new.state ≡ record self.old.state { register = opened holdings.now self.old.state.register } }
     {
-        self.environment.present.enter_reserved(self.next, holdings);
-        self.next += 1;
+        self.environment
+            .present
+            .enter_reserved(self.numbers.region, holdings);
+        self.numbers.region += 1;
     }
 
     /// Closes an open region.
@@ -412,6 +459,46 @@ impl Parts {
         let Ok(()) = self.environment.host.write(addr, bytes) else {
             unreachable!()
         };
+    }
+
+    /// Moves the bytes of a block that is not lent into a lease, for a loan under the next serial number of a section that
+    /// lies in the range of the block. It takes no memory and is never refused.
+    pub(crate) fn lend(&mut self, loan: Loan) -> Lease
+        requires free { is_lent loan.block self.old.state.records.loans ≡ false }
+        requires sound { IsLoanSound self.old.state.records.ranges loan }
+        requires few { self.old.state.register.serial < 2 ^ 48 }
+        ensures lease { result ≡ leased loan self.old.state }
+        ensures limits { self.new.limits ≡ self.old.limits }
+        ensures state { self.new.state ≡ lent_state loan self.old.state }
+    {
+        self.environment.device.laws();
+        let taken = self
+            .environment
+            .device
+            .take_out(loan.block, loan.serial, loan.offset, loan.len);
+        let Ok(lease) = taken else { unreachable!() };
+        self.numbers.serial += 1;
+        lease
+    }
+
+    /// Whether a lease brings back a block that is lent: under its serial number, with its place and length of the section,
+    /// and as long as the lease has bytes.
+    pub(crate) fn is_returnable(&self, lease: &Lease) -> bool
+        ensures { result ≡ is_returnable lease.now self.now.state.records.blocks self.now.state.records.loans }
+    {
+        self.environment.device.is_returnable(lease)
+    }
+
+    /// Moves the bytes of a lease back into its block. It takes no memory and is never refused.
+    pub(crate) fn gather(&mut self, lease: Lease)
+        requires { is_returnable lease self.old.state.records.blocks self.old.state.records.loans ≡ true }
+        ensures limits { self.new.limits ≡ self.old.limits }
+        ensures state { self.new.state ≡ gathered_state lease self.old.state }
+    {
+        match self.environment.device.put_back(lease) {
+            Ok(()) => {}
+            Err((lease, _)) => lease.abandon(),
+        }
     }
 
     // ---- pointers
@@ -437,9 +524,9 @@ impl Parts {
         address
     }
 
-    /// The address that a pointer in a block holds on the device, where the block has its eight bytes.
+    /// The address that a pointer in a block holds on the device, where the block, which is not lent, has its eight bytes.
     pub(crate) fn device_pointer(&self, block: u64, pointer: u64) -> u64
-        ensures { block_with pointer self.now.state.records.ranges ≡ Some block → result ≡ device_pointer block pointer self.now.state }
+        ensures { block_with pointer self.now.state.records.ranges ≡ Some block → is_lent block self.now.state.records.loans ≡ false → result ≡ device_pointer block pointer self.now.state }
     {
         self.laws();
         let Some(bytes) = self.bytes(block) else {

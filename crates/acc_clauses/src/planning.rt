@@ -12,6 +12,7 @@ ghost use Rattle.acc_clauses.specs.Planned.{HasFewHoldings, asked_of, head_of, I
 
 use crate::drafts::Draft;
 use crate::items::judge;
+use crate::lending::transfers_free;
 use crate::notes::{note_births, note_held, tell_written};
 use crate::parts::Parts;
 use crate::plans::{Head, Plan};
@@ -145,7 +146,8 @@ fn head_of(directive: &Directive) -> Head
 /// [`Fault::TooManyItems`] above 64 items; [`Fault::NoRegion`] where the region that is left is not open;
 /// [`Fault::NoQueue`] where there is no queue of the number that it names; else the first refusal of an item:
 /// [`Fault::OutOfHost`], [`Fault::Misaligned`], [`Fault::PartlyPresent`], [`Fault::NotPresent`], [`Fault::CounterFull`] or
-/// [`Fault::DeviceFull`], with the item's place in the directive, counted from 0, or [`Fault::QueueFull`].
+/// [`Fault::DeviceFull`], with the item's place in the directive, counted from 0, or [`Fault::Lent`] or
+/// [`Fault::QueueFull`]; or, of a wait or a step, [`Fault::Lent`] at the first transfer whose block is lent.
 #[tactic(auto, using(crate::proofs::Asking::event_laws))]
 pub(crate) fn plan(parts: &Parts, directive: &Directive, plan: &mut Plan) -> Result<(), Fault>
     requires births { parts.now.state.records.births < 2 ^ 48 }
@@ -162,5 +164,6 @@ pub(crate) fn plan(parts: &Parts, directive: &Directive, plan: &mut Plan) -> Res
     tell_written(&mut plan.did, plan.head, acts);
     note_births(&mut plan.lens, acts);
     note_held(&mut plan.holdings, plan.head, acts);
-    judged
+    judged?;
+    transfers_free(parts, directive)
 }

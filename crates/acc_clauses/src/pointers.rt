@@ -3,11 +3,10 @@
 ghost use Rattle.std.specs.Prelude.{◌≡◌, ◌-◌, ◌≤◌, length, slice_index};
 ghost use Rattle.std.specs.Int.{w64, to_le_bytes};
 ghost use Rattle.acc_base.specs.declared.attachments.Aim.TheVariants.{Less};
-ghost use Rattle.acc_base.specs.Attachments.{pointer_at};
 ghost use Rattle.acc_base.specs.Bytes.{host_byte};
 ghost use Rattle.acc_base.specs.Pointers.{pointer_written};
-ghost use Rattle.acc_clauses.specs.Contents.{AreMarked, state_of, room_of};
-ghost use Rattle.acc_clauses.specs.Acts.{CanMove, CanDetach, CanAim, IsAimedBy, pointers_of, pointers_in};
+ghost use Rattle.acc_clauses.specs.Contents.{AreMarked, state_of, room_of, bare_state};
+ghost use Rattle.acc_clauses.specs.Acts.{CanAttach, CanDetach, CanAim, IsAimedBy, pointers_of, pointers_in};
 ghost use Rattle.acc_clauses.specs.Overlays.{dids_in};
 
 use crate::acted::Acted;
@@ -17,10 +16,10 @@ use crate::sections::pointer_at;
 use acc_attach::Left;
 use acc_base::Aim;
 
-/// Writes the device address of a target over a pointer in a block.
+/// Writes the device address of a target over a pointer in a block, which is not lent.
 fn write_target(environment: &mut Environment, pointer: u64, block: u64, target: u64)
-    requires can { CanMove (pointer_at pointer) block (state_of environment.old 0) }
-    ensures { let s = state_of environment.old 0 in environment.new ≡ record environment.old { device = record environment.old.device { memories = pointer_written block pointer (λ a. slice_index (to_le_bytes w64 target) (a - pointer)) s } } }
+    requires can { CanAttach pointer block (bare_state environment.old) }
+    ensures { let s = bare_state environment.old in environment.new ≡ record environment.old { device = record environment.old.device { memories = pointer_written block pointer (λ a. slice_index (to_le_bytes w64 target) (a - pointer)) s } } }
 {
     environment.device.laws();
     let start = start_of(&environment.present, block);
@@ -29,10 +28,10 @@ fn write_target(environment: &mut Environment, pointer: u64, block: u64, target:
         .write(block, pointer - start, &target.to_le_bytes());
 }
 
-/// Writes the eight bytes of the host's pointer over the pointer in a block.
+/// Writes the eight bytes of the host's pointer over the pointer in a block, which is not lent.
 fn write_back(environment: &mut Environment, pointer: u64, block: u64)
-    requires can { CanMove (pointer_at pointer) block (state_of environment.old 0) }
-    ensures { let s = state_of environment.old 0 in environment.new ≡ record environment.old { device = record environment.old.device { memories = pointer_written block pointer (host_byte s.host) s } } }
+    requires can { CanAttach pointer block (bare_state environment.old) }
+    ensures { let s = bare_state environment.old in environment.new ≡ record environment.old { device = record environment.old.device { memories = pointer_written block pointer (host_byte s.host) s } } }
 {
     let start = start_of(&environment.present, block);
     run_in(
@@ -46,7 +45,7 @@ fn write_back(environment: &mut Environment, pointer: u64, block: u64)
 
 /// Takes one from the counter of a pointer in a block; at zero its bytes there become those of the host's pointer.
 fn lessen(environment: &mut Environment, pointer: u64, block: u64)
-    requires can { CanDetach pointer block (state_of environment.old 0) }
+    requires can { CanDetach pointer block (bare_state environment.old) }
     requires marked { AreMarked environment.old }
     ensures aimed { IsAimedBy (Less pointer block) environment.old environment.new }
 {
@@ -58,7 +57,7 @@ fn lessen(environment: &mut Environment, pointer: u64, block: u64)
 
 /// Attaches or detaches a pointer (OpenACC 3.3, section 2.7.2).
 pub(crate) fn aim_on(environment: &mut Environment, aim: Aim)
-    requires can { CanAim environment.old.attached.counter_max aim (state_of environment.old 0) }
+    requires can { CanAim environment.old.attached.counter_max aim (bare_state environment.old) }
     requires room { pointers_of aim ≤ (room_of environment.old).attachments }
     requires marked { AreMarked environment.old }
     ensures aimed { IsAimedBy aim environment.old environment.new }

@@ -1,11 +1,12 @@
 //! Everything that a table keeps beside its trace, as one value.
 
-ghost use Rattle.std.specs.Prelude.{◌≡◌, ◌<◌, ◌^◌, ◌↔◌, [], IfOk, IfErr, OnOk, MatchResult, Ok, Err, IfSome, IfNone, IsSome, length, option_map};
+ghost use Rattle.std.specs.Prelude.{ℕ, ◌≡◌, ◌<◌, ◌^◌, ◌↔◌, [], IfOk, IfErr, OnOk, MatchResult, Ok, Err, IfSome, IfNone, IsSome, length, option_map, false};
 ghost use Rattle.acc_base.specs.declared.faults.Fault.TheVariants.{Memory};
 ghost use Rattle.acc_base.specs.Limits.{IsWithinBounds};
 ghost use Rattle.acc_base.specs.Clauses.{in_host};
 ghost use Rattle.acc_base.specs.Holes.{IsDevice};
 ghost use Rattle.acc_base.specs.Ranges.{where_is, range_from, structured_of, dynamic_of};
+ghost use Rattle.acc_base.specs.Loans.{is_lent};
 ghost use Rattle.acc_base.specs.Blocks.{block_at, place_of, used_bytes};
 ghost use Rattle.acc_base.specs.Bytes.{bytes_of, host_after_write};
 ghost use Rattle.acc_base.specs.Pointers.{attachment_of};
@@ -13,7 +14,10 @@ ghost use Rattle.acc_base.specs.Acting.{after};
 ghost use Rattle.acc_base.specs.Queues.{queue_at, head_of};
 ghost use Rattle.acc_base.specs.Waits.{steps_of, ended_from};
 ghost use Rattle.acc_base.specs.declared.events.Event.{Event};
-ghost use Rattle.acc_base.specs.Judge.{Makes, Idle, verdict_of, plan_of};
+ghost use Rattle.acc_base.specs.declared.items.Section.{Section};
+ghost use Rattle.acc_base.specs.declared.events.Event.TheVariants.{Lent, Gathered};
+ghost use Rattle.acc_base.specs.Judge.{Makes, Idle, verdict_of, plan_of, lend_event, leased, gather_event};
+ghost use Rattle.acc_clauses.specs.Lending.{IsLoanPlanned};
 ghost use Rattle.acc_base.specs.Records.{layout_of};
 ghost use Rattle.acc_base.specs.Register.{newest_region};
 ghost use Rattle.acc_base.specs.declared.directives.Directive.{Directive};
@@ -28,12 +32,14 @@ use crate::draining::waiting;
 use crate::effects::puts_in;
 use crate::heads::finish;
 use crate::judging::in_host;
+use crate::lending::{check_lease, plan_loan};
 use crate::parts::Parts;
 use crate::planning;
 use crate::plans::Plan;
 use crate::pointers::pointers_in;
 use crate::running::act_all;
-use acc_base::{Config, Counters, Directive, Ended, Fault, Found, Range, Section};
+use acc_base::{Config, Counters, Directive, Ended, Fault, Found, Loan, Range, Section};
+use acc_lend::Lease;
 use std::alloc::Global;
 use std::marker::Model;
 
@@ -88,7 +94,8 @@ impl Store {
     ///
     /// `TooManyItems` above 64 items; `NoRegion` where the region is not open; `NoQueue` where there is no such queue; then
     /// the first refusal of the items in the order in which they act: `OutOfHost`, `Misaligned`, `PartlyPresent`,
-    /// `NotPresent`, `CounterFull`, `DeviceFull` or `QueueFull`. The plan is then of no use.
+    /// `NotPresent`, `Lent`, `CounterFull`, `DeviceFull` or `QueueFull`; or, of a wait or a step, `Lent` at the first
+    /// transfer whose block is lent. The plan is then of no use.
     pub fn plan(&self, directive: &Directive, plan: &mut Plan) -> Result<(), Fault>
         requires births { self.now.state.records.births < 2 ^ 48 }
         ensures judged { let s = self.now.state in MatchResult result (λ _. plan_of self.now.limits directive.now s ≡ Ok (verdict_of directive.now s plan.new.dids)) (λ fault. plan_of self.now.limits directive.now s ≡ Err fault) }
@@ -156,6 +163,58 @@ impl Store {
         ensures state { self.new.state ≡ record self.old.state { host = host_after_write addr (length bytes.now) bytes.now self.old.state.host } }
     {
         self.parts.host_write(addr, bytes);
+    }
+
+    /// The loan of a section of host memory in an open region, or what it is refused for (OpenACC 3.3, sections 2.5, compute
+    /// constructs, and 2.6, data environment). It takes no memory, and nothing changes.
+    ///
+    /// # Errors
+    ///
+    /// `NoRegion` where the region is not open; then, with item 0, `OutOfHost` where the section is not empty and some
+    /// address of it is outside of host memory, `PartlyPresent` where some of its addresses are mapped but no one range has
+    /// them all, and `NotPresent` where it is absent or empty; `Lent` where its block is lent.
+    pub fn plan_loan(&self, region: u64, section: Section) -> Result<Loan, Fault>
+        ensures { MatchResult result (λ loan. IsLoanPlanned self.now.limits region section self.now.state loan) (λ fault. lend_event self.now.limits region section self.now.state ≡ Err fault) }
+    {
+        plan_loan(&self.parts, region, section)
+    }
+
+    /// Lends the block of a loan that was planned on this state: its bytes are moved into the lease. It takes no memory and
+    /// is never refused.
+    pub fn lend(&mut self, loan: Loan) -> Lease
+        requires planned { (region : ℕ) × (section : Section) × IsLoanPlanned self.old.limits region section self.old.state loan }
+        requires serial { self.old.state.register.serial < 2 ^ 48 }
+        ensures lease { result ≡ leased loan self.old.state }
+        ensures limits { self.new.limits ≡ self.old.limits }
+        ensures state { (region : ℕ) (section : Section) → IsLoanPlanned self.old.limits region section self.old.state loan → self.new.state ≡ after (Lent region section loan.block loan.serial) [] self.old.state }
+    {
+        self.parts.laws();
+        let lease = self.parts.lend(loan);
+        self.parts.laws();
+        lease
+    }
+
+    /// What bringing a lease back is refused for. It takes no memory, and nothing changes.
+    ///
+    /// # Errors
+    ///
+    /// `NoLease` with the serial number of the lease, unless a block is lent under it with the lease's number of the block,
+    /// place and length of the section, and length of the block.
+    pub fn check_lease(&self, lease: &Lease) -> Result<(), Fault>
+        ensures { MatchResult result (λ _. gather_event lease.now self.now.state.records ≡ Ok (Gathered lease.now.serial lease.now.block)) (λ fault. gather_event lease.now self.now.state.records ≡ Err fault) }
+    {
+        check_lease(&self.parts, lease)
+    }
+
+    /// Takes a block back that is lent: its bytes are moved out of the lease. It takes no memory and is never refused.
+    pub fn gather(&mut self, lease: Lease)
+        requires { gather_event lease self.old.state.records ≡ Ok (Gathered lease.serial lease.block) }
+        ensures limits { self.new.limits ≡ self.old.limits }
+        ensures state { self.new.state ≡ after (Gathered lease.serial lease.block) lease.bytes self.old.state }
+    {
+        self.parts.laws();
+        self.parts.gather(lease);
+        self.parts.laws();
     }
 
     // ---- what it tells of itself
@@ -277,9 +336,16 @@ impl Store {
         self.parts.host_read(section)
     }
 
-    /// The bytes of a block. `None` exactly where there is no such block.
+    /// Whether a block is lent.
+    pub fn is_lent(&self, block: u64) -> bool
+        ensures { result ≡ is_lent block self.now.state.records.loans }
+    {
+        self.parts.is_lent(block)
+    }
+
+    /// The bytes of a block. `None` exactly where there is no such block, or it is lent.
     pub fn bytes(&self, block: u64) -> Option<&[u8]>
-        ensures there { IsSome result ↔ IsSome (block_at block self.now.state.records.blocks) }
+        ensures there { IsSome result ↔ (IsSome (block_at block self.now.state.records.blocks) × (is_lent block self.now.state.records.loans ≡ false)) }
         ensures bytes { IfSome result (λ bytes. bytes.now ≡ bytes_of block self.now.state.memories) }
     {
         self.parts.bytes(block)

@@ -1,9 +1,11 @@
 //! What look-ups of pointers and of their targets answer in what the tasks judged so far will leave.
 
-ghost use Rattle.std.specs.Prelude.{◌≡◌, ◌%◌, ◌<◌, Some, true};
+ghost use Rattle.std.specs.Prelude.{◌≡◌, ◌%◌, ◌<◌, Some, true, false};
 ghost use Rattle.std.specs.List.{list_all};
 ghost use Rattle.acc_base.specs.Attachments.{count_at};
-ghost use Rattle.acc_base.specs.Pointers.{block_with, device_address_of, device_pointer};
+ghost use Rattle.acc_base.specs.Detaching.{block_with};
+ghost use Rattle.acc_base.specs.Loans.{is_lent};
+ghost use Rattle.acc_base.specs.Pointers.{device_address_of, device_pointer};
 ghost use Rattle.acc_clauses.specs.Overlays.{IsPlanned, AreUnmixed, tasks_in, records_after, state_after, enters};
 
 use crate::aim_effects::{count_over, place_over, value_over};
@@ -55,12 +57,14 @@ pub(crate) fn address_after(parts: &Parts, draft: &Draft, address: u64) -> Optio
     }
 }
 
-/// The address that an attached pointer holds on the device after the tasks, of which each enters.
+/// The address that an attached pointer holds on the device after the tasks, of which each enters, where its block is
+/// not lent.
 pub(crate) fn value_after(parts: &Parts, draft: &Draft, block: u64, pointer: u64) -> u64
     requires planned { IsPlanned parts.now.limits draft.now parts.now.state.records }
     requires entering { list_all enters (tasks_in draft.now) ≡ true }
     requires aligned { pointer % 8 ≡ 0 }
     requires there { block_with pointer (records_after draft.now parts.now.state.records).ranges ≡ Some block }
+    requires free { is_lent block parts.now.state.records.loans ≡ false }
     requires attached { 0 < count_at block pointer (records_after draft.now parts.now.state.records).attached }
     ensures { result ≡ device_pointer block pointer (state_after draft.now parts.now.state) }
 {

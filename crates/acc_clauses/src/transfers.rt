@@ -7,7 +7,7 @@ ghost use Rattle.acc_base.specs.Bytes.{host_made, memories_made};
 ghost use Rattle.acc_base.specs.Transfers.{transfer_at, at_once, queues_after};
 ghost use Rattle.acc_base.specs.Waits.{stepped};
 ghost use Rattle.acc_present.specs.Present.{HasRange};
-ghost use Rattle.acc_clauses.specs.Contents.{AreMarked, state_of};
+ghost use Rattle.acc_clauses.specs.Contents.{AreMarked, state_of, bare_state};
 ghost use Rattle.acc_clauses.specs.Acts.{CanTransfer, CanPut, CanMoveBytes, CanStep, IsMovedBy, IsSteppedBy};
 
 use crate::copies::{copy_in, copy_out, start_of};
@@ -33,8 +33,8 @@ pub(crate) fn transfer_at(present: &Present, task: Task, block: u64) -> Transfer
 
 /// Makes a transfer at once.
 fn make(environment: &mut Environment, t: Transfer)
-    requires can { CanTransfer t (state_of environment.old 0) }
-    ensures { let s = state_of environment.old 0 in environment.new ≡ record environment.old { host = host_made (Some t) s.records.attached s.memories s.host; device = record environment.old.device { memories = memories_made (Some t) s.records.attached s.host s.memories } } }
+    requires can { CanTransfer t (bare_state environment.old) }
+    ensures { let s = bare_state environment.old in environment.new ≡ record environment.old { host = host_made (Some t) s.records.attached s.memories s.host; device = record environment.old.device { memories = memories_made (Some t) s.records.attached s.host s.memories } } }
 {
     let start = t.section.start.saturating_sub(t.offset);
     if t.out {

@@ -7,9 +7,10 @@ ghost use Rattle.acc_clauses.specs.Stored.{IsPlan};
 
 use acc_base::{
     Aim, Config, Counters, Directive, Ended, EnterClause, ExitClause, Fault, Found, Item, List,
-    RegionClause, Section, Step, UpdateClause,
+    Loan, RegionClause, Section, Step, UpdateClause,
 };
 use acc_clauses::{Plan, Store};
+use acc_lend::{Add, Lease, run_one};
 use rows::{GROWING, P, ROWS, TO_B};
 use std::alloc::{AllocError, Global};
 use std::process::Abort;
@@ -71,6 +72,25 @@ enum Turn {
     Waiting(Option<u64>, u64),
     /// The block of least place at or above a device address whose mapping has ended.
     EndedFrom(u64, Option<Ended>),
+    /// A turn that is about a loan.
+    Loans(Lending),
+}
+
+/// What is asked about a loan, with its answer.
+#[derive(Clone, Copy)]
+enum Lending {
+    /// The block of a section, by its first host address and its length, is lent in region 1, by this loan.
+    Lends(u64, u64, Loan),
+    /// A loan in a region is refused.
+    Refused(u64, u64, u64, Fault),
+    /// Whether block 1 is lent.
+    Lent(bool),
+    /// A kernel adds this number to each byte that is lent.
+    Adds(u8),
+    /// The lease is brought back.
+    Gathers,
+    /// No lease has this serial number, if it is of the first bytes of block 1, so many and all that the block has.
+    NoLease(u64, u8),
 }
 
 /// Turns on a new store.
@@ -255,8 +275,85 @@ fn writes(store: &mut Store, start: u64, bytes: &[u8]) -> bool {
     true
 }
 
+/// A block is lent by a loan, and the lease kept where none was.
+fn lends(store: &mut Store, kept: &mut Option<Lease>, section: Section, wanted: Loan) -> bool {
+    match store.plan_loan(1, section) {
+        Ok(loan) if loan == wanted && loan.serial < 1_000 => keep(kept, store.lend(loan)),
+        Ok(_) | Err(_) => false,
+    }
+}
+
+/// Keeps a lease where none was, and answers whether that is so.
+fn keep(kept: &mut Option<Lease>, lease: Lease) -> bool {
+    match kept.replace(lease) {
+        Some(other) => {
+            other.abandon();
+            false
+        }
+        None => true,
+    }
+}
+
+/// Brings the lease back that was kept.
+fn gathers(store: &mut Store, kept: &mut Option<Lease>) -> bool {
+    let Some(lease) = kept.take() else {
+        return false;
+    };
+    if store.check_lease(&lease).is_ok() {
+        store.gather(lease);
+        true
+    } else {
+        lease.abandon();
+        false
+    }
+}
+
+/// Adds a number to each byte that is lent.
+fn adds(kept: &mut Option<Lease>, number: u8) -> bool {
+    match kept {
+        Some(lease) => {
+            run_one(lease, &Add(number), &[]);
+            true
+        }
+        None => false,
+    }
+}
+
+/// A lease of block 1 that the store never made is refused.
+fn refuses_lease(alloc: Global, store: &Store, serial: u64, len: u8) -> Result<bool, AllocError> {
+    let len = usize::from(len);
+    let lease = Lease::of(serial, 1, 0, len, vec![in alloc; 0; len]?);
+    let answer = store.check_lease(&lease);
+    lease.abandon();
+    Ok(answer == Err(Fault::NoLease { serial }))
+}
+
+/// The store lends as the turn says.
+fn lends_so(
+    alloc: Global,
+    store: &mut Store,
+    kept: &mut Option<Lease>,
+    turn: Lending,
+) -> Result<bool, AllocError> {
+    match turn {
+        Lending::Lends(start, len, loan) => Ok(lends(store, kept, Section { start, len }, loan)),
+        Lending::Refused(region, start, len, fault) => {
+            Ok(store.plan_loan(region, Section { start, len }) == Err(fault))
+        }
+        Lending::Lent(lent) => Ok(store.is_lent(1) == lent),
+        Lending::Adds(number) => Ok(adds(kept, number)),
+        Lending::Gathers => Ok(gathers(store, kept)),
+        Lending::NoLease(serial, len) => refuses_lease(alloc, store, serial, len),
+    }
+}
+
 /// The store answers as the turn says.
-fn agrees(alloc: Global, store: &mut Store, turn: Turn) -> Result<bool, AllocError> {
+fn agrees(
+    alloc: Global,
+    store: &mut Store,
+    kept: &mut Option<Lease>,
+    turn: Turn,
+) -> Result<bool, AllocError> {
     match turn {
         Turn::Does(ask, steps) => {
             let directive = directive_of(alloc, ask)?;
@@ -283,6 +380,7 @@ fn agrees(alloc: Global, store: &mut Store, turn: Turn) -> Result<bool, AllocErr
         Turn::Queue(q, len) => Ok(store.queue_len(q) == len),
         Turn::Waiting(queue, count) => Ok(store.waiting(queue) == count),
         Turn::EndedFrom(from, ended) => Ok(store.ended(from) == ended),
+        Turn::Loans(turn) => lends_so(alloc, store, kept, turn),
     }
 }
 
@@ -295,8 +393,23 @@ fn store_of(alloc: Global, counter_max: u64) -> Result<Store, Fault> {
 /// The first turn that the store does not answer as the row says.
 fn first_difference(alloc: Global, row: &Row) -> Result<Option<usize>, Fault> {
     let mut store = store_of(alloc, row.counter_max)?;
-    for (place, turn) in row.turns.iter().enumerate() {
-        if !agrees(alloc, &mut store, *turn)? {
+    let mut kept = None;
+    let answer = first_wrong(alloc, &mut store, &mut kept, row.turns);
+    if let Some(lease) = kept {
+        lease.abandon();
+    }
+    Ok(answer?)
+}
+
+/// The first turn that the store does not answer as it says.
+fn first_wrong(
+    alloc: Global,
+    store: &mut Store,
+    kept: &mut Option<Lease>,
+    turns: &[Turn],
+) -> Result<Option<usize>, AllocError> {
+    for (place, turn) in turns.iter().enumerate() {
+        if !agrees(alloc, store, kept, *turn)? {
             return Ok(Some(place));
         }
     }

@@ -22,18 +22,19 @@ use Rattle.acc_dev.specs.declared.entries.Stored.{Stored}
 use Rattle.acc_dev.specs.Device.{DeviceState, HasBlock, IsBorn, IsBornWith, birth_place}
 use Rattle.acc_base.specs.Holes.{taken_range}
 use Rattle.acc_dev.specs.Marks.{new_mark, IsSoundMark}
-use Rattle.acc_dev.specs.Kept.{block_from, memory_from, mark_from, slot_of, blocks_in, memories_in, marks_in, IsKept, IsCounted}
+use Rattle.acc_dev.specs.Kept.{stored_loan, block_from, memory_from, mark_from, slot_of, blocks_in, memories_in, marks_in, loans_in, IsInOrOut, IsBacked, IsKept, IsCounted}
 use Rattle.acc_dev.proofs.Slots.{AreSame, KeepsOthers, same_from, vacant_off, made-born}
+use Rattle.acc_dev.proofs.Lent.{loans_in-same, loans_in-push}
 use Rattle.acc_dev.proofs.Placing.{some_bytes, planned_place, birth_at, fit_from}
 use Rattle.acc_dev.proofs.Keeping.{device_of, shared}
 
 -- the block of a slot
 abbrev born_block : ℕ → Stored → Block
-born_block number x = record { number = number; place = x.place; len = length x.bytes.items }
+born_block number x = record { number = number; place = x.place; len = x.len }
 
 -- the blocks, their bytes and what a device keeps, with an entry more
 pub blocks-born : (s t : List (Option Stored)) (xs : List (ℕ × ℕ)) (number k : ℕ) (x : Stored) → AllByRecursion (λ e. IsSome (slot_of s e)) xs → get_or s k None ≡ None → get_or t k None ≡ Some x → KeepsOthers s t k
-    → blocks_in t (xs ++ (number, k) ∷ []) ≡ blocks_in s xs ++ record { number = number; place = x.place; len = length x.bytes.items } ∷ []
+    → blocks_in t (xs ++ (number, k) ∷ []) ≡ blocks_in s xs ++ record { number = number; place = x.place; len = x.len } ∷ []
 blocks-born s t xs number k x filled vacant new others = made-born block_from s t xs number k x (same_from s t k xs others (vacant_off s k xs filled vacant)) new
 
 pub memories-born : (s t : List (Option Stored)) (xs : List (ℕ × ℕ)) (number k : ℕ) (x : Stored) → AllByRecursion (λ e. IsSome (slot_of s e)) xs → get_or s k None ≡ None → get_or t k None ≡ Some x → KeepsOthers s t k
@@ -44,6 +45,15 @@ pub marks-born : (s t : List (Option Stored)) (xs : List (ℕ × ℕ)) (number k
     → marks_in t (xs ++ (number, k) ∷ []) ≡ marks_in s xs ++ record { block = number; pins = x.pins; ended = x.ended } ∷ []
 marks-born s t xs number k x filled vacant new others = made-born mark_from s t xs number k x (same_from s t k xs others (vacant_off s k xs filled vacant)) new
 
+-- the loans stay where the new slot is not lent
+pub loans-born : (s t : List (Option Stored)) (xs : List (ℕ × ℕ)) (number k : ℕ) (x : Stored) → AllByRecursion (λ e. IsSome (slot_of s e)) xs → get_or s k None ≡ None → get_or t k None ≡ Some x → KeepsOthers s t k → x.loan ≡ None
+    → loans_in t (xs ++ (number, k) ∷ []) ≡ loans_in s xs
+loans-born s t xs number k x filled vacant new others none = loans_in-push t xs (number, k) (ap stored_loan new ∙ none) ∙ loans_in-same s t xs (same_from s t k xs others (vacant_off s k xs filled vacant))
+
+-- a new slot that is not lent has its bytes
+backed_new : (number : ℕ) (x : Stored) → x.loan ≡ None → x.len ≡ length x.bytes.items → IsBacked number (Some x)
+backed_new number x none long = subst (IsInOrOut number (Some x)) (sym none) (sym long)
+
 -- a slot that is no entry's of a longer index
 off_parts : (xs : List (ℕ × ℕ)) (x : ℕ × ℕ) (j : ℕ) → AllByRecursion (λ e. e.1 ≡ j → ⊥) (xs ++ x ∷ []) → AllByRecursion (λ e. e.1 ≡ j → ⊥) xs × (x.1 ≡ j → ⊥)
 off_parts [] x j h = (tt, h.0)
@@ -51,8 +61,8 @@ off_parts (y ∷ ys) x j h = let rest = off_parts ys x j h.1 in ((h.0, rest.0), 
 
 -- a device keeps what it keeps
 pub born_kept : (old new : Space) (s t : List (Option Stored)) (xs : List (ℕ × ℕ)) (number k : ℕ) (x : Stored) → IsKept old s xs → AllByRecursion (λ e. e.0 < number) xs → get_or s k None ≡ None → get_or t k None ≡ Some x → KeepsOthers s t k
-    → IsFromOne MEMORY_MAX (length x.bytes.items) → IsSoundMark (record { block = number; pins = x.pins; ended = x.ended }) → new.base ≡ old.base → IsCanonical new → ((ts : List (ℕ × ℕ)) → IsPartition old ts → IsPartition new ((x.place, rounded (length x.bytes.items)) ∷ ts)) → IsKept new t (xs ++ (number, k) ∷ [])
-born_kept old new s t xs number k x kept above vacant is others len mark base canonical part =
+    → IsFromOne MEMORY_MAX x.len → x.len ≡ length x.bytes.items → x.loan ≡ None → IsSoundMark (record { block = number; pins = x.pins; ended = x.ended }) → new.base ≡ old.base → IsCanonical new → ((ts : List (ℕ × ℕ)) → IsPartition old ts → IsPartition new ((x.place, rounded x.len) ∷ ts)) → IsKept new t (xs ++ (number, k) ∷ [])
+born_kept old new s t xs number k x kept above vacant is others len long free mark base canonical part =
     let off = vacant_off s k xs kept.filled vacant in
     let same : AreSame s t xs = same_from s t k xs others off in
     let blocks : blocks_in t (xs ++ (number, k) ∷ []) ≡ blocks_in s xs ++ born_block number x ∷ [] = blocks-born s t xs number k x kept.filled vacant is others in
@@ -68,6 +78,9 @@ born_kept old new s t xs number k x kept above vacant is others len mark base ca
       others_empty = λ j off_all. let parts = off_parts xs (number, k) j off_all in others j (λ same. parts.1 (sym same)) ∙ kept.others_empty j parts.0;
       lens = rw blocks (AllByRecursion-append (λ (b : Block). IsFromOne MEMORY_MAX b.len) (blocks_in s xs) (born_block number x ∷ []) kept.lens (len, tt));
       marks = rw (marks-born s t xs number k x kept.filled vacant is others) (AllByRecursion-append IsSoundMark (marks_in s xs) (mark_from number (Some x) ∷ []) kept.marks (mark, tt));
+      backed = AllByRecursion-append (λ (e : ℕ × ℕ). IsBacked e.0 (slot_of t e)) xs ((number, k) ∷ [])
+          (AllByRecursion-both (λ (e : ℕ × ℕ). slot_of t e ≡ slot_of s e) (λ e. IsBacked e.0 (slot_of s e)) (λ e. IsBacked e.0 (slot_of t e)) xs (λ e q backed. subst (IsBacked e.0) (sym q) backed) same kept.backed)
+          (subst (IsBacked number) (sym is) (backed_new number x free long), tt);
       partition = rw (blocks, ranges) (partition_last new (map taken_range (blocks_in s xs)) (taken_range (born_block number x)) (part (map taken_range (blocks_in s xs)) kept.partition));
     }
 
@@ -93,8 +106,9 @@ pub born_with : (old new : Space) (s s' t : List (Option Stored)) (xs xs' ys : L
     → blocks_in t ys ≡ blocks_in s' xs' ++ record { number = births + 1; place = place; len = length bytes } ∷ []
     → memories_in t ys ≡ memories_in s' xs' ++ record { block = births + 1; bytes = bytes } ∷ []
     → marks_in t ys ≡ marks_in s' xs' ++ new_mark (births + 1) ∷ []
+    → loans_in t ys ≡ loans_in s' xs'
     → IsBornWith (device_of old s xs births room) (device_of new t ys (births + 1) left) len bytes (births + 1)
-born_with old new s s' t xs xs' ys births len place bytes room left k some slots index size long least blocks memories marks =
+born_with old new s s' t xs xs' ys births len place bytes room left k some slots index size long least blocks memories marks loans =
     let at : birth_place (device_of old s xs births room) len ≡ Some place = birth_at old (blocks_in s xs) (rounded len) place (omega arith) k.lens (shared old s xs k) (rw long at least) in
     record {
       place = place;
@@ -104,6 +118,7 @@ born_with old new s s' t xs xs' ys births len place bytes room left k some slots
       blocks = rw (long, slots, index) at blocks;
       memories = memories ∙ rw (slots, index) refl;
       marks = marks ∙ rw (slots, index) refl;
+      loans = loans ∙ rw (slots, index) refl;
       births = refl;
     }
 
@@ -113,11 +128,12 @@ pub born_of : (old new : Space) (s s' t : List (Option Stored)) (xs xs' ys : Lis
     → blocks_in t ys ≡ blocks_in s' xs' ++ record { number = births + 1; place = place; len = length bytes } ∷ []
     → memories_in t ys ≡ memories_in s' xs' ++ record { block = births + 1; bytes = bytes } ∷ []
     → marks_in t ys ≡ marks_in s' xs' ++ new_mark (births + 1) ∷ []
+    → loans_in t ys ≡ loans_in s' xs'
     → IsBorn (device_of old s xs births room) (device_of new t ys (births + 1) left) len clear (births + 1)
-born_of old new s s' t xs xs' ys births len place clear bytes room left k some slots index size filled least blocks memories marks =
+born_of old new s s' t xs xs' ys births len place clear bytes room left k some slots index size filled least blocks memories marks loans =
     let long : length bytes ≡ len = ap length filled ∙ length-replicate len (fill_byte clear) in
     subst (λ b. IsBornWith (device_of old s xs births room) (device_of new t ys (births + 1) left) len b (births + 1)) filled
-    (born_with old new s s' t xs xs' ys births len place bytes room left k some slots index size long least blocks memories marks)
+    (born_with old new s s' t xs xs' ys births len place bytes room left k some slots index size long least blocks memories marks loans)
 
 -- a length for which there is a place fits in the holes
 pub fits_there : (h : Space) (s : List (Option Stored)) (xs : List (ℕ × ℕ)) (births len : ℕ) (room : List ℕ) → IsKept h s xs → (birth_place (device_of h s xs births room) len ≡ None → ⊥) → (q : ℕ) × IsFit h.holes (rounded len) q

@@ -17,14 +17,15 @@ use Rattle.acc_dev.specs.declared.entries.Stored.{Stored}
 use Rattle.acc_dev.specs.Device.{IsRetired}
 use Rattle.acc_base.specs.Holes.{taken_range}
 use Rattle.acc_dev.specs.Marks.{without_mark, IsSoundMark}
-use Rattle.acc_dev.specs.Kept.{block_from, memory_from, mark_from, slot_of, blocks_in, memories_in, marks_in, AreRising, IsKept, IsCounted, IsEntry}
+use Rattle.acc_dev.specs.Kept.{block_from, memory_from, mark_from, slot_of, blocks_in, memories_in, marks_in, loans_in, AreRising, IsBacked, IsKept, IsCounted, IsEntry}
 use Rattle.acc_dev.proofs.Rising.{start, all-remove, apart-remove, map-remove, filter-map, remove-filter}
-use Rattle.acc_dev.proofs.Slots.{AreSame, KeepsOthers, same_from, others_off, made-removed, in_step}
+use Rattle.acc_dev.proofs.Slots.{AreSame, KeepsOthers, same_from, others_off, made-removed}
+use Rattle.acc_dev.proofs.Lent.{AreBacked, in_step}
 use Rattle.acc_dev.proofs.Keeping.{device_of}
 
 -- the addresses that a slot takes
 abbrev pub range_stored : Stored → ℕ × ℕ
-range_stored x = (x.place, rounded (length x.bytes.items))
+range_stored x = (x.place, rounded x.len)
 
 -- they stand at the place of its entry
 range_at : (s : List (Option Stored)) (xs : List (ℕ × ℕ)) (i : ℕ) (x : Stored) (d : ℕ × ℕ) → i < length xs → slot_of s (get_or xs i start) ≡ Some x → range_stored x ≡ get_or (map taken_range (blocks_in s xs)) i d
@@ -37,7 +38,7 @@ length_ranges s [] = refl
 length_ranges s (x ∷ xs) = ap suc (length_ranges s xs)
 
 -- so they are taken, and can be given back
-pub taken_stored : (h : Space) (s : List (Option Stored)) (xs : List (ℕ × ℕ)) (i : ℕ) (x : Stored) → IsKept h s xs → i < length xs → slot_of s (get_or xs i start) ≡ Some x → IsTaken h x.place (rounded (length x.bytes.items))
+pub taken_stored : (h : Space) (s : List (Option Stored)) (xs : List (ℕ × ℕ)) (i : ℕ) (x : Stored) → IsKept h s xs → i < length xs → slot_of s (get_or xs i start) ≡ Some x → IsTaken h x.place (rounded x.len)
 taken_stored h s xs i x k lt is =
     taken_at h (map taken_range (blocks_in s xs)) i (range_stored x) _ (range_at s xs i x (range_stored x) lt is) refl (omega (arith, length_ranges s xs)) k.partition
 
@@ -74,6 +75,7 @@ left_kept old new s t xs i x kept lt is others empty base canonical part =
       others_empty = λ j off. left_empty s t xs i j kept.others_empty others empty off;
       lens = rw blocks (all-remove (λ (b : Block). IsFromOne MEMORY_MAX b.len) (blocks_in s xs) i kept.lens);
       marks = rw (made-removed mark_from s t xs i same) (all-remove IsSoundMark (marks_in s xs) i kept.marks);
+      backed = AllByRecursion-both (λ (e : ℕ × ℕ). slot_of t e ≡ slot_of s e) (λ e. IsBacked e.0 (slot_of s e)) (λ e. IsBacked e.0 (slot_of t e)) (remove xs i) (λ e q backed. subst (IsBacked e.0) (sym q) backed) same (all-remove (λ (e : ℕ × ℕ). IsBacked e.0 (slot_of s e)) xs i kept.backed);
       partition = rw (blocks, map-remove taken_range (blocks_in s xs) i) (partition_without old new (map taken_range (blocks_in s xs)) i (range_stored x) _ (range_at s xs i x (range_stored x) lt is) refl (omega (arith, length_ranges s xs)) kept.partition part);
     }
 
@@ -85,10 +87,10 @@ without-removed s xs i n rise entry =
     ∙ map-remove (λ (e : ℕ × ℕ). block_from e.0 (slot_of s e)) xs i
 
 -- and their bytes
-pub kept-removed : (s : List (Option Stored)) (xs : List (ℕ × ℕ)) (i n : ℕ) → AreRising xs → IsEntry xs n i → memories_kept (remove (blocks_in s xs) i) (memories_in s xs) ≡ remove (memories_in s xs) i
-kept-removed s xs i n rise entry =
+pub kept-removed : (s : List (Option Stored)) (xs : List (ℕ × ℕ)) (i n : ℕ) → AreRising xs → AreBacked s xs → IsEntry xs n i → memories_kept (remove (blocks_in s xs) i) (memories_in s xs) ≡ remove (memories_in s xs) i
+kept-removed s xs i n rise backed entry =
     ap (λ bs. memories_kept bs (memories_in s xs)) (sym (without-removed s xs i n rise entry))
-    ∙ memories_kept-without n (memories_in s xs) (blocks_in s xs) (in_step s xs)
+    ∙ memories_kept-without (loans_in s xs) n (memories_in s xs) (blocks_in s xs) (in_step s xs rise backed)
     ∙ filter-map (λ (e : ℕ × ℕ). memory_from e.0 (slot_of s e)) (λ e. not (e.0 == n)) (λ m. not (m.block == n)) xs (λ e. refl)
     ∙ ap (map (λ (e : ℕ × ℕ). memory_from e.0 (slot_of s e))) (remove-filter xs i n rise entry.in_bounds entry.number)
     ∙ map-remove (λ (e : ℕ × ℕ). memory_from e.0 (slot_of s e)) xs i
@@ -101,14 +103,15 @@ marks-removed s xs i n rise entry =
     ∙ map-remove (λ (e : ℕ × ℕ). mark_from e.0 (slot_of s e)) xs i
 
 -- what an end leaves, as contracts see it
-pub retired_of : (old new : Space) (s t : List (Option Stored)) (xs ys : List (ℕ × ℕ)) (births i n : ℕ) (room : List ℕ) → IsKept old s xs → IsEntry xs n i → new.size ≡ old.size → blocks_in t ys ≡ remove (blocks_in s xs) i → memories_in t ys ≡ remove (memories_in s xs) i → marks_in t ys ≡ remove (marks_in s xs) i
+pub retired_of : (old new : Space) (s t : List (Option Stored)) (xs ys : List (ℕ × ℕ)) (births i n : ℕ) (room : List ℕ) → IsKept old s xs → IsEntry xs n i → new.size ≡ old.size → blocks_in t ys ≡ remove (blocks_in s xs) i → memories_in t ys ≡ remove (memories_in s xs) i → marks_in t ys ≡ remove (marks_in s xs) i → loans_in t ys ≡ loans_in s xs
     → IsRetired (device_of old s xs births room) (device_of new t ys births room) n
-retired_of old new s t xs ys births i n room k entry size blocks memories marks =
+retired_of old new s t xs ys births i n room k entry size blocks memories marks loans =
     record {
       size = size;
       blocks = blocks ∙ sym (without-removed s xs i n k.rising entry);
-      memories = memories ∙ sym (kept-removed s xs i n k.rising entry) ∙ ap (λ bs. memories_kept bs (memories_in s xs)) (sym blocks);
+      memories = memories ∙ sym (kept-removed s xs i n k.rising k.backed entry) ∙ ap (λ bs. memories_kept bs (memories_in s xs)) (sym blocks);
       marks = marks ∙ sym (marks-removed s xs i n k.rising entry);
+      loans = loans;
       births = refl;
       room = refl;
     }

@@ -1,8 +1,11 @@
 pub mod Rising
 pub mod Slots
+pub mod Lending
+pub mod Lent
 pub mod Placing
 pub mod Keeping
 pub mod Births
 pub mod Ends
 pub mod Writes
+pub mod Lends
 pub mod Ended

@@ -8,12 +8,12 @@ use Rattle.std.proofs.lemmas.List.{map-append}
 use Rattle.acc_base.specs.Records.{Memory}
 use Rattle.acc_base.specs.Blocks.{block_at}
 use Rattle.acc_base.specs.Bytes.{bytes_of, memory_changed}
-use Rattle.acc_base.specs.Accounts.{EachPair, IsMemoryOf}
+use Rattle.acc_base.specs.Accounts.{EachPair}
 use Rattle.acc_base.proofs.Elements.{AllByRecursion-weaker}
 use Rattle.acc_base.proofs.Results.{equal_self}
 use Rattle.acc_dev.specs.declared.entries.Stored.{Stored}
 use Rattle.acc_dev.specs.Marks.{Mark, mark_at, pins_at, is_ended_at, mark_changed, IsMarkOf}
-use Rattle.acc_dev.specs.Kept.{stored_place, stored_bytes, stored_pins, stored_ended, block_from, memory_from, mark_from, slot_of, blocks_in, memories_in, marks_in, AreRising, IsEntry}
+use Rattle.acc_dev.specs.Kept.{stored_place, stored_len, stored_bytes, stored_pins, stored_ended, block_from, memory_from, mark_from, slot_of, blocks_in, memories_in, marks_in, AreRising, IsEntry}
 use Rattle.acc_dev.proofs.Rising.{start, all_at, find_at, find-map, map-remove}
 
 -- the slots of these entries are as they were
@@ -83,11 +83,6 @@ pub block_at-none : (s : List (Option Stored)) (xs : List (ℕ × ℕ)) (n : ℕ
 block_at-none s xs n h =
     find-map (λ (e : ℕ × ℕ). block_from e.0 (slot_of s e)) (λ e. e.0 == n) (λ b. b.number == n) xs (λ e. refl) ∙ ap (option_map (λ (e : ℕ × ℕ). block_from e.0 (slot_of s e))) (find_none xs n h)
 
--- the memories run in step with the blocks
-pub in_step : (s : List (Option Stored)) (xs : List (ℕ × ℕ)) → AllZip IsMemoryOf (memories_in s xs) (blocks_in s xs)
-in_step s [] = tt
-in_step s (x ∷ xs) = (record { block = refl; len = refl }, in_step s xs)
-
 -- the marks run in step with the blocks
 pub marks_in_step : (s : List (Option Stored)) (xs : List (ℕ × ℕ)) → AllZip IsMarkOf (marks_in s xs) (blocks_in s xs)
 marks_in_step s [] = tt
@@ -132,7 +127,7 @@ made-kept f s t k [] others same = refl
 made-kept f s t k (x ∷ xs) others same = rw (same_made f s t k x.0 x.1 others same) (ap (λ ys. f x.0 (slot_of s x) ∷ ys) (made-kept f s t k xs others same))
 
 -- a slot of the same place and length leaves the blocks
-pub blocks_in-kept : (s t : List (Option Stored)) (k : ℕ) (xs : List (ℕ × ℕ)) → KeepsOthers s t k → stored_place (get_or t k None) ≡ stored_place (get_or s k None) → length (stored_bytes (get_or t k None)) ≡ length (stored_bytes (get_or s k None)) → blocks_in t xs ≡ blocks_in s xs
+pub blocks_in-kept : (s t : List (Option Stored)) (k : ℕ) (xs : List (ℕ × ℕ)) → KeepsOthers s t k → stored_place (get_or t k None) ≡ stored_place (get_or s k None) → stored_len (get_or t k None) ≡ stored_len (get_or s k None) → blocks_in t xs ≡ blocks_in s xs
 blocks_in-kept s t k xs others place len = made-kept block_from s t k xs others (λ n. rw (place, len))
 
 -- one of the same bytes leaves those of the blocks
@@ -144,11 +139,11 @@ pub marks_in-kept : (s t : List (Option Stored)) (k : ℕ) (xs : List (ℕ × �
 marks_in-kept s t k xs others pins ended = made-kept mark_from s t k xs others (λ n. rw (pins, ended))
 
 -- an entry is that of the slot exactly where it is that of the block
-abbrev AreTold : List (ℕ × ℕ) → ℕ → ℕ → Type 0
+abbrev pub AreTold : List (ℕ × ℕ) → ℕ → ℕ → Type 0
 AreTold xs n k = AllByRecursion (λ e. ((e.0 ≡ n) × (e.1 ≡ k)) ⊎ ((e.0 ≡ n → ⊥) × (e.1 ≡ k → ⊥))) xs
 
 -- the entries are told apart by their numbers as by their slots
-told : (xs : List (ℕ × ℕ)) (i : ℕ) → AreRising xs → EachPair (λ d e. d.1 ≡ e.1 → ⊥) xs → i < length xs → AreTold xs (get_or xs i start).0 (get_or xs i start).1
+pub told : (xs : List (ℕ × ℕ)) (i : ℕ) → AreRising xs → EachPair (λ d e. d.1 ≡ e.1 → ⊥) xs → i < length xs → AreTold xs (get_or xs i start).0 (get_or xs i start).1
 told [] i rise distinct lt = absurd (omega arith)
 told (x ∷ xs) zero rise distinct lt = (inl (refl, refl), off xs rise.0 distinct.0)
   where

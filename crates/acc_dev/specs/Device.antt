@@ -1,18 +1,23 @@
 -- What a device holds, and what its calls make of it.
-use Rattle.std.specs.Prelude.{ℕ, suc, ◌≡◌, ◌+◌, Bool, List, [], ◌∷◌, ◌++◌, length, replicate, map, take, drop, Option, Some, IsSome}
+use Rattle.std.specs.Prelude.{ℕ, suc, ◌≡◌, ◌+◌, ◌<◌, ◌≤◌, Bool, false, List, [], ◌∷◌, ◌++◌, length, replicate, map, take, drop, Option, Some, IsSome}
+use Rattle.acc_base.specs.declared.loans.Loan.{Loan}
 use Rattle.acc_base.specs.declared.mappings.Block.{Block}
 use Rattle.acc_base.specs.Records.{Memory}
 use Rattle.acc_base.specs.Blocks.{rounded, place_for, block_at, without_block}
 use Rattle.acc_base.specs.Bytes.{fill_byte, memory_changed, memories_kept}
-use Rattle.acc_base.specs.Accounts.{AreBlocksApart}
-use Rattle.acc_dev.specs.Marks.{Mark, new_mark, mark_changed, with_pin, without_pin, with_end, without_mark}
+use Rattle.acc_base.specs.Loans.{Leased, len_of, with_loan, without_loan}
+use Rattle.acc_base.specs.Accounts.{EachPair, AreBlocksApart}
+use Rattle.acc_dev.specs.Marks.{Mark, new_mark, is_ended_at, mark_changed, with_pin, without_pin, with_end, without_mark}
 
--- the size of device memory in bytes, the blocks by rising number, the bytes and the mark of each in step with them, how many blocks were ever born, and the lengths of births for which room was made, in the order of its use
+-- the size of device memory in bytes, the blocks by rising number, the bytes and the mark of each in step with them, the
+-- loans by rising block, how many blocks were ever born, and the lengths of births for which room was made, in the order
+-- of its use
 pub record DeviceState : Type 0 where
   pub size : ℕ
   pub blocks : List Block
   pub memories : List Memory
   pub marks : List Mark
+  pub loans : List Loan
   pub births : ℕ
   pub room : List ℕ
 
@@ -26,6 +31,7 @@ pub record IsNew (size : ℕ) (d : DeviceState) : Type 0 where
   pub blocks_are : d.blocks ≡ []
   pub memories_are : d.memories ≡ []
   pub marks_are : d.marks ≡ []
+  pub loans_are : d.loans ≡ []
   pub births_are : d.births ≡ 0
 
 -- the same device, but for its spare room
@@ -34,6 +40,7 @@ pub record IsUnchanged (old new : DeviceState) : Type 0 where
   pub blocks : new.blocks ≡ old.blocks
   pub memories : new.memories ≡ old.memories
   pub marks : new.marks ≡ old.marks
+  pub loans : new.loans ≡ old.loans
   pub births : new.births ≡ old.births
 
 -- ---- births
@@ -51,6 +58,7 @@ pub record IsBornWith (old new : DeviceState) (len : ℕ) (bytes : List ℕ) (bl
   pub blocks : new.blocks ≡ old.blocks ++ record { number = block; place = place; len = len } ∷ []
   pub memories : new.memories ≡ old.memories ++ record { block = block; bytes = bytes } ∷ []
   pub marks : new.marks ≡ old.marks ++ new_mark block ∷ []
+  pub loans : new.loans ≡ old.loans
   pub births : new.births ≡ block
 
 -- and its bytes are filled
@@ -78,6 +86,7 @@ pub record IsWritten (old new : DeviceState) (block offset : ℕ) (bytes : List 
   pub blocks : new.blocks ≡ old.blocks
   pub memories : new.memories ≡ map (memory_changed block (overwritten offset bytes)) old.memories
   pub marks : new.marks ≡ old.marks
+  pub loans : new.loans ≡ old.loans
   pub births : new.births ≡ old.births
   pub room : new.room ≡ old.room
 
@@ -87,6 +96,7 @@ pub record IsMarked (old new : DeviceState) (block : ℕ) (change : Mark → Mar
   pub blocks : new.blocks ≡ old.blocks
   pub memories : new.memories ≡ old.memories
   pub marks : new.marks ≡ map (mark_changed block change) old.marks
+  pub loans : new.loans ≡ old.loans
   pub births : new.births ≡ old.births
   pub room : new.room ≡ old.room
 
@@ -108,6 +118,29 @@ pub record IsRetired (old new : DeviceState) (block : ℕ) : Type 0 where
   pub blocks : new.blocks ≡ without_block block old.blocks
   pub memories : new.memories ≡ memories_kept new.blocks old.memories
   pub marks : new.marks ≡ without_mark block old.marks
+  pub loans : new.loans ≡ old.loans
+  pub births : new.births ≡ old.births
+  pub room : new.room ≡ old.room
+
+-- ---- loans
+
+-- the new device is the old one with a loan more: the bytes of its block are gone
+pub record IsTakenOut (old new : DeviceState) (loan : Loan) : Type 0 where
+  pub size : new.size ≡ old.size
+  pub blocks : new.blocks ≡ old.blocks
+  pub memories : new.memories ≡ map (memory_changed loan.block (λ bytes. [])) old.memories
+  pub marks : new.marks ≡ old.marks
+  pub loans : new.loans ≡ with_loan loan old.loans
+  pub births : new.births ≡ old.births
+  pub room : new.room ≡ old.room
+
+-- the new device is the old one with the bytes of a lease for those of its block, which is no longer lent
+pub record IsPutBack (old new : DeviceState) (lease : Leased) : Type 0 where
+  pub size : new.size ≡ old.size
+  pub blocks : new.blocks ≡ old.blocks
+  pub memories : new.memories ≡ map (memory_changed lease.block (λ bytes. lease.bytes)) old.memories
+  pub marks : new.marks ≡ old.marks
+  pub loans : new.loans ≡ without_loan lease.block old.loans
   pub births : new.births ≡ old.births
   pub room : new.room ≡ old.room
 
@@ -116,3 +149,13 @@ pub record IsRetired (old new : DeviceState) (block : ℕ) : Type 0 where
 -- its blocks lie on it and apart, in the order of their births
 abbrev pub HasBlocksApart : DeviceState → Type 0
 HasBlocksApart d = AreBlocksApart d.size d.blocks d.births
+
+-- the block of the loan is there and mapped, and the section lies in it
+pub record IsLoanOn (d : DeviceState) (l : Loan) : Type 0 where
+  pub there : HasBlock d l.block
+  pub mapped : is_ended_at l.block d.marks ≡ false
+  pub within : l.offset + l.len ≤ len_of l.block d.blocks
+
+-- loans stand by rising block, so that no block is lent twice
+abbrev pub AreLoansRising : List Loan → Type 0
+AreLoansRising loans = EachPair (λ (l : Loan) (m : Loan). l.block < m.block) loans

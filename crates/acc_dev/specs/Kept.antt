@@ -1,7 +1,8 @@
 -- How a device keeps its blocks: each in a slot of a slab, and an index of their numbers and slots. No public clause cites this module.
-use Rattle.std.specs.Prelude.{ℕ, ◌≡◌, ◌≢◌, ◌^◌, ◌<◌, ◌≤◌, ◌&&◌, if◌then◌else◌, nat_le, Bool, false, List, [], ◌∷◌, map, length, Option, Some, None, IsSome, slice_index_or}
+use Rattle.std.specs.Prelude.{ℕ, ◌≡◌, ◌≢◌, ◌+◌, ◌^◌, ◌<◌, ◌≤◌, ◌&&◌, if◌then◌else◌, nat_le, Bool, false, List, [], ◌∷◌, map, length, Option, Some, None, IsSome, slice_index_or}
 use Rattle.std.specs.List.{AllByRecursion}
 use Rattle.acc_base.specs.declared.addresses.TheConstants.{MEMORY_MAX}
+use Rattle.acc_base.specs.declared.loans.Loan.{Loan}
 use Rattle.acc_base.specs.declared.mappings.Block.{Block}
 use Rattle.acc_base.specs.declared.mappings.Ended.{Ended}
 use Rattle.acc_base.specs.Limits.{IsFromOne}
@@ -20,7 +21,12 @@ abbrev pub stored_place : Option Stored → ℕ
 stored_place None = 0
 stored_place (Some s) = s.place
 
--- the bytes that a slot has
+-- the length of the block of a slot
+abbrev pub stored_len : Option Stored → ℕ
+stored_len None = 0
+stored_len (Some s) = s.len
+
+-- the bytes that a slot has: none while its block is lent
 abbrev pub stored_bytes : Option Stored → List ℕ
 stored_bytes None = []
 stored_bytes (Some s) = s.bytes.items
@@ -35,9 +41,14 @@ abbrev pub stored_ended : Option Stored → Bool
 stored_ended None = false
 stored_ended (Some s) = s.ended
 
+-- the loan of the block of a slot, if it is lent
+abbrev pub stored_loan : Option Stored → Option Loan
+stored_loan None = None
+stored_loan (Some s) = s.loan
+
 -- the block of a number, with what its slot has
 abbrev pub block_from : ℕ → Option Stored → Block
-block_from number slot = record { number = number; place = stored_place slot; len = length (stored_bytes slot) }
+block_from number slot = record { number = number; place = stored_place slot; len = stored_len slot }
 
 -- the bytes of a number, which its slot has
 abbrev pub memory_from : ℕ → Option Stored → Memory
@@ -63,9 +74,35 @@ memories_in slots index = map (λ e. memory_from e.0 (slot_of slots e)) index
 abbrev pub marks_in : List (Option Stored) → List (ℕ × ℕ) → List Mark
 marks_in slots index = map (λ e. mark_from e.0 (slot_of slots e)) index
 
+-- loans with one before them, if there is one
+abbrev pub loan_before : Option Loan → List Loan → List Loan
+loan_before None loans = loans
+loan_before (Some l) loans = l ∷ loans
+
+-- the loans of the blocks of an index that are lent
+abbrev pub loans_in : List (Option Stored) → List (ℕ × ℕ) → List Loan
+loans_in slots [] = []
+loans_in slots (e ∷ es) = loan_before (stored_loan (slot_of slots e)) (loans_in slots es)
+
 -- the numbers of an index rise
 abbrev pub AreRising : List (ℕ × ℕ) → Type 0
 AreRising index = EachPair (λ d e. d.0 < e.0) index
+
+-- a slot that is lent has no bytes, its block is mapped, and its loan is the block's and lies in it
+pub record IsOut (number : ℕ) (slot : Option Stored) (loan : Loan) : Type 0 where
+  pub empty : stored_bytes slot ≡ []
+  pub mapped : stored_ended slot ≡ false
+  pub block : loan.block ≡ number
+  pub within : loan.offset + loan.len ≤ stored_len slot
+
+-- a slot that is not lent has as many bytes as its block is long
+abbrev pub IsInOrOut : ℕ → Option Stored → Option Loan → Type 0
+IsInOrOut number slot None = length (stored_bytes slot) ≡ stored_len slot
+IsInOrOut number slot (Some loan) = IsOut number slot loan
+
+-- what holds of the bytes and the loan of the slot of a number
+abbrev pub IsBacked : ℕ → Option Stored → Type 0
+IsBacked number slot = IsInOrOut number slot (stored_loan slot)
 
 -- each block has a slot of its own, every other slot is empty, and the blocks are what is taken of the device
 pub record IsKept (holes : Space) (slots : List (Option Stored)) (index : List (ℕ × ℕ)) : Type 0 where
@@ -77,6 +114,7 @@ pub record IsKept (holes : Space) (slots : List (Option Stored)) (index : List (
   pub others_empty : (slot : ℕ) → AllByRecursion (λ e. e.1 ≡ slot → ⊥) index → slice_index_or slots slot None ≡ None
   pub lens : AllByRecursion (λ b. IsFromOne MEMORY_MAX b.len) (blocks_in slots index)
   pub marks : AllByRecursion IsSoundMark (marks_in slots index)
+  pub backed : AllByRecursion (λ e. IsBacked e.0 (slot_of slots e)) index
   pub partition : IsPartition holes (map taken_range (blocks_in slots index))
 
 -- no number is above the births, of which there are not too many
@@ -89,13 +127,26 @@ pub record IsEntry (index : List (ℕ × ℕ)) (block at : ℕ) : Type 0 where
   pub in_bounds : at < length index
   pub number : (slice_index_or index at (0, 0)).0 ≡ block
 
--- the slot has the same place and bytes, and this mark; every other slot is as it was
+-- the slot has the same place, length, bytes and loan, and this mark; every other slot is as it was
 pub record IsRemarked (old new : Slab Stored) (slot pins : ℕ) (ended : Bool) : Type 0 where
   pub filled : IsSome (get new slot)
   pub place : stored_place (get new slot) ≡ stored_place (get old slot)
+  pub len : stored_len (get new slot) ≡ stored_len (get old slot)
   pub bytes : stored_bytes (get new slot) ≡ stored_bytes (get old slot)
+  pub loan : stored_loan (get new slot) ≡ stored_loan (get old slot)
   pub pins_are : stored_pins (get new slot) ≡ pins
   pub ended_is : stored_ended (get new slot) ≡ ended
+  pub others : (other : ℕ) → other ≢ slot → get new other ≡ get old other
+
+-- the slot has the same place, length and mark, and this loan and these bytes; every other slot is as it was
+pub record IsRelent (old new : Slab Stored) (slot : ℕ) (loan : Option Loan) (bytes : List ℕ) : Type 0 where
+  pub filled : IsSome (get new slot)
+  pub place : stored_place (get new slot) ≡ stored_place (get old slot)
+  pub len : stored_len (get new slot) ≡ stored_len (get old slot)
+  pub pins : stored_pins (get new slot) ≡ stored_pins (get old slot)
+  pub ended : stored_ended (get new slot) ≡ stored_ended (get old slot)
+  pub loan_is : stored_loan (get new slot) ≡ loan
+  pub bytes_are : stored_bytes (get new slot) ≡ bytes
   pub others : (other : ℕ) → other ≢ slot → get new other ≡ get old other
 
 -- ---- blocks that have ended
@@ -104,7 +155,7 @@ pub record IsRemarked (old new : Slab Stored) (slot pins : ℕ) (ended : Bool) :
 abbrev pub told_of : ℕ → Option Stored → Option Ended
 told_of from slot =
     if stored_ended slot && nat_le from (stored_place slot)
-    then Some (record { place = stored_place slot; size = rounded (length (stored_bytes slot)); pins = stored_pins slot })
+    then Some (record { place = stored_place slot; size = rounded (stored_len slot); pins = stored_pins slot })
     else None
 
 -- the one of two that lies lower, of which each may be missing

@@ -1,6 +1,6 @@
 //! Device memory as one value.
 
-ghost use Rattle.std.specs.Prelude.{◌≡◌, ◌+◌, ◌^◌, ◌<◌, ◌≤◌, ◌⊎◌, ◌↔◌, ◌++◌, length, map, drop, [], replicate, vec_capacity, All, IfOk, IfErr, OnOk, OnErr, IsSomeAnd, IfSome, IsTrue, Err, None, Some, true, false};
+ghost use Rattle.std.specs.Prelude.{◌≡◌, ◌+◌, ◌^◌, ◌<◌, ◌≤◌, ◌⊎◌, ◌↔◌, ◌++◌, length, map, drop, [], replicate, vec_capacity, All, IfOk, IfErr, OnOk, OnErr, IsOk, IsErr, IsSome, IsSomeAnd, IfSome, IsTrue, Err, None, Some, true, false};
 ghost use Rattle.std.specs.List.{AllZip, AllByRecursion};
 ghost use Rattle.std.specs.Bool.{OnTrue, OnFalse};
 ghost use Rattle.acc_base.specs.Limits.{IsSize, IsFromOne};
@@ -9,14 +9,17 @@ ghost use Rattle.acc_base.specs.Blocks.{rounded as rounded_of, place_for, block_
 ghost use Rattle.acc_base.specs.Holes.{IsDevice};
 ghost use Rattle.acc_base.specs.Bytes.{bytes_of, fill_byte};
 ghost use Rattle.acc_base.specs.Accounts.{IsMemoryOf};
+ghost use Rattle.acc_base.specs.Loans.{loan_of, is_lent, len_of, is_returnable};
 ghost use Rattle.acc_placement.specs.Ranges.{IsTakeBelow};
 ghost use Rattle.acc_dev.specs.Marks.{Mark, pins_at, is_ended_at, lowest_ended as lowest_ended_of, IsMarkOf, IsSoundMark};
-ghost use Rattle.acc_dev.specs.Device.{HasBlock, IsNew, IsUnchanged, IsBorn, IsBornWith, IsNextRoom, IsWritten, IsMarked, IsPinned, IsUnpinned, IsEnded, IsRetired, HasBlocksApart, birth_place, planned_blocks};
+ghost use Rattle.acc_dev.specs.Device.{HasBlock, IsNew, IsUnchanged, IsBorn, IsBornWith, IsNextRoom, IsWritten, IsMarked, IsPinned, IsUnpinned, IsEnded, IsRetired, IsTakenOut, IsPutBack, IsLoanOn, AreLoansRising, HasBlocksApart, birth_place, planned_blocks};
 
 use crate::entries::{
-    Stored, lowest_ended, make_room, position_of, put, set_mark, take_out, write_at,
+    Stored, is_loan_at, lend_at, loan_at, lowest_ended, make_room, position_of, put, remove_at,
+    restore_at, set_mark, write_at,
 };
-use acc_base::{DEVICE_BASE, Ended, Fault, MEMORY_MAX};
+use acc_base::{DEVICE_BASE, Ended, Fault, Loan, MEMORY_MAX};
+use acc_lend::Lease;
 use acc_placement::{Holes, rounded};
 use slab::Slab;
 use std::alloc::Global;
@@ -30,17 +33,21 @@ const FILL_BYTE: u8 = 0xa5;
 ///
 /// Blocks are numbered from 1 in the order of their births, and no number is used twice. Places are device addresses
 /// from [`DEVICE_BASE`] on. Contracts see the size of the memory in bytes, the blocks by rising number, the bytes of
-/// each, what keeps each, and how many blocks were ever born.
+/// each, what keeps each, the loans by rising block, and how many blocks were ever born.
 ///
 /// A block is kept by its mapping, which [`Device::retire`] ends, and by each queued transfer that names it, which
-/// [`Device::pin`] and [`Device::unpin`] count (OpenACC 3.3, section 2.16, asynchronous behavior). The one of these calls
-/// that takes away the last thing that keeps it gives it back.
+/// [`Device::pin`] and [`Device::unpin`] count (OpenACC 3.3, section 2.16, asynchronous behavior). The one of these
+/// calls that takes away the last thing that keeps it gives it back.
+///
+/// A mapped block can be lent: [`Device::take_out`] moves its bytes into a lease, and [`Device::put_back`] moves them
+/// back (OpenACC 3.3, section 2.5, compute constructs). In between the block stays where it is and has no bytes here.
 ///
 /// A number finds its block by a binary search. [`Device::born`] adds a block at the end of the index. Where
 /// [`Device::retire`] or [`Device::unpin`] gives its block back, it moves the entries behind that of the block, of 16
-/// bytes each, by one place; else it costs the search alone, as [`Device::pin`] does. Beside that a birth and a block
-/// that is given back cost what the placement costs for its list of holes, and a birth the writing of its bytes; where
-/// there is no room for one block more, it also moves the lists that grow. [`Device::ended`] looks at each block once.
+/// bytes each, by one place; else it costs the search alone, as [`Device::pin`], [`Device::take_out`] and
+/// [`Device::put_back`] do. Beside that a birth and a block that is given back cost what the placement costs for its
+/// list of holes, and a birth the writing of its bytes; where there is no room for one block more, it also moves the
+/// lists that grow. [`Device::ended`] looks at each block once.
 #[derive(Drop)]
 pub struct Device {
     alloc: Global,
@@ -55,7 +62,7 @@ pub struct Device {
 
 impl Model for Device {
     ghost use Rattle.acc_dev.specs.Device.{DeviceState};
-    ghost use Rattle.acc_dev.specs.Kept.{blocks_in, memories_in, marks_in, IsKept, IsCounted};
+    ghost use Rattle.acc_dev.specs.Kept.{blocks_in, memories_in, marks_in, loans_in, IsKept, IsCounted};
     ghost use Rattle.acc_dev.specs.Room.{room_of, HasRoom};
 
     ghost Value = { DeviceState };
@@ -65,6 +72,7 @@ impl Model for Device {
       blocks = blocks_in d.slab.slots d.index.items;
       memories = memories_in d.slab.slots d.index.items;
       marks = marks_in d.slab.slots d.index.items;
+      loans = loans_in d.slab.slots d.index.items;
       births = d.births;
       room = room_of d;
     } };
@@ -102,8 +110,8 @@ impl Device {
     /// # Errors
     ///
     /// [`Fault::DeviceFull`] with item 0 and the rounded length, exactly where it fits nowhere. Else only
-    /// [`Fault::Memory`], where there is no memory for its bytes, or room for one block more was missing and could not be
-    /// made. The device is then as before, but for its spare room.
+    /// [`Fault::Memory`], where there is no memory for its bytes, or room for one block more was missing and could not
+    /// be made. The device is then as before, but for its spare room.
     pub fn born(&mut self, len: u64, zero: bool) -> Result<u64, Fault>
         requires len { IsFromOne MEMORY_MAX len }
         requires births { self.old.births < 2 ^ 48 }
@@ -160,8 +168,8 @@ impl Device {
         make_vectors(&mut self.ready, self.alloc, lens)
     }
 
-    /// Makes a block as [`Device::born`] does, where room for a birth of this length was made by [`Device::reserve`] and
-    /// is the next. It needs no memory and is never refused: the length fits on the device.
+    /// Makes a block as [`Device::born`] does, where room for a birth of this length was made by [`Device::reserve`]
+    /// and is the next. It needs no memory and is never refused: the length fits on the device.
     ///
     /// Fewer than 2^48 blocks were born before.
     pub fn born_reserved(&mut self, len: u64, zero: bool) -> u64
@@ -219,8 +227,8 @@ impl Device {
     }
 
     /// Where [`Device::born`] would place a block of `len` bytes after births at the listed places and of the listed
-    /// lengths: the least device address at which the rounded length fits beside them all. `None` exactly where there is
-    /// none. It needs no memory.
+    /// lengths: the least device address at which the rounded length fits beside them all. `None` exactly where there
+    /// is none. It needs no memory.
     ///
     /// Each listed length is from 1 to 67,108,864, and each listed block ends on the device.
     pub fn would_take(&self, listed: &[(u64, u64)], len: u64) -> Option<u64>
@@ -254,22 +262,28 @@ impl Device {
         let Some(stored) = self.stored(block) else {
             unreachable!()
         };
-        (stored.place, rounded(stored.bytes.len() as u64))
+        (stored.place, rounded(stored.len))
     }
 
-    /// The bytes of a block of the device, as many as it is long. They are always there: `None` is for blocks that are
-    /// out on loan, which no block is yet.
+    /// The bytes of a block of the device, as many as it is long; `None` exactly while the block is lent.
     pub fn bytes(&self, block: u64) -> Option<&[u8]>
         requires { HasBlock self.now block }
-        ensures bytes { IsSomeAnd result (λ bytes. bytes.now ≡ bytes_of block self.now.memories) }
+        ensures there { IsSome result ↔ (is_lent block self.now.loans ≡ false) }
+        ensures bytes { IfSome result (λ bytes. bytes.now ≡ bytes_of block self.now.memories) }
         ensures len { IfSome result (λ bytes. IsSomeAnd (block_at block self.now.blocks) (λ b. length bytes.now ≡ b.len)) }
     {
-        Some(&self.stored(block)?.bytes)
+        let stored = self.stored(block)?;
+        if stored.loan.is_some() {
+            return None;
+        }
+        Some(&stored.bytes)
     }
 
-    /// Writes bytes into a block of the device, from an offset in bytes on. They end within the block.
+    /// Writes bytes into a block of the device, which is not lent, from an offset in bytes on. They end within the
+    /// block.
     pub fn write(&mut self, block: u64, offset: u64, bytes: &[u8])
         requires there { HasBlock self.old block }
+        requires free { is_lent block self.old.loans ≡ false }
         requires in_range { offset + length bytes.now ≤ length (bytes_of block self.old.memories) }
         ensures { IsWritten self.old self.new block offset bytes.now }
     {
@@ -280,8 +294,8 @@ impl Device {
         write_at(&mut self.slab, slot, offset as usize, bytes);
     }
 
-    /// Says that one more queued transfer names a block of the device, which is kept as long as one does. Fewer than 2^32
-    /// transfers named it before (OpenACC 3.3, section 2.16, asynchronous behavior).
+    /// Says that one more queued transfer names a block of the device, which is kept as long as one does. Fewer than
+    /// 2^32 transfers named it before (OpenACC 3.3, section 2.16, asynchronous behavior).
     pub fn pin(&mut self, block: u64)
         requires there { HasBlock self.old block }
         requires few { pins_at block self.old.marks < 2 ^ 32 }
@@ -291,9 +305,9 @@ impl Device {
         self.mark(block, pins + 1, ended);
     }
 
-    /// Says that one queued transfer fewer names a block of the device. Where it was the last one and the mapping of the
-    /// block has ended, the block is given back: its addresses are free again, and its bytes are gone. It answers whether
-    /// that is so.
+    /// Says that one queued transfer fewer names a block of the device. Where it was the last one and the mapping of
+    /// the block has ended, the block is given back: its addresses are free again, and its bytes are gone. It answers
+    /// whether that is so.
     pub fn unpin(&mut self, block: u64) -> bool
         requires there { HasBlock self.old block }
         requires pinned { 0 < pins_at block self.old.marks }
@@ -310,12 +324,14 @@ impl Device {
         false
     }
 
-    /// Ends the mapping of a block of the device. Where no queued transfer names the block it is given back: its addresses
-    /// are free again, and its bytes are gone. Else it is kept with its bytes, and [`Device::unpin`] gives it back. This
-    /// answers whether the block was given back, needs no memory and is never refused.
+    /// Ends the mapping of a block of the device, which is not lent. Where no queued transfer names the block it is
+    /// given back: its addresses are free again, and its bytes are gone. Else it is kept with its bytes, and
+    /// [`Device::unpin`] gives it back. This answers whether the block was given back, needs no memory and is never
+    /// refused.
     pub fn retire(&mut self, block: u64) -> bool
         requires there { HasBlock self.old block }
         requires mapped { is_ended_at block self.old.marks ≡ false }
+        requires free { is_lent block self.old.loans ≡ false }
         ensures given_back { IsTrue result ↔ (pins_at block self.old.marks ≡ 0) }
         ensures retired { OnTrue result (IsRetired self.old self.new block) }
         ensures kept { OnFalse result (IsEnded self.old self.new block) }
@@ -327,6 +343,90 @@ impl Device {
         }
         self.mark(block, pins, true);
         false
+    }
+
+    /// Moves the bytes of a block of the device, which is mapped, into a lease of `len` bytes of it from place `offset`
+    /// on, which end within the block. The block stays where it is and is lent until [`Device::put_back`] takes the
+    /// lease. No byte is copied, and no memory is needed (OpenACC 3.3, sections 2.5, compute constructs, and 2.6, data
+    /// environment).
+    ///
+    /// # Errors
+    ///
+    /// [`Fault::Lent`] with the number of the block, exactly where it is lent already. The device is then as before.
+    pub fn take_out(
+        &mut self,
+        block: u64,
+        serial: u64,
+        offset: u64,
+        len: u64,
+    ) -> Result<Lease, Fault>
+        requires there { HasBlock self.old block }
+        requires mapped { is_ended_at block self.old.marks ≡ false }
+        requires within { offset + len ≤ len_of block self.old.blocks }
+        ensures lent { IsErr result ↔ (is_lent block self.old.loans ≡ true) }
+        ensures only { IfErr result (λ fault. fault ≡ Fault.Lent block) }
+        ensures lease { IfOk result (λ lease. lease ≡ record { serial = serial; block = block; offset = offset; len = len; bytes = bytes_of block self.old.memories }) }
+        ensures out { OnOk result (IsTakenOut self.old self.new (record { serial = serial; block = block; offset = offset; len = len })) }
+        ensures same { OnErr result (self.new ≡ self.old) }
+    {
+        let Some(at) = position_of(&self.index, block) else {
+            unreachable!()
+        };
+        let slot = self.index[at].1;
+        if loan_at(&self.slab, slot).is_some() {
+            return Err(Fault::Lent { block });
+        }
+        let loan = Loan {
+            serial,
+            block,
+            offset,
+            len,
+        };
+        Ok(lend_at(&mut self.slab, slot, self.alloc, loan))
+    }
+
+    /// Moves the bytes of a lease back into its block, which is no longer lent. No byte is copied, and no memory is
+    /// needed.
+    ///
+    /// # Errors
+    ///
+    /// [`Fault::NoLease`] with the lease's serial number, and the lease itself, exactly where the device has no loan of
+    /// this serial number, block, place and length of the section, or the lease has not as many bytes as the block is
+    /// long. The device is then as before.
+    pub fn put_back(&mut self, lease: Lease) -> Result<(), (Lease, Fault)>
+        ensures fits { IsOk result ↔ (is_returnable lease self.old.blocks self.old.loans ≡ true) }
+        ensures back { IfErr result (λ back. (back.0 ≡ lease) × (back.1 ≡ Fault.NoLease lease.serial)) }
+        ensures put { OnOk result (IsPutBack self.old self.new lease) }
+        ensures same { OnErr result (self.new ≡ self.old) }
+    {
+        let serial = lease.serial();
+        let Some(at) = position_of(&self.index, lease.block()) else {
+            return Err((lease, Fault::NoLease { serial }));
+        };
+        let slot = self.index[at].1;
+        if !is_loan_at(&self.slab, slot, &lease) {
+            return Err((lease, Fault::NoLease { serial }));
+        }
+        restore_at(&mut self.slab, slot, lease.into_block());
+        Ok(())
+    }
+
+    /// The loan of a block of the device; `None` exactly where it is not lent.
+    pub fn loan(&self, block: u64) -> Option<Loan>
+        requires { HasBlock self.now block }
+        ensures { result ≡ loan_of block self.now.loans }
+    {
+        self.stored(block)?.loan
+    }
+
+    /// Whether [`Device::put_back`] takes a lease. It needs no memory.
+    pub fn is_returnable(&self, lease: &Lease) -> bool
+        ensures { result ≡ is_returnable lease.now self.now.blocks self.now.loans }
+    {
+        match position_of(&self.index, lease.block()) {
+            Some(at) => is_loan_at(&self.slab, self.index[at].1, lease),
+            None => false,
+        }
     }
 
     /// How many queued transfers name a block of the device, at most 2^32.
@@ -346,8 +446,8 @@ impl Device {
         self.mark_of(block).1
     }
 
-    /// Of the blocks whose mapping has ended, the one of least place at or above the device address `from`; `None` where
-    /// there is none. It needs no memory.
+    /// Of the blocks whose mapping has ended, the one of least place at or above the device address `from`; `None`
+    /// where there is none. It needs no memory.
     pub fn ended(&self, from: u64) -> Option<Ended>
         ensures { result ≡ lowest_ended_of from self.now.marks self.now.blocks }
     {
@@ -362,15 +462,18 @@ impl Device {
     }
 
     /// What holds of every device: its blocks lie on it and apart, by rising number; each has a memory of its length,
-    /// from 1 to 67,108,864 bytes; at most 2^32 queued transfers name it, and one at least where its mapping has ended;
-    /// they take no more bytes than there are; and with the holes between them they are the device, with no address in
-    /// two of them. Nothing is done.
+    /// from 1 to 67,108,864 bytes, unless it is lent; at most 2^32 queued transfers name it, and one at least where its
+    /// mapping has ended; no block is lent twice, each that is lent is there and mapped, and the section lies in it;
+    /// the blocks take no more bytes than there are; and with the holes between them they are the device, with no
+    /// address in two of them. Nothing is done.
     pub fn laws(&self)
         ensures size { IsSize self.now.size }
         ensures blocks_apart { HasBlocksApart self.now }
-        ensures memories { AllZip IsMemoryOf self.now.memories self.now.blocks }
+        ensures memories { AllZip (IsMemoryOf self.now.loans) self.now.memories self.now.blocks }
         ensures marks { AllZip IsMarkOf self.now.marks self.now.blocks }
         ensures held { AllByRecursion IsSoundMark self.now.marks }
+        ensures loans_rise { AreLoansRising self.now.loans }
+        ensures loans { AllByRecursion (IsLoanOn self.now) self.now.loans }
         ensures lens { AllByRecursion (λ b. IsFromOne MEMORY_MAX b.len) self.now.blocks }
         ensures bytes_accounted { used_bytes self.now.blocks ≤ self.now.size }
         ensures holes { IsDevice self.now.size self.now.blocks }
@@ -379,23 +482,26 @@ impl Device {
         let _ = &self.births;
     }
 
-    /// Takes a block of the device away: its addresses are free again, and its bytes are gone.
+    /// Takes a block of the device, which is not lent, away: its addresses are free again, and its bytes are gone.
     fn give_back(&mut self, block: u64)
-        requires { HasBlock self.old block }
+        requires there { HasBlock self.old block }
+        requires free { is_lent block self.old.loans ≡ false }
         ensures { IsRetired self.old self.new block }
     {
         let Some(at) = position_of(&self.index, block) else {
             unreachable!()
         };
-        take_out(&mut self.holes, &mut self.slab, &mut self.index, at);
+        remove_at(&mut self.holes, &mut self.slab, &mut self.index, at);
     }
 
-    /// How many queued transfers name a block of the device, and whether its mapping has ended.
+    /// How many queued transfers name a block of the device, and whether its mapping has ended, as that of no lent
+    /// block has.
     fn mark_of(&self, block: u64) -> (u64, bool)
         requires { HasBlock self.now block }
         ensures pins { result.0 ≡ pins_at block self.now.marks }
         ensures few { result.0 ≤ 2 ^ 32 }
         ensures ended { result.1 ≡ is_ended_at block self.now.marks }
+        ensures free { result.1 ≡ true → is_lent block self.now.loans ≡ false }
     {
         let Some(stored) = self.stored(block) else {
             unreachable!()
@@ -408,6 +514,7 @@ impl Device {
         requires there { HasBlock self.old block }
         requires few { pins ≤ 2 ^ 32 }
         requires held { ended ≡ true → 0 < pins }
+        requires free { ended ≡ true → is_lent block self.old.loans ≡ false }
         ensures { (change : Mark → Mark) → change (record { block = block; pins = pins_at block self.old.marks; ended = is_ended_at block self.old.marks }) ≡ record { block = block; pins = pins; ended = ended } → IsMarked self.old self.new block change }
     {
         let Some(at) = position_of(&self.index, block) else {
@@ -420,12 +527,15 @@ impl Device {
     /// What the slot of a block of the device has: there is always something.
     fn stored(&self, block: u64) -> Option<&Stored>
         requires { HasBlock self.now block }
-        ensures block { IsSomeAnd result (λ stored. block_at block self.now.blocks ≡ Some (record { number = block; place = stored.now.place; len = length stored.now.bytes.items })) }
+        ensures block { IsSomeAnd result (λ stored. block_at block self.now.blocks ≡ Some (record { number = block; place = stored.now.place; len = stored.now.len })) }
         ensures bytes { IfSome result (λ stored. stored.now.bytes.items ≡ bytes_of block self.now.memories) }
-        ensures len { IfSome result (λ stored. IsFromOne MEMORY_MAX (length stored.now.bytes.items)) }
+        ensures long { IfSome result (λ stored. is_lent block self.now.loans ≡ false → length stored.now.bytes.items ≡ stored.now.len) }
+        ensures len { IfSome result (λ stored. IsFromOne MEMORY_MAX stored.now.len) }
         ensures pins { IfSome result (λ stored. stored.now.pins ≡ pins_at block self.now.marks) }
         ensures few { IfSome result (λ stored. stored.now.pins ≤ 2 ^ 32) }
         ensures ended { IfSome result (λ stored. stored.now.ended ≡ is_ended_at block self.now.marks) }
+        ensures loan { IfSome result (λ stored. stored.now.loan ≡ loan_of block self.now.loans) }
+        ensures free { IfSome result (λ stored. stored.now.ended ≡ true → is_lent block self.now.loans ≡ false) }
     {
         let at = position_of(&self.index, block)?;
         self.slab.get(self.index[at].1)

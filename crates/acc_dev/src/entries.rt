@@ -1,31 +1,39 @@
 //! The slots of blocks, and the index by which a number finds its slot.
 
-ghost use Rattle.std.specs.Prelude.{◌≡◌, ℕ, ◌+◌, ◌^◌, ◌<◌, ◌≤◌, ◌≢◌, List, [], ◌∷◌, ◌++◌, length, IfSome, IfNone, IfErr, OnOk, IsOk, IsSome, Some, vec_len, vec_capacity};
+ghost use Rattle.std.specs.Prelude.{◌≡◌, ℕ, ◌+◌, ◌^◌, ◌<◌, ◌≤◌, ◌≢◌, List, [], ◌∷◌, ◌++◌, ◌&&◌, ◌==◌, length, IfSome, IfNone, IfErr, OnOk, IsOk, IsSome, Some, None, slice_index_or, vec_len, vec_capacity};
 ghost use Rattle.std.specs.List.{AllByRecursion, remove};
 ghost use Rattle.slab.specs.Slab.{get, slab_len, HasRoomFor};
 ghost use Rattle.acc_base.specs.Limits.{IsFromOne};
 ghost use Rattle.acc_base.specs.Blocks.{rounded as rounded_of};
+ghost use Rattle.acc_base.specs.Loans.{is_loan_of};
 ghost use Rattle.acc_placement.specs.Ranges.{IsFit, IsLeastFit};
 ghost use Rattle.acc_placement.specs.Space.{IsSameSpace};
 ghost use Rattle.acc_dev.specs.Device.{overwritten};
 ghost use Rattle.acc_dev.specs.Marks.{new_mark};
-ghost use Rattle.acc_dev.specs.Kept.{stored_place, stored_bytes, stored_pins, stored_ended, blocks_in, memories_in, marks_in, lower_of as lower_one, lowest_told, told_of, AreRising, IsEntry, IsKept, IsRemarked};
+ghost use Rattle.acc_dev.specs.Kept.{stored_place, stored_len, stored_bytes, stored_pins, stored_ended, stored_loan, slot_of, blocks_in, memories_in, marks_in, loans_in, lower_of as lower_one, lowest_told, told_of, AreRising, IsEntry, IsKept, IsRemarked, IsRelent};
 
-use acc_base::{Ended, Fault, MEMORY_MAX};
+use acc_base::{Ended, Fault, Loan, MEMORY_MAX};
+use acc_lend::Lease;
 use acc_placement::{Holes, rounded};
 use slab::Slab;
+use std::alloc::Global;
+use std::mem;
 
 /// What a block has, in a slot of its own.
 #[derive(Drop)]
 pub struct Stored {
     /// The device address of the first byte.
     pub place: u64,
-    /// The bytes.
+    /// The length in bytes.
+    pub len: u64,
+    /// The bytes: as many as the length says, or none while the block is lent.
     pub bytes: Vec<u8>,
     /// How many queued transfers name the block.
     pub pins: u64,
     /// Its mapping has ended.
     pub ended: bool,
+    /// The loan, where the block is lent.
+    pub loan: Option<Loan>,
 }
 
 /// The place in the index of a block's entry.
@@ -87,25 +95,29 @@ pub fn put(
     ensures blocks { blocks_in slab.new.slots index.new.items ≡ blocks_in slab.old.slots index.old.items ++ record { number = number; place = result; len = length bytes.items } ∷ [] }
     ensures memories { memories_in slab.new.slots index.new.items ≡ memories_in slab.old.slots index.old.items ++ record { block = number; bytes = bytes.items } ∷ [] }
     ensures marks { marks_in slab.new.slots index.new.items ≡ marks_in slab.old.slots index.old.items ++ new_mark number ∷ [] }
+    ensures loans { loans_in slab.new.slots index.new.items ≡ loans_in slab.old.slots index.old.items }
     ensures spare { holes.old.spare ≤ holes.new.spare + 1 }
     ensures slots { slab_len slab.new ≡ slab_len slab.old + 1 }
     ensures slab_capacity { slab.new.capacity ≡ slab.old.capacity }
     ensures capacity { vec_capacity index.new ≡ vec_capacity index.old }
     ensures entries { vec_len index.new ≡ vec_len index.old + 1 }
 {
-    let place = holes.take_reserved(bytes.len() as u64);
+    let len = bytes.len() as u64;
+    let place = holes.take_reserved(len);
     let slot = slab.insert_reserved(Stored {
         place,
+        len,
         bytes,
         pins: 0,
         ended: false,
+        loan: None,
     });
     index.push_reserved((number, slot));
     place
 }
 
-/// Takes out the block whose entry is at a place of the index, and gives its addresses back.
-pub fn take_out(
+/// Takes away the block, which is not lent, whose entry is at a place of the index, and gives its addresses back.
+pub fn remove_at(
     holes: &mut Holes,
     slab: &mut Slab<Stored>,
     index: &mut Vec<(u64, usize)>,
@@ -113,12 +125,14 @@ pub fn take_out(
 )
     requires kept { IsKept holes.old slab.old.slots index.old.items }
     requires in_bounds { at < length index.old.items }
+    requires free { stored_loan (slot_of slab.old.slots (slice_index_or index.old.items at (0, 0))) ≡ None }
     ensures size { holes.new.size ≡ holes.old.size }
     ensures kept { IsKept holes.new slab.new.slots index.new.items }
     ensures index { index.new.items ≡ remove index.old.items at }
     ensures blocks { blocks_in slab.new.slots index.new.items ≡ remove (blocks_in slab.old.slots index.old.items) at }
     ensures memories { memories_in slab.new.slots index.new.items ≡ remove (memories_in slab.old.slots index.old.items) at }
     ensures marks { marks_in slab.new.slots index.new.items ≡ remove (marks_in slab.old.slots index.old.items) at }
+    ensures loans { loans_in slab.new.slots index.new.items ≡ loans_in slab.old.slots index.old.items }
     ensures spare { holes.old.spare ≤ holes.new.spare }
     ensures slots { slab_len slab.new ≤ slab_len slab.old }
     ensures slab_capacity { slab.new.capacity ≡ slab.old.capacity }
@@ -126,8 +140,8 @@ pub fn take_out(
     ensures entries { vec_len index.new ≤ vec_len index.old }
 {
     let (_, slot) = index.remove(at);
-    let Stored { place, bytes, .. } = slab.remove(slot);
-    holes.give_back(place, bytes.len() as u64);
+    let Stored { place, len, .. } = slab.remove(slot);
+    holes.give_back(place, len);
 }
 
 /// Writes bytes into those of a slot, from an offset on.
@@ -136,9 +150,11 @@ pub fn write_at(slab: &mut Slab<Stored>, slot: usize, offset: usize, bytes: &[u8
     requires in_range { offset + length bytes.now ≤ length (stored_bytes (get slab.old slot)) }
     ensures filled { IsSome (get slab.new slot) }
     ensures place { stored_place (get slab.new slot) ≡ stored_place (get slab.old slot) }
+    ensures len { stored_len (get slab.new slot) ≡ stored_len (get slab.old slot) }
     ensures bytes { stored_bytes (get slab.new slot) ≡ overwritten offset bytes.now (stored_bytes (get slab.old slot)) }
     ensures pins { stored_pins (get slab.new slot) ≡ stored_pins (get slab.old slot) }
     ensures ended { stored_ended (get slab.new slot) ≡ stored_ended (get slab.old slot) }
+    ensures loan { stored_loan (get slab.new slot) ≡ stored_loan (get slab.old slot) }
     ensures others { (other : ℕ) → other ≢ slot → get slab.new other ≡ get slab.old other }
     ensures slots { slab_len slab.new ≡ slab_len slab.old }
     ensures capacity { slab.new.capacity ≡ slab.old.capacity }
@@ -169,16 +185,77 @@ pub fn set_mark(slab: &mut Slab<Stored>, slot: usize, pins: u64, ended: bool)
     }
 }
 
+/// The loan of the block of a slot, where it is lent.
+pub fn loan_at(slab: &Slab<Stored>, slot: usize) -> Option<Loan>
+    ensures { result ≡ stored_loan (get slab.now slot) }
+{
+    slab.get(slot)?.loan
+}
+
+/// Whether a lease brings the block of a slot back: the slot is lent under the lease's serial number, for the same
+/// section, and its block is as long as the lease has bytes.
+pub fn is_loan_at(slab: &Slab<Stored>, slot: usize, lease: &Lease) -> bool
+    ensures { result ≡ (is_loan_of lease.now (stored_loan (get slab.now slot)) && stored_len (get slab.now slot) == length lease.now.bytes) }
+{
+    let Some(stored) = slab.get(slot) else {
+        return false;
+    };
+    let Some(loan) = stored.loan else {
+        return false;
+    };
+    loan.serial == lease.serial()
+        && loan.offset == lease.offset() as u64
+        && loan.len == lease.len() as u64
+        && stored.len == lease.block_bytes().len() as u64
+}
+
+/// Moves the bytes of a slot into a lease of this loan, and leaves none.
+pub fn lend_at(slab: &mut Slab<Stored>, slot: usize, alloc: Global, loan: Loan) -> Lease
+    requires filled { IsSome (get slab.old slot) }
+    requires within { loan.offset + loan.len ≤ length (stored_bytes (get slab.old slot)) }
+    requires capped { length (stored_bytes (get slab.old slot)) ≤ MEMORY_MAX }
+    ensures lease { result ≡ record { serial = loan.serial; block = loan.block; offset = loan.offset; len = loan.len; bytes = stored_bytes (get slab.old slot) } }
+    ensures lent { IsRelent slab.old slab.new slot (Some loan) [] }
+    ensures slots { slab_len slab.new ≡ slab_len slab.old }
+    ensures capacity { slab.new.capacity ≡ slab.old.capacity }
+{
+    let Some(stored) = slab.get_mut(slot) else {
+        unreachable!()
+    };
+    stored.loan = Some(loan);
+    let bytes = mem::replace(&mut stored.bytes, Vec::new(alloc));
+    Lease::of(
+        loan.serial,
+        loan.block,
+        loan.offset as usize,
+        loan.len as usize,
+        bytes,
+    )
+}
+
+/// Ends the loan of a slot, which has these bytes from now on.
+pub fn restore_at(slab: &mut Slab<Stored>, slot: usize, bytes: Vec<u8>)
+    requires { IsSome (get slab.old slot) }
+    ensures restored { IsRelent slab.old slab.new slot None bytes.items }
+    ensures slots { slab_len slab.new ≡ slab_len slab.old }
+    ensures capacity { slab.new.capacity ≡ slab.old.capacity }
+{
+    if let Some(stored) = slab.get_mut(slot) {
+        stored.bytes = bytes;
+        stored.loan = None;
+    }
+}
+
 /// The block of a slot, where it has ended and lies at or above the device address `from`.
 fn told_at(slab: &Slab<Stored>, slot: usize, from: u64) -> Option<Ended>
-    requires { length (stored_bytes (get slab.now slot)) ≤ MEMORY_MAX }
+    requires { stored_len (get slab.now slot) ≤ MEMORY_MAX }
     ensures { result ≡ told_of from (get slab.now slot) }
 {
     let stored = slab.get(slot)?;
     if stored.ended && from <= stored.place {
         return Some(Ended {
             place: stored.place,
-            size: rounded(stored.bytes.len() as u64),
+            size: rounded(stored.len),
             pins: stored.pins,
         });
     }

@@ -5,7 +5,9 @@ ghost use Rattle.acc_base.specs.Limits.{IsFromOne};
 ghost use Rattle.acc_dev.specs.Device.{birth_place};
 
 use crate::Device;
-use acc_base::{DEVICE_BASE, Ended, Fault, MEMORY_MAX};
+use acc_base::{DEVICE_BASE, Ended, Fault, Loan, MEMORY_MAX};
+use acc_lend::{Lease, Number, run_one};
+use std::alloc::{AllocError, Global};
 use std::process::Abort;
 use std::test::Fail;
 
@@ -35,6 +37,10 @@ enum Turn {
     Retires(u64, bool),
     /// The place, the size and the pins of the lowest block that has ended, from an address on.
     Ended(u64, Option<(u64, u64, u64)>),
+    /// The serial number, the place and the length of the loan of a block, or `None` where it is not lent.
+    Loan(u64, Option<(u64, u64, u64)>),
+    /// A block has no bytes here, and cannot be lent once more.
+    Out(u64),
 }
 
 /// A device of 64 bytes: its blocks are filled, lie where they fit first, and come back.
@@ -100,6 +106,49 @@ const PINS: &[Turn] = &[
     Turn::Ended(0, None),
 ];
 
+/// A device of 64 bytes, with a block to lend and another.
+const BEFORE_THE_LOAN: &[Turn] = &[
+    Turn::Born(10, true, 1),
+    Turn::Born(3, false, 2),
+    Turn::Loan(1, None),
+    Turn::Loan(2, None),
+];
+
+/// Bytes 2 to 6 of block 1 are lent under the number 7: its bytes alone are out.
+const WHILE_LENT: &[Turn] = &[
+    Turn::Loan(1, Some((7, 2, 5))),
+    Turn::Out(1),
+    Turn::Loan(1, Some((7, 2, 5))),
+    Turn::Loan(2, None),
+    Turn::Holds(2, Some(&[0xa5, 0xa5, 0xa5])),
+    Turn::Lies(1, Some((0x1_0000_0000, 16))),
+    Turn::Used(32),
+    Turn::Pins(1),
+    Turn::Unpins(1, false),
+];
+
+/// Block 1 has its bytes as the lease left them, and can be given back.
+const AFTER_THE_LOAN: &[Turn] = &[
+    Turn::Loan(1, None),
+    Turn::Holds(1, Some(&[0, 0, 1, 2, 3, 4, 5, 0, 0, 0])),
+    Turn::Lies(1, Some((0x1_0000_0000, 16))),
+    Turn::Writes(1, 9, &[9]),
+    Turn::Retires(1, true),
+    Turn::Lies(1, None),
+];
+
+/// Leases that bring no block back during that loan: the serial number, the block, the place and the length of the
+/// section, and how many bytes the block has.
+const WRONG_LEASES: &[(u64, u64, usize, usize, usize)] = &[
+    (8, 1, 2, 5, 10),
+    (7, 2, 2, 1, 3),
+    (7, 3, 2, 5, 10),
+    (7, 1, 3, 5, 10),
+    (7, 1, 2, 4, 10),
+    (7, 1, 2, 5, 9),
+    (7, 1, 2, 5, 11),
+];
+
 /// The answer of a birth, where the device can be asked for one.
 fn birth(device: &mut Device, len: u64, zero: bool) -> Option<Result<u64, Fault>> {
     let few = device.next_block() < 100;
@@ -160,9 +209,9 @@ fn unpin(device: &mut Device, block: u64) -> Option<bool> {
     }
 }
 
-/// Ends the mapping of a block, and answers whether it was given back, where it was mapped.
+/// Ends the mapping of a block, and answers whether it was given back, where it was mapped and not lent.
 fn retire(device: &mut Device, block: u64) -> Option<bool> {
-    if device.has(block) && !device.has_ended(block) {
+    if device.has(block) && !device.has_ended(block) && device.loan(block).is_none() {
         Some(device.retire(block))
     } else {
         None
@@ -182,13 +231,74 @@ fn write(device: &mut Device, block: u64, offset: u64, new: &[u8]) -> bool {
     }
     let len = match device.bytes(block) {
         Some(old) => old.len() as u64,
-        None => 0,
+        None => return false,
     };
     let fits = offset <= len && new.len() as u64 <= len - offset;
     if fits {
         device.write(block, offset, new);
     }
     fits
+}
+
+/// The loan of a block is this one.
+fn has_loan(device: &Device, block: u64, wanted: Option<(u64, u64, u64)>) -> bool {
+    let wanted = wanted.map(|(serial, offset, len)| Loan {
+        serial,
+        block,
+        offset,
+        len,
+    });
+    device.has(block) && device.loan(block) == wanted
+}
+
+/// A block has no bytes here, and cannot be lent once more.
+fn is_out(device: &mut Device, block: u64) -> bool {
+    if !device.has(block) || device.has_ended(block) || device.bytes(block).is_some() {
+        return false;
+    }
+    match device.take_out(block, 9, 0, 0) {
+        Ok(lease) => {
+            lease.abandon();
+            false
+        }
+        Err(fault) => fault == Fault::Lent { block },
+    }
+}
+
+/// Lends a section of a block, where there is such a section.
+fn take_out(device: &mut Device, block: u64, serial: u64, offset: u64, len: u64) -> Option<Lease> {
+    if !device.has(block) || device.has_ended(block) {
+        return None;
+    }
+    let whole = device.bytes(block)?.len() as u64;
+    if offset <= whole && len <= whole - offset {
+        device.take_out(block, serial, offset, len).ok()
+    } else {
+        None
+    }
+}
+
+/// Puts a lease back, and answers the fault with which it was refused. Then it is as it was.
+fn put_back(rt: &impl Abort, device: &mut Device, lease: Lease) -> Option<Fault> {
+    let (serial, block, offset, len) = (lease.serial(), lease.block(), lease.offset(), lease.len());
+    let Err((lease, fault)) = device.put_back(lease) else {
+        return None;
+    };
+    assert_eq!(rt; (lease.serial(), lease.block()), (serial, block));
+    assert_eq!(rt; (lease.offset(), lease.len()), (offset, len));
+    lease.abandon();
+    Some(fault)
+}
+
+/// Wrong leases are refused.
+fn refuse_all(rt: &impl Abort, alloc: Global, device: &mut Device) -> Result<(), AllocError> {
+    for (serial, block, offset, len, count) in WRONG_LEASES {
+        assert!(rt; *count < 16 && *offset <= *count && *len <= *count - *offset);
+        let lease = Lease::of(*serial, *block, *offset, *len, vec![in alloc; 0; *count]?);
+        let fault = put_back(rt, device, lease);
+        assert_eq!(rt; fault, Some(Fault::NoLease { serial: *serial }));
+    }
+    Ok(())
 }
 
 /// The device answers a call as the row says.
@@ -212,6 +322,8 @@ fn agrees(device: &mut Device, turn: &Turn) -> bool {
         Turn::Unpins(block, wanted) => unpin(device, *block) == Some(*wanted),
         Turn::Retires(block, wanted) => retire(device, *block) == Some(*wanted),
         Turn::Ended(from, wanted) => has_ended(device, *from, *wanted),
+        Turn::Loan(block, wanted) => has_loan(device, *block, *wanted),
+        Turn::Out(block) => is_out(device, *block),
     }
 }
 
@@ -240,6 +352,24 @@ fn a_write_changes_its_bytes_alone(rt: HostRuntime) -> Result<(), Fail> {
 fn a_transfer_keeps_a_block_that_has_ended(rt: HostRuntime) -> Result<(), Fail> {
     let mut device = Device::new(rt.alloc(), 64)?;
     all_agree(&rt, &mut device, PINS);
+    Ok(())
+}
+
+#[test]
+fn a_block_is_lent_until_its_own_lease_comes_back(rt: HostRuntime) -> Result<(), Fail> {
+    let mut device = Device::new(rt.alloc(), 64)?;
+    all_agree(&rt, &mut device, BEFORE_THE_LOAN);
+    let Some(mut lease) = take_out(&mut device, 1, 7, 2, 5) else {
+        panic!(rt; "block 1 was not lent");
+    };
+    all_agree(&rt, &mut device, WHILE_LENT);
+    let refused = refuse_all(&rt, rt.alloc(), &mut device);
+    all_agree(&rt, &mut device, WHILE_LENT);
+    run_one(&mut lease, &Number(1), &[]);
+    let fault = put_back(&rt, &mut device, lease);
+    assert_eq!(rt; fault, None);
+    all_agree(&rt, &mut device, AFTER_THE_LOAN);
+    refused?;
     Ok(())
 }
 

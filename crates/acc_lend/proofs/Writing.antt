@@ -2,7 +2,8 @@
 use Rattle.std.proofs.Common.{◌≡◌, ℕ, ◌+◌, ◌≤◌, List, ◌++◌, length, take, drop, refl, sym, ap, ap₂, ◌∙◌, arith, append_assoc, length-append, length-drop}
 use Rattle.std.proofs.lemmas.List.{take_all, length-take-le}
 use Rattle.std.proofs.Math.Seq.{take-append_seam, drop-append_seam}
-use Rattle.acc_lend.specs.Loans.{Loan, IsLoan, with_section, written_over, IsKeptOutside}
+use Rattle.acc_base.specs.Loans.{Leased}
+use Rattle.acc_lend.specs.Loans.{IsLoan, with_section, written_over, IsKeptOutside}
 
 -- where the bytes fit, nothing is cut off
 written_whole : (offset : ℕ) (bytes old : List ℕ) → offset + length bytes ≤ length old → written_over offset bytes old ≡ take offset old ++ (bytes ++ drop (offset + length bytes) old)
@@ -24,7 +25,7 @@ behind_written offset bytes old fits =
     ap₂ drop seam (written_whole offset bytes old fits ∙ sym (append_assoc (take offset old) bytes rest))
     ∙ drop-append_seam (take offset old ++ bytes) rest
 
-pub kept_outside : (l : Loan) (bytes : List ℕ) → IsLoan l → length bytes ≡ l.len → IsKeptOutside l (with_section l bytes)
+pub kept_outside : (l : Leased) (bytes : List ℕ) → IsLoan l → length bytes ≡ l.len → IsKeptOutside l (with_section l bytes)
 kept_outside l bytes laws long =
     let fits : l.offset + length bytes ≤ length l.bytes = omega (arith, laws.within) in
     record {

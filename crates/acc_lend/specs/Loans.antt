@@ -1,22 +1,15 @@
 -- What a lease holds: the section of a block that is lent, and all the block's bytes (OpenACC 3.3, sections 2.5 and 2.6).
 use Rattle.std.specs.Prelude.{ℕ, ◌≡◌, ◌+◌, ◌≤◌, List, ◌++◌, length, take, drop}
 use Rattle.acc_base.specs.declared.addresses.TheConstants.{MEMORY_MAX}
-
--- the serial number of the loan, the number of the block, the place of the section's first byte in the block, the section's length, and the bytes of the whole block
-pub record Loan : Type 0 where
-  pub serial : ℕ
-  pub block : ℕ
-  pub offset : ℕ
-  pub len : ℕ
-  pub bytes : List ℕ
+use Rattle.acc_base.specs.Loans.{Leased}
 
 -- the section lies in the block, and the block is no longer than a memory may be
-pub record IsLoan (l : Loan) : Type 0 where
+pub record IsLoan (l : Leased) : Type 0 where
   pub within : l.offset + l.len ≤ length l.bytes
   pub capped : length l.bytes ≤ MEMORY_MAX
 
 -- the bytes of the section
-abbrev pub section : Loan → List ℕ
+abbrev pub section : Leased → List ℕ
 section l = take l.len (drop l.offset l.bytes)
 
 -- bytes with others in place of those from an offset on, as many in all as before
@@ -24,11 +17,11 @@ abbrev pub written_over : ℕ → List ℕ → List ℕ → List ℕ
 written_over offset bytes old = take (length old) (take offset old ++ (bytes ++ drop (offset + length bytes) old))
 
 -- the loan with these bytes as its section
-abbrev pub with_section : Loan → List ℕ → Loan
+abbrev pub with_section : Leased → List ℕ → Leased
 with_section l bytes = record l { bytes = written_over l.offset bytes l.bytes }
 
 -- the same loan, and each byte of the block outside its section is as it was
-pub record IsKeptOutside (old new : Loan) : Type 0 where
+pub record IsKeptOutside (old new : Leased) : Type 0 where
   pub serial : new.serial ≡ old.serial
   pub block : new.block ≡ old.block
   pub offset : new.offset ≡ old.offset

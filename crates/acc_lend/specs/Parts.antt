@@ -3,7 +3,8 @@ use Rattle.std.specs.Prelude.{ℕ, List, ◌∷◌, ◌++◌, ◌≡◌, ◌+◌
 use Rattle.std.specs.Borrow.{MutBor, Fml, GName, u8, Array, follows, follows_both_if}
 use mathlib.Core.Option as maybe
 use Rattle.acc_lend.specs.Cuts.{lengths_from}
-use Rattle.acc_lend.specs.Loans.{Loan, with_section}
+use Rattle.acc_base.specs.Loans.{Leased}
+use Rattle.acc_lend.specs.Loans.{with_section}
 use Rattle.acc_lend.specs.contracts.leases.Lease.{the_row}
 use Rattle.acc_lend.specs.declared.taking.Parts.{Parts}
 
@@ -38,7 +39,7 @@ names_of None = maybe.none
 names_of (Some next) = maybe.some (next.1.ghost_name, parts_name next.2)
 
 -- the lease ends with what was last behind the parts as its section
-abbrev pub LendsParts : MutBor Loan → Parts → Fml
+abbrev pub LendsParts : MutBor Leased → Parts → Fml
 LendsParts lease parts = follows the_row (Array u8 0) lease.ghost_name (parts_name parts) (with_section lease.now)
 
 -- what was left ends as the last bytes of the part and then those of the parts after it; where there is no part, as it was

@@ -2,7 +2,7 @@
 
 ghost use Rattle.std.specs.Prelude.{◌≡◌, ◌+◌, ◌≤◌, length, vec_len};
 ghost use Rattle.acc_base.specs.declared.addresses.TheConstants.{MEMORY_MAX};
-ghost use Rattle.acc_lend.specs.Loans.{IsLoan, section};
+ghost use Rattle.acc_lend.specs.Loans.{IsLoan, section, with_section};
 
 use std::marker::Model;
 
@@ -25,9 +25,9 @@ pub struct Lease {
 impl Model for Lease {
     ghost use Rattle.std.specs.Prelude.{◌+◌, ◌≤◌, vec_len};
     ghost use Rattle.acc_base.specs.declared.addresses.TheConstants.{MEMORY_MAX};
-    ghost use Rattle.acc_lend.specs.Loans.{Loan};
+    ghost use Rattle.acc_base.specs.Loans.{Leased};
 
-    ghost Value = { Loan };
+    ghost Value = { Leased };
 
     ghost view = { λ l. record { serial = l.serial; block = l.block; offset = l.offset; len = l.len; bytes = l.bytes.items } };
 
@@ -97,6 +97,14 @@ impl Lease {
         ensures laws { IsLoan self.now }
     {
         self.bytes.as_slice()
+    }
+
+    /// Writes these bytes over all those that are lent, of which there are as many. The block's other bytes stay.
+    pub fn overwrite(&mut self, bytes: &[u8])
+        requires { length bytes.now ≡ self.old.len }
+        ensures { self.new ≡ with_section self.old bytes.now }
+    {
+        self.section_mut().copy_from_slice(bytes);
     }
 
     /// The bytes that are lent, to write. No other byte can be reached through them.

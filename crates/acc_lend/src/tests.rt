@@ -128,3 +128,17 @@ fn two_parts_are_held_and_written(rt: HostRuntime) -> Result<(), Fail> {
     lease.abandon();
     Ok(())
 }
+
+#[test]
+fn other_bytes_are_written_over_those_lent(rt: HostRuntime) -> Result<(), Fail> {
+    let bytes = [9, 8, 7, 6, 5, 9];
+    let mut lease = loan(rt.alloc())?;
+    if lease.len() == bytes.len() {
+        lease.overwrite(&bytes);
+    }
+    assert_eq!(rt;
+        lease.into_block().as_slice(),
+        [0, 9, 8, 7, 6, 5, 9, 4].as_slice()
+    );
+    Ok(())
+}

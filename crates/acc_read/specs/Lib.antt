@@ -11,5 +11,6 @@ pub mod Bytes
 pub mod Grammar
 pub mod Clauses
 pub mod Checked
+pub mod Kernels
 pub mod Statements
 pub mod Meanings

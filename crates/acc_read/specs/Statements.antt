@@ -9,6 +9,7 @@ use Rattle.acc_base.specs.declared.directives.Directive.{Directive}
 use Rattle.acc_base.specs.declared.directives.Directive.TheVariants.{Enter, Exit, EnterData, ExitData, Update, Wait, Step}
 use Rattle.acc_base.specs.declared.items.Section.{Section}
 use Rattle.acc_read.specs.declared.arrays.Array.{Array}
+use Rattle.acc_read.specs.declared.kernels.ScriptKernel.{ScriptKernel}
 use Rattle.acc_read.specs.Reading.{◌>>=◌}
 use Rattle.acc_read.specs.Tokens.{word_at, keyword_at, name_at, number_at, number_limit, is_at_end, tab}
 use Rattle.acc_read.specs.Layout.{Layout, array_of, next_array}
@@ -17,12 +18,14 @@ use Rattle.acc_read.specs.Queues.{last_queue_at}
 use Rattle.acc_read.specs.Bytes.{bytes_of}
 use Rattle.acc_read.specs.Grammar.{region_grammar, enter_grammar, exit_grammar, update_grammar}
 use Rattle.acc_read.specs.Clauses.{nothing_read, clauses_at}
+use Rattle.acc_read.specs.Kernels.{last_kernel_at}
 
 -- what a line asks for
 pub data Meaning : Type 0 where
   Blank : Meaning
   Declare : (name : List ℕ) (array : Array) → Meaning
   Direct : (directive : Directive) → Meaning
+  Kernel : (region : ℕ) (kernel : ScriptKernel) (section : Section) → Meaning
   Write : (addr : ℕ) (bytes : List ℕ) → Meaning
   Show : (section : Section) → Meaning
   Peek : (section : Section) → Meaning
@@ -30,10 +33,12 @@ pub data Meaning : Type 0 where
   Address : (addr : ℕ) → Meaning
   Report : Meaning
 
--- a statement that takes memory to read or to run: one that declares, directs or writes, and none that only asks
+-- a statement that takes memory to read or to run: one that declares, directs, runs a kernel or writes, and none that
+-- only asks
 abbrev pub takes_memory : Meaning → Bool
 takes_memory (Declare name array) = true
 takes_memory (Direct directive) = true
+takes_memory (Kernel region kernel section) = true
 takes_memory (Write addr bytes) = true
 takes_memory _ = false
 
@@ -111,6 +116,20 @@ step_at text = do
   queue ← last_queue_at text
   Ok (Direct (Step queue))
 
+-- ---- kernels
+
+-- a kernel and its section in the innermost open region, where one is open
+abbrev pub launched : Option ℕ → ScriptKernel × Section → Result Meaning ScriptFault
+launched None read = Err NoOpenRegion
+launched (Some region) read = Ok (Kernel region read.0 read.1)
+
+-- `kernel`, a kernel and its section, in the innermost open region; each other fault of the line is told before there
+-- is none (OpenACC 3.3, section 2.5, compute constructs)
+unfoldable pub kernel_at : Layout → Option ℕ → List ℕ → Result Meaning ScriptFault
+kernel_at layout innermost text = do
+  read ← last_kernel_at layout text
+  launched innermost read
+
 -- ---- writes
 
 -- bytes, up to the end of the line
@@ -170,6 +189,7 @@ statement_at layout innermost text = do
       else if bytes_eq word.0 (codes "update") then update_at layout word.1
       else if bytes_eq word.0 (codes "wait") then wait_at word.1
       else if bytes_eq word.0 (codes "step") then step_at word.1
+      else if bytes_eq word.0 (codes "kernel") then kernel_at layout innermost word.1
       else if bytes_eq word.0 (codes "write") then write_at layout word.1
       else if bytes_eq word.0 (codes "point") then point_at layout word.1
       else question_at word.0 layout word.1

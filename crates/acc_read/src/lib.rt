@@ -11,6 +11,7 @@ mod clauses;
 mod directives;
 mod grammar;
 mod items;
+mod kernels;
 mod lines;
 mod places;
 mod queues;
@@ -20,6 +21,7 @@ mod troubles;
 mod writes;
 
 pub use arrays::{Array, Arrays};
+pub use kernels::ScriptKernel;
 pub use lines::next_line;
 pub use statements::{Statement, line_at};
 pub use troubles::Trouble;

@@ -8,6 +8,7 @@ ghost use Rattle.acc_read.specs.Meanings.{meaning_of};
 
 use crate::arrays::{Array, Arrays};
 use crate::directives::{data_at, end_at, enter_at, exit_at, step_at, update_at, wait_at};
+use crate::kernels::{ScriptKernel, kernel_at};
 use crate::places::{last_address_at, last_section_at};
 use crate::tokens::{is_at_end, is_text, name_at, number_at, word_at};
 use crate::troubles::Trouble;
@@ -32,6 +33,15 @@ pub enum Statement<'a> {
     },
     /// A directive.
     Direct(Directive),
+    /// A kernel, run on the device.
+    Kernel {
+        /// The number of the innermost open region.
+        region: u64,
+        /// What it does.
+        kernel: ScriptKernel,
+        /// The section of host memory whose bytes on the device it changes.
+        section: Section,
+    },
     /// A write into host memory, as the host does it.
     Write {
         /// The first host address.
@@ -131,6 +141,8 @@ fn statement_at<'a>(
         Ok(wait_at(rest)?)
     } else if is_text(word, "step") {
         Ok(step_at(rest)?)
+    } else if is_text(word, "kernel") {
+        Ok(kernel_at(arrays, innermost, rest)?)
     } else if is_text(word, "write") {
         write_at(alloc, arrays, rest)
     } else if is_text(word, "point") {

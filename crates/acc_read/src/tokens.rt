@@ -159,7 +159,8 @@ fn capped_value(limit: u32, digits: &[u8]) -> u64
 /// The number that a word says, up to a limit.
 #[tactic(auto, using(crate::proofs::Numbers::is_above, crate::proofs::Numbers::is_number), unfolding(crate::specs::Tokens::number_of))]
 fn number_of(limit: u32, word: &[u8]) -> Result<u32, ScriptFault>
-    ensures { Reads (λ n. n) result (number_of limit word.now) }
+    ensures read { Reads (λ n. n) result (number_of limit word.now) }
+    ensures bound { IfOk result (λ n. n ≤ limit) }
 {
     if !has_digits(word) {
         return Err(ScriptFault::Syntax);
@@ -174,7 +175,8 @@ fn number_of(limit: u32, word: &[u8]) -> Result<u32, ScriptFault>
 /// The next word, which is a number up to a limit, and the text after it.
 #[tactic(auto, unfolding(crate::specs::Tokens::number_at))]
 pub fn number_at(limit: u32, text: &[u8]) -> Result<(u32, &[u8]), ScriptFault>
-    ensures { Reads (λ x. (x.0, x.1.now)) result (number_at limit text.now) }
+    ensures read { Reads (λ x. (x.0, x.1.now)) result (number_at limit text.now) }
+    ensures bound { IfOk result (λ x. x.0 ≤ limit) }
 {
     let (word, rest) = word_at(text)?;
     Ok((number_of(limit, word)?, rest))

@@ -1,21 +1,23 @@
 -- A table that wants memory for a call was asked for one that is accepted: no refusal of the definitions is want of memory.
 use Rattle.std.proofs.Common.{◌≡◌, ℕ, suc, Bool, true, false, cond, List, [], ◌∷◌, length, Option, Some, None, Result, Ok, Err, refl}
-use Rattle.std.specs.Prelude.{⊤, ◌%◌, not, ◌&&◌, nat_le, nat_lt, ◌==◌, MatchResult, IsOk}
+use Rattle.std.specs.Prelude.{⊤, ◌%◌, is_none, not, ◌&&◌, nat_le, nat_lt, ◌==◌, MatchResult, IsOk}
 use Rattle.acc_base.specs.declared.items.Section.{Section}
 use Rattle.acc_base.specs.declared.items.RegionClause.{RegionClause}
 use Rattle.acc_base.specs.declared.items.RegionClause.TheVariants as region
 use Rattle.acc_base.specs.declared.calls.Call.{Call}
-use Rattle.acc_base.specs.declared.calls.Call.TheVariants.{Do, HostWrite}
+use Rattle.acc_base.specs.declared.calls.Call.TheVariants.{Do, HostWrite, Lend, Gather}
 use Rattle.acc_base.specs.declared.directives.Directive.{Directive}
 use Rattle.acc_base.specs.declared.directives.Directive.TheVariants as directives
 use Rattle.acc_base.specs.declared.events.Did.{Did}
 use Rattle.acc_base.specs.declared.events.Event.{Event}
-use Rattle.acc_base.specs.declared.events.Event.TheVariants.{HostWritten}
+use Rattle.acc_base.specs.declared.events.Event.TheVariants.{HostWritten, Gathered}
+use Rattle.acc_base.specs.declared.events.Event.TheVariants.{Lent as LentOut}
 use Rattle.acc_base.specs.declared.events.Step.{Step}
 use Rattle.acc_base.specs.declared.events.Step.TheVariants as steps
 use Rattle.acc_base.specs.declared.attachments.Aim.TheVariants as aims
 use Rattle.acc_base.specs.declared.faults.Fault.{Fault}
-use Rattle.acc_base.specs.declared.faults.Fault.TheVariants.{Memory, NoTickets, NoAllowance, TooManyItems, TraceFull, OutOfHost, Misaligned, NoQueue, NotPresent, CounterFull, QueueFull}
+use Rattle.acc_base.specs.declared.faults.Fault.TheVariants.{Memory, Lent, NoRegion, NoLease, NoTickets, NoAllowance, TooManyItems, TraceFull, OutOfHost, Misaligned, NoQueue, NotPresent, CounterFull, QueueFull}
+use Rattle.acc_base.specs.declared.loans.Loan.{Loan}
 use Rattle.acc_base.specs.declared.mappings.Counter.{Counter}
 use Rattle.acc_base.specs.declared.mappings.Found.{Found}
 use Rattle.acc_base.specs.declared.mappings.Found.TheVariants.{Empty, Inside, Partly, Absent}
@@ -36,12 +38,14 @@ use Rattle.acc_base.specs.Clauses.{in_host, pointer_checked, born_at, enter_abse
 use Rattle.acc_base.specs.Tasks.{section_of, pointer_of, queue_of, recounted, checked}
 use Rattle.acc_base.specs.Queues.{queue_at, queue_named, queue_room}
 use Rattle.acc_base.specs.Transfers.{transfer_of, room_for}
-use Rattle.acc_base.specs.Steps.{judge_row, judge_step, pointer_aimed}
-use Rattle.acc_base.specs.Attachments.{pointer_at, count_at}
+use Rattle.acc_base.specs.Loans.{Leased, is_lent, not_lent, none_lent, is_returnable}
+use Rattle.acc_base.specs.Steps.{judge_row, judge_step, block_detached, block_needed, pointer_aimed}
+use Rattle.acc_base.specs.Attachments.{pointer_at, count_at, attach}
 use Rattle.acc_base.specs.Bytes.{step_state}
-use Rattle.acc_base.specs.Pointers.{device_pointer, block_with, target_of, attach_there, judge_attach}
+use Rattle.acc_base.specs.Detaching.{block_with}
+use Rattle.acc_base.specs.Pointers.{device_pointer, target_of, attach_there, judge_attach}
 use Rattle.acc_base.specs.Acting.{attach_if, judge_aim, judge_task, act_state, judge_all}
-use Rattle.acc_base.specs.Judge.{Verdict, Makes, item_limit, item_count, few_items, tasks_of_region, tasks_of, queue_in, verdict_of, directive_verdict, host_write_event}
+use Rattle.acc_base.specs.Judge.{Verdict, Makes, item_limit, item_count, few_items, tasks_of_region, tasks_of, queue_in, transfers_in, verdict_of, directive_verdict, host_write_event, lend_there, lend_event, gather_event}
 use Rattle.acc_base.specs.Calls.{World, event_count, open_regions, ticket, allowance, trace_room, judge}
 use Rattle.acc_table.specs.Calls.{MayWantMemory, IsRefusal}
 
@@ -157,11 +161,29 @@ transfer_tells queue_cap None t queues = tt
 transfer_tells queue_cap (Some q) None queues = tt
 transfer_tells queue_cap (Some q) (Some t) queues = queue_tells queue_cap q queues
 
+-- nor does a check that a block is not lent
+lent_tells : (block : Option ℕ) (loans : List Loan) → Tells (not_lent block loans)
+lent_tells None loans = tt
+lent_tells (Some block) loans = either_tells (is_lent block loans) (Err (Lent block)) (Ok tt) tt tt
+
+-- nor does one that no block of some transfers is
+all_lent_tells : (transfers : List Transfer) (loans : List Loan) → Tells (none_lent transfers loans)
+all_lent_tells [] loans = tt
+all_lent_tells (t ∷ ts) loans = then_tells (not_lent (Some t.block) loans) (none_lent ts loans) (lent_tells (Some t.block) loans) (all_lent_tells ts loans)
+
+-- what follows the row of an item tells no want of memory
+held_tells : (detached needed : Option ℕ) (queue_cap : ℕ) (queue : Option ℕ) (t : Option Transfer) (step : Step) (w : Records) → Tells (not_lent detached w.loans >> (not_lent needed w.loans >> (room_for queue_cap queue t w.queues >> Ok step)))
+held_tells detached needed queue_cap queue t step w =
+    let room = room_for queue_cap queue t w.queues >> Ok step in
+    then_tells (not_lent detached w.loans) (not_lent needed w.loans >> room) (lent_tells detached w.loans)
+    (then_tells (not_lent needed w.loans) room (lent_tells needed w.loans)
+    (then_tells (room_for queue_cap queue t w.queues) (Ok step) (transfer_tells queue_cap queue t w.queues) tt))
+
 -- the step of an item tells no want of memory
 step_tells : (l : Limits) (n : ℕ) (task : Task) (w : Records) → Tells (judge_step l n task w)
 unfolding judge_step
-step_tells l n task w = bind_tells (judge_row l n task w) (λ step. room_for l.queue_cap (queue_of task) (transfer_of task step w.ranges) w.queues >> Ok step) (row_tells l n task w)
-    (λ step. then_tells (room_for l.queue_cap (queue_of task) (transfer_of task step w.ranges) w.queues) (Ok step) (transfer_tells l.queue_cap (queue_of task) (transfer_of task step w.ranges) w.queues) tt)
+step_tells l n task w = bind_tells (judge_row l n task w) (λ step. not_lent (block_detached task step w) w.loans >> (not_lent (block_needed task step) w.loans >> (room_for l.queue_cap (queue_of task) (transfer_of task step w.ranges) w.queues >> Ok step))) (row_tells l n task w)
+    (λ step. held_tells (block_detached task step w) (block_needed task step) l.queue_cap (queue_of task) (transfer_of task step w.ranges) step w)
 
 -- an attachment tells no want of memory
 attach_tells : (l : Limits) (n pointer : ℕ) (s : State) → Tells (judge_attach l n pointer s)
@@ -174,8 +196,9 @@ attach_tells l n pointer s = go (block_with pointer s.records.ranges) (target_of
     go (Some block) (Some target) =
         let count = count_at block pointer s.records.attached in
         let full = nat_le l.counter_max count in
-        either_tells (not (count == 0) && (device_pointer block pointer s == target)) (refuse_if full (CounterFull n) >> Ok (aims.Again pointer block)) (Ok (aims.New pointer block target))
-        (then_tells (refuse_if full (CounterFull n)) (Ok (aims.Again pointer block)) (either_tells full (Err (CounterFull n)) (Ok tt) tt tt) tt) tt
+        then_tells (not_lent (Some block) s.records.loans) (attach l.counter_max n block pointer target (device_pointer block pointer s) s.records.attached) (lent_tells (Some block) s.records.loans)
+        (either_tells (not (count == 0) && (device_pointer block pointer s == target)) (refuse_if full (CounterFull n) >> Ok (aims.Again pointer block)) (Ok (aims.New pointer block target))
+        (then_tells (refuse_if full (CounterFull n)) (Ok (aims.Again pointer block)) (either_tells full (Err (CounterFull n)) (Ok tt) tt tt) tt) tt)
 
 -- what becomes of an item's pointer tells no want of memory
 aim_tells : (l : Limits) (n : ℕ) (task : Task) (step : Step) (s : State) → Tells (judge_aim l n task step s)
@@ -230,10 +253,11 @@ named_tells (Some q) = either_tells (nat_le QUEUE_COUNT q) (Err (NoQueue q)) (Ok
 directive_tells : (l : Limits) (directive : Directive) (s : State) → Tells (directive_verdict l directive s)
 unfolding directive_verdict
 directive_tells l directive s =
-    let verdict : List Did → Result Verdict Fault = λ dids. Ok (verdict_of directive s dids) in
+    let free = none_lent (transfers_in directive s.records.queues) s.records.loans in
+    let verdict : List Did → Result Verdict Fault = λ dids. free >> Ok (verdict_of directive s dids) in
     bind_tells (tasks_of directive s.register) (λ asked. queue_named (queue_in directive) >> (judge_all l 0 asked s >>= verdict)) (asked_tells directive s.register)
     (λ asked. then_tells (queue_named (queue_in directive)) (judge_all l 0 asked s >>= verdict) (named_tells (queue_in directive))
-    (bind_tells (judge_all l 0 asked s) verdict (all_tells l 0 asked s) (λ dids. tt)))
+    (bind_tells (judge_all l 0 asked s) verdict (all_tells l 0 asked s) (λ dids. then_tells free (Ok (verdict_of directive s dids)) (all_lent_tells (transfers_in directive s.records.queues) s.records.loans) tt)))
 
 -- a write of the host tells no want of memory
 write_tells : (l : Limits) (addr len : ℕ) → Tells (host_write_event l addr len)
@@ -241,6 +265,29 @@ unfolding host_write_event
 write_tells l addr len =
     let section : Section = record { start = addr; len = len } in
     then_tells (in_host l 0 section) (Ok (HostWritten addr len)) (host_tells l 0 section) tt
+
+-- a loan of a section tells no want of memory, wherever it lies
+there_tells : (found : Found) (region : ℕ) (section : Section) (s : State) → Tells (lend_there found region section s)
+there_tells Empty region section s = tt
+there_tells (Inside block offset) region section s = then_tells (not_lent (Some block) s.records.loans) (Ok (LentOut region section block s.register.serial)) (lent_tells (Some block) s.records.loans) tt
+there_tells Partly region section s = tt
+there_tells Absent region section s = tt
+
+-- a loan tells no want of memory
+lend_tells : (l : Limits) (region : ℕ) (section : Section) (s : State) → Tells (lend_event l region section s)
+unfolding lend_event
+lend_tells l region section s =
+    let closed = is_none (holdings_at region s.register.regions) in
+    let there = lend_there (where_is section s.records.ranges) region section s in
+    then_tells (refuse_if closed (NoRegion region)) (in_host l 0 section >> there) (either_tells closed (Err (NoRegion region)) (Ok tt) tt tt)
+    (then_tells (in_host l 0 section) there (host_tells l 0 section) (there_tells (where_is section s.records.ranges) region section s))
+
+-- nor does a lease that is brought back
+gather_tells : (lease : Leased) (w : Records) → Tells (gather_event lease w)
+unfolding gather_event
+gather_tells lease w =
+    let unknown = not (is_returnable lease w.blocks w.loans) in
+    then_tells (refuse_if unknown (NoLease lease.serial)) (Ok (Gathered lease.serial lease.block)) (either_tells unknown (Err (NoLease lease.serial)) (Ok tt) tt tt) tt
 
 -- the check for a ticket tells no want of memory
 ticket_tells : (w : World) → Tells (ticket w)
@@ -268,8 +315,14 @@ few_tells directive = either_tells (nat_lt item_limit (item_count directive)) (E
 makes_tells : (r : Result Event Fault) → Tells r → Tells (r >>= (λ e. Ok (Makes e)))
 makes_tells r h = bind_tells r (λ e. Ok (Makes e)) h (λ e. tt)
 
+-- nor does an event with the checks before it
+event_tells : (w : World) (r : Result Event Fault) → Tells r → Tells (ticket w >> (trace_room w >> (r >>= (λ e. Ok (Makes e)))))
+event_tells w r h =
+    let event : Result Verdict Fault = r >>= (λ e. Ok (Makes e)) in
+    then_tells (ticket w) (trace_room w >> event) (ticket_tells w) (then_tells (trace_room w) event (room_tells w) (makes_tells r h))
+
 -- no call is refused for want of memory by the definitions
-judge_tells : (w : World) (call : Call) → Tells (judge w call)
+judge_tells : (w : World) (call : Call Leased) → Tells (judge w call)
 unfolding judge
 judge_tells w (Do directive) =
     let verdict : Result Verdict Fault = directive_verdict w.limits directive w.state in
@@ -277,14 +330,12 @@ judge_tells w (Do directive) =
     (then_tells (allowance w directive) (few_items directive >> (trace_room w >> verdict)) (allowance_tells w directive)
     (then_tells (few_items directive) (trace_room w >> verdict) (few_tells directive)
     (then_tells (trace_room w) verdict (room_tells w) (directive_tells w.limits directive w.state))))
-judge_tells w (HostWrite addr bytes) =
-    let event : Result Verdict Fault = host_write_event w.limits addr (length bytes) >>= (λ e. Ok (Makes e)) in
-    then_tells (ticket w) (trace_room w >> event) (ticket_tells w)
-    (then_tells (trace_room w) event (room_tells w)
-    (makes_tells (host_write_event w.limits addr (length bytes)) (write_tells w.limits addr (length bytes))))
+judge_tells w (HostWrite addr bytes) = event_tells w (host_write_event w.limits addr (length bytes)) (write_tells w.limits addr (length bytes))
+judge_tells w (Lend region section) = event_tells w (lend_event w.limits region section w.state) (lend_tells w.limits region section w.state)
+judge_tells w (Gather lease) = event_tells w (gather_event lease w.state.records) (gather_tells lease w.state.records)
 
 -- a call for which a table wants memory is one that is accepted
-pub accepted : (w : World) (call : Call) → IsRefusal w call Memory → IsOk (judge w call)
+pub accepted : (w : World) (call : Call Leased) → IsRefusal w call Memory → IsOk (judge w call)
 accepted w call refusal = by (judge w call) (judge_tells w call) refusal
   where
     by : (r : Result Verdict Fault) → Tells r → MatchResult r (λ verdict. MayWantMemory verdict Memory) (λ fault. Memory ≡ fault) → IsOk r

@@ -3,6 +3,8 @@ pub mod Takes
 pub mod Rejoins
 pub mod Fronts
 pub mod Accepted
+pub mod Refused
+pub mod Launched
 pub mod Digits
 pub mod Parts
 pub mod LineByLine

@@ -15,7 +15,7 @@ use Rattle.acc_script.specs.declared.print.effects.Effect.{Effect}
 use Rattle.acc_script.specs.Told.{Taken, Took, TookFront}
 use Rattle.acc_read.specs.Lines.{lines_of}
 use Rattle.acc_read.specs.Reading.{◌>>=◌, wants}
-use Rattle.acc_read.specs.Statements.{Meaning, Declare, Direct, takes_memory}
+use Rattle.acc_read.specs.Statements.{Meaning, Declare, Direct, Kernel, takes_memory}
 use Rattle.acc_read.specs.Statements.{Write as WriteBytes}
 use Rattle.acc_script.specs.Sessions.{MayWant}
 use Rattle.acc_script.specs.Scripts.{State, Turned, turned, is_refused, meaning_in, line_turned, line_wants, line_text, Transcript, Ended, Faulty, ended, noted, transcript_from}
@@ -47,12 +47,13 @@ pub line_lost : (number : ℕ) (s after : State) (line : List ℕ) (old new : Op
 line_lost number s after line old new meaning effect said is wrote = record { turn = record { state = after; effect = effect }; is = turn_is s line meaning _ said is; wrote = wrote }
 
 -- a line that was read and could not be run, since there was no memory for it
-pub line_wanted : (number : ℕ) (s after left : State) (line : List ℕ) (old : Option Taken) (meaning : Meaning) (fault : Fault) → meaning_in s line ≡ Ok meaning → (fault ≡ Memory) × MayWant s meaning × (left ≡ s) → LineRuns number s line old old after (Err fault)
+pub line_wanted : (number : ℕ) (s after left : State) (line : List ℕ) (old : Option Taken) (meaning : Meaning) (fault : Fault) → meaning_in s line ≡ Ok meaning → (fault ≡ Memory) × MayWant s meaning left → LineRuns number s line old old after (Err fault)
 line_wanted number s after left line old meaning fault said h = rw (h.0, said) (takes meaning h.1, refl)
   where
-    takes : (m : Meaning) → MayWant s m → takes_memory m ≡ true
+    takes : (m : Meaning) → MayWant s m left → takes_memory m ≡ true
     takes (Declare name array) k = refl
     takes (Direct directive) k = refl
+    takes (Kernel region kernel section) k = refl
     takes (WriteBytes addr bytes) k = refl
     takes _ k = absurd k
 

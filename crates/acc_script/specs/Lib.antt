@@ -3,6 +3,7 @@ pub mod Streams
 pub mod Ends
 pub mod Texts
 pub mod Shown
+pub mod Kernels
 pub mod Scripts
 pub mod Runs
 pub mod Sessions

@@ -1,18 +1,23 @@
 -- What a script does and prints, line by line, and how it ends.
 use Rattle.std.specs.Prelude.{ℕ, ◌+◌, Bool, true, false, ◌||◌, List, [], ◌∷◌, Option, Some, None, Result, Ok, Err, ◌==◌, if◌then◌else◌}
 use Rattle.acc_base.specs.declared.calls.Call.{Call}
-use Rattle.acc_base.specs.declared.calls.Call.TheVariants.{Do, HostWrite}
+use Rattle.acc_base.specs.declared.calls.Call.TheVariants.{Do, HostWrite, Lend, Gather}
 use Rattle.acc_base.specs.declared.faults.Fault.{Fault}
 use Rattle.acc_base.specs.declared.faults.Fault.TheVariants.{OutOfHost}
 use Rattle.acc_base.specs.declared.faults.ScriptFault.{ScriptFault}
 use Rattle.acc_base.specs.declared.faults.ScriptFault.TheVariants.{Unclosed}
 use Rattle.acc_base.specs.declared.items.Section.{Section}
 use Rattle.acc_base.specs.Limits.{Limits}
+use Rattle.acc_base.specs.Loans.{Leased}
 use Rattle.acc_base.specs.Calls.{World, new_world, judge, world_after, open_regions}
 use Rattle.acc_base.specs.Judge.{Verdict, Makes, Idle}
 use Rattle.acc_base.specs.Register.{newest_region}
 use Rattle.acc_base.specs.Ranges.{where_is}
 use Rattle.acc_base.specs.Pointers.{device_address_of}
+use Rattle.acc_lend.specs.Loans.{section, with_section}
+use Rattle.acc_table.specs.declared.calls.Reply.{Reply}
+use Rattle.acc_table.specs.declared.calls.Reply.TheVariants as replies
+use Rattle.acc_table.specs.Calls.{reply_of}
 use Rattle.acc_table.specs.Queries.{is_inside, host_read_of, device_read_of}
 use Rattle.acc_script.specs.declared.print.effects.Effect.{Effect}
 use Rattle.acc_script.specs.declared.print.effects.Effect.TheVariants.{Nothing, EmptyQueue, Refused, HostBytes, DeviceBytes, Presence, Place, Reported}
@@ -21,8 +26,10 @@ use Rattle.acc_script.specs.declared.runs.Status.TheVariants as statuses
 use Rattle.acc_read.specs.Reading.{◌>>=◌, wants}
 use Rattle.acc_read.specs.Lines.{lines_of}
 use Rattle.acc_read.specs.Layout.{Layout, new_layout, with_array}
-use Rattle.acc_read.specs.Statements.{Meaning, Blank, Declare, Direct, Write, Show, Peek, Present, Address, Report, takes_memory, line_at}
+use Rattle.acc_read.specs.declared.kernels.ScriptKernel.{ScriptKernel}
+use Rattle.acc_read.specs.Statements.{Meaning, Blank, Declare, Direct, Kernel, Write, Show, Peek, Present, Address, Report, takes_memory, line_at}
 use Rattle.acc_script.specs.Texts.{refusal_text, report_text}
+use Rattle.acc_script.specs.Kernels.{source_of, image_of}
 use Rattle.acc_script.specs.Shown.{idle_text, read_text, presence_text, place_text}
 
 -- a table's world, and the arrays of the script
@@ -47,10 +54,31 @@ answered s effect = record { state = s; effect = effect }
 
 -- a call changes the world where the table accepts it and makes an event; what is accepted and makes none is the step of
 -- an empty queue
-abbrev pub called : State → Call → Result Verdict Fault → Turned
+abbrev pub called : State → Call Leased → Result Verdict Fault → Turned
 called s call (Ok (Makes event)) = record { state = record { world = world_after call event s.world; layout = s.layout }; effect = Nothing }
 called s call (Ok Idle) = answered s EmptyQueue
 called s call (Err fault) = answered s (Refused fault)
+
+-- the call that brings a lease back, with the bytes of its section as a kernel leaves them
+abbrev pub back_from : ScriptKernel → List ℕ → Leased → Call Leased
+back_from kernel src lease = Gather (with_section lease (image_of kernel (section lease) src))
+
+-- a kernel with what the call for its loan replied, which is never but a lease: it is brought back, and its block stays
+-- lent where that is refused
+abbrev pub gathered : State → ScriptKernel → List ℕ → Reply → Turned
+gathered s kernel src (replies.Lease lease) = called s (back_from kernel src lease) (judge s.world (back_from kernel src lease))
+gathered s kernel src _ = answered s Nothing
+
+-- a kernel with what the call for its loan comes to, which is never that there is nothing to do
+abbrev pub on_loan : State → ScriptKernel → List ℕ → Call Leased → Result Verdict Fault → Turned
+on_loan s kernel src call (Ok (Makes event)) = gathered (record { world = world_after call event s.world; layout = s.layout }) kernel src (reply_of event s.world.state)
+on_loan s kernel src call (Ok Idle) = answered s Nothing
+on_loan s kernel src call (Err fault) = answered s (Refused fault)
+
+-- a kernel over a section, with the bytes of its source: where host memory does not have these, nothing is lent
+abbrev pub launched : State → ℕ → ScriptKernel → Section → Option (List ℕ) → Turned
+launched s region kernel over None = answered s (Refused (OutOfHost 1))
+launched s region kernel over (Some src) = on_loan s kernel src (Lend region over) (judge s.world (Lend region over))
 
 -- the host's bytes of a section can be shown where host memory has them
 abbrev pub shown : Section → Option (List ℕ) → Effect
@@ -62,6 +90,7 @@ abbrev pub turned : State → Meaning → Turned
 turned s Blank = answered s Nothing
 turned s (Declare name array) = record { state = record { world = s.world; layout = with_array name array s.layout }; effect = Nothing }
 turned s (Direct directive) = called s (Do directive) (judge s.world (Do directive))
+turned s (Kernel region kernel over) = launched s region kernel over (host_read_of (source_of kernel) s.world.state.host)
 turned s (Write addr bytes) = called s (HostWrite addr bytes) (judge s.world (HostWrite addr bytes))
 turned s (Show section) = answered s (shown section (host_read_of section s.world.state.host))
 turned s (Peek section) = answered s (DeviceBytes section)

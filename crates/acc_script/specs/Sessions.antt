@@ -1,14 +1,18 @@
 -- What a session of the code is, and what it may be refused.
-use Rattle.std.specs.Prelude.{◌≡◌, ⊤, Result, Ok, Err, IsOk}
+use Rattle.std.specs.Prelude.{◌≡◌, Result, Ok, Err, IsOk}
 use Rattle.acc_base.specs.declared.faults.Fault.{Fault}
 use Rattle.acc_base.specs.declared.faults.Fault.TheVariants.{Memory}
 use Rattle.acc_base.specs.Limits.{Limits}
 use Rattle.acc_base.specs.declared.calls.Call.{Call}
-use Rattle.acc_base.specs.declared.calls.Call.TheVariants.{Do, HostWrite}
+use Rattle.acc_base.specs.declared.calls.Call.TheVariants.{Do, HostWrite, Lend}
+use Rattle.acc_base.specs.Loans.{Leased}
 use Rattle.acc_base.specs.Calls.{judge}
+use Rattle.acc_table.specs.declared.calls.Reply.{Reply}
+use Rattle.acc_table.specs.declared.calls.Reply.TheVariants as replies
 use Rattle.acc_script.specs.declared.print.effects.Effect.{Effect}
+use Rattle.acc_script.specs.declared.print.effects.Effect.TheVariants.{Nothing, EmptyQueue, Refused}
 use Rattle.acc_script.specs.declared.sessions.Session.{Session}
-use Rattle.acc_read.specs.Statements.{Meaning, Declare, Direct, Write}
+use Rattle.acc_read.specs.Statements.{Meaning, Declare, Direct, Kernel, Write}
 use Rattle.acc_script.specs.Scripts.{State, new_state, called, turned}
 
 -- a session as its table's world and its arrays
@@ -20,19 +24,31 @@ abbrev pub Opens : Limits → Result Session Fault → Type 0
 Opens limits (Ok session) = state_of session ≡ new_state limits
 Opens limits (Err fault) = fault ≡ Memory
 
--- a statement that takes memory to run, and that the table accepts where it is one for the table
-abbrev pub MayWant : State → Meaning → Type 0
-MayWant s (Declare name array) = ⊤
-MayWant s (Direct directive) = IsOk (judge s.world (Do directive))
-MayWant s (Write addr bytes) = IsOk (judge s.world (HostWrite addr bytes))
-MayWant s _ = ⊥
+-- a statement that takes memory to run, and that the table accepts where it is one for the table; nothing changed, but
+-- the block of a kernel may be lent
+abbrev pub MayWant : State → Meaning → State → Type 0
+MayWant old (Declare name array) new = new ≡ old
+MayWant old (Direct directive) new = IsOk (judge old.world (Do directive)) × (new ≡ old)
+MayWant old (Kernel region kernel over) new = IsOk (judge old.world (Lend region over))
+MayWant old (Write addr bytes) new = IsOk (judge old.world (HostWrite addr bytes)) × (new ≡ old)
+MayWant old _ new = ⊥
 
--- a statement was run; or it takes memory, is refused for nothing else, and nothing changed
+-- a statement was run; or it takes memory and is refused for nothing else
 abbrev pub Performs : State → Meaning → State → Result Effect Fault → Type 0
 Performs old meaning new (Ok effect) = turned old meaning ≡ record { state = new; effect = effect }
-Performs old meaning new (Err fault) = (fault ≡ Memory) × MayWant old meaning × (new ≡ old)
+Performs old meaning new (Err fault) = (fault ≡ Memory) × MayWant old meaning new
+
+-- what an accepted call has to print
+abbrev pub effect_of : Reply → Effect
+effect_of replies.Idle = EmptyQueue
+effect_of _ = Nothing
+
+-- what a refused call has to print; want of memory is no refusal
+abbrev pub refusal_of : Fault → Result Effect Fault
+refusal_of Memory = Err Memory
+refusal_of fault = Ok (Refused fault)
 
 -- a call was made; or it is one that is accepted, there was no memory for it, and nothing changed
-abbrev pub CallsFor : State → Call → State → Result Effect Fault → Type 0
+abbrev pub CallsFor : State → Call Leased → State → Result Effect Fault → Type 0
 CallsFor old call new (Ok effect) = called old call (judge old.world call) ≡ record { state = new; effect = effect }
 CallsFor old call new (Err fault) = (fault ≡ Memory) × IsOk (judge old.world call) × (new ≡ old)

@@ -1,5 +1,5 @@
 -- What a script prints.
-use Rattle.std.specs.Prelude.{ℕ, zero, suc, ◌+◌, ◌-◌, ◌*◌, ◌/◌, false, List, [], ◌∷◌, ◌++◌, length, ◌==◌, nat_le, if◌then◌else◌, codes}
+use Rattle.std.specs.Prelude.{ℕ, zero, suc, Bool, ◌+◌, ◌-◌, ◌*◌, ◌/◌, false, List, [], ◌∷◌, ◌++◌, length, ◌==◌, nat_le, if◌then◌else◌, codes}
 use Rattle.std.specs.Fmt.{decimal, digits}
 use Rattle.std.specs.List.{flat_map}
 use Rattle.acc_base.specs.declared.faults.Fault.{Fault}
@@ -43,13 +43,17 @@ sizes_text host device used = codes "host " ++ (decimal host ++ (codes " device 
 abbrev pub mapping_text : ℕ → ℕ → ℕ → List ℕ
 mapping_text start len place = codes "map " ++ (address start ++ (codes " " ++ (decimal len ++ (codes " at " ++ address place))))
 
--- the two reference counters of a mapped range, up to the end of its line
-abbrev pub counters_text : ℕ → ℕ → List ℕ
-counters_text structured dynamic = codes " structured " ++ (decimal structured ++ (codes " dynamic " ++ (decimal dynamic ++ codes "\n")))
+-- the end of the line of a mapped range, which says whether its block is lent
+abbrev pub lent_text : Bool → List ℕ
+lent_text lent = if lent then codes " lent\n" else codes "\n"
+
+-- the two reference counters of a mapped range, and whether its block is lent, up to the end of its line
+abbrev pub counters_text : ℕ → ℕ → Bool → List ℕ
+counters_text structured dynamic lent = codes " structured " ++ (decimal structured ++ (codes " dynamic " ++ (decimal dynamic ++ lent_text lent)))
 
 -- a mapped range
 unfoldable pub mapped_text : Mapped → List ℕ
-mapped_text m = mapping_text m.start m.len m.place ++ counters_text m.structured m.dynamic
+mapped_text m = mapping_text m.start m.len m.place ++ counters_text m.structured m.dynamic m.lent
 
 -- how many regions are open, and how many events there were
 abbrev pub totals_text : ℕ → ℕ → List ℕ
@@ -86,7 +90,7 @@ range_text w m = mapped_text m ++ pointers_text m.start m.len w
 
 -- each mapped range by rising start
 abbrev pub ranges_text : Records → List ℕ
-ranges_text w = flat_map (λ r. range_text w (mapped_as w.blocks r)) w.ranges
+ranges_text w = flat_map (λ r. range_text w (mapped_as w.blocks w.loans r)) w.ranges
 
 -- ---- blocks whose mapping has ended
 

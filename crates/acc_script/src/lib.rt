@@ -5,6 +5,7 @@
 #![tactic(auto)]
 
 mod ends;
+mod kernels;
 mod print;
 mod runs;
 mod sessions;

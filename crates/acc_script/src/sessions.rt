@@ -1,15 +1,19 @@
 //! A table and the arrays of a script, and what statements do to them.
 
-ghost use Rattle.std.specs.Prelude.{◌≡◌};
+ghost use Rattle.std.specs.Prelude.{◌≡◌, IfSome};
 ghost use Rattle.acc_read.specs.Meanings.{meaning_of};
-ghost use Rattle.acc_script.specs.Sessions.{state_of, Opens, Performs, CallsFor};
-ghost use Rattle.acc_script.specs.Scripts.{shown};
+ghost use Rattle.acc_read.specs.Statements.{Kernel};
+ghost use Rattle.acc_script.specs.Kernels.{source_of};
+ghost use Rattle.acc_script.specs.Sessions.{state_of, Opens, Performs, CallsFor, effect_of, refusal_of};
+ghost use Rattle.acc_script.specs.Scripts.{back_from, shown};
 ghost use Rattle.acc_table.specs.Queries.{host_read_of};
 
+use crate::kernels::{run_kernel, source_of};
 use crate::print::effects::Effect;
-use acc_base::{Call, Config, Fault, Section};
-use acc_read::{Arrays, Statement};
-use acc_table::{Reply, Table};
+use acc_base::{Config, Fault, Section};
+use acc_lend::Lease;
+use acc_read::{Arrays, ScriptKernel, Statement};
+use acc_table::{Call, Reply, Table, abandon};
 use std::alloc::Global;
 
 /// A table, and the arrays that the script has declared.
@@ -40,8 +44,8 @@ impl Session {
     ///
     /// # Errors
     ///
-    /// [`Fault::Memory`] alone, for a statement that declares, directs or writes and is refused for nothing else.
-    /// Nothing changed.
+    /// [`Fault::Memory`] alone, for a statement that declares, directs, runs a kernel or writes, and is refused for
+    /// nothing else. Nothing changed, but a kernel's block is lent where memory is wanting to bring it back.
     pub fn perform(&mut self, alloc: Global, statement: Statement<'_>) -> Result<Effect, Fault>
         ensures { Performs (state_of self.old) (meaning_of statement.entry) (state_of self.new) result }
     {
@@ -52,6 +56,11 @@ impl Session {
                 Ok(Effect::Nothing)
             }
             Statement::Direct(directive) => self.call(Call::Do(directive)),
+            Statement::Kernel {
+                region,
+                kernel,
+                section,
+            } => self.launch(region, kernel, section),
             Statement::Write { addr, bytes } => self.call(Call::HostWrite { addr, bytes }),
             Statement::Show(section) => Ok(self.answer_show(section)),
             Statement::Peek(section) => Ok(Effect::DeviceBytes(section)),
@@ -61,17 +70,50 @@ impl Session {
         }
     }
 
-    /// Makes a call on the table.
-    #[tactic(auto, using(crate::proofs::Accepted::accepted))]
+    /// Makes a call on the table. A lease is let go that it replies, or that it brings and the table refuses.
+    #[tactic(auto, using(crate::proofs::Refused::refused_call))]
     fn call(&mut self, call: Call) -> Result<Effect, Fault>
         ensures { CallsFor (state_of self.old) call (state_of self.new) result }
     {
         match self.table.apply(call) {
-            Ok(Reply::Done | Reply::Entered { .. } | Reply::Drained { .. }) => Ok(Effect::Nothing),
-            Ok(Reply::Idle) => Ok(Effect::EmptyQueue),
-            Err((_, Fault::Memory)) => Err(Fault::Memory),
-            Err((_, fault)) => Ok(Effect::Refused(fault)),
+            Ok(reply) => Ok(effect_of(reply)),
+            Err(back) => refused(back),
         }
+    }
+
+    /// Runs a kernel over a section of host memory that is lent to it in an open region (OpenACC 3.3, section 2.5,
+    /// compute constructs). The bytes of its source have to be in host memory.
+    #[tactic(auto, using(crate::proofs::Launched::launch_refused, crate::proofs::Launched::launch_done))]
+    fn launch(
+        &mut self,
+        region: u64,
+        kernel: ScriptKernel,
+        section: Section,
+    ) -> Result<Effect, Fault>
+        ensures { Performs (state_of self.old) (Kernel region kernel section) (state_of self.new) result }
+    {
+        if self.table.host_read(source_of(kernel)).is_none() {
+            return Ok(Effect::Refused(Fault::OutOfHost { item: 1 }));
+        }
+        match self.table.apply(Call::Lend { region, section }) {
+            Ok(Reply::Lease(lease)) => self.work(kernel, lease),
+            Ok(reply) => {
+                reply.abandon();
+                Ok(Effect::Nothing)
+            }
+            Err(back) => refused(back),
+        }
+    }
+
+    /// Runs a kernel over a loan and brings it back. The lease is let go, so that its block stays lent, where that is
+    /// refused or wants memory.
+    fn work(&mut self, kernel: ScriptKernel, mut lease: Lease) -> Result<Effect, Fault>
+        ensures { IfSome (host_read_of (source_of kernel) (state_of self.old).world.state.host)
+            (λ src. CallsFor (state_of self.old) (back_from kernel src lease) (state_of self.new) result) }
+    {
+        let src = self.table.host_read(source_of(kernel)).unwrap_or(&[]);
+        run_kernel(kernel, &mut lease, src);
+        self.call(Call::Gather(lease))
     }
 
     /// What `show` has to print: a section's bytes, or a refusal where host memory does not have them. The bytes
@@ -83,5 +125,30 @@ impl Session {
             None => Effect::Refused(Fault::OutOfHost { item: 0 }),
             Some(_) => Effect::HostBytes(section),
         }
+    }
+}
+
+/// What an accepted call has to print. A lease is let go.
+fn effect_of(reply: Reply) -> Effect
+    ensures { result ≡ effect_of reply }
+{
+    let effect = if matches!(&reply, Reply::Idle) {
+        Effect::EmptyQueue
+    } else {
+        Effect::Nothing
+    };
+    reply.abandon();
+    effect
+}
+
+/// What a refused call has to print; want of memory ends the run. The call is let go.
+fn refused(back: (Call, Fault)) -> Result<Effect, Fault>
+    ensures { result ≡ refusal_of back.1 }
+{
+    let (call, fault) = back;
+    abandon(call);
+    match fault {
+        Fault::Memory => Err(Fault::Memory),
+        fault => Ok(Effect::Refused(fault)),
     }
 }

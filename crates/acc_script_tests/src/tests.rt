@@ -4,6 +4,7 @@
 use acc_base::{Config, Fault, ScriptFault};
 use acc_script::{MemorySink, MemorySource, Status, run};
 use faults::{FAULTS, LONG};
+use kernels::{KERNELS, SCARCE};
 use queues::QUEUES;
 use rows::{REGIONS, SCRIPTS, SMALL, WIDE};
 use std::alloc::AllocError;
@@ -15,6 +16,7 @@ use std::thread::Threads;
 
 mod ends;
 mod faults;
+mod kernels;
 mod queues;
 mod rows;
 
@@ -98,12 +100,18 @@ fn scripts_print_and_end(rt: HostRuntime) -> Result<(), Fail> {
     for (script, printed, end) in QUEUES {
         check(&rt, &WIDE, script.as_bytes(), printed, end)?;
     }
+    for (script, printed, end) in KERNELS {
+        check(&rt, &WIDE, script.as_bytes(), printed, end)?;
+    }
     Ok(())
 }
 
 #[test]
 fn small_tables_refuse(rt: HostRuntime) -> Result<(), Fail> {
     for (limits, script, printed, end) in SMALL {
+        check(&rt, &limits, script.as_bytes(), printed, end)?;
+    }
+    for (limits, script, printed, end) in SCARCE {
         check(&rt, &limits, script.as_bytes(), printed, end)?;
     }
     Ok(())

@@ -1,16 +1,18 @@
 -- What the queries answer, by sets of addresses and within the machine's numbers.
 use Rattle.std.proofs.Common.{ℕ, ◌≡◌, ◌<◌, ◌≤◌, ◌^◌, ◌+◌, refl, ◌∙◌, ap, subst, Bool, true, false, cond, List, [], ◌∷◌, length, Option, Some, None, arith}
-use Rattle.std.specs.Prelude.{◌↔◌, ◌==◌, nat_le, IsTrue, IsSome, unwrap_or, option_map}
+use Rattle.std.specs.Prelude.{◌↔◌, ◌==◌, nat_le, IsTrue, IsSome, unwrap_or, option_map, take, drop}
 use Rattle.std.specs.List.{AllByRecursion}
 use Rattle.std.proofs.lemmas.Bool.Decides.{nat_tests}
 use Rattle.acc_base.specs.declared.items.Section.{Section}
 use Rattle.acc_base.specs.declared.mappings.Range.{Range}
 use Rattle.acc_base.specs.declared.mappings.Block.{Block}
+use Rattle.acc_base.specs.declared.loans.Loan.{Loan}
 use Rattle.acc_base.specs.declared.mappings.Found.{Found}
 use Rattle.acc_base.specs.declared.mappings.Found.TheVariants.{Empty, Inside, Partly, Absent}
 use Rattle.acc_base.specs.Limits.{IsWithinBounds}
 use Rattle.acc_base.specs.Section.{is_within, end_of, host_memory, host_base}
 use Rattle.acc_base.specs.Ranges.{where_is, range_of, range_from, IsPlacedAt}
+use Rattle.acc_base.specs.Loans.{is_lent}
 use Rattle.acc_base.specs.Records.{State}
 use Rattle.acc_base.specs.Bytes.{bytes_of}
 use Rattle.acc_base.specs.Blocks.{block_at, place_of}
@@ -22,7 +24,7 @@ use Rattle.acc_base.proofs.Where.{IsInside, where_is-placed, inside_exactly, IsI
 use Rattle.acc_clauses.specs.Acts.{CanMove}
 use Rattle.acc_clauses.proofs.Legal.{can_move}
 use Rattle.acc_table.specs.declared.calls.Mapped.{Mapped}
-use Rattle.acc_table.specs.Queries.{is_inside, IsInsideOne, mapped_as, mapped_from, IsLeastFrom}
+use Rattle.acc_table.specs.Queries.{is_inside, IsInsideOne, mapped_as, mapped_from, IsLeastFrom, device_read_of}
 
 -- ---- presence
 
@@ -57,18 +59,18 @@ least_more : (address : ℕ) (r : Range) (rs : List Range) (found : Option Mappe
 least_more address r rs None below h = (below, h)
 least_more address r rs (Some m) below h = (h.0, ((λ from. let from : address ≤ r.section.start = from in omega arith), h.1))
 
-first_least : (address : ℕ) (blocks : List Block) (ranges : List Range) → EachPair (λ (r : Range) (t : Range). IsBelow r.section t.section) ranges → IsLeastFrom address ranges (option_map (mapped_as blocks) (range_from address ranges))
-first_least address blocks [] h = tt
-first_least address blocks (r ∷ rs) h = go (nat_le address r.section.start) refl (first_least address blocks rs h.1)
+first_least : (address : ℕ) (blocks : List Block) (loans : List Loan) (ranges : List Range) → EachPair (λ (r : Range) (t : Range). IsBelow r.section t.section) ranges → IsLeastFrom address ranges (option_map (mapped_as blocks loans) (range_from address ranges))
+first_least address blocks loans [] h = tt
+first_least address blocks loans (r ∷ rs) h = go (nat_le address r.section.start) refl (first_least address blocks loans rs h.1)
   where
-    go : (b : Bool) → nat_le address r.section.start ≡ b → IsLeastFrom address rs (option_map (mapped_as blocks) (range_from address rs)) → IsLeastFrom address (r ∷ rs) (option_map (mapped_as blocks) (cond b (Some r) (range_from address rs)))
+    go : (b : Bool) → nat_le address r.section.start ≡ b → IsLeastFrom address rs (option_map (mapped_as blocks loans) (range_from address rs)) → IsLeastFrom address (r ∷ rs) (option_map (mapped_as blocks loans) (cond b (Some r) (range_from address rs)))
     go true e rest = let from : address ≤ r.section.start = grind (arith, nat_tests) in
         (from, ((λ x. omega arith), AllByRecursion-weaker (λ (t : Range). IsBelow r.section t.section) (λ (t : Range). address ≤ t.section.start → r.section.start ≤ t.section.start) rs (λ t below x. let below : end_of r.section ≤ t.section.start = below in omega arith) h.0))
-    go false e rest = let below : r.section.start < address = grind (arith, nat_tests) in least_more address r rs (option_map (mapped_as blocks) (range_from address rs)) below rest
+    go false e rest = let below : r.section.start < address = grind (arith, nat_tests) in least_more address r rs (option_map (mapped_as blocks loans) (range_from address rs)) below rest
 
 -- in every table the first range from an address on is the one of least start
 pub least_from : (w : World) (address : ℕ) → IsAccounted w → IsLeastFrom address w.state.records.ranges (mapped_from address w.state.records)
-least_from w address a = first_least address w.state.records.blocks w.state.records.ranges a.sound.layout.records.ranges_apart.rising
+least_from w address a = first_least address w.state.records.blocks w.state.records.loans w.state.records.ranges a.sound.layout.records.ranges_apart.rising
 
 -- ---- device addresses
 
@@ -91,11 +93,11 @@ place_low w number bounds a = go (block_at number w.state.records.blocks) refl
 
 -- ---- the bytes of a block
 
--- the section's bytes are at that offset of the block's
+-- the section's bytes are at that offset of the block's, where it is not lent
 pub record IsPartOf (section : Section) (block offset : ℕ) (s : State) : Type 0 where
   pub there : IsSome (block_at block s.records.blocks)
-  pub fits : offset + section.len ≤ length (bytes_of block s.memories)
-  pub short : length (bytes_of block s.memories) < 2 ^ 40
+  pub fits : is_lent block s.records.loans ≡ false → offset + section.len ≤ length (bytes_of block s.memories)
+  pub short : is_lent block s.records.loans ≡ false → length (bytes_of block s.memories) < 2 ^ 40
 
 pub part_of : (w : World) (section : Section) (block offset : ℕ) → IsWithinBounds w.limits → IsAccounted w → where_is section w.state.records.ranges ≡ Inside block offset → IsPartOf section block offset w.state
 part_of w section block offset bounds a e =
@@ -109,11 +111,19 @@ part_of w section block offset bounds a e =
     let is : range_of block ranges ≡ Some found.0 = subst (λ n. range_of n ranges ≡ Some found.0) found.1.block_is own.0 in
     let move : CanMove section block w.state = can_move w.limits w.state section block bounds records a.sound.memories_sized (record { range = found.0; range_is = is; within = own.1 }) in
     let same : move.range ≡ found.0 = (let r : range_of block ranges ≡ Some move.range = move.range_is in cc) in
-    let len : length (bytes_of block w.state.memories) ≡ found.0.section.len = move.len ∙ ap (λ (r : Range). r.section.len) same in
+    let len : is_lent block w.state.records.loans ≡ false → length (bytes_of block w.state.memories) ≡ found.0.section.len = λ free. move.len free ∙ ap (λ (r : Range). r.section.len) same in
     let bounds_of : (found.0.section.start ≤ section.start) × (end_of section ≤ end_of found.0.section) = (let t : is_within section found.0.section ≡ true = own.1 in grind (arith, nat_tests)) in
     let in_memory : found.0.section.len ≤ w.limits.host = (let t : is_within found.0.section (host_memory w.limits.host) ≡ true = host.0.within in grind (arith, nat_tests)) in
     record {
       there = move.there;
-      fits = omega (arith, len, found.1.offset_is, bounds_of.0, bounds_of.1);
-      short = omega (arith, len, in_memory, bounds.host.1);
+      fits = λ free. omega (arith, len free, found.1.offset_is, bounds_of.0, bounds_of.1);
+      short = λ free. omega (arith, len free, in_memory, bounds.host.1);
     }
+
+-- the device has no bytes of a section whose block is lent
+pub read_lent : (section : Section) (block offset : ℕ) (s : State) → where_is section s.records.ranges ≡ Inside block offset → (is_lent block s.records.loans ≡ false → ⊥) → device_read_of section s ≡ None
+read_lent section block offset s found out = rw found (go (is_lent block s.records.loans) refl)
+  where
+    go : (b : Bool) → is_lent block s.records.loans ≡ b → cond b None (Some (take section.len (drop offset (bytes_of block s.memories)))) ≡ None
+    go true e = refl
+    go false e = absurd (out e)

@@ -4,20 +4,22 @@ use Rattle.std.specs.Prelude.{IfOk, OnOk, OnErr}
 use Rattle.acc_base.specs.declared.faults.Fault.{Fault}
 use Rattle.acc_base.specs.declared.directives.Directive.{Directive}
 use Rattle.acc_base.specs.declared.calls.Call.{Call}
-use Rattle.acc_base.specs.declared.calls.Call.TheVariants.{Do, HostWrite}
+use Rattle.acc_base.specs.declared.calls.Call.TheVariants.{Do, HostWrite, Lend, Gather}
+use Rattle.acc_base.specs.declared.items.Section.{Section}
+use Rattle.acc_base.specs.Loans.{Leased}
 use Rattle.acc_base.specs.declared.transfers.Transfer.{Transfer}
 use Rattle.acc_base.specs.declared.tasks.Task.{Task}
 use Rattle.acc_base.specs.declared.events.Step.{Step}
 use Rattle.acc_base.specs.declared.events.Step.TheVariants.{Nothing, Counted, Born, Dropped, Moved}
 use Rattle.acc_base.specs.declared.events.Did.{Did}
 use Rattle.acc_base.specs.declared.events.Event.{Event}
-use Rattle.acc_base.specs.declared.events.Event.TheVariants.{Entered, Left, EnteredData, ExitedData, Updated, Waited, Stepped, HostWritten}
+use Rattle.acc_base.specs.declared.events.Event.TheVariants.{Entered, Left, EnteredData, ExitedData, Updated, Waited, Stepped, HostWritten, Lent, Gathered}
 use Rattle.acc_base.specs.Limits.{Limits, IsWithinBounds}
 use Rattle.acc_base.specs.Records.{Records, Layout, layout_of}
 use Rattle.acc_base.specs.Steps.{act_row, act_step, act, act_all, released, records_after_birth, records_after_end, with_range_changed}
 use Rattle.acc_base.specs.Queues.{head_of}
 use Rattle.acc_base.specs.Waits.{records_made, records_stepped, records_drained}
-use Rattle.acc_base.specs.Walk.{walk, asked_in, done_in, stepped_in}
+use Rattle.acc_base.specs.Walk.{walk, asked_in, done_in, stepped_in, loaned}
 use Rattle.acc_base.specs.Acting.{after}
 use Rattle.acc_base.specs.Calls.{World, judge, world_after, bytes_brought, new_world}
 use Rattle.acc_base.specs.Judge.{Verdict, Makes, Idle, verdict_of}
@@ -29,8 +31,8 @@ use Rattle.acc_clauses.specs.Planned.{Planned, IsPlannedOn}
 use Rattle.acc_clauses.proofs.Events.{planned_asked}
 use Rattle.acc_table.specs.declared.calls.Reply.{Reply}
 use Rattle.acc_table.specs.Kept.{IsKept, world_of}
-use Rattle.acc_table.specs.Making.{planned_verdict, IsCommitted, IsAsBefore}
-use Rattle.acc_table.proofs.Verdicts.{committed, unchanged}
+use Rattle.acc_table.specs.Making.{planned_verdict, IsMadeInto, IsCommitted, IsAsBefore}
+use Rattle.acc_table.proofs.Verdicts.{made, unchanged}
 
 -- ---- births, of which a directive has at most 64
 
@@ -67,11 +69,26 @@ unfolding records_drained
 drained_births [] w = refl
 drained_births (q ∷ qs) w = drained_births qs (records_stepped q w) ∙ stepped_births q w
 
+-- nor does a loan
+loaned_births : (e : Event) (w : Records) → (loaned e w).births ≡ w.births
+unfolding loaned
+loaned_births (Entered number items did) w = refl
+loaned_births (Left number did) w = refl
+loaned_births (EnteredData items queue did) w = refl
+loaned_births (ExitedData items finalize queue did) w = refl
+loaned_births (Updated items if_present queue did) w = refl
+loaned_births (Waited queue count) w = refl
+loaned_births (Stepped queue block) w = refl
+loaned_births (HostWritten addr len) w = refl
+loaned_births (Lent region section block serial) w = refl
+loaned_births (Gathered serial block) w = refl
+
 walk_births : (e : Event) (lay : Layout) (tasks : List Task) → asked_in e lay.register ≡ tasks → (walk e lay).records.births ≤ lay.records.births + length tasks
 unfolding walk
 walk_births e lay tasks is =
     let most : (act_all (asked_in e lay.register) (done_in e) lay.records).births ≤ lay.records.births + length tasks = subst (λ ts. (act_all ts (done_in e) lay.records).births ≤ lay.records.births + length tasks) (sym is) (all_births tasks (done_in e) lay.records) in
-    subst (λ n. n ≤ lay.records.births + length tasks) (sym (drained_births (stepped_in e lay.records.queues) (act_all (asked_in e lay.register) (done_in e) lay.records))) most
+    let acted : Records = act_all (asked_in e lay.register) (done_in e) lay.records in
+    subst (λ n. n ≤ lay.records.births + length tasks) (sym (loaned_births e (records_drained (stepped_in e lay.records.queues) acted) ∙ drained_births (stepped_in e lay.records.queues) acted)) most
 
 -- ---- region numbers, of which an event uses at most one
 
@@ -85,21 +102,40 @@ walk_regions (Updated items if_present queue did) lay = omega arith
 walk_regions (Waited queue count) lay = omega arith
 walk_regions (Stepped queue block) lay = omega arith
 walk_regions (HostWritten addr len) lay = omega arith
+walk_regions (Lent region section block serial) lay = omega arith
+walk_regions (Gathered serial block) lay = omega arith
+
+-- ---- serial numbers of loans, of which an event uses at most one
+
+walk_serials : (e : Event) (lay : Layout) → (walk e lay).register.serial ≤ lay.register.serial + 1
+unfolding walk
+walk_serials (Entered number items did) lay = omega arith
+walk_serials (Left number did) lay = omega arith
+walk_serials (EnteredData items queue did) lay = omega arith
+walk_serials (ExitedData items finalize queue did) lay = omega arith
+walk_serials (Updated items if_present queue did) lay = omega arith
+walk_serials (Waited queue count) lay = omega arith
+walk_serials (Stepped queue block) lay = omega arith
+walk_serials (HostWritten addr len) lay = omega arith
+walk_serials (Lent region section block serial) lay = omega arith
+walk_serials (Gathered serial block) lay = omega arith
 
 -- ---- a call
 
-kept_after : (w : World) (call : Call) (e : Event) (tasks : List Task) → IsKept w → judge w call ≡ Ok (Makes e) → asked_in e w.state.register ≡ tasks → length tasks ≤ 64 → IsKept (world_after call e w)
+kept_after : (w : World) (call : Call Leased) (e : Event) (tasks : List Task) → IsKept w → judge w call ≡ Ok (Makes e) → asked_in e w.state.register ≡ tasks → length tasks ≤ 64 → IsKept (world_after call e w)
 unfolding world_after
 kept_after w call e tasks k h asked few =
     let is : layout_of (after e (bytes_brought call) w.state) ≡ walk e (layout_of w.state) = layout-after e (bytes_brought call) w.state in
     let more : length (w.history.trace ++ e ∷ []) ≡ length w.history.trace + 1 = length-append w.history.trace (e ∷ []) in
     let births : (after e (bytes_brought call) w.state).records.births ≤ w.state.records.births + length tasks = subst (λ (lay : Layout). lay.records.births ≤ w.state.records.births + length tasks) (sym is) (walk_births e (layout_of w.state) tasks asked) in
     let regions : (after e (bytes_brought call) w.state).register.next ≤ w.state.register.next + 1 = subst (λ (lay : Layout). lay.register.next ≤ w.state.register.next + 1) (sym is) (walk_regions e (layout_of w.state)) in
+    let serials : (after e (bytes_brought call) w.state).register.serial ≤ w.state.register.serial + 1 = subst (λ (lay : Layout). lay.register.serial ≤ w.state.register.serial + 1) (sym is) (walk_serials e (layout_of w.state)) in
     record {
       bounds = k.bounds;
       accounted = accepted_accounted w call e k.bounds h k.accounted;
       births = omega (arith, births, few, more, k.births);
       regions = omega (arith, regions, more, k.regions);
+      serials = omega (arith, serials, more, k.serials);
     }
 
 pub kept_directive : (w : World) (d : Directive) (p : Planned) (e : Event) → IsKept w → IsPlannedOn w.limits d (layout_of w.state) p → verdict_of d w.state p.dids ≡ Makes e → judge w (Do d) ≡ Ok (Makes e) → IsKept (world_after (Do d) e w)
@@ -108,20 +144,38 @@ kept_directive w d p e k planned is h = kept_after w (Do d) e p.tasks k h (plann
 pub kept_write : (w : World) (addr : ℕ) (bytes : List ℕ) → IsKept w → judge w (HostWrite addr bytes) ≡ Ok (Makes (HostWritten addr (length bytes))) → IsKept (world_after (HostWrite addr bytes) (HostWritten addr (length bytes)) w)
 kept_write w addr bytes k h = kept_after w (HostWrite addr bytes) (HostWritten addr (length bytes)) [] k h refl (omega arith)
 
+pub kept_lend : (w : World) (region : ℕ) (section : Section) (block serial : ℕ) → IsKept w → judge w (Lend region section) ≡ Ok (Makes (Lent region section block serial)) → IsKept (world_after (Lend region section) (Lent region section block serial) w)
+kept_lend w region section block serial k h = kept_after w (Lend region section) (Lent region section block serial) [] k h refl (omega arith)
+
+pub kept_gather : (w : World) (lease : Leased) (serial block : ℕ) → IsKept w → judge w (Gather lease) ≡ Ok (Makes (Gathered serial block)) → IsKept (world_after (Gather lease) (Gathered serial block) w)
+kept_gather w lease serial block k h = kept_after w (Gather lease) (Gathered serial block) [] k h refl (omega arith)
+
+-- what a store and a trace keep that were made into those after an event, or only had room made
+pub kept_called : (call : Call Leased) (e : Event) (old new : Contents) (trace longer : List Event) (reply : Reply) → IsKept (world_after call e (world_of old trace)) → IsMadeInto e (bytes_brought call) reply old new trace longer → IsKept (world_of new longer)
+kept_called call e old new trace longer reply k m = subst (λ (w : World). IsKept w) (sym (made call e reply old new trace longer m)) k
+
+kept_same : (old new : Contents) (trace same : List Event) → IsKept (world_of old trace) → IsAsBefore old new trace same → IsKept (world_of new same)
+kept_same old new trace same k h = subst (λ (w : World). IsKept w) (sym (unchanged old new trace same h)) k
+
+pub kept_either : {E : Type 0} (call : Call Leased) (e : Event) (old new : Contents) (trace longer : List Event) (r : Result Reply E) → IsKept (world_of old trace) → IsKept (world_after call e (world_of old trace))
+    → IfOk r (λ reply. IsMadeInto e (bytes_brought call) reply old new trace longer) → OnErr r (IsAsBefore old new trace longer) → IsKept (world_of new longer)
+kept_either call e old new trace longer (Ok reply) k next m same = kept_called call e old new trace longer reply next m
+kept_either call e old new trace longer (Err x) k next m same = kept_same old new trace longer k same
+
 -- what a store and a trace keep that carried a directive out, or were asked in vain
 pub kept_carried : (d : Directive) (p : Planned) (old new : Contents) (trace longer : List Event) (r : Result Reply (Directive × Fault)) → IsKept (world_of old trace) → OnOk r (IsPlannedOn old.limits d (layout_of old.state) p)
     → OnOk r (judge (world_of old trace) (Do d) ≡ Ok (planned_verdict d p old)) → IfOk r (λ reply. IsCommitted (planned_verdict d p old) reply old new trace longer) → OnErr r (IsAsBefore old new trace longer) → IsKept (world_of new longer)
 kept_carried d p old new trace longer (Ok reply) k planned h done same = go (planned_verdict d p old) refl done
   where
     go : (v : Verdict) → planned_verdict d p old ≡ v → IsCommitted v reply old new trace longer → IsKept (world_of new longer)
-    go (Makes e) is x = subst (λ (w : World). IsKept w) (sym (committed d e reply old new trace longer x)) (kept_directive (world_of old trace) d p e k planned is (h ∙ ap Ok is))
+    go (Makes e) is x = subst (λ (w : World). IsKept w) (sym (made (Do d) e reply old new trace longer x)) (kept_directive (world_of old trace) d p e k planned is (h ∙ ap Ok is))
     go Idle is x = subst (λ (w : World). IsKept w) (sym (unchanged old new trace longer x.1)) k
 kept_carried d p old new trace longer (Err back) k planned h done same = subst (λ (w : World). IsKept w) (sym (unchanged old new trace longer same)) k
 
 -- ---- a new table
 
 new_world_kept : (l : Limits) → IsWithinBounds l → IsKept (new_world l)
-new_world_kept l bounds = record { bounds = bounds; accounted = new_accounted l bounds; births = omega arith; regions = omega arith }
+new_world_kept l bounds = record { bounds = bounds; accounted = new_accounted l bounds; births = omega arith; regions = omega arith; serials = omega arith }
 
 pub new_is : (l : Limits) (c : Contents) → AreNew l c → world_of c [] ≡ new_world l
 new_is l c new = rw (new.limits, new.state) refl

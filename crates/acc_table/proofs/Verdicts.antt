@@ -1,35 +1,41 @@
 -- A directive that was judged becomes its event, and a call its verdict.
-use Rattle.std.proofs.Common.{ℕ, ◌≡◌, ◌<◌, Bool, true, false, arith, refl, sym, ◌∙◌, subst, List, [], ◌∷◌, ◌++◌, length, Option, Some, None, Result, Ok, Err}
-use Rattle.std.specs.Prelude.{⊤, not, is_none, option_map, ◌&&◌, IfOk, IfErr, OnOk}
+use Rattle.std.proofs.Common.{ℕ, ◌≡◌, ◌+◌, ◌-◌, ◌<◌, ◌≤◌, Bool, true, false, arith, refl, sym, ◌∙◌, ap, subst, length-append, length-drop, List, [], ◌∷◌, ◌++◌, length, Option, Some, None, Result, Ok, Err}
+use Rattle.std.specs.Prelude.{⊤, not, nat_le, take, drop, is_none, option_map, ◌&&◌, IfOk, IfErr, OnOk}
+use Rattle.std.proofs.lemmas.List.{take_all, length-take-le}
 use Rattle.std.proofs.lemmas.Bool.Decides.{nat_tests}
 use Rattle.acc_base.specs.declared.items.Section.{Section}
 use Rattle.acc_base.specs.Section.{is_empty, is_within, host_memory}
-use Rattle.acc_base.proofs.Results.{then_ok, refused_not}
+use Rattle.acc_base.proofs.Results.{bind_ok, then_ok, ok_same, refused_not}
 use Rattle.acc_base.specs.declared.directives.Directive.{Directive}
 use Rattle.acc_base.specs.declared.directives.Directive.TheVariants.{Enter, Exit, EnterData, ExitData, Update, Wait, Step}
-use Rattle.acc_base.specs.declared.calls.Call.TheVariants.{Do, HostWrite}
+use Rattle.acc_base.specs.declared.calls.Call.{Call}
+use Rattle.acc_base.specs.declared.calls.Call.TheVariants.{Do, HostWrite, Gather}
 use Rattle.acc_base.specs.declared.events.Event.{Event}
 use Rattle.acc_base.specs.declared.events.Event.TheVariants.{Stepped, HostWritten}
 use Rattle.acc_base.specs.declared.events.Did.{Did}
 use Rattle.acc_base.specs.declared.transfers.Transfer.{Transfer}
 use Rattle.acc_base.specs.declared.faults.Fault.{Fault}
+use Rattle.acc_base.specs.declared.faults.Fault.TheVariants.{Memory}
 use Rattle.acc_base.specs.Results.{◌>>=◌, ◌>>◌}
-use Rattle.acc_base.specs.Records.{State}
-use Rattle.acc_base.specs.Queues.{head_of as head_of_queue}
+use Rattle.acc_base.specs.Loans.{Leased, none_lent}
+use Rattle.acc_base.specs.Walk.{loaned}
+use Rattle.acc_base.specs.Records.{Records, State}
+use Rattle.acc_base.specs.Queues.{head_of as head_of_queue, queue_named}
 use Rattle.acc_base.specs.Bytes.{host_after_write}
 use Rattle.acc_base.specs.Waits.{drained}
-use Rattle.acc_base.specs.Acting.{act_all_state, after}
+use Rattle.acc_base.specs.Acting.{act_all_state, judge_all, after}
 use Rattle.acc_base.specs.Clauses.{in_host}
-use Rattle.acc_base.specs.Judge.{few_items, step_verdict, verdict_of, directive_verdict, plan_of, host_write_event}
-use Rattle.acc_base.specs.Calls.{World, judge, ticket, allowance, trace_room, world_after}
+use Rattle.acc_base.specs.Judge.{few_items, tasks_of, queue_in, transfers_in, step_verdict, verdict_of, directive_verdict, plan_of, host_write_event, gather_event}
+use Rattle.acc_base.specs.Calls.{World, judge, ticket, allowance, trace_room, bytes_brought, world_after}
 use Rattle.acc_base.specs.Judge.{Verdict, Makes, Idle}
 use Rattle.acc_clauses.specs.Contents.{Contents}
 use Rattle.acc_clauses.specs.Planned.{Planned, head_of, in_written_order}
+use Rattle.acc_lend.specs.Loans.{with_section, written_over}
 use Rattle.acc_table.specs.declared.calls.Reply.{Reply}
 use Rattle.acc_table.specs.declared.calls.Reply.TheVariants.{Done}
 use Rattle.acc_table.specs.Calls.{IsCarriedOut, IsDone, IsRefusal}
 use Rattle.acc_table.specs.Kept.{world_of}
-use Rattle.acc_table.specs.Making.{verdict_stored, verdict_told, is_idle, admitted, write_admitted, planned_verdict, MayBeToldOf, IsMadeInto, IsCommitted, IsAsBefore}
+use Rattle.acc_table.specs.Making.{verdict_stored, verdict_told, is_idle, is_loan, admitted, write_admitted, planned_verdict, MayBeToldOf, IsMadeInto, IsCommitted, IsAsBefore}
 
 -- ---- the event
 
@@ -80,10 +86,10 @@ told_idle (Step queue) s dids e = go (head_of_queue queue s.records.queues) e
 
 -- ---- the world
 
--- the world of a store and a trace after a directive is the world after its event
-pub committed : (d : Directive) (e : Event) (reply : Reply) (old new : Contents) (trace longer : List Event) → IsMadeInto e reply old new trace longer → world_of new longer ≡ world_after (Do d) e (world_of old trace)
+-- the world of a store and a trace after a call is the world after its event
+pub made : (call : Call Leased) (e : Event) (reply : Reply) (old new : Contents) (trace longer : List Event) → IsMadeInto e (bytes_brought call) reply old new trace longer → world_of new longer ≡ world_after call e (world_of old trace)
 unfolding world_after
-committed d e reply old new trace longer h = rw (h.limits, h.state, h.trace) refl
+made call e reply old new trace longer h = rw (h.limits, h.state, h.trace) refl
 
 -- and as before where only room was made
 pub unchanged : (old new : Contents) (trace same : List Event) → IsAsBefore old new trace same → world_of new same ≡ world_of old trace
@@ -92,7 +98,7 @@ unchanged old new trace same h = rw (h.limits, h.state, h.trace) refl
 -- the world of a store and a trace after a write of the host
 pub written : (addr : ℕ) (bytes : List ℕ) (old new : Contents) (trace longer : List Event) → new.limits ≡ old.limits → new.state ≡ record old.state { host = host_after_write addr (length bytes) bytes old.state.host } → longer ≡ trace ++ HostWritten addr (length bytes) ∷ []
     → world_of new longer ≡ world_after (HostWrite addr bytes) (HostWritten addr (length bytes)) (world_of old trace)
-unfolding world_after after act_all_state drained
+unfolding world_after after act_all_state drained loaned
 written addr bytes old new trace longer l s t = rw (l, s, t) refl
 
 -- ---- the verdict
@@ -154,11 +160,85 @@ can_write w s admitted size some =
     go true e = refl
     go false e = cc
 
+-- ---- the verdict on a lease that comes back
+
+-- no judgement reads the bytes of a lease, but only how many there are
+written-len : (offset : ℕ) (bytes old : List ℕ) → length (written_over offset bytes old) ≡ length old
+written-len offset bytes old = length-take-le (length old) (take offset old ++ (bytes ++ drop (offset + length bytes) old)) (simp (length-append, length-drop) (go (nat_le offset (length old)) refl))
+  where
+    go : (b : Bool) → nat_le offset (length old) ≡ b → length old ≤ length (take offset old) + (length bytes + (length old - (offset + length bytes)))
+    go true e = let low : offset ≤ length old = grind (arith, nat_tests) in omega (arith, length-take-le offset old low)
+    go false e = let high : length old < offset = grind (arith, nat_tests) in omega (arith, ap length (take_all offset old (omega arith)))
+
+pub gather_rewritten : (lease : Leased) (bytes : List ℕ) (w : Records) → gather_event (with_section lease bytes) w ≡ gather_event lease w
+unfolding gather_event
+gather_rewritten lease bytes w = rw (written-len lease.offset bytes lease.bytes) refl
+
+pub judge_rewritten : (w : World) (lease : Leased) (bytes : List ℕ) → judge w (Gather (with_section lease bytes)) ≡ judge w (Gather lease)
+unfolding judge
+judge_rewritten w lease bytes = rw (gather_rewritten lease bytes w.state.records) refl
+
+-- ---- a directive or a write of the host is no loan
+
+no_loan : (e f : Event) → ◌≡◌ {A = Verdict} (Makes f) (Makes e) → is_loan f ≡ false → is_loan e ≡ false
+no_loan e f h p = let same : f ≡ e = cc in subst (λ (x : Event). is_loan x ≡ false) same p
+
+pub stored_no_loan : (d : Directive) (s : State) (did : List Did) (e : Event) → verdict_stored d s did ≡ Makes e → is_loan e ≡ false
+stored_no_loan (Enter items) s did e h = no_loan e _ h refl
+stored_no_loan (Exit number) s did e h = no_loan e _ h refl
+stored_no_loan (EnterData items queue) s did e h = no_loan e _ h refl
+stored_no_loan (ExitData items finalize queue) s did e h = no_loan e _ h refl
+stored_no_loan (Update items if_present queue) s did e h = no_loan e _ h refl
+stored_no_loan (Wait queue) s did e h = no_loan e _ h refl
+stored_no_loan (Step queue) s did e h = go (head_of_queue queue s.records.queues) h
+  where
+    go : (o : Option Transfer) → step_verdict queue o ≡ Makes e → is_loan e ≡ false
+    go None x = cc
+    go (Some t) x = no_loan e _ x refl
+
+-- so is the event that a directive makes
+pub directive_no_loan : (w : World) (d : Directive) (e : Event) → judge w (Do d) ≡ Ok (Makes e) → is_loan e ≡ false
+unfolding plan_of directive_verdict
+directive_no_loan w d e h =
+    let s : State = w.state in
+    let planned : plan_of w.limits d s ≡ Ok (Makes e) = (then_ok (admitted w d) (plan_of w.limits d s) (Makes e) (sym (judge_directive w d) ∙ h)).1 in
+    let judged : directive_verdict w.limits d s ≡ Ok (Makes e) = (then_ok (few_items d) (directive_verdict w.limits d s) (Makes e) planned).1 in
+    let asked = bind_ok (tasks_of d s.register) _ (Makes e) judged in
+    let named = then_ok (queue_named (queue_in d)) _ (Makes e) asked.2 in
+    let acted = bind_ok (judge_all w.limits 0 asked.0 s) _ (Makes e) named.1 in
+    let free = then_ok (none_lent (transfers_in d s.records.queues) s.records.loans) _ (Makes e) acted.2 in
+    let is : verdict_of d s acted.0 ≡ Makes e = ok_same (verdict_of d s acted.0) (Makes e) free.1 in
+    stored_no_loan d s (in_written_order (head_of d) acted.0) e (stored d s acted.0 ∙ is)
+
+-- and that of a write of the host
+pub write_no_loan : (w : World) (addr : ℕ) (bytes : List ℕ) (e : Event) → judge w (HostWrite addr bytes) ≡ Ok (Makes e) → is_loan e ≡ false
+write_no_loan w addr bytes e h =
+    let is = then_ok (write_admitted w (record { start = addr; len = length bytes })) (Ok (Makes (HostWritten addr (length bytes)))) (Makes e) (sym (judge_write w addr bytes) ∙ h) in
+    no_loan e (HostWritten addr (length bytes)) (ok_same (Makes (HostWritten addr (length bytes))) (Makes e) is.1) refl
+
 -- ---- a call that was carried out
+
+-- a call that was judged so and made its event is done
+pub made_done : (call : Call Leased) (e : Event) (reply : Reply) (old new : Contents) (trace longer : List Event) → judge (world_of old trace) call ≡ Ok (Makes e) → IsMadeInto e (bytes_brought call) reply old new trace longer
+    → IsDone (world_of old trace) call reply (world_of new longer)
+made_done call e reply old new trace longer h m = rw h (m.reply, made call e reply old new trace longer m)
+
+pub done_either : {E : Type 0} (call : Call Leased) (e : Event) (old new : Contents) (trace longer : List Event) (r : Result Reply E) → judge (world_of old trace) call ≡ Ok (Makes e)
+    → IfOk r (λ reply. IsMadeInto e (bytes_brought call) reply old new trace longer) → IfOk r (λ reply. IsDone (world_of old trace) call reply (world_of new longer))
+done_either call e old new trace longer (Ok reply) h m = made_done call e reply old new trace longer h m
+done_either call e old new trace longer (Err x) h m = tt
+
+-- and may be refused for want of memory
+pub made_wanted : (w : World) (call : Call Leased) (e : Event) → judge w call ≡ Ok (Makes e) → IsRefusal w call Memory
+made_wanted w call e h = rw h refl
+
+-- a refusal is told
+pub judged_refused : (w : World) (call : Call Leased) (fault : Fault) → judge w call ≡ Err fault → IsRefusal w call fault
+judged_refused w call fault h = rw h refl
 
 -- what a directive came to, which was judged so, is done
 carried_out : (d : Directive) (v : Verdict) (reply : Reply) (old new : Contents) (trace longer : List Event) → IsCommitted v reply old new trace longer → IsCarriedOut (world_of old trace) (Do d) v reply (world_of new longer)
-carried_out d (Makes e) reply old new trace longer h = (h.reply, committed d e reply old new trace longer h)
+carried_out d (Makes e) reply old new trace longer h = (h.reply, made (Do d) e reply old new trace longer h)
 carried_out d Idle reply old new trace longer h = (h.0, unchanged old new trace longer h.1)
 
 pub directive_done : (d : Directive) (p : Planned) (old new : Contents) (trace longer : List Event) (r : Result Reply (Directive × Fault)) → OnOk r (judge (world_of old trace) (Do d) ≡ Ok (planned_verdict d p old))

@@ -5,29 +5,34 @@ use Rattle.acc_base.specs.declared.events.Event.{Event}
 use Rattle.acc_base.specs.declared.events.Event.TheVariants as events
 use Rattle.acc_base.specs.declared.faults.Fault.{Fault}
 use Rattle.acc_base.specs.declared.faults.Fault.TheVariants.{Memory}
+use Rattle.acc_base.specs.Loans.{Leased}
+use Rattle.acc_base.specs.Records.{State}
+use Rattle.acc_base.specs.Walk.{loan_at}
 use Rattle.acc_base.specs.Calls.{World, judge, world_after}
-use Rattle.acc_base.specs.Judge.{Verdict, Makes, Idle}
+use Rattle.acc_base.specs.Judge.{Verdict, Makes, Idle, leased}
 use Rattle.acc_table.specs.declared.calls.Reply.{Reply}
 use Rattle.acc_table.specs.declared.calls.Reply.TheVariants as replies
 
--- what a call that made this event answers: an entry to a region its number, and a wait how many transfers it made
-abbrev pub reply_of : Event → Reply
-reply_of (events.Entered number items did) = replies.Entered number
-reply_of (events.Left number did) = replies.Done
-reply_of (events.EnteredData items queue did) = replies.Done
-reply_of (events.ExitedData items finalize queue did) = replies.Done
-reply_of (events.Updated items if_present queue did) = replies.Done
-reply_of (events.Waited queue count) = replies.Drained count
-reply_of (events.Stepped queue block) = replies.Done
-reply_of (events.HostWritten addr len) = replies.Done
+-- what a call that made this event of a state answers: an entry to a region its number, a wait how many transfers it made, and a loan its lease, with the bytes that the block had
+abbrev pub reply_of : Event → State → Reply
+reply_of (events.Entered number items did) s = replies.Entered number
+reply_of (events.Left number did) s = replies.Done
+reply_of (events.EnteredData items queue did) s = replies.Done
+reply_of (events.ExitedData items finalize queue did) s = replies.Done
+reply_of (events.Updated items if_present queue did) s = replies.Done
+reply_of (events.Waited queue count) s = replies.Drained count
+reply_of (events.Stepped queue block) s = replies.Done
+reply_of (events.HostWritten addr len) s = replies.Done
+reply_of (events.Lent region section block serial) s = replies.Lease (leased (loan_at serial block section s.records.ranges) s)
+reply_of (events.Gathered serial block) s = replies.Done
 
 -- the reply is that of the event, and the world is that after it; where there was nothing to do, the world is the same
-abbrev pub IsCarriedOut : World → Call → Verdict → Reply → World → Type 0
-IsCarriedOut w call (Makes e) reply v = (reply ≡ reply_of e) × (v ≡ world_after call e w)
+abbrev pub IsCarriedOut : World → Call Leased → Verdict → Reply → World → Type 0
+IsCarriedOut w call (Makes e) reply v = (reply ≡ reply_of e w.state) × (v ≡ world_after call e w)
 IsCarriedOut w call Idle reply v = (reply ≡ replies.Idle) × (v ≡ w)
 
 -- the call was accepted, and carried out
-abbrev pub IsDone : World → Call → Reply → World → Type 0
+abbrev pub IsDone : World → Call Leased → Reply → World → Type 0
 IsDone w call reply v = MatchResult (judge w call) (λ verdict. IsCarriedOut w call verdict reply v) (λ fault. ⊥)
 
 -- where there is something to do, memory may be wanted for it
@@ -36,5 +41,5 @@ MayWantMemory (Makes e) fault = fault ≡ Memory
 MayWantMemory Idle fault = ⊥
 
 -- the fault is the call's first refusal, or want of memory where there is none
-abbrev pub IsRefusal : World → Call → Fault → Type 0
+abbrev pub IsRefusal : World → Call Leased → Fault → Type 0
 IsRefusal w call fault = MatchResult (judge w call) (λ verdict. MayWantMemory verdict fault) (λ refusal. fault ≡ refusal)

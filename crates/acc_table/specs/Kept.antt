@@ -10,9 +10,10 @@ use Rattle.acc_clauses.specs.Contents.{Contents}
 abbrev pub world_of : Contents → List Event → World
 world_of c trace = record { limits = c.limits; history = record { trace = trace }; state = c.state }
 
--- the limits are within their bounds, the world is accounted for, and there were at most 64 births and one region to an event
+-- the limits are within their bounds, the world is accounted for, and there were at most 64 births, one region and one loan to an event
 pub record IsKept (w : World) : Type 0 where
   pub bounds : IsWithinBounds w.limits
   pub accounted : IsAccounted w
   pub births : w.state.records.births ≤ 64 * event_count w.history
   pub regions : w.state.register.next ≤ event_count w.history + 1
+  pub serials : w.state.register.serial ≤ event_count w.history + 1

@@ -3,3 +3,4 @@ pub mod Calls
 pub mod Making
 pub mod Queries
 pub mod Turns
+pub mod Turning

@@ -1,7 +1,9 @@
 -- How a directive that was judged becomes an event, and what is refused before its items are judged.
-use Rattle.std.specs.Prelude.{◌≡◌, ◌++◌, ◌∷◌, [], Bool, false, List, length, Option, Some, None, is_none, option_map, Result, MatchResult, ⊤}
+use Rattle.std.specs.Prelude.{ℕ, ◌≡◌, ◌++◌, ◌∷◌, [], Bool, true, false, List, length, Option, Some, None, is_none, option_map, Result, Ok, Err, MatchResult, ⊤}
 use Rattle.acc_base.specs.declared.items.Section.{Section}
 use Rattle.acc_base.specs.declared.directives.Directive.{Directive}
+use Rattle.acc_base.specs.declared.calls.Call.TheVariants.{Lend, Gather}
+use Rattle.acc_base.specs.declared.loans.Loan.{Loan}
 use Rattle.acc_base.specs.declared.directives.Directive.TheVariants.{Enter, Exit, EnterData, ExitData, Update, Wait, Step}
 use Rattle.acc_base.specs.declared.events.Did.{Did}
 use Rattle.acc_base.specs.declared.events.Event.{Event}
@@ -13,8 +15,10 @@ use Rattle.acc_base.specs.Records.{State}
 use Rattle.acc_base.specs.Queues.{head_of}
 use Rattle.acc_base.specs.Waits.{steps_of}
 use Rattle.acc_base.specs.Clauses.{in_host}
-use Rattle.acc_base.specs.Judge.{Verdict, Makes, Idle, few_items, step_verdict, verdict_of}
-use Rattle.acc_base.specs.Calls.{World, ticket, allowance, trace_room}
+use Rattle.acc_base.specs.Loans.{Leased}
+use Rattle.acc_base.specs.Judge.{Verdict, Makes, Idle, few_items, step_verdict, verdict_of, gather_event}
+use Rattle.acc_base.specs.Calls.{World, judge, ticket, allowance, trace_room}
+use Rattle.acc_clauses.specs.Lending.{IsLoanPlanned}
 use Rattle.acc_clauses.specs.Contents.{Contents}
 use Rattle.acc_clauses.specs.Planned.{Planned}
 use Rattle.acc_table.specs.declared.calls.Reply.{Reply}
@@ -61,6 +65,14 @@ write_admitted w section = do
   trace_room w
   in_host w.limits 0 section
 
+-- what lending the block of a section comes to, or what it is refused for
+abbrev pub IsLoanJudged : World → ℕ → Section → Result Loan Fault → Type 0
+IsLoanJudged w region section result = MatchResult result (λ loan. IsLoanPlanned w.limits region section w.state loan × (judge w (Lend region section) ≡ Ok (Makes (events.Lent region section loan.block loan.serial)))) (λ fault. judge w (Lend region section) ≡ Err fault)
+
+-- what a lease comes to that is brought back, or what it is refused for
+abbrev pub IsLeaseJudged : World → Leased → Result ⊤ Fault → Type 0
+IsLeaseJudged w lease result = MatchResult result (λ _. (gather_event lease w.state.records ≡ Ok (events.Gathered lease.serial lease.block)) × (judge w (Gather lease) ≡ Ok (Makes (events.Gathered lease.serial lease.block)))) (λ fault. judge w (Gather lease) ≡ Err fault)
+
 -- what a directive comes to for which this was planned
 abbrev pub planned_verdict : Directive → Planned → Contents → Verdict
 planned_verdict d p c = verdict_of d c.state p.dids
@@ -75,14 +87,19 @@ pub record IsAsBefore (old new : Contents) (before after_it : List Event) : Type
   pub state : new.state ≡ old.state
   pub trace : after_it ≡ before
 
--- a store and a trace after an event, which was answered so
-pub record IsMadeInto (e : Event) (answered : Reply) (old new : Contents) (before after_it : List Event) : Type 0 where
-  pub reply : answered ≡ reply_of e
+-- a store and a trace after an event, for which a call brought these bytes and which was answered so
+pub record IsMadeInto (e : Event) (brought : List ℕ) (answered : Reply) (old new : Contents) (before after_it : List Event) : Type 0 where
+  pub reply : answered ≡ reply_of e old.state
   pub limits : new.limits ≡ old.limits
-  pub state : new.state ≡ after e [] old.state
+  pub state : new.state ≡ after e brought old.state
   pub trace : after_it ≡ before ++ e ∷ []
+
+-- the event is that of a loan
+abbrev pub is_loan : Event → Bool
+is_loan (events.Lent region section block serial) = true
+is_loan _ = false
 
 -- a store and a trace after what a directive came to
 abbrev pub IsCommitted : Verdict → Reply → Contents → Contents → List Event → List Event → Type 0
-IsCommitted (Makes e) reply old new before after_it = IsMadeInto e reply old new before after_it
+IsCommitted (Makes e) reply old new before after_it = IsMadeInto e [] reply old new before after_it
 IsCommitted Idle reply old new before after_it = (reply ≡ replies.Idle) × IsAsBefore old new before after_it

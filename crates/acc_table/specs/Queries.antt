@@ -5,12 +5,14 @@ use Rattle.acc_base.specs.declared.items.Section.{Section}
 use Rattle.acc_base.specs.declared.mappings.Range.{Range}
 use Rattle.acc_base.specs.declared.mappings.Block.{Block}
 use Rattle.acc_base.specs.declared.mappings.Counters.{Counters}
+use Rattle.acc_base.specs.declared.loans.Loan.{Loan}
 use Rattle.acc_base.specs.declared.mappings.Found.{Found}
 use Rattle.acc_base.specs.declared.mappings.Found.TheVariants.{Inside}
 use Rattle.acc_base.specs.Section.{IsWithin, is_empty, is_within, host_memory, host_base}
 use Rattle.acc_base.specs.Ranges.{where_is, range_from, dynamic_of, structured_of}
 use Rattle.acc_base.specs.Blocks.{place_of}
-use Rattle.acc_base.specs.Records.{Records, Memory, State}
+use Rattle.acc_base.specs.Loans.{is_lent}
+use Rattle.acc_base.specs.Records.{Records, State}
 use Rattle.acc_base.specs.Bytes.{bytes_of}
 use Rattle.acc_table.specs.declared.calls.Mapped.{Mapped}
 
@@ -32,13 +34,13 @@ counters_in _ ranges = None
 abbrev pub counters_at : Section → Records → Option Counters
 counters_at s w = counters_in (where_is s w.ranges) w.ranges
 
--- a range as it is reported, with the device address of its block
-abbrev pub mapped_as : List Block → Range → Mapped
-mapped_as blocks r = record { start = r.section.start; len = r.section.len; place = place_of r.block blocks; structured = r.structured; dynamic = r.dynamic }
+-- a range as it is reported, with the device address of its block, and whether that is lent
+abbrev pub mapped_as : List Block → List Loan → Range → Mapped
+mapped_as blocks loans r = record { start = r.section.start; len = r.section.len; place = place_of r.block blocks; structured = r.structured; dynamic = r.dynamic; lent = is_lent r.block loans }
 
 -- the mapped range of least start at or above an address
 abbrev pub mapped_from : ℕ → Records → Option Mapped
-mapped_from address w = option_map (mapped_as w.blocks) (range_from address w.ranges)
+mapped_from address w = option_map (mapped_as w.blocks w.loans) (range_from address w.ranges)
 
 -- the answer starts at or above an address, as no mapped range does that starts lower; there is none where each starts below the address
 abbrev pub IsLeastFrom : ℕ → List Range → Option Mapped → Type 0
@@ -49,11 +51,11 @@ IsLeastFrom address ranges (Some m) = (address ≤ m.start) × AllByRecursion (�
 abbrev pub host_read_of : Section → List ℕ → Option (List ℕ)
 host_read_of s host = if is_empty s || is_within s (host_memory (length host)) then Some (take s.len (drop (s.start - host_base) host)) else None
 
--- the bytes of a block from an offset on
-abbrev pub device_read_in : Found → ℕ → List Memory → Option (List ℕ)
-device_read_in (Inside block offset) len memories = Some (take len (drop offset (bytes_of block memories)))
-device_read_in _ len memories = None
+-- the bytes of a block from an offset on; none while it is lent
+abbrev pub device_read_in : Found → ℕ → State → Option (List ℕ)
+device_read_in (Inside block offset) len state = if is_lent block state.records.loans then None else Some (take len (drop offset (bytes_of block state.memories)))
+device_read_in _ len state = None
 
--- the bytes on the device of a section that is inside a mapped range
+-- the bytes on the device of a section that is inside a mapped range, whose block is not lent
 abbrev pub device_read_of : Section → State → Option (List ℕ)
-device_read_of s state = device_read_in (where_is s state.records.ranges) s.len state.memories
+device_read_of s state = device_read_in (where_is s state.records.ranges) s.len state

@@ -1,9 +1,35 @@
-//! What a table answers, and lists of turns.
+//! What a table can be asked and what it answers, and lists of turns.
 
-use acc_base::{Directive, Fault, List};
+use acc_base::{Directive, Fault, List, Section};
+use acc_lend::Lease;
 
-/// What an accepted call answers.
-#[derive(Clone, Copy, Debug, PartialEq, Eq)]
+/// A call on a table, which may bring a lease back.
+pub type Call = acc_base::Call<Lease>;
+
+/// Lets a call go that is not made, as one that was refused and came back. A lease that it brings is abandoned: its
+/// block stays lent for good.
+pub fn abandon(call: Call) {
+    match call {
+        Call::Gather(lease) => lease.abandon(),
+        Call::Do(directive) => drop(directive),
+        Call::HostWrite { addr: _, bytes } => drop(bytes),
+        Call::Lend {
+            region: _,
+            section: _,
+        } => {}
+    }
+}
+
+/// Abandons each lease of a list, as [`Table::run`](crate::Table::run) may leave it: their blocks stay lent for good.
+pub fn abandon_all(leases: Vec<Lease>) {
+    let mut leases = leases;
+    while let Some(lease) = leases.pop() {
+        lease.abandon();
+    }
+    leases.destroy_empty();
+}
+
+/// What an accepted call answers. It has to be spent where it may hold a lease.
 pub enum Reply {
     /// It is done, and there is nothing more to say.
     Done,
@@ -12,6 +38,9 @@ pub enum Reply {
         /// The number of the region, by which it is exited. Numbers rise from 1, and none is used twice.
         number: u64,
     },
+    /// A block was lent (OpenACC 3.3, section 2.5, compute constructs). Its bytes are in this lease until it is
+    /// gathered.
+    Lease(Lease),
     /// The queued transfers that a `wait` named were made.
     Drained {
         /// How many they were.
@@ -19,6 +48,19 @@ pub enum Reply {
     },
     /// The queue of a step was empty: there was nothing to do, and it is no event.
     Idle,
+}
+
+impl Reply {
+    /// Lets the reply go. A lease is abandoned: its block stays lent for good.
+    pub fn abandon(self) {
+        match self {
+            Reply::Lease(lease) => lease.abandon(),
+            Reply::Done => {}
+            Reply::Entered { number: _ } => {}
+            Reply::Drained { count: _ } => {}
+            Reply::Idle => {}
+        }
+    }
 }
 
 /// One of a list of calls that are made one after the other.
@@ -33,6 +75,20 @@ pub enum Turn {
         /// The bytes.
         bytes: List<u8>,
     },
+    /// Lend the block of a section in an open data region (OpenACC 3.3, section 2.5, compute constructs).
+    Lend {
+        /// The number of the region.
+        region: u64,
+        /// The section of host memory whose bytes on the device are lent.
+        section: Section,
+    },
+    /// Write bytes over those that a lease lends, and bring it back.
+    Back {
+        /// The serial number of the loan.
+        serial: u64,
+        /// The bytes, as many as are lent.
+        bytes: List<u8>,
+    },
 }
 
 /// What came of a turn.
@@ -40,7 +96,7 @@ pub enum Turn {
 pub enum Answer {
     /// It was accepted.
     Replied {
-        /// The number of the region that it entered, and else 0.
+        /// The number of the region that it entered, or the serial number of the loan that it made, and else 0.
         number: u64,
         /// How many transfers it made, where it was a `wait`, and else 0.
         count: u64,
@@ -64,4 +120,6 @@ pub struct Mapped {
     pub structured: u64,
     /// The dynamic reference counter.
     pub dynamic: u64,
+    /// Whether its block is lent, so that its bytes on the device are in a lease.
+    pub lent: bool,
 }

@@ -1,14 +1,17 @@
 //! The table of an OpenACC 3.3 data runtime on one device with memory of its own: one call is one event or no change.
 //!
 //! A [`Table`] holds both memories, the mapped ranges with their reference counters (OpenACC 3.3, section 2.6.7), the
-//! open data regions, the device blocks, the queues of transfers, and the trace of all events. Its contracts say what `acc_base` defines.
+//! open data regions, the device blocks with those that are lent to kernels, the queues of transfers, and the trace of
+//! all events. Its contracts say what `acc_base` defines.
 #![tactic(auto)]
 
 mod calls;
+mod lending;
 mod making;
 mod queries;
 mod runs;
 mod tables;
 
-pub use calls::{Answer, Mapped, Reply, Turn};
+pub use acc_lend::Lease;
+pub use calls::{Answer, Call, Mapped, Reply, Turn, abandon, abandon_all};
 pub use tables::Table;

@@ -5,19 +5,19 @@ ghost use Rattle.acc_base.specs.declared.faults.Fault.TheVariants.{Memory};
 ghost use Rattle.acc_base.specs.declared.events.Event.TheVariants.{HostWritten};
 ghost use Rattle.acc_base.specs.Bytes.{host_after_write};
 ghost use Rattle.acc_base.specs.Judge.{plan_of};
-ghost use Rattle.acc_base.specs.Records.{layout_of};
+ghost use Rattle.acc_base.specs.Records.{layout_of, State};
 ghost use Rattle.acc_clauses.specs.Acts.{CanWrite, HasPlanRoom};
 ghost use Rattle.acc_clauses.specs.Planned.{in_written_order, IsPlannedOn};
 ghost use Rattle.acc_clauses.specs.Stored.{IsPlan};
 ghost use Rattle.acc_table.specs.Calls.{reply_of};
-ghost use Rattle.acc_table.specs.Making.{verdict_told, verdict_stored, is_idle, planned_verdict, MayBeToldOf, IsCommitted, IsAsBefore};
+ghost use Rattle.acc_table.specs.Making.{verdict_told, verdict_stored, is_idle, planned_verdict, MayBeToldOf, IsCommitted, IsAsBefore, is_loan};
 
 use crate::calls::Reply;
 use acc_base::{Did, Directive, Event, Fault, List};
 use acc_clauses::{Plan, Store};
 
-/// The event of a directive whose items did this, in written order. `None` is for the step of an empty queue, with which
-/// there is nothing to do.
+/// The event of a directive whose items did this, in written order. `None` is for the step of an empty queue, with
+/// which there is nothing to do.
 fn event_stored(store: &Store, directive: Directive, did: List<Did>) -> Option<Event>
     ensures { verdict_told result ≡ verdict_stored directive store.now.state did }
 {
@@ -75,9 +75,10 @@ fn is_idle(store: &Store, directive: &Directive) -> bool
     }
 }
 
-/// What the call that made an event answers.
+/// What the call answers that made an event, which is not that of a loan.
 fn reply_of(event: &Event) -> Reply
-    ensures { result ≡ reply_of event.now }
+    requires { is_loan event.now ≡ false }
+    ensures { (s : State) → result ≡ reply_of event.now s }
 {
     match event {
         Event::Entered { number, .. } => Reply::Entered { number: *number },
@@ -88,6 +89,8 @@ fn reply_of(event: &Event) -> Reply
         Event::Waited { count, .. } => Reply::Drained { count: *count },
         Event::Stepped { .. } => Reply::Done,
         Event::HostWritten { .. } => Reply::Done,
+        Event::Gathered { .. } => Reply::Done,
+        Event::Lent { .. } => unreachable!(),
     }
 }
 

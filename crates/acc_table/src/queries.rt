@@ -53,8 +53,8 @@ impl Table {
         }
     }
 
-    /// How often the pointer at a host address is attached in the block that its eight bytes are mapped to (OpenACC 3.3,
-    /// section 2.6.8); 0 where they are not inside one mapped range.
+    /// How often the pointer at a host address is attached in the block that its eight bytes are mapped to (OpenACC
+    /// 3.3, section 2.6.8); 0 where they are not inside one mapped range.
     pub fn attachment(&self, pointer: u64) -> u64
         ensures { result ≡ attachment_of pointer self.now.state.records }
     {
@@ -84,6 +84,7 @@ impl Table {
                 place: self.store.place(range.block),
                 structured: range.structured,
                 dynamic: range.dynamic,
+                lent: self.store.is_lent(range.block),
             }),
             None => None,
         }
@@ -98,7 +99,8 @@ impl Table {
     }
 
     /// The bytes that the device has of a section, as many as it is long. `None` where the section is not inside one
-    /// mapped range; an empty one never is.
+    /// mapped range, as an empty one never is, and while its block is lent (OpenACC 3.3, section 2.5, compute
+    /// constructs).
     pub fn device_read(&self, section: Section) -> Option<&[u8]>
         ensures { option_map (λ bytes. bytes.now) result ≡ device_read_of section self.now.state }
     {
@@ -112,8 +114,8 @@ impl Table {
         }
     }
 
-    /// Of the blocks whose mapping has ended, the one of least place at or above a device address: such a block stays while
-    /// a queued transfer names it (OpenACC 3.3, section 2.16, asynchronous behavior).
+    /// Of the blocks whose mapping has ended, the one of least place at or above a device address: such a block stays
+    /// while a queued transfer names it (OpenACC 3.3, section 2.16, asynchronous behavior).
     pub fn ended(&self, from: u64) -> Option<Ended>
         ensures { result ≡ ended_from from self.now.state.records }
     {

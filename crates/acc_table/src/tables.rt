@@ -1,24 +1,29 @@
 //! A table, and one call on it.
 
-ghost use Rattle.std.specs.Prelude.{◌≡◌, IfOk, IfErr, OnErr};
-ghost use Rattle.acc_base.specs.declared.calls.Call.TheVariants.{Do, HostWrite};
+ghost use Rattle.std.specs.Prelude.{◌≡◌, Ok, Err, IfOk, IfErr, OnErr, MatchResult};
+ghost use Rattle.acc_base.specs.declared.calls.Call.TheVariants.{Do, HostWrite, Lend, Gather};
+ghost use Rattle.acc_base.specs.declared.events.Event.TheVariants.{Lent, Gathered};
 ghost use Rattle.acc_base.specs.declared.faults.Fault.TheVariants.{Memory};
 ghost use Rattle.acc_base.specs.Limits.{IsWithinBounds};
 ghost use Rattle.acc_base.specs.Holes.{IsDevice};
-ghost use Rattle.acc_base.specs.Calls.{ticket, allowance, trace_room, new_world};
+ghost use Rattle.acc_base.specs.Judge.{Makes, gather_event};
+ghost use Rattle.acc_base.specs.Calls.{ticket, allowance, trace_room, new_world, judge};
 ghost use Rattle.acc_base.specs.Accounts.{IsAccounted};
 ghost use Rattle.acc_table.specs.Calls.{IsDone, IsRefusal};
-ghost use Rattle.acc_table.specs.Making.{admitted, write_admitted};
+ghost use Rattle.acc_clauses.specs.Lending.{IsLoanPlanned};
+ghost use Rattle.acc_table.specs.Making.{admitted, write_admitted, IsLoanJudged, IsLeaseJudged};
 
-use crate::calls::Reply;
+use crate::calls::{Call, Reply};
+use crate::lending::{gather, lend};
 use crate::making::{carry_out, write_host};
-use acc_base::{Call, Config, Directive, Event, Fault, Section};
+use acc_base::{Config, Directive, Event, Fault, Loan, Section};
 use acc_clauses::{Plan, Store, check_items};
+use acc_lend::Lease;
 use std::alloc::Global;
 use std::marker::Model;
 
-/// The data environment of one device: both memories, the mapped ranges and blocks, the open data regions, the queues of
-/// transfers, and the trace of all events (OpenACC 3.3, section 2.6).
+/// The data environment of one device: both memories, the mapped ranges and blocks, the open data regions, the blocks
+/// that are lent to kernels, the queues of transfers, and the trace of all events (OpenACC 3.3, sections 2.5 and 2.6).
 ///
 /// One call is one event or no change. Contracts see a table as a world: its limits, its history and its state.
 #[derive(Drop)]
@@ -59,12 +64,12 @@ impl Table {
         })
     }
 
-    /// What holds of every table: mapped ranges and blocks are apart and account for every used byte, each range has
-    /// a block of its own, each other block is named by a queued transfer, no range has both counters zero, every counter
-    /// is what the history gives and within its limit, a structured counter is how often open regions hold its block, each
-    /// queue is within its limit and each queued transfer within its block, each memory has its size, the history is
-    /// legal, the limits are within their bounds, and blocks and holes are the device, with no address in two of them.
-    /// Nothing is done.
+    /// What holds of every table: mapped ranges and blocks are apart and account for every used byte, each range has a
+    /// block of its own, each other block is named by a queued transfer, no range has both counters zero, every counter
+    /// is what the history gives and within its limit, a structured counter is how often open regions hold its block,
+    /// each queue is within its limit and each queued transfer within its block, each loan is of a section within a
+    /// mapped block, each memory has its size where it is not lent, the history is legal, the limits are within their
+    /// bounds, and blocks and holes are the device, with no address in two of them. Nothing is done.
     pub fn laws(&self)
         ensures accounted { IsAccounted self.now }
         ensures bounds { IsWithinBounds self.now.limits }
@@ -73,13 +78,17 @@ impl Table {
         self.store.laws();
     }
 
-    /// Makes one call: an event, or no change (OpenACC 3.3, section 2.6.5, data construct; section 2.6.6, enter data and
-    /// exit data directives; section 2.16, asynchronous behavior; and the update and wait directives). The step of an empty
-    /// queue is answered [`Reply::Idle`]: it is no event, takes no memory, and changes nothing.
+    /// Makes one call: an event, or no change (OpenACC 3.3, section 2.6.5, data construct; section 2.6.6, enter data
+    /// and exit data directives; section 2.16, asynchronous behavior; and the update and wait directives). The step of
+    /// an empty queue is answered [`Reply::Idle`]: it is no event, takes no memory, and changes nothing.
+    ///
+    /// [`Call::Lend`](acc_base::Call::Lend) is answered a lease, which has the bytes of the block of its section, and
+    /// [`Call::Gather`](acc_base::Call::Gather) moves them back (OpenACC 3.3, section 2.5, compute constructs; section
+    /// 2.6, data environment). Until then no call reads or writes them.
     ///
     /// # Errors
     ///
-    /// The call comes back, and nothing changed. The first of these that holds is told:
+    /// The call comes back, a lease with its bytes, and nothing changed. The first of these that holds is told:
     ///
     /// - [`Fault::NoTickets`] where there are as many events as tickets;
     /// - [`Fault::NoAllowance`] where a region is entered and as many are open as the limit says;
@@ -87,17 +96,26 @@ impl Table {
     /// - [`Fault::TraceFull`] where the stored trace has as many events as it may;
     /// - [`Fault::NoRegion`] where no region of the number is open that is exited;
     /// - [`Fault::NoQueue`] where the directive names a queue above 15;
-    /// - then, for the items in the order in which they act, each judged in what those before it leave, and told with its
-    ///   place in the written list: for a section that is not empty, [`Fault::OutOfHost`] where it is not in host memory;
-    ///   for the pointer of an item, [`Fault::OutOfHost`] where its eight bytes are not, and [`Fault::Misaligned`] where
-    ///   its address is no multiple of 8; [`Fault::PartlyPresent`] where some of the section's addresses are mapped but no
-    ///   one range has them all, [`Fault::NotPresent`] where `present`, or `update` without `if_present`, names a section
-    ///   that is absent, [`Fault::CounterFull`] where an entry would raise a reference counter above the limit,
-    ///   [`Fault::DeviceFull`] where it needs a new block that fits nowhere, [`Fault::QueueFull`] where its transfer is put
-    ///   into a queue that has as many as the limit says, and last [`Fault::CounterFull`] where it would raise the
-    ///   attachment counter of its pointer above the limit;
+    /// - then, for the items in the order in which they act, each judged in what those before it leave, and told with
+    ///   its place in the written list: for a section that is not empty, [`Fault::OutOfHost`] where it is not in host
+    ///   memory; for the pointer of an item, [`Fault::OutOfHost`] where its eight bytes are not, and
+    ///   [`Fault::Misaligned`] where its address is no multiple of 8; [`Fault::PartlyPresent`] where some of the
+    ///   section's addresses are mapped but no one range has them all, [`Fault::NotPresent`] where `present`, or
+    ///   `update` without `if_present`, names a section that is absent, [`Fault::Lent`] where it would detach a pointer
+    ///   in a block that is lent, and then where it would take a counter from such a block or copy its bytes at once,
+    ///   [`Fault::CounterFull`] where an entry would raise a reference counter above the limit, [`Fault::DeviceFull`]
+    ///   where it needs a new block that fits nowhere, [`Fault::QueueFull`] where its transfer is put into a queue that
+    ///   has as many as the limit says, then [`Fault::Lent`] where it would attach a pointer in a block that is lent,
+    ///   and last [`Fault::CounterFull`] where it would raise the attachment counter of its pointer above the limit;
+    /// - for a `wait`, or the step of a queue, [`Fault::Lent`] at the first transfer that it makes whose block is lent;
     /// - for a host write of some bytes, [`Fault::OutOfHost`] with item 0 where one of the addresses is not in host
     ///   memory;
+    /// - for a loan, [`Fault::NoRegion`] where no region of the number is open, [`Fault::OutOfHost`] with item 0 where
+    ///   the section is not empty and not in host memory, [`Fault::PartlyPresent`] with item 0 where some of its
+    ///   addresses are mapped but no one range has them all, [`Fault::NotPresent`] with item 0 where it is absent or
+    ///   empty, and [`Fault::Lent`] where its block is lent;
+    /// - for a lease that comes back, [`Fault::NoLease`] where its block is not lent under its serial number, place and
+    ///   length, or is not as long as the lease has bytes;
     /// - last [`Fault::Memory`], where there is no other refusal, something to do, and memory cannot be had.
     pub fn apply(&mut self, call: Call) -> Result<Reply, (Call, Fault)>
         ensures done { IfOk result (λ reply. IsDone self.old call reply self.new) }
@@ -113,12 +131,20 @@ impl Table {
                 Ok(reply) => Ok(reply),
                 Err(fault) => Err((Call::HostWrite { addr, bytes }, fault)),
             },
+            Call::Lend { region, section } => match self.lend(region, section) {
+                Ok(reply) => Ok(reply),
+                Err(fault) => Err((Call::Lend { region, section }, fault)),
+            },
+            Call::Gather(lease) => match self.gather(lease) {
+                Ok(reply) => Ok(reply),
+                Err((lease, fault)) => Err((Call::Gather(lease), fault)),
+            },
         }
     }
 
     /// Carries out a directive, or hands it back with what it is refused for.
     #[tactic(auto, using(crate::proofs::Verdicts::refused_before))]
-    fn direct(&mut self, directive: Directive) -> Result<Reply, (Directive, Fault)>
+    pub(crate) fn direct(&mut self, directive: Directive) -> Result<Reply, (Directive, Fault)>
         ensures done { IfOk result (λ reply. IsDone self.old (Do directive) reply self.new) }
         ensures refused { IfErr result (λ back. IsRefusal self.old (Do directive) back.1) }
         ensures same { IfErr result (λ back. (back.0 ≡ directive) × (self.new ≡ self.old)) }
@@ -130,7 +156,7 @@ impl Table {
     }
 
     /// There is a ticket for one more event.
-    fn admit_ticket(&self) -> Result<(), Fault>
+    pub(crate) fn admit_ticket(&self) -> Result<(), Fault>
         ensures { result ≡ ticket self.now }
     {
         if self.store.config().tickets() <= self.trace.len() as u64 {
@@ -162,7 +188,7 @@ impl Table {
     }
 
     /// There is room in the trace for one more event.
-    fn admit_event(&self) -> Result<(), Fault>
+    pub(crate) fn admit_event(&self) -> Result<(), Fault>
         ensures { result ≡ trace_room self.now }
     {
         let events = self.trace.len() as u64;
@@ -196,7 +222,7 @@ impl Table {
 
     /// Writes into host memory.
     #[tactic(auto, using(crate::proofs::Verdicts::judge_write))]
-    fn write(&mut self, addr: u64, bytes: &[u8]) -> Result<Reply, Fault>
+    pub(crate) fn write(&mut self, addr: u64, bytes: &[u8]) -> Result<Reply, Fault>
         ensures done { IfOk result (λ reply. IsDone self.old (HostWrite addr bytes.now) reply self.new) }
         ensures refused { IfErr result (IsRefusal self.old (HostWrite addr bytes.now)) }
         ensures same { OnErr result (self.new ≡ self.old) }
@@ -207,5 +233,47 @@ impl Table {
         })?;
         write_host(&mut self.store, &mut self.trace, addr, bytes)?;
         Ok(Reply::Done)
+    }
+
+    /// What lending the block of a section comes to, or what it is refused for.
+    #[tactic(auto, unfolding(acc_base::specs::Calls::judge))]
+    fn admit_loan(&self, region: u64, section: Section) -> Result<Loan, Fault>
+        ensures { IsLoanJudged self.now region section result }
+    {
+        self.admit_ticket()?;
+        self.admit_event()?;
+        self.store.plan_loan(region, section)
+    }
+
+    /// Lends the block of a section, and answers its lease.
+    pub(crate) fn lend(&mut self, region: u64, section: Section) -> Result<Reply, Fault>
+        ensures done { IfOk result (λ reply. IsDone self.old (Lend region section) reply self.new) }
+        ensures refused { IfErr result (IsRefusal self.old (Lend region section)) }
+        ensures same { OnErr result (self.new ≡ self.old) }
+    {
+        let loan = self.admit_loan(region, section)?;
+        lend(&mut self.store, &mut self.trace, region, section, loan)
+    }
+
+    /// What bringing back a lease is refused for. It does not read the bytes of the block.
+    #[tactic(auto, unfolding(acc_base::specs::Calls::judge))]
+    pub(crate) fn admit_lease(&self, lease: &Lease) -> Result<(), Fault>
+        ensures { IsLeaseJudged self.now lease.now result }
+    {
+        self.admit_ticket()?;
+        self.admit_event()?;
+        self.store.check_lease(lease)
+    }
+
+    /// Brings a lease back, or hands it back with what it is refused for.
+    fn gather(&mut self, lease: Lease) -> Result<Reply, (Lease, Fault)>
+        ensures done { IfOk result (λ reply. IsDone self.old (Gather lease) reply self.new) }
+        ensures refused { IfErr result (λ back. IsRefusal self.old (Gather lease) back.1) }
+        ensures same { IfErr result (λ back. (back.0 ≡ lease) × (self.new ≡ self.old)) }
+    {
+        match self.admit_lease(&lease) {
+            Ok(()) => gather(&mut self.store, &mut self.trace, lease),
+            Err(fault) => Err((lease, fault)),
+        }
     }
 }

@@ -1,10 +1,9 @@
 //! The example of the README, as it stands there, and the sizes that it tells.
 
 use acc_base::{
-    Call, Config, Did, Directive, EnterClause, Event, Fault, HOST_BASE, Item, List, RegionClause,
-    Section,
+    Config, Did, Directive, EnterClause, Event, Fault, HOST_BASE, Item, List, RegionClause, Section,
 };
-use acc_table::Table;
+use acc_table::{Call, Table, abandon};
 use std::alloc::Global;
 use std::mem::size_of;
 use std::test::Fail;
@@ -27,8 +26,14 @@ fn used_by_one_array(alloc: Global) -> Result<u64, Fault> {
     ]?);
     let queue = None;
     match table.apply(Call::Do(Directive::EnterData { items, queue })) {
-        Ok(_) => Ok(table.used()),
-        Err((_, fault)) => Err(fault),
+        Ok(reply) => {
+            reply.abandon();
+            Ok(table.used())
+        }
+        Err((call, fault)) => {
+            abandon(call);
+            Err(fault)
+        }
     }
 }
 

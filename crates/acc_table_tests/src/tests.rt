@@ -2,11 +2,11 @@
 //! the table as it was. What a script can say is a row of the script tests.
 
 use acc_base::{
-    Aim, Call, Config, Counters, Did, Directive, Ended, EnterClause, Event, ExitClause, Fault,
-    Found, Item, List, RegionClause, Section, Step, UpdateClause,
+    Aim, Config, Counters, Did, Directive, Ended, EnterClause, Event, ExitClause, Fault, Found,
+    HOST_BASE, Item, List, RegionClause, Section, Step, UpdateClause,
 };
-use acc_table::{Answer, Mapped, Table, Turn};
-use rows::{LIFE, ROWS, WIDE};
+use acc_table::{Answer, Call, Lease, Mapped, Reply, Table, Turn, abandon, abandon_all};
+use rows::{LENDING, LIFE, ROWS, STRANGE, WIDE};
 use std::alloc::{AllocError, Global};
 use std::fmt::Debug;
 use std::process::Abort;
@@ -44,6 +44,10 @@ enum Ask {
     Wait(Option<u64>),
     Step(u64),
     Write(u64, &'static [u8]),
+    /// The number of the region, and the first host address and the length of the section.
+    Lend(u64, (u64, u64)),
+    /// The serial number of the loan.
+    Back(u64, &'static [u8]),
 }
 
 /// A query with its answer. A section is given by its first host address and its length.
@@ -108,33 +112,43 @@ fn update(
     listed: &[(UpdateClause, u64, u64)],
     if_present: bool,
     queue: Option<u64>,
-) -> Result<Call, AllocError> {
+) -> Result<Turn, AllocError> {
     let items = items(alloc, listed, None)?;
-    Ok(Call::Do(Directive::Update {
+    Ok(Turn::Do(Directive::Update {
         items,
         if_present,
         queue,
     }))
 }
 
-fn write(alloc: Global, addr: u64, bytes: &[u8]) -> Result<Call, AllocError> {
+fn write(alloc: Global, addr: u64, bytes: &[u8]) -> Result<Turn, AllocError> {
     let bytes = List::from_vec(Vec::from_slice(alloc, bytes)?);
-    Ok(Call::HostWrite { addr, bytes })
+    Ok(Turn::HostWrite { addr, bytes })
 }
 
-fn enter(alloc: Global, listed: &[(RegionClause, u64, u64)]) -> Result<Call, AllocError> {
+fn back(alloc: Global, serial: u64, bytes: &[u8]) -> Result<Turn, AllocError> {
+    let bytes = List::from_vec(Vec::from_slice(alloc, bytes)?);
+    Ok(Turn::Back { serial, bytes })
+}
+
+fn lend(region: u64, at: (u64, u64)) -> Turn {
+    let section = section(at);
+    Turn::Lend { region, section }
+}
+
+fn enter(alloc: Global, listed: &[(RegionClause, u64, u64)]) -> Result<Turn, AllocError> {
     let items = items(alloc, listed, None)?;
-    Ok(Call::Do(Directive::Enter { items }))
+    Ok(Turn::Do(Directive::Enter { items }))
 }
 
 fn enter_data(
     alloc: Global,
     listed: &[(EnterClause, u64, u64)],
     pointer: Option<u64>,
-) -> Result<Call, AllocError> {
+) -> Result<Turn, AllocError> {
     let items = items(alloc, listed, pointer)?;
     let queue = None;
-    Ok(Call::Do(Directive::EnterData { items, queue }))
+    Ok(Turn::Do(Directive::EnterData { items, queue }))
 }
 
 fn exit_data(
@@ -142,19 +156,19 @@ fn exit_data(
     listed: &[(ExitClause, u64, u64)],
     finalize: bool,
     queue: Option<u64>,
-) -> Result<Call, AllocError> {
+) -> Result<Turn, AllocError> {
     let items = items(alloc, listed, None)?;
-    Ok(Call::Do(Directive::ExitData {
+    Ok(Turn::Do(Directive::ExitData {
         items,
         finalize,
         queue,
     }))
 }
 
-fn call_of(alloc: Global, ask: Ask) -> Result<Call, AllocError> {
+fn turn_of(alloc: Global, ask: Ask) -> Result<Turn, AllocError> {
     match ask {
         Ask::Enter(listed) => enter(alloc, listed),
-        Ask::Exit(number) => Ok(Call::Do(Directive::Exit { number })),
+        Ask::Exit(number) => Ok(Turn::Do(Directive::Exit { number })),
         Ask::EnterData(listed) => enter_data(alloc, listed, None),
         Ask::EnterDataVia(listed, pointer) => enter_data(alloc, listed, Some(pointer)),
         Ask::ExitData(listed) => exit_data(alloc, listed, false, None),
@@ -163,22 +177,12 @@ fn call_of(alloc: Global, ask: Ask) -> Result<Call, AllocError> {
         Ask::Update(listed) => update(alloc, listed, false, None),
         Ask::UpdateIfPresent(listed) => update(alloc, listed, true, None),
         Ask::UpdateLater(listed, q) => update(alloc, listed, false, Some(q)),
-        Ask::Wait(queue) => Ok(Call::Do(Directive::Wait { queue })),
-        Ask::Step(queue) => Ok(Call::Do(Directive::Step { queue })),
+        Ask::Wait(queue) => Ok(Turn::Do(Directive::Wait { queue })),
+        Ask::Step(queue) => Ok(Turn::Do(Directive::Step { queue })),
         Ask::Write(addr, bytes) => write(alloc, addr, bytes),
+        Ask::Lend(region, at) => Ok(lend(region, at)),
+        Ask::Back(serial, bytes) => back(alloc, serial, bytes),
     }
-}
-
-fn turn_from(call: Call) -> Turn {
-    match call {
-        Call::Do(directive) => Turn::Do(directive),
-        Call::HostWrite { addr, bytes } => Turn::HostWrite { addr, bytes },
-    }
-}
-
-fn turn_of(alloc: Global, ask: Ask) -> Result<Turn, AllocError> {
-    let call = call_of(alloc, ask)?;
-    Ok(turn_from(call))
 }
 
 fn turns_of(alloc: Global, asked: &[(Ask, Answer)]) -> Result<Vec<Turn>, AllocError> {
@@ -208,6 +212,7 @@ fn did_first(event: &Event) -> Option<Did> {
         Event::ExitedData { did, .. } => did,
         Event::Updated { did, .. } => did,
         Event::Waited { .. } | Event::Stepped { .. } | Event::HostWritten { .. } => return None,
+        Event::Lent { .. } | Event::Gathered { .. } => return None,
     };
     match did.as_slice() {
         [] => None,
@@ -285,11 +290,23 @@ fn check_all(rt: &impl Abort, row: &Row, table: &Table) {
     }
 }
 
+/// Runs turns with no lease at hand, and abandons those that are out at the end.
+fn run_turns(
+    table: &mut Table,
+    alloc: Global,
+    asked: &[(Ask, Answer)],
+) -> Result<Vec<Answer>, Fault> {
+    let turns = turns_of(alloc, asked)?;
+    let mut leases = Vec::new(alloc);
+    let answers = table.run(turns, &mut leases);
+    abandon_all(leases);
+    answers
+}
+
 /// Takes the turns of a row on a new table, and compares what the table answers and says.
 fn run_row(rt: &(impl Abort + AllocGlobal), row: &Row) -> Result<(), Fault> {
     let mut table = table_of(rt.alloc(), row.limits)?;
-    let turns = turns_of(rt.alloc(), row.turns)?;
-    let answers = table.run(turns)?;
+    let answers = run_turns(&mut table, rt.alloc(), row.turns)?;
     answered(rt, row, &answers);
     check_all(rt, row, &table);
     Ok(())
@@ -303,11 +320,77 @@ fn each_row_is_answered_and_reported(rt: HostRuntime) -> Result<(), Fail> {
     Ok(())
 }
 
+/// The call that came back brings a lease of this serial number, with so many bytes.
+fn came_back(rt: &impl Abort, call: Call, serial: u64, count: usize) {
+    match call {
+        Call::Gather(lease) => {
+            same(rt, "a strange lease", lease.serial(), serial);
+            same(rt, "a strange lease", lease.block_bytes().len(), count);
+            lease.abandon();
+        }
+        other => {
+            abandon(other);
+            panic!(rt; "a strange lease: another call came back")
+        }
+    }
+}
+
+/// A lease that is no loan of the table is refused, and comes back with its bytes.
+fn refuse(rt: &impl Abort, table: &mut Table, lease: Lease) {
+    let serial = lease.serial();
+    let count = lease.block_bytes().len();
+    match table.apply(Call::Gather(lease)) {
+        Ok(reply) => {
+            reply.abandon();
+            panic!(rt; "a strange lease: it was taken")
+        }
+        Err((call, fault)) => {
+            came_back(rt, call, serial, count);
+            same(rt, "a strange lease", fault, Fault::NoLease { serial });
+        }
+    }
+}
+
+fn refuse_each(rt: &(impl Abort + AllocGlobal), table: &mut Table) -> Result<(), AllocError> {
+    for &(serial, block, offset, len, count) in STRANGE {
+        let bytes = vec![in rt.alloc(); 0; count]?;
+        if offset + len <= bytes.len() {
+            refuse(rt, table, Lease::of(serial, block, offset, len, bytes));
+        }
+    }
+    Ok(())
+}
+
+#[test]
+fn a_lease_that_is_no_loan_comes_back(rt: HostRuntime) -> Result<(), Fail> {
+    let mut table = table_of(rt.alloc(), WIDE)?;
+    refuse(
+        &rt,
+        &mut table,
+        Lease::of(1, 1, 0, 16, vec![in rt.alloc(); 0; 16]?),
+    );
+    let answers = run_turns(&mut table, rt.alloc(), LENDING)?;
+    same(&rt, "a strange lease", answers.len(), LENDING.len());
+    refuse_each(&rt, &mut table)?;
+    same(&rt, "a strange lease", table.events(), 3);
+    Ok(())
+}
+
 /// Makes what may want memory, and once more where the first time wanted it.
-fn twice(alloc: Global, ask: Ask) -> Result<Call, AllocError> {
-    match call_of(alloc, ask) {
-        Ok(call) => Ok(call),
-        Err(_) => call_of(alloc, ask),
+fn twice(alloc: Global, ask: Ask) -> Result<Turn, AllocError> {
+    match turn_of(alloc, ask) {
+        Ok(turn) => Ok(turn),
+        Err(_) => turn_of(alloc, ask),
+    }
+}
+
+/// The call that a turn makes; none where it brings back a lease.
+fn call_from(turn: Turn) -> Option<Call> {
+    match turn {
+        Turn::Do(directive) => Some(Call::Do(directive)),
+        Turn::HostWrite { addr, bytes } => Some(Call::HostWrite { addr, bytes }),
+        Turn::Lend { region, section } => Some(Call::Lend { region, section }),
+        Turn::Back { .. } => None,
     }
 }
 
@@ -322,26 +405,39 @@ fn retry(
     table: &mut Table,
     before: (u64, u64, Option<Mapped>),
     back: (Call, Fault),
-) {
+) -> Reply {
     let (call, fault) = back;
     same(rt, "a refused growth", fault, Fault::Memory);
     same(rt, "a refused growth", told(table), before);
-    let accepted = table.apply(call).is_ok();
-    same(rt, "a refused growth", accepted, true);
-}
-
-/// Makes a call, and once more where memory is refused.
-fn apply_twice(rt: &impl Abort, table: &mut Table, call: Call) {
-    let before = told(table);
-    if let Err(back) = table.apply(call) {
-        retry(rt, table, before, back);
+    match table.apply(call) {
+        Ok(reply) => reply,
+        Err((call, fault)) => {
+            abandon(call);
+            panic!(rt; "a refused growth: {fault}")
+        }
     }
 }
 
+/// Makes a call, and once more where memory is refused.
+fn apply_twice(rt: &impl Abort, table: &mut Table, call: Call) -> Reply {
+    let before = told(table);
+    match table.apply(call) {
+        Ok(reply) => reply,
+        Err(back) => retry(rt, table, before, back),
+    }
+}
+
+/// Makes the calls one after the other. A block that is lent comes back at once.
 fn live(rt: &(impl Abort + AllocGlobal), table: &mut Table) -> Result<(), AllocError> {
     for &ask in LIFE {
-        let call = twice(rt.alloc(), ask)?;
-        apply_twice(rt, table, call);
+        let turn = twice(rt.alloc(), ask)?;
+        let Some(call) = call_from(turn) else {
+            continue;
+        };
+        match apply_twice(rt, table, call) {
+            Reply::Lease(lease) => apply_twice(rt, table, Call::Gather(lease)).abandon(),
+            reply => reply.abandon(),
+        }
     }
     Ok(())
 }
@@ -354,7 +450,7 @@ fn a_refused_growth_changes_nothing(rt: HostRuntime) -> Result<(), Fail> {
         Err(_) => table_of(rt.alloc(), WIDE)?,
     };
     live(&rt, &mut table)?;
-    same(&rt, "a refused growth", table.events(), 16);
+    same(&rt, "a refused growth", table.events(), 18);
     same(&rt, "a refused growth", table.used(), 0);
     Ok(())
 }

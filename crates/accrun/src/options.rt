@@ -87,6 +87,12 @@ Statements, one to a line, with comments after '#':
   update device(REFS)      copy its bytes from host memory to the device
   wait, wait(QUEUE)        make all copies that wait in the queues, or in one
   step(QUEUE)              make the next copy of a queue, or print idle
+  kernel add K REF         in the innermost open region, add K to each of its
+                           bytes on the device
+  kernel xor K REF         flip the bits of K in each of these
+  kernel number K REF      write K plus its place from 0 on to each of these
+  kernel plus REF REF      add the bytes of the first in host memory, as far as
+                           they reach, to those of the second on the device
   show REF                 its bytes in host memory
   peek REF                 its bytes on the device, or none
   present REF              whether all of it lies in one mapped range: yes or no
@@ -110,6 +116,10 @@ not over what is partly mapped. With the option async(QUEUE), or async for queue
 block of the device stays while a copy of it waits. A QUEUE is from 0 to 15, and
 256 copies may wait in it. A region that is open at the end of the script is a
 fault.
+
+A kernel's REF lies in one mapped range, whose block is lent to the kernel and
+brought back. K is from 0 to 255, and sums are modulo 256. Where the loan is
+made and cannot be brought back, report says lent of the range.
 
 A statement that is refused changes nothing and prints 'line L: refused ..'; the
 script goes on. A line that is at fault ends the script.

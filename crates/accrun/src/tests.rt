@@ -4,7 +4,7 @@ use crate::outputs::Output;
 use crate::tools::{tell_words, tool};
 use crate::words::{WordsFault, read_words};
 use acc_script::{MemorySink, MemorySource};
-use rows::{COPIES, FAULTS, LIVES, QUEUES, REFUSALS, Row};
+use rows::{COPIES, FAULTS, KERNELS, LIVES, QUEUES, REFUSALS, Row};
 use std::alloc::{AllocError, Global};
 use std::env::{Env, FillError};
 use std::fmt::Debug;
@@ -109,6 +109,7 @@ fn scripts_print_and_end_as_they_should(rt: HostRuntime) -> Result<(), Fail> {
     check_rows(&rt, &LIVES)?;
     check_rows(&rt, &COPIES)?;
     check_rows(&rt, &QUEUES)?;
+    check_rows(&rt, &KERNELS)?;
     check_rows(&rt, &REFUSALS)?;
     check_rows(&rt, &FAULTS)?;
     Ok(())
@@ -161,7 +162,7 @@ fn command_lines_are_read(rt: HostRuntime) -> Result<(), Fail> {
 }
 
 /// What the help has to name.
-const HELP_WORDS: [&str; 32] = [
+const HELP_WORDS: [&str; 36] = [
     "< SCRIPT",
     "read whole",
     "array NAME",
@@ -188,6 +189,10 @@ const HELP_WORDS: [&str; 32] = [
     "wait, wait(QUEUE)",
     "step(QUEUE)",
     "async(QUEUE)",
+    "kernel add K REF",
+    "kernel xor K REF",
+    "kernel number K REF",
+    "kernel plus REF REF",
     "show REF",
     "peek REF",
     "present REF",

@@ -5,15 +5,16 @@ use crate::tests::Ask::{
     Enter, EnterData, EnterDataLater, EnterDataVia, EnterVia, ExitData, ExitDataLater, ExitDataVia,
     Leave, Step, Update, UpdateLater, Wait,
 };
+use crate::tests::Lending::{Adds, Gathers, Lends, Lent, NoLease};
 use crate::tests::Turn::{
-    Aims, Attached, Block, Counted as Counters, Does, EndedFrom, Host, Lies, Queue, Refused,
+    Aims, Attached, Block, Counted as Counters, Does, EndedFrom, Host, Lies, Loans, Queue, Refused,
     Regions, Used, Waiting, Writes,
 };
-use crate::tests::{Ask, Row};
+use crate::tests::{Ask, Lending, Row};
 use acc_base::RegionClause::{Copy, NoCreate, Present};
 use acc_base::Step::{Born, Counted, Dropped, Moved, Nothing};
 use acc_base::{
-    Aim, DEVICE_BASE, Ended, EnterClause, ExitClause, Fault, Found, HOST_BASE, RegionClause,
+    Aim, DEVICE_BASE, Ended, EnterClause, ExitClause, Fault, Found, HOST_BASE, Loan, RegionClause,
     UpdateClause,
 };
 
@@ -84,6 +85,8 @@ const CLEARED: Aim = Aim::Cleared {
     block: 1,
 };
 
+const LENT_1: Fault = Fault::Lent { block: 1 };
+
 /// Directives each of which wants memory, where the pointer at P holds B.
 pub const GROWING: &[Ask] = &[
     EnterData(&[COPYIN_A]),
@@ -93,7 +96,7 @@ pub const GROWING: &[Ask] = &[
     Enter(&[(NoCreate, A, 16), (RegionClause::Copyin, A + 32, 16)]),
 ];
 
-pub const ROWS: [Row; 17] = [
+pub const ROWS: [Row; 19] = [
     Row {
         name: "a region maps its sections while it is open, and copies out at its end",
         counter_max: 100,
@@ -438,6 +441,92 @@ pub const ROWS: [Row; 17] = [
             Refused(Wait(Some(16)), Fault::NoQueue { q: 16 }),
             Refused(Step(16), Fault::NoQueue { q: 16 }),
             Queue(16, 0),
+        ],
+    },
+    Row {
+        name: "a block that is lent is neither copied at once nor dropped, and is counted and put into queues",
+        counter_max: 100,
+        turns: &[
+            Does(Enter(&[(RegionClause::Copyin, A, 16)]), &[BORN_1]),
+            Does(
+                UpdateLater(&[(UpdateClause::ToSelf, A, 1)], 0),
+                &[Moved { block: 1 }],
+            ),
+            Loans(Lends(
+                A,
+                8,
+                Loan {
+                    serial: 1,
+                    block: 1,
+                    offset: 0,
+                    len: 8,
+                },
+            )),
+            Loans(Lent(true)),
+            Refused(Update(&[(UpdateClause::ToSelf, A, 16)]), LENT_1),
+            Refused(Step(0), LENT_1),
+            Refused(Wait(None), LENT_1),
+            Refused(Leave(1), LENT_1),
+            Does(EnterData(&[COPYIN_A]), &[COUNTED_1]),
+            Refused(ExitData(&[(ExitClause::Delete, A, 16)], false), LENT_1),
+            Does(
+                UpdateLater(&[(UpdateClause::ToDevice, A, 1)], 0),
+                &[Moved { block: 1 }],
+            ),
+            Counters(1, 1, 1),
+            Queue(0, 2),
+        ],
+    },
+    Row {
+        name: "a block comes back with what a kernel left, by the lease of its loan alone",
+        counter_max: 100,
+        turns: &[
+            Writes(A, &[1, 2, 3, 4]),
+            Does(
+                Enter(&[(RegionClause::Copyin, A, 4), (Copy, B, 16)]),
+                &[BORN_1, BORN_2],
+            ),
+            Loans(Lending::Refused(2, A, 4, Fault::NoRegion { number: 2 })),
+            Loans(Lending::Refused(1, A + 64, 1, Fault::OutOfHost { item: 0 })),
+            Loans(Lending::Refused(1, A, 16, Fault::PartlyPresent { item: 0 })),
+            Loans(Lending::Refused(1, A, 0, Fault::NotPresent { item: 0 })),
+            Loans(NoLease(1, 4)),
+            Loans(Lends(
+                A + 1,
+                2,
+                Loan {
+                    serial: 1,
+                    block: 1,
+                    offset: 1,
+                    len: 2,
+                },
+            )),
+            Loans(Lending::Refused(1, A, 4, LENT_1)),
+            Loans(NoLease(1, 4)),
+            Loans(Adds(254)),
+            Loans(Gathers),
+            Loans(Lent(false)),
+            Block(1, &[1, 0, 1, 4]),
+            Loans(NoLease(1, 4)),
+            Loans(Lends(
+                A,
+                4,
+                Loan {
+                    serial: 2,
+                    block: 1,
+                    offset: 0,
+                    len: 4,
+                },
+            )),
+            Loans(NoLease(1, 4)),
+            Loans(NoLease(2, 5)),
+            Loans(Gathers),
+            Does(
+                Update(&[(UpdateClause::ToSelf, A, 4)]),
+                &[Moved { block: 1 }],
+            ),
+            Host(A, &[1, 0, 1, 4]),
+            Does(Leave(1), &[ENDED_1, ENDED_2]),
         ],
     },
 ];

@@ -1,8 +1,8 @@
 //! The report of a table, written without memory.
 
-ghost use Rattle.std.specs.Prelude.{◌+◌, ◌<◌, ◌^◌};
+ghost use Rattle.std.specs.Prelude.{◌≡◌, ◌+◌, ◌<◌, ◌^◌};
 ghost use Rattle.acc_script.specs.Ends.{Wrote};
-ghost use Rattle.acc_script.specs.Texts.{mapped_text, range_text, ranges_text, device_text, report_text, sizes_text, mapping_text, counters_text, totals_text};
+ghost use Rattle.acc_script.specs.Texts.{mapped_text, range_text, ranges_text, device_text, report_text, sizes_text, mapping_text, lent_text, counters_text, totals_text};
 ghost use Rattle.acc_script.specs.Runs.{Printed};
 
 use crate::Sink;
@@ -15,9 +15,9 @@ use acc_base::Fault;
 use acc_table::{Mapped, Table};
 use itoa::Buffer;
 
-/// Writes the report of a table: the sizes of its memories, its mapped ranges by rising start with their counters
-/// and the attached pointers in them, the blocks whose mapping has ended by rising place, the queues that are not empty,
-/// and the numbers of open regions and of events. Takes no memory. What was written is proved where the sink tells its
+/// Writes the report of a table: the sizes of its memories, its mapped ranges by rising start with their counters,
+/// whether their blocks are lent and the attached pointers in them, the blocks whose mapping has ended by rising place,
+/// the queues that are not empty, and the numbers of open regions and of events. Takes no memory. What was written is proved where the sink tells its
 /// bytes.
 ///
 /// # Errors
@@ -93,7 +93,7 @@ fn write_mapped<W: Sink>(writer: &mut W, mapped: Mapped) -> bool
     if !write_mapping(writer, mapped.start, mapped.len, mapped.place) {
         return false;
     }
-    write_counters(writer, mapped.structured, mapped.dynamic)
+    write_counters(writer, mapped.structured, mapped.dynamic, mapped.lent)
 }
 
 /// The sizes of the two memories, and how much of the device is used, in bytes.
@@ -143,9 +143,9 @@ pub fn write_mapping<W: Sink>(writer: &mut W, start: u64, len: u64, place: u64) 
     )
 }
 
-/// The two reference counters, up to the end of the line.
-pub fn write_counters<W: Sink>(writer: &mut W, structured: u64, dynamic: u64) -> bool
-    ensures { Wrote (W.told writer.old) (W.told writer.new) (counters_text structured dynamic) result }
+/// The two reference counters, and whether the block is lent, up to the end of the line.
+pub fn write_counters<W: Sink>(writer: &mut W, structured: u64, dynamic: u64, lent: bool) -> bool
+    ensures { Wrote (W.told writer.old) (W.told writer.new) (counters_text structured dynamic lent) result }
 {
     let mut structured_buffer = Buffer::new();
     let mut dynamic_buffer = Buffer::new();
@@ -159,9 +159,16 @@ pub fn write_counters<W: Sink>(writer: &mut W, structured: u64, dynamic: u64) ->
             structured.as_bytes(),
             b" dynamic ",
             dynamic.as_bytes(),
-            b"\n",
+            lent_end(lent),
         ],
     )
+}
+
+/// The end of the line of a mapped range, which says whether its block is lent.
+fn lent_end(lent: bool) -> &'static [u8]
+    ensures { result.now ≡ lent_text lent }
+{
+    if lent { b" lent\n" } else { b"\n" }
 }
 
 /// The numbers of open regions and of events.

@@ -2,8 +2,8 @@
 //! OpenACC 3.3, sections 2.6 and 2.7, and the documents of this project.
 
 use crate::tests::Ask::{
-    Enter, EnterData, EnterDataVia, Exit, ExitData, ExitDataLater, Finalize, Step, Update,
-    UpdateIfPresent, UpdateLater, Wait, Write,
+    Back, Enter, EnterData, EnterDataVia, Exit, ExitData, ExitDataLater, Finalize, Lend, Step,
+    Update, UpdateIfPresent, UpdateLater, Wait, Write,
 };
 use crate::tests::Check::{
     Address, Aim as Aimed, Attached, Counted, Device, EndedFrom, Events, Found as Finds, Host,
@@ -50,6 +50,9 @@ const TO_HOST: &[u8] = &[0x10, 0x10, 0, 0, 0, 0, 0, 0];
 
 const TO_DEVICE: &[u8] = &[0x10, 0, 0, 0, 1, 0, 0, 0];
 
+/// What a kernel left of 16 bytes.
+const LEFT: &[u8] = &[9, 8, 7, 6, 5, 4, 3, 2, 1, 0, 1, 2, 3, 4, 5, 6];
+
 /// A whole life of an array, of a second one, of a pointer in the first one to the second, of two queues, and of two
 /// regions. One transfer is in a queue at a time.
 pub const LIFE: &[Ask] = &[
@@ -69,12 +72,30 @@ pub const LIFE: &[Ask] = &[
         (RegionClause::Copy, A + 16, 16),
     ]),
     Enter(&[(RegionClause::NoCreate, A, 16)]),
+    Lend(1, (A, 16)),
     Exit(2),
     Exit(1),
     ExitData(&[(Delete, A, 16)]),
 ];
 
-pub const ROWS: [Row; 19] = [
+/// The block of the first 16 bytes of host memory is lent, in a region.
+pub const LENDING: &[(Ask, Answer)] = &[
+    (EnterData(&[(Copyin, A, 16)]), DONE),
+    (Enter(&[(RegionClause::Present, A, 16)]), FIRST),
+    (Lend(1, (A, 16)), FIRST),
+];
+
+/// Leases that bring no block back then: the serial number, the block, the place and the length of the section, and how
+/// many bytes the block has.
+pub const STRANGE: &[(u64, u64, usize, usize, usize)] = &[
+    (1, 1, 0, 16, 32),
+    (2, 1, 0, 16, 16),
+    (1, 2, 0, 16, 16),
+    (1, 1, 0, 15, 16),
+    (1, 1, 1, 15, 16),
+];
+
+pub const ROWS: [Row; 23] = [
     Row {
         name: "one ticket makes one event, and is told before the items are counted",
         limits: Limits { tickets: 1, ..WIDE },
@@ -320,6 +341,7 @@ pub const ROWS: [Row; 19] = [
                     place: DEVICE,
                     structured: 0,
                     dynamic: 1,
+                    lent: false,
                 }),
             ),
             Host((A + 7, 3), Some(&[0, 1, 2])),
@@ -502,5 +524,105 @@ pub const ROWS: [Row; 19] = [
             (Step(3), Refused(Fault::NoTickets { left: 0 })),
         ],
         checks: &[Events(1), TicketBook(0)],
+    },
+    Row {
+        name: "a block that is lent is neither copied nor let go, and can be entered; its bytes come back with the lease",
+        limits: WIDE,
+        turns: &[
+            (EnterData(&[(Copyin, A, 16)]), DONE),
+            (Enter(&[(RegionClause::Present, A, 16)]), FIRST),
+            (UpdateLater(&[(ToSelf, A, 16)], 0), DONE),
+            (Lend(1, (A, 16)), FIRST),
+            (Lend(1, (A, 16)), Refused(Fault::Lent { block: 1 })),
+            (
+                Update(&[(ToSelf, A, 16)]),
+                Refused(Fault::Lent { block: 1 }),
+            ),
+            (Exit(1), Refused(Fault::Lent { block: 1 })),
+            (Step(0), Refused(Fault::Lent { block: 1 })),
+            (Wait(None), Refused(Fault::Lent { block: 1 })),
+            (
+                ExitData(&[(Delete, A, 16)]),
+                Refused(Fault::Lent { block: 1 }),
+            ),
+            (Enter(&[(RegionClause::Copyin, A, 16)]), SECOND),
+            (Back(1, LEFT), DONE),
+            (Step(0), DONE),
+            (Step(0), Answer::Idle),
+            (Exit(2), DONE),
+            (Exit(1), DONE),
+            (Lend(9, (A, 16)), Refused(Fault::NoRegion { number: 9 })),
+        ],
+        checks: &[
+            Host((A, 16), Some(LEFT)),
+            Device((A, 16), Some(LEFT)),
+            Counted((A, 16), Some((0, 1))),
+            Events(9),
+        ],
+    },
+    Row {
+        name: "a lent block has no bytes on the device, and is told as lent",
+        limits: WIDE,
+        turns: &[
+            (EnterData(&[(Copyin, A, 16)]), DONE),
+            (Enter(&[]), FIRST),
+            (Lend(1, (A + 4, 8)), FIRST),
+        ],
+        checks: &[
+            Device((A, 4), None),
+            Present((A, 16), true),
+            Address(A + 4, Some(DEVICE + 4)),
+            MappedFrom(
+                0,
+                Some(Mapped {
+                    start: A,
+                    len: 16,
+                    place: DEVICE,
+                    structured: 0,
+                    dynamic: 1,
+                    lent: true,
+                }),
+            ),
+        ],
+    },
+    Row {
+        name: "a loan is of a section that is present and in host memory",
+        limits: WIDE,
+        turns: &[
+            (EnterData(&[(Copyin, A, 16)]), DONE),
+            (Enter(&[]), FIRST),
+            (Lend(1, (A, 0)), Refused(Fault::NotPresent { item: 0 })),
+            (Lend(1, (A + 16, 1)), Refused(Fault::NotPresent { item: 0 })),
+            (
+                Lend(1, (A + 8, 16)),
+                Refused(Fault::PartlyPresent { item: 0 }),
+            ),
+            (Lend(1, (A + 60, 8)), Refused(Fault::OutOfHost { item: 0 })),
+            (Lend(2, (A + 60, 8)), Refused(Fault::NoRegion { number: 2 })),
+        ],
+        checks: &[Events(2)],
+    },
+    Row {
+        name: "a lease is brought back by its serial number and as many bytes as it lends",
+        limits: WIDE,
+        turns: &[
+            (
+                EnterData(&[(Copyin, A, 16), (Create { zero: true }, A + 16, 16)]),
+                DONE,
+            ),
+            (Enter(&[]), FIRST),
+            (Lend(1, (A + 4, 2)), FIRST),
+            (Lend(1, (A + 16, 16)), SECOND),
+            (Back(1, &[1]), Refused(Fault::NoLease { serial: 1 })),
+            (Back(3, &[1, 2]), Refused(Fault::NoLease { serial: 3 })),
+            (Back(1, &[1, 2]), DONE),
+            (Back(1, &[1, 2]), Refused(Fault::NoLease { serial: 1 })),
+            (Back(2, LEFT), DONE),
+        ],
+        checks: &[
+            Device((A + 3, 4), Some(&[0, 1, 2, 0])),
+            Device((A + 16, 16), Some(LEFT)),
+            Events(6),
+        ],
     },
 ];

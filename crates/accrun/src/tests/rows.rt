@@ -142,6 +142,31 @@ pub const QUEUES: [Row; 2] = [
     ),
 ];
 
+/// Kernels over what a region maps.
+pub const KERNELS: [Row; 3] = [
+    (
+        "",
+        "array a 4\nwrite a[0] 01020304\nenter data copyin(a)\ndata copy(a)\nkernel add 1 a\nend data\nshow a\nexit data copyout(a)\nshow a\n",
+        "01020304\n02030405\n",
+        "",
+        0,
+    ),
+    (
+        "",
+        "array a 127\ndata copy(a)\nkernel number 200 a\nend data\nshow a[54:4]\nshow a[125:2]\n",
+        "feff0001\n4546\n",
+        "",
+        0,
+    ),
+    (
+        "",
+        "array a 4\ndata copy(a)\nkernel plus a[65536:1] a\nkernel add 256 a\n",
+        "line 3: refused 7 OutOfHost item 1\n",
+        "accrun: line 4: Number\n",
+        2,
+    ),
+];
+
 /// Statements that are refused, after which the script goes on.
 pub const REFUSALS: [Row; 5] = [
     (

@@ -1,5 +1,5 @@
 use Rattle.acc_clauses.specs.Overlays.{puts_by}
-use Rattle.acc_clauses.proofs.Doing.{not_entry, enters, leaves, queues_kept, puts_kept, do_queue}
+use Rattle.acc_clauses.proofs.Doing.{aim_after, step_after, needed_kept, do_needed, not_entry, enters, leaves, queues_kept, puts_kept, do_queue}
 use Rattle.acc_clauses.proofs.acting.act_on.Goals as goal
 
 pub returns-in-Enter : goal.returns-in-Enter
@@ -15,3 +15,14 @@ step_on-requires-in-Leave-clause-queue c =
 
 pub step_on-requires-in-Leave-clause-puts : goal.step_on-requires-in-Leave-clause-puts
 step_on-requires-in-Leave-clause-puts c = puts_kept c.args.did.aim (λ q. puts_by q c.args.task c.args.did.step) c.args.environment.now c.aim_on-in-Leave.new.environment c.aim_on-in-Leave.ensures.aimed c.requires.puts
+
+pub step_on-requires-in-Leave-clause-needed : goal.step_on-requires-in-Leave-clause-needed
+step_on-requires-in-Leave-clause-needed c =
+    let x = c.args.environment.now in
+    needed_kept c.args.did.aim c.args.task c.args.did.step x c.aim_on-in-Leave.new.environment c.aim_on-in-Leave.ensures.aimed (do_needed x c.args.task c.args.did c.requires.can)
+
+pub aim_on-requires-clause-can : goal.aim_on-requires-clause-can
+aim_on-requires-clause-can c = aim_after c.args.task c.args.did c.args.environment.now c.step_on.new.environment (rw c.in-Enter.is tt) c.requires.can c.step_on.ensures.acted
+
+pub step_on-requires-in-Leave-clause-can : goal.step_on-requires-in-Leave-clause-can
+step_on-requires-in-Leave-clause-can c = step_after c.args.task c.args.did c.args.environment.now c.aim_on-in-Leave.new.environment (not_entry c.args.task c.in-Leave.is) c.requires.can c.aim_on-in-Leave.ensures.aimed

@@ -2,7 +2,7 @@ use Rattle.std.proofs.Common.{◌≡◌, Bool, false}
 use Rattle.std.specs.Prelude.{IsTrue}
 use Rattle.acc_base.specs.declared.mappings.Counter.TheVariants.{Structured, Dynamic}
 use Rattle.acc_clauses.proofs.Steps.{changed_there, changed_zero}
-use Rattle.acc_clauses.proofs.Ending.{range_there, range_ends, falls, block_there, end_mark, end_mapped, gone_changes, kept_changes, ended_acts}
+use Rattle.acc_clauses.proofs.Ending.{same_loans, range_there, range_ends, falls, block_there, end_mark, end_mapped, gone_changes, kept_changes, ended_acts}
 use Rattle.acc_clauses.proofs.acting.end.Goals as goal
 
 pub recount-requires : goal.recount-requires
@@ -61,3 +61,6 @@ returns-else-retire c =
   where
     not_both : (b : Bool) → IsTrue b → b ≡ false → ⊥
     not_both b t f = cc
+
+pub retire-requires-clause-free : goal.retire-requires-clause-free
+retire-requires-clause-free c = same_loans c.args.task c.args.block c.args.environment.now c.give_bytes.new.environment c.give_bytes.ensures.given c.requires.free

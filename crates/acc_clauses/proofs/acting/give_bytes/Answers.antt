@@ -9,4 +9,4 @@ returns-then-gives_bytes c = record { given = given_acts c.args.task c.args.bloc
 pub move_bytes-requires-clause-can : goal.move_bytes-requires-clause-can
 move_bytes-requires-clause-can c =
     let gives = sym c.gives_bytes.ensures ∙ c.if-gives_bytes.true in
-    can_move_bytes c.args.task (Dropped c.args.block true) c.args.block c.args.environment.now c.queue_of.result c.transfer_at-t.result c.requires.can c.queue_of.ensures c.transfer_at-t.ensures (rw gives refl) gives c.requires.queue c.requires.puts
+    can_move_bytes c.args.task (Dropped c.args.block true) c.args.block c.args.environment.now c.queue_of.result c.transfer_at-t.result c.requires.can c.queue_of.ensures c.transfer_at-t.ensures (rw gives refl) gives (λ none. c.requires.free) c.requires.queue c.requires.puts

@@ -1,9 +1,10 @@
-use Rattle.std.proofs.Common.{◌∙◌, sym, ap, arith, inl, inr}
+use Rattle.std.proofs.Common.{◌∙◌, sym, ap, arith, inl, inr, rules}
+use Rattle.acc_base.proofs.Judged.{not_lent_says}
 use Rattle.acc_base.specs.Limits.{Limits}
 use Rattle.acc_base.specs.Pointers.{device_pointer}
 use Rattle.acc_clauses.specs.Overlays.{records_after, state_after}
 use Rattle.acc_clauses.proofs.AimsValued.{aligned}
-use Rattle.acc_clauses.proofs.AimsJudged.{attach-absent, attach-untargeted, attach-targeted, attach-new, attach-full, attach-again}
+use Rattle.acc_clauses.proofs.AimsJudged.{attach-absent, attach-untargeted, attach-targeted, attach-lent, attach-new, attach-full, attach-again}
 use Rattle.acc_clauses.proofs.aims.attach.Goals.{then-count-eq0-via-then-count-eq0, then-count-eq0-via-else-count-eq0+then-value_after-target}
 use Rattle.acc_clauses.proofs.aims.attach.Goals as goal
 
@@ -17,13 +18,22 @@ pub returns-in_default-address_after : goal.returns-in_default-address_after
 returns-in_default-address_after c =
     attach-untargeted c.args.parts.now.limits c.args.n c.args.pointer c.args.draft.now c.args.parts.now.state c.requires.planned c.requires.entering c.host_pointer.result c.host_pointer.ensures c.in_default-address_after.ensures
 
+pub returns-in_err-not_lent : goal.returns-in_err-not_lent
+returns-in_err-not_lent c =
+    let p = c.args.parts.now in
+    let lent = attach-lent p.limits c.args.n c.args.pointer c.args.draft.now p.state c.requires.planned c.requires.entering c.in-Some.block c.in-Some-address_after.target c.host_pointer.result _ c.in-Some.ensures c.host_pointer.ensures c.in-Some-address_after.ensures c.in_err-not_lent.ensures in
+    search rules
+
+pub value_after-requires-clause-free : goal.value_after-requires-clause-free
+value_after-requires-clause-free c = not_lent_says c.in-Some.block c.args.parts.now.state.records.loans (sym c.in_ok-not_lent.ensures)
+
 pub returns-then-count-eq0 : goal.returns-then-count-eq0
 returns-then-count-eq0 c =
     let p = c.args.parts.now in
     let xs = c.args.draft.now in
     let block = c.in-Some.block in
     let target = c.in-Some-address_after.target in
-    let there = attach-targeted p.limits c.args.n c.args.pointer xs p.state c.requires.planned c.requires.entering block target c.host_pointer.result c.in-Some.ensures c.host_pointer.ensures c.in-Some-address_after.ensures in
+    let there = attach-targeted p.limits c.args.n c.args.pointer xs p.state c.requires.planned c.requires.entering block target c.host_pointer.result c.in-Some.ensures c.host_pointer.ensures c.in-Some-address_after.ensures c.in_ok-not_lent.ensures in
     let count = c.count_after-count.ensures in
     attach-new p.limits.counter_max c.args.n block c.args.pointer target (device_pointer block c.args.pointer (state_after xs p.state)) (records_after xs p.state.records).attached
     (elim c.then-count-eq0.branch [
@@ -38,7 +48,7 @@ returns-then-counter_max-count c =
     let xs = c.args.draft.now in
     let block = c.in-Some.block in
     let target = c.in-Some-address_after.target in
-    let there = attach-targeted p.limits c.args.n c.args.pointer xs p.state c.requires.planned c.requires.entering block target c.host_pointer.result c.in-Some.ensures c.host_pointer.ensures c.in-Some-address_after.ensures in
+    let there = attach-targeted p.limits c.args.n c.args.pointer xs p.state c.requires.planned c.requires.entering block target c.host_pointer.result c.in-Some.ensures c.host_pointer.ensures c.in-Some-address_after.ensures c.in_ok-not_lent.ensures in
     let count = c.count_after-count.ensures in
     let some = c.if-count-eq0.false in
     let config = ap (λ (l : Limits). l.counter_max) c.config.ensures in
@@ -54,7 +64,7 @@ returns c =
     let xs = c.args.draft.now in
     let block = c.in-Some.block in
     let target = c.in-Some-address_after.target in
-    let there = attach-targeted p.limits c.args.n c.args.pointer xs p.state c.requires.planned c.requires.entering block target c.host_pointer.result c.in-Some.ensures c.host_pointer.ensures c.in-Some-address_after.ensures in
+    let there = attach-targeted p.limits c.args.n c.args.pointer xs p.state c.requires.planned c.requires.entering block target c.host_pointer.result c.in-Some.ensures c.host_pointer.ensures c.in-Some-address_after.ensures c.in_ok-not_lent.ensures in
     let count = c.count_after-count.ensures in
     let some = c.if-count-eq0.false in
     let config = ap (λ (l : Limits). l.counter_max) c.config.ensures in

@@ -1,5 +1,5 @@
-use Rattle.std.proofs.Common.{◌∙◌, refl, sym, ap, length, arith}
-use Rattle.acc_base.specs.Waits.{steps_of, steps_from}
+use Rattle.std.proofs.Common.{◌∙◌, sym, ap, length, arith}
+use Rattle.acc_base.specs.Waits.{steps_of}
 use Rattle.acc_clauses.proofs.Emptied.{more_wait, all_wait}
 use Rattle.acc_clauses.proofs.draining.waiting.Goals as goal
 

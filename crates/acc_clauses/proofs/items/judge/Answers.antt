@@ -1,25 +1,30 @@
 use Rattle.std.proofs.Common.{◌≡◌, ◌∙◌, ap, sym, rules, Ok}
-use Rattle.acc_base.specs.Acting.{judge_aim, detach_if}
-use Rattle.acc_clauses.specs.Overlays.{records_after, state_after}
-use Rattle.acc_clauses.proofs.Pointed.{step_refused, both_judged, left_aim, exited_aim, moved_aim}
+use Rattle.acc_base.specs.Results.{◌>>◌}
+use Rattle.acc_clauses.specs.Overlays.{records_after}
+use Rattle.acc_clauses.proofs.Pointed.{step_refused, step_after, row_refused, enters_not, left_judged}
 use Rattle.acc_clauses.proofs.items.judge.Goals as goal
-use Rattle.acc_clauses.proofs.items.judge.Goals.{in-Leave, in-Exit, in-Move}
 
 pub returns-in_err-step : goal.returns-in_err-step
 returns-in_err-step c =
-    let refused = step_refused c.args.parts.now.limits c.args.n c.args.draft.now c.args.task c.args.parts.now.state _ (sym c.in_err-step.ensures) in
+    let p = c.args.parts.now in
+    let row = row_refused p.limits c.args.n c.args.task (records_after c.args.draft.now p.state.records) _ c.in_err-step.ensures in
+    let refused = step_refused p.limits c.args.n c.args.draft.now c.args.task p.state _ row in
     search rules
+
+pub returns-in_err-step_free : goal.returns-in_err-step_free
+returns-in_err-step_free c =
+    let p = c.args.parts.now in
+    let row = step_after p.limits c.args.n c.args.task c.in_ok-step.step _ (records_after c.args.draft.now p.state.records) _ c.in_ok-step.ensures c.aim_before-aim.ensures c.in_err-step_free.ensures in
+    let refused = step_refused p.limits c.args.n c.args.draft.now c.args.task p.state _ row in
+    search rules
+
+pub enter-requires-clause-step : goal.enter-requires-clause-step
+enter-requires-clause-step c =
+    let p = c.args.parts.now in
+    step_after p.limits c.args.n c.args.task c.in_ok-step.step _ (records_after c.args.draft.now p.state.records) _ c.in_ok-step.ensures c.aim_before-aim.ensures c.in_ok-step_free.ensures
 
 pub returns : goal.returns
 returns c =
-    let n = c.args.n in
-    let s = c.args.parts.now.state in
-    let xs = c.args.draft.now in
-    let task = c.args.task in
-    let step = c.in_ok-step.step in
-    let each : (c.match-task.task ≡ task) × (judge_aim c.args.parts.now.limits n task step (state_after xs s) ≡ Ok c.match-task.aim) = elim c.match-task.branch [
-      | in-Leave w ↦ (w.task-is ∙ sym w.in-Leave.is, left_aim c.args.parts.now.limits n xs task w.in-Leave.holding step _ s w.in-Leave.is (w.aim-is ∙ w.release-aim.ensures))
-      | in-Exit w ↦ (w.task-is ∙ sym w.in-Exit.is, exited_aim c.args.parts.now.limits n xs task w.in-Exit.finalize w.in-Exit.item w.in-Exit.queue step _ s w.in-Exit.is (w.aim-is ∙ (w.detach-aim.ensures ∙ ap (λ o. detach_if w.in-Exit.finalize o (records_after xs s.records)) w.pointer_aimed.ensures)))
-      | in-Move w ↦ (w.task-is, moved_aim c.args.parts.now.limits n xs task w.in-Move.if_present w.in-Move.item w.in-Move.queue step _ s w.in-Move.is w.aim-is)
-    ] in
-    both_judged c.args.parts.now.limits n xs _ task step c.match-task.aim s (sym c.in_ok-step.ensures) each.1 (rw each.0 at c.push.ensures)
+    let p = c.args.parts.now in
+    let step = step_after p.limits c.args.n c.args.task c.in_ok-step.step _ (records_after c.args.draft.now p.state.records) _ c.in_ok-step.ensures c.aim_before-aim.ensures c.in_ok-step_free.ensures in
+    left_judged p.limits c.args.n c.args.draft.now _ c.args.task c.in_ok-step.step _ p.state (enters_not c.args.task c.in_default.not-Enter) step c.aim_before-aim.ensures c.push.ensures

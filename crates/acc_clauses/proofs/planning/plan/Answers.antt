@@ -16,4 +16,4 @@ judge_all-judged-requires-clause-queues c =
 pub returns-clause-judged : goal.returns-clause-judged
 returns-clause-judged c =
     let known = ap queue_named (sym c.queue_in-plan-inside.ensures) ∙ sym c.in_ok-check_queue.ensures in
-    plan_told c.args.parts.now.limits c.args.directive.now c.args.parts.now.state _ _ c.judge_all-judged.result c.in_ok-tasks_of.ensures.asked known (rw c.deref.ensures.0 at c.judge_all-judged.ensures.judged)
+    plan_told c.args.parts.now.limits c.args.directive.now c.args.parts.now.state _ _ c.transfers_free.result c.in_ok-tasks_of.ensures.asked known (rw c.deref.ensures.0 at c.in_ok-judged.ensures.judged) c.transfers_free.ensures

@@ -1,7 +1,7 @@
 use Rattle.std.proofs.Common.{sym, subst, refl}
 use Rattle.acc_base.specs.declared.attachments.Aim.{Aim}
 use Rattle.acc_clauses.specs.Acts.{IsAimedBy, CanAim}
-use Rattle.acc_clauses.specs.Contents.{state_of}
+use Rattle.acc_clauses.specs.Contents.{bare_state}
 use Rattle.acc_clauses.proofs.Aiming.{none_aims, new_aims, again_aims, cleared_aims}
 use Rattle.acc_clauses.proofs.pointers.aim_on.Goals as goal
 
@@ -34,7 +34,7 @@ returns-in-Cleared c =
     let y = c.write_back.new.environment in
     let n = c.in-Cleared in
     let b = c.detach_now.new.self in
-    let can = subst (λ (a : Aim). CanAim x.attached.counter_max a (state_of x 0)) n.is c.requires.can in
+    let can = subst (λ (a : Aim). CanAim x.attached.counter_max a (bare_state x)) n.is c.requires.can in
     record {
       aimed = subst (λ (a : Aim). IsAimedBy a x (record y { attached = b })) (sym n.is)
           (cleared_aims n.pointer n.block x y b can c.write_back.ensures c.detach_now.ensures.attached c.detach_now.ensures.counter_max c.detach_now.ensures.spare c.requires.marked);

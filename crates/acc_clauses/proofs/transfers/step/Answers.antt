@@ -7,7 +7,7 @@ pub returns-in_default : goal.returns-in_default
 returns-in_default c = record { stepped = none_steps c.args.q c.args.environment.now c.pop.new.self (sym c.pop.ensures.head ∙ c.in_default.is) c.in_default.ensures.unchanged c.pop.ensures.cap c.pop.ensures.room c.requires.marked }
 
 pub make-requires : goal.make-requires
-make-requires c = record { can = let can = c.requires.can c.in-Some.t (sym c.pop.ensures.head ∙ c.in-Some.is) in record { in_host = can.in_host; end = can.end; there = can.there; within = can.within } }
+make-requires c = record { can = let can = c.requires.can c.in-Some.t (sym c.pop.ensures.head ∙ c.in-Some.is) in record { in_host = can.in_host; end = can.end; there = can.there; free = can.free; within = can.within } }
 
 pub unpin-requires-clause-there : goal.unpin-requires-clause-there
 unpin-requires-clause-there c = let can = c.requires.can c.in-Some.t (sym c.pop.ensures.head ∙ c.in-Some.is) in rw c.make.ensures can.there

@@ -9,7 +9,7 @@ use Rattle.acc_clauses.proofs.parts.Parts.act.Goals as goal
 pub act_on-requires-clause-can : goal.act_on-requires-clause-can
 act_on-requires-clause-can c =
     let p = c.self.inside in
-    can_do p.config p.environment p.next c.args.task c.args.did c.laws.ensures c.self.invariant
+    can_do p.config p.environment p.numbers c.args.task c.args.did c.laws.ensures c.self.invariant
     (subst (λ (k : Contents). k.state.records.births < 2 ^ 48) (sym c.self.view_is) c.requires.births)
     (subst (λ (k : Contents). IsKnown k.state.records c.args.task) (sym c.self.view_is) c.requires.known)
     (subst (λ (k : Contents). IsJudged k.limits c.args.task c.args.did k.state.records) (sym c.self.view_is) c.requires.judged)
@@ -26,12 +26,12 @@ act_on-requires-clause-puts c = subst (λ (k : Contents). HasPutRoom (λ q. puts
 pub invariant_of-self : goal.invariant_of-self
 invariant_of-self c =
     let p = c.self.inside in
-    parts_sound p.config p.environment c.act_on.new.environment p.next c.args.task c.args.did c.laws.ensures c.self.invariant
+    parts_sound p.config p.environment c.act_on.new.environment p.numbers c.args.task c.args.did c.laws.ensures c.self.invariant
     (subst (λ (k : Contents). IsJudged k.limits c.args.task c.args.did k.state.records) (sym c.self.view_is) c.requires.judged) c.act_on.ensures.done
 
 pub returns : goal.returns
 returns c = record {
   limits = ap (λ (k : Contents). k.limits) c.self.view_is;
-  state = c.act_on.ensures.done.state c.self.inside.next ∙ ap (λ (k : Contents). act_state c.args.task c.args.did k.state) c.self.view_is;
+  state = c.act_on.ensures.done.state c.self.inside.numbers ∙ ap (λ (k : Contents). act_state c.args.task c.args.did k.state) c.self.view_is;
   room = subst (λ (k : Contents). IsRoomLeft (birth_of c.args.task c.args.did.step) (pointers_of c.args.did.aim) (λ q. puts_by q c.args.task c.args.did.step) k.room (room_of c.act_on.new.environment)) c.self.view_is c.act_on.ensures.done.room;
 }

@@ -5,12 +5,12 @@ use Rattle.acc_clauses.proofs.AimsJudged.{pointer_there, pointer_fits}
 use Rattle.acc_clauses.proofs.parts.Parts.device_pointer.Goals as goal
 
 pub returns-in_default : goal.returns-in_default
-returns-in_default c e =
-    absurd (false≢true (c.in_default.ensures.there.1 (pointer_there c.args.self.now.limits c.args.self.now.state.records c.args.block c.args.pointer c.laws.ensures.sound.records e)))
+returns-in_default c e free =
+    absurd (false≢true (c.in_default.ensures.there.1 (pointer_there c.args.self.now.limits c.args.self.now.state.records c.args.block c.args.pointer c.laws.ensures.sound.records e, free)))
 
 pub returns-then-saturating_sub-lt8 : goal.returns-then-saturating_sub-lt8
-returns-then-saturating_sub-lt8 c e =
-    let fits = pointer_fits c.args.self.now.limits c.args.self.now.state c.args.block c.args.pointer c.laws.ensures.sound.records c.laws.ensures.sound.memories e in
+returns-then-saturating_sub-lt8 c e free =
+    let fits = pointer_fits c.args.self.now.limits c.args.self.now.state c.args.block c.args.pointer c.laws.ensures.sound.records c.laws.ensures.sound.memories e free in
     let len : length c.in-Some.bytes.now ≡ length (bytes_of c.args.block c.args.self.now.state.memories) = ap length c.in-Some.ensures.bytes in
     let short = c.if-saturating_sub-lt8.true in
     let left = c.saturating_sub.ensures in

@@ -1,4 +1,4 @@
-use Rattle.std.proofs.Common.{sym, ap, ◌∙◌}
+use Rattle.std.proofs.Common.{ap, ◌∙◌}
 use Rattle.acc_base.specs.Waits.{ended_from}
 use Rattle.acc_clauses.specs.Contents.{Contents}
 use Rattle.acc_clauses.proofs.Standing.{ended_is}
@@ -7,4 +7,4 @@ use Rattle.acc_clauses.proofs.parts.Parts.ended.Goals as goal
 pub returns : goal.returns
 returns c =
     let p = c.self.inside in
-    c.ended.ensures ∙ ended_is p.config p.environment p.next c.args.from c.self.invariant c.laws.ensures.marks ∙ ap (λ (k : Contents). ended_from c.args.from k.state.records) c.self.view_is
+    c.ended.ensures ∙ ended_is p.config p.environment p.numbers c.args.from c.self.invariant c.laws.ensures.marks ∙ ap (λ (k : Contents). ended_from c.args.from k.state.records) c.self.view_is

@@ -12,7 +12,7 @@ use Rattle.acc_clauses.specs.Planned.{IsPlannedOn, finished}
 use Rattle.acc_clauses.specs.Contents.{Contents}
 use Rattle.acc_clauses.specs.Acts.{AreKnown, HasRoomFor, HasPutRoom, HasPlanRoom, lens_born, pointers_in}
 use Rattle.acc_clauses.specs.Stored.{IsPlan}
-use Rattle.acc_clauses.proofs.Finishing.{after_plan}
+use Rattle.acc_clauses.proofs.Finishing.{plain_verdict, after_plan}
 use Rattle.acc_clauses.proofs.Events.{event_of_plan, idle_plan}
 use Rattle.acc_clauses.proofs.Committing.{plan_known, plan_can, all_finished, plan_sound}
 use Rattle.acc_clauses.proofs.stores.Store.commit.Goals as goal
@@ -66,7 +66,7 @@ finish-requires c =
     let room : HasPlanRoom p k.room = subst (λ (x : Contents). HasPlanRoom p x.room) (sym c.self.view_is) c.requires.room in
     let next : k.state.register.next < 2 ^ 48 = subst (λ (x : Contents). x.state.register.next < 2 ^ 48) (sym c.self.view_is) c.requires.next in
     let same : f.state.register ≡ k.state.register = ap (λ (s : State). s.register) c.act_all.ensures.state ∙ register-act_all_state (tasks_in acts) (dids_in acts) k.state in
-    plan_can planned.0 k f p c.self.invariant planned.1 next room.region same c.act_all.ensures.room_regions c.act_all.ensures.room_holdings
+    plan_can planned.0 k f p c.self.invariant planned.1 next room.region (c.act_all.ensures.state ∙ ap (λ ts. act_all_state ts (dids_in acts) k.state) c.acts.ensures.tasks ∙ ap (λ ds. act_all_state p.tasks ds k.state) c.acts.ensures.dids) same c.act_all.ensures.room_regions c.act_all.ensures.room_holdings
 
 pub invariant_of-self : goal.invariant_of-self
 invariant_of-self c =
@@ -86,7 +86,7 @@ returns-clause-state c = λ d e given.
     let P : Contents → Type 0 = λ x. IsPlannedOn x.limits d (layout_of x.state) p → verdict_of d x.state p.dids ≡ Makes e → c.finish.new.parts.state ≡ after e [] x.state in
     subst P c.self.view_is
     (λ on makes. all_finished p (tasks_in acts) (dids_in acts) k.state c.act_all.new.parts.state c.finish.new.parts.state c.acts.ensures.tasks c.acts.ensures.dids c.act_all.ensures.state c.finish.ensures.state
-    ∙ sym (after_plan k.limits p k.state e (event_of_plan k.limits d k.state p e on makes))) given
+    ∙ sym (after_plan k.limits p k.state e (event_of_plan k.limits d k.state p e on makes) (plain_verdict d k.state p.dids e makes))) given
 
 pub returns-clause-idle : goal.returns-clause-idle
 returns-clause-idle c = λ d given.

@@ -76,7 +76,7 @@ born c =
     let room = c.in_ok-make_room.ensures in
     let fits = rw room.holes.holes at c.put.ensures.place in
     born_of d.holes c.put.new.holes d.slab.slots c.make_room.new.slab.slots c.put.new.slab.slots d.index.items c.make_room.new.index.items c.put.new.index.items d.births c.args.len c.put.result c.args.zero c.in_ok-bytes.bytes.items (room_of d) (room_of d)
-    c.self.invariant.0 c.requires.len.0 room.slots room.index (c.put.ensures.size ∙ room.holes.size) c.in_ok-bytes.ensures.ok fits c.put.ensures.blocks c.put.ensures.memories c.put.ensures.marks
+    c.self.invariant.0 c.requires.len.0 room.slots room.index (c.put.ensures.size ∙ room.holes.size) c.in_ok-bytes.ensures.ok fits c.put.ensures.blocks c.put.ensures.memories c.put.ensures.marks c.put.ensures.loans
 
 pub returns-clause-born : goal.returns-clause-born
 returns-clause-born c =

@@ -1,8 +1,9 @@
-use Rattle.std.proofs.Common.{sym, subst, arith}
+use Rattle.std.proofs.Common.{◌≡◌, true, false, sym, subst, arith}
+use Rattle.acc_base.specs.Loans.{is_lent}
 use Rattle.acc_dev.specs.Room.{room_of}
 use Rattle.acc_dev.specs.Device.{DeviceState, HasBlock, IsMarked}
 use Rattle.acc_dev.proofs.Keeping.{device_of, not_missed, filled_read}
-use Rattle.acc_dev.proofs.Writes.{marked_kept, marked_of}
+use Rattle.acc_dev.proofs.Writes.{marked_kept, marked_of, lent_mapped}
 use Rattle.acc_dev.proofs.devices.Device.mark.Goals as goal
 
 pub unreachable-requires : goal.unreachable-requires
@@ -23,7 +24,8 @@ invariant_of-self c =
     let marked = c.set_mark.ensures in (
       marked_kept s.holes s.slab c.set_mark.new.slab s.index.items c.index.result.now.1 c.args.pins c.args.ended c.self.invariant.0
           (filled_read s.holes s.slab.slots s.index.items c.in-Some.at c.index.result.now c.self.invariant.0 c.index.ensures found.in_bounds)
-          (λ n. record { few = c.requires.few; held = c.requires.held }) marked.marked,
+          (λ n. record { few = c.requires.few; held = c.requires.held })
+          (lent_mapped s.holes s.slab.slots s.index.items c.in-Some.at c.args.block c.args.ended c.index.result.now c.self.invariant.0 found c.index.ensures (subst (λ (d : DeviceState). c.args.ended ≡ true → is_lent c.args.block d.loans ≡ false) (sym c.self.view_is) c.requires.free)) marked.marked,
       c.self.invariant.1,
       (let r = c.self.invariant.2 in record { few = r.few; empty = r.empty; holes = r.holes; slots = omega (arith, r.slots, marked.slots, marked.capacity); entries = r.entries }),
     )

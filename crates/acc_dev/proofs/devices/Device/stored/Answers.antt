@@ -33,3 +33,12 @@ returns-clause-ended c = (told c).ended
 
 pub returns-clause-few : goal.returns-clause-few
 returns-clause-few c = (told c).few
+
+pub returns-clause-long : goal.returns-clause-long
+returns-clause-long c = (told c).long
+
+pub returns-clause-loan : goal.returns-clause-loan
+returns-clause-loan c = (told c).loan
+
+pub returns-clause-free : goal.returns-clause-free
+returns-clause-free c = (told c).free

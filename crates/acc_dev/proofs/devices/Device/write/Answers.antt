@@ -28,7 +28,7 @@ rewritten c =
     let is : bytes_of c.args.block (memories_in s.slab.slots s.index.items) ≡ stored_bytes (get_or s.slab.slots c.index.result.now.1 None) = bytes_at s.holes s.slab.slots s.index.items c.in-Some.at c.args.block c.index.result.now c.self.invariant.0 found c.index.ensures in
     let within = subst (λ (d : DeviceState). c.args.offset + length c.args.bytes.now ≤ length (bytes_of c.args.block d.memories)) (sym c.self.view_is) c.requires.in_range in
     rewritten_from s.slab.slots c.write_at.new.slab.slots c.index.result.now.1 c.args.offset c.args.bytes.now (subst (λ (b : List ℕ). c.args.offset + length c.args.bytes.now ≤ length b) is within)
-    c.write_at.ensures.filled c.write_at.ensures.place c.write_at.ensures.bytes c.write_at.ensures.pins c.write_at.ensures.ended c.write_at.ensures.others
+    c.write_at.ensures.filled c.write_at.ensures.place c.write_at.ensures.bytes c.write_at.ensures.pins c.write_at.ensures.ended c.write_at.ensures.len c.write_at.ensures.loan c.write_at.ensures.others
 
 pub invariant_of-self : goal.invariant_of-self
 invariant_of-self c = (

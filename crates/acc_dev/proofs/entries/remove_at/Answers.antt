@@ -1,13 +1,14 @@
-use Rattle.std.proofs.Common.{ℕ, ◌≡◌, ◌<◌, List, Option, Some, get_or, length, rules}
+use Rattle.std.proofs.Common.{ℕ, ◌≡◌, ◌<◌, List, Option, Some, get_or, length, ◌∙◌}
 use Rattle.acc_base.specs.Accounts.{EachPair}
 use Rattle.acc_dev.specs.declared.entries.Stored.{Stored}
 use Rattle.acc_dev.specs.Kept.{block_from, memory_from, mark_from, slot_of}
 use Rattle.acc_dev.proofs.Rising.{start}
 use Rattle.acc_dev.proofs.Slots.{AreSame, KeepsOthers, made-removed}
+use Rattle.acc_dev.proofs.Lent.{loans_in-same, loans_in-remove}
 use Rattle.acc_dev.proofs.Keeping.{entry_read, filled_read, len_stored}
 use Rattle.acc_dev.proofs.Ends.{taken_stored, same_left, left_kept}
 use Rattle.std.specs.List.{remove}
-use Rattle.acc_dev.proofs.entries.take_out.Goals as goal
+use Rattle.acc_dev.proofs.entries.remove_at.Goals as goal
 
 pub remove-place-requires : goal.remove-place-requires
 remove-place-requires c = filled_read c.args.holes.now c.args.slab.now.slots c.args.index.now.items c.args.at c.remove-slot.result c.requires.kept c.remove-slot.ensures.value c.requires.in_bounds
@@ -16,15 +17,13 @@ pub give_back-requires-clause-need : goal.give_back-requires-clause-need
 give_back-requires-clause-need c =
     let same = entry_read c.args.index.now.items c.args.at c.remove-slot.result c.remove-slot.ensures.value c.requires.in_bounds in
     let is : slot_of c.args.slab.now.slots (get_or c.args.index.now.items c.args.at start) ≡ Some c.remove-place.result = rw same c.remove-place.ensures.value in
-    let len : c.len.result ≡ length c.remove-place.result.bytes.items = search (rules, c.len.ensures) in
-    rw len (len_stored c.args.holes.now c.args.slab.now.slots c.args.index.now.items c.args.at c.remove-place.result c.requires.kept c.requires.in_bounds is)
+    len_stored c.args.holes.now c.args.slab.now.slots c.args.index.now.items c.args.at c.remove-place.result c.requires.kept c.requires.in_bounds is
 
 pub give_back-requires-clause-taken : goal.give_back-requires-clause-taken
 give_back-requires-clause-taken c =
     let same = entry_read c.args.index.now.items c.args.at c.remove-slot.result c.remove-slot.ensures.value c.requires.in_bounds in
     let is : slot_of c.args.slab.now.slots (get_or c.args.index.now.items c.args.at start) ≡ Some c.remove-place.result = rw same c.remove-place.ensures.value in
-    let len : c.len.result ≡ length c.remove-place.result.bytes.items = search (rules, c.len.ensures) in
-    rw len (taken_stored c.args.holes.now c.args.slab.now.slots c.args.index.now.items c.args.at c.remove-place.result c.requires.kept c.requires.in_bounds is)
+    taken_stored c.args.holes.now c.args.slab.now.slots c.args.index.now.items c.args.at c.remove-place.result c.requires.kept c.requires.in_bounds is
 
 -- the slots of the other entries are as they were
 others : (s t : List (Option Stored)) (xs : List (ℕ × ℕ)) (i : ℕ) (e : ℕ × ℕ) → e ≡ get_or xs i e → i < length xs → KeepsOthers s t e.1 → KeepsOthers s t (get_or xs i start).1
@@ -37,9 +36,8 @@ pub returns-clause-kept : goal.returns-clause-kept
 returns-clause-kept c =
     let same = entry_read c.args.index.now.items c.args.at c.remove-slot.result c.remove-slot.ensures.value c.requires.in_bounds in
     let is : slot_of c.args.slab.now.slots (get_or c.args.index.now.items c.args.at start) ≡ Some c.remove-place.result = rw same c.remove-place.ensures.value in
-    let len : c.len.result ≡ length c.remove-place.result.bytes.items = search (rules, c.len.ensures) in
     rw c.remove-slot.ensures.items (left_kept c.args.holes.now c.give_back.new.self c.args.slab.now.slots c.remove-place.new.self.slots c.args.index.now.items c.args.at c.remove-place.result
-    c.requires.kept c.requires.in_bounds is (others c.args.slab.now.slots c.remove-place.new.self.slots c.args.index.now.items c.args.at c.remove-slot.result c.remove-slot.ensures.value c.requires.in_bounds c.remove-place.ensures.updates.others) (rw same c.remove-place.ensures.updates.changed) c.give_back.ensures.given_back.base c.give_back.ensures.canonical (rw len at c.give_back.ensures.partition))
+    c.requires.kept c.requires.in_bounds is (others c.args.slab.now.slots c.remove-place.new.self.slots c.args.index.now.items c.args.at c.remove-slot.result c.remove-slot.ensures.value c.requires.in_bounds c.remove-place.ensures.updates.others) (rw same c.remove-place.ensures.updates.changed) c.give_back.ensures.given_back.base c.give_back.ensures.canonical c.give_back.ensures.partition)
 
 pub returns-clause-blocks : goal.returns-clause-blocks
 returns-clause-blocks c = rw c.remove-slot.ensures.items (made-removed block_from c.args.slab.now.slots c.remove-place.new.self.slots c.args.index.now.items c.args.at (same_slots c.args.slab.now.slots c.remove-place.new.self.slots c.args.index.now.items c.args.at c.remove-slot.result c.requires.kept.distinct c.remove-slot.ensures.value c.requires.in_bounds c.remove-place.ensures.updates.others))
@@ -49,3 +47,11 @@ returns-clause-memories c = rw c.remove-slot.ensures.items (made-removed memory_
 
 pub returns-clause-marks : goal.returns-clause-marks
 returns-clause-marks c = rw c.remove-slot.ensures.items (made-removed mark_from c.args.slab.now.slots c.remove-place.new.self.slots c.args.index.now.items c.args.at (same_slots c.args.slab.now.slots c.remove-place.new.self.slots c.args.index.now.items c.args.at c.remove-slot.result c.requires.kept.distinct c.remove-slot.ensures.value c.requires.in_bounds c.remove-place.ensures.updates.others))
+
+pub returns-clause-loans : goal.returns-clause-loans
+returns-clause-loans c =
+    let s = c.args.slab.now.slots in
+    let t = c.remove-place.new.self.slots in
+    let xs = c.args.index.now.items in
+    rw c.remove-slot.ensures.items (loans_in-same s t (remove xs c.args.at) (same_slots s t xs c.args.at c.remove-slot.result c.requires.kept.distinct c.remove-slot.ensures.value c.requires.in_bounds c.remove-place.ensures.updates.others)
+    ∙ loans_in-remove s xs c.args.at c.requires.in_bounds c.requires.free)

@@ -1,0 +1,100 @@
+-- While a queue is emptied, none of the transfers that are left is of a block that is lent.
+use Rattle.std.proofs.Common.{ℕ, zero, suc, ◌+◌, ◌≡◌, refl, sym, ◌∙◌, ap, subst, List, [], ◌∷◌, ◌++◌, Option, Some, None, Ok, take, drop, replicate, add-one}
+use Rattle.std.specs.Prelude.{length, slice_get, slice_set, slice_index_or}
+use Rattle.std.specs.List.{flat_map}
+use Rattle.acc_base.specs.declared.loans.Loan.{Loan}
+use Rattle.acc_base.specs.declared.transfers.Transfer.{Transfer}
+use Rattle.acc_base.specs.Results.{◌>>◌}
+use Rattle.acc_base.specs.Loans.{not_lent, none_lent}
+use Rattle.acc_base.specs.Queues.{queue_at, head_of, popped}
+use Rattle.acc_base.specs.Records.{Records, State}
+use Rattle.acc_base.specs.Steps.{released}
+use Rattle.acc_base.specs.Waits.{state_made, stepped, drained}
+use Rattle.acc_base.proofs.Results.{then_ok}
+use Rattle.acc_base.proofs.Walked.{records-drained}
+use Rattle.acc_base.proofs.Loaned.{loans-drained}
+use Rattle.acc_clauses.proofs.Emptied.{later-drained}
+
+abbrev AreFree : List Transfer → List Loan → Type 0
+AreFree ts loans = none_lent ts loans ≡ Ok tt
+
+-- ---- parts of a list of transfers
+
+free-append : (xs ys : List Transfer) (loans : List Loan) → AreFree (xs ++ ys) loans → AreFree xs loans × AreFree ys loans
+free-append [] ys loans h = (refl, h)
+free-append (x ∷ xs) ys loans h =
+    let both : (not_lent (Some x.block) loans ≡ Ok tt) × AreFree (xs ++ ys) loans = then_ok (not_lent (Some x.block) loans) (none_lent (xs ++ ys) loans) tt h in
+    let rest : AreFree xs loans × AreFree ys loans = free-append xs ys loans both.1 in
+    (rw both.0 rest.0, rest.1)
+
+free-drop : (n : ℕ) (ts : List Transfer) (loans : List Loan) → AreFree ts loans → AreFree (drop n ts) loans
+free-drop zero ts loans h = h
+free-drop (suc n) [] loans h = h
+free-drop (suc n) (t ∷ ts) loans h = free-drop n ts loans (then_ok (not_lent (Some t.block) loans) (none_lent ts loans) tt h).1
+
+free-first : (ts : List Transfer) (loans : List Loan) → AreFree ts loans → AreFree (take 1 ts) loans
+free-first [] loans h = h
+free-first (t ∷ ts) loans h = rw (then_ok (not_lent (Some t.block) loans) (none_lent ts loans) tt h).0 refl
+
+-- ---- a queue after some of its steps
+
+queue-set : (queues : List (List Transfer)) (q : ℕ) → queue_at q (popped q queues) ≡ drop 1 (queue_at q queues)
+queue-set queues q = go queues q (drop 1 (queue_at q queues)) refl
+  where
+    go : (qs : List (List Transfer)) (i : ℕ) (ts : List Transfer) → ts ≡ drop 1 (queue_at i qs) → queue_at i (slice_set qs i ts) ≡ ts
+    go [] zero ts e = sym e
+    go [] (suc i) ts e = sym e
+    go (x ∷ xs) zero ts e = refl
+    go (x ∷ xs) (suc i) ts e = go xs i ts e
+
+none_first : (ts : List Transfer) → slice_get ts 0 ≡ None → ts ≡ drop 1 ts
+none_first [] e = refl
+none_first (t ∷ ts) e = cc
+
+queue-stepped : (q : ℕ) (s : State) → queue_at q (stepped q s).records.queues ≡ drop 1 (queue_at q s.records.queues)
+unfolding stepped released
+queue-stepped q s = go (head_of q s.records.queues) refl
+  where
+    go : (o : Option Transfer) → head_of q s.records.queues ≡ o → queue_at q (state_made q o s).records.queues ≡ drop 1 (queue_at q s.records.queues)
+    go None e = none_first (queue_at q s.records.queues) e
+    go (Some t) e = queue-set s.records.queues q
+
+drop-one : (n : ℕ) (ts : List Transfer) → drop n (drop 1 ts) ≡ drop (suc n) ts
+drop-one zero [] = refl
+drop-one (suc n) [] = refl
+drop-one n (t ∷ ts) = refl
+
+queue-drained : (q n : ℕ) (s : State) → queue_at q (drained (replicate n q) s).records.queues ≡ drop n (queue_at q s.records.queues)
+unfolding drained
+queue-drained q zero s = refl
+queue-drained q (suc n) s = queue-drained q n (stepped q s) ∙ (ap (drop n) (queue-stepped q s) ∙ drop-one n (queue_at q s.records.queues))
+
+same_loans : (qs : List ℕ) (s : State) → (drained qs s).records.loans ≡ s.records.loans
+same_loans qs s = ap (λ (w : Records). w.loans) (records-drained qs s) ∙ loans-drained qs s.records
+
+-- the next step of a queue makes a transfer whose block is not lent, where none that waited there is of such a block
+pub next_free : (q n : ℕ) (s t : State) → none_lent (queue_at q s.records.queues) s.records.loans ≡ Ok tt → t ≡ drained (replicate n q) s → none_lent (take 1 (queue_at q t.records.queues)) t.records.loans ≡ Ok tt
+next_free q n s t free e =
+    let left : AreFree (take 1 (drop n (queue_at q s.records.queues))) s.records.loans = free-first (drop n (queue_at q s.records.queues)) s.records.loans (free-drop n (queue_at q s.records.queues) s.records.loans free) in
+    let at : AreFree (take 1 (queue_at q (drained (replicate n q) s).records.queues)) (drained (replicate n q) s).records.loans = rw (queue-drained q n s, same_loans (replicate n q) s) left in
+    subst (λ (x : State). AreFree (take 1 (queue_at q x.records.queues)) x.records.loans) (sym e) at
+
+-- ---- all queues
+
+-- the transfers of the queues from one on are those of that queue, and then those of the queues behind it
+queues-split : (i : ℕ) (queues : List (List Transfer)) → flat_map (λ ts. ts) (drop i queues) ≡ queue_at i queues ++ flat_map (λ ts. ts) (drop (suc i) queues)
+queues-split zero [] = refl
+queues-split (suc i) [] = refl
+queues-split zero (ts ∷ queues) = refl
+queues-split (suc i) (ts ∷ queues) = queues-split i queues
+
+pub queue_free : (q : ℕ) (s : State) → none_lent (flat_map (λ ts. ts) (drop q s.records.queues)) s.records.loans ≡ Ok tt → none_lent (queue_at q s.records.queues) s.records.loans ≡ Ok tt
+queue_free q s h = (free-append (queue_at q s.records.queues) (flat_map (λ ts. ts) (drop (suc q) s.records.queues)) s.records.loans (subst (λ ts. AreFree ts s.records.loans) (queues-split q s.records.queues) h)).0
+
+-- once a queue is emptied, those behind it are as free as before
+pub rest_free : (q n : ℕ) (s t : State) → none_lent (flat_map (λ ts. ts) (drop q s.records.queues)) s.records.loans ≡ Ok tt → t ≡ drained (replicate n q) s → none_lent (flat_map (λ ts. ts) (drop (q + 1) t.records.queues)) t.records.loans ≡ Ok tt
+rest_free q n s t h e =
+    let behind : AreFree (flat_map (λ ts. ts) (drop (suc q) s.records.queues)) s.records.loans
+    = (free-append (queue_at q s.records.queues) (flat_map (λ ts. ts) (drop (suc q) s.records.queues)) s.records.loans (subst (λ ts. AreFree ts s.records.loans) (queues-split q s.records.queues) h)).1 in
+    let after : AreFree (flat_map (λ ts. ts) (drop (suc q) (drained (replicate n q) s).records.queues)) (drained (replicate n q) s).records.loans = rw (later-drained q n s, same_loans (replicate n q) s) behind in
+    subst (λ m. AreFree (flat_map (λ ts. ts) (drop m t.records.queues)) t.records.loans) (sym (add-one q)) (subst (λ (x : State). AreFree (flat_map (λ ts. ts) (drop (suc q) x.records.queues)) x.records.loans) (sym e) after)

@@ -1,0 +1,165 @@
+-- A block is lent, and comes back: what the device needs for it, and what it leaves of the parts and of a store.
+use Rattle.std.proofs.Common.{ℕ, ◌≡◌, ◌+◌, ◌<◌, ◌≤◌, refl, sym, ◌∙◌, ap, subst, Bool, true, false, List, [], ◌∷◌, Option, Some, None, Ok, arith}
+use Rattle.std.specs.Prelude.{◌==◌, not, is_none, unwrap_or, option_map, IsSome, ⊤}
+use Rattle.std.specs.List.{AllByRecursion, AllZip}
+use Rattle.acc_base.specs.declared.items.Section.{Section}
+use Rattle.acc_base.specs.declared.mappings.Range.{Range}
+use Rattle.acc_base.specs.declared.mappings.Block.{Block}
+use Rattle.acc_base.specs.declared.loans.Loan.{Loan}
+use Rattle.acc_base.specs.declared.regions.Holding.{Holding}
+use Rattle.acc_base.specs.declared.faults.Fault.TheVariants.{NoLease}
+use Rattle.acc_base.specs.declared.events.Event.{Event}
+use Rattle.acc_base.specs.declared.events.Event.TheVariants.{Lent, Gathered}
+use Rattle.acc_base.specs.Results.{refuse_if}
+use Rattle.acc_base.specs.Limits.{Limits, IsWithinBounds}
+use Rattle.acc_base.specs.Records.{Records, State, layout_of}
+use Rattle.acc_base.specs.Register.{Region}
+use Rattle.acc_base.specs.Ranges.{range_of}
+use Rattle.acc_base.specs.Blocks.{block_at, used_bytes}
+use Rattle.acc_base.specs.Loans.{Leased, is_lent, with_loan, without_loan, len_of, is_returnable}
+use Rattle.acc_base.specs.Walk.{loan_at, loaned, register_after}
+use Rattle.acc_base.specs.Waits.{drained}
+use Rattle.acc_base.specs.Acting.{act_all_state, after}
+use Rattle.acc_base.specs.Judge.{gather_event}
+use Rattle.acc_base.specs.History.{IsLegal}
+use Rattle.acc_base.specs.Accounts.{IsMapped, IsMemoryOf, IsLoanSound, AreRecordsSound, AreMemoriesSized}
+use Rattle.acc_base.proofs.Results.{equal, then_ok, refused_not, not_false}
+use Rattle.acc_base.proofs.Elements.{found_has, AllByRecursion-weaker}
+use Rattle.acc_base.proofs.Lending.{loans-with, loans-without}
+use Rattle.acc_base.proofs.Loaned.{with_loans, placed_loan}
+use Rattle.acc_base.proofs.Memories.{AreBrought, lent_sized, gathered_sized}
+use Rattle.acc_base.proofs.Accounted.{lend_legal, IsGathered, gather_legal}
+use Rattle.acc_base.proofs.Registers.{AreFew}
+use Rattle.acc_dev.specs.Marks.{is_ended_at, IsMarkOf}
+use Rattle.acc_dev.specs.Device.{DeviceState, HasBlock, IsTakenOut, IsPutBack}
+use Rattle.acc_clauses.specs.declared.environments.Environment.{Environment}
+use Rattle.acc_clauses.specs.declared.numbers.Numbers.{Numbers}
+use Rattle.acc_clauses.specs.Contents.{Contents, state_of, ArePartsSound}
+use Rattle.acc_clauses.specs.Stored.{IsStoreSound, AreHoldingsWithin, IsHeldWithin, IsHoldingWithin}
+use Rattle.acc_clauses.specs.Lending.{IsLoanPlanned, lent_state, gathered_state}
+use Rattle.acc_clauses.proofs.Changes.{state_by}
+use Rattle.acc_clauses.proofs.Standing.{told}
+use Rattle.acc_clauses.proofs.Finishing.{event_sound}
+
+-- ---- what the device needs
+
+-- the block of a loan is there, and as long as its range
+record IsThere (blocks : List Block) (loan : Loan) (range : Range) : Type 0 where
+  block : Block
+  at : block_at loan.block blocks ≡ Some block
+  len : block.len ≡ range.section.len
+
+loan_there : (l : Limits) (w : Records) (loan : Loan) → AreRecordsSound l w → (sound : IsLoanSound w.ranges loan) → IsThere w.blocks loan sound.range
+loan_there l w loan h sound =
+    let has : IsMapped w.blocks sound.range × ((sound.range.block == loan.block) ≡ true) = found_has (IsMapped w.blocks) (λ r. r.block == loan.block) w.ranges sound.range h.one_block_each.mapped sound.mapped in
+    record { block = has.0.0; at = subst (λ n. block_at n w.blocks ≡ Some has.0.0) (equal sound.range.block loan.block has.1) has.0.1; len = has.0.2 }
+
+some_block : (o : Option Block) (b : Block) → o ≡ Some b → IsSome o
+some_block None b e = cc
+some_block (Some c) b e = refl
+
+pub lend_there : (l : Limits) (x : Environment) (n : Numbers) (loan : Loan) → ArePartsSound l x n → IsLoanSound x.present.table.ranges loan → HasBlock x.device loan.block
+lend_there l x n loan parts sound =
+    let there : IsThere x.device.blocks loan sound.range = loan_there l (state_of x n).records loan parts.sound.records sound in
+    some_block (block_at loan.block x.device.blocks) there.block there.at
+
+pub lend_mapped : (l : Limits) (x : Environment) (n : Numbers) (loan : Loan) → ArePartsSound l x n → AllZip IsMarkOf x.device.marks x.device.blocks → IsLoanSound x.present.table.ranges loan → is_ended_at loan.block x.device.marks ≡ false
+lend_mapped l x n loan parts zip sound = (told l x n loan.block parts zip (lend_there l x n loan parts sound)).ended ∙ ap is_none sound.mapped
+
+pub lend_within : (l : Limits) (x : Environment) (n : Numbers) (loan : Loan) → ArePartsSound l x n → IsLoanSound x.present.table.ranges loan → loan.offset + loan.len ≤ len_of loan.block x.device.blocks
+lend_within l x n loan parts sound =
+    let there : IsThere x.device.blocks loan sound.range = loan_there l (state_of x n).records loan parts.sound.records sound in
+    let long : len_of loan.block x.device.blocks ≡ there.block.len = ap (λ (o : Option Block). unwrap_or (option_map (λ (b : Block). b.len) o) 0) there.at in
+    omega (arith, long, there.len, sound.within)
+
+-- ---- the parts
+
+-- the numbers after a loan
+abbrev pub numbered_on : Numbers → Numbers
+numbered_on n = record { region = n.region; serial = n.serial + 1 }
+
+pub lent_is : (x : Environment) (n : Numbers) (d : DeviceState) (loan : Loan) → IsTakenOut x.device d loan → state_of (record x { device = d }) (numbered_on n) ≡ lent_state loan (state_of x n)
+lent_is x n d loan out = state_by (record x { device = d }) (numbered_on n) (lent_state loan (state_of x n)) refl out.blocks refl out.births refl out.loans refl refl refl refl out.memories
+
+pub lent_parts : (l : Limits) (x : Environment) (n : Numbers) (d : DeviceState) (loan : Loan) → ArePartsSound l x n → is_lent loan.block x.device.loans ≡ false → IsLoanSound x.present.table.ranges loan → IsTakenOut x.device d loan
+    → ArePartsSound l (record x { device = d }) (numbered_on n)
+lent_parts l x n d loan parts free sound out =
+    let s : State = state_of x n in
+    let records : AreRecordsSound l (lent_state loan s).records = with_loans l s.records (with_loan loan s.records.loans) parts.sound.records (loans-with s.records.ranges loan s.records.loans free sound parts.sound.records.loans) in
+    let memories : AreMemoriesSized l (lent_state loan s) = record { host = parts.sound.memories.host; blocks = lent_sized loan s.records.loans s.memories s.records.blocks parts.sound.memories.blocks } in
+    let is : state_of (record x { device = d }) (numbered_on n) ≡ lent_state loan s = lent_is x n d loan out in
+    record {
+      sized = record { counters = parts.sized.counters; device = out.size ∙ parts.sized.device; pointers = parts.sized.pointers; queues = parts.sized.queues };
+      sound = record { records = subst (λ (t : State). AreRecordsSound l t.records) (sym is) records; memories = subst (AreMemoriesSized l) (sym is) memories };
+      marked = rw out.marks parts.marked;
+    }
+
+pub gathered_is : (x : Environment) (n : Numbers) (d : DeviceState) (lease : Leased) → IsPutBack x.device d lease → state_of (record x { device = d }) n ≡ gathered_state lease (state_of x n)
+gathered_is x n d lease back = state_by (record x { device = d }) n (gathered_state lease (state_of x n)) refl back.blocks refl back.births refl back.loans refl refl refl refl back.memories
+
+-- a lease that a block fits is gathered
+pub gather_is : (lease : Leased) (w : Records) → is_returnable lease w.blocks w.loans ≡ true → gather_event lease w ≡ Ok (Gathered lease.serial lease.block)
+unfolding gather_event
+gather_is lease w e = rw e refl
+
+pub returnable : (lease : Leased) (w : Records) (e : Event) → gather_event lease w ≡ Ok e → is_returnable lease w.blocks w.loans ≡ true
+unfolding gather_event
+returnable lease w e h = not_false _ (refused_not _ _ (then_ok (refuse_if (not (is_returnable lease w.blocks w.loans)) (NoLease lease.serial)) (Ok (Gathered lease.serial lease.block)) e h).0)
+
+pub gathered_parts : (l : Limits) (x : Environment) (n : Numbers) (d : DeviceState) (lease : Leased) → ArePartsSound l x n → is_returnable lease x.device.blocks x.device.loans ≡ true → IsPutBack x.device d lease → ArePartsSound l (record x { device = d }) n
+gathered_parts l x n d lease parts fits back =
+    let s : State = state_of x n in
+    let long : IsGathered l lease s (Gathered lease.serial lease.block) = gather_legal l lease s (Gathered lease.serial lease.block) parts.sound.records (gather_is lease s.records fits) in
+    let records : AreRecordsSound l (gathered_state lease s).records = with_loans l s.records (without_loan lease.block s.records.loans) parts.sound.records (loans-without s.records.ranges lease.block s.records.loans parts.sound.records.loans) in
+    let memories : AreMemoriesSized l (gathered_state lease s) = record { host = parts.sound.memories.host; blocks = gathered_sized lease.block lease.bytes s.records.loans s.memories s.records.blocks long.fits parts.sound.memories.blocks } in
+    let is : state_of (record x { device = d }) n ≡ gathered_state lease s = gathered_is x n d lease back in
+    record {
+      sized = record { counters = parts.sized.counters; device = back.size ∙ parts.sized.device; pointers = parts.sized.pointers; queues = parts.sized.queues };
+      sound = record { records = subst (λ (t : State). AreRecordsSound l t.records) (sym is) records; memories = subst (AreMemoriesSized l) (sym is) memories };
+      marked = rw back.marks parts.marked;
+    }
+
+-- ---- the store
+
+-- what a planned loan says: it is legal, its block is not lent, and its section lies in the range of the block
+pub record IsLendable (l : Limits) (region : ℕ) (section : Section) (s : State) (loan : Loan) : Type 0 where
+  pub legal : IsLegal l (Lent region section loan.block loan.serial) (layout_of s)
+  pub free : is_lent loan.block s.records.loans ≡ false
+  pub sound : IsLoanSound s.records.ranges loan
+
+pub planned_says : (l : Limits) (region : ℕ) (section : Section) (s : State) (loan : Loan) → AreRecordsSound l s.records → IsLoanPlanned l region section s loan → IsLendable l region section s loan
+planned_says l region section s loan h p =
+    let e : Event = Lent region section loan.block loan.serial in
+    let legal : IsLegal l e (layout_of s) = (lend_legal l region section s e p.event).2 in
+    record { legal = legal; free = legal.names.2; sound = subst (IsLoanSound s.records.ranges) (sym p.loan_is) (placed_loan l loan.serial loan.block section s.records h legal.names.1) }
+
+pub lent_after : (region : ℕ) (section : Section) (loan : Loan) (s : State) → loan ≡ loan_at loan.serial loan.block section s.records.ranges → lent_state loan s ≡ after (Lent region section loan.block loan.serial) [] s
+unfolding after loaned drained act_all_state
+lent_after region section loan s is = ap (λ (x : Loan). record (lent_state loan s) { records = record s.records { loans = with_loan x s.records.loans } }) is
+
+pub gathered_after : (lease : Leased) (s : State) → gathered_state lease s ≡ after (Gathered lease.serial lease.block) lease.bytes s
+unfolding after loaned drained act_all_state
+gathered_after lease s = refl
+
+-- what open regions hold stays where it is
+kept_holdings : (s t : State) → t.records.ranges ≡ s.records.ranges → t.records.births ≡ s.records.births → t.register.regions ≡ s.register.regions → AreHoldingsWithin s.records s.register.regions → AreHoldingsWithin t.records t.register.regions
+kept_holdings s t ranges births regions h = subst (AreHoldingsWithin t.records) (sym regions)
+    (AllByRecursion-weaker (λ (r : Region). AllByRecursion (IsHoldingWithin s.records) r.holdings) (λ (r : Region). AllByRecursion (IsHoldingWithin t.records) r.holdings) s.register.regions
+    (λ r held. AllByRecursion-weaker (IsHoldingWithin s.records) (IsHoldingWithin t.records) r.holdings (λ x p k e. one x k (p k e)) held) h)
+  where
+    one : (x : Holding) (k : ℕ) → IsHeldWithin s.records x.item.section k → IsHeldWithin t.records x.item.section k
+    one x k p = record { born = subst (λ n. k ≤ n) (sym births) p.born; within = λ r e. p.within r (ap (range_of k) (sym ranges) ∙ e) }
+
+pub lent_store : (region : ℕ) (section : Section) (c f : Contents) (loan : Loan) → IsWithinBounds c.limits → IsStoreSound c → IsLoanPlanned c.limits region section c.state loan → f.limits ≡ c.limits → f.state ≡ lent_state loan c.state → IsStoreSound f
+lent_store region section c f loan bounds h p limits is =
+    let says : IsLendable c.limits region section c.state loan = planned_says c.limits region section c.state loan h.sound.layout.records p in
+    event_sound c.limits (Lent region section loan.block loan.serial) [] c f bounds refl limits h says.legal tt (is ∙ lent_after region section loan c.state p.loan_is) h.sound.layout.register.few
+    (subst (λ (t : State). used_bytes t.records.blocks ≤ c.limits.device) (sym is) h.sound.bytes_accounted)
+    (subst (λ (t : State). AreHoldingsWithin t.records t.register.regions) (sym is) (kept_holdings c.state (lent_state loan c.state) refl refl refl h.holdings))
+
+pub gathered_store : (c f : Contents) (lease : Leased) → IsWithinBounds c.limits → IsStoreSound c → gather_event lease c.state.records ≡ Ok (Gathered lease.serial lease.block) → f.limits ≡ c.limits → f.state ≡ gathered_state lease c.state → IsStoreSound f
+gathered_store c f lease bounds h fits limits is =
+    let says : IsGathered c.limits lease c.state (Gathered lease.serial lease.block) = gather_legal c.limits lease c.state (Gathered lease.serial lease.block) h.sound.layout.records fits in
+    event_sound c.limits (Gathered lease.serial lease.block) lease.bytes c f bounds refl limits h says.legal says.fits (is ∙ gathered_after lease c.state) h.sound.layout.register.few
+    (subst (λ (t : State). used_bytes t.records.blocks ≤ c.limits.device) (sym is) h.sound.bytes_accounted)
+    (subst (λ (t : State). AreHoldingsWithin t.records t.register.regions) (sym is) (kept_holdings c.state (gathered_state lease c.state) refl refl refl h.holdings))

@@ -1,0 +1,19 @@
+use Rattle.std.proofs.Common.{◌≡◌, sym, subst, true, Result, Ok, Err, OnOk}
+use Rattle.std.specs.Result.{IsOk}
+use Rattle.acc_base.specs.Loans.{is_returnable}
+use Rattle.acc_dev.specs.Device.{IsPutBack}
+use Rattle.acc_clauses.specs.Contents.{Contents}
+use Rattle.acc_clauses.proofs.Lends.{gathered_parts}
+use Rattle.acc_clauses.proofs.parts.Parts.gather.Goals as goal
+
+on_ok : {A E P : Type 0} (r : Result A E) → IsOk r → OnOk r P → P
+on_ok (Ok x) ok p = p
+on_ok (Err e) ok p = cc
+
+pub invariant_of-self : goal.invariant_of-self
+invariant_of-self c =
+    let p = c.self.inside in
+    let fits : is_returnable c.args.lease p.environment.device.blocks p.environment.device.loans ≡ true
+    = subst (λ (k : Contents). is_returnable c.args.lease k.state.records.blocks k.state.records.loans ≡ true) (sym c.self.view_is) c.requires in
+    let put : IsPutBack p.environment.device c.put_back.new.self c.args.lease = on_ok c.put_back.result (c.put_back.ensures.fits.1 fits) c.put_back.ensures.put in
+    gathered_parts p.config p.environment p.numbers c.put_back.new.self c.args.lease c.self.invariant fits put

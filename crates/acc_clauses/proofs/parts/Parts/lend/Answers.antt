@@ -1,0 +1,29 @@
+use Rattle.std.proofs.Common.{◌≡◌, sym, subst, false}
+use Rattle.acc_base.specs.declared.loans.Loan.{Loan}
+use Rattle.acc_base.specs.Loans.{is_lent}
+use Rattle.acc_base.specs.Accounts.{IsLoanSound}
+use Rattle.acc_clauses.specs.Contents.{Contents}
+use Rattle.acc_clauses.proofs.Lends.{lend_there, lend_mapped, lend_within, lent_parts}
+use Rattle.acc_clauses.proofs.parts.Parts.lend.Goals as goal
+
+pub take_out-taken-requires-clause-there : goal.take_out-taken-requires-clause-there
+take_out-taken-requires-clause-there c =
+    let p = c.self.inside in
+    lend_there p.config p.environment p.numbers c.args.loan c.self.invariant (subst (λ (k : Contents). IsLoanSound k.state.records.ranges c.args.loan) (sym c.self.view_is) c.requires.sound)
+
+pub take_out-taken-requires-clause-mapped : goal.take_out-taken-requires-clause-mapped
+take_out-taken-requires-clause-mapped c =
+    let p = c.self.inside in
+    lend_mapped p.config p.environment p.numbers c.args.loan c.self.invariant c.laws.ensures.marks (subst (λ (k : Contents). IsLoanSound k.state.records.ranges c.args.loan) (sym c.self.view_is) c.requires.sound)
+
+pub take_out-taken-requires-clause-within : goal.take_out-taken-requires-clause-within
+take_out-taken-requires-clause-within c =
+    let p = c.self.inside in
+    lend_within p.config p.environment p.numbers c.args.loan c.self.invariant (subst (λ (k : Contents). IsLoanSound k.state.records.ranges c.args.loan) (sym c.self.view_is) c.requires.sound)
+
+pub invariant_of-self : goal.invariant_of-self
+invariant_of-self c =
+    let p = c.self.inside in
+    lent_parts p.config p.environment p.numbers c.take_out-taken.new.self c.args.loan c.self.invariant
+    (subst (λ (k : Contents). is_lent c.args.loan.block k.state.records.loans ≡ false) (sym c.self.view_is) c.requires.free)
+    (subst (λ (k : Contents). IsLoanSound k.state.records.ranges c.args.loan) (sym c.self.view_is) c.requires.sound) c.in-Ok.ensures.out

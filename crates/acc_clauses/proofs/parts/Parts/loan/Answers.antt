@@ -1,0 +1,13 @@
+use Rattle.std.proofs.Common.{sym, ap, ◌∙◌, Bool, false, IsTrue, ◌≡◌}
+use Rattle.acc_base.specs.Loans.{loan_of}
+use Rattle.acc_clauses.specs.Contents.{Contents}
+use Rattle.acc_clauses.proofs.Standing.{no_loan}
+use Rattle.acc_clauses.proofs.parts.Parts.loan.Goals as goal
+
+pub returns-else-has : goal.returns-else-has
+returns-else-has c =
+    let d = c.self.inside.environment.device in
+    sym (no_loan c.args.block d c.laws.ensures.loans (λ there. not_there c.has.result (c.has.ensures.1 there) c.if-has.false)) ∙ ap (λ (k : Contents). loan_of c.args.block k.state.records.loans) c.self.view_is
+  where
+    not_there : (b : Bool) → IsTrue b → b ≡ false → ⊥
+    not_there b t f = cc

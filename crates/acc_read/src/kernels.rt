@@ -1,0 +1,100 @@
+//! Kernels, and the sections that they work on.
+
+ghost use Rattle.acc_read.specs.Reading.{Reads};
+ghost use Rattle.acc_read.specs.Kernels.{last_number_at, last_source_at, named_kernel_at, last_kernel_at};
+ghost use Rattle.acc_read.specs.Statements.{kernel_at};
+ghost use Rattle.acc_read.specs.Meanings.{meaning_of};
+
+use crate::arrays::Arrays;
+use crate::places::{last_section_at, section_at};
+use crate::statements::Statement;
+use crate::tokens::{is_text, number_at, word_at};
+use acc_base::{ScriptFault, Section};
+
+/// What a kernel does to each byte that the device has of a section (OpenACC 3.3, section 2.5, compute constructs).
+#[derive(Clone, Copy)]
+pub enum ScriptKernel {
+    /// Adds a number, modulo 256.
+    Add(u8),
+    /// Flips the bits that are set in a number.
+    Xor(u8),
+    /// Writes a number plus the byte's place in the section, modulo 256.
+    Number(u8),
+    /// Adds the byte at the same place of a source, a section of host memory, modulo 256.
+    Plus(Section),
+}
+
+/// A number up to 255 and a section, up to the end of the line.
+#[tactic(auto, unfolding(crate::specs::Kernels::last_number_at))]
+fn last_number_at(arrays: &Arrays, text: &[u8]) -> Result<(u8, Section), ScriptFault>
+    ensures { Reads (λ x. x) result (last_number_at arrays.now text.now) }
+{
+    let (number, rest) = number_at(255, text)?;
+    let section = last_section_at(arrays, rest)?;
+    Ok((number as u8, section))
+}
+
+/// A source and a section, up to the end of the line.
+#[tactic(auto, unfolding(crate::specs::Kernels::last_source_at))]
+fn last_source_at(arrays: &Arrays, text: &[u8]) -> Result<(Section, Section), ScriptFault>
+    ensures { Reads (λ x. x) result (last_source_at arrays.now text.now) }
+{
+    let (source, rest) = section_at(arrays, text)?;
+    let section = last_section_at(arrays, rest)?;
+    Ok((source, section))
+}
+
+/// A kernel and its section, by the word of the kernel.
+#[tactic(auto, unfolding(crate::specs::Kernels::named_kernel_at))]
+fn named_kernel_at(
+    word: &[u8],
+    arrays: &Arrays,
+    text: &[u8],
+) -> Result<(ScriptKernel, Section), ScriptFault>
+    ensures { Reads (λ x. x) result (named_kernel_at word.now arrays.now text.now) }
+{
+    if is_text(word, "add") {
+        let (number, section) = last_number_at(arrays, text)?;
+        Ok((ScriptKernel::Add(number), section))
+    } else if is_text(word, "xor") {
+        let (number, section) = last_number_at(arrays, text)?;
+        Ok((ScriptKernel::Xor(number), section))
+    } else if is_text(word, "number") {
+        let (number, section) = last_number_at(arrays, text)?;
+        Ok((ScriptKernel::Number(number), section))
+    } else if is_text(word, "plus") {
+        let (source, section) = last_source_at(arrays, text)?;
+        Ok((ScriptKernel::Plus(source), section))
+    } else {
+        Err(ScriptFault::Syntax)
+    }
+}
+
+/// A kernel and its section, up to the end of the line.
+#[tactic(auto, unfolding(crate::specs::Kernels::last_kernel_at))]
+fn last_kernel_at(arrays: &Arrays, text: &[u8]) -> Result<(ScriptKernel, Section), ScriptFault>
+    ensures { Reads (λ x. x) result (last_kernel_at arrays.now text.now) }
+{
+    let (word, rest) = word_at(text)?;
+    named_kernel_at(word, arrays, rest)
+}
+
+/// A kernel in the innermost open region.
+#[tactic(auto, unfolding(crate::specs::Statements::kernel_at))]
+pub fn kernel_at(
+    arrays: &Arrays,
+    innermost: Option<u64>,
+    text: &[u8],
+) -> Result<Statement<'static>, ScriptFault>
+    ensures { Reads meaning_of result (kernel_at arrays.now innermost text.now) }
+{
+    let (kernel, section) = last_kernel_at(arrays, text)?;
+    match innermost {
+        None => Err(ScriptFault::NoOpenRegion),
+        Some(region) => Ok(Statement::Kernel {
+            region,
+            kernel,
+            section,
+        }),
+    }
+}

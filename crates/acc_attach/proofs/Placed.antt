@@ -42,14 +42,14 @@ find_split test xs i parts = go xs i parts.passed parts.failed
 -- ---- where a counter stands that comes at a pointer or behind
 
 -- it is of a later block, or of the pointer's block and begins at the pointer or above
-abbrev pub IsFrom : ℕ → ℕ → Attachment → Type 0
-IsFrom block pointer a = (block < a.block) ⊎ ((a.block ≡ block) × (pointer ≤ a.pointer))
+abbrev pub IsAtOrBehind : ℕ → ℕ → Attachment → Type 0
+IsAtOrBehind block pointer a = (block < a.block) ⊎ ((a.block ≡ block) × (pointer ≤ a.pointer))
 
 -- what fails the test of standing before a pointer comes there or behind
-pub from : (block pointer : ℕ) (a : Attachment) → is_below block pointer a ≡ false → IsFrom block pointer a
+pub from : (block pointer : ℕ) (a : Attachment) → is_below block pointer a ≡ false → IsAtOrBehind block pointer a
 from block pointer a e = go (nat_lt a.block block) refl (a.block == block) refl (nat_lt a.pointer pointer) refl e
   where
-    go : (s : Bool) → nat_lt a.block block ≡ s → (t : Bool) → (a.block == block) ≡ t → (u : Bool) → nat_lt a.pointer pointer ≡ u → (s || (t && u)) ≡ false → IsFrom block pointer a
+    go : (s : Bool) → nat_lt a.block block ≡ s → (t : Bool) → (a.block == block) ≡ t → (u : Bool) → nat_lt a.pointer pointer ≡ u → (s || (t && u)) ≡ false → IsAtOrBehind block pointer a
     go true f t g u h k = cc
     go false f true g true h k = cc
     go false f true g false h k = inr (equal _ _ g, grind (arith, nat_tests))
@@ -88,7 +88,7 @@ abbrev pub passed : (Attachment → Bool) → Option Attachment → Option Attac
 passed test None = None
 passed test (Some a) = cond (test a) (Some a) None
 
-module _ (block pointer : ℕ) (test : Attachment → Bool) (below : (a : Attachment) → IsBefore a (probe block pointer) → test a ≡ false) (none_after : (a b : Attachment) → IsFrom block pointer a → test a ≡ false → IsBefore a b → test b ≡ false) where
+module _ (block pointer : ℕ) (test : Attachment → Bool) (below : (a : Attachment) → IsBefore a (probe block pointer) → test a ≡ false) (none_after : (a b : Attachment) → IsAtOrBehind block pointer a → test a ≡ false → IsBefore a b → test b ≡ false) where
   -- the search finds the first one from the pointer on, or nothing
   pub find_first : (xs : List Attachment) → EachPair IsBefore xs → find test xs ≡ passed test (find (is_from block pointer) xs)
   find_first [] h = refl
@@ -110,7 +110,7 @@ not_of_below block pointer a (inl h) = let t : (a.block == block) ≡ false = gr
 not_of_below block pointer a (inr h) = let s : (a.block == block) ≡ true = grind (arith, nat_tests, h.0) in let t : (a.pointer == pointer) ≡ false = grind (arith, nat_tests, h.1) in rw (s, t)
 
 -- nor is one behind the first from it on that is not
-not_of_behind : (block pointer : ℕ) (a b : Attachment) → IsFrom block pointer a → is_of block pointer a ≡ false → IsBefore a b → is_of block pointer b ≡ false
+not_of_behind : (block pointer : ℕ) (a b : Attachment) → IsAtOrBehind block pointer a → is_of block pointer a ≡ false → IsBefore a b → is_of block pointer b ≡ false
 not_of_behind block pointer a b (inl h) e k = rw (later_block block a b h k)
 not_of_behind block pointer a b (inr h) e k = elim (same_or_later block a b h.0 k) [
   | inl other ↦ rw other
@@ -159,7 +159,7 @@ next_test : (block address : ℕ) (a : Attachment) → a.block ≡ block → add
 next_test block address a is le = let s : (a.block == block) ≡ true = grind (arith, nat_tests) in let t : nat_le address a.pointer ≡ true = grind (arith, nat_tests) in rw (s, t)
 
 -- and where the first from there on does not, no later one does
-not_next_behind : (block address : ℕ) (a b : Attachment) → IsFrom block address a → begins_from block address a ≡ false → IsBefore a b → begins_from block address b ≡ false
+not_next_behind : (block address : ℕ) (a b : Attachment) → IsAtOrBehind block address a → begins_from block address a ≡ false → IsBefore a b → begins_from block address b ≡ false
 not_next_behind block address a b (inl h) e k = rw (later_block block a b h k)
 not_next_behind block address a b (inr h) e k = let t = next_test block address a h.0 h.1 in cc
 
@@ -171,7 +171,7 @@ find_next block address xs h = find_first block address (begins_from block addre
 pub next_there : (block address : ℕ) (xs : List Attachment) (a : Attachment) → EachPair IsBefore xs → Some a ≡ find (is_from block address) xs → a.block ≡ block → Some a.pointer ≡ next_pointer block address xs
 next_there block address xs a h e is = go (from block address a (is_first block address xs a e))
   where
-    go : IsFrom block address a → Some a.pointer ≡ next_pointer block address xs
+    go : IsAtOrBehind block address a → Some a.pointer ≡ next_pointer block address xs
     go (inl less) = absurd (omega arith)
     go (inr both) =
         let t = next_test block address a both.0 both.1 in
@@ -211,7 +211,7 @@ not_skipped_below block address a (inr h) = go (a.block == block) (nat_le a.poin
     go false t = refl
 
 -- from seven bytes below on, it is where the pointer does not begin behind the address
-skips_test : (block address : ℕ) (a : Attachment) → IsFrom block (address - 7) a → skips block address a ≡ (a.block == block && nat_le a.pointer address)
+skips_test : (block address : ℕ) (a : Attachment) → IsAtOrBehind block (address - 7) a → skips block address a ≡ (a.block == block && nat_le a.pointer address)
 skips_test block address a (inl h) = let t : (a.block == block) ≡ false = grind (arith, nat_tests) in rw t
 skips_test block address a (inr h) = go (a.block == block) (nat_le a.pointer address)
   where
@@ -224,7 +224,7 @@ skips_test block address a (inr h) = go (a.block == block) (nat_le a.pointer add
     go false t = refl
 
 -- where the first from seven bytes below on does not cover it, no later one does
-not_skipped_behind : (block address : ℕ) (a b : Attachment) → IsFrom block (address - 7) a → skips block address a ≡ false → IsBefore a b → skips block address b ≡ false
+not_skipped_behind : (block address : ℕ) (a b : Attachment) → IsAtOrBehind block (address - 7) a → skips block address a ≡ false → IsBefore a b → skips block address b ≡ false
 not_skipped_behind block address a b (inl h) e k = rw (later_block block a b h k)
 not_skipped_behind block address a b (inr h) e k = elim (same_or_later block a b h.0 k) [
   | inl other ↦ rw other

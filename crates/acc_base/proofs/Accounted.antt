@@ -251,23 +251,23 @@ exit_accepted l number holdings s none e =
 -- ---- an accepted call
 
 -- an entry names at most 64 items, and finds fewer open regions than the limit says
-abbrev pub HasRoom : ℕ → ℕ → Event → Type 0
-HasRoom most regions (Entered number items did) = (length items ≤ 64) × (regions < most)
-HasRoom most regions (Left number did) = ⊤
-HasRoom most regions (EnteredData items queue did) = ⊤
-HasRoom most regions (ExitedData items finalize queue did) = ⊤
-HasRoom most regions (Updated items if_present queue did) = ⊤
-HasRoom most regions (Waited queue count) = ⊤
-HasRoom most regions (Stepped queue block) = ⊤
-HasRoom most regions (HostWritten addr len) = ⊤
-HasRoom most regions (Lent region section block serial) = ⊤
-HasRoom most regions (Gathered serial block) = ⊤
+abbrev pub IsEntryAllowed : ℕ → ℕ → Event → Type 0
+IsEntryAllowed most regions (Entered number items did) = (length items ≤ 64) × (regions < most)
+IsEntryAllowed most regions (Left number did) = ⊤
+IsEntryAllowed most regions (EnteredData items queue did) = ⊤
+IsEntryAllowed most regions (ExitedData items finalize queue did) = ⊤
+IsEntryAllowed most regions (Updated items if_present queue did) = ⊤
+IsEntryAllowed most regions (Waited queue count) = ⊤
+IsEntryAllowed most regions (Stepped queue block) = ⊤
+IsEntryAllowed most regions (HostWritten addr len) = ⊤
+IsEntryAllowed most regions (Lent region section block serial) = ⊤
+IsEntryAllowed most regions (Gathered serial block) = ⊤
 
 -- what an accepted call's event finds: a ticket, places in the trace and the register, and a layout in which it is legal; and the bytes that it brings back are as many as the block has
 pub record IsAccepted (w : World) (brought : List ℕ) (e : Event) : Type 0 where
   pub tickets : event_count w.history < w.limits.tickets
   pub trace : length w.history.trace < w.limits.trace_cap
-  pub room : HasRoom w.limits.regions (open_regions w.state) e
+  pub room : IsEntryAllowed w.limits.regions (open_regions w.state) e
   pub legal : IsLegal w.limits e (layout_of w.state)
   pub fits : AreBrought e brought w.state.records
 
@@ -277,18 +277,18 @@ below_limit most n e = grind (arith, nat_tests)
 at_most : (most n : ℕ) → nat_lt most n ≡ false → n ≤ most
 at_most most n e = grind (arith, nat_tests)
 
-some_room : (w : World) (d : Directive) (dids : List Did) (e : Event) → allowance w d ≡ Ok tt → few_items d ≡ Ok tt → verdict_of d w.state dids ≡ Makes e → HasRoom w.limits.regions (open_regions w.state) e
-some_room w (Enter items) dids e a f h = subst (HasRoom w.limits.regions (open_regions w.state)) (same_event _ _ h) (at_most 64 (length items) (refused_not _ _ f), below_limit w.limits.regions (open_regions w.state) (refused_not _ _ a))
-some_room w (Exit number) dids e a f h = subst (HasRoom w.limits.regions (open_regions w.state)) (same_event _ _ h) tt
-some_room w (EnterData items queue) dids e a f h = subst (HasRoom w.limits.regions (open_regions w.state)) (same_event _ _ h) tt
-some_room w (ExitData items finalize queue) dids e a f h = subst (HasRoom w.limits.regions (open_regions w.state)) (same_event _ _ h) tt
-some_room w (Update items if_present queue) dids e a f h = subst (HasRoom w.limits.regions (open_regions w.state)) (same_event _ _ h) tt
-some_room w (Wait queue) dids e a f h = subst (HasRoom w.limits.regions (open_regions w.state)) (same_event _ _ h) tt
+some_room : (w : World) (d : Directive) (dids : List Did) (e : Event) → allowance w d ≡ Ok tt → few_items d ≡ Ok tt → verdict_of d w.state dids ≡ Makes e → IsEntryAllowed w.limits.regions (open_regions w.state) e
+some_room w (Enter items) dids e a f h = subst (IsEntryAllowed w.limits.regions (open_regions w.state)) (same_event _ _ h) (at_most 64 (length items) (refused_not _ _ f), below_limit w.limits.regions (open_regions w.state) (refused_not _ _ a))
+some_room w (Exit number) dids e a f h = subst (IsEntryAllowed w.limits.regions (open_regions w.state)) (same_event _ _ h) tt
+some_room w (EnterData items queue) dids e a f h = subst (IsEntryAllowed w.limits.regions (open_regions w.state)) (same_event _ _ h) tt
+some_room w (ExitData items finalize queue) dids e a f h = subst (IsEntryAllowed w.limits.regions (open_regions w.state)) (same_event _ _ h) tt
+some_room w (Update items if_present queue) dids e a f h = subst (IsEntryAllowed w.limits.regions (open_regions w.state)) (same_event _ _ h) tt
+some_room w (Wait queue) dids e a f h = subst (IsEntryAllowed w.limits.regions (open_regions w.state)) (same_event _ _ h) tt
 some_room w (directives.Step queue) dids e a f h = go (head_of queue w.state.records.queues) h
   where
-    go : (o : Option Transfer) → step_verdict queue o ≡ Makes e → HasRoom w.limits.regions (open_regions w.state) e
+    go : (o : Option Transfer) → step_verdict queue o ≡ Makes e → IsEntryAllowed w.limits.regions (open_regions w.state) e
     go None made = cc
-    go (Some t) made = subst (HasRoom w.limits.regions (open_regions w.state)) (same_event _ _ made) tt
+    go (Some t) made = subst (IsEntryAllowed w.limits.regions (open_regions w.state)) (same_event _ _ made) tt
 
 made_same : (x e : Event) → ◌≡◌ {A = Result Verdict Fault} (Ok (Makes x)) (Ok (Makes e)) → x ≡ e
 made_same x e h = cc
@@ -342,22 +342,22 @@ accepted w (Do d) e sound h =
 accepted w (HostWrite addr bytes) e sound h =
     let by = admitted w (host_write_event w.limits addr (length bytes)) e h in
     let wrote : (HostWritten addr (length bytes) ≡ e) × IsLegal w.limits e (layout_of w.state) = host_write_legal w.limits addr (length bytes) (layout_of w.state) e by.2 in
-    record { tickets = by.0; trace = by.1; room = subst (HasRoom w.limits.regions (open_regions w.state)) wrote.0 tt; legal = wrote.1; fits = subst (λ x. AreBrought x bytes w.state.records) wrote.0 tt }
+    record { tickets = by.0; trace = by.1; room = subst (IsEntryAllowed w.limits.regions (open_regions w.state)) wrote.0 tt; legal = wrote.1; fits = subst (λ x. AreBrought x bytes w.state.records) wrote.0 tt }
 accepted w (Lend region section) e sound h =
     let by = admitted w (lend_event w.limits region section w.state) e h in
     let lent : (block : ℕ) × (Lent region section block w.state.register.serial ≡ e) × IsLegal w.limits e (layout_of w.state) = lend_legal w.limits region section w.state e by.2 in
-    record { tickets = by.0; trace = by.1; room = subst (HasRoom w.limits.regions (open_regions w.state)) lent.1 tt; legal = lent.2; fits = subst (λ x. AreBrought x [] w.state.records) lent.1 tt }
+    record { tickets = by.0; trace = by.1; room = subst (IsEntryAllowed w.limits.regions (open_regions w.state)) lent.1 tt; legal = lent.2; fits = subst (λ x. AreBrought x [] w.state.records) lent.1 tt }
 accepted w (Gather lease) e sound h =
     let by = admitted w (gather_event lease w.state.records) e h in
     let back : IsGathered w.limits lease w.state e = gather_legal w.limits lease w.state e sound by.2 in
-    record { tickets = by.0; trace = by.1; room = subst (HasRoom w.limits.regions (open_regions w.state)) back.event_is tt; legal = back.legal; fits = back.fits }
+    record { tickets = by.0; trace = by.1; room = subst (IsEntryAllowed w.limits.regions (open_regions w.state)) back.event_is tt; legal = back.legal; fits = back.fits }
 
 -- ---- the world after it
 
 numbered : (g : Register) → IsRegisterSound g → IsNumbered g
 numbered g h = record { first = h.first; rising = h.rising; known = h.known }
 
-few_after : (most regions : ℕ) (e : Event) (g : Register) → IsRegisterSound g → HasRoom most regions e → AreFew (register_after e g)
+few_after : (most regions : ℕ) (e : Event) (g : Register) → IsRegisterSound g → IsEntryAllowed most regions e → AreFew (register_after e g)
 few_after most regions (Entered number items did) g h room = opened_few (holdings_of items did) g (numbered g h) h.few (omega (arith, holdings_short items did, room.0))
 few_after most regions (Left number did) g h room = closed_few number g h.few
 few_after most regions (EnteredData items queue did) g h room = h.few
@@ -369,7 +369,7 @@ few_after most regions (HostWritten addr len) g h room = h.few
 few_after most regions (Lent region section block serial) g h room = h.few
 few_after most regions (Gathered serial block) g h room = h.few
 
-regions_after : (most : ℕ) (e : Event) (g : Register) → IsRegisterSound g → HasRoom most (length g.regions) e → length g.regions ≤ most → length (register_after e g).regions ≤ most
+regions_after : (most : ℕ) (e : Event) (g : Register) → IsRegisterSound g → IsEntryAllowed most (length g.regions) e → length g.regions ≤ most → length (register_after e g).regions ≤ most
 regions_after most (Entered number items did) g h room le = omega (arith, opened_count (holdings_of items did) g (numbered g h), room.1)
 regions_after most (Left number did) g h room le = omega (arith, closed_count number g)
 regions_after most (EnteredData items queue did) g h room le = le

@@ -24,7 +24,7 @@ use Rattle.acc_base.specs.Queues.{new_queues, head_of, popped, pins_of}
 use Rattle.acc_base.specs.Tasks.{recounted}
 use Rattle.acc_base.specs.Steps.{is_in_use, released, records_after_birth, records_after_end, with_range_changed}
 use Rattle.acc_base.specs.Waits.{records_made, records_stepped, records_drained}
-use Rattle.acc_base.specs.Accounts.{EachPair, IsInHost, IsBelow, AreRangesApart, IsOnDevice, IsClearOf, AreBlocksApart, IsMapped, HasOneBlockEach, IsCounted, AreAttachmentsSound, IsTransferSound, AreQueuesSound, AreRecordsSound, IsLoanSound, AreLoansSound}
+use Rattle.acc_base.specs.Accounts.{EachPair, IsHostSection, IsBelow, AreRangesApart, IsOnDevice, IsClearOf, AreBlocksApart, IsMapped, HasOneBlockEach, IsCounted, AreAttachmentsSound, IsTransferSound, AreQueuesSound, AreRecordsSound, IsLoanSound, AreLoansSound}
 use Rattle.acc_base.proofs.Results.{and_true, equal}
 use Rattle.acc_base.proofs.Elements.{AllByRecursion-weaker, AllByRecursion-both, AllByRecursion-filter, AllByRecursion-passed, AllByRecursion-map, AllByRecursion-append, EachPair-filter, EachPair-push, EachPair-map, list_all-from, find_none, found_has}
 use Rattle.acc_base.proofs.Lookups.{change_at, number-change, at-changed, at-without_other, at-push_there, at-push_new, at-own, at-none}
@@ -60,7 +60,7 @@ block-change k f keeps r = number-change block_of k f keeps.block r
 
 changed_ranges : (l : Limits) (k : ℕ) (f : Range → Range) (rs : List Range) → KeepsPlace f → AreRangesApart l rs → AreRangesApart l (changed_at k f rs)
 changed_ranges l k f rs keeps h = record {
-  in_host = AllByRecursion-map (λ r. IsInHost l r.section) (change_at block_of k f) rs (AllByRecursion-weaker (λ r. IsInHost l r.section) (λ r. IsInHost l (change_at block_of k f r).section) rs (λ r p. subst (IsInHost l) (sym (section-change k f keeps r)) p) h.in_host);
+  in_host = AllByRecursion-map (λ r. IsHostSection l r.section) (change_at block_of k f) rs (AllByRecursion-weaker (λ r. IsHostSection l r.section) (λ r. IsHostSection l (change_at block_of k f r).section) rs (λ r p. subst (IsHostSection l) (sym (section-change k f keeps r)) p) h.in_host);
   rising = EachPair-map (λ r t. IsBelow r.section t.section) (change_at block_of k f) rs (λ r t p. subst (λ s. IsBelow s (change_at block_of k f t).section) (sym (section-change k f keeps r)) (subst (λ s. IsBelow r.section s) (sym (section-change k f keeps t)) p)) h.rising;
 }
 
@@ -253,7 +253,7 @@ pub ended_sound : (l : Limits) (k : ℕ) (w : Records) → is_lent k w.loans ≡
 unfolding records_after_end
 ended_sound l k w free h = released_sound l k (record w { ranges = without_range k w.ranges }) (record {
   ranges_apart = record {
-    in_host = AllByRecursion-filter (λ r. IsInHost l r.section) (λ r. not (r.block == k)) w.ranges h.ranges_apart.in_host;
+    in_host = AllByRecursion-filter (λ r. IsHostSection l r.section) (λ r. not (r.block == k)) w.ranges h.ranges_apart.in_host;
     rising = EachPair-filter (λ r t. IsBelow r.section t.section) (λ r. not (r.block == k)) w.ranges h.ranges_apart.rising;
   };
   blocks_apart = h.blocks_apart;
@@ -403,8 +403,8 @@ birth_each l new p w birth h =
 
 birth_ranges : (l : Limits) (new : Range) (p : ℕ) (w : Records) → 0 < new.section.len → IsBirth l new.section new.block p w → AreRangesApart l w.ranges → AreRangesApart l (with_range new w.ranges)
 birth_ranges l new p w some birth h = record {
-  in_host = all_with (λ r. IsInHost l r.section) new w.ranges (record { some = some; within = birth.within }) h.in_host;
-  rising = rising_with new w.ranges some (AllByRecursion-weaker (λ r. IsInHost l r.section) (λ r. 0 < r.section.len) w.ranges (λ r i. i.some) h.in_host) (list_all-from (λ r. is_apart new.section r.section) w.ranges (absent_says new.section w.ranges birth.absent).0) h.rising;
+  in_host = all_with (λ r. IsHostSection l r.section) new w.ranges (record { some = some; within = birth.within }) h.in_host;
+  rising = rising_with new w.ranges some (AllByRecursion-weaker (λ r. IsHostSection l r.section) (λ r. 0 < r.section.len) w.ranges (λ r i. i.some) h.in_host) (list_all-from (λ r. is_apart new.section r.section) w.ranges (absent_says new.section w.ranges birth.absent).0) h.rising;
 }
 
 -- a block that is there stays, where another one is born

@@ -18,8 +18,8 @@ record IsBetween (low high : ℕ) (b : Block) : Type 0 where
   first : low ≤ b.place
   last : block_end b ≤ high
 
-abbrev IsBeside : Block → Block → Type 0
-IsBeside b c = (block_end b ≤ c.place) ⊎ (block_end c ≤ b.place)
+abbrev IsBesideBlock : Block → Block → Type 0
+IsBesideBlock b c = (block_end b ≤ c.place) ⊎ (block_end c ≤ b.place)
 
 below : Block → Block → Bool
 below b c = nat_le (block_end c) b.place
@@ -28,11 +28,11 @@ is_below : (b c : Block) → below b c ≡ true → block_end c ≤ b.place
 unfolding below
 is_below b c e = grind (arith, nat_tests)
 
-is_above : (b c : Block) → IsBeside b c → not (below b c) ≡ true → block_end b ≤ c.place
+is_above : (b c : Block) → IsBesideBlock b c → not (below b c) ≡ true → block_end b ≤ c.place
 unfolding below
 is_above b c beside e = grind (arith, nat_tests)
 
-used_within : (fuel low high : ℕ) (blocks : List Block) → length blocks ≤ fuel → low ≤ high → AllByRecursion (IsBetween low high) blocks → EachPair IsBeside blocks → sum_by size_of blocks ≤ high - low
+used_within : (fuel low high : ℕ) (blocks : List Block) → length blocks ≤ fuel → low ≤ high → AllByRecursion (IsBetween low high) blocks → EachPair IsBesideBlock blocks → sum_by size_of blocks ≤ high - low
 used_within fuel low high [] few order all apart = omega arith
 used_within zero low high (b ∷ bs) few order all apart = absurd (omega arith)
 used_within (suc fuel) low high (b ∷ bs) few order all apart =
@@ -41,11 +41,11 @@ used_within (suc fuel) low high (b ∷ bs) few order all apart =
     let overs : List Block = filter (λ c. not (below b c)) bs in
     let under : sum_by size_of unders ≤ b.place - low = used_within fuel low b.place unders (omega arith) (omega (arith, all.0.first))
     (AllByRecursion-passed (IsBetween low high) (IsBetween low b.place) (below b) bs (λ c e i. record { first = i.first; last = is_below b c e }) all.1)
-    (EachPair-filter IsBeside (below b) bs apart.1) in
-    let between : AllByRecursion (λ c. IsBetween low high c × IsBeside b c) bs = AllByRecursion-both (IsBetween low high) (IsBeside b) (λ c. IsBetween low high c × IsBeside b c) bs (λ c i s. (i, s)) all.1 apart.0 in
+    (EachPair-filter IsBesideBlock (below b) bs apart.1) in
+    let between : AllByRecursion (λ c. IsBetween low high c × IsBesideBlock b c) bs = AllByRecursion-both (IsBetween low high) (IsBesideBlock b) (λ c. IsBetween low high c × IsBesideBlock b c) bs (λ c i s. (i, s)) all.1 apart.0 in
     let over : sum_by size_of overs ≤ high - block_end b = used_within fuel (block_end b) high overs (omega arith) (omega (arith, all.0.last))
-    (AllByRecursion-passed (λ c. IsBetween low high c × IsBeside b c) (IsBetween (block_end b) high) (λ c. not (below b c)) bs (λ c e i. record { first = is_above b c i.1 e; last = i.0.last }) between)
-    (EachPair-filter IsBeside (λ c. not (below b c)) bs apart.1) in
+    (AllByRecursion-passed (λ c. IsBetween low high c × IsBesideBlock b c) (IsBetween (block_end b) high) (λ c. not (below b c)) bs (λ c e i. record { first = is_above b c i.1 e; last = i.0.last }) between)
+    (EachPair-filter IsBesideBlock (λ c. not (below b c)) bs apart.1) in
     let both : sum_by size_of unders + sum_by size_of overs ≡ sum_by size_of bs = sum_by-filter_both (below b) (λ c. not (below b c)) (λ c. refl) size_of bs in
     let all_of : sum_by size_of (b ∷ bs) ≡ size_of b + sum_by size_of bs = sum_by-cons size_of b bs in
     let first : low ≤ b.place = all.0.first in
@@ -56,5 +56,5 @@ pub used_le : (l : Limits) (w : Records) → AreBlocksApart l.device w.blocks w.
 used_le l w h =
     let within : used_bytes w.blocks ≤ device_base + l.device - device_base = used_within (length w.blocks) device_base (device_base + l.device) w.blocks (omega arith) (omega arith)
     (AllByRecursion-weaker (IsOnDevice l.device) (IsBetween device_base (device_base + l.device)) w.blocks (λ b o. record { first = o.first; last = o.last }) h.on_device)
-    (EachPair-weaker IsClearOf IsBeside w.blocks (λ b c k. k.addresses) h.apart) in
+    (EachPair-weaker IsClearOf IsBesideBlock w.blocks (λ b c k. k.addresses) h.apart) in
     omega arith

@@ -29,7 +29,7 @@ EachPair related (x ∷ xs) = AllByRecursion (related x) xs × EachPair related 
 -- ---- mapped ranges
 
 -- the section is not empty and lies in host memory
-pub record IsInHost (l : Limits) (s : Section) : Type 0 where
+pub record IsHostSection (l : Limits) (s : Section) : Type 0 where
   pub some : 0 < s.len
   pub within : is_within s (host_memory l.host) ≡ true
 
@@ -39,7 +39,7 @@ IsBelow s t = end_of s ≤ t.start
 
 -- mapped ranges are not empty, lie in host memory, and rise without overlap
 pub record AreRangesApart (l : Limits) (ranges : List Range) : Type 0 where
-  pub in_host : AllByRecursion (λ r. IsInHost l r.section) ranges
+  pub in_host : AllByRecursion (λ r. IsHostSection l r.section) ranges
   pub rising : EachPair (λ (r : Range) (t : Range). IsBelow r.section t.section) ranges
 
 -- ---- device blocks
@@ -88,7 +88,7 @@ pub record AreAttachmentsSound (l : Limits) (blocks : List Block) (attached : Li
 pub record IsTransferSound (l : Limits) (blocks : List Block) (t : Transfer) : Type 0 where
   pub block : Block
   pub there : block_at t.block blocks ≡ Some block
-  pub in_host : IsInHost l t.section
+  pub in_host : IsHostSection l t.section
   pub offset : t.offset ≤ t.section.start
   pub within : t.offset + t.section.len ≤ block.len
 

@@ -145,10 +145,10 @@ abbrev pub Holds : ℕ → ℕ → ℕ → State → Type 0
 Holds block pointer value s = (count_at block pointer s.records.attached ≡ 0 → ⊥) → device_pointer block pointer s ≡ value
 
 -- the block's range begins at the pointer or below it, where the block is there
-abbrev pub IsAbove : ℕ → ℕ → Records → Type 0
-IsAbove block pointer w = IsSome (block_at block w.blocks) → start_of block w.ranges ≤ pointer
+abbrev pub StartsBelow : ℕ → ℕ → Records → Type 0
+StartsBelow block pointer w = IsSome (block_at block w.blocks) → start_of block w.ranges ≤ pointer
 
-module _ (l : Limits) (block pointer : ℕ) (even : pointer % 8 ≡ 0) (s : State) (bounds : IsWithinBounds l) (sound : AreRecordsSound l s.records) (sized : AreMemoriesSized l s) (above : IsAbove block pointer s.records) where
+module _ (l : Limits) (block pointer : ℕ) (even : pointer % 8 ≡ 0) (s : State) (bounds : IsWithinBounds l) (sound : AreRecordsSound l s.records) (sized : AreMemoriesSized l s) (above : StartsBelow block pointer s.records) where
   -- the pointer itself is written
   new_same : (target : ℕ) → target < 2 ^ 64 → block_with pointer s.records.ranges ≡ Some block → is_lent block s.records.loans ≡ false → device_pointer block pointer (aimed (aims.New pointer block target) s) ≡ target
   unfolding aimed
@@ -233,7 +233,7 @@ attached-step l counter item queue (Dropped k ended) w says = absurd says
 attached-step l counter item queue (Moved k) w says = refl
 
 holds-act : (l : Limits) (n block pointer value : ℕ) (task : Task) (did : Did) (s : State) → IsWithinBounds l → AreRecordsSound l s.records → AreMemoriesSized l s → judge_step l n task s.records ≡ Ok did.step → IsAimLegal l task did s.records → enters task ≡ true
-    → pointer % 8 ≡ 0 → IsAbove block pointer (act task did s.records) → Holds block pointer value s → Holds block pointer (value_by block pointer value did.aim) (act_state task did s)
+    → pointer % 8 ≡ 0 → StartsBelow block pointer (act task did s.records) → Holds block pointer value s → Holds block pointer (value_by block pointer value did.aim) (act_state task did s)
 unfolding act act_state step_state
 holds-act l n block pointer value (Enter counter item queue) did s bounds h sized judged legal entry even above holds =
     let task : Task = Enter counter item queue in
@@ -263,7 +263,7 @@ holds-after l n block pointer value (x ∷ xs) s bounds h sized judged entries e
     let says = task_says l n x.task s.records x.did.step judged.0 in
     let kinds = and_true (enters x.task) (list_all enters (tasks_in xs)) entries in
     let sound : AreRecordsSound l w = (task_left l x.task x.did s.records bounds h says (step_judged l n x.task s.records x.did.step judged.0).free judged.1).sound in
-    let above : IsAbove block pointer w = (λ here. (pointer_in_block l w block pointer sound (before-after l (suc n) xs w pointer block bounds sound judged.2 kinds.1 here there)).low) in
+    let above : StartsBelow block pointer w = (λ here. (pointer_in_block l w block pointer sound (before-after l (suc n) xs w pointer block bounds sound judged.2 kinds.1 here there)).low) in
     holds-after l (suc n) block pointer (value_by block pointer value x.did.aim) xs next bounds (subst (AreRecordsSound l) (sym is) sound) (act_sized l x.task x.did s sized)
     (subst (AreJudged l (suc n) (tasks_in xs) (dids_in xs)) (sym is) judged.2) kinds.1 even (subst (λ v. block_with pointer (records_after xs v).ranges ≡ Some block) (sym is) there)
     (holds-act l n block pointer value x.task x.did s bounds h sized judged.0 judged.1 kinds.0 even above holds)

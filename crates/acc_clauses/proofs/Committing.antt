@@ -22,7 +22,7 @@ use Rattle.acc_base.specs.Ranges.{range_of}
 use Rattle.acc_base.specs.Blocks.{used_bytes}
 use Rattle.acc_base.specs.Steps.{act, act_all, released}
 use Rattle.acc_base.specs.Waits.{records_made, records_stepped, records_drained}
-use Rattle.acc_base.specs.Queues.{head_of as first_of}
+use Rattle.acc_base.specs.Queues.{head_of}
 use Rattle.acc_base.specs.declared.transfers.Transfer.{Transfer}
 use Rattle.acc_base.specs.declared.events.Event.{Event}
 use Rattle.acc_base.specs.Walk.{enter_task, enter_data_task, exit_task, move_task, leave_tasks, holdings_of, block_counted, pointer_attached}
@@ -36,7 +36,7 @@ use Rattle.acc_base.proofs.AllTasks.{sum_by-reverse}
 use Rattle.acc_base.proofs.Registers.{IsNumbered, AreFew, next_region, opened_regions, opened_few, closed_few, closed_held}
 use Rattle.acc_clauses.specs.declared.plans.Head.{Head}
 use Rattle.acc_clauses.specs.declared.plans.Head.TheVariants.{Plain, Entry, Leaving, Waiting, Stepping}
-use Rattle.acc_clauses.specs.Planned.{Planned, IsPlannedOn, head_of, holding_by, holdings_by, held_by, register_by, register_planned, steps_by, finished, transfers_by}
+use Rattle.acc_clauses.specs.Planned.{Planned, IsPlannedOn, head_planned, holding_by, holdings_by, held_by, register_by, register_planned, steps_by, finished, transfers_by}
 use Rattle.acc_clauses.specs.Contents.{Contents}
 use Rattle.acc_clauses.specs.Acts.{IsKnown, AreKnown, HasRegionRoom, CanFinish}
 use Rattle.acc_clauses.specs.Stored.{IsHeldWithin, IsHoldingWithin, AreHoldingsWithin, IsStoreSound}
@@ -217,7 +217,7 @@ within_after d c p bounds h planned = go d planned.head planned.tasks
         subst (λ ts. AllByRecursion (IsHoldingWithin (act_all ts p.dids w)) (holdings_by ts p.dids)) same
         (subst (AllByRecursion (IsHoldingWithin (act_all (map enter_task items) p.dids w))) (held_asked items p.dids) (entered_within c.limits 0 items p.dids w bounds h.sound.layout.records judged))
 
-    go : (d : Directive) → p.head ≡ head_of d → tasks_of d g ≡ Ok p.tasks → AreHoldingsWithin v (register_planned p g).regions
+    go : (d : Directive) → p.head ≡ head_planned d → tasks_of d g ≡ Ok p.tasks → AreHoldingsWithin v (register_planned p g).regions
     go (directives.Enter items) x e = subst (IsWithinBy v p g) (sym x) (subst (λ rs. AreHoldingsWithin v rs) (sym (opened_regions (holdings_by p.tasks p.dids) g (numbered_of c h)))
         (AllByRecursion-append (λ (r : Region). AllByRecursion (IsHoldingWithin v) r.holdings) g.regions (next_region (holdings_by p.tasks p.dids) g ∷ []) kept (entered items (tasks_same (map enter_task items) p.tasks e), tt)))
     go (directives.Exit number) x e = subst (IsWithinBy v p g) (sym x) (AllByRecursion-filter (λ (r : Region). AllByRecursion (IsHoldingWithin v) r.holdings) (λ r. not (r.number == number)) g.regions kept)
@@ -235,7 +235,7 @@ all_finished p ts ds s t u a b e f = f ∙ ap (finished p) (e ∙ ap (λ x. act_
 
 births-stepped : (q : ℕ) (w : Records) → (records_stepped q w).births ≡ w.births
 unfolding records_stepped released
-births-stepped q w = go (first_of q w.queues)
+births-stepped q w = go (head_of q w.queues)
   where
     go : (o : Option Transfer) → (records_made q o w).births ≡ w.births
     go None = refl

@@ -16,7 +16,7 @@ use Rattle.acc_base.specs.declared.faults.Fault.{Fault}
 use Rattle.acc_base.specs.Limits.{Limits}
 use Rattle.acc_base.specs.Records.{Records, State, layout_of}
 use Rattle.acc_base.specs.Register.{holdings_at, opened}
-use Rattle.acc_base.specs.Queues.{queue_at, head_of as first_of, queue_named}
+use Rattle.acc_base.specs.Queues.{queue_at, head_of, queue_named}
 use Rattle.acc_base.specs.declared.loans.Loan.{Loan}
 use Rattle.acc_base.specs.Loans.{is_lent, not_lent, none_lent}
 use Rattle.acc_base.specs.Waits.{state_made, stepped, drained, steps_of}
@@ -26,7 +26,7 @@ use Rattle.acc_base.specs.Judge.{tasks_of_region, Makes, Idle, step_verdict, ver
 use Rattle.acc_base.specs.History.{AreJudged, NamesRight, IsLegal}
 use Rattle.acc_base.proofs.Results.{then_ok}
 use Rattle.acc_base.proofs.Judged.{not_lent_says}
-use Rattle.acc_clauses.specs.Planned.{Planned, IsPlannedOn, head_of, transfers_by, holdings_by, register_planned, steps_by, finished}
+use Rattle.acc_clauses.specs.Planned.{Planned, IsPlannedOn, head_planned, transfers_by, holdings_by, register_planned, steps_by, finished}
 
 -- what the event of a plan asks, does and names
 pub record IsEventOf (l : Limits) (p : Planned) (s : State) (e : Event) : Type 0 where
@@ -75,7 +75,7 @@ known_queue : (l : Limits) (d : Directive) (s : State) (p : Planned) (queue : Op
 known_queue l d s p queue h same = subst (λ o. queue_named o ≡ Ok tt) same h.known
 
 -- no transfer that the plan makes is of a block that is lent
-transfers_free : (l : Limits) (d : Directive) (s : State) (p : Planned) → IsPlannedOn l d (layout_of s) p → none_lent (transfers_by (head_of d) s.records.queues) s.records.loans ≡ Ok tt
+transfers_free : (l : Limits) (d : Directive) (s : State) (p : Planned) → IsPlannedOn l d (layout_of s) p → none_lent (transfers_by (head_planned d) s.records.queues) s.records.loans ≡ Ok tt
 transfers_free l d s p h = subst (λ k. none_lent (transfers_by k s.records.queues) s.records.loans ≡ Ok tt) h.head h.free
 
 -- the first one is of a block that is not lent
@@ -86,7 +86,7 @@ first_free (x ∷ ts) loans t first free =
     subst (λ (y : Transfer). is_lent y.block loans ≡ false) same (not_lent_says x.block loans (then_ok (not_lent (Some x.block) loans) (none_lent [] loans) tt free).0)
 
 -- the first transfer of a queue is made
-step_event : (l : Limits) (queue : ℕ) (s : State) (p : Planned) (e : Event) → IsPlannedOn l (Step queue) (layout_of s) p → (o : Option Transfer) → first_of queue s.records.queues ≡ o → step_verdict queue o ≡ Makes e → IsEventOf l p s e
+step_event : (l : Limits) (queue : ℕ) (s : State) (p : Planned) (e : Event) → IsPlannedOn l (Step queue) (layout_of s) p → (o : Option Transfer) → head_of queue s.records.queues ≡ o → step_verdict queue o ≡ Makes e → IsEventOf l p s e
 step_event l queue s p e h None first made = cc
 step_event l queue s p e h (Some t) first made = subst (IsEventOf l p s) (event_same _ _ made) (record {
   asked = asked_same _ _ h.tasks;
@@ -145,7 +145,7 @@ event_of_plan l (Wait queue) s p e h made =
       names = (known_queue l (Wait queue) s p queue h h.queue, refl, transfers_free l (Wait queue) s p h);
       host = λ bytes. refl;
     })
-event_of_plan l (Step queue) s p e h made = step_event l queue s p e h (first_of queue s.records.queues) refl made
+event_of_plan l (Step queue) s p e h made = step_event l queue s p e h (head_of queue s.records.queues) refl made
 
 pub planned_asked : (l : Limits) (d : Directive) (s : State) (p : Planned) (e : Event) → IsPlannedOn l d (layout_of s) p → verdict_of d s p.dids ≡ Makes e → asked_in e s.register ≡ p.tasks
 planned_asked l d s p e h made = (event_of_plan l d s p e h made).asked
@@ -157,11 +157,11 @@ planned_legal l d s p e h is = record { names = is.names; judged = rw (is.asked,
 -- ---- no event
 
 -- nothing is made of a queue that is empty
-empty_step : (queue : ℕ) (s : State) → first_of queue s.records.queues ≡ None → drained (queue ∷ []) s ≡ s
+empty_step : (queue : ℕ) (s : State) → head_of queue s.records.queues ≡ None → drained (queue ∷ []) s ≡ s
 unfolding drained stepped
 empty_step queue s none = ap (λ o. state_made queue o s) none
 
-step_idle : (l : Limits) (queue : ℕ) (s : State) (p : Planned) → IsPlannedOn l (Step queue) (layout_of s) p → (o : Option Transfer) → first_of queue s.records.queues ≡ o → step_verdict queue o ≡ Idle → finished p (act_all_state p.tasks p.dids s) ≡ s
+step_idle : (l : Limits) (queue : ℕ) (s : State) (p : Planned) → IsPlannedOn l (Step queue) (layout_of s) p → (o : Option Transfer) → head_of queue s.records.queues ≡ o → step_verdict queue o ≡ Idle → finished p (act_all_state p.tasks p.dids s) ≡ s
 step_idle l queue s p h None first idle =
     let none : [] ≡ p.tasks = asked_same _ _ h.tasks in
     ap (finished p) (still l (Step queue) s p h none) ∙ rw h.head (ap (λ (t : State). record t { register = s.register }) (empty_step queue s first))
@@ -175,4 +175,4 @@ idle_plan l (EnterData items queue) s p h idle = cc
 idle_plan l (ExitData items finalize queue) s p h idle = cc
 idle_plan l (Update items if_present queue) s p h idle = cc
 idle_plan l (Wait queue) s p h idle = cc
-idle_plan l (Step queue) s p h idle = step_idle l queue s p h (first_of queue s.records.queues) refl idle
+idle_plan l (Step queue) s p h idle = step_idle l queue s p h (head_of queue s.records.queues) refl idle

@@ -4,7 +4,7 @@ use Rattle.acc_base.specs.declared.regions.Holding.{Holding}
 use Rattle.acc_base.specs.declared.transfers.Transfer.{Transfer}
 use Rattle.acc_base.specs.Records.{State}
 use Rattle.acc_base.specs.Register.{Register, opened, closed}
-use Rattle.acc_base.specs.Queues.{head_of as first_of}
+use Rattle.acc_base.specs.Queues.{head_of}
 use Rattle.acc_base.specs.Waits.{state_made, stepped, drained, steps_of}
 use Rattle.acc_clauses.specs.declared.plans.Head.{Head}
 use Rattle.acc_clauses.specs.declared.plans.Head.TheVariants.{Plain, Entry, Leaving, Waiting, Stepping}
@@ -13,7 +13,7 @@ use Rattle.acc_clauses.specs.Planned.{Planned, holdings_by, held_by, register_by
 -- queued transfers leave the register
 register-stepped : (q : ℕ) (s : State) → (stepped q s).register ≡ s.register
 unfolding stepped
-register-stepped q s = go (first_of q s.records.queues)
+register-stepped q s = go (head_of q s.records.queues)
   where
     go : (o : Option Transfer) → (state_made q o s).register ≡ s.register
     go None = refl

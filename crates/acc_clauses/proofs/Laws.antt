@@ -100,21 +100,21 @@ abbrev counters_found : Option Range → Counters
 counters_found o = record { structured = unwrap_or (option_map (counter_in Structured) o) 0; dynamic = unwrap_or (option_map (counter_in Dynamic) o) 0 }
 
 -- a counter of the range is above zero
-abbrev IsAbove : Range → Type 0
-IsAbove r = 0 < r.structured + r.dynamic
+abbrev IsReferenced : Range → Type 0
+IsReferenced r = 0 < r.structured + r.dynamic
 
-above_not : (r : Range) → IsAbove r → are_zero (counters_in r) ≡ false
+above_not : (r : Range) → IsReferenced r → are_zero (counters_in r) ≡ false
 above_not r above = grind (arith, nat_tests)
 
 unless : (z x y : Bool) → z ≡ false → x ≡ y → x ≡ (not z && y)
 unless true x y e f = cc
 unless false x y e f = f
 
-ends_found : (task : Task) (o : Option Range) → IfSome o IsAbove → unwrap_or (option_map (λ r. is_unused (recounted task r)) o) false ≡ (not (are_zero (counters_found o)) && are_zero (recount task (counters_found o)))
+ends_found : (task : Task) (o : Option Range) → IfSome o IsReferenced → unwrap_or (option_map (λ r. is_unused (recounted task r)) o) false ≡ (not (are_zero (counters_found o)) && are_zero (recount task (counters_found o)))
 ends_found task None above = refl
 ends_found task (Some r) above = unless (are_zero (counters_in r)) (is_unused (recounted task r)) (are_zero (recount task (counters_in r))) (above_not r above) (recounted_both task r)
 
-found_above : (l : Limits) (w : Records) (b : ℕ) (o : Option Range) → range_of b w.ranges ≡ o → AreRecordsSound l w → IfSome o IsAbove
+found_above : (l : Limits) (w : Records) (b : ℕ) (o : Option Range) → range_of b w.ranges ≡ o → AreRecordsSound l w → IfSome o IsReferenced
 found_above l w b None e h = tt
 found_above l w b (Some r) e h =
     let has : IsCounted l r × ((r.block == b) ≡ true) = found_has (IsCounted l) (λ t. t.block == b) w.ranges r h.counted e in

@@ -22,7 +22,7 @@ use Rattle.acc_base.specs.Records.{Records, Memory, State}
 use Rattle.acc_base.specs.Ranges.{where_is, range_of}
 use Rattle.acc_base.specs.Blocks.{block_at}
 use Rattle.acc_base.specs.Tasks.{section_of}
-use Rattle.acc_base.specs.Accounts.{IsInHost, IsMapped, IsCounted, HasOneBlockEach, IsMemoryOf, AreRecordsSound, AreMemoriesSized, IsLoanSound}
+use Rattle.acc_base.specs.Accounts.{IsHostSection, IsMapped, IsCounted, HasOneBlockEach, IsMemoryOf, AreRecordsSound, AreMemoriesSized, IsLoanSound}
 use Rattle.acc_base.proofs.Results.{equal}
 use Rattle.acc_base.proofs.Elements.{AllByRecursion-weaker, AllByRecursion-both, found_has}
 use Rattle.acc_base.proofs.Lookups.{at-own}
@@ -56,13 +56,13 @@ mapped_around l w section k o h e =
 -- what holds of the range of a block
 record IsWhole (l : Limits) (w : Records) (r : Range) : Type 0 where
   mapped : IsMapped w.blocks r
-  in_host : IsInHost l r.section
+  in_host : IsHostSection l r.section
 
 pub can_move : (l : Limits) (s : State) (section : Section) (k : ℕ) → IsWithinBounds l → AreRecordsSound l s.records → AreMemoriesSized l s → IsMappedAround s.records section k → CanMove section k s
 can_move l s section k bounds h m around =
     let has : IsWhole l s.records around.range × ((around.range.block == k) ≡ true) =
     found_has (IsWhole l s.records) (λ r. r.block == k) s.records.ranges around.range
-    (AllByRecursion-both (IsMapped s.records.blocks) (λ r. IsInHost l r.section) (IsWhole l s.records) s.records.ranges (λ r a b. record { mapped = a; in_host = b }) h.one_block_each.mapped h.ranges_apart.in_host) around.range_is in
+    (AllByRecursion-both (IsMapped s.records.blocks) (λ r. IsHostSection l r.section) (IsWhole l s.records) s.records.ranges (λ r a b. record { mapped = a; in_host = b }) h.one_block_each.mapped h.ranges_apart.in_host) around.range_is in
     let b : Block = has.0.mapped.0 in
     let there : block_at k s.records.blocks ≡ Some b = subst (λ n. block_at n s.records.blocks ≡ Some b) (equal around.range.block k has.1) has.0.mapped.1 in
     let inside : is_within section (host_memory l.host) ≡ true = within_both section around.range.section (host_memory l.host) around.within has.0.in_host.within in

@@ -15,7 +15,7 @@ use Rattle.acc_base.proofs.Results.{equal}
 use Rattle.acc_base.proofs.Elements.{AllByRecursion-weaker, EachPair-weaker}
 use Rattle.acc_base.proofs.Lookups.{at-own}
 use Rattle.acc_host.specs.Host.{bytes_in, with_bytes}
-use Rattle.acc_dev.specs.Device.{DeviceState, IsWritten, HasBlocksApart, overwritten}
+use Rattle.acc_dev.specs.Device.{DeviceState, IsBlockWritten, HasBlocksApart, overwritten}
 use Rattle.acc_clauses.proofs.Copying.{from_all, written-overwritten, part, part-length, IsPartAt, part_at, moved_in, moved_out, changed-same}
 
 -- ---- to host memory
@@ -81,14 +81,14 @@ lens_by d block apart sized free there =
 -- ---- to a block
 
 -- a device after a write has other memories, and nothing else changed
-pub device_written : (old new : DeviceState) (block offset : ℕ) (bytes : List ℕ) (ms : List Memory) → IsWritten old new block offset bytes → map (memory_changed block (overwritten offset bytes)) old.memories ≡ ms → new ≡ record old { memories = ms }
+pub device_written : (old new : DeviceState) (block offset : ℕ) (bytes : List ℕ) (ms : List Memory) → IsBlockWritten old new block offset bytes → map (memory_changed block (overwritten offset bytes)) old.memories ≡ ms → new ≡ record old { memories = ms }
 device_written old new block offset bytes ms h e = remade new (record old { memories = ms }) h.size h.blocks (h.memories ∙ e) h.marks h.loans h.births h.room
   where
     remade : (a b : DeviceState) → a.size ≡ b.size → a.blocks ≡ b.blocks → a.memories ≡ b.memories → a.marks ≡ b.marks → a.loans ≡ b.loans → a.births ≡ b.births → a.room ≡ b.room → a ≡ b
     remade a b p q r m i s t = let e : record { size = a.size; blocks = a.blocks; memories = a.memories; marks = a.marks; loans = a.loans; births = a.births; room = a.room } ≡ b = rw (p, q, r, m, i, s, t) refl in e
 
 pub copied_in : (s : Section) (start : ℕ) (host bytes : List ℕ) (d new : DeviceState) (block : ℕ) → HasBlocksApart d → AllZip (IsMemoryOf d.loans) d.memories d.blocks → is_lent block d.loans ≡ false → IsSome (block_at block d.blocks)
-    → is_within s (host_memory (length host)) ≡ true → is_within s (record { start = start; len = length (bytes_of block d.memories) }) ≡ true → bytes ≡ bytes_in host s → IsWritten d new block (s.start - start) bytes
+    → is_within s (host_memory (length host)) ≡ true → is_within s (record { start = start; len = length (bytes_of block d.memories) }) ≡ true → bytes ≡ bytes_in host s → IsBlockWritten d new block (s.start - start) bytes
     → new ≡ record d { memories = map (memory_changed block (bytes_moved_in (covers s) host start)) d.memories }
 copied_in s start host bytes d new block apart sized free there in_host within bytes_are h =
     device_written d new block (s.start - start) bytes _ h (rw bytes_are (changed-same block (overwritten (s.start - start) (bytes_in host s)) (bytes_moved_in (covers s) host start) d.memories
@@ -99,7 +99,7 @@ copied_in s start host bytes d new block apart sized free there in_host within b
 
 -- bytes that are written over a section of a block
 pub put_in : (s : Section) (start : ℕ) (bytes : List ℕ) (d new : DeviceState) (block : ℕ) → HasBlocksApart d → AllZip (IsMemoryOf d.loans) d.memories d.blocks → is_lent block d.loans ≡ false → IsSome (block_at block d.blocks)
-    → is_within s (record { start = start; len = length (bytes_of block d.memories) }) ≡ true → length bytes ≡ s.len → IsWritten d new block (s.start - start) bytes
+    → is_within s (record { start = start; len = length (bytes_of block d.memories) }) ≡ true → length bytes ≡ s.len → IsBlockWritten d new block (s.start - start) bytes
     → new ≡ record d { memories = map (memory_changed block (written_bytes (covers s) (λ a. slice_index bytes (a - s.start)) start)) d.memories }
 put_in s start bytes d new block apart sized free there within len h =
     let n : ℕ = length (bytes_of block d.memories) in

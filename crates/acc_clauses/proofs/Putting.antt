@@ -17,7 +17,7 @@ use Rattle.acc_base.specs.Waits.{state_made, stepped}
 use Rattle.acc_base.specs.Accounts.{IsMemoryOf}
 use Rattle.acc_base.proofs.Results.{equal, equal_self}
 use Rattle.acc_base.proofs.KeptMemories.{memories_kept-without}
-use Rattle.acc_queues.specs.Queued.{QueuesState, IsRoomKept, IsRoomTaken, spare_at}
+use Rattle.acc_queues.specs.Queued.{QueuesState, AreRoomsKept, IsRoomTaken, spare_at}
 use Rattle.acc_dev.specs.Marks.{pins_at, is_ended_at, IsMarkOf}
 use Rattle.acc_dev.specs.Device.{DeviceState, IsPinned, IsUnpinned, IsRetired}
 use Rattle.acc_attach.specs.Attached.{AttachedState}
@@ -86,7 +86,7 @@ make_moves t x y marked is = rw is (record {
 -- ---- the first one of a queue
 
 -- nothing waits
-pub none_steps : (q : ℕ) (x : Environment) (queues : QueuesState) → head_of q x.queues.queues ≡ None → queues.queues ≡ x.queues.queues → queues.cap ≡ x.queues.cap → IsRoomKept x.queues.spare queues.spare → AreMarked x → IsSteppedBy q x (record x { queues = queues })
+pub none_steps : (q : ℕ) (x : Environment) (queues : QueuesState) → head_of q x.queues.queues ≡ None → queues.queues ≡ x.queues.queues → queues.cap ≡ x.queues.cap → AreRoomsKept x.queues.spare queues.spare → AreMarked x → IsSteppedBy q x (record x { queues = queues })
 unfolding stepped
 none_steps q x queues empty same limit room marked =
     let new : Environment = record x { queues = queues } in
@@ -168,7 +168,7 @@ more_used q t x y first mark other = go (is_ended_at t.block y.device.marks) ref
     go false e = used_mapped t.block (left q x) (sym mark.ended ∙ e)
 
 -- its block is given back, with its attachment counters
-pub last_steps : (q : ℕ) (t : Transfer) (x y : Environment) (queues : QueuesState) (e : DeviceState) (b : AttachedState) → head_of q x.queues.queues ≡ Some t → queues.queues ≡ popped q x.queues.queues → queues.cap ≡ x.queues.cap → IsRoomKept x.queues.spare queues.spare → AreMarked x
+pub last_steps : (q : ℕ) (t : Transfer) (x y : Environment) (queues : QueuesState) (e : DeviceState) (b : AttachedState) → head_of q x.queues.queues ≡ Some t → queues.queues ≡ popped q x.queues.queues → queues.cap ≡ x.queues.cap → AreRoomsKept x.queues.spare queues.spare → AreMarked x
     → y ≡ made t (taken queues x) → AllZip (IsMemoryOf y.device.loans) y.device.memories y.device.blocks → IsMarkAt x.present.table.ranges x.queues.queues y.device.marks t.block → (is_ended_at t.block y.device.marks ≡ true) × (pins_at t.block y.device.marks ≡ 1)
     → IsRetired y.device e t.block → b.attached ≡ without_attachments t.block y.attached.attached → b.counter_max ≡ y.attached.counter_max → y.attached.spare ≤ b.spare → IsSteppedBy q x (record y { device = e; attached = b })
 unfolding stepped released
@@ -192,7 +192,7 @@ last_steps q t x y queues e b first gone limit room marked is sized mark last re
     })
 
 -- its block stays
-pub more_steps : (q : ℕ) (t : Transfer) (x y : Environment) (queues : QueuesState) (e : DeviceState) → head_of q x.queues.queues ≡ Some t → queues.queues ≡ popped q x.queues.queues → queues.cap ≡ x.queues.cap → IsRoomKept x.queues.spare queues.spare → AreMarked x
+pub more_steps : (q : ℕ) (t : Transfer) (x y : Environment) (queues : QueuesState) (e : DeviceState) → head_of q x.queues.queues ≡ Some t → queues.queues ≡ popped q x.queues.queues → queues.cap ≡ x.queues.cap → AreRoomsKept x.queues.spare queues.spare → AreMarked x
     → y ≡ made t (taken queues x) → IsMarkAt x.present.table.ranges x.queues.queues y.device.marks t.block → ((is_ended_at t.block y.device.marks ≡ true) × (pins_at t.block y.device.marks ≡ 1) → ⊥)
     → IsUnpinned y.device e t.block → IsSteppedBy q x (record y { device = e })
 unfolding stepped released

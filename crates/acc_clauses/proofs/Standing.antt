@@ -17,7 +17,7 @@ use Rattle.acc_base.specs.Accounts.{IsClearOf, EachPair}
 use Rattle.acc_base.proofs.Results.{equal}
 use Rattle.acc_base.proofs.Elements.{AllByRecursion-weaker, AllByRecursion-filter, EachPair-weaker, found_has}
 use Rattle.acc_base.proofs.Lookups.{at-own}
-use Rattle.acc_dev.specs.Marks.{Mark, mark_at, pins_at, is_ended_at, ended_of, lowest_ended, IsMarkOf}
+use Rattle.acc_dev.specs.Marks.{Mark, mark_at, pins_at, is_ended_at, ended_told, lowest_ended, IsMarkOf}
 use Rattle.acc_clauses.specs.declared.numbers.Numbers.{Numbers}
 use Rattle.acc_clauses.specs.declared.environments.Environment.{Environment}
 use Rattle.acc_clauses.specs.Contents.{state_of, IsMarkRight, ArePartsSound}
@@ -51,17 +51,17 @@ mark_of k ranges queues (m ∷ ms) (b ∷ bs) zip right there = go (mark_of k ra
         record { mark = later.mark; mark_is = rw (same ∙ e) later.mark_is; own = later.own; right = later.right }
 
 -- what it tells of a block
-pub record IsTold (ranges : List Range) (queues : List (List Transfer)) (ms : List Mark) (k : ℕ) : Type 0 where
+pub record IsMarkTold (ranges : List Range) (queues : List (List Transfer)) (ms : List Mark) (k : ℕ) : Type 0 where
   pub pins : pins_at k ms ≡ pins_of k queues
   pub ended : is_ended_at k ms ≡ is_none (range_of k ranges)
 
-told_by : (k : ℕ) (ranges : List Range) (queues : List (List Transfer)) (ms : List Mark) → HasMark k ranges queues ms → IsTold ranges queues ms k
+told_by : (k : ℕ) (ranges : List Range) (queues : List (List Transfer)) (ms : List Mark) → HasMark k ranges queues ms → IsMarkTold ranges queues ms k
 told_by k ranges queues ms h = record {
   pins = ap (λ (o : Option Mark). unwrap_or (option_map (λ (m : Mark). m.pins) o) 0) h.mark_is ∙ h.right.pins ∙ ap (λ n. pins_of n queues) h.own;
   ended = ap (λ (o : Option Mark). unwrap_or (option_map (λ (m : Mark). m.ended) o) false) h.mark_is ∙ h.right.ended ∙ ap (λ n. is_none (range_of n ranges)) h.own;
 }
 
-pub told : (l : Limits) (x : Environment) (next : Numbers) (k : ℕ) → ArePartsSound l x next → AllZip IsMarkOf x.device.marks x.device.blocks → IsSome (block_at k x.device.blocks) → IsTold x.present.table.ranges x.queues.queues x.device.marks k
+pub told : (l : Limits) (x : Environment) (next : Numbers) (k : ℕ) → ArePartsSound l x next → AllZip IsMarkOf x.device.marks x.device.blocks → IsSome (block_at k x.device.blocks) → IsMarkTold x.present.table.ranges x.queues.queues x.device.marks k
 told l x next k sound zip there = told_by k x.present.table.ranges x.queues.queues x.device.marks (mark_of k x.present.table.ranges x.queues.queues x.device.marks x.device.blocks zip sound.marked there)
 
 -- ---- the range of a block
@@ -77,13 +77,13 @@ no_range (Some r) e = cc
 -- a block that has not ended has a range
 pub has_range : (l : Limits) (x : Environment) (next : Numbers) (k : ℕ) → ArePartsSound l x next → AllZip IsMarkOf x.device.marks x.device.blocks → IsSome (block_at k x.device.blocks) → is_ended_at k x.device.marks ≡ false → IsSome (range_of k x.present.table.ranges)
 has_range l x next k sound zip there e =
-    let says : IsTold x.present.table.ranges x.queues.queues x.device.marks k = told l x next k sound zip there in
+    let says : IsMarkTold x.present.table.ranges x.queues.queues x.device.marks k = told l x next k sound zip there in
     some_range (range_of k x.present.table.ranges) (sym says.ended ∙ e)
 
 -- and one that has ended has none
 pub has_no_range : (l : Limits) (x : Environment) (next : Numbers) (k : ℕ) → ArePartsSound l x next → AllZip IsMarkOf x.device.marks x.device.blocks → IsSome (block_at k x.device.blocks) → is_ended_at k x.device.marks ≡ true → range_of k x.present.table.ranges ≡ None
 has_no_range l x next k sound zip there e =
-    let says : IsTold x.present.table.ranges x.queues.queues x.device.marks k = told l x next k sound zip there in
+    let says : IsMarkTold x.present.table.ranges x.queues.queues x.device.marks k = told l x next k sound zip there in
     no_range (range_of k x.present.table.ranges) (sym says.ended ∙ e)
 
 -- ---- the lowest block that has ended
@@ -101,19 +101,19 @@ lowest_has P (b ∷ bs) h = go (lowest bs) (lowest_has P bs h.1)
     go None rest = h.0
     go (Some c) rest = elim (nat_le b.place c.place) as (λ t. P (cond t b c)) [ true ↦ h.0 | false ↦ rest ]
 
-told_same : (queues : List (List Transfer)) (ms : List Mark) (o : Option Block) → IfSome o (λ b. pins_at b.number ms ≡ pins_of b.number queues) → option_map (ended_of ms) o ≡ option_map (told_ended queues) o
+told_same : (queues : List (List Transfer)) (ms : List Mark) (o : Option Block) → IfSome o (λ b. pins_at b.number ms ≡ pins_of b.number queues) → option_map (ended_told ms) o ≡ option_map (told_ended queues) o
 told_same queues ms None h = refl
 told_same queues ms (Some b) h = rw h refl
 
-lowest_same : (from : ℕ) (ranges : List Range) (queues : List (List Transfer)) (ms : List Mark) (bs : List Block) → AllByRecursion (λ b. IsTold ranges queues ms b.number) bs
+lowest_same : (from : ℕ) (ranges : List Range) (queues : List (List Transfer)) (ms : List Mark) (bs : List Block) → AllByRecursion (λ b. IsMarkTold ranges queues ms b.number) bs
     → lowest_ended from ms bs ≡ option_map (told_ended queues) (lowest (filter (λ b. is_none (range_of b.number ranges) && nat_le from b.place) bs))
 lowest_same from ranges queues ms bs h =
     let p : Block → Bool = λ b. is_ended_at b.number ms && nat_le from b.place in
     let q : Block → Bool = λ b. is_none (range_of b.number ranges) && nat_le from b.place in
-    let same : filter p bs ≡ filter q bs = filter-same p q bs (AllByRecursion-weaker (λ (b : Block). IsTold ranges queues ms b.number) (λ b. p b ≡ q b) bs (λ b t. ap (λ e. e && nat_le from b.place) t.ended) h) in
+    let same : filter p bs ≡ filter q bs = filter-same p q bs (AllByRecursion-weaker (λ (b : Block). IsMarkTold ranges queues ms b.number) (λ b. p b ≡ q b) bs (λ b t. ap (λ e. e && nat_le from b.place) t.ended) h) in
     let pins : AllByRecursion (λ (b : Block). pins_at b.number ms ≡ pins_of b.number queues) (filter q bs) =
-    AllByRecursion-filter (λ (b : Block). pins_at b.number ms ≡ pins_of b.number queues) q bs (AllByRecursion-weaker (λ (b : Block). IsTold ranges queues ms b.number) (λ (b : Block). pins_at b.number ms ≡ pins_of b.number queues) bs (λ b t. t.pins) h) in
-    ap (λ cs. option_map (ended_of ms) (lowest cs)) same ∙ told_same queues ms (lowest (filter q bs)) (lowest_has (λ b. pins_at b.number ms ≡ pins_of b.number queues) (filter q bs) pins)
+    AllByRecursion-filter (λ (b : Block). pins_at b.number ms ≡ pins_of b.number queues) q bs (AllByRecursion-weaker (λ (b : Block). IsMarkTold ranges queues ms b.number) (λ (b : Block). pins_at b.number ms ≡ pins_of b.number queues) bs (λ b t. t.pins) h) in
+    ap (λ cs. option_map (ended_told ms) (lowest cs)) same ∙ told_same queues ms (lowest (filter q bs)) (lowest_has (λ b. pins_at b.number ms ≡ pins_of b.number queues) (filter q bs) pins)
 
 -- the device finds the block that the records say
 pub ended_is : (l : Limits) (x : Environment) (next : Numbers) (from : ℕ) → ArePartsSound l x next → AllZip IsMarkOf x.device.marks x.device.blocks → lowest_ended from x.device.marks x.device.blocks ≡ ended_from from (state_of x next).records
@@ -121,7 +121,7 @@ ended_is l x next from sound zip =
     let distinct : EachPair (λ (b : Block) (c : Block). b.number ≡ c.number → ⊥) x.device.blocks =
     EachPair-weaker IsClearOf (λ (b : Block) (c : Block). b.number ≡ c.number → ⊥) x.device.blocks (λ b c clear same. let less : b.number < c.number = clear.numbers in omega arith) sound.sound.records.blocks_apart.apart in
     lowest_same from x.present.table.ranges x.queues.queues x.device.marks x.device.blocks
-    (AllByRecursion-weaker (λ (b : Block). block_at b.number x.device.blocks ≡ Some b) (λ (b : Block). IsTold x.present.table.ranges x.queues.queues x.device.marks b.number) x.device.blocks
+    (AllByRecursion-weaker (λ (b : Block). block_at b.number x.device.blocks ≡ Some b) (λ (b : Block). IsMarkTold x.present.table.ranges x.queues.queues x.device.marks b.number) x.device.blocks
     (λ b own. told l x next b.number sound zip (is_some (block_at b.number x.device.blocks) b own)) (at-own number_of x.device.blocks distinct))
 
 -- ---- loans

@@ -32,14 +32,14 @@ pub record Planned : Type 0 where
   pub dids : List Did
 
 -- what a directive does beside its tasks
-abbrev pub head_of : Directive → Head
-head_of (Enter items) = Entry
-head_of (Exit number) = Leaving number
-head_of (EnterData items queue) = Plain
-head_of (ExitData items finalize queue) = Plain
-head_of (Update items if_present queue) = Plain
-head_of (Wait queue) = Waiting queue
-head_of (Step queue) = Stepping queue
+abbrev pub head_planned : Directive → Head
+head_planned (Enter items) = Entry
+head_planned (Exit number) = Leaving number
+head_planned (EnterData items queue) = Plain
+head_planned (ExitData items finalize queue) = Plain
+head_planned (Update items if_present queue) = Plain
+head_planned (Wait queue) = Waiting queue
+head_planned (Step queue) = Stepping queue
 
 -- what the items did, in written order: on a region's exit the last one acts first
 abbrev pub in_written_order : Head → List Did → List Did
@@ -63,7 +63,7 @@ transfers_by (Stepping queue) queues = take 1 (queue_at queue queues)
 
 -- the plan is of the directive: it has its tasks, each is judged in what those before it leave of this layout, and no transfer that it makes is of a block that is lent
 pub record IsPlannedOn (l : Limits) (d : Directive) (lay : Layout) (p : Planned) : Type 0 where
-  pub head : p.head ≡ head_of d
+  pub head : p.head ≡ head_planned d
   pub queue : p.queue ≡ queue_in d
   pub known : queue_named p.queue ≡ Ok tt
   pub tasks : tasks_of d lay.register ≡ Ok p.tasks

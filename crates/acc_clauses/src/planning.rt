@@ -8,7 +8,7 @@ ghost use Rattle.acc_base.specs.Queues.{queue_named};
 ghost use Rattle.acc_base.specs.Tasks.{queue_of};
 ghost use Rattle.acc_base.specs.Judge.{few_items, queue_in, verdict_of, plan_of};
 ghost use Rattle.acc_clauses.specs.Overlays.{IsPlanned, AreUnmixed, AreQueuesNamed, tasks_in, dids_in};
-ghost use Rattle.acc_clauses.specs.Planned.{HasFewHoldings, asked_of, head_of, IsPlannedOn};
+ghost use Rattle.acc_clauses.specs.Planned.{HasFewHoldings, asked_of, head_planned, IsPlannedOn};
 
 use crate::drafts::Draft;
 use crate::items::judge;
@@ -124,8 +124,8 @@ fn check_queue(queue: Option<u64>) -> Result<(), Fault>
 }
 
 // What a directive does beside its tasks.
-fn head_of(directive: &Directive) -> Head
-    ensures { result ≡ head_of directive.now }
+fn head_planned(directive: &Directive) -> Head
+    ensures { result ≡ head_planned directive.now }
 {
     match directive {
         Directive::Enter { .. } => Head::Entry,
@@ -159,7 +159,7 @@ pub(crate) fn plan(parts: &Parts, directive: &Directive, plan: &mut Plan) -> Res
     plan.queue = queue_in(directive);
     check_queue(plan.queue)?;
     let judged = judge_all(parts, &plan.asked, &mut plan.draft);
-    plan.head = head_of(directive);
+    plan.head = head_planned(directive);
     let acts = plan.draft.acts();
     tell_written(&mut plan.did, plan.head, acts);
     note_births(&mut plan.lens, acts);

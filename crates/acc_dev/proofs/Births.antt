@@ -22,7 +22,7 @@ use Rattle.acc_dev.specs.declared.entries.Stored.{Stored}
 use Rattle.acc_dev.specs.Device.{DeviceState, HasBlock, IsBorn, IsBornWith, birth_place}
 use Rattle.acc_base.specs.Holes.{taken_range}
 use Rattle.acc_dev.specs.Marks.{new_mark, IsSoundMark}
-use Rattle.acc_dev.specs.Kept.{stored_loan, block_from, memory_from, mark_from, slot_of, blocks_in, memories_in, marks_in, loans_in, IsInOrOut, IsBacked, IsKept, IsCounted}
+use Rattle.acc_dev.specs.Kept.{stored_loan, block_from, memory_from, mark_from, slot_of, blocks_in, memories_in, marks_in, loans_in, IsInOrOut, IsBacked, AreSlotsKept, AreNumbersBorn}
 use Rattle.acc_dev.proofs.Slots.{AreSame, KeepsOthers, same_from, vacant_off, made-born}
 use Rattle.acc_dev.proofs.Lent.{loans_in-same, loans_in-push}
 use Rattle.acc_dev.proofs.Placing.{some_bytes, planned_place, birth_at, fit_from}
@@ -60,8 +60,8 @@ off_parts [] x j h = (tt, h.0)
 off_parts (y ∷ ys) x j h = let rest = off_parts ys x j h.1 in ((h.0, rest.0), rest.1)
 
 -- a device keeps what it keeps
-pub born_kept : (old new : Space) (s t : List (Option Stored)) (xs : List (ℕ × ℕ)) (number k : ℕ) (x : Stored) → IsKept old s xs → AllByRecursion (λ e. e.0 < number) xs → get_or s k None ≡ None → get_or t k None ≡ Some x → KeepsOthers s t k
-    → IsFromOne MEMORY_MAX x.len → x.len ≡ length x.bytes.items → x.loan ≡ None → IsSoundMark (record { block = number; pins = x.pins; ended = x.ended }) → new.base ≡ old.base → IsCanonical new → ((ts : List (ℕ × ℕ)) → IsPartition old ts → IsPartition new ((x.place, rounded x.len) ∷ ts)) → IsKept new t (xs ++ (number, k) ∷ [])
+pub born_kept : (old new : Space) (s t : List (Option Stored)) (xs : List (ℕ × ℕ)) (number k : ℕ) (x : Stored) → AreSlotsKept old s xs → AllByRecursion (λ e. e.0 < number) xs → get_or s k None ≡ None → get_or t k None ≡ Some x → KeepsOthers s t k
+    → IsFromOne MEMORY_MAX x.len → x.len ≡ length x.bytes.items → x.loan ≡ None → IsSoundMark (record { block = number; pins = x.pins; ended = x.ended }) → new.base ≡ old.base → IsCanonical new → ((ts : List (ℕ × ℕ)) → IsPartition old ts → IsPartition new ((x.place, rounded x.len) ∷ ts)) → AreSlotsKept new t (xs ++ (number, k) ∷ [])
 born_kept old new s t xs number k x kept above vacant is others len long free mark base canonical part =
     let off = vacant_off s k xs kept.filled vacant in
     let same : AreSame s t xs = same_from s t k xs others off in
@@ -85,7 +85,7 @@ born_kept old new s t xs number k x kept above vacant is others len long free ma
     }
 
 -- the place that a look ahead finds is that of a birth
-pub birth_found : (h : Space) (s : List (Option Stored)) (xs : List (ℕ × ℕ)) (births len : ℕ) (room : List ℕ) (o : Option ℕ) → IsKept h s xs → 1 ≤ len
+pub birth_found : (h : Space) (s : List (Option Stored)) (xs : List (ℕ × ℕ)) (births len : ℕ) (room : List ℕ) (o : Option ℕ) → AreSlotsKept h s xs → 1 ≤ len
     → IfSome o (IsLeastFitBeside h.holes [] (rounded len)) → IfNone o ((q : ℕ) → IsFitBeside h.holes [] (rounded len) q → ⊥) → o ≡ birth_place (device_of h s xs births room) len
 birth_found h s xs births len room o k some place none =
     planned_place h (blocks_in s xs) 0 0 [] (rounded len) o (omega arith) (λ i d lt. absurd (omega arith)) k.lens (shared h s xs k) place none
@@ -97,11 +97,11 @@ refused_full (Ok x) o p n only place = absurd only
 refused_full (Err fault) o p n only place = (λ full. let bad : ⊥ = cc in absurd bad, λ none. let bad : ⊥ = cc in absurd bad)
 
 -- it is the least of all device addresses at which the length fits
-pub birth_least : (h : Space) (s : List (Option Stored)) (xs : List (ℕ × ℕ)) (births len : ℕ) (room : List ℕ) → IsKept h s xs → 1 ≤ len → IsPlaceFor h.size (blocks_in s xs) (rounded len) (birth_place (device_of h s xs births room) len)
+pub birth_least : (h : Space) (s : List (Option Stored)) (xs : List (ℕ × ℕ)) (births len : ℕ) (room : List ℕ) → AreSlotsKept h s xs → 1 ≤ len → IsPlaceFor h.size (blocks_in s xs) (rounded len) (birth_place (device_of h s xs births room) len)
 birth_least h s xs births len room k some = place_for-least h.size (blocks_in s xs) (rounded len) (omega arith) (some_bytes (blocks_in s xs) k.lens)
 
 -- what a birth with these bytes leaves, as contracts see it
-pub born_with : (old new : Space) (s s' t : List (Option Stored)) (xs xs' ys : List (ℕ × ℕ)) (births len place : ℕ) (bytes room left : List ℕ) → IsKept old s xs → 1 ≤ len → s' ≡ s → xs' ≡ xs → new.size ≡ old.size → length bytes ≡ len
+pub born_with : (old new : Space) (s s' t : List (Option Stored)) (xs xs' ys : List (ℕ × ℕ)) (births len place : ℕ) (bytes room left : List ℕ) → AreSlotsKept old s xs → 1 ≤ len → s' ≡ s → xs' ≡ xs → new.size ≡ old.size → length bytes ≡ len
     → IsLeastFit old.holes (rounded (length bytes)) place
     → blocks_in t ys ≡ blocks_in s' xs' ++ record { number = births + 1; place = place; len = length bytes } ∷ []
     → memories_in t ys ≡ memories_in s' xs' ++ record { block = births + 1; bytes = bytes } ∷ []
@@ -123,7 +123,7 @@ born_with old new s s' t xs xs' ys births len place bytes room left k some slots
     }
 
 -- what a birth leaves, as contracts see it
-pub born_of : (old new : Space) (s s' t : List (Option Stored)) (xs xs' ys : List (ℕ × ℕ)) (births len place : ℕ) (clear : Bool) (bytes room left : List ℕ) → IsKept old s xs → 1 ≤ len → s' ≡ s → xs' ≡ xs → new.size ≡ old.size → bytes ≡ replicate len (fill_byte clear)
+pub born_of : (old new : Space) (s s' t : List (Option Stored)) (xs xs' ys : List (ℕ × ℕ)) (births len place : ℕ) (clear : Bool) (bytes room left : List ℕ) → AreSlotsKept old s xs → 1 ≤ len → s' ≡ s → xs' ≡ xs → new.size ≡ old.size → bytes ≡ replicate len (fill_byte clear)
     → IsLeastFit old.holes (rounded (length bytes)) place
     → blocks_in t ys ≡ blocks_in s' xs' ++ record { number = births + 1; place = place; len = length bytes } ∷ []
     → memories_in t ys ≡ memories_in s' xs' ++ record { block = births + 1; bytes = bytes } ∷ []
@@ -136,7 +136,7 @@ born_of old new s s' t xs xs' ys births len place clear bytes room left k some s
     (born_with old new s s' t xs xs' ys births len place bytes room left k some slots index size long least blocks memories marks loans)
 
 -- a length for which there is a place fits in the holes
-pub fits_there : (h : Space) (s : List (Option Stored)) (xs : List (ℕ × ℕ)) (births len : ℕ) (room : List ℕ) → IsKept h s xs → (birth_place (device_of h s xs births room) len ≡ None → ⊥) → (q : ℕ) × IsFit h.holes (rounded len) q
+pub fits_there : (h : Space) (s : List (Option Stored)) (xs : List (ℕ × ℕ)) (births len : ℕ) (room : List ℕ) → AreSlotsKept h s xs → (birth_place (device_of h s xs births room) len ≡ None → ⊥) → (q : ℕ) × IsFit h.holes (rounded len) q
 fits_there h s xs births len room k some = go (place_for h.size (blocks_in s xs) (rounded len)) (place_for-found h.size (blocks_in s xs) (rounded len)) some
   where
     go : (o : Option ℕ) → IsFoundPlace (fits_at h.size (blocks_in s xs) (rounded len)) o → (o ≡ None → ⊥) → (q : ℕ) × IsFit h.holes (rounded len) q
@@ -165,19 +165,19 @@ bytes_last (m ∷ ms) n bytes h =
     let t : (m.block == n) ≡ false = grind (arith, nat_tests, h.0) in
     rw t (bytes_last ms n bytes h.1)
 
-pub filled_after_birth : (old : Space) (s : List (Option Stored)) (xs : List (ℕ × ℕ)) (births len : ℕ) (clear : Bool) (room : List ℕ) (new : DeviceState) → IsCounted xs births → IsBorn (device_of old s xs births room) new len clear (births + 1) → bytes_of (births + 1) new.memories ≡ replicate len (fill_byte clear)
+pub filled_after_birth : (old : Space) (s : List (Option Stored)) (xs : List (ℕ × ℕ)) (births len : ℕ) (clear : Bool) (room : List ℕ) (new : DeviceState) → AreNumbersBorn xs births → IsBorn (device_of old s xs births room) new len clear (births + 1) → bytes_of (births + 1) new.memories ≡ replicate len (fill_byte clear)
 filled_after_birth old s xs births len clear room new c born =
     ap (bytes_of (births + 1)) born.memories
     ∙ bytes_last (memories_in s xs) (births + 1) (replicate len (fill_byte clear))
     (AllByRecursion-map (λ (m : Memory). m.block ≡ births + 1 → ⊥) (λ (e : ℕ × ℕ). memory_from e.0 (slot_of s e)) xs (AllByRecursion-weaker (λ (e : ℕ × ℕ). e.0 ≤ births) (λ e. e.0 ≡ births + 1 → ⊥) xs (λ e le same. omega arith) c.below))
 
 -- the numbers stay at most the births
-pub born_counted : (xs ys : List (ℕ × ℕ)) (births slot : ℕ) → IsCounted xs births → births < 2 ^ 48 → ys ≡ xs ++ (births + 1, slot) ∷ [] → IsCounted ys (births + 1)
+pub born_counted : (xs ys : List (ℕ × ℕ)) (births slot : ℕ) → AreNumbersBorn xs births → births < 2 ^ 48 → ys ≡ xs ++ (births + 1, slot) ∷ [] → AreNumbersBorn ys (births + 1)
 born_counted xs ys births slot c few is = record {
   below = rw is (AllByRecursion-append (λ (e : ℕ × ℕ). e.0 ≤ births + 1) xs ((births + 1, slot) ∷ []) (AllByRecursion-weaker (λ (e : ℕ × ℕ). e.0 ≤ births) (λ e. e.0 ≤ births + 1) xs (λ e le. omega arith) c.below) (omega arith, tt));
   few = omega arith;
 }
 
 -- the next number is above all
-pub above_all : (xs ys : List (ℕ × ℕ)) (births : ℕ) → IsCounted xs births → ys ≡ xs → AllByRecursion (λ e. e.0 < births + 1) ys
+pub above_all : (xs ys : List (ℕ × ℕ)) (births : ℕ) → AreNumbersBorn xs births → ys ≡ xs → AllByRecursion (λ e. e.0 < births + 1) ys
 above_all xs ys births c is = rw is (AllByRecursion-weaker (λ (e : ℕ × ℕ). e.0 ≤ births) (λ e. e.0 < births + 1) xs (λ e le. omega arith) c.below)

@@ -9,8 +9,8 @@ use Rattle.acc_base.specs.declared.mappings.Block.{Block}
 use Rattle.acc_base.specs.declared.mappings.Ended.{Ended}
 use Rattle.acc_base.specs.Blocks.{lower, lowest}
 use Rattle.acc_dev.specs.declared.entries.Stored.{Stored}
-use Rattle.acc_dev.specs.Marks.{Mark, pins_at, is_ended_at, ended_from, ended_of, lowest_ended}
-use Rattle.acc_dev.specs.Kept.{stored_place, stored_pins, stored_ended, block_from, slot_of, blocks_in, marks_in, told_of, lower_of, lowest_told, AreRising, IsEntry}
+use Rattle.acc_dev.specs.Marks.{Mark, pins_at, is_ended_at, ended_blocks_from, ended_told, lowest_ended}
+use Rattle.acc_dev.specs.Kept.{stored_place, stored_pins, stored_ended, block_from, slot_of, blocks_in, marks_in, told_of, lower_of, lowest_told, IsIndexRising, IsEntry}
 use Rattle.acc_dev.proofs.Rising.{start, all_from}
 use Rattle.acc_dev.proofs.Slots.{pins_at-entry, is_ended_at-entry}
 
@@ -60,18 +60,18 @@ pub record IsSaid (ms : List Mark) (s : List (Option Stored)) (e : ℕ × ℕ) :
   pub ended : is_ended_at e.0 ms ≡ stored_ended (slot_of s e)
 
 -- the marks of an index say it of each of its entries
-said_of : (s : List (Option Stored)) (xs : List (ℕ × ℕ)) → AreRising xs → AllByRecursion (IsSaid (marks_in s xs) s) xs
+said_of : (s : List (Option Stored)) (xs : List (ℕ × ℕ)) → IsIndexRising xs → AllByRecursion (IsSaid (marks_in s xs) s) xs
 said_of s xs rise = all_from (IsSaid (marks_in s xs) s) xs start (λ k lt. let entry : IsEntry xs (get_or xs k start).0 k = record { in_bounds = lt; number = refl } in record {
   pins = pins_at-entry s xs k (get_or xs k start).0 rise entry;
   ended = is_ended_at-entry s xs k (get_or xs k start).0 rise entry;
 })
 
 -- the lower of two blocks is told as the lower of what is told of each
-lower-told : (ms : List Mark) (b : Block) (o : Option Block) → lower_of (Some (ended_of ms b)) (option_map (ended_of ms) o) ≡ Some (ended_of ms (lower b o))
+lower-told : (ms : List Mark) (b : Block) (o : Option Block) → lower_of (Some (ended_told ms b)) (option_map (ended_told ms) o) ≡ Some (ended_told ms (lower b o))
 lower-told ms b None = refl
 lower-told ms b (Some c) = go (nat_le b.place c.place)
   where
-    go : (t : Bool) → Some (cond t (ended_of ms b) (ended_of ms c)) ≡ Some (ended_of ms (cond t b c))
+    go : (t : Bool) → Some (cond t (ended_told ms b) (ended_told ms c)) ≡ Some (ended_told ms (cond t b c))
     go true = refl
     go false = refl
 
@@ -79,8 +79,8 @@ lower-told ms b (Some c) = go (nat_le b.place c.place)
 lowest-more : (from : ℕ) (ms : List Mark) (s : List (Option Stored)) (x : ℕ × ℕ) (bs : List Block) → IsSaid ms s x → lower_of (told_of from (slot_of s x)) (lowest_ended from ms bs) ≡ lowest_ended from ms (block_from x.0 (slot_of s x) ∷ bs)
 lowest-more from ms s x bs said = rw (said.ended, ← said.pins) (go (stored_ended (slot_of s x) && nat_le from (stored_place (slot_of s x))))
   where
-    go : (t : Bool) → lower_of (cond t (Some (ended_of ms (block_from x.0 (slot_of s x)))) None) (lowest_ended from ms bs) ≡ option_map (ended_of ms) (lowest (cond t (block_from x.0 (slot_of s x) ∷ ended_from from ms bs) (ended_from from ms bs)))
-    go true = lower-told ms (block_from x.0 (slot_of s x)) (lowest (ended_from from ms bs))
+    go : (t : Bool) → lower_of (cond t (Some (ended_told ms (block_from x.0 (slot_of s x)))) None) (lowest_ended from ms bs) ≡ option_map (ended_told ms) (lowest (cond t (block_from x.0 (slot_of s x) ∷ ended_blocks_from from ms bs) (ended_blocks_from from ms bs)))
+    go true = lower-told ms (block_from x.0 (slot_of s x)) (lowest (ended_blocks_from from ms bs))
     go false = refl
 
 lowest_is : (from : ℕ) (ms : List Mark) (s : List (Option Stored)) (xs : List (ℕ × ℕ)) → AllByRecursion (IsSaid ms s) xs → lowest_told from s xs ≡ lowest_ended from ms (blocks_in s xs)
@@ -88,5 +88,5 @@ lowest_is from ms s [] said = refl
 lowest_is from ms s (x ∷ xs) said = ap (lower_of (told_of from (slot_of s x))) (lowest_is from ms s xs said.1) ∙ lowest-more from ms s x (blocks_in s xs) said.0
 
 -- the scan finds the lowest block that has ended
-pub lowest_found : (from : ℕ) (s : List (Option Stored)) (xs : List (ℕ × ℕ)) → AreRising xs → lowest_told from s xs ≡ lowest_ended from (marks_in s xs) (blocks_in s xs)
+pub lowest_found : (from : ℕ) (s : List (Option Stored)) (xs : List (ℕ × ℕ)) → IsIndexRising xs → lowest_told from s xs ≡ lowest_ended from (marks_in s xs) (blocks_in s xs)
 lowest_found from s xs rise = lowest_is from (marks_in s xs) s xs (said_of s xs rise)

@@ -17,7 +17,7 @@ use Rattle.acc_dev.specs.declared.entries.Stored.{Stored}
 use Rattle.acc_dev.specs.Device.{IsRetired}
 use Rattle.acc_base.specs.Holes.{taken_range}
 use Rattle.acc_dev.specs.Marks.{without_mark, IsSoundMark}
-use Rattle.acc_dev.specs.Kept.{block_from, memory_from, mark_from, slot_of, blocks_in, memories_in, marks_in, loans_in, AreRising, IsBacked, IsKept, IsCounted, IsEntry}
+use Rattle.acc_dev.specs.Kept.{block_from, memory_from, mark_from, slot_of, blocks_in, memories_in, marks_in, loans_in, IsIndexRising, IsBacked, AreSlotsKept, AreNumbersBorn, IsEntry}
 use Rattle.acc_dev.proofs.Rising.{start, all-remove, apart-remove, map-remove, filter-map, remove-filter}
 use Rattle.acc_dev.proofs.Slots.{AreSame, KeepsOthers, same_from, others_off, made-removed}
 use Rattle.acc_dev.proofs.Lent.{AreBacked, in_step}
@@ -38,7 +38,7 @@ length_ranges s [] = refl
 length_ranges s (x ∷ xs) = ap suc (length_ranges s xs)
 
 -- so they are taken, and can be given back
-pub taken_stored : (h : Space) (s : List (Option Stored)) (xs : List (ℕ × ℕ)) (i : ℕ) (x : Stored) → IsKept h s xs → i < length xs → slot_of s (get_or xs i start) ≡ Some x → IsTaken h x.place (rounded x.len)
+pub taken_stored : (h : Space) (s : List (Option Stored)) (xs : List (ℕ × ℕ)) (i : ℕ) (x : Stored) → AreSlotsKept h s xs → i < length xs → slot_of s (get_or xs i start) ≡ Some x → IsTaken h x.place (rounded x.len)
 taken_stored h s xs i x k lt is =
     taken_at h (map taken_range (blocks_in s xs)) i (range_stored x) _ (range_at s xs i x (range_stored x) lt is) refl (omega (arith, length_ranges s xs)) k.partition
 
@@ -61,8 +61,8 @@ left_empty s t xs i j before others empty off = elim (cases_eq j (get_or xs i st
 ]
 
 -- without the entry and its slot the device keeps what it keeps
-pub left_kept : (old new : Space) (s t : List (Option Stored)) (xs : List (ℕ × ℕ)) (i : ℕ) (x : Stored) → IsKept old s xs → i < length xs → slot_of s (get_or xs i start) ≡ Some x → KeepsOthers s t (get_or xs i start).1 → get_or t (get_or xs i start).1 None ≡ None
-    → new.base ≡ old.base → IsCanonical new → ((before after : List (ℕ × ℕ)) → IsPartition old (before ++ range_stored x ∷ after) → IsPartition new (before ++ after)) → IsKept new t (remove xs i)
+pub left_kept : (old new : Space) (s t : List (Option Stored)) (xs : List (ℕ × ℕ)) (i : ℕ) (x : Stored) → AreSlotsKept old s xs → i < length xs → slot_of s (get_or xs i start) ≡ Some x → KeepsOthers s t (get_or xs i start).1 → get_or t (get_or xs i start).1 None ≡ None
+    → new.base ≡ old.base → IsCanonical new → ((before after : List (ℕ × ℕ)) → IsPartition old (before ++ range_stored x ∷ after) → IsPartition new (before ++ after)) → AreSlotsKept new t (remove xs i)
 left_kept old new s t xs i x kept lt is others empty base canonical part =
     let same : AreSame s t (remove xs i) = same_left s t xs i kept.distinct lt others in
     let blocks : blocks_in t (remove xs i) ≡ remove (blocks_in s xs) i = made-removed block_from s t xs i same in
@@ -80,14 +80,14 @@ left_kept old new s t xs i x kept lt is others empty base canonical part =
     }
 
 -- the blocks without that of an entry
-pub without-removed : (s : List (Option Stored)) (xs : List (ℕ × ℕ)) (i n : ℕ) → AreRising xs → IsEntry xs n i → without_block n (blocks_in s xs) ≡ remove (blocks_in s xs) i
+pub without-removed : (s : List (Option Stored)) (xs : List (ℕ × ℕ)) (i n : ℕ) → IsIndexRising xs → IsEntry xs n i → without_block n (blocks_in s xs) ≡ remove (blocks_in s xs) i
 without-removed s xs i n rise entry =
     filter-map (λ (e : ℕ × ℕ). block_from e.0 (slot_of s e)) (λ e. not (e.0 == n)) (λ b. not (b.number == n)) xs (λ e. refl)
     ∙ ap (map (λ (e : ℕ × ℕ). block_from e.0 (slot_of s e))) (remove-filter xs i n rise entry.in_bounds entry.number)
     ∙ map-remove (λ (e : ℕ × ℕ). block_from e.0 (slot_of s e)) xs i
 
 -- and their bytes
-pub kept-removed : (s : List (Option Stored)) (xs : List (ℕ × ℕ)) (i n : ℕ) → AreRising xs → AreBacked s xs → IsEntry xs n i → memories_kept (remove (blocks_in s xs) i) (memories_in s xs) ≡ remove (memories_in s xs) i
+pub kept-removed : (s : List (Option Stored)) (xs : List (ℕ × ℕ)) (i n : ℕ) → IsIndexRising xs → AreBacked s xs → IsEntry xs n i → memories_kept (remove (blocks_in s xs) i) (memories_in s xs) ≡ remove (memories_in s xs) i
 kept-removed s xs i n rise backed entry =
     ap (λ bs. memories_kept bs (memories_in s xs)) (sym (without-removed s xs i n rise entry))
     ∙ memories_kept-without (loans_in s xs) n (memories_in s xs) (blocks_in s xs) (in_step s xs rise backed)
@@ -96,14 +96,14 @@ kept-removed s xs i n rise backed entry =
     ∙ map-remove (λ (e : ℕ × ℕ). memory_from e.0 (slot_of s e)) xs i
 
 -- and their marks
-marks-removed : (s : List (Option Stored)) (xs : List (ℕ × ℕ)) (i n : ℕ) → AreRising xs → IsEntry xs n i → without_mark n (marks_in s xs) ≡ remove (marks_in s xs) i
+marks-removed : (s : List (Option Stored)) (xs : List (ℕ × ℕ)) (i n : ℕ) → IsIndexRising xs → IsEntry xs n i → without_mark n (marks_in s xs) ≡ remove (marks_in s xs) i
 marks-removed s xs i n rise entry =
     filter-map (λ (e : ℕ × ℕ). mark_from e.0 (slot_of s e)) (λ e. not (e.0 == n)) (λ m. not (m.block == n)) xs (λ e. refl)
     ∙ ap (map (λ (e : ℕ × ℕ). mark_from e.0 (slot_of s e))) (remove-filter xs i n rise entry.in_bounds entry.number)
     ∙ map-remove (λ (e : ℕ × ℕ). mark_from e.0 (slot_of s e)) xs i
 
 -- what an end leaves, as contracts see it
-pub retired_of : (old new : Space) (s t : List (Option Stored)) (xs ys : List (ℕ × ℕ)) (births i n : ℕ) (room : List ℕ) → IsKept old s xs → IsEntry xs n i → new.size ≡ old.size → blocks_in t ys ≡ remove (blocks_in s xs) i → memories_in t ys ≡ remove (memories_in s xs) i → marks_in t ys ≡ remove (marks_in s xs) i → loans_in t ys ≡ loans_in s xs
+pub retired_of : (old new : Space) (s t : List (Option Stored)) (xs ys : List (ℕ × ℕ)) (births i n : ℕ) (room : List ℕ) → AreSlotsKept old s xs → IsEntry xs n i → new.size ≡ old.size → blocks_in t ys ≡ remove (blocks_in s xs) i → memories_in t ys ≡ remove (memories_in s xs) i → marks_in t ys ≡ remove (marks_in s xs) i → loans_in t ys ≡ loans_in s xs
     → IsRetired (device_of old s xs births room) (device_of new t ys births room) n
 retired_of old new s t xs ys births i n room k entry size blocks memories marks loans =
     record {
@@ -117,5 +117,5 @@ retired_of old new s t xs ys births i n room k entry size blocks memories marks 
     }
 
 -- the numbers that are left are at most the births
-pub counted_left : (xs ys : List (ℕ × ℕ)) (births i : ℕ) → IsCounted xs births → ys ≡ remove xs i → IsCounted ys births
+pub counted_left : (xs ys : List (ℕ × ℕ)) (births i : ℕ) → AreNumbersBorn xs births → ys ≡ remove xs i → AreNumbersBorn ys births
 counted_left xs ys births i c is = record { below = rw is (all-remove (λ (e : ℕ × ℕ). e.0 ≤ births) xs i c.below); few = c.few }

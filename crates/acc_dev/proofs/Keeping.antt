@@ -20,7 +20,7 @@ use Rattle.acc_placement.proofs.Partitions.{all_disjoint, all_whole}
 use Rattle.acc_dev.specs.declared.entries.Stored.{Stored}
 use Rattle.acc_dev.specs.Device.{DeviceState, HasBlocksApart, IsLoanOn}
 use Rattle.acc_dev.specs.Marks.{pins_at, is_ended_at, IsSoundMark}
-use Rattle.acc_dev.specs.Kept.{stored_len, stored_bytes, stored_pins, stored_ended, stored_loan, block_from, mark_from, marks_in, loans_in, slot_of, blocks_in, memories_in, AreRising, IsOut, IsInOrOut, IsBacked, IsKept, IsCounted, IsEntry}
+use Rattle.acc_dev.specs.Kept.{stored_len, stored_bytes, stored_pins, stored_ended, stored_loan, block_from, mark_from, marks_in, loans_in, slot_of, blocks_in, memories_in, IsIndexRising, IsOut, IsInOrOut, IsBacked, AreSlotsKept, AreNumbersBorn, IsEntry}
 use Rattle.acc_dev.proofs.Rising.{start, all_at, all_from}
 use Rattle.acc_dev.proofs.Slots.{block_at-entry, bytes_of-entry, pins_at-entry, is_ended_at-entry, block_at-none}
 use Rattle.acc_dev.proofs.Lent.{loans_each, loan_of-entry, len_of-entry, long_entry, ended_free}
@@ -33,16 +33,16 @@ device_of h s xs births room = record { size = h.size; blocks = blocks_in s xs; 
 -- ---- what holds of every device
 
 -- the blocks stand in the order of their births
-rising_blocks : (s : List (Option Stored)) (xs : List (ℕ × ℕ)) → AreRising xs → EachPair (λ (b : Block) (c : Block). b.number < c.number) (blocks_in s xs)
+rising_blocks : (s : List (Option Stored)) (xs : List (ℕ × ℕ)) → IsIndexRising xs → EachPair (λ (b : Block) (c : Block). b.number < c.number) (blocks_in s xs)
 rising_blocks s [] h = tt
 rising_blocks s (x ∷ xs) h = (AllByRecursion-map (λ (b : Block). x.0 < b.number) (λ (e : ℕ × ℕ). block_from e.0 (slot_of s e)) xs h.0, rising_blocks s xs h.1)
 
 -- the holes and the blocks are the device
-pub shared : (h : Space) (s : List (Option Stored)) (xs : List (ℕ × ℕ)) → IsKept h s xs → IsShared h (blocks_in s xs)
+pub shared : (h : Space) (s : List (Option Stored)) (xs : List (ℕ × ℕ)) → AreSlotsKept h s xs → IsShared h (blocks_in s xs)
 shared h s xs k = record { base = k.base; canonical = k.canonical; partition = k.partition }
 
 -- blocks lie on the device and apart
-pub apart_of : (h : Space) (s : List (Option Stored)) (xs : List (ℕ × ℕ)) (births : ℕ) (room : List ℕ) → IsKept h s xs → IsCounted xs births → HasBlocksApart (device_of h s xs births room)
+pub apart_of : (h : Space) (s : List (Option Stored)) (xs : List (ℕ × ℕ)) (births : ℕ) (room : List ℕ) → AreSlotsKept h s xs → AreNumbersBorn xs births → HasBlocksApart (device_of h s xs births room)
 apart_of h s xs births room k c = record {
   on_device = on_device h (blocks_in s xs) k.base k.lens k.partition.within k.partition.aligned;
   apart = clear_of (blocks_in s xs) (some_bytes (blocks_in s xs) k.lens) (rising_blocks s xs k.rising) k.partition.disjoint;
@@ -50,7 +50,7 @@ apart_of h s xs births room k c = record {
 }
 
 -- with the holes they are the device
-pub divided : (h : Space) (s : List (Option Stored)) (xs : List (ℕ × ℕ)) → IsKept h s xs → IsDevice h.size (blocks_in s xs)
+pub divided : (h : Space) (s : List (Option Stored)) (xs : List (ℕ × ℕ)) → AreSlotsKept h s xs → IsDevice h.size (blocks_in s xs)
 divided h s xs k =
     let ts : List (ℕ × ℕ) = map taken_range (blocks_in s xs) in (
       h.holes,
@@ -63,11 +63,11 @@ divided h s xs k =
     )
 
 -- and take no more bytes than it has
-pub used_within : (h : Space) (s : List (Option Stored)) (xs : List (ℕ × ℕ)) → IsKept h s xs → used_bytes (blocks_in s xs) ≤ h.size
+pub used_within : (h : Space) (s : List (Option Stored)) (xs : List (ℕ × ℕ)) → AreSlotsKept h s xs → used_bytes (blocks_in s xs) ≤ h.size
 used_within h s xs k = omega (arith, total-used (blocks_in s xs), k.partition.sizes)
 
 -- the block of the loan of a slot is there and mapped, and the section lies in it
-loan_on : (h : Space) (s : List (Option Stored)) (xs : List (ℕ × ℕ)) (births i : ℕ) (room : List ℕ) (l : Loan) → IsKept h s xs → i < length xs → stored_loan (slot_of s (get_or xs i start)) ≡ Some l → IsLoanOn (device_of h s xs births room) l
+loan_on : (h : Space) (s : List (Option Stored)) (xs : List (ℕ × ℕ)) (births i : ℕ) (room : List ℕ) (l : Loan) → AreSlotsKept h s xs → i < length xs → stored_loan (slot_of s (get_or xs i start)) ≡ Some l → IsLoanOn (device_of h s xs births room) l
 loan_on h s xs births i room l k lt is =
     let n = (get_or xs i start).0 in
     let o = slot_of s (get_or xs i start) in
@@ -80,7 +80,7 @@ loan_on h s xs births i room l k lt is =
     }
 
 -- and so it is with each loan
-pub loans_on : (h : Space) (s : List (Option Stored)) (xs : List (ℕ × ℕ)) (births : ℕ) (room : List ℕ) → IsKept h s xs → AllByRecursion (IsLoanOn (device_of h s xs births room)) (loans_in s xs)
+pub loans_on : (h : Space) (s : List (Option Stored)) (xs : List (ℕ × ℕ)) (births : ℕ) (room : List ℕ) → AreSlotsKept h s xs → AllByRecursion (IsLoanOn (device_of h s xs births room)) (loans_in s xs)
 loans_on h s xs births room k =
     loans_each (IsLoanOn (device_of h s xs births room)) s xs (all_from (λ (e : ℕ × ℕ). (l : Loan) → stored_loan (slot_of s e) ≡ Some l → IsLoanOn (device_of h s xs births room) l) xs start (λ i lt l is. loan_on h s xs births i room l k lt is))
 
@@ -91,7 +91,7 @@ pub entry_read : (xs : List (ℕ × ℕ)) (i : ℕ) (e : ℕ × ℕ) → e ≡ g
 entry_read xs i e read lt = get_or_default xs i start e lt ∙ sym read
 
 -- the block of a number is there exactly where the search finds it
-pub found_there : (s : List (Option Stored)) (xs : List (ℕ × ℕ)) (n : ℕ) (o : Option ℕ) → AreRising xs → IfSome o (IsEntry xs n) → IfNone o (AllByRecursion (λ e. e.0 ≡ n → ⊥) xs) → IsTrue (is_some o) ↔ IsSome (block_at n (blocks_in s xs))
+pub found_there : (s : List (Option Stored)) (xs : List (ℕ × ℕ)) (n : ℕ) (o : Option ℕ) → IsIndexRising xs → IfSome o (IsEntry xs n) → IfNone o (AllByRecursion (λ e. e.0 ≡ n → ⊥) xs) → IsTrue (is_some o) ↔ IsSome (block_at n (blocks_in s xs))
 found_there s xs n None rise found none = (λ e. absurd (false≢true e), λ some. subst IsSome (block_at-none s xs n none) some)
 found_there s xs n (Some i) rise found none = (λ e. subst IsSome (sym (block_at-entry s xs i n rise found)) refl, λ some. refl)
 
@@ -119,19 +119,19 @@ pub record TellsStored (s : List (Option Stored)) (xs : List (ℕ × ℕ)) (n : 
 pub len_from : (s : List (Option Stored)) (xs : List (ℕ × ℕ)) (i : ℕ) → AllByRecursion (λ b. IsFromOne MEMORY_MAX b.len) (blocks_in s xs) → i < length xs → IsFromOne MEMORY_MAX (stored_len (slot_of s (get_or xs i start)))
 len_from s xs i lens lt = all_at (λ (e : ℕ × ℕ). IsFromOne MEMORY_MAX (stored_len (slot_of s e))) xs i start lt (all-unmap (λ (b : Block). IsFromOne MEMORY_MAX b.len) (λ (e : ℕ × ℕ). block_from e.0 (slot_of s e)) xs lens)
 
-pub len_at : (h : Space) (s : List (Option Stored)) (xs : List (ℕ × ℕ)) (i : ℕ) → IsKept h s xs → i < length xs → IsFromOne MEMORY_MAX (stored_len (slot_of s (get_or xs i start)))
+pub len_at : (h : Space) (s : List (Option Stored)) (xs : List (ℕ × ℕ)) (i : ℕ) → AreSlotsKept h s xs → i < length xs → IsFromOne MEMORY_MAX (stored_len (slot_of s (get_or xs i start)))
 len_at h s xs i k lt = len_from s xs i k.lens lt
 
 -- the same of what its slot has
-pub len_stored : (h : Space) (s : List (Option Stored)) (xs : List (ℕ × ℕ)) (i : ℕ) (x : Stored) → IsKept h s xs → i < length xs → slot_of s (get_or xs i start) ≡ Some x → IsFromOne MEMORY_MAX x.len
+pub len_stored : (h : Space) (s : List (Option Stored)) (xs : List (ℕ × ℕ)) (i : ℕ) (x : Stored) → AreSlotsKept h s xs → i < length xs → slot_of s (get_or xs i start) ≡ Some x → IsFromOne MEMORY_MAX x.len
 len_stored h s xs i x k lt is = subst (λ (o : Option Stored). IsFromOne MEMORY_MAX (stored_len o)) is (len_at h s xs i k lt)
 
 -- each mark may be
-sound_at : (h : Space) (s : List (Option Stored)) (xs : List (ℕ × ℕ)) (i : ℕ) → IsKept h s xs → i < length xs → IsSoundMark (mark_from (get_or xs i start).0 (slot_of s (get_or xs i start)))
+sound_at : (h : Space) (s : List (Option Stored)) (xs : List (ℕ × ℕ)) (i : ℕ) → AreSlotsKept h s xs → i < length xs → IsSoundMark (mark_from (get_or xs i start).0 (slot_of s (get_or xs i start)))
 sound_at h s xs i k lt = all_at (λ (e : ℕ × ℕ). IsSoundMark (mark_from e.0 (slot_of s e))) xs i start lt (all-unmap IsSoundMark (λ (e : ℕ × ℕ). mark_from e.0 (slot_of s e)) xs k.marks)
 
 -- what the slot of an entry has is the block
-pub stored_at : (h : Space) (s : List (Option Stored)) (xs : List (ℕ × ℕ)) (i n : ℕ) (x : Stored) → IsKept h s xs → IsEntry xs n i → slot_of s (get_or xs i start) ≡ Some x → TellsStored s xs n x
+pub stored_at : (h : Space) (s : List (Option Stored)) (xs : List (ℕ × ℕ)) (i n : ℕ) (x : Stored) → AreSlotsKept h s xs → IsEntry xs n i → slot_of s (get_or xs i start) ≡ Some x → TellsStored s xs n x
 stored_at h s xs i n x k entry is =
     record {
       block = rw (block_at-entry s xs i n k.rising entry, is, entry.number);
@@ -146,15 +146,15 @@ stored_at h s xs i n x k entry is =
     }
 
 -- the slot of an entry is not empty
-pub filled_at : (h : Space) (s : List (Option Stored)) (xs : List (ℕ × ℕ)) (i : ℕ) → IsKept h s xs → i < length xs → IsSome (slot_of s (get_or xs i start))
+pub filled_at : (h : Space) (s : List (Option Stored)) (xs : List (ℕ × ℕ)) (i : ℕ) → AreSlotsKept h s xs → i < length xs → IsSome (slot_of s (get_or xs i start))
 filled_at h s xs i k lt = all_at (λ (e : ℕ × ℕ). IsSome (slot_of s e)) xs i start lt k.filled
 
 -- the slot of an entry that was read is not empty
-pub filled_read : (h : Space) (s : List (Option Stored)) (xs : List (ℕ × ℕ)) (i : ℕ) (e : ℕ × ℕ) → IsKept h s xs → e ≡ get_or xs i e → i < length xs → IsSome (get_or s e.1 None)
+pub filled_read : (h : Space) (s : List (Option Stored)) (xs : List (ℕ × ℕ)) (i : ℕ) (e : ℕ × ℕ) → AreSlotsKept h s xs → e ≡ get_or xs i e → i < length xs → IsSome (get_or s e.1 None)
 filled_read h s xs i e k read lt = subst (λ (d : ℕ × ℕ). IsSome (slot_of s d)) (entry_read xs i e read lt) (filled_at h s xs i k lt)
 
 -- the same of a reference into the slab
-pub told_stored : (h : Space) (s : List (Option Stored)) (xs : List (ℕ × ℕ)) (i n : ℕ) (r : Option (Bor Stored)) → IsKept h s xs → IsEntry xs n i → option_copied r ≡ slot_of s (get_or xs i start) → IsSomeAnd r (λ x. TellsStored s xs n x.now)
+pub told_stored : (h : Space) (s : List (Option Stored)) (xs : List (ℕ × ℕ)) (i n : ℕ) (r : Option (Bor Stored)) → AreSlotsKept h s xs → IsEntry xs n i → option_copied r ≡ slot_of s (get_or xs i start) → IsSomeAnd r (λ x. TellsStored s xs n x.now)
 told_stored h s xs i n None k entry is = absurd (false≢true (subst IsSome (sym is) (filled_at h s xs i k entry.in_bounds)))
 told_stored h s xs i n (Some x) k entry is = stored_at h s xs i n x.now k entry (sym is)
 
@@ -175,7 +175,7 @@ pub record TellsReference (d : DeviceState) (n : ℕ) (r : Option (Bor Stored)) 
   pub free : IfSome r (λ x. x.now.ended ≡ true → is_lent n d.loans ≡ false)
 
 -- what such a reference tells
-pub told_reference : (h : Space) (s : List (Option Stored)) (xs : List (ℕ × ℕ)) (births i n : ℕ) (room : List ℕ) (e : ℕ × ℕ) (r : Option (Bor Stored)) → IsKept h s xs → IsEntry xs n i → e ≡ get_or xs i e → option_copied r ≡ get_or s e.1 None
+pub told_reference : (h : Space) (s : List (Option Stored)) (xs : List (ℕ × ℕ)) (births i n : ℕ) (room : List ℕ) (e : ℕ × ℕ) (r : Option (Bor Stored)) → AreSlotsKept h s xs → IsEntry xs n i → e ≡ get_or xs i e → option_copied r ≡ get_or s e.1 None
     → TellsReference (device_of h s xs births room) n r
 told_reference h s xs births i n room e r k entry read is =
     let same : get_or xs i start ≡ e = get_or_default xs i start e entry.in_bounds ∙ sym read in

@@ -10,7 +10,7 @@ use Rattle.acc_base.specs.Accounts.{EachPair, IsMemoryOf}
 use Rattle.acc_base.proofs.Elements.{AllByRecursion-weaker}
 use Rattle.acc_dev.specs.declared.entries.Stored.{Stored}
 use Rattle.acc_dev.specs.Device.{AreLoansRising}
-use Rattle.acc_dev.specs.Kept.{stored_len, stored_bytes, stored_ended, stored_loan, slot_of, blocks_in, memories_in, loans_in, loan_before, AreRising, IsEntry, IsInOrOut, IsBacked}
+use Rattle.acc_dev.specs.Kept.{stored_len, stored_bytes, stored_ended, stored_loan, slot_of, blocks_in, memories_in, loans_in, loan_before, IsIndexRising, IsEntry, IsInOrOut, IsBacked}
 use Rattle.acc_dev.proofs.Rising.{start, all_at, all_from}
 use Rattle.acc_dev.proofs.Slots.{AreSame, AreTold, KeepsOthers, block_at-entry}
 use Rattle.acc_dev.proofs.Lending.{loan_of-here, loan_of-later, loan_of-none, with_loan-first, with_loan-later, without_loan-none, without_loan-here, without_loan-later}
@@ -40,7 +40,7 @@ loans_each P s (x ∷ xs) h = go (loans_each P s xs h.1) (stored_loan (slot_of s
     go rest (Some l) is = (h.0 l is, rest)
 
 -- loans rise with the index
-pub loans_rise : (s : List (Option Stored)) (xs : List (ℕ × ℕ)) → AreRising xs → AreBacked s xs → AreLoansRising (loans_in s xs)
+pub loans_rise : (s : List (Option Stored)) (xs : List (ℕ × ℕ)) → IsIndexRising xs → AreBacked s xs → AreLoansRising (loans_in s xs)
 loans_rise s [] rise backed = tt
 loans_rise s (x ∷ xs) rise backed = go (loans_rise s xs rise.1 backed.1) (loans_all (λ n. x.0 < n) s xs backed.1 rise.0) (stored_loan (slot_of s x)) backed.0
   where
@@ -53,7 +53,7 @@ behind_off : (x : ℕ × ℕ) (n : ℕ) (xs : List (ℕ × ℕ)) → x.0 ≡ n �
 behind_off x n xs is above = AllByRecursion-weaker (λ (e : ℕ × ℕ). x.0 < e.0) (λ e. e.0 ≡ n → ⊥) xs (λ e less same. omega arith) above
 
 -- the loan of a number is that of the slot of its entry
-pub loan_of-entry : (s : List (Option Stored)) (xs : List (ℕ × ℕ)) (i n : ℕ) → AreRising xs → AreBacked s xs → i < length xs → (get_or xs i start).0 ≡ n → loan_of n (loans_in s xs) ≡ stored_loan (slot_of s (get_or xs i start))
+pub loan_of-entry : (s : List (Option Stored)) (xs : List (ℕ × ℕ)) (i n : ℕ) → IsIndexRising xs → AreBacked s xs → i < length xs → (get_or xs i start).0 ≡ n → loan_of n (loans_in s xs) ≡ stored_loan (slot_of s (get_or xs i start))
 loan_of-entry s [] i n rise backed lt is = absurd (omega arith)
 loan_of-entry s (x ∷ xs) zero n rise backed lt is = go (loan_of-none n (loans_in s xs) (loans_all (λ m. m ≡ n → ⊥) s xs backed.1 (behind_off x n xs is rise.0))) (stored_loan (slot_of s x)) backed.0
   where
@@ -101,7 +101,7 @@ rest_same : (s t : List (Option Stored)) (x : ℕ × ℕ) (xs : List (ℕ × ℕ
 rest_same s t x xs others distinct = AllByRecursion-weaker (λ (e : ℕ × ℕ). x.1 ≡ e.1 → ⊥) (λ e. slot_of t e ≡ slot_of s e) xs (λ e differs. others e.1 (λ same. differs (sym same))) distinct
 
 -- a slot that is lent is a loan more
-pub loans_in-lent : (s t : List (Option Stored)) (xs : List (ℕ × ℕ)) (i : ℕ) (loan : Loan) → AreRising xs → EachPair (λ d e. d.1 ≡ e.1 → ⊥) xs → AreBacked s xs → i < length xs → KeepsOthers s t (get_or xs i start).1 → loan.block ≡ (get_or xs i start).0
+pub loans_in-lent : (s t : List (Option Stored)) (xs : List (ℕ × ℕ)) (i : ℕ) (loan : Loan) → IsIndexRising xs → EachPair (λ d e. d.1 ≡ e.1 → ⊥) xs → AreBacked s xs → i < length xs → KeepsOthers s t (get_or xs i start).1 → loan.block ≡ (get_or xs i start).0
     → stored_loan (slot_of s (get_or xs i start)) ≡ None → stored_loan (slot_of t (get_or xs i start)) ≡ Some loan → loans_in t xs ≡ with_loan loan (loans_in s xs)
 loans_in-lent s t [] i loan rise distinct backed lt others block none some = absurd (omega arith)
 loans_in-lent s t (x ∷ xs) zero loan rise distinct backed lt others block none some =
@@ -120,7 +120,7 @@ loans_in-lent s t (x ∷ xs) (suc i) loan rise distinct backed lt others block n
     go below (Some l) out = sym (with_loan-later loan l (loans_in s xs) (let block : l.block ≡ x.0 = out.block in omega arith))
 
 -- and one that is lent no longer a loan less
-pub loans_in-restored : (s t : List (Option Stored)) (xs : List (ℕ × ℕ)) (i n : ℕ) → AreRising xs → EachPair (λ d e. d.1 ≡ e.1 → ⊥) xs → AreBacked s xs → i < length xs → KeepsOthers s t (get_or xs i start).1 → (get_or xs i start).0 ≡ n
+pub loans_in-restored : (s t : List (Option Stored)) (xs : List (ℕ × ℕ)) (i n : ℕ) → IsIndexRising xs → EachPair (λ d e. d.1 ≡ e.1 → ⊥) xs → AreBacked s xs → i < length xs → KeepsOthers s t (get_or xs i start).1 → (get_or xs i start).0 ≡ n
     → stored_loan (slot_of t (get_or xs i start)) ≡ None → loans_in t xs ≡ without_loan n (loans_in s xs)
 loans_in-restored s t [] i n rise distinct backed lt others is none = absurd (omega arith)
 loans_in-restored s t (x ∷ xs) zero n rise distinct backed lt others is none =
@@ -181,7 +181,7 @@ backed_like n a b len bytes loan mapped backed = subst (IsInOrOut n b) (sym loan
 -- ---- memories
 
 -- a slot that is not lent has as many bytes as its block is long
-pub long_entry : (s : List (Option Stored)) (xs : List (ℕ × ℕ)) (i n : ℕ) → AreRising xs → AreBacked s xs → i < length xs → (get_or xs i start).0 ≡ n → is_lent n (loans_in s xs) ≡ false → length (stored_bytes (slot_of s (get_or xs i start))) ≡ stored_len (slot_of s (get_or xs i start))
+pub long_entry : (s : List (Option Stored)) (xs : List (ℕ × ℕ)) (i n : ℕ) → IsIndexRising xs → AreBacked s xs → i < length xs → (get_or xs i start).0 ≡ n → is_lent n (loans_in s xs) ≡ false → length (stored_bytes (slot_of s (get_or xs i start))) ≡ stored_len (slot_of s (get_or xs i start))
 long_entry s xs i n rise backed lt is free = go (stored_loan (slot_of s (get_or xs i start))) (loan_of-entry s xs i n rise backed lt is) (all_at (λ (e : ℕ × ℕ). IsBacked e.0 (slot_of s e)) xs i start lt backed)
   where
     go : (o : Option Loan) → loan_of n (loans_in s xs) ≡ o → IsInOrOut (get_or xs i start).0 (slot_of s (get_or xs i start)) o → length (stored_bytes (slot_of s (get_or xs i start))) ≡ stored_len (slot_of s (get_or xs i start))
@@ -189,7 +189,7 @@ long_entry s xs i n rise backed lt is free = go (stored_loan (slot_of s (get_or 
     go (Some l) found h = absurd (false≢true (sym free ∙ ap (λ (o : Option Loan). is_some o) found))
 
 -- a block that has ended is not lent
-pub ended_free : (s : List (Option Stored)) (xs : List (ℕ × ℕ)) (i n : ℕ) → AreRising xs → AreBacked s xs → i < length xs → (get_or xs i start).0 ≡ n → stored_ended (slot_of s (get_or xs i start)) ≡ true → is_lent n (loans_in s xs) ≡ false
+pub ended_free : (s : List (Option Stored)) (xs : List (ℕ × ℕ)) (i n : ℕ) → IsIndexRising xs → AreBacked s xs → i < length xs → (get_or xs i start).0 ≡ n → stored_ended (slot_of s (get_or xs i start)) ≡ true → is_lent n (loans_in s xs) ≡ false
 ended_free s xs i n rise backed lt is ended = go (stored_loan (slot_of s (get_or xs i start))) (loan_of-entry s xs i n rise backed lt is) (all_at (λ (e : ℕ × ℕ). IsBacked e.0 (slot_of s e)) xs i start lt backed)
   where
     go : (o : Option Loan) → loan_of n (loans_in s xs) ≡ o → IsInOrOut (get_or xs i start).0 (slot_of s (get_or xs i start)) o → is_lent n (loans_in s xs) ≡ false
@@ -202,9 +202,9 @@ zip_from s loans [] h = tt
 zip_from s loans (x ∷ xs) h = (record { block = refl; len = h.0 }, zip_from s loans xs h.1)
 
 -- the memories run in step with the blocks
-pub in_step : (s : List (Option Stored)) (xs : List (ℕ × ℕ)) → AreRising xs → AreBacked s xs → AllZip (IsMemoryOf (loans_in s xs)) (memories_in s xs) (blocks_in s xs)
+pub in_step : (s : List (Option Stored)) (xs : List (ℕ × ℕ)) → IsIndexRising xs → AreBacked s xs → AllZip (IsMemoryOf (loans_in s xs)) (memories_in s xs) (blocks_in s xs)
 in_step s xs rise backed = zip_from s (loans_in s xs) xs (all_from (λ (e : ℕ × ℕ). is_lent e.0 (loans_in s xs) ≡ false → length (stored_bytes (slot_of s e)) ≡ stored_len (slot_of s e)) xs start (λ i lt. long_entry s xs i (get_or xs i start).0 rise backed lt refl))
 
 -- the length of a block is that of the slot of its entry
-pub len_of-entry : (s : List (Option Stored)) (xs : List (ℕ × ℕ)) (i n : ℕ) → AreRising xs → IsEntry xs n i → len_of n (blocks_in s xs) ≡ stored_len (slot_of s (get_or xs i start))
+pub len_of-entry : (s : List (Option Stored)) (xs : List (ℕ × ℕ)) (i n : ℕ) → IsIndexRising xs → IsEntry xs n i → len_of n (blocks_in s xs) ≡ stored_len (slot_of s (get_or xs i start))
 len_of-entry s xs i n rise entry = ap (λ o. unwrap_or (option_map (λ (b : Block). b.len) o) 0) (block_at-entry s xs i n rise entry)

@@ -10,7 +10,7 @@ use Rattle.std.proofs.lemmas.Bool.Decides.{nat_tests}
 use Rattle.std.proofs.lemmas.Cmp.{ranked}
 use Rattle.std.proofs.lemmas.List.Sorted.{IsNonDecreasingBy-from_default}
 use Rattle.acc_base.specs.Accounts.{EachPair}
-use Rattle.acc_dev.specs.Kept.{AreRising, IsEntry}
+use Rattle.acc_dev.specs.Kept.{IsIndexRising, IsEntry}
 
 -- ---- each element
 
@@ -71,27 +71,27 @@ abbrev pub start : ℕ × ℕ
 start = (0, 0)
 
 -- of two entries the later one has the greater number
-pub rise_at : (xs : List (ℕ × ℕ)) (i j : ℕ) → AreRising xs → i < j → j < length xs → (get_or xs i start).0 < (get_or xs j start).0
+pub rise_at : (xs : List (ℕ × ℕ)) (i j : ℕ) → IsIndexRising xs → i < j → j < length xs → (get_or xs i start).0 < (get_or xs j start).0
 rise_at [] i j r lt within = absurd (omega arith)
 rise_at (x ∷ xs) i zero r lt within = absurd (omega arith)
 rise_at (x ∷ xs) zero (suc j) r lt within = all_at (λ (e : ℕ × ℕ). x.0 < e.0) xs j start (omega arith) r.0
 rise_at (x ∷ xs) (suc i) (suc j) r lt within = rise_at xs i j r.1 (omega arith) (omega arith)
 
 -- of two entries, which may be one, the later one has no lesser number
-rise_to : (xs : List (ℕ × ℕ)) (i j : ℕ) → AreRising xs → i ≤ j → j < length xs → (get_or xs i start).0 ≤ (get_or xs j start).0
+rise_to : (xs : List (ℕ × ℕ)) (i j : ℕ) → IsIndexRising xs → i ≤ j → j < length xs → (get_or xs i start).0 ≤ (get_or xs j start).0
 rise_to xs i j r le within = elim (cases_eq i j) [
   | inl same ↦ omega (arith, ap (λ (k : ℕ). (get_or xs k start).0) same)
   | inr differs ↦ omega (arith, rise_at xs i j r (omega arith) within)
 ]
 
 -- the comparisons with a number rise along the index, as a binary search asks
-comparisons_rise : (xs : List (ℕ × ℕ)) (n : ℕ) → AreRising xs → IsNonDecreasingBy (λ (e : ℕ × ℕ). ordering_index (nat_cmp e.0 n)) xs
+comparisons_rise : (xs : List (ℕ × ℕ)) (n : ℕ) → IsIndexRising xs → IsNonDecreasingBy (λ (e : ℕ × ℕ). ordering_index (nat_cmp e.0 n)) xs
 comparisons_rise xs n r = IsNonDecreasingBy-from_default (λ (e : ℕ × ℕ). ordering_index (nat_cmp e.0 n)) xs start (λ i j le within.
     let up : (get_or xs i start).0 ≤ (get_or xs j start).0 = rise_to xs i j r le within in
     grind (arith, nat_tests))
 
 -- a binary search ends at the number, or the number is not there
-pub searched : (xs : List (ℕ × ℕ)) (n : ℕ) (r : Result ℕ ℕ) → AreRising xs → IsSearchInRange r (length xs) → IsBinarySearchResult (λ (e : ℕ × ℕ). nat_cmp e.0 n) xs r → IfSome (result_ok r) (IsEntry xs n) × IfNone (result_ok r) (AllByRecursion (λ e. e.0 ≡ n → ⊥) xs)
+pub searched : (xs : List (ℕ × ℕ)) (n : ℕ) (r : Result ℕ ℕ) → IsIndexRising xs → IsSearchInRange r (length xs) → IsBinarySearchResult (λ (e : ℕ × ℕ). nat_cmp e.0 n) xs r → IfSome (result_ok r) (IsEntry xs n) × IfNone (result_ok r) (AllByRecursion (λ e. e.0 ≡ n → ⊥) xs)
 searched xs n (Ok at) rise range equal = (record { in_bounds = range; number = ranked _ n _ (sym (equal start)) }, tt)
 searched xs n (Err at) rise range parted =
     let parts = parted (comparisons_rise xs n rise) in (
@@ -103,7 +103,7 @@ searched xs n (Err at) rise range parted =
     )
 
 -- a search by number finds the entry of that number
-pub find_at : (xs : List (ℕ × ℕ)) (i n : ℕ) → AreRising xs → i < length xs → (get_or xs i start).0 ≡ n → find (λ e. e.0 == n) xs ≡ Some (get_or xs i start)
+pub find_at : (xs : List (ℕ × ℕ)) (i n : ℕ) → IsIndexRising xs → i < length xs → (get_or xs i start).0 ≡ n → find (λ e. e.0 == n) xs ≡ Some (get_or xs i start)
 find_at [] i n r lt is = absurd (omega arith)
 find_at (x ∷ xs) zero n r lt is = let t : (x.0 == n) ≡ true = grind (arith, nat_tests) in rw t
 find_at (x ∷ xs) (suc i) n r lt is =
@@ -120,7 +120,7 @@ filter_none (x ∷ xs) n h =
     rw t (ap (λ ys. x ∷ ys) (filter_none xs n h.1))
 
 -- taking out the entry at a place is leaving out its number
-pub remove-filter : (xs : List (ℕ × ℕ)) (i n : ℕ) → AreRising xs → i < length xs → (get_or xs i start).0 ≡ n → filter (λ e. not (e.0 == n)) xs ≡ remove xs i
+pub remove-filter : (xs : List (ℕ × ℕ)) (i n : ℕ) → IsIndexRising xs → i < length xs → (get_or xs i start).0 ≡ n → filter (λ e. not (e.0 == n)) xs ≡ remove xs i
 remove-filter [] i n r lt is = absurd (omega arith)
 remove-filter (x ∷ xs) zero n r lt is =
     let t : (x.0 == n) ≡ true = grind (arith, nat_tests) in

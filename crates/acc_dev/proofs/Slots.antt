@@ -13,7 +13,7 @@ use Rattle.acc_base.proofs.Elements.{AllByRecursion-weaker}
 use Rattle.acc_base.proofs.Results.{equal_self}
 use Rattle.acc_dev.specs.declared.entries.Stored.{Stored}
 use Rattle.acc_dev.specs.Marks.{Mark, mark_at, pins_at, is_ended_at, mark_changed, IsMarkOf}
-use Rattle.acc_dev.specs.Kept.{stored_place, stored_len, stored_bytes, stored_pins, stored_ended, block_from, memory_from, mark_from, slot_of, blocks_in, memories_in, marks_in, AreRising, IsEntry}
+use Rattle.acc_dev.specs.Kept.{stored_place, stored_len, stored_bytes, stored_pins, stored_ended, block_from, memory_from, mark_from, slot_of, blocks_in, memories_in, marks_in, IsIndexRising, IsEntry}
 use Rattle.acc_dev.proofs.Rising.{start, all_at, find_at, find-map, map-remove}
 
 -- the slots of these entries are as they were
@@ -61,12 +61,12 @@ made-removed f s t xs i same = map-same f s t (remove xs i) same ∙ map-remove 
 -- ---- look-ups
 
 -- the block of a number is what the slot of its entry has
-pub block_at-entry : (s : List (Option Stored)) (xs : List (ℕ × ℕ)) (i n : ℕ) → AreRising xs → IsEntry xs n i → block_at n (blocks_in s xs) ≡ Some (block_from (get_or xs i start).0 (slot_of s (get_or xs i start)))
+pub block_at-entry : (s : List (Option Stored)) (xs : List (ℕ × ℕ)) (i n : ℕ) → IsIndexRising xs → IsEntry xs n i → block_at n (blocks_in s xs) ≡ Some (block_from (get_or xs i start).0 (slot_of s (get_or xs i start)))
 block_at-entry s xs i n rise entry =
     find-map (λ (e : ℕ × ℕ). block_from e.0 (slot_of s e)) (λ e. e.0 == n) (λ b. b.number == n) xs (λ e. refl) ∙ ap (option_map (λ (e : ℕ × ℕ). block_from e.0 (slot_of s e))) (find_at xs i n rise entry.in_bounds entry.number)
 
 -- the bytes of a number are those of the slot of its entry
-pub bytes_of-entry : (s : List (Option Stored)) (xs : List (ℕ × ℕ)) (i n : ℕ) → AreRising xs → IsEntry xs n i → bytes_of n (memories_in s xs) ≡ stored_bytes (slot_of s (get_or xs i start))
+pub bytes_of-entry : (s : List (Option Stored)) (xs : List (ℕ × ℕ)) (i n : ℕ) → IsIndexRising xs → IsEntry xs n i → bytes_of n (memories_in s xs) ≡ stored_bytes (slot_of s (get_or xs i start))
 bytes_of-entry s xs i n rise entry =
     ap (λ o. unwrap_or (option_map (λ (m : Memory). m.bytes) o) [])
     (find-map (λ (e : ℕ × ℕ). memory_from e.0 (slot_of s e)) (λ e. e.0 == n) (λ m. m.block == n) xs (λ e. refl) ∙ ap (option_map (λ (e : ℕ × ℕ). memory_from e.0 (slot_of s e))) (find_at xs i n rise entry.in_bounds entry.number))
@@ -89,16 +89,16 @@ marks_in_step s [] = tt
 marks_in_step s (x ∷ xs) = (refl, marks_in_step s xs)
 
 -- the mark of a number is what the slot of its entry has
-mark_at-entry : (s : List (Option Stored)) (xs : List (ℕ × ℕ)) (i n : ℕ) → AreRising xs → IsEntry xs n i → mark_at n (marks_in s xs) ≡ Some (mark_from (get_or xs i start).0 (slot_of s (get_or xs i start)))
+mark_at-entry : (s : List (Option Stored)) (xs : List (ℕ × ℕ)) (i n : ℕ) → IsIndexRising xs → IsEntry xs n i → mark_at n (marks_in s xs) ≡ Some (mark_from (get_or xs i start).0 (slot_of s (get_or xs i start)))
 mark_at-entry s xs i n rise entry =
     find-map (λ (e : ℕ × ℕ). mark_from e.0 (slot_of s e)) (λ e. e.0 == n) (λ m. m.block == n) xs (λ e. refl) ∙ ap (option_map (λ (e : ℕ × ℕ). mark_from e.0 (slot_of s e))) (find_at xs i n rise entry.in_bounds entry.number)
 
 -- so are its pins
-pub pins_at-entry : (s : List (Option Stored)) (xs : List (ℕ × ℕ)) (i n : ℕ) → AreRising xs → IsEntry xs n i → pins_at n (marks_in s xs) ≡ stored_pins (slot_of s (get_or xs i start))
+pub pins_at-entry : (s : List (Option Stored)) (xs : List (ℕ × ℕ)) (i n : ℕ) → IsIndexRising xs → IsEntry xs n i → pins_at n (marks_in s xs) ≡ stored_pins (slot_of s (get_or xs i start))
 pins_at-entry s xs i n rise entry = ap (λ o. unwrap_or (option_map (λ (m : Mark). m.pins) o) 0) (mark_at-entry s xs i n rise entry)
 
 -- and whether it has ended
-pub is_ended_at-entry : (s : List (Option Stored)) (xs : List (ℕ × ℕ)) (i n : ℕ) → AreRising xs → IsEntry xs n i → is_ended_at n (marks_in s xs) ≡ stored_ended (slot_of s (get_or xs i start))
+pub is_ended_at-entry : (s : List (Option Stored)) (xs : List (ℕ × ℕ)) (i n : ℕ) → IsIndexRising xs → IsEntry xs n i → is_ended_at n (marks_in s xs) ≡ stored_ended (slot_of s (get_or xs i start))
 is_ended_at-entry s xs i n rise entry = ap (λ o. unwrap_or (option_map (λ (m : Mark). m.ended) o) false) (mark_at-entry s xs i n rise entry)
 
 -- ---- a change of one slot
@@ -143,7 +143,7 @@ abbrev pub AreTold : List (ℕ × ℕ) → ℕ → ℕ → Type 0
 AreTold xs n k = AllByRecursion (λ e. ((e.0 ≡ n) × (e.1 ≡ k)) ⊎ ((e.0 ≡ n → ⊥) × (e.1 ≡ k → ⊥))) xs
 
 -- the entries are told apart by their numbers as by their slots
-pub told : (xs : List (ℕ × ℕ)) (i : ℕ) → AreRising xs → EachPair (λ d e. d.1 ≡ e.1 → ⊥) xs → i < length xs → AreTold xs (get_or xs i start).0 (get_or xs i start).1
+pub told : (xs : List (ℕ × ℕ)) (i : ℕ) → IsIndexRising xs → EachPair (λ d e. d.1 ≡ e.1 → ⊥) xs → i < length xs → AreTold xs (get_or xs i start).0 (get_or xs i start).1
 told [] i rise distinct lt = absurd (omega arith)
 told (x ∷ xs) zero rise distinct lt = (inl (refl, refl), off xs rise.0 distinct.0)
   where
@@ -176,7 +176,7 @@ changed_elsewhere : (n : ℕ) (change : List ℕ → List ℕ) (m : ℕ) (o : Op
 changed_elsewhere n change m o differs = let t : (m == n) ≡ false = grind (arith, nat_tests, differs) in rw t
 
 -- a change of the bytes of an entry's slot changes the memory of its block alone
-pub memories_in-changed : (s t : List (Option Stored)) (xs : List (ℕ × ℕ)) (i n : ℕ) (change : List ℕ → List ℕ) → AreRising xs → EachPair (λ d e. d.1 ≡ e.1 → ⊥) xs → IsEntry xs n i → KeepsOthers s t (get_or xs i start).1
+pub memories_in-changed : (s t : List (Option Stored)) (xs : List (ℕ × ℕ)) (i n : ℕ) (change : List ℕ → List ℕ) → IsIndexRising xs → EachPair (λ d e. d.1 ≡ e.1 → ⊥) xs → IsEntry xs n i → KeepsOthers s t (get_or xs i start).1
     → stored_bytes (get_or t (get_or xs i start).1 None) ≡ change (stored_bytes (get_or s (get_or xs i start).1 None)) → memories_in t xs ≡ map (memory_changed n change) (memories_in s xs)
 memories_in-changed s t xs i n change rise distinct entry others is =
     let told_of : AreTold xs n (get_or xs i start).1 = subst (λ (m : ℕ). AreTold xs m (get_or xs i start).1) entry.number (told xs i rise distinct entry.in_bounds) in
@@ -193,7 +193,7 @@ marked_elsewhere : (n : ℕ) (change : Mark → Mark) (m : ℕ) (o : Option Stor
 marked_elsewhere n change m o differs = let t : (m == n) ≡ false = grind (arith, nat_tests, differs) in rw t
 
 -- a change of the mark of an entry's slot changes the mark of its block alone
-pub marks_in-changed : (s t : List (Option Stored)) (xs : List (ℕ × ℕ)) (i n : ℕ) (change : Mark → Mark) → AreRising xs → EachPair (λ d e. d.1 ≡ e.1 → ⊥) xs → IsEntry xs n i → KeepsOthers s t (get_or xs i start).1
+pub marks_in-changed : (s t : List (Option Stored)) (xs : List (ℕ × ℕ)) (i n : ℕ) (change : Mark → Mark) → IsIndexRising xs → EachPair (λ d e. d.1 ≡ e.1 → ⊥) xs → IsEntry xs n i → KeepsOthers s t (get_or xs i start).1
     → mark_from n (get_or t (get_or xs i start).1 None) ≡ change (mark_from n (get_or s (get_or xs i start).1 None)) → marks_in t xs ≡ map (mark_changed n change) (marks_in s xs)
 marks_in-changed s t xs i n change rise distinct entry others is =
     let told_of : AreTold xs n (get_or xs i start).1 = subst (λ (m : ℕ). AreTold xs m (get_or xs i start).1) entry.number (told xs i rise distinct entry.in_bounds) in

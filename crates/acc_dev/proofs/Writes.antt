@@ -11,8 +11,8 @@ use Rattle.acc_placement.specs.Space.{Space}
 use Rattle.slab.specs.Slab.{Slab}
 use Rattle.acc_dev.specs.declared.entries.Stored.{Stored}
 use Rattle.acc_dev.specs.Marks.{Mark, pins_at, is_ended_at, IsSoundMark}
-use Rattle.acc_dev.specs.Device.{IsWritten, IsMarked, IsTakenOut, IsPutBack, overwritten}
-use Rattle.acc_dev.specs.Kept.{stored_place, stored_len, stored_bytes, stored_pins, stored_ended, stored_loan, mark_from, slot_of, blocks_in, memories_in, marks_in, loans_in, IsInOrOut, IsBacked, IsKept, IsEntry, IsRemarked, IsRelent}
+use Rattle.acc_dev.specs.Device.{IsBlockWritten, IsMarked, IsTakenOut, IsPutBack, overwritten}
+use Rattle.acc_dev.specs.Kept.{stored_place, stored_len, stored_bytes, stored_pins, stored_ended, stored_loan, mark_from, slot_of, blocks_in, memories_in, marks_in, loans_in, IsInOrOut, IsBacked, AreSlotsKept, IsEntry, IsRemarked, IsRelent}
 use Rattle.acc_dev.proofs.Rising.{start}
 use Rattle.acc_dev.proofs.Slots.{KeepsOthers, AreTold, told, bytes_of-entry, pins_at-entry, is_ended_at-entry, all_filled, blocks_in-kept, memories_in-kept, marks_in-kept, memories_in-changed, marks_in-changed}
 use Rattle.acc_dev.proofs.Lent.{AreBacked, loan_of-entry, len_of-entry, loans_in-kept, loans_in-lent, loans_in-restored, backed_changed, backed_kept, backed_like}
@@ -26,7 +26,7 @@ some_not_none some none = false≢true (subst IsSome none some)
 
 -- a device keeps what it keeps where one slot changes and still has the block's place and length, with a mark and a loan
 -- that may be
-changed_kept : (h : Space) (s t : List (Option Stored)) (xs : List (ℕ × ℕ)) (k : ℕ) → IsKept h s xs → IsSome (get_or s k None) → IsSome (get_or t k None) → KeepsOthers s t k → blocks_in t xs ≡ blocks_in s xs → AllByRecursion IsSoundMark (marks_in t xs) → AreBacked t xs → IsKept h t xs
+changed_kept : (h : Space) (s t : List (Option Stored)) (xs : List (ℕ × ℕ)) (k : ℕ) → AreSlotsKept h s xs → IsSome (get_or s k None) → IsSome (get_or t k None) → KeepsOthers s t k → blocks_in t xs ≡ blocks_in s xs → AllByRecursion IsSoundMark (marks_in t xs) → AreBacked t xs → AreSlotsKept h t xs
 changed_kept h s t xs k kept some filled others blocks marks backed =
     record {
       base = kept.base;
@@ -42,15 +42,15 @@ changed_kept h s t xs k kept some filled others blocks marks backed =
     }
 
 -- the bytes of a block are those of its slot
-pub bytes_at : (h : Space) (s : List (Option Stored)) (xs : List (ℕ × ℕ)) (i n : ℕ) (e : ℕ × ℕ) → IsKept h s xs → IsEntry xs n i → e ≡ get_or xs i e → bytes_of n (memories_in s xs) ≡ stored_bytes (get_or s e.1 None)
+pub bytes_at : (h : Space) (s : List (Option Stored)) (xs : List (ℕ × ℕ)) (i n : ℕ) (e : ℕ × ℕ) → AreSlotsKept h s xs → IsEntry xs n i → e ≡ get_or xs i e → bytes_of n (memories_in s xs) ≡ stored_bytes (get_or s e.1 None)
 bytes_at h s xs i n e k entry read = bytes_of-entry s xs i n k.rising entry ∙ ap (λ (d : ℕ × ℕ). stored_bytes (slot_of s d)) (entry_read xs i e read entry.in_bounds)
 
 -- the loan of a block is that of its slot
-pub loan_at : (h : Space) (s : List (Option Stored)) (xs : List (ℕ × ℕ)) (i n : ℕ) (e : ℕ × ℕ) → IsKept h s xs → IsEntry xs n i → e ≡ get_or xs i e → loan_of n (loans_in s xs) ≡ stored_loan (get_or s e.1 None)
+pub loan_at : (h : Space) (s : List (Option Stored)) (xs : List (ℕ × ℕ)) (i n : ℕ) (e : ℕ × ℕ) → AreSlotsKept h s xs → IsEntry xs n i → e ≡ get_or xs i e → loan_of n (loans_in s xs) ≡ stored_loan (get_or s e.1 None)
 loan_at h s xs i n e k entry read = loan_of-entry s xs i n k.rising k.backed entry.in_bounds entry.number ∙ ap (λ (d : ℕ × ℕ). stored_loan (slot_of s d)) (entry_read xs i e read entry.in_bounds)
 
 -- a slot whose block is not lent has no loan
-pub free_at : (h : Space) (s : List (Option Stored)) (xs : List (ℕ × ℕ)) (i n : ℕ) → IsKept h s xs → IsEntry xs n i → is_lent n (loans_in s xs) ≡ false → stored_loan (slot_of s (get_or xs i start)) ≡ None
+pub free_at : (h : Space) (s : List (Option Stored)) (xs : List (ℕ × ℕ)) (i n : ℕ) → AreSlotsKept h s xs → IsEntry xs n i → is_lent n (loans_in s xs) ≡ false → stored_loan (slot_of s (get_or xs i start)) ≡ None
 free_at h s xs i n k entry free = go (stored_loan (slot_of s (get_or xs i start))) (loan_of-entry s xs i n k.rising k.backed entry.in_bounds entry.number)
   where
     go : (o : Option Loan) → loan_of n (loans_in s xs) ≡ o → o ≡ None
@@ -58,11 +58,11 @@ free_at h s xs i n k entry free = go (stored_loan (slot_of s (get_or xs i start)
     go (Some l) found = absurd (false≢true (sym free ∙ ap (λ (o : Option Loan). is_some o) found))
 
 -- whether the mapping of a block has ended is what its slot says
-pub ended_at : (h : Space) (s : List (Option Stored)) (xs : List (ℕ × ℕ)) (i n : ℕ) (e : ℕ × ℕ) → IsKept h s xs → IsEntry xs n i → e ≡ get_or xs i e → is_ended_at n (marks_in s xs) ≡ stored_ended (get_or s e.1 None)
+pub ended_at : (h : Space) (s : List (Option Stored)) (xs : List (ℕ × ℕ)) (i n : ℕ) (e : ℕ × ℕ) → AreSlotsKept h s xs → IsEntry xs n i → e ≡ get_or xs i e → is_ended_at n (marks_in s xs) ≡ stored_ended (get_or s e.1 None)
 ended_at h s xs i n e k entry read = is_ended_at-entry s xs i n k.rising entry ∙ ap (λ (d : ℕ × ℕ). stored_ended (slot_of s d)) (entry_read xs i e read entry.in_bounds)
 
 -- the length of a block is that of its slot
-pub long_at : (h : Space) (s : List (Option Stored)) (xs : List (ℕ × ℕ)) (i n : ℕ) (e : ℕ × ℕ) → IsKept h s xs → IsEntry xs n i → e ≡ get_or xs i e → len_of n (blocks_in s xs) ≡ stored_len (get_or s e.1 None)
+pub long_at : (h : Space) (s : List (Option Stored)) (xs : List (ℕ × ℕ)) (i n : ℕ) (e : ℕ × ℕ) → AreSlotsKept h s xs → IsEntry xs n i → e ≡ get_or xs i e → len_of n (blocks_in s xs) ≡ stored_len (get_or s e.1 None)
 long_at h s xs i n e k entry read = len_of-entry s xs i n k.rising entry ∙ ap (λ (d : ℕ × ℕ). stored_len (slot_of s d)) (entry_read xs i e read entry.in_bounds)
 
 -- ---- a write
@@ -80,7 +80,7 @@ pub record IsRewritten (s t : List (Option Stored)) (k offset : ℕ) (bytes : Li
   pub others : KeepsOthers s t k
 
 -- a write leaves what a device keeps
-pub written_kept : (h : Space) (s t : List (Option Stored)) (xs : List (ℕ × ℕ)) (k offset : ℕ) (bytes : List ℕ) → IsKept h s xs → IsSome (get_or s k None) → IsRewritten s t k offset bytes → IsKept h t xs
+pub written_kept : (h : Space) (s t : List (Option Stored)) (xs : List (ℕ × ℕ)) (k offset : ℕ) (bytes : List ℕ) → AreSlotsKept h s xs → IsSome (get_or s k None) → IsRewritten s t k offset bytes → AreSlotsKept h t xs
 written_kept h s t xs k offset bytes kept some w =
     changed_kept h s t xs k kept some w.filled w.others (blocks_in-kept s t k xs w.others w.place w.len) (rw (marks_in-kept s t k xs w.others w.pins w.ended) kept.marks)
     (backed_kept s t k xs w.others (λ n. backed_like n (get_or s k None) (get_or t k None) w.len w.long w.loan (λ lent mapped. w.ended ∙ mapped)) kept.backed)
@@ -97,8 +97,8 @@ rewritten_from s t k offset bytes within filled place is pins ended len loan oth
     record { filled = filled; place = place; bytes_are = is; long = ap length is ∙ length-overwritten offset bytes (stored_bytes (get_or s k None)) within; len = len; loan = loan; pins = pins; ended = ended; others = others }
 
 -- what a write leaves, as contracts see it
-pub written_of : (h : Space) (s t : List (Option Stored)) (xs : List (ℕ × ℕ)) (births i n offset : ℕ) (room : List ℕ) (e : ℕ × ℕ) (bytes : List ℕ) → IsKept h s xs → IsEntry xs n i → e ≡ get_or xs i e → IsRewritten s t e.1 offset bytes
-    → IsWritten (device_of h s xs births room) (device_of h t xs births room) n offset bytes
+pub written_of : (h : Space) (s t : List (Option Stored)) (xs : List (ℕ × ℕ)) (births i n offset : ℕ) (room : List ℕ) (e : ℕ × ℕ) (bytes : List ℕ) → AreSlotsKept h s xs → IsEntry xs n i → e ≡ get_or xs i e → IsRewritten s t e.1 offset bytes
+    → IsBlockWritten (device_of h s xs births room) (device_of h t xs births room) n offset bytes
 written_of h s t xs births i n offset room e bytes k entry read w =
     let at : IsRewritten s t (get_or xs i start).1 offset bytes = subst (λ (d : ℕ × ℕ). IsRewritten s t d.1 offset bytes) (sym (entry_read xs i e read entry.in_bounds)) w in
     record {
@@ -129,20 +129,20 @@ mark_given : (s t : Slab Stored) (k pins n : ℕ) (ended : Bool) → IsRemarked 
 mark_given s t k pins n ended m = rw (m.pins_are, m.ended_is)
 
 -- a mark that may be leaves what a device keeps
-pub marked_kept : (h : Space) (s t : Slab Stored) (xs : List (ℕ × ℕ)) (k pins : ℕ) (ended : Bool) → IsKept h s.slots xs → IsSome (get_or s.slots k None) → ((n : ℕ) → IsSoundMark (record { block = n; pins = pins; ended = ended })) → (IsSome (stored_loan (get_or s.slots k None)) → ended ≡ false) → IsRemarked s t k pins ended → IsKept h t.slots xs
+pub marked_kept : (h : Space) (s t : Slab Stored) (xs : List (ℕ × ℕ)) (k pins : ℕ) (ended : Bool) → AreSlotsKept h s.slots xs → IsSome (get_or s.slots k None) → ((n : ℕ) → IsSoundMark (record { block = n; pins = pins; ended = ended })) → (IsSome (stored_loan (get_or s.slots k None)) → ended ≡ false) → IsRemarked s t k pins ended → AreSlotsKept h t.slots xs
 marked_kept h s t xs k pins ended kept some sound mapped m =
     changed_kept h s.slots t.slots xs k kept some m.filled m.others (blocks_in-kept s.slots t.slots k xs m.others m.place m.len)
     (sound_changed s.slots t.slots k xs m.others (λ n. rw (mark_given s t k pins n ended m) (sound n)) kept.marks)
     (backed_kept s.slots t.slots k xs m.others (λ n. backed_like n (get_or s.slots k None) (get_or t.slots k None) m.len (ap length m.bytes) m.loan (λ lent was. m.ended_is ∙ mapped lent)) kept.backed)
 
 -- a block that is lent does not end
-pub lent_mapped : (h : Space) (s : List (Option Stored)) (xs : List (ℕ × ℕ)) (i n : ℕ) (ended : Bool) (e : ℕ × ℕ) → IsKept h s xs → IsEntry xs n i → e ≡ get_or xs i e → (ended ≡ true → is_lent n (loans_in s xs) ≡ false) → IsSome (stored_loan (get_or s e.1 None)) → ended ≡ false
+pub lent_mapped : (h : Space) (s : List (Option Stored)) (xs : List (ℕ × ℕ)) (i n : ℕ) (ended : Bool) (e : ℕ × ℕ) → AreSlotsKept h s xs → IsEntry xs n i → e ≡ get_or xs i e → (ended ≡ true → is_lent n (loans_in s xs) ≡ false) → IsSome (stored_loan (get_or s e.1 None)) → ended ≡ false
 lent_mapped h s xs i n false e k entry read free some = refl
 lent_mapped h s xs i n true e k entry read free some =
     absurd (false≢true (sym (free refl) ∙ (ap (λ (o : Option Loan). is_some o) (loan_at h s xs i n e k entry read) ∙ some)))
 
 -- what a mark leaves, as contracts see it
-pub marked_of : (h : Space) (s t : Slab Stored) (xs : List (ℕ × ℕ)) (births i n pins : ℕ) (ended : Bool) (room : List ℕ) (e : ℕ × ℕ) (change : Mark → Mark) → IsKept h s.slots xs → IsEntry xs n i → e ≡ get_or xs i e → IsRemarked s t e.1 pins ended
+pub marked_of : (h : Space) (s t : Slab Stored) (xs : List (ℕ × ℕ)) (births i n pins : ℕ) (ended : Bool) (room : List ℕ) (e : ℕ × ℕ) (change : Mark → Mark) → AreSlotsKept h s.slots xs → IsEntry xs n i → e ≡ get_or xs i e → IsRemarked s t e.1 pins ended
     → change (record { block = n; pins = pins_at n (marks_in s.slots xs); ended = is_ended_at n (marks_in s.slots xs) }) ≡ record { block = n; pins = pins; ended = ended }
     → IsMarked (device_of h s.slots xs births room) (device_of h t.slots xs births room) n change
 marked_of h s t xs births i n pins ended room e change k entry read m is =
@@ -169,7 +169,7 @@ restored_backed : (n : ℕ) (o : Option Stored) → stored_loan o ≡ None → l
 restored_backed n o is long = subst (IsInOrOut n o) (sym is) long
 
 -- a loan that may be leaves what a device keeps
-relent_kept : (h : Space) (s t : Slab Stored) (xs : List (ℕ × ℕ)) (i n : ℕ) (e : ℕ × ℕ) (loan : Option Loan) (bytes : List ℕ) → IsKept h s.slots xs → IsEntry xs n i → e ≡ get_or xs i e → IsRelent s t e.1 loan bytes → IsBacked n (get_or t.slots e.1 None) → IsKept h t.slots xs
+relent_kept : (h : Space) (s t : Slab Stored) (xs : List (ℕ × ℕ)) (i n : ℕ) (e : ℕ × ℕ) (loan : Option Loan) (bytes : List ℕ) → AreSlotsKept h s.slots xs → IsEntry xs n i → e ≡ get_or xs i e → IsRelent s t e.1 loan bytes → IsBacked n (get_or t.slots e.1 None) → AreSlotsKept h t.slots xs
 relent_kept h s t xs i n e loan bytes k entry read r backed =
     let told_of : AreTold xs n (get_or xs i start).1 = subst (λ (m : ℕ). AreTold xs m (get_or xs i start).1) entry.number (told xs i k.rising k.distinct entry.in_bounds) in
     let told_at : AreTold xs n e.1 = subst (λ (d : ℕ × ℕ). AreTold xs n d.1) (entry_read xs i e read entry.in_bounds) told_of in
@@ -178,12 +178,12 @@ relent_kept h s t xs i n e loan bytes k entry read r backed =
     (backed_changed s.slots t.slots n e.1 xs r.others told_at (λ was. backed) k.backed)
 
 -- a device keeps what it keeps where a block is lent
-pub lent_kept : (h : Space) (s t : Slab Stored) (xs : List (ℕ × ℕ)) (i : ℕ) (e : ℕ × ℕ) (loan : Loan) → IsKept h s.slots xs → IsEntry xs loan.block i → e ≡ get_or xs i e → IsRelent s t e.1 (Some loan) [] → stored_ended (get_or s.slots e.1 None) ≡ false → loan.offset + loan.len ≤ stored_len (get_or s.slots e.1 None) → IsKept h t.slots xs
+pub lent_kept : (h : Space) (s t : Slab Stored) (xs : List (ℕ × ℕ)) (i : ℕ) (e : ℕ × ℕ) (loan : Loan) → AreSlotsKept h s.slots xs → IsEntry xs loan.block i → e ≡ get_or xs i e → IsRelent s t e.1 (Some loan) [] → stored_ended (get_or s.slots e.1 None) ≡ false → loan.offset + loan.len ≤ stored_len (get_or s.slots e.1 None) → AreSlotsKept h t.slots xs
 lent_kept h s t xs i e loan k entry read r mapped within =
     relent_kept h s t xs i loan.block e (Some loan) [] k entry read r (lent_backed loan.block (get_or t.slots e.1 None) loan r.loan_is r.bytes_are (r.ended ∙ mapped) refl (rw r.len within))
 
 -- and where it is lent no longer
-pub restored_kept : (h : Space) (s t : Slab Stored) (xs : List (ℕ × ℕ)) (i n : ℕ) (e : ℕ × ℕ) (bytes : List ℕ) → IsKept h s.slots xs → IsEntry xs n i → e ≡ get_or xs i e → IsRelent s t e.1 None bytes → stored_len (get_or s.slots e.1 None) ≡ length bytes → IsKept h t.slots xs
+pub restored_kept : (h : Space) (s t : Slab Stored) (xs : List (ℕ × ℕ)) (i n : ℕ) (e : ℕ × ℕ) (bytes : List ℕ) → AreSlotsKept h s.slots xs → IsEntry xs n i → e ≡ get_or xs i e → IsRelent s t e.1 None bytes → stored_len (get_or s.slots e.1 None) ≡ length bytes → AreSlotsKept h t.slots xs
 restored_kept h s t xs i n e bytes k entry read r long =
     relent_kept h s t xs i n e None bytes k entry read r (restored_backed n (get_or t.slots e.1 None) r.loan_is (ap length r.bytes_are ∙ (sym long ∙ sym r.len)))
 
@@ -192,7 +192,7 @@ entered : (s t : Slab Stored) (xs : List (ℕ × ℕ)) (i : ℕ) (e : ℕ × ℕ
 entered s t xs i e loan bytes read lt r = subst (λ (d : ℕ × ℕ). IsRelent s t d.1 loan bytes) (sym (entry_read xs i e read lt)) r
 
 -- what a new loan leaves, as contracts see it
-pub taken_out_of : (h : Space) (s t : Slab Stored) (xs : List (ℕ × ℕ)) (births i : ℕ) (room : List ℕ) (e : ℕ × ℕ) (loan : Loan) → IsKept h s.slots xs → IsEntry xs loan.block i → e ≡ get_or xs i e → stored_loan (get_or s.slots e.1 None) ≡ None → IsRelent s t e.1 (Some loan) []
+pub taken_out_of : (h : Space) (s t : Slab Stored) (xs : List (ℕ × ℕ)) (births i : ℕ) (room : List ℕ) (e : ℕ × ℕ) (loan : Loan) → AreSlotsKept h s.slots xs → IsEntry xs loan.block i → e ≡ get_or xs i e → stored_loan (get_or s.slots e.1 None) ≡ None → IsRelent s t e.1 (Some loan) []
     → IsTakenOut (device_of h s.slots xs births room) (device_of h t.slots xs births room) loan
 taken_out_of h s t xs births i room e loan k entry read free r =
     let at : IsRelent s t (get_or xs i start).1 (Some loan) [] = entered s t xs i e (Some loan) [] read entry.in_bounds r in
@@ -208,7 +208,7 @@ taken_out_of h s t xs births i room e loan k entry read free r =
     }
 
 -- what the end of a loan leaves, as contracts see it
-pub put_back_of : (h : Space) (s t : Slab Stored) (xs : List (ℕ × ℕ)) (births i : ℕ) (room : List ℕ) (e : ℕ × ℕ) (lease : Leased) → IsKept h s.slots xs → IsEntry xs lease.block i → e ≡ get_or xs i e → IsRelent s t e.1 None lease.bytes
+pub put_back_of : (h : Space) (s t : Slab Stored) (xs : List (ℕ × ℕ)) (births i : ℕ) (room : List ℕ) (e : ℕ × ℕ) (lease : Leased) → AreSlotsKept h s.slots xs → IsEntry xs lease.block i → e ≡ get_or xs i e → IsRelent s t e.1 None lease.bytes
     → IsPutBack (device_of h s.slots xs births room) (device_of h t.slots xs births room) lease
 put_back_of h s t xs births i room e lease k entry read r =
     let at : IsRelent s t (get_or xs i start).1 None lease.bytes = entered s t xs i e None lease.bytes read entry.in_bounds r in

@@ -81,7 +81,7 @@ abbrev pub overwritten : ℕ → List ℕ → List ℕ → List ℕ
 overwritten offset bytes old = take offset old ++ bytes ++ drop (offset + length bytes) old
 
 -- the new device is the old one with bytes from an offset of a block on
-pub record IsWritten (old new : DeviceState) (block offset : ℕ) (bytes : List ℕ) : Type 0 where
+pub record IsBlockWritten (old new : DeviceState) (block offset : ℕ) (bytes : List ℕ) : Type 0 where
   pub size : new.size ≡ old.size
   pub blocks : new.blocks ≡ old.blocks
   pub memories : new.memories ≡ map (memory_changed block (overwritten offset bytes)) old.memories

@@ -85,8 +85,8 @@ loans_in slots [] = []
 loans_in slots (e ∷ es) = loan_before (stored_loan (slot_of slots e)) (loans_in slots es)
 
 -- the numbers of an index rise
-abbrev pub AreRising : List (ℕ × ℕ) → Type 0
-AreRising index = EachPair (λ d e. d.0 < e.0) index
+abbrev pub IsIndexRising : List (ℕ × ℕ) → Type 0
+IsIndexRising index = EachPair (λ d e. d.0 < e.0) index
 
 -- a slot that is lent has no bytes, its block is mapped, and its loan is the block's and lies in it
 pub record IsOut (number : ℕ) (slot : Option Stored) (loan : Loan) : Type 0 where
@@ -105,10 +105,10 @@ abbrev pub IsBacked : ℕ → Option Stored → Type 0
 IsBacked number slot = IsInOrOut number slot (stored_loan slot)
 
 -- each block has a slot of its own, every other slot is empty, and the blocks are what is taken of the device
-pub record IsKept (holes : Space) (slots : List (Option Stored)) (index : List (ℕ × ℕ)) : Type 0 where
+pub record AreSlotsKept (holes : Space) (slots : List (Option Stored)) (index : List (ℕ × ℕ)) : Type 0 where
   pub base : holes.base ≡ device_base
   pub canonical : IsCanonical holes
-  pub rising : AreRising index
+  pub rising : IsIndexRising index
   pub distinct : EachPair (λ d e. d.1 ≡ e.1 → ⊥) index
   pub filled : AllByRecursion (λ e. IsSome (slot_of slots e)) index
   pub others_empty : (slot : ℕ) → AllByRecursion (λ e. e.1 ≡ slot → ⊥) index → slice_index_or slots slot None ≡ None
@@ -118,7 +118,7 @@ pub record IsKept (holes : Space) (slots : List (Option Stored)) (index : List (
   pub partition : IsPartition holes (map taken_range (blocks_in slots index))
 
 -- no number is above the births, of which there are not too many
-pub record IsCounted (index : List (ℕ × ℕ)) (births : ℕ) : Type 0 where
+pub record AreNumbersBorn (index : List (ℕ × ℕ)) (births : ℕ) : Type 0 where
   pub below : AllByRecursion (λ e. e.0 ≤ births) index
   pub few : births ≤ 2 ^ 48
 

@@ -53,16 +53,16 @@ without_mark block marks = filter (λ m. not (m.block == block)) marks
 -- ---- blocks that have ended
 
 -- those with places at or above a device address
-abbrev pub ended_from : ℕ → List Mark → List Block → List Block
-ended_from from marks blocks = filter (λ b. is_ended_at b.number marks && nat_le from b.place) blocks
+abbrev pub ended_blocks_from : ℕ → List Mark → List Block → List Block
+ended_blocks_from from marks blocks = filter (λ b. is_ended_at b.number marks && nat_le from b.place) blocks
 
 -- what is told of one
-abbrev pub ended_of : List Mark → Block → Ended
-ended_of marks b = record { place = b.place; size = size_of b; pins = pins_at b.number marks }
+abbrev pub ended_told : List Mark → Block → Ended
+ended_told marks b = record { place = b.place; size = size_of b; pins = pins_at b.number marks }
 
 -- the one of least place at or above a device address
 abbrev pub lowest_ended : ℕ → List Mark → List Block → Option Ended
-lowest_ended from marks blocks = option_map (ended_of marks) (lowest (ended_from from marks blocks))
+lowest_ended from marks blocks = option_map (ended_told marks) (lowest (ended_blocks_from from marks blocks))
 
 -- ---- what holds of every mark
 

@@ -5,8 +5,8 @@ use Rattle.slab.specs.Slab.{slab_len}
 use Rattle.acc_dev.specs.declared.devices.Device.TheInside.{Inside}
 
 -- the lengths for which there is room
-abbrev pub room_of : Inside → List ℕ
-room_of d = map (λ v. vec_capacity v) d.ready.items
+abbrev pub room_ready : Inside → List ℕ
+room_ready d = map (λ v. vec_capacity v) d.ready.items
 
 -- there are not too many, each vector is empty, and for each there is room in the holes, the slots and the index
 pub record HasRoom (d : Inside) : Type 0 where

@@ -12,7 +12,7 @@ ghost use Rattle.acc_base.specs.Accounts.{IsMemoryOf};
 ghost use Rattle.acc_base.specs.Loans.{loan_of, is_lent, len_of, is_returnable};
 ghost use Rattle.acc_placement.specs.Ranges.{IsTakeBelow};
 ghost use Rattle.acc_dev.specs.Marks.{Mark, pins_at, is_ended_at, lowest_ended as lowest_ended_of, IsMarkOf, IsSoundMark};
-ghost use Rattle.acc_dev.specs.Device.{HasBlock, IsNew, IsUnchanged, IsBorn, IsBornWith, IsNextRoom, IsWritten, IsMarked, IsPinned, IsUnpinned, IsEnded, IsRetired, IsTakenOut, IsPutBack, IsLoanOn, AreLoansRising, HasBlocksApart, birth_place, planned_blocks};
+ghost use Rattle.acc_dev.specs.Device.{HasBlock, IsNew, IsUnchanged, IsBorn, IsBornWith, IsNextRoom, IsBlockWritten, IsMarked, IsPinned, IsUnpinned, IsEnded, IsRetired, IsTakenOut, IsPutBack, IsLoanOn, AreLoansRising, HasBlocksApart, birth_place, planned_blocks};
 
 use crate::entries::{
     Stored, is_loan_at, lend_at, loan_at, lowest_ended, make_room, position_of, put, remove_at,
@@ -62,8 +62,8 @@ pub struct Device {
 
 impl Model for Device {
     ghost use Rattle.acc_dev.specs.Device.{DeviceState};
-    ghost use Rattle.acc_dev.specs.Kept.{blocks_in, memories_in, marks_in, loans_in, IsKept, IsCounted};
-    ghost use Rattle.acc_dev.specs.Room.{room_of, HasRoom};
+    ghost use Rattle.acc_dev.specs.Kept.{blocks_in, memories_in, marks_in, loans_in, AreSlotsKept, AreNumbersBorn};
+    ghost use Rattle.acc_dev.specs.Room.{room_ready, HasRoom};
 
     ghost Value = { DeviceState };
 
@@ -74,10 +74,10 @@ impl Model for Device {
       marks = marks_in d.slab.slots d.index.items;
       loans = loans_in d.slab.slots d.index.items;
       births = d.births;
-      room = room_of d;
+      room = room_ready d;
     } };
 
-    ghost invariant = { λ d. IsKept d.holes d.slab.slots d.index.items × IsCounted d.index.items d.births × HasRoom d };
+    ghost invariant = { λ d. AreSlotsKept d.holes d.slab.slots d.index.items × AreNumbersBorn d.index.items d.births × HasRoom d };
 }
 
 impl Device {
@@ -285,7 +285,7 @@ impl Device {
         requires there { HasBlock self.old block }
         requires free { is_lent block self.old.loans ≡ false }
         requires in_range { offset + length bytes.now ≤ length (bytes_of block self.old.memories) }
-        ensures { IsWritten self.old self.new block offset bytes.now }
+        ensures { IsBlockWritten self.old self.new block offset bytes.now }
     {
         let Some(at) = position_of(&self.index, block) else {
             unreachable!()

@@ -10,7 +10,7 @@ ghost use Rattle.acc_placement.specs.Ranges.{IsFit, IsLeastFit};
 ghost use Rattle.acc_placement.specs.Space.{IsSameSpace};
 ghost use Rattle.acc_dev.specs.Device.{overwritten};
 ghost use Rattle.acc_dev.specs.Marks.{new_mark};
-ghost use Rattle.acc_dev.specs.Kept.{stored_place, stored_len, stored_bytes, stored_pins, stored_ended, stored_loan, slot_of, blocks_in, memories_in, marks_in, loans_in, lower_of as lower_one, lowest_told, told_of, AreRising, IsEntry, IsKept, IsRemarked, IsRelent};
+ghost use Rattle.acc_dev.specs.Kept.{stored_place, stored_len, stored_bytes, stored_pins, stored_ended, stored_loan, slot_of, blocks_in, memories_in, marks_in, loans_in, lower_of as lower_one, lowest_told, told_of, IsIndexRising, IsEntry, AreSlotsKept, IsRemarked, IsRelent};
 
 use acc_base::{Ended, Fault, Loan, MEMORY_MAX};
 use acc_lend::Lease;
@@ -38,7 +38,7 @@ pub struct Stored {
 
 /// The place in the index of a block's entry.
 pub fn position_of(index: &[(u64, usize)], block: u64) -> Option<usize>
-    requires { AreRising index.now }
+    requires { IsIndexRising index.now }
     ensures found { IfSome result (IsEntry index.now block) }
     ensures none { IfNone result (AllByRecursion (λ e. e.0 ≡ block → ⊥) index.now) }
 {
@@ -54,7 +54,7 @@ pub fn make_room(
     count: u64,
 ) -> Result<(), Fault>
     requires { count ≤ 2 ^ 32 }
-    ensures kept { IsKept holes.old slab.old.slots index.old.items → IsKept holes.new slab.new.slots index.new.items }
+    ensures kept { AreSlotsKept holes.old slab.old.slots index.old.items → AreSlotsKept holes.new slab.new.slots index.new.items }
     ensures holes { IsSameSpace holes.old holes.new }
     ensures slots { slab.new.slots ≡ slab.old.slots }
     ensures index { index.new.items ≡ index.old.items }
@@ -81,7 +81,7 @@ pub fn put(
     number: u64,
     bytes: Vec<u8>,
 ) -> u64
-    requires kept { IsKept holes.old slab.old.slots index.old.items }
+    requires kept { AreSlotsKept holes.old slab.old.slots index.old.items }
     requires above { AllByRecursion (λ e. e.0 < number) index.old.items }
     requires len { IsFromOne MEMORY_MAX (length bytes.items) }
     requires room_taken { 1 ≤ holes.old.spare }
@@ -90,7 +90,7 @@ pub fn put(
     requires fits { (q : ℕ) × IsFit holes.old.holes (rounded_of (length bytes.items)) q }
     ensures place { IsLeastFit holes.old.holes (rounded_of (length bytes.items)) result }
     ensures size { holes.new.size ≡ holes.old.size }
-    ensures kept { IsKept holes.new slab.new.slots index.new.items }
+    ensures kept { AreSlotsKept holes.new slab.new.slots index.new.items }
     ensures index { (slot : ℕ) × (index.new.items ≡ index.old.items ++ (number, slot) ∷ []) }
     ensures blocks { blocks_in slab.new.slots index.new.items ≡ blocks_in slab.old.slots index.old.items ++ record { number = number; place = result; len = length bytes.items } ∷ [] }
     ensures memories { memories_in slab.new.slots index.new.items ≡ memories_in slab.old.slots index.old.items ++ record { block = number; bytes = bytes.items } ∷ [] }
@@ -123,11 +123,11 @@ pub fn remove_at(
     index: &mut Vec<(u64, usize)>,
     at: usize,
 )
-    requires kept { IsKept holes.old slab.old.slots index.old.items }
+    requires kept { AreSlotsKept holes.old slab.old.slots index.old.items }
     requires in_bounds { at < length index.old.items }
     requires free { stored_loan (slot_of slab.old.slots (slice_index_or index.old.items at (0, 0))) ≡ None }
     ensures size { holes.new.size ≡ holes.old.size }
-    ensures kept { IsKept holes.new slab.new.slots index.new.items }
+    ensures kept { AreSlotsKept holes.new slab.new.slots index.new.items }
     ensures index { index.new.items ≡ remove index.old.items at }
     ensures blocks { blocks_in slab.new.slots index.new.items ≡ remove (blocks_in slab.old.slots index.old.items) at }
     ensures memories { memories_in slab.new.slots index.new.items ≡ remove (memories_in slab.old.slots index.old.items) at }

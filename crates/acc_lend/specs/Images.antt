@@ -27,8 +27,8 @@ abbrev pub flipped : ℕ → ℕ → ℕ → ℕ
 flipped k i b = bit_xor b k
 
 -- k plus its place
-abbrev pub numbered : ℕ → ℕ → ℕ → ℕ
-numbered k i b = (k + i) % 256
+abbrev pub number_image : ℕ → ℕ → ℕ → ℕ
+number_image k i b = (k + i) % 256
 
 -- a byte plus one of the source, or the byte where the source has none
 abbrev pub plus : ℕ → Option ℕ → ℕ

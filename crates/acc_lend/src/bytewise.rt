@@ -1,7 +1,7 @@
 //! Kernels that change each byte of a loan by its place and its value.
 
 ghost use Rattle.std.specs.Prelude.{◌≡◌, length};
-ghost use Rattle.acc_lend.specs.Images.{each_byte, added, flipped, numbered, summed};
+ghost use Rattle.acc_lend.specs.Images.{each_byte, added, flipped, number_image, summed};
 ghost use Rattle.acc_lend.specs.ImageLaws.{each_byte-append, length-each_byte};
 
 use crate::kernels::{Kernel, Pointwise};
@@ -62,7 +62,7 @@ impl Pointwise for Xor {
 }
 
 impl Kernel for Number {
-    ghost image = { λ kernel at part src. each_byte (numbered kernel.0) at part };
+    ghost image = { λ kernel at part src. each_byte (number_image kernel.0) at part };
 
     fn run(&self, at: usize, part: &mut [u8], src: &[u8]) {
         let _ = src;
@@ -72,11 +72,11 @@ impl Kernel for Number {
         }
     }
 
-    ghost keeps_length = { λ kernel at part src. length-each_byte (numbered kernel.0) at part };
+    ghost keeps_length = { λ kernel at part src. length-each_byte (number_image kernel.0) at part };
 }
 
 impl Pointwise for Number {
-    ghost joined = { λ kernel at first second src. each_byte-append (numbered kernel.0) at first second };
+    ghost joined = { λ kernel at first second src. each_byte-append (number_image kernel.0) at first second };
 }
 
 impl Kernel for Plus {

@@ -15,7 +15,7 @@ space_of h = record {
 }
 
 -- the holes are those of a space, the used bytes are the others, and there is room to give each taken range back
-pub record IsSound (h : Inside) : Type 0 where
+pub record AreHolesSound (h : Inside) : Type 0 where
   pub canonical : IsCanonical (space_of h)
   pub used : h.used + total h.holes.items ≡ h.size
   pub room : h.taken + 1 ≤ vec_capacity h.holes

@@ -36,11 +36,11 @@ impl Model for Holes {
 
     ghost Value = { Space };
 
-    ghost use Rattle.acc_placement.specs.Holes.{space_of, IsSound};
+    ghost use Rattle.acc_placement.specs.Holes.{space_of, AreHolesSound};
 
     ghost view = { space_of };
 
-    ghost invariant = { IsSound };
+    ghost invariant = { AreHolesSound };
 }
 
 impl Holes {

@@ -5,7 +5,7 @@ use Rattle.std.specs.List.{remove}
 use Rattle.acc_base.specs.Accounts.{EachPair}
 use Rattle.acc_base.proofs.Elements.{EachPair-filter}
 use Rattle.acc_present.specs.declared.index.Entry.{Entry}
-use Rattle.acc_present.specs.Kept.{IsSplitBy, AreRising, start_in}
+use Rattle.acc_present.specs.Kept.{IsSplitBy, AreBlocksRising, start_in}
 use Rattle.acc_present.proofs.Keyed as keyed
 
 abbrev pub entry_key : Entry → ℕ
@@ -27,19 +27,19 @@ none_from None e = refl
 none_from (Some x) e = cc
 
 -- the entry of a block stands at the place of its number
-pub entry_at : (block i : ℕ) (index : List Entry) → AreRising index → IsSome (start_in block index) → IsSplitBy entry_key block index i → keyed.IsFoundAt entry_key block index i no_entry
+pub entry_at : (block i : ℕ) (index : List Entry) → AreBlocksRising index → IsSome (start_in block index) → IsSplitBy entry_key block index i → keyed.IsFoundAt entry_key block index i no_entry
 entry_at block i index rise there parts = keyed.found_at entry_key block index i no_entry rise parts.below parts.above (there_from (keyed.at entry_key block index) there)
 
 -- the index has one entry more
 pub record IsPut (new : Entry) (old index : List Entry) : Type 0 where
-  pub rising : AreRising index
+  pub rising : AreBlocksRising index
   pub starts : (block : ℕ) → start_in block index ≡ cond (new.block == block) (Some new.start) (start_in block old)
 
 some_cond : (b : Bool) (new : Entry) (o : Option Entry) → option_map entry_start (cond b (Some new) o) ≡ cond b (Some new.start) (option_map entry_start o)
 some_cond true new o = refl
 some_cond false new o = refl
 
-pub put_in : (new : Entry) (old index : List Entry) (i : ℕ) → AreRising old → start_in new.block old ≡ None → IsSplitBy entry_key new.block old i → index ≡ insert old i new → IsPut new old index
+pub put_in : (new : Entry) (old index : List Entry) (i : ℕ) → AreBlocksRising old → start_in new.block old ≡ None → IsSplitBy entry_key new.block old i → index ≡ insert old i new → IsPut new old index
 put_in new old index i rise none parts is =
     let absent = none_from (keyed.at entry_key new.block old) none in
     record {
@@ -48,15 +48,15 @@ put_in new old index i rise none parts is =
     }
 
 -- and one less
-pub record IsTakenOut (block : ℕ) (old index : List Entry) : Type 0 where
-  pub rising : AreRising index
+pub record IsEntryRemoved (block : ℕ) (old index : List Entry) : Type 0 where
+  pub rising : AreBlocksRising index
   pub starts : (other : ℕ) → start_in other index ≡ cond (block == other) None (start_in other old)
 
 none_cond : (b : Bool) (o : Option Entry) → option_map entry_start (cond b None o) ≡ cond b None (option_map entry_start o)
 none_cond true o = refl
 none_cond false o = refl
 
-pub taken_out : (block i : ℕ) (old index : List Entry) → AreRising old → keyed.IsFoundAt entry_key block old i no_entry → index ≡ remove old i → IsTakenOut block old index
+pub taken_out : (block i : ℕ) (old index : List Entry) → AreBlocksRising old → keyed.IsFoundAt entry_key block old i no_entry → index ≡ remove old i → IsEntryRemoved block old index
 taken_out block i old index rise at is =
     let same = is ∙ keyed.remove-filter entry_key old i block no_entry (keyed.differ entry_key old rise) at.bound at.key_is in
     record {

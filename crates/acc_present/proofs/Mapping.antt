@@ -16,7 +16,7 @@ use Rattle.acc_base.proofs.Results.{equal}
 use Rattle.acc_base.proofs.Elements.{AllByRecursion-weaker, AllByRecursion-both, AllByRecursion-filter, AllByRecursion-map, EachPair-filter, EachPair-map, find_none, list_all-from}
 use Rattle.acc_present.specs.declared.index.Entry.{Entry}
 use Rattle.acc_present.specs.Present.{AreMapped}
-use Rattle.acc_present.specs.Kept.{IsSplitBy, AreRising, start_in, start_at, IsIndexed, IsRangeAt, no_range}
+use Rattle.acc_present.specs.Kept.{IsSplitBy, AreBlocksRising, start_in, start_at, IsIndexed, IsRangeAt, no_range}
 use Rattle.acc_present.proofs.Keyed as keyed
 use Rattle.acc_present.proofs.Keyed.{all-take, all-drop, all-insert, pairs-insert}
 
@@ -124,7 +124,7 @@ pub record IsMappedNow (new : Range) (rs ts : List Range) (index : List Entry) :
   pub indexed : IsIndexed ts index
 
 pub mapped_now : (new : Range) (rs ts : List Range) (i : ℕ) (old index : List Entry) → IsIndexed rs old → where_is new.section rs ≡ Absent → range_of new.block rs ≡ None → IsSplitBy start_key new.section.start rs i → ts ≡ insert rs i new
-    → AreRising index → ((block : ℕ) → start_in block index ≡ cond (new.block == block) (Some new.section.start) (start_in block old)) → IsMappedNow new rs ts index
+    → AreBlocksRising index → ((block : ℕ) → start_in block index ≡ cond (new.block == block) (Some new.section.start) (start_in block old)) → IsMappedNow new rs ts index
 mapped_now new rs ts i old index kept absent none parts is rising starts =
     let p = placed new rs i kept.mapped absent parts in
     record {
@@ -155,7 +155,7 @@ pub record IsUnmappedNow (block : ℕ) (rs ts : List Range) (index : List Entry)
   pub indexed : IsIndexed ts index
 
 pub unmapped_now : (block i : ℕ) (rs ts : List Range) (old index : List Entry) → IsIndexed rs old → IsRangeAt block rs i → ts ≡ remove rs i
-    → AreRising index → ((other : ℕ) → start_in other index ≡ cond (block == other) None (start_in other old)) → IsUnmappedNow block rs ts index
+    → AreBlocksRising index → ((other : ℕ) → start_in other index ≡ cond (block == other) None (start_in other old)) → IsUnmappedNow block rs ts index
 unmapped_now block i rs ts old index kept place is rising starts =
     let e : ts ≡ without_range block rs = is ∙ keyed.remove-filter block_key rs i block no_range kept.mapped.own_block place.bound (block_there block i rs place) in
     record {

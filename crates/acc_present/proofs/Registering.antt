@@ -116,11 +116,11 @@ filter_map number (x ∷ xs) = go (filter_map number xs) (x.number == number)
     go rest false = ap (λ rs. region_of x ∷ rs) rest
 
 -- the list has one region less
-pub record IsTakenOut (number : ℕ) (old xs : List OpenRegion) : Type 0 where
+pub record IsRegionRemoved (number : ℕ) (old xs : List OpenRegion) : Type 0 where
   pub rising : AreNumbersRising xs
   pub regions : map region_of xs ≡ without_region number (map region_of old)
 
-pub taken_out : (number i : ℕ) (old xs : List OpenRegion) (d : OpenRegion) → AreNumbersRising old → IsSome (region_at number (map region_of old)) → IsSplitBy number_key number old i → xs ≡ remove old i → IsTakenOut number old xs
+pub taken_out : (number i : ℕ) (old xs : List OpenRegion) (d : OpenRegion) → AreNumbersRising old → IsSome (region_at number (map region_of old)) → IsSplitBy number_key number old i → xs ≡ remove old i → IsRegionRemoved number old xs
 taken_out number i old xs d rise there parts is =
     let at = keyed.found_at number_key number old i d rise parts.below parts.above (there_number number old there) in
     let same = is ∙ keyed.remove-filter number_key old i number d (keyed.differ number_key old rise) at.bound at.key_is in

@@ -19,8 +19,8 @@ pub record IsSplitBy {X : Type 0} (key : X → ℕ) (number : ℕ) (xs : List X)
 -- ---- the index of block numbers
 
 -- its block numbers rise
-abbrev pub AreRising : List Entry → Type 0
-AreRising index = EachPair (λ (d : Entry) (e : Entry). d.block < e.block) index
+abbrev pub AreBlocksRising : List Entry → Type 0
+AreBlocksRising index = EachPair (λ (d : Entry) (e : Entry). d.block < e.block) index
 
 -- the start that it gives for a block
 abbrev pub start_in : ℕ → List Entry → Option ℕ
@@ -40,7 +40,7 @@ start_at block ranges = option_map (λ r. r.section.start) (range_of block range
 -- the index gives the start of each block's range
 pub record IsIndexed (ranges : List Range) (index : List Entry) : Type 0 where
   pub mapped : AreMapped ranges
-  pub rising : AreRising index
+  pub rising : AreBlocksRising index
   pub agrees : (block : ℕ) → start_in block index ≡ start_at block ranges
 
 -- no range

@@ -1,7 +1,7 @@
 //! The index of block numbers, which gives the start of each block's range.
 
 ghost use Rattle.std.specs.Prelude.{◌≡◌, ℕ, ◌+◌, ◌<◌, ◌≤◌, ◌==◌, None, Some, IsSome, if◌then◌else◌, vec_len, vec_capacity};
-ghost use Rattle.acc_present.specs.Kept.{AreRising, IsSplitBy, start_in};
+ghost use Rattle.acc_present.specs.Kept.{AreBlocksRising, IsSplitBy, start_in};
 
 /// Where the range of a block begins.
 #[derive(Clone, Copy)]
@@ -14,7 +14,7 @@ pub struct Entry {
 
 /// The place of a block's entry, or the place at which it would stand.
 fn place_of(index: &[Entry], block: u64) -> usize
-    requires { AreRising index.now }
+    requires { AreBlocksRising index.now }
     ensures { IsSplitBy (λ entry. entry.block) block index.now result }
 {
     index.partition_point(|entry| entry.block < block)
@@ -22,7 +22,7 @@ fn place_of(index: &[Entry], block: u64) -> usize
 
 /// Where the range of a block begins. The block has an entry.
 pub fn start_of(index: &[Entry], block: u64) -> u64
-    requires rising { AreRising index.now }
+    requires rising { AreBlocksRising index.now }
     requires there { IsSome (start_in block index.now) }
     ensures { start_in block index.now ≡ Some result }
 {
@@ -31,10 +31,10 @@ pub fn start_of(index: &[Entry], block: u64) -> u64
 
 /// One entry more, where there is room for it and the block has none.
 pub fn put(index: &mut Vec<Entry>, entry: Entry)
-    requires rising { AreRising index.old.items }
+    requires rising { AreBlocksRising index.old.items }
     requires new { start_in entry.block index.old.items ≡ None }
     requires room { vec_len index.old < vec_capacity index.old }
-    ensures rising { AreRising index.new.items }
+    ensures rising { AreBlocksRising index.new.items }
     ensures starts { (block : ℕ) → start_in block index.new.items ≡ (if entry.block == block then Some entry.start else start_in block index.old.items) }
     ensures len { vec_len index.new ≡ vec_len index.old + 1 }
     ensures capacity { vec_capacity index.old ≤ vec_capacity index.new }
@@ -45,9 +45,9 @@ pub fn put(index: &mut Vec<Entry>, entry: Entry)
 
 /// One entry less. The block has an entry.
 pub fn take_out(index: &mut Vec<Entry>, block: u64)
-    requires rising { AreRising index.old.items }
+    requires rising { AreBlocksRising index.old.items }
     requires there { IsSome (start_in block index.old.items) }
-    ensures rising { AreRising index.new.items }
+    ensures rising { AreBlocksRising index.new.items }
     ensures starts { (other : ℕ) → start_in other index.new.items ≡ (if block == other then None else start_in other index.old.items) }
     ensures len { vec_len index.new + 1 ≡ vec_len index.old }
     ensures capacity { vec_capacity index.new ≡ vec_capacity index.old }

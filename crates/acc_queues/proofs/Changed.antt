@@ -4,7 +4,7 @@ use Rattle.std.proofs.lemmas.List.{map-set, get_or-map, set-get_or, length-map, 
 use Rattle.std.proofs.lemmas.Bool.{cases_eq}
 use Rattle.acc_base.specs.declared.transfers.Transfer.{Transfer}
 use Rattle.acc_base.specs.Queues.{queue_at, put, popped}
-use Rattle.acc_queues.specs.Queued.{spare_at, IsRoomKept, IsRoomTaken}
+use Rattle.acc_queues.specs.Queued.{spare_at, AreRoomsKept, IsRoomTaken}
 use Rattle.acc_queues.specs.Kept.{RingState, queues_in, spares_in}
 
 -- the queue of a number is what the ring of the number has
@@ -44,7 +44,7 @@ taken_at rings q old new known is le = record {
   others = λ other differs. omega (arith, spare_other rings q new other differs);
 }
 
-pub kept_at : (rings : List RingState) (q : ℕ) (old new : RingState) → q < length rings → old ≡ get_or rings q old → old.spare ≤ new.spare → IsRoomKept (spares_in rings) (spares_in (set rings q new))
+pub kept_at : (rings : List RingState) (q : ℕ) (old new : RingState) → q < length rings → old ≡ get_or rings q old → old.spare ≤ new.spare → AreRoomsKept (spares_in rings) (spares_in (set rings q new))
 kept_at rings q old new known is le other = elim (cases_eq other q) [
   | inl same ↦ rw same (omega (arith, spare_of rings q old known is, spare_new rings q new known))
   | inr differs ↦ omega (arith, spare_other rings q new other differs)

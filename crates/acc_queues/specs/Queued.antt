@@ -31,8 +31,8 @@ abbrev pub spare_at : ℕ → List ℕ → ℕ
 spare_at q spare = slice_index spare q
 
 -- no queue's room has shrunk
-abbrev pub IsRoomKept : List ℕ → List ℕ → Type 0
-IsRoomKept old new = (q : ℕ) → spare_at q old ≤ spare_at q new
+abbrev pub AreRoomsKept : List ℕ → List ℕ → Type 0
+AreRoomsKept old new = (q : ℕ) → spare_at q old ≤ spare_at q new
 
 -- one queue's room has shrunk by one at most, and no other's
 pub record IsRoomTaken (q : ℕ) (old new : List ℕ) : Type 0 where

@@ -3,7 +3,7 @@
 ghost use Rattle.std.specs.Prelude.{◌≡◌, ◌<◌, ◌≤◌, length, vec_len, IfOk, IfErr, OnOk, OnErr};
 ghost use Rattle.std.specs.Option.{option_copied};
 ghost use Rattle.acc_base.specs.Queues.{new_queues, head_of, put, popped};
-ghost use Rattle.acc_queues.specs.Queued.{spare_at, IsRoomKept, IsRoomTaken};
+ghost use Rattle.acc_queues.specs.Queued.{spare_at, AreRoomsKept, IsRoomTaken};
 ghost use Rattle.acc_queues.specs.Kept.{queues_in, spares_in};
 
 use crate::ring::Ring;
@@ -36,7 +36,7 @@ pub fn put_into(rings: &mut Vec<Ring>, q: u64, t: Transfer)
 pub fn pop_from(rings: &mut Vec<Ring>, q: u64) -> Option<Transfer>
     ensures first { result ≡ head_of q (queues_in rings.old.items) }
     ensures queues { queues_in rings.new.items ≡ popped q (queues_in rings.old.items) }
-    ensures spare { IsRoomKept (spares_in rings.old.items) (spares_in rings.new.items) }
+    ensures spare { AreRoomsKept (spares_in rings.old.items) (spares_in rings.new.items) }
 {
     if q as usize >= rings.len() {
         return None;
@@ -51,7 +51,7 @@ pub fn make_room(rings: &mut Vec<Ring>, q: u64, count: u64) -> Result<(), Fault>
     ensures only { IfErr result (λ fault. fault ≡ Fault.Memory) }
     ensures needed { OnErr result (spare_at q (spares_in rings.old.items) < count) }
     ensures queues { queues_in rings.new.items ≡ queues_in rings.old.items }
-    ensures spare { IsRoomKept (spares_in rings.old.items) (spares_in rings.new.items) }
+    ensures spare { AreRoomsKept (spares_in rings.old.items) (spares_in rings.new.items) }
 {
     rings[q as usize].reserve(count)
 }

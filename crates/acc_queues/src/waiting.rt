@@ -4,7 +4,7 @@ ghost use Rattle.std.specs.Prelude.{◌≡◌, ◌+◌, ◌<◌, ◌≤◌, ◌�
 ghost use Rattle.std.specs.Option.{option_copied};
 ghost use Rattle.acc_base.specs.Limits.{IsFromOne};
 ghost use Rattle.acc_base.specs.Queues.{new_queues, queue_at, head_of, put, popped};
-ghost use Rattle.acc_queues.specs.Queued.{AreQueues, judge_put, spare_at, IsRoomKept, IsRoomTaken};
+ghost use Rattle.acc_queues.specs.Queued.{AreQueues, judge_put, spare_at, AreRoomsKept, IsRoomTaken};
 
 use crate::ring::Ring;
 use crate::rings::{make_room, new_rings, pop_from, put_into};
@@ -91,7 +91,7 @@ impl Queues {
 
         // The room for more.
         ensures taken { OnOk result (IsRoomTaken q self.old.spare self.new.spare) }
-        ensures kept { OnErr result (IsRoomKept self.old.spare self.new.spare) }
+        ensures kept { OnErr result (AreRoomsKept self.old.spare self.new.spare) }
     {
         self.judge_put(q)?;
         self.reserve(q, 1)?;
@@ -113,7 +113,7 @@ impl Queues {
         ensures queues { self.new.queues ≡ popped q self.old.queues }
         ensures unchanged { IfNone result (self.new.queues ≡ self.old.queues) }
         ensures cap { self.new.cap ≡ self.old.cap }
-        ensures room { IsRoomKept self.old.spare self.new.spare }
+        ensures room { AreRoomsKept self.old.spare self.new.spare }
     {
         pop_from(&mut self.rings, q)
     }
@@ -150,7 +150,7 @@ impl Queues {
         ensures needed { OnErr result (spare_at q self.old.spare < count) }
         ensures queues { self.new.queues ≡ self.old.queues }
         ensures cap { self.new.cap ≡ self.old.cap }
-        ensures room { IsRoomKept self.old.spare self.new.spare }
+        ensures room { AreRoomsKept self.old.spare self.new.spare }
     {
         make_room(&mut self.rings, q, count)
     }

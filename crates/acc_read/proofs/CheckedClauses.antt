@@ -18,7 +18,7 @@ use Rattle.acc_read.specs.declared.troubles.Trouble.{Trouble}
 use Rattle.acc_read.specs.declared.troubles.Trouble.TheVariants as trouble
 use Rattle.acc_read.specs.Reading.{◌>>=◌, wants, always, Holds, Gives}
 use Rattle.acc_read.specs.Tokens.{word_at, keyword_at, mark_at, is_mark_next, is_at_end, skip_comma, comma, left_parenthesis, right_parenthesis}
-use Rattle.acc_read.specs.Layout.{Layout}
+use Rattle.acc_read.specs.Layout.{ArrayLayout}
 use Rattle.acc_read.specs.Items.{named_at, item_of}
 use Rattle.acc_read.specs.Queues.{queue_at}
 use Rattle.acc_read.specs.Grammar.{Grammar, region_grammar, enter_grammar, exit_grammar, update_grammar}
@@ -40,7 +40,7 @@ module _ {C : Type 0} where
   some_item before item = let some : length (before ++ item ∷ []) ≡ length before + 1 = omega (arith, length-append before (item ∷ [])) in rw some (grind (arith, nat_tests))
 
   -- the items of a clause
-  items_ends : (n : ℕ) (kind : Kind) (clause : C) (layout : Layout) (before : List (Item C)) (text : List ℕ) → EndsAs (items_at n kind clause layout before text) (items_end n kind layout text)
+  items_ends : (n : ℕ) (kind : Kind) (clause : C) (layout : ArrayLayout) (before : List (Item C)) (text : List ℕ) → EndsAs (items_at n kind clause layout before text) (items_end n kind layout text)
   unfolding items_at items_end
   items_ends zero kind clause layout before text = refl
   items_ends (suc n) kind clause layout before text = by (items_ends n kind clause layout) (named_at kind layout text)
@@ -64,7 +64,7 @@ module _ {C : Type 0} where
       by (Err kind) = refl
 
   -- the items of a clause in parentheses
-  group_ends : (grammar : Grammar C) (clause : C) (layout : Layout) (before : List (Item C)) (text : List ℕ) → EndsAs (group_at grammar clause layout before text) (group_end grammar clause layout text)
+  group_ends : (grammar : Grammar C) (clause : C) (layout : ArrayLayout) (before : List (Item C)) (text : List ℕ) → EndsAs (group_at grammar clause layout before text) (group_end grammar clause layout text)
   unfolding group_at group_end
   group_ends grammar clause layout before text = by (mark_at left_parenthesis text)
     where
@@ -96,7 +96,7 @@ module _ {C : Type 0} where
   group_seen before (Ok read) end h = rw (h.0, h.1) refl
 
   -- a clause of a word
-  listed_seen : (clause : Option C) (grammar : Grammar C) (layout : Layout) (before : ClausesRead C) (rest : List ℕ) → SeenAs (listed clause grammar layout before rest) (listed_end clause grammar layout (seen_of before) rest)
+  listed_seen : (clause : Option C) (grammar : Grammar C) (layout : ArrayLayout) (before : ClausesRead C) (rest : List ℕ) → SeenAs (listed clause grammar layout before rest) (listed_end clause grammar layout (seen_of before) rest)
   listed_seen None grammar layout before rest = refl
   listed_seen (Some clause) grammar layout before rest = group_seen before (group_at grammar clause layout before.items rest) (group_end grammar clause layout rest) (group_ends grammar clause layout before.items rest)
 
@@ -121,7 +121,7 @@ module _ {C : Type 0} where
   queue_seen before rest false = named_queue_seen before rest
 
   -- a clause or an option
-  clause_seen : (grammar : Grammar C) (layout : Layout) (before : ClausesRead C) (text : List ℕ) → SeenAs (clause_at grammar layout before text) (clause_end grammar layout (seen_of before) text)
+  clause_seen : (grammar : Grammar C) (layout : ArrayLayout) (before : ClausesRead C) (text : List ℕ) → SeenAs (clause_at grammar layout before text) (clause_end grammar layout (seen_of before) text)
   unfolding clause_at clause_end
   clause_seen grammar layout before text = by (word_at text)
     where
@@ -152,7 +152,7 @@ module _ {C : Type 0} where
       by false e = refl
 
   -- looking for the end of clauses meets the faults of reading them
-  pub clauses_checked : (n : ℕ) (grammar : Grammar C) (layout : Layout) (before : ClausesRead C) (text : List ℕ) → CheckedAs (clauses_at n grammar layout before text) (clauses_end n grammar layout (seen_of before) text)
+  pub clauses_checked : (n : ℕ) (grammar : Grammar C) (layout : ArrayLayout) (before : ClausesRead C) (text : List ℕ) → CheckedAs (clauses_at n grammar layout before text) (clauses_end n grammar layout (seen_of before) text)
   unfolding clauses_at clauses_end
   clauses_checked zero grammar layout before text = refl
   clauses_checked (suc n) grammar layout before text = by (clauses_checked n grammar layout) (clause_at grammar layout before text) (clause_end grammar layout (seen_of before) text) (clause_seen grammar layout before text)
@@ -180,11 +180,11 @@ module _ {C : Type 0} where
   right_read (Err other) end seen h e = absurd cc
 
   -- a fault of the check is that of the clauses
-  pub check_fails : (n : ℕ) (grammar : Grammar C) (layout : Layout) (text : List ℕ) (kind : ScriptFault) → clauses_end n grammar layout nothing_seen text ≡ Err kind → clauses_at n grammar layout nothing_read text ≡ Err kind
+  pub check_fails : (n : ℕ) (grammar : Grammar C) (layout : ArrayLayout) (text : List ℕ) (kind : ScriptFault) → clauses_end n grammar layout nothing_seen text ≡ Err kind → clauses_at n grammar layout nothing_read text ≡ Err kind
   check_fails n grammar layout text kind e = fault_read (clauses_at n grammar layout nothing_read text) (clauses_end n grammar layout nothing_seen text) kind (clauses_checked n grammar layout nothing_read text) e
 
   -- what was held of clauses that are right is what they give, and only memory may be wanting
-  pub held_gives : (n : ℕ) (grammar : Grammar C) (layout : Layout) (text : List ℕ) (seen : Seen) (held : Result (Clauses C) Trouble) → clauses_end n grammar layout nothing_seen text ≡ Ok seen → Holds read_of held (clauses_at n grammar layout nothing_read text)
+  pub held_gives : (n : ℕ) (grammar : Grammar C) (layout : ArrayLayout) (text : List ℕ) (seen : Seen) (held : Result (Clauses C) Trouble) → clauses_end n grammar layout nothing_seen text ≡ Ok seen → Holds read_of held (clauses_at n grammar layout nothing_read text)
       → Gives always read_of held (clauses_at n grammar layout nothing_read text)
   held_gives n grammar layout text seen (Ok clauses) e h = h
   held_gives n grammar layout text seen (Err (trouble.Line kind)) e h = h
@@ -193,7 +193,7 @@ module _ {C : Type 0} where
 -- ---- directives
 
 -- the clauses of `data` are right where they want memory
-pub data_wants : (layout : Layout) (text : List ℕ) → wants always (clauses_at (length text) region_grammar layout nothing_read text) ≡ true → wants takes_memory (data_at layout text) ≡ true
+pub data_wants : (layout : ArrayLayout) (text : List ℕ) → wants always (clauses_at (length text) region_grammar layout nothing_read text) ≡ true → wants takes_memory (data_at layout text) ≡ true
 unfolding data_at
 data_wants layout text right = by (clauses_at (length text) region_grammar layout nothing_read text) right
   where
@@ -202,7 +202,7 @@ data_wants layout text right = by (clauses_at (length text) region_grammar layou
     by (Err kind) h = absurd cc
 
 -- the clauses of `enter data` are right where they want memory
-pub enter_wants : (layout : Layout) (text rest : List ℕ) → keyword_at (codes "data") text ≡ Ok rest → wants always (clauses_at (length rest) enter_grammar layout nothing_read rest) ≡ true → wants takes_memory (enter_at layout text) ≡ true
+pub enter_wants : (layout : ArrayLayout) (text rest : List ℕ) → keyword_at (codes "data") text ≡ Ok rest → wants always (clauses_at (length rest) enter_grammar layout nothing_read rest) ≡ true → wants takes_memory (enter_at layout text) ≡ true
 unfolding enter_at
 enter_wants layout text rest e right = rw e (by (clauses_at (length rest) enter_grammar layout nothing_read rest) right)
   where
@@ -211,7 +211,7 @@ enter_wants layout text rest e right = rw e (by (clauses_at (length rest) enter_
     by (Err kind) h = absurd cc
 
 -- the clauses of `exit data` are right where they want memory
-pub exit_wants : (layout : Layout) (text rest : List ℕ) → keyword_at (codes "data") text ≡ Ok rest → wants always (clauses_at (length rest) exit_grammar layout nothing_read rest) ≡ true → wants takes_memory (exit_at layout text) ≡ true
+pub exit_wants : (layout : ArrayLayout) (text rest : List ℕ) → keyword_at (codes "data") text ≡ Ok rest → wants always (clauses_at (length rest) exit_grammar layout nothing_read rest) ≡ true → wants takes_memory (exit_at layout text) ≡ true
 unfolding exit_at
 exit_wants layout text rest e right = rw e (by (clauses_at (length rest) exit_grammar layout nothing_read rest) right)
   where
@@ -220,7 +220,7 @@ exit_wants layout text rest e right = rw e (by (clauses_at (length rest) exit_gr
     by (Err kind) h = absurd cc
 
 -- the clauses of `update` are right where they want memory
-pub update_wants : (layout : Layout) (text : List ℕ) → wants always (clauses_at (length text) update_grammar layout nothing_read text) ≡ true → wants takes_memory (update_at layout text) ≡ true
+pub update_wants : (layout : ArrayLayout) (text : List ℕ) → wants always (clauses_at (length text) update_grammar layout nothing_read text) ≡ true → wants takes_memory (update_at layout text) ≡ true
 unfolding update_at
 update_wants layout text right = by (clauses_at (length text) update_grammar layout nothing_read text) right
   where

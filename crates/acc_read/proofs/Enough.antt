@@ -16,8 +16,8 @@ use Rattle.acc_read.specs.declared.items.Kind.{Kind}
 use Rattle.acc_read.specs.declared.items.Kind.TheVariants.{Sections, Items, Pointers}
 use Rattle.acc_read.specs.declared.items.Named.{Named}
 use Rattle.acc_read.specs.Reading.{◌>>=◌}
-use Rattle.acc_read.specs.Tokens.{is_word_byte, is_blank, word_len, skip_blanks, word_at, keyword_at, is_word_next, is_name, name_at, number_of, number_at, number_limit, is_mark_next, mark_at, skip_comma, is_word_before, is_at_end, comma, colon, left_bracket, right_bracket, left_parenthesis, right_parenthesis}
-use Rattle.acc_read.specs.Layout.{Layout, array_of, whole, part_of, byte_of}
+use Rattle.acc_read.specs.Tokens.{is_word_byte, is_blank, word_len, skip_blanks, word_at, keyword_at, is_word_next, is_name, name_at, number_said, number_at, number_limit, is_mark_next, mark_at, skip_comma, is_word_before, is_at_end, comma, colon, left_bracket, right_bracket, left_parenthesis, right_parenthesis}
+use Rattle.acc_read.specs.Layout.{ArrayLayout, array_of, whole, part_of, byte_of}
 use Rattle.acc_read.specs.Places.{known, known_at, offset_at, address_at, part_at, section_at}
 use Rattle.acc_read.specs.Items.{via_at, aim_at, named_at, item_of}
 use Rattle.acc_read.specs.Queues.{queue_number_at, queue_at, first_queue}
@@ -83,8 +83,8 @@ name_shorter text name e =
 number_shorter : (limit : ℕ) (text : List ℕ) (number : ℕ × List ℕ) → number_at limit text ≡ Ok number → length number.1 < length text
 unfolding number_at
 number_shorter limit text number e =
-    let word = bind_is (word_at text) (λ word. number_of limit word.0 >>= (λ n. Ok (n, word.1))) number e in
-    let value = bind_is (number_of limit word.0.0) (λ n. Ok (n, word.0.1)) number word.2 in
+    let word = bind_is (word_at text) (λ word. number_said limit word.0 >>= (λ n. Ok (n, word.1))) number e in
+    let value = bind_is (number_said limit word.0.0) (λ n. Ok (n, word.0.1)) number word.2 in
     let same : (value.0, word.0.1) ≡ number = cc in
     subst (λ (n : ℕ × List ℕ). length n.1 < length text) same (word_shorter text word.0 word.1)
 
@@ -109,7 +109,7 @@ known_is None rest array e = absurd cc
 known_is (Some a) rest array e = let same : (a, rest) ≡ array = cc in ap (λ (x : Array × List ℕ). x.1) same
 
 -- reading the name of an array takes a byte at least
-known_shorter : (layout : Layout) (text : List ℕ) (array : Array × List ℕ) → known_at layout text ≡ Ok array → length array.1 < length text
+known_shorter : (layout : ArrayLayout) (text : List ℕ) (array : Array × List ℕ) → known_at layout text ≡ Ok array → length array.1 < length text
 unfolding known_at
 known_shorter layout text array e =
     let name = bind_is (name_at text) (λ name. known (array_of name.0 layout) name.1) array e in
@@ -127,7 +127,7 @@ part_shorter array text part e =
     omega (arith, rest_len (part_of array from.0.0 len.0.0) close.0 part close.2, mark_shorter left_bracket text bracket.0 bracket.1, number_shorter number_limit bracket.0 from.0 from.1, mark_shorter colon from.0.1 between.0 between.1, number_shorter number_limit between.0 len.0 len.1, mark_shorter right_bracket len.0.1 close.0 close.1)
 
 -- reading a section takes a byte at least
-section_shorter : (layout : Layout) (text : List ℕ) (section : Section × List ℕ) → section_at layout text ≡ Ok section → length section.1 < length text
+section_shorter : (layout : ArrayLayout) (text : List ℕ) (section : Section × List ℕ) → section_at layout text ≡ Ok section → length section.1 < length text
 unfolding section_at
 section_shorter layout text section e =
     let array = bind_is (known_at layout text) (λ array. if is_mark_next left_bracket array.1 then part_at array.0 array.1 else Ok (whole array.0, array.1)) section e in
@@ -164,7 +164,7 @@ offset_shorter array text addr e =
     omega (arith, rest_len (byte_of array from.0.0) close.0 addr close.2, mark_shorter left_bracket text bracket.0 bracket.1, number_shorter number_limit bracket.0 from.0 from.1, mark_shorter right_bracket from.0.1 close.0 close.1)
 
 -- reading an address takes a byte at least
-address_shorter : (layout : Layout) (text : List ℕ) (addr : ℕ × List ℕ) → address_at layout text ≡ Ok addr → length addr.1 < length text
+address_shorter : (layout : ArrayLayout) (text : List ℕ) (addr : ℕ × List ℕ) → address_at layout text ≡ Ok addr → length addr.1 < length text
 unfolding address_at
 address_shorter layout text addr e =
     let array = bind_is (known_at layout text) (λ array. offset_at array.0 array.1) addr e in
@@ -179,7 +179,7 @@ keyword_shorter keyword text rest e =
     subst (λ (xs : List ℕ). length xs < length text) same (word_shorter text word.0 word.1)
 
 -- reading the pointer behind `via` makes no text longer
-via_shorter : (layout : Layout) (text : List ℕ) (aim : Option ℕ × List ℕ) → via_at layout text ≡ Ok aim → length aim.1 ≤ length text
+via_shorter : (layout : ArrayLayout) (text : List ℕ) (aim : Option ℕ × List ℕ) → via_at layout text ≡ Ok aim → length aim.1 ≤ length text
 unfolding via_at
 via_shorter layout text aim e =
     let rest = bind_is (keyword_at (codes "via") text) (λ rest. address_at layout rest >>= (λ pointer. Ok (Some pointer.0, pointer.1))) aim e in
@@ -187,7 +187,7 @@ via_shorter layout text aim e =
     omega (arith, rest_len (some_nat pointer.0.0) pointer.0.1 aim pointer.2, keyword_shorter (codes "via") text rest.0 rest.1, address_shorter layout rest.0 pointer.0 pointer.1)
 
 -- reading the pointer to a section, if there is one, makes no text longer
-aim_shorter : (layout : Layout) (text : List ℕ) (aim : Option ℕ × List ℕ) → aim_at layout text ≡ Ok aim → length aim.1 ≤ length text
+aim_shorter : (layout : ArrayLayout) (text : List ℕ) (aim : Option ℕ × List ℕ) → aim_at layout text ≡ Ok aim → length aim.1 ≤ length text
 unfolding aim_at
 aim_shorter layout text aim e = by (is_word_next (codes "via") text) e
   where
@@ -196,7 +196,7 @@ aim_shorter layout text aim e = by (is_word_next (codes "via") text) e
     by false h = let same : (no_nat, text) ≡ aim = cc in subst (λ (x : Option ℕ × List ℕ). length x.1 ≤ length text) same (omega arith)
 
 -- reading what an item names takes a byte at least
-named_shorter : (kind : Kind) (layout : Layout) (text : List ℕ) (named : Named × List ℕ) → named_at kind layout text ≡ Ok named → length named.1 < length text
+named_shorter : (kind : Kind) (layout : ArrayLayout) (text : List ℕ) (named : Named × List ℕ) → named_at kind layout text ≡ Ok named → length named.1 < length text
 unfolding named_at
 named_shorter Sections layout text named e =
     let section = bind_is (section_at layout text) (λ section. Ok (record { section = section.0; pointer = None }, section.1)) named e in
@@ -232,7 +232,7 @@ queue_le text queue e = by (is_mark_next left_parenthesis text) e
 -- ---- the items of a clause
 
 -- no item stands in an empty text
-no_item : (kind : Kind) (layout : Layout) → named_at kind layout [] ≡ Err Syntax
+no_item : (kind : Kind) (layout : ArrayLayout) → named_at kind layout [] ≡ Err Syntax
 unfolding named_at section_at address_at known_at name_at word_at
 no_item Sections layout = refl
 no_item Items layout = refl
@@ -240,11 +240,11 @@ no_item Pointers layout = refl
 
 module _ {C : Type 0} where
   -- one turn more changes nothing
-  abbrev ItemsAgree : ℕ → Kind → C → Layout → Type 0
+  abbrev ItemsAgree : ℕ → Kind → C → ArrayLayout → Type 0
   ItemsAgree n kind clause layout = (before : List (Item C)) (text : List ℕ) → length text ≤ n → items_at n kind clause layout before text ≡ items_at (suc n) kind clause layout before text
 
   -- one more turn of fuel changes no reading of items
-  items_one_more : (n : ℕ) (kind : Kind) (clause : C) (layout : Layout) → ItemsAgree n kind clause layout
+  items_one_more : (n : ℕ) (kind : Kind) (clause : C) (layout : ArrayLayout) → ItemsAgree n kind clause layout
   unfolding items_at
   items_one_more zero kind clause layout before text le =
       let none : text ≡ [] = nil_from_length text (omega arith) in
@@ -262,14 +262,14 @@ module _ {C : Type 0} where
       by shorter (Err fault) e = refl
 
   -- as much fuel as the text has bytes is enough
-  pub items_enough : (more : ℕ) (kind : Kind) (clause : C) (layout : Layout) (before : List (Item C)) (text : List ℕ) → items_at (length text + more) kind clause layout before text ≡ items_at (length text) kind clause layout before text
+  pub items_enough : (more : ℕ) (kind : Kind) (clause : C) (layout : ArrayLayout) (before : List (Item C)) (text : List ℕ) → items_at (length text + more) kind clause layout before text ≡ items_at (length text) kind clause layout before text
   items_enough zero kind clause layout before text = let e : length text + 0 ≡ length text = omega arith in rw e refl
   items_enough (suc more) kind clause layout before text =
       let e : length text + suc more ≡ suc (length text + more) = omega arith in
       rw e (sym (items_one_more (length text + more) kind clause layout before text (omega arith)) ∙ items_enough more kind clause layout before text)
 
   -- reading items makes no text longer
-  items_le : (n : ℕ) (kind : Kind) (clause : C) (layout : Layout) (before : List (Item C)) (text : List ℕ) (items : List (Item C) × List ℕ) → items_at n kind clause layout before text ≡ Ok items → length items.1 ≤ length text
+  items_le : (n : ℕ) (kind : Kind) (clause : C) (layout : ArrayLayout) (before : List (Item C)) (text : List ℕ) (items : List (Item C) × List ℕ) → items_at n kind clause layout before text ≡ Ok items → length items.1 ≤ length text
   unfolding items_at
   items_le zero kind clause layout before text items e = absurd cc
   items_le (suc n) kind clause layout before text items e =
@@ -307,7 +307,7 @@ module _ {C : Type 0} where
       by false h = let same : (clause, text) ≡ modified = cc in subst (λ (x : C × List ℕ). length x.1 ≤ length text) same (omega arith)
 
   -- reading the items of a clause in parentheses makes no text longer
-  group_le : (grammar : Grammar C) (clause : C) (layout : Layout) (before : List (Item C)) (text : List ℕ) (items : List (Item C) × List ℕ) → group_at grammar clause layout before text ≡ Ok items → length items.1 ≤ length text
+  group_le : (grammar : Grammar C) (clause : C) (layout : ArrayLayout) (before : List (Item C)) (text : List ℕ) (items : List (Item C) × List ℕ) → group_at grammar clause layout before text ≡ Ok items → length items.1 ≤ length text
   unfolding group_at
   group_le grammar clause layout before text items e =
       let inside = bind_is (mark_at left_parenthesis text) (λ inside. modified_at grammar clause inside >>= (λ modified. items_at (length modified.1) (grammar.lists modified.0) modified.0 layout before modified.1 >>= (λ items. mark_at right_parenthesis items.1 >>= (λ close. Ok (items.0, close))))) items e in
@@ -317,7 +317,7 @@ module _ {C : Type 0} where
       omega (arith, rest_len group.0.0 close.0 items close.2, mark_shorter left_parenthesis text inside.0 inside.1, modified_le grammar clause inside.0 modified.0 modified.1, items_le (length modified.0.1) (grammar.lists modified.0.0) modified.0.0 layout before modified.0.1 group.0 group.1, mark_shorter right_parenthesis group.0.1 close.0 close.1)
 
   -- reading a clause of a word makes no text longer
-  listed_le : (o : Option C) (grammar : Grammar C) (layout : Layout) (before : ClausesRead C) (text : List ℕ) (read : ClausesRead C × List ℕ) → listed o grammar layout before text ≡ Ok read → length read.1 ≤ length text
+  listed_le : (o : Option C) (grammar : Grammar C) (layout : ArrayLayout) (before : ClausesRead C) (text : List ℕ) (read : ClausesRead C × List ℕ) → listed o grammar layout before text ≡ Ok read → length read.1 ≤ length text
   listed_le None grammar layout before text read e = absurd cc
   listed_le (Some clause) grammar layout before text read e =
       let items = bind_is (group_at grammar clause layout before.items text) (λ items. Ok (record before { items = items.0 }, items.1)) read e in
@@ -338,7 +338,7 @@ module _ {C : Type 0} where
       subst (λ (x : ClausesRead C × List ℕ). length x.1 ≤ length text) same (queue_le text queue.0 queue.1)
 
   -- reading a clause or an option takes a byte at least
-  clause_shorter : (grammar : Grammar C) (layout : Layout) (before : ClausesRead C) (text : List ℕ) (read : ClausesRead C × List ℕ) → clause_at grammar layout before text ≡ Ok read → length read.1 < length text
+  clause_shorter : (grammar : Grammar C) (layout : ArrayLayout) (before : ClausesRead C) (text : List ℕ) (read : ClausesRead C × List ℕ) → clause_at grammar layout before text ≡ Ok read → length read.1 < length text
   unfolding clause_at
   clause_shorter grammar layout before text read e =
       let word = bind_is (word_at text) (λ word. if grammar.is_option word.0 then passed_over before word.1 else if grammar.is_async word.0 then queued before word.1 else listed (grammar.clause_of word.0) grammar layout before word.1) read e in
@@ -350,16 +350,16 @@ module _ {C : Type 0} where
       by false false o rest less h = omega (arith, listed_le o grammar layout before rest read h)
 
   -- no clause stands in an empty text
-  no_clause : (grammar : Grammar C) (layout : Layout) (before : ClausesRead C) → clause_at grammar layout before [] ≡ Err Syntax
+  no_clause : (grammar : Grammar C) (layout : ArrayLayout) (before : ClausesRead C) → clause_at grammar layout before [] ≡ Err Syntax
   unfolding clause_at word_at
   no_clause grammar layout before = refl
 
   -- one more turn of fuel changes no reading of clauses of a text within a length
-  abbrev ClausesAgree : ℕ → Grammar C → Layout → Type 0
+  abbrev ClausesAgree : ℕ → Grammar C → ArrayLayout → Type 0
   ClausesAgree n grammar layout = (before : ClausesRead C) (text : List ℕ) → length text ≤ n → clauses_at n grammar layout before text ≡ clauses_at (suc n) grammar layout before text
 
   -- clauses are read the same with one more turn of fuel
-  clauses_one_more : (n : ℕ) (grammar : Grammar C) (layout : Layout) → ClausesAgree n grammar layout
+  clauses_one_more : (n : ℕ) (grammar : Grammar C) (layout : ArrayLayout) → ClausesAgree n grammar layout
   unfolding clauses_at
   clauses_one_more zero grammar layout before text le =
       let none : text ≡ [] = nil_from_length text (omega arith) in
@@ -376,7 +376,7 @@ module _ {C : Type 0} where
       by shorter (Err kind) e = refl
 
   -- as much fuel as the text has bytes is enough
-  pub clauses_enough : (more : ℕ) (grammar : Grammar C) (layout : Layout) (before : ClausesRead C) (text : List ℕ) → clauses_at (length text + more) grammar layout before text ≡ clauses_at (length text) grammar layout before text
+  pub clauses_enough : (more : ℕ) (grammar : Grammar C) (layout : ArrayLayout) (before : ClausesRead C) (text : List ℕ) → clauses_at (length text + more) grammar layout before text ≡ clauses_at (length text) grammar layout before text
   clauses_enough zero grammar layout before text = let e : length text + 0 ≡ length text = omega arith in rw e refl
   clauses_enough (suc more) grammar layout before text =
       let e : length text + suc more ≡ suc (length text + more) = omega arith in

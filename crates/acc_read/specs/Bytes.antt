@@ -17,7 +17,7 @@ decoded (Ok bytes) = Ok bytes
 decoded (Err odd) = Err Number
 
 -- the bytes that a word says, two digits of either case each
-unfoldable pub bytes_of : List ℕ → Result (List ℕ) ScriptFault
-bytes_of word = if not (list_all is_ascii_hexdigit word) then Err Syntax
+unfoldable pub bytes_said : List ℕ → Result (List ℕ) ScriptFault
+bytes_said word = if not (list_all is_ascii_hexdigit word) then Err Syntax
     else if nat_lt digit_limit (length word) then Err Number
     else decoded (decode_of word)

@@ -7,21 +7,21 @@ use Rattle.acc_read.specs.declared.checks.Seen.{Seen}
 use Rattle.acc_read.specs.declared.items.Kind.{Kind}
 use Rattle.acc_read.specs.Reading.{◌>>=◌}
 use Rattle.acc_read.specs.Tokens.{word_at, mark_at, is_mark_next, is_at_end, skip_comma, left_parenthesis, right_parenthesis, comma}
-use Rattle.acc_read.specs.Layout.{Layout}
+use Rattle.acc_read.specs.Layout.{ArrayLayout}
 use Rattle.acc_read.specs.Items.{named_at}
 use Rattle.acc_read.specs.Queues.{queue_at}
 use Rattle.acc_read.specs.Grammar.{Grammar}
 use Rattle.acc_read.specs.Clauses.{modified_at}
 
 -- the text after one item or more, separated by commas; fuel bounds their number
-unfoldable pub items_end : (fuel : ℕ) → Kind → Layout → List ℕ → Result (List ℕ) ScriptFault
+unfoldable pub items_end : (fuel : ℕ) → Kind → ArrayLayout → List ℕ → Result (List ℕ) ScriptFault
 items_end zero kind layout text = Err Syntax
 items_end (suc fuel) kind layout text = do
   named ← named_at kind layout text
   if is_mark_next comma named.1 then items_end fuel kind layout (skip_comma named.1) else Ok named.1
 
 -- the text after the items of a clause in parentheses
-unfoldable pub group_end : {C : Type 0} → Grammar C → C → Layout → List ℕ → Result (List ℕ) ScriptFault
+unfoldable pub group_end : {C : Type 0} → Grammar C → C → ArrayLayout → List ℕ → Result (List ℕ) ScriptFault
 group_end grammar clause layout text = do
   inside ← mark_at left_parenthesis text
   modified ← modified_at grammar clause inside
@@ -33,7 +33,7 @@ abbrev pub nothing_seen : Seen
 nothing_seen = record { clause = false; has_option = false; has_queue = false }
 
 -- the text after a clause of a word, if the word is one
-abbrev pub listed_end : {C : Type 0} → Option C → Grammar C → Layout → Seen → List ℕ → Result (Seen × List ℕ) ScriptFault
+abbrev pub listed_end : {C : Type 0} → Option C → Grammar C → ArrayLayout → Seen → List ℕ → Result (Seen × List ℕ) ScriptFault
 listed_end None grammar layout seen rest = Err Syntax
 listed_end (Some clause) grammar layout seen rest = do
   after ← group_end grammar clause layout rest
@@ -54,7 +54,7 @@ abbrev pub queue_end : Seen → List ℕ → Result (Seen × List ℕ) ScriptFau
 queue_end seen rest = if seen.has_queue then Err Syntax else with_queue_end seen rest
 
 -- the text after a clause or an option, and what was seen with it
-unfoldable pub clause_end : {C : Type 0} → Grammar C → Layout → Seen → List ℕ → Result (Seen × List ℕ) ScriptFault
+unfoldable pub clause_end : {C : Type 0} → Grammar C → ArrayLayout → Seen → List ℕ → Result (Seen × List ℕ) ScriptFault
 clause_end grammar layout seen text = do
   word ← word_at text
   if grammar.is_option word.0
@@ -67,7 +67,7 @@ abbrev pub seen_clause : Seen → Result Seen ScriptFault
 seen_clause seen = if seen.clause then Ok seen else Err Syntax
 
 -- what is seen up to the end of the line, with a clause among it; fuel bounds the number of clauses and options
-unfoldable pub clauses_end : {C : Type 0} → (fuel : ℕ) → Grammar C → Layout → Seen → List ℕ → Result Seen ScriptFault
+unfoldable pub clauses_end : {C : Type 0} → (fuel : ℕ) → Grammar C → ArrayLayout → Seen → List ℕ → Result Seen ScriptFault
 clauses_end zero grammar layout seen text = Err Syntax
 clauses_end (suc fuel) grammar layout seen text = do
   after ← clause_end grammar layout seen text

@@ -6,7 +6,7 @@ use Rattle.acc_base.specs.declared.items.Item.{Item}
 use Rattle.acc_read.specs.declared.items.Kind.{Kind}
 use Rattle.acc_read.specs.Reading.{◌>>=◌}
 use Rattle.acc_read.specs.Tokens.{word_at, mark_at, is_mark_next, is_word_before, is_at_end, skip_comma, left_parenthesis, right_parenthesis, colon, comma}
-use Rattle.acc_read.specs.Layout.{Layout}
+use Rattle.acc_read.specs.Layout.{ArrayLayout}
 use Rattle.acc_read.specs.Items.{named_at, item_of}
 use Rattle.acc_read.specs.Queues.{queue_at}
 use Rattle.acc_read.specs.Grammar.{Grammar}
@@ -15,7 +15,7 @@ use Rattle.acc_read.specs.Grammar.{Grammar}
 
 -- one item or more, separated by commas, behind the items before; fuel bounds their number, and as much as the text
 -- has bytes is enough (`items_enough`)
-unfoldable pub items_at : {C : Type 0} → (fuel : ℕ) → Kind → C → Layout → List (Item C) → List ℕ → Result (List (Item C) × List ℕ) ScriptFault
+unfoldable pub items_at : {C : Type 0} → (fuel : ℕ) → Kind → C → ArrayLayout → List (Item C) → List ℕ → Result (List (Item C) × List ℕ) ScriptFault
 items_at zero kind clause layout before text = Err Syntax
 items_at (suc fuel) kind clause layout before text = do
   named ← named_at kind layout text
@@ -42,7 +42,7 @@ unfoldable pub modified_at : {C : Type 0} → Grammar C → C → List ℕ → R
 modified_at grammar clause text = if is_word_before colon text then modifier_at grammar clause text else Ok (clause, text)
 
 -- the items of a clause, in parentheses
-unfoldable pub group_at : {C : Type 0} → Grammar C → C → Layout → List (Item C) → List ℕ → Result (List (Item C) × List ℕ) ScriptFault
+unfoldable pub group_at : {C : Type 0} → Grammar C → C → ArrayLayout → List (Item C) → List ℕ → Result (List (Item C) × List ℕ) ScriptFault
 group_at grammar clause layout before text = do
   inside ← mark_at left_parenthesis text
   modified ← modified_at grammar clause inside
@@ -63,7 +63,7 @@ abbrev pub nothing_read : {C : Type 0} → ClausesRead C
 nothing_read = record { items = []; has_option = false; queue = None }
 
 -- the items of the clause of a word, behind those before, if the word is one
-abbrev pub listed : {C : Type 0} → Option C → Grammar C → Layout → ClausesRead C → List ℕ → Result (ClausesRead C × List ℕ) ScriptFault
+abbrev pub listed : {C : Type 0} → Option C → Grammar C → ArrayLayout → ClausesRead C → List ℕ → Result (ClausesRead C × List ℕ) ScriptFault
 listed None grammar layout before rest = Err Syntax
 listed (Some clause) grammar layout before rest = do
   items ← group_at grammar clause layout before.items rest
@@ -84,7 +84,7 @@ abbrev pub queued : {C : Type 0} → ClausesRead C → List ℕ → Result (Clau
 queued before rest = if is_some before.queue then Err Syntax else with_queue before rest
 
 -- a clause or an option
-unfoldable pub clause_at : {C : Type 0} → Grammar C → Layout → ClausesRead C → List ℕ → Result (ClausesRead C × List ℕ) ScriptFault
+unfoldable pub clause_at : {C : Type 0} → Grammar C → ArrayLayout → ClausesRead C → List ℕ → Result (ClausesRead C × List ℕ) ScriptFault
 clause_at grammar layout before text = do
   word ← word_at text
   if grammar.is_option word.0
@@ -98,7 +98,7 @@ with_clause read = if length read.items == 0 then Err Syntax else Ok read
 
 -- clauses and options up to the end of the line, with or without a comma between two of them; fuel bounds their number,
 -- and as much as the text has bytes is enough (`clauses_enough`)
-unfoldable pub clauses_at : {C : Type 0} → (fuel : ℕ) → Grammar C → Layout → ClausesRead C → List ℕ → Result (ClausesRead C) ScriptFault
+unfoldable pub clauses_at : {C : Type 0} → (fuel : ℕ) → Grammar C → ArrayLayout → ClausesRead C → List ℕ → Result (ClausesRead C) ScriptFault
 clauses_at zero grammar layout before text = Err Syntax
 clauses_at (suc fuel) grammar layout before text = do
   read ← clause_at grammar layout before text

@@ -8,22 +8,22 @@ use Rattle.acc_read.specs.declared.items.Kind.TheVariants.{Sections, Items, Poin
 use Rattle.acc_read.specs.declared.items.Named.{Named}
 use Rattle.acc_read.specs.Reading.{◌>>=◌}
 use Rattle.acc_read.specs.Tokens.{is_word_next, keyword_at}
-use Rattle.acc_read.specs.Layout.{Layout}
+use Rattle.acc_read.specs.Layout.{ArrayLayout}
 use Rattle.acc_read.specs.Places.{address_at, section_at}
 
 -- the pointer behind the word `via`
-unfoldable pub via_at : Layout → List ℕ → Result (Option ℕ × List ℕ) ScriptFault
+unfoldable pub via_at : ArrayLayout → List ℕ → Result (Option ℕ × List ℕ) ScriptFault
 via_at layout text = do
   rest ← keyword_at (codes "via") text
   pointer ← address_at layout rest
   Ok (Some pointer.0, pointer.1)
 
 -- the pointer to a section, where the word `via` stands next
-unfoldable pub aim_at : Layout → List ℕ → Result (Option ℕ × List ℕ) ScriptFault
+unfoldable pub aim_at : ArrayLayout → List ℕ → Result (Option ℕ × List ℕ) ScriptFault
 aim_at layout text = if is_word_next (codes "via") text then via_at layout text else Ok (None, text)
 
 -- a section; or a section, and the pointer to it where one is named; or a pointer, which is its own eight bytes
-unfoldable pub named_at : Kind → Layout → List ℕ → Result (Named × List ℕ) ScriptFault
+unfoldable pub named_at : Kind → ArrayLayout → List ℕ → Result (Named × List ℕ) ScriptFault
 named_at Sections layout text = do
   section ← section_at layout text
   Ok (record { section = section.0; pointer = None }, section.1)

@@ -9,7 +9,7 @@ use Rattle.acc_read.specs.declared.kernels.ScriptKernel.{ScriptKernel}
 use Rattle.acc_read.specs.declared.kernels.ScriptKernel.TheVariants.{Add, Xor, Number, Plus}
 use Rattle.acc_read.specs.Reading.{◌>>=◌}
 use Rattle.acc_read.specs.Tokens.{word_at, number_at}
-use Rattle.acc_read.specs.Layout.{Layout}
+use Rattle.acc_read.specs.Layout.{ArrayLayout}
 use Rattle.acc_read.specs.Places.{section_at, last_section_at}
 
 -- the greatest number of a kernel
@@ -17,14 +17,14 @@ abbrev pub byte_limit : ℕ
 byte_limit = 255
 
 -- `K REF`: a number up to that of a byte, and the section, up to the end of the line
-unfoldable pub last_number_at : Layout → List ℕ → Result (ℕ × Section) ScriptFault
+unfoldable pub last_number_at : ArrayLayout → List ℕ → Result (ℕ × Section) ScriptFault
 last_number_at layout text = do
   number ← number_at byte_limit text
   section ← last_section_at layout number.1
   Ok (number.0, section)
 
 -- `REF REF`: the source and the section, up to the end of the line
-unfoldable pub last_source_at : Layout → List ℕ → Result (Section × Section) ScriptFault
+unfoldable pub last_source_at : ArrayLayout → List ℕ → Result (Section × Section) ScriptFault
 last_source_at layout text = do
   source ← section_at layout text
   section ← last_section_at layout source.1
@@ -36,7 +36,7 @@ formed form (Ok read) = Ok (form read.0, read.1)
 formed form (Err kind) = Err kind
 
 -- a kernel and its section, by the word of the kernel
-unfoldable pub named_kernel_at : List ℕ → Layout → List ℕ → Result (ScriptKernel × Section) ScriptFault
+unfoldable pub named_kernel_at : List ℕ → ArrayLayout → List ℕ → Result (ScriptKernel × Section) ScriptFault
 named_kernel_at word layout text =
     if bytes_eq word (codes "add") then formed Add (last_number_at layout text)
     else if bytes_eq word (codes "xor") then formed Xor (last_number_at layout text)
@@ -45,7 +45,7 @@ named_kernel_at word layout text =
     else Err Syntax
 
 -- `add K REF`, `xor K REF`, `number K REF` or `plus REF REF`, up to the end of the line
-unfoldable pub last_kernel_at : Layout → List ℕ → Result (ScriptKernel × Section) ScriptFault
+unfoldable pub last_kernel_at : ArrayLayout → List ℕ → Result (ScriptKernel × Section) ScriptFault
 last_kernel_at layout text = do
   word ← word_at text
   named_kernel_at word.0 layout word.1

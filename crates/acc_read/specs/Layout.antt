@@ -13,27 +13,27 @@ abbrev pub Names : Type 0
 Names = map.FinMap (slice_cmp nat_cmp) Array
 
 -- the arrays, the address behind the last one, and the address behind host memory
-pub record Layout : Type 0 where
+pub record ArrayLayout : Type 0 where
   pub names : Names
   pub last_end : ℕ
   pub limit : ℕ
 
 -- no array, in host memory of a size
-abbrev pub new_layout : ℕ → Layout
-new_layout host = record { names = map.empty; last_end = host_base; limit = host_base + host }
+abbrev pub no_arrays : ℕ → ArrayLayout
+no_arrays host = record { names = map.empty; last_end = host_base; limit = host_base + host }
 
 -- the array of a name, if it is declared
-abbrev pub array_of : List ℕ → Layout → Option Array
+abbrev pub array_of : List ℕ → ArrayLayout → Option Array
 array_of name layout = map.get layout.names name
 
 -- the next array of a length: it starts at the least multiple of 16 at or after the end of the one before
-abbrev pub next_array : ℕ → Layout → Option Array
+abbrev pub next_array : ℕ → ArrayLayout → Option Array
 next_array len layout =
     let start = rounded layout.last_end in
     if nat_lt layout.limit (start + len) then None else Some (record { start = start; end = start + len })
 
 -- a layout with one more array, behind the others
-abbrev pub with_array : List ℕ → Array → Layout → Layout
+abbrev pub with_array : List ℕ → Array → ArrayLayout → ArrayLayout
 with_array name array layout = record { names = map.insert layout.names name array; last_end = array.end; limit = layout.limit }
 
 -- all of an array

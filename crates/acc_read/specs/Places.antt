@@ -6,7 +6,7 @@ use Rattle.acc_base.specs.declared.items.Section.{Section}
 use Rattle.acc_read.specs.declared.arrays.Array.{Array}
 use Rattle.acc_read.specs.Reading.{◌>>=◌}
 use Rattle.acc_read.specs.Tokens.{name_at, number_at, number_limit, mark_at, is_mark_next, is_at_end, left_bracket, right_bracket, colon}
-use Rattle.acc_read.specs.Layout.{Layout, array_of, whole, part_of, byte_of}
+use Rattle.acc_read.specs.Layout.{ArrayLayout, array_of, whole, part_of, byte_of}
 
 -- an array, if its name is declared, and the text after the name
 abbrev pub known : Option Array → List ℕ → Result (Array × List ℕ) ScriptFault
@@ -14,7 +14,7 @@ known None rest = Err UnknownName
 known (Some array) rest = Ok (array, rest)
 
 -- the array that the next word names, and the text after it
-unfoldable pub known_at : Layout → List ℕ → Result (Array × List ℕ) ScriptFault
+unfoldable pub known_at : ArrayLayout → List ℕ → Result (Array × List ℕ) ScriptFault
 known_at layout text = do
   name ← name_at text
   known (array_of name.0 layout) name.1
@@ -30,13 +30,13 @@ offset_at array text = do
   Ok (byte_of array from.0, close)
 
 -- the address of a byte of an array
-unfoldable pub address_at : Layout → List ℕ → Result (ℕ × List ℕ) ScriptFault
+unfoldable pub address_at : ArrayLayout → List ℕ → Result (ℕ × List ℕ) ScriptFault
 address_at layout text = do
   array ← known_at layout text
   offset_at array.0 array.1
 
 -- an address, up to the end of the line
-unfoldable pub last_address_at : Layout → List ℕ → Result ℕ ScriptFault
+unfoldable pub last_address_at : ArrayLayout → List ℕ → Result ℕ ScriptFault
 last_address_at layout text = do
   addr ← address_at layout text
   if is_at_end addr.1 then Ok addr.0 else Err Syntax
@@ -54,13 +54,13 @@ part_at array text = do
   Ok (part_of array from.0 len.0, close)
 
 -- an array, or a part of one
-unfoldable pub section_at : Layout → List ℕ → Result (Section × List ℕ) ScriptFault
+unfoldable pub section_at : ArrayLayout → List ℕ → Result (Section × List ℕ) ScriptFault
 section_at layout text = do
   array ← known_at layout text
   if is_mark_next left_bracket array.1 then part_at array.0 array.1 else Ok (whole array.0, array.1)
 
 -- a section, up to the end of the line
-unfoldable pub last_section_at : Layout → List ℕ → Result Section ScriptFault
+unfoldable pub last_section_at : ArrayLayout → List ℕ → Result Section ScriptFault
 last_section_at layout text = do
   section ← section_at layout text
   if is_at_end section.1 then Ok section.0 else Err Syntax

@@ -12,10 +12,10 @@ use Rattle.acc_read.specs.declared.arrays.Array.{Array}
 use Rattle.acc_read.specs.declared.kernels.ScriptKernel.{ScriptKernel}
 use Rattle.acc_read.specs.Reading.{◌>>=◌}
 use Rattle.acc_read.specs.Tokens.{word_at, keyword_at, name_at, number_at, number_limit, is_at_end, tab}
-use Rattle.acc_read.specs.Layout.{Layout, array_of, next_array}
+use Rattle.acc_read.specs.Layout.{ArrayLayout, array_of, next_array}
 use Rattle.acc_read.specs.Places.{address_at, last_address_at, last_section_at}
 use Rattle.acc_read.specs.Queues.{last_queue_at}
-use Rattle.acc_read.specs.Bytes.{bytes_of}
+use Rattle.acc_read.specs.Bytes.{bytes_said}
 use Rattle.acc_read.specs.Grammar.{region_grammar, enter_grammar, exit_grammar, update_grammar}
 use Rattle.acc_read.specs.Clauses.{nothing_read, clauses_at}
 use Rattle.acc_read.specs.Kernels.{last_kernel_at}
@@ -48,7 +48,7 @@ declared name None = Err HostFull
 declared name (Some array) = Ok (Declare name array)
 
 -- the length of a new array
-unfoldable pub length_at : List ℕ → Layout → List ℕ → Result Meaning ScriptFault
+unfoldable pub length_at : List ℕ → ArrayLayout → List ℕ → Result Meaning ScriptFault
 length_at name layout text = do
   len ← number_at number_limit text
   if len.0 == 0 then Err Number
@@ -56,7 +56,7 @@ length_at name layout text = do
       else declared name (next_array len.0 layout)
 
 -- `array NAME N`
-unfoldable pub array_at : Layout → List ℕ → Result Meaning ScriptFault
+unfoldable pub array_at : ArrayLayout → List ℕ → Result Meaning ScriptFault
 array_at layout text = do
   name ← name_at text
   if is_some (array_of name.0 layout) then Err NameTaken else length_at name.0 layout name.1
@@ -64,7 +64,7 @@ array_at layout text = do
 -- ---- directives
 
 -- `data CLAUSES` (OpenACC 3.3, the data construct)
-unfoldable pub data_at : Layout → List ℕ → Result Meaning ScriptFault
+unfoldable pub data_at : ArrayLayout → List ℕ → Result Meaning ScriptFault
 data_at layout text = do
   read ← clauses_at (length text) region_grammar layout nothing_read text
   Ok (Direct (Enter read.items))
@@ -81,21 +81,21 @@ end_at innermost text = do
   if is_at_end rest then exited innermost else Err Syntax
 
 -- `enter data CLAUSES`, with the option `async` (OpenACC 3.3, the enter data directive)
-unfoldable pub enter_at : Layout → List ℕ → Result Meaning ScriptFault
+unfoldable pub enter_at : ArrayLayout → List ℕ → Result Meaning ScriptFault
 enter_at layout text = do
   rest ← keyword_at (codes "data") text
   read ← clauses_at (length rest) enter_grammar layout nothing_read rest
   Ok (Direct (EnterData read.items read.queue))
 
 -- `exit data CLAUSES`, with the options `finalize` and `async` (OpenACC 3.3, the exit data directive)
-unfoldable pub exit_at : Layout → List ℕ → Result Meaning ScriptFault
+unfoldable pub exit_at : ArrayLayout → List ℕ → Result Meaning ScriptFault
 exit_at layout text = do
   rest ← keyword_at (codes "data") text
   read ← clauses_at (length rest) exit_grammar layout nothing_read rest
   Ok (Direct (ExitData read.items read.has_option read.queue))
 
 -- `update CLAUSES`, with the options `if_present` and `async` (OpenACC 3.3, the update directive)
-unfoldable pub update_at : Layout → List ℕ → Result Meaning ScriptFault
+unfoldable pub update_at : ArrayLayout → List ℕ → Result Meaning ScriptFault
 update_at layout text = do
   read ← clauses_at (length text) update_grammar layout nothing_read text
   Ok (Direct (Update read.items read.has_option read.queue))
@@ -119,16 +119,16 @@ step_at text = do
 -- ---- kernels
 
 -- a kernel and its section in the innermost open region, where one is open
-abbrev pub launched : Option ℕ → ScriptKernel × Section → Result Meaning ScriptFault
-launched None read = Err NoOpenRegion
-launched (Some region) read = Ok (Kernel region read.0 read.1)
+abbrev pub launch_said : Option ℕ → ScriptKernel × Section → Result Meaning ScriptFault
+launch_said None read = Err NoOpenRegion
+launch_said (Some region) read = Ok (Kernel region read.0 read.1)
 
 -- `kernel`, a kernel and its section, in the innermost open region; each other fault of the line is told before there
 -- is none (OpenACC 3.3, section 2.5, compute constructs)
-unfoldable pub kernel_at : Layout → Option ℕ → List ℕ → Result Meaning ScriptFault
+unfoldable pub kernel_at : ArrayLayout → Option ℕ → List ℕ → Result Meaning ScriptFault
 kernel_at layout innermost text = do
   read ← last_kernel_at layout text
-  launched innermost read
+  launch_said innermost read
 
 -- ---- writes
 
@@ -136,18 +136,18 @@ kernel_at layout innermost text = do
 unfoldable pub last_bytes_at : List ℕ → Result (List ℕ) ScriptFault
 last_bytes_at text = do
   word ← word_at text
-  bytes ← bytes_of word.0
+  bytes ← bytes_said word.0
   if is_at_end word.1 then Ok bytes else Err Syntax
 
 -- `write NAME[N] HEX`
-unfoldable pub write_at : Layout → List ℕ → Result Meaning ScriptFault
+unfoldable pub write_at : ArrayLayout → List ℕ → Result Meaning ScriptFault
 write_at layout text = do
   addr ← address_at layout text
   bytes ← last_bytes_at addr.1
   Ok (Write addr.0 bytes)
 
 -- `point PLACE to PLACE`: the eight bytes of the second address, lowest first, written at the first
-unfoldable pub point_at : Layout → List ℕ → Result Meaning ScriptFault
+unfoldable pub point_at : ArrayLayout → List ℕ → Result Meaning ScriptFault
 point_at layout text = do
   pointer ← address_at layout text
   rest ← keyword_at (codes "to") pointer.1
@@ -166,7 +166,7 @@ asked ask (Ok x) = Ok (ask x)
 asked ask (Err kind) = Err kind
 
 -- a question, by its word: `show REF`, `peek REF`, `present REF`, `address NAME[N]` or `report`
-unfoldable pub question_at : List ℕ → Layout → List ℕ → Result Meaning ScriptFault
+unfoldable pub question_at : List ℕ → ArrayLayout → List ℕ → Result Meaning ScriptFault
 question_at word layout text =
     if bytes_eq word (codes "show") then asked Show (last_section_at layout text)
     else if bytes_eq word (codes "peek") then asked Peek (last_section_at layout text)
@@ -178,7 +178,7 @@ question_at word layout text =
 -- ---- a statement
 
 -- a statement, by its first word
-unfoldable pub statement_at : Layout → Option ℕ → List ℕ → Result Meaning ScriptFault
+unfoldable pub statement_at : ArrayLayout → Option ℕ → List ℕ → Result Meaning ScriptFault
 statement_at layout innermost text = do
   word ← word_at text
   if bytes_eq word.0 (codes "array") then array_at layout word.1
@@ -214,7 +214,7 @@ line_limit = 4096
 
 -- what a line asks for, where the innermost open region has a number, if one is open; a line that is too long is told
 -- first, then a byte that is no text
-unfoldable pub line_at : Layout → Option ℕ → List ℕ → Result Meaning ScriptFault
+unfoldable pub line_at : ArrayLayout → Option ℕ → List ℕ → Result Meaning ScriptFault
 line_at layout innermost line = if nat_lt line_limit (length line) then Err TooLong
     else if not (list_all is_text_byte (before_comment line)) then Err NotText
     else if is_at_end (before_comment line) then Ok Blank

@@ -107,14 +107,14 @@ abbrev pub value_of : List ℕ → ℕ
 value_of digits = fold (λ value digit. value * 10 + (digit - 48)) 0 digits
 
 -- the number that a word of digits says, up to a limit
-unfoldable pub number_of : ℕ → List ℕ → Result ℕ ScriptFault
-number_of limit word = if not (list_all is_ascii_digit word) then Err Syntax else if nat_le (value_of word) limit then Ok (value_of word) else Err Number
+unfoldable pub number_said : ℕ → List ℕ → Result ℕ ScriptFault
+number_said limit word = if not (list_all is_ascii_digit word) then Err Syntax else if nat_le (value_of word) limit then Ok (value_of word) else Err Number
 
 -- the next word as a number up to a limit, and the text after it
 unfoldable pub number_at : ℕ → List ℕ → Result (ℕ × List ℕ) ScriptFault
 number_at limit text = do
   word ← word_at text
-  number ← number_of limit word.0
+  number ← number_said limit word.0
   Ok (number, word.1)
 
 -- the greatest number of the language

@@ -1,7 +1,7 @@
 //! The arrays of a script, and where they lie in host memory.
 
 ghost use Rattle.std.specs.Prelude.{◌≡◌, ◌+◌, ◌≤◌, OnOk, OnErr};
-ghost use Rattle.acc_read.specs.Layout.{new_layout, array_of, next_array, with_array, whole, part_of, byte_of};
+ghost use Rattle.acc_read.specs.Layout.{no_arrays, array_of, next_array, with_array, whole, part_of, byte_of};
 
 use acc_base::{HOST_BASE, MEMORY_MAX, Section};
 use std::alloc::{AllocError, Global};
@@ -57,10 +57,10 @@ pub struct Arrays {
 }
 
 impl Model for Arrays {
-    ghost use Rattle.acc_read.specs.Layout.{Layout};
+    ghost use Rattle.acc_read.specs.Layout.{ArrayLayout};
     ghost use Rattle.acc_read.specs.Coding.{layout_code};
 
-    ghost Value = { Layout };
+    ghost Value = { ArrayLayout };
 
     ghost coded = { layout_code };
 
@@ -73,7 +73,7 @@ impl Arrays {
     /// No array, in host memory of `host` bytes.
     pub fn new(alloc: Global, host: u32) -> Arrays
         requires { host ≤ MEMORY_MAX }
-        ensures { result ≡ new_layout host }
+        ensures { result ≡ no_arrays host }
     {
         Arrays {
             names: BTreeMap::new(alloc),

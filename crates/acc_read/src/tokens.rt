@@ -5,8 +5,8 @@ ghost use Rattle.std.specs.List.{list_all, prefix_len};
 ghost use Rattle.std.specs.Char.{is_ascii_digit, is_ascii_hexdigit};
 ghost use Rattle.std.specs.Str.{bytes_eq};
 ghost use Rattle.acc_read.specs.Reading.{Reads, Checks};
-ghost use Rattle.acc_read.specs.Tokens.{is_blank, is_word_byte, word_len, skip_blanks, is_at_end, word_at, keyword_at, is_word_next, is_mark_next, mark_at, skip_comma, is_word_before, number_of, number_at, is_name_byte, begins_lower, is_name, value_of, name_at};
-ghost use Rattle.acc_read.specs.Bytes.{bytes_of};
+ghost use Rattle.acc_read.specs.Tokens.{is_blank, is_word_byte, word_len, skip_blanks, is_at_end, word_at, keyword_at, is_word_next, is_mark_next, mark_at, skip_comma, is_word_before, number_said, number_at, is_name_byte, begins_lower, is_name, value_of, name_at};
+ghost use Rattle.acc_read.specs.Bytes.{bytes_said};
 
 use acc_base::{List, ScriptFault};
 use std::alloc::{AllocError, Global};
@@ -157,9 +157,9 @@ fn capped_value(limit: u32, digits: &[u8]) -> u64
 }
 
 /// The number that a word says, up to a limit.
-#[tactic(auto, using(crate::proofs::Numbers::is_above, crate::proofs::Numbers::is_number), unfolding(crate::specs::Tokens::number_of))]
-fn number_of(limit: u32, word: &[u8]) -> Result<u32, ScriptFault>
-    ensures read { Reads (λ n. n) result (number_of limit word.now) }
+#[tactic(auto, using(crate::proofs::Numbers::is_above, crate::proofs::Numbers::is_number), unfolding(crate::specs::Tokens::number_said))]
+fn number_said(limit: u32, word: &[u8]) -> Result<u32, ScriptFault>
+    ensures read { Reads (λ n. n) result (number_said limit word.now) }
     ensures bound { IfOk result (λ n. n ≤ limit) }
 {
     if !has_digits(word) {
@@ -179,7 +179,7 @@ pub fn number_at(limit: u32, text: &[u8]) -> Result<(u32, &[u8]), ScriptFault>
     ensures bound { IfOk result (λ x. x.0 ≤ limit) }
 {
     let (word, rest) = word_at(text)?;
-    Ok((number_of(limit, word)?, rest))
+    Ok((number_said(limit, word)?, rest))
 }
 
 /// The byte may stand in a name.
@@ -238,7 +238,7 @@ fn has_hex_digits(word: &[u8]) -> bool
 /// Whether a word says bytes, and else its fault.
 #[tactic(auto, using(crate::proofs::ByteWords::not_digits, crate::proofs::ByteWords::many_digits, crate::proofs::ByteWords::odd_digits, crate::proofs::ByteWords::right_word))]
 pub fn check_bytes(word: &[u8]) -> Result<(), ScriptFault>
-    ensures { Checks result (bytes_of word.now) }
+    ensures { Checks result (bytes_said word.now) }
 {
     if !has_hex_digits(word) {
         return Err(ScriptFault::Syntax);
@@ -254,9 +254,9 @@ pub fn check_bytes(word: &[u8]) -> Result<(), ScriptFault>
 
 /// The bytes that a word says, two digits each.
 #[tactic(auto, using(crate::proofs::ByteWords::word_decoded))]
-pub fn bytes_of(alloc: Global, word: &[u8]) -> Result<List<u8>, AllocError>
-    requires { IsOk (bytes_of word.now) }
-    ensures { IfOk result (λ bytes. bytes_of word.now ≡ Ok bytes) }
+pub fn bytes_said(alloc: Global, word: &[u8]) -> Result<List<u8>, AllocError>
+    requires { IsOk (bytes_said word.now) }
+    ensures { IfOk result (λ bytes. bytes_said word.now ≡ Ok bytes) }
 {
     match hex::decode(alloc, word) {
         Ok(bytes) => Ok(List::from_vec(bytes)),

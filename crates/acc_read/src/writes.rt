@@ -4,12 +4,12 @@ ghost use Rattle.std.specs.Prelude.{◌≡◌, IsOk, MatchResult};
 ghost use Rattle.acc_read.specs.Reading.{Gives};
 ghost use Rattle.acc_read.specs.Statements.{write_at, last_bytes_at, point_at, takes_memory};
 ghost use Rattle.acc_read.specs.Meanings.{meaning_of};
-ghost use Rattle.acc_read.specs.Bytes.{bytes_of};
+ghost use Rattle.acc_read.specs.Bytes.{bytes_said};
 
 use crate::arrays::Arrays;
 use crate::places::{address_at, last_address_at};
 use crate::statements::Statement;
-use crate::tokens::{bytes_of, check_bytes, is_at_end, keyword_at, word_at};
+use crate::tokens::{bytes_said, check_bytes, is_at_end, keyword_at, word_at};
 use crate::troubles::Trouble;
 use acc_base::{List, ScriptFault};
 use std::alloc::Global;
@@ -21,7 +21,7 @@ pub fn write_at(alloc: Global, arrays: &Arrays, text: &[u8]) -> Result<Statement
 {
     let (addr, rest) = address_at(arrays, text)?;
     let word = last_bytes_at(rest)?;
-    let bytes = bytes_of(alloc, word)?;
+    let bytes = bytes_said(alloc, word)?;
     Ok(Statement::Write { addr, bytes })
 }
 
@@ -29,7 +29,7 @@ pub fn write_at(alloc: Global, arrays: &Arrays, text: &[u8]) -> Result<Statement
 #[tactic(auto, using(crate::proofs::ByteWords::last_faulty, crate::proofs::ByteWords::last_open, crate::proofs::ByteWords::last_said, crate::proofs::ByteWords::no_word))]
 fn last_bytes_at(text: &[u8]) -> Result<&[u8], ScriptFault>
     ensures { MatchResult result
-        (λ word. IsOk (bytes_of word.now) × (last_bytes_at text.now ≡ bytes_of word.now))
+        (λ word. IsOk (bytes_said word.now) × (last_bytes_at text.now ≡ bytes_said word.now))
         (λ kind. last_bytes_at text.now ≡ Err kind) }
 {
     let (word, rest) = word_at(text)?;

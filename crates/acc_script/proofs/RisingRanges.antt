@@ -10,7 +10,7 @@ use Rattle.acc_base.specs.declared.mappings.Range.{Range}
 use Rattle.acc_base.specs.Limits.{Limits, IsWithinBounds}
 use Rattle.acc_base.specs.Section.{host_memory, host_base, end_of}
 use Rattle.acc_base.specs.Ranges.{range_from}
-use Rattle.acc_base.specs.Accounts.{IsInHost, IsBelow, EachPair}
+use Rattle.acc_base.specs.Accounts.{IsHostSection, IsBelow, EachPair}
 use Rattle.acc_script.specs.Told.{Taken, Took, TookFront}
 use Rattle.acc_script.proofs.Fronts.{Took_then, Took-then_front}
 
@@ -28,7 +28,7 @@ Precedes r t = IsBelow r.section t.section
 
 -- a range lies in host memory
 abbrev LiesInHost : Limits → Range → Type 0
-LiesInHost l r = IsInHost l r.section
+LiesInHost l r = IsHostSection l r.section
 
 -- no range behind one starts below its end
 none_below : (from : ℕ) (t : Range) (ts : List Range) → AllByRecursion (Precedes t) ts → from ≤ t.section.start + t.section.len → below from ts ≡ []

@@ -1,7 +1,7 @@
 -- What the kernels of a script read and leave (OpenACC 3.3, section 2.5, compute constructs).
 use Rattle.std.specs.Prelude.{ℕ, List}
 use Rattle.acc_base.specs.declared.items.Section.{Section}
-use Rattle.acc_lend.specs.Images.{each_byte, added, flipped, numbered, summed}
+use Rattle.acc_lend.specs.Images.{each_byte, added, flipped, number_image, summed}
 use Rattle.acc_read.specs.declared.kernels.ScriptKernel.{ScriptKernel}
 use Rattle.acc_read.specs.declared.kernels.ScriptKernel.TheVariants as kernels
 
@@ -16,5 +16,5 @@ source_of (kernels.Plus source) = source
 abbrev pub image_of : ScriptKernel → List ℕ → List ℕ → List ℕ
 image_of (kernels.Add number) bytes src = each_byte (added number) 0 bytes
 image_of (kernels.Xor number) bytes src = each_byte (flipped number) 0 bytes
-image_of (kernels.Number number) bytes src = each_byte (numbered number) 0 bytes
+image_of (kernels.Number number) bytes src = each_byte (number_image number) 0 bytes
 image_of (kernels.Plus source) bytes src = each_byte (summed src) 0 bytes

@@ -25,7 +25,7 @@ use Rattle.acc_script.specs.declared.runs.Status.{Status}
 use Rattle.acc_script.specs.declared.runs.Status.TheVariants as statuses
 use Rattle.acc_read.specs.Reading.{◌>>=◌, wants}
 use Rattle.acc_read.specs.Lines.{lines_of}
-use Rattle.acc_read.specs.Layout.{Layout, new_layout, with_array}
+use Rattle.acc_read.specs.Layout.{ArrayLayout, no_arrays, with_array}
 use Rattle.acc_read.specs.declared.kernels.ScriptKernel.{ScriptKernel}
 use Rattle.acc_read.specs.Statements.{Meaning, Blank, Declare, Direct, Kernel, Write, Show, Peek, Present, Address, Report, takes_memory, line_at}
 use Rattle.acc_script.specs.Texts.{refusal_text, report_text}
@@ -35,11 +35,11 @@ use Rattle.acc_script.specs.Shown.{idle_text, read_text, presence_text, place_te
 -- a table's world, and the arrays of the script
 pub record State : Type 0 where
   pub world : World
-  pub layout : Layout
+  pub layout : ArrayLayout
 
 -- a new table, and no array
-abbrev pub new_state : Limits → State
-new_state limits = record { world = new_world limits; layout = new_layout limits.host }
+abbrev pub new_session : Limits → State
+new_session limits = record { world = new_world limits; layout = no_arrays limits.host }
 
 -- ---- a statement
 
@@ -164,7 +164,7 @@ transcript_from number s refused (line ∷ lines) = noted number (line_wants s l
 
 -- an input as a script on a new table of these limits
 unfoldable pub transcript : Limits → List ℕ → Transcript
-transcript limits input = transcript_from 1 (new_state limits) false (lines_of input)
+transcript limits input = transcript_from 1 (new_session limits) false (lines_of input)
 
 -- the status of a script of which some line was refused, or none
 abbrev pub status_of : Bool → Status

@@ -13,15 +13,15 @@ use Rattle.acc_script.specs.declared.print.effects.Effect.{Effect}
 use Rattle.acc_script.specs.declared.print.effects.Effect.TheVariants.{Nothing, EmptyQueue, Refused}
 use Rattle.acc_script.specs.declared.sessions.Session.{Session}
 use Rattle.acc_read.specs.Statements.{Meaning, Declare, Direct, Kernel, Write}
-use Rattle.acc_script.specs.Scripts.{State, new_state, called, turned}
+use Rattle.acc_script.specs.Scripts.{State, new_session, called, turned}
 
 -- a session as its table's world and its arrays
-abbrev pub state_of : Session → State
-state_of session = record { world = session.table; layout = session.arrays }
+abbrev pub session_state : Session → State
+session_state session = record { world = session.table; layout = session.arrays }
 
 -- a new session, or no memory for it
 abbrev pub Opens : Limits → Result Session Fault → Type 0
-Opens limits (Ok session) = state_of session ≡ new_state limits
+Opens limits (Ok session) = session_state session ≡ new_session limits
 Opens limits (Err fault) = fault ≡ Memory
 
 -- a statement that takes memory to run, and that the table accepts where it is one for the table; nothing changed, but

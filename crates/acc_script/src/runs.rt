@@ -3,7 +3,7 @@
 ghost use Rattle.std.specs.Prelude.{◌≡◌, ◌≤◌};
 ghost use Rattle.acc_script.specs.Scripts.{transcript, status_of};
 ghost use Rattle.acc_script.specs.Runs.{LineRuns, Played, Ran};
-ghost use Rattle.acc_script.specs.Sessions.{state_of};
+ghost use Rattle.acc_script.specs.Sessions.{session_state};
 
 use crate::ends::whole::read_all;
 use crate::print::effects::write_effect;
@@ -95,7 +95,7 @@ fn run_line<W: Sink>(
     line: &[u8],
     writer: &mut W,
 ) -> Result<bool, Fault>
-    ensures { LineRuns number (state_of session.old) line.now (W.told writer.old) (W.told writer.new) (state_of session.new) result }
+    ensures { LineRuns number (session_state session.old) line.now (W.told writer.old) (W.told writer.new) (session_state session.new) result }
 {
     let innermost = session.table.newest_region();
     let statement = match line_at(alloc, &session.arrays, innermost, line) {

@@ -4,7 +4,7 @@ ghost use Rattle.std.specs.Prelude.{◌≡◌, IfSome};
 ghost use Rattle.acc_read.specs.Meanings.{meaning_of};
 ghost use Rattle.acc_read.specs.Statements.{Kernel};
 ghost use Rattle.acc_script.specs.Kernels.{source_of};
-ghost use Rattle.acc_script.specs.Sessions.{state_of, Opens, Performs, CallsFor, effect_of, refusal_of};
+ghost use Rattle.acc_script.specs.Sessions.{session_state, Opens, Performs, CallsFor, effect_of, refusal_of};
 ghost use Rattle.acc_script.specs.Scripts.{back_from, shown};
 ghost use Rattle.acc_table.specs.Queries.{host_read_of};
 
@@ -47,7 +47,7 @@ impl Session {
     /// [`Fault::Memory`] alone, for a statement that declares, directs, runs a kernel or writes, and is refused for
     /// nothing else. Nothing changed, but a kernel's block is lent where memory is wanting to bring it back.
     pub fn perform(&mut self, alloc: Global, statement: Statement<'_>) -> Result<Effect, Fault>
-        ensures { Performs (state_of self.old) (meaning_of statement.entry) (state_of self.new) result }
+        ensures { Performs (session_state self.old) (meaning_of statement.entry) (session_state self.new) result }
     {
         match statement {
             Statement::Blank => Ok(Effect::Nothing),
@@ -73,7 +73,7 @@ impl Session {
     /// Makes a call on the table. A lease is let go that it replies, or that it brings and the table refuses.
     #[tactic(auto, using(crate::proofs::Refused::refused_call))]
     fn call(&mut self, call: Call) -> Result<Effect, Fault>
-        ensures { CallsFor (state_of self.old) call (state_of self.new) result }
+        ensures { CallsFor (session_state self.old) call (session_state self.new) result }
     {
         match self.table.apply(call) {
             Ok(reply) => Ok(effect_of(reply)),
@@ -90,7 +90,7 @@ impl Session {
         kernel: ScriptKernel,
         section: Section,
     ) -> Result<Effect, Fault>
-        ensures { Performs (state_of self.old) (Kernel region kernel section) (state_of self.new) result }
+        ensures { Performs (session_state self.old) (Kernel region kernel section) (session_state self.new) result }
     {
         if self.table.host_read(source_of(kernel)).is_none() {
             return Ok(Effect::Refused(Fault::OutOfHost { item: 1 }));
@@ -108,8 +108,8 @@ impl Session {
     /// Runs a kernel over a loan and brings it back. The lease is let go, so that its block stays lent, where that is
     /// refused or wants memory.
     fn work(&mut self, kernel: ScriptKernel, mut lease: Lease) -> Result<Effect, Fault>
-        ensures { IfSome (host_read_of (source_of kernel) (state_of self.old).world.state.host)
-            (λ src. CallsFor (state_of self.old) (back_from kernel src lease) (state_of self.new) result) }
+        ensures { IfSome (host_read_of (source_of kernel) (session_state self.old).world.state.host)
+            (λ src. CallsFor (session_state self.old) (back_from kernel src lease) (session_state self.new) result) }
     {
         let src = self.table.host_read(source_of(kernel)).unwrap_or(&[]);
         run_kernel(kernel, &mut lease, src);
@@ -119,7 +119,7 @@ impl Session {
     /// What `show` has to print: a section's bytes, or a refusal where host memory does not have them. The bytes
     /// themselves are read where they are written.
     fn answer_show(&self, section: Section) -> Effect
-        ensures { result ≡ shown section (host_read_of section (state_of self.now).world.state.host) }
+        ensures { result ≡ shown section (host_read_of section (session_state self.now).world.state.host) }
     {
         match self.table.host_read(section) {
             None => Effect::Refused(Fault::OutOfHost { item: 0 }),

@@ -17,7 +17,7 @@ use Rattle.acc_base.specs.Records.{State}
 use Rattle.acc_base.specs.Bytes.{bytes_of}
 use Rattle.acc_base.specs.Blocks.{block_at, place_of}
 use Rattle.acc_base.specs.Calls.{World}
-use Rattle.acc_base.specs.Accounts.{EachPair, IsInHost, IsBelow, IsOnDevice, AreRecordsSound, IsAccounted}
+use Rattle.acc_base.specs.Accounts.{EachPair, IsHostSection, IsBelow, IsOnDevice, AreRecordsSound, IsAccounted}
 use Rattle.acc_base.proofs.Elements.{AllByRecursion-weaker, found_has}
 use Rattle.acc_base.proofs.Lookups.{at-own}
 use Rattle.acc_base.proofs.Where.{IsInside, where_is-placed, inside_exactly, IsInsideOf, inside_says}
@@ -33,7 +33,7 @@ never h = cc
 
 -- no mapped range is empty
 filled : (w : World) → IsAccounted w → AllByRecursion (λ (r : Range). 0 < r.section.len) w.state.records.ranges
-filled w a = AllByRecursion-weaker (λ r. IsInHost w.limits r.section) (λ r. 0 < r.section.len) w.state.records.ranges (λ r i. i.some) a.sound.layout.records.ranges_apart.in_host
+filled w a = AllByRecursion-weaker (λ r. IsHostSection w.limits r.section) (λ r. 0 < r.section.len) w.state.records.ranges (λ r i. i.some) a.sound.layout.records.ranges_apart.in_host
 
 -- in every table a section lies where its addresses say
 pub placed : (w : World) (s : Section) → IsAccounted w → IsPlacedAt s w.state.records.ranges (where_is s w.state.records.ranges)
@@ -77,7 +77,7 @@ least_from w address a = first_least address w.state.records.blocks w.state.reco
 pub offset_low : (w : World) (s : Section) (block offset : ℕ) → IsWithinBounds w.limits → IsAccounted w → 0 < s.len → where_is s w.state.records.ranges ≡ Inside block offset → offset < 2 ^ 40
 offset_low w s block offset bounds a some e =
     let found : (r : Range) × IsInsideOf s w.state.records.ranges block offset r = inside_says s w.state.records.ranges block offset e in
-    let has : IsInHost w.limits found.0.section × (is_within s found.0.section ≡ true) = found_has (λ r. IsInHost w.limits r.section) (λ r. is_within s r.section) w.state.records.ranges found.0 a.sound.layout.records.ranges_apart.in_host found.1.around in
+    let has : IsHostSection w.limits found.0.section × (is_within s found.0.section ≡ true) = found_has (λ r. IsHostSection w.limits r.section) (λ r. is_within s r.section) w.state.records.ranges found.0 a.sound.layout.records.ranges_apart.in_host found.1.around in
     let end_low : end_of found.0.section ≤ host_base + w.limits.host = (let t : is_within found.0.section (host_memory w.limits.host) ≡ true = has.0.within in grind (arith, nat_tests)) in
     let within : end_of s ≤ end_of found.0.section = (let t : is_within s found.0.section ≡ true = has.1 in grind (arith, nat_tests)) in
     omega (arith, found.1.offset_is, bounds.host.1)
@@ -106,8 +106,8 @@ part_of w section block offset bounds a e =
     let found : (r : Range) × IsInsideOf section ranges block offset r = inside_says section ranges block offset e in
     let own : (range_of found.0.block ranges ≡ Some found.0) × (is_within section found.0.section ≡ true) =
     found_has (λ r. range_of r.block ranges ≡ Some r) (λ r. is_within section r.section) ranges found.0 (at-own (λ (r : Range). r.block) ranges records.one_block_each.distinct) found.1.around in
-    let host : IsInHost w.limits found.0.section × (is_within section found.0.section ≡ true) =
-    found_has (λ r. IsInHost w.limits r.section) (λ r. is_within section r.section) ranges found.0 records.ranges_apart.in_host found.1.around in
+    let host : IsHostSection w.limits found.0.section × (is_within section found.0.section ≡ true) =
+    found_has (λ r. IsHostSection w.limits r.section) (λ r. is_within section r.section) ranges found.0 records.ranges_apart.in_host found.1.around in
     let is : range_of block ranges ≡ Some found.0 = subst (λ n. range_of n ranges ≡ Some found.0) found.1.block_is own.0 in
     let move : CanMove section block w.state = can_move w.limits w.state section block bounds records a.sound.memories_sized (record { range = found.0; range_is = is; within = own.1 }) in
     let same : move.range ≡ found.0 = (let r : range_of block ranges ≡ Some move.range = move.range_is in cc) in

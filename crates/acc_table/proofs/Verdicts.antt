@@ -20,7 +20,7 @@ use Rattle.acc_base.specs.Results.{◌>>=◌, ◌>>◌}
 use Rattle.acc_base.specs.Loans.{Leased, none_lent}
 use Rattle.acc_base.specs.Walk.{loaned}
 use Rattle.acc_base.specs.Records.{Records, State}
-use Rattle.acc_base.specs.Queues.{head_of as head_of_queue, queue_named}
+use Rattle.acc_base.specs.Queues.{head_of, queue_named}
 use Rattle.acc_base.specs.Bytes.{host_after_write}
 use Rattle.acc_base.specs.Waits.{drained}
 use Rattle.acc_base.specs.Acting.{act_all_state, judge_all, after}
@@ -29,7 +29,7 @@ use Rattle.acc_base.specs.Judge.{few_items, tasks_of, queue_in, transfers_in, st
 use Rattle.acc_base.specs.Calls.{World, judge, ticket, allowance, trace_room, bytes_brought, world_after}
 use Rattle.acc_base.specs.Judge.{Verdict, Makes, Idle}
 use Rattle.acc_clauses.specs.Contents.{Contents}
-use Rattle.acc_clauses.specs.Planned.{Planned, head_of, in_written_order}
+use Rattle.acc_clauses.specs.Planned.{Planned, head_planned, in_written_order}
 use Rattle.acc_lend.specs.Loans.{with_section, written_over}
 use Rattle.acc_table.specs.declared.calls.Reply.{Reply}
 use Rattle.acc_table.specs.declared.calls.Reply.TheVariants.{Done}
@@ -40,7 +40,7 @@ use Rattle.acc_table.specs.Making.{verdict_stored, verdict_told, is_idle, is_loa
 -- ---- the event
 
 -- the verdict of which the event is stored is that of the directive
-pub stored : (d : Directive) (s : State) (dids : List Did) → verdict_stored d s (in_written_order (head_of d) dids) ≡ verdict_of d s dids
+pub stored : (d : Directive) (s : State) (dids : List Did) → verdict_stored d s (in_written_order (head_planned d) dids) ≡ verdict_of d s dids
 stored (Enter items) s dids = refl
 stored (Exit number) s dids = refl
 stored (EnterData items queue) s dids = refl
@@ -64,7 +64,7 @@ idle_told (EnterData items queue) s did e = cc
 idle_told (ExitData items finalize queue) s did e = cc
 idle_told (Update items if_present queue) s did e = cc
 idle_told (Wait queue) s did e = cc
-idle_told (Step queue) s did e = go (head_of_queue queue s.records.queues) e
+idle_told (Step queue) s did e = go (head_of queue s.records.queues) e
   where
     go : (o : Option Transfer) → step_verdict queue o ≡ Idle → is_none (option_map (λ (t : Transfer). t.block) o) ≡ true
     go None x = refl
@@ -78,7 +78,7 @@ told_idle (EnterData items queue) s dids e = cc
 told_idle (ExitData items finalize queue) s dids e = cc
 told_idle (Update items if_present queue) s dids e = cc
 told_idle (Wait queue) s dids e = cc
-told_idle (Step queue) s dids e = go (head_of_queue queue s.records.queues) e
+told_idle (Step queue) s dids e = go (head_of queue s.records.queues) e
   where
     go : (o : Option Transfer) → is_none (option_map (λ (t : Transfer). t.block) o) ≡ true → step_verdict queue o ≡ Idle
     go None x = refl
@@ -190,7 +190,7 @@ stored_no_loan (EnterData items queue) s did e h = no_loan e _ h refl
 stored_no_loan (ExitData items finalize queue) s did e h = no_loan e _ h refl
 stored_no_loan (Update items if_present queue) s did e h = no_loan e _ h refl
 stored_no_loan (Wait queue) s did e h = no_loan e _ h refl
-stored_no_loan (Step queue) s did e h = go (head_of_queue queue s.records.queues) h
+stored_no_loan (Step queue) s did e h = go (head_of queue s.records.queues) h
   where
     go : (o : Option Transfer) → step_verdict queue o ≡ Makes e → is_loan e ≡ false
     go None x = cc
@@ -208,7 +208,7 @@ directive_no_loan w d e h =
     let acted = bind_ok (judge_all w.limits 0 asked.0 s) _ (Makes e) named.1 in
     let free = then_ok (none_lent (transfers_in d s.records.queues) s.records.loans) _ (Makes e) acted.2 in
     let is : verdict_of d s acted.0 ≡ Makes e = ok_same (verdict_of d s acted.0) (Makes e) free.1 in
-    stored_no_loan d s (in_written_order (head_of d) acted.0) e (stored d s acted.0 ∙ is)
+    stored_no_loan d s (in_written_order (head_planned d) acted.0) e (stored d s acted.0 ∙ is)
 
 -- and that of a write of the host
 pub write_no_loan : (w : World) (addr : ℕ) (bytes : List ℕ) (e : Event) → judge w (HostWrite addr bytes) ≡ Ok (Makes e) → is_loan e ≡ false

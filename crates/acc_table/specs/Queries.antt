@@ -26,13 +26,13 @@ abbrev pub IsInsideOne : Section → List Range → Type 0
 IsInsideOne s ranges = (0 < s.len) × ((r : Range) × Contains ranges r × IsWithin s r.section)
 
 -- the counters of the range that a section is inside
-abbrev pub counters_in : Found → List Range → Option Counters
-counters_in (Inside block offset) ranges = Some (record { structured = structured_of block ranges; dynamic = dynamic_of block ranges })
-counters_in _ ranges = None
+abbrev pub counters_found : Found → List Range → Option Counters
+counters_found (Inside block offset) ranges = Some (record { structured = structured_of block ranges; dynamic = dynamic_of block ranges })
+counters_found _ ranges = None
 
 -- the counters of the range that a section of these records is inside
-abbrev pub counters_at : Section → Records → Option Counters
-counters_at s w = counters_in (where_is s w.ranges) w.ranges
+abbrev pub counters_of_section : Section → Records → Option Counters
+counters_of_section s w = counters_found (where_is s w.ranges) w.ranges
 
 -- a range as it is reported, with the device address of its block, and whether that is lent
 abbrev pub mapped_as : List Block → List Loan → Range → Mapped

@@ -8,7 +8,7 @@ ghost use Rattle.acc_base.specs.Ranges.{where_is, IsPlacedAt};
 ghost use Rattle.acc_base.specs.Pointers.{device_address_of, attachment_of};
 ghost use Rattle.acc_base.specs.Queues.{queue_at};
 ghost use Rattle.acc_base.specs.Waits.{ended_from};
-ghost use Rattle.acc_table.specs.Queries.{is_inside, IsInsideOne, counters_at, mapped_from, IsLeastFrom, host_read_of, device_read_of};
+ghost use Rattle.acc_table.specs.Queries.{is_inside, IsInsideOne, counters_of_section, mapped_from, IsLeastFrom, host_read_of, device_read_of};
 
 use crate::calls::Mapped;
 use crate::tables::Table;
@@ -64,7 +64,7 @@ impl Table {
     /// The reference counters of the mapped range that the section is inside (OpenACC 3.3, section 2.6.7), if it is
     /// inside one.
     pub fn counters(&self, section: Section) -> Option<Counters>
-        ensures { result ≡ counters_at section self.now.state.records }
+        ensures { result ≡ counters_of_section section self.now.state.records }
     {
         match self.store.find(section) {
             Found::Inside { block, .. } => Some(self.store.counters(block)),

@@ -3,22 +3,22 @@ use Rattle.acc_base.specs.declared.faults.Fault.TheVariants.{DeviceFull}
 use Rattle.acc_base.specs.Blocks.{rounded, IsPlaceFor}
 use Rattle.std.specs.Prelude.{IfSome, IfNone}
 use Rattle.acc_placement.specs.Ranges.{IsFitBeside, IsLeastFitBeside}
-use Rattle.acc_dev.specs.Room.{room_of, HasRoom}
+use Rattle.acc_dev.specs.Room.{room_ready, HasRoom}
 use Rattle.acc_dev.specs.Device.{DeviceState, IsBorn, birth_place}
-use Rattle.acc_dev.specs.Kept.{IsKept}
+use Rattle.acc_dev.specs.Kept.{AreSlotsKept}
 use Rattle.acc_dev.specs.declared.devices.Device.TheInside.{Inside}
 use Rattle.acc_dev.proofs.Keeping.{device_of}
 use Rattle.acc_dev.proofs.Births.{birth_found, birth_least, refused_full, born_of, born_counted, above_all, there_after_birth, filled_after_birth}
 use Rattle.acc_dev.proofs.devices.Device.born.Goals as goal
 
 -- the place of a birth is the least, as contracts see the device
-least : (d : Inside) (now : DeviceState) (len : ℕ) → device_of d.holes d.slab.slots d.index.items d.births (room_of d) ≡ now → IsKept d.holes d.slab.slots d.index.items → 1 ≤ len → IsPlaceFor now.size now.blocks (rounded len) (birth_place now len)
-least d now len is k some = subst (λ (x : DeviceState). IsPlaceFor x.size x.blocks (rounded len) (birth_place x len)) is (birth_least d.holes d.slab.slots d.index.items d.births len (room_of d) k some)
+least : (d : Inside) (now : DeviceState) (len : ℕ) → device_of d.holes d.slab.slots d.index.items d.births (room_ready d) ≡ now → AreSlotsKept d.holes d.slab.slots d.index.items → 1 ≤ len → IsPlaceFor now.size now.blocks (rounded len) (birth_place now len)
+least d now len is k some = subst (λ (x : DeviceState). IsPlaceFor x.size x.blocks (rounded len) (birth_place x len)) is (birth_least d.holes d.slab.slots d.index.items d.births len (room_ready d) k some)
 
 -- the look-up finds the place of the birth, as contracts see the device
-found : (d : Inside) (now : DeviceState) (len : ℕ) (o : Option ℕ) → device_of d.holes d.slab.slots d.index.items d.births (room_of d) ≡ now → IsKept d.holes d.slab.slots d.index.items → 1 ≤ len
+found : (d : Inside) (now : DeviceState) (len : ℕ) (o : Option ℕ) → device_of d.holes d.slab.slots d.index.items d.births (room_ready d) ≡ now → AreSlotsKept d.holes d.slab.slots d.index.items → 1 ≤ len
     → IfSome o (IsLeastFitBeside d.holes.holes [] (rounded len)) → IfNone o ((q : ℕ) → IsFitBeside d.holes.holes [] (rounded len) q → ⊥) → o ≡ birth_place now len
-found d now len o is k some place none = subst (λ (x : DeviceState). o ≡ birth_place x len) is (birth_found d.holes d.slab.slots d.index.items d.births len (room_of d) o k some place none)
+found d now len o is k some place none = subst (λ (x : DeviceState). o ≡ birth_place x len) is (birth_found d.holes d.slab.slots d.index.items d.births len (room_ready d) o k some place none)
 
 pub returns-in_default-clause-least : goal.returns-in_default-clause-least
 returns-in_default-clause-least c = least c.self.inside c.args.self.now c.args.len c.self.view_is c.self.invariant.0 c.requires.len.0
@@ -70,21 +70,21 @@ invariant_of-self-2 c =
     let entry = rw c.in_ok-make_room.ensures.index at c.put.ensures.index in
     (c.put.ensures.kept, born_counted c.self.inside.index.items c.put.new.index.items c.self.inside.births entry.0 c.self.invariant.1 births entry.1, room_left c)
 
-born : (c : goal.After-self-1) → IsBorn (device_of c.self.inside.holes c.self.inside.slab.slots c.self.inside.index.items c.self.inside.births (room_of c.self.inside)) (device_of c.put.new.holes c.put.new.slab.slots c.put.new.index.items (c.self.inside.births + 1) (room_of c.self.inside)) c.args.len c.args.zero (c.self.inside.births + 1)
+born : (c : goal.After-self-1) → IsBorn (device_of c.self.inside.holes c.self.inside.slab.slots c.self.inside.index.items c.self.inside.births (room_ready c.self.inside)) (device_of c.put.new.holes c.put.new.slab.slots c.put.new.index.items (c.self.inside.births + 1) (room_ready c.self.inside)) c.args.len c.args.zero (c.self.inside.births + 1)
 born c =
     let d = c.self.inside in
     let room = c.in_ok-make_room.ensures in
     let fits = rw room.holes.holes at c.put.ensures.place in
-    born_of d.holes c.put.new.holes d.slab.slots c.make_room.new.slab.slots c.put.new.slab.slots d.index.items c.make_room.new.index.items c.put.new.index.items d.births c.args.len c.put.result c.args.zero c.in_ok-bytes.bytes.items (room_of d) (room_of d)
+    born_of d.holes c.put.new.holes d.slab.slots c.make_room.new.slab.slots c.put.new.slab.slots d.index.items c.make_room.new.index.items c.put.new.index.items d.births c.args.len c.put.result c.args.zero c.in_ok-bytes.bytes.items (room_ready d) (room_ready d)
     c.self.invariant.0 c.requires.len.0 room.slots room.index (c.put.ensures.size ∙ room.holes.size) c.in_ok-bytes.ensures.ok fits c.put.ensures.blocks c.put.ensures.memories c.put.ensures.marks c.put.ensures.loans
 
 pub returns-clause-born : goal.returns-clause-born
 returns-clause-born c =
     let d = c.self.inside in
-    subst (λ (x : DeviceState). IsBorn x (device_of c.put.new.holes c.put.new.slab.slots c.put.new.index.items (d.births + 1) (room_of d)) c.args.len c.args.zero (d.births + 1)) c.self.view_is (born c)
+    subst (λ (x : DeviceState). IsBorn x (device_of c.put.new.holes c.put.new.slab.slots c.put.new.index.items (d.births + 1) (room_ready d)) c.args.len c.args.zero (d.births + 1)) c.self.view_is (born c)
 
 pub returns-clause-there : goal.returns-clause-there
 returns-clause-there c = there_after_birth _ _ c.args.len c.args.zero (c.self.inside.births + 1) (born c)
 
 pub returns-clause-filled : goal.returns-clause-filled
-returns-clause-filled c = filled_after_birth c.self.inside.holes c.self.inside.slab.slots c.self.inside.index.items c.self.inside.births c.args.len c.args.zero (room_of c.self.inside) _ c.self.invariant.1 (born c)
+returns-clause-filled c = filled_after_birth c.self.inside.holes c.self.inside.slab.slots c.self.inside.index.items c.self.inside.births c.args.len c.args.zero (room_ready c.self.inside) _ c.self.invariant.1 (born c)

@@ -4,7 +4,7 @@ use Rattle.std.specs.List.{AllByRecursion}
 use Rattle.std.proofs.lemmas.List.{length-replicate}
 use Rattle.acc_base.specs.Bytes.{fill_byte}
 use Rattle.acc_dev.specs.Device.{DeviceState, IsBorn, birth_place}
-use Rattle.acc_dev.specs.Room.{room_of}
+use Rattle.acc_dev.specs.Room.{room_ready}
 use Rattle.acc_dev.proofs.Keeping.{device_of}
 use Rattle.acc_dev.proofs.Births.{born_of, born_counted, above_all, fits_there}
 use Rattle.acc_dev.proofs.devices.Device.born_reserved.Goals as goal
@@ -16,8 +16,8 @@ pub put-requires-clause-fits : goal.put-requires-clause-fits
 put-requires-clause-fits c =
     let d = c.self.inside in
     let long : length c.fill.new.bytes.items ≡ c.args.len = ap length c.fill.ensures ∙ length-replicate c.args.len (fill_byte c.args.zero) in
-    let there : birth_place (device_of d.holes d.slab.slots d.index.items d.births (room_of d)) c.args.len ≡ None → ⊥ = subst (λ (x : DeviceState). birth_place x c.args.len ≡ None → ⊥) (sym c.self.view_is) c.requires.fits in
-    rw long (fits_there d.holes d.slab.slots d.index.items d.births c.args.len (room_of d) c.self.invariant.0 there)
+    let there : birth_place (device_of d.holes d.slab.slots d.index.items d.births (room_ready d)) c.args.len ≡ None → ⊥ = subst (λ (x : DeviceState). birth_place x c.args.len ≡ None → ⊥) (sym c.self.view_is) c.requires.fits in
+    rw long (fits_there d.holes d.slab.slots d.index.items d.births c.args.len (room_ready d) c.self.invariant.0 there)
 
 pub invariant_of-self : goal.invariant_of-self
 invariant_of-self c =
@@ -43,5 +43,5 @@ returns-clause-born c =
     let d = c.self.inside in
     let left = map (λ v. vec_capacity v) c.pop_front.new.self.items in
     subst (λ (x : DeviceState). IsBorn x (device_of c.put.new.holes c.put.new.slab.slots c.put.new.index.items (d.births + 1) left) c.args.len c.args.zero (d.births + 1)) c.self.view_is
-    (born_of d.holes c.put.new.holes d.slab.slots d.slab.slots c.put.new.slab.slots d.index.items d.index.items c.put.new.index.items d.births c.args.len c.put.result c.args.zero c.fill.new.bytes.items (room_of d) left
+    (born_of d.holes c.put.new.holes d.slab.slots d.slab.slots c.put.new.slab.slots d.index.items d.index.items c.put.new.index.items d.births c.args.len c.put.result c.args.zero c.fill.new.bytes.items (room_ready d) left
     c.self.invariant.0 c.requires.len.0 refl refl c.put.ensures.size c.fill.ensures c.put.ensures.place c.put.ensures.blocks c.put.ensures.memories c.put.ensures.marks c.put.ensures.loans)

@@ -3,7 +3,7 @@ use Rattle.std.specs.Prelude.{map}
 use Rattle.std.specs.List.{AllByRecursion}
 use Rattle.acc_dev.specs.Device.{DeviceState, IsBornWith, birth_place}
 use Rattle.acc_dev.specs.declared.devices.Device.TheInside.{Inside}
-use Rattle.acc_dev.specs.Room.{room_of, HasRoom}
+use Rattle.acc_dev.specs.Room.{room_ready, HasRoom}
 use Rattle.acc_dev.proofs.Keeping.{device_of}
 use Rattle.acc_dev.proofs.Births.{born_with, born_counted, above_all, fits_there}
 use Rattle.acc_dev.proofs.devices.Device.born_with_reserved.Goals as goal
@@ -20,9 +20,9 @@ put-requires-clause-above c = above_all c.self.inside.index.items c.self.inside.
 pub put-requires-clause-fits : goal.put-requires-clause-fits
 put-requires-clause-fits c =
     let d = c.self.inside in
-    let there : birth_place (device_of d.holes d.slab.slots d.index.items d.births (room_of d)) (length c.args.given.now) ≡ None → ⊥ = subst (λ (x : DeviceState). birth_place x (length c.args.given.now) ≡ None → ⊥) (sym c.self.view_is) c.requires.fits in
+    let there : birth_place (device_of d.holes d.slab.slots d.index.items d.births (room_ready d)) (length c.args.given.now) ≡ None → ⊥ = subst (λ (x : DeviceState). birth_place x (length c.args.given.now) ≡ None → ⊥) (sym c.self.view_is) c.requires.fits in
     rw (given_is c.self.inside c.in-Some.bytes c.pop_front.new.self.items c.args.given.now c.extend_from_slice.new.self.items c.self.invariant.2 c.in-Some.ensures.items c.in-Ok.ensures.items)
-    (fits_there d.holes d.slab.slots d.index.items d.births (length c.args.given.now) (room_of d) c.self.invariant.0 there)
+    (fits_there d.holes d.slab.slots d.index.items d.births (length c.args.given.now) (room_ready d) c.self.invariant.0 there)
 
 pub invariant_of-self : goal.invariant_of-self
 invariant_of-self c =
@@ -48,7 +48,7 @@ returns-clause-born c =
     let d = c.self.inside in
     let left = map (λ v. vec_capacity v) c.pop_front.new.self.items in
     let is = given_is c.self.inside c.in-Some.bytes c.pop_front.new.self.items c.args.given.now c.extend_from_slice.new.self.items c.self.invariant.2 c.in-Some.ensures.items c.in-Ok.ensures.items in
-    let born = born_with d.holes c.put.new.holes d.slab.slots d.slab.slots c.put.new.slab.slots d.index.items d.index.items c.put.new.index.items d.births (length c.args.given.now) c.put.result c.extend_from_slice.new.self.items (room_of d) left
+    let born = born_with d.holes c.put.new.holes d.slab.slots d.slab.slots c.put.new.slab.slots d.index.items d.index.items c.put.new.index.items d.births (length c.args.given.now) c.put.result c.extend_from_slice.new.self.items (room_ready d) left
     c.self.invariant.0 c.requires.len.0 refl refl c.put.ensures.size (ap length is) c.put.ensures.place c.put.ensures.blocks c.put.ensures.memories c.put.ensures.marks c.put.ensures.loans in
     subst (λ (x : DeviceState). IsBornWith x (device_of c.put.new.holes c.put.new.slab.slots c.put.new.index.items (d.births + 1) left) (length c.args.given.now) c.args.given.now (d.births + 1)) c.self.view_is
-    (subst (λ (b : List ℕ). IsBornWith (device_of d.holes d.slab.slots d.index.items d.births (room_of d)) (device_of c.put.new.holes c.put.new.slab.slots c.put.new.index.items (d.births + 1) left) (length c.args.given.now) b (d.births + 1)) is born)
+    (subst (λ (b : List ℕ). IsBornWith (device_of d.holes d.slab.slots d.index.items d.births (room_ready d)) (device_of c.put.new.holes c.put.new.slab.slots c.put.new.index.items (d.births + 1) left) (length c.args.given.now) b (d.births + 1)) is born)

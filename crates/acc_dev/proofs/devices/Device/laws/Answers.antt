@@ -3,7 +3,7 @@ use Rattle.std.specs.List.{AllZip, AllByRecursion}
 use Rattle.acc_base.specs.Holes.{IsDevice}
 use Rattle.acc_base.specs.Blocks.{used_bytes}
 use Rattle.acc_base.specs.Accounts.{IsMemoryOf}
-use Rattle.acc_dev.specs.Room.{room_of}
+use Rattle.acc_dev.specs.Room.{room_ready}
 use Rattle.acc_dev.specs.Marks.{IsMarkOf}
 use Rattle.acc_dev.specs.Device.{DeviceState, HasBlocksApart, AreLoansRising, IsLoanOn}
 use Rattle.acc_dev.proofs.Slots.{marks_in_step}
@@ -12,7 +12,7 @@ use Rattle.acc_dev.proofs.Keeping.{apart_of, divided, used_within, loans_on}
 use Rattle.acc_dev.proofs.devices.Device.laws.Goals as goal
 
 pub returns-clause-blocks_apart : goal.returns-clause-blocks_apart
-returns-clause-blocks_apart c = subst HasBlocksApart c.self.view_is (apart_of c.self.inside.holes c.self.inside.slab.slots c.self.inside.index.items c.self.inside.births (room_of c.self.inside) c.self.invariant.0 c.self.invariant.1)
+returns-clause-blocks_apart c = subst HasBlocksApart c.self.view_is (apart_of c.self.inside.holes c.self.inside.slab.slots c.self.inside.index.items c.self.inside.births (room_ready c.self.inside) c.self.invariant.0 c.self.invariant.1)
 
 pub returns-clause-memories : goal.returns-clause-memories
 returns-clause-memories c = subst (λ (d : DeviceState). AllZip (IsMemoryOf d.loans) d.memories d.blocks) c.self.view_is (in_step c.self.inside.slab.slots c.self.inside.index.items c.self.invariant.0.rising c.self.invariant.0.backed)
@@ -30,4 +30,4 @@ pub returns-clause-loans_rise : goal.returns-clause-loans_rise
 returns-clause-loans_rise c = subst (λ (d : DeviceState). AreLoansRising d.loans) c.self.view_is (loans_rise c.self.inside.slab.slots c.self.inside.index.items c.self.invariant.0.rising c.self.invariant.0.backed)
 
 pub returns-clause-loans : goal.returns-clause-loans
-returns-clause-loans c = subst (λ (d : DeviceState). AllByRecursion (IsLoanOn d) d.loans) c.self.view_is (loans_on c.self.inside.holes c.self.inside.slab.slots c.self.inside.index.items c.self.inside.births (room_of c.self.inside) c.self.invariant.0)
+returns-clause-loans c = subst (λ (d : DeviceState). AllByRecursion (IsLoanOn d) d.loans) c.self.view_is (loans_on c.self.inside.holes c.self.inside.slab.slots c.self.inside.index.items c.self.inside.births (room_ready c.self.inside) c.self.invariant.0)

@@ -1,6 +1,6 @@
 use Rattle.std.proofs.Common.{◌≡◌, true, false, sym, subst, arith}
 use Rattle.acc_base.specs.Loans.{is_lent}
-use Rattle.acc_dev.specs.Room.{room_of}
+use Rattle.acc_dev.specs.Room.{room_ready}
 use Rattle.acc_dev.specs.Device.{DeviceState, HasBlock, IsMarked}
 use Rattle.acc_dev.proofs.Keeping.{device_of, not_missed, filled_read}
 use Rattle.acc_dev.proofs.Writes.{marked_kept, marked_of, lent_mapped}
@@ -34,6 +34,6 @@ pub returns : goal.returns
 returns c change is =
     let s = c.self.inside in
     let found = rw c.deref.ensures.value at c.in-Some.ensures.found in
-    subst (λ (d : DeviceState). IsMarked d (device_of s.holes c.set_mark.new.slab.slots s.index.items s.births (room_of c.self.inside)) c.args.block change) c.self.view_is
-    (marked_of s.holes s.slab c.set_mark.new.slab s.index.items s.births c.in-Some.at c.args.block c.args.pins c.args.ended (room_of c.self.inside) c.index.result.now change c.self.invariant.0 found c.index.ensures c.set_mark.ensures.marked
+    subst (λ (d : DeviceState). IsMarked d (device_of s.holes c.set_mark.new.slab.slots s.index.items s.births (room_ready c.self.inside)) c.args.block change) c.self.view_is
+    (marked_of s.holes s.slab c.set_mark.new.slab s.index.items s.births c.in-Some.at c.args.block c.args.pins c.args.ended (room_ready c.self.inside) c.index.result.now change c.self.invariant.0 found c.index.ensures c.set_mark.ensures.marked
     (rw (← c.self.view_is) at is))

@@ -1,7 +1,7 @@
 use Rattle.std.proofs.Common.{◌≡◌, true, false, refl, sym, ◌∙◌, subst, get_or, None, arith}
 use Rattle.std.proofs.lemmas.Bool.{false≢true}
 use Rattle.acc_base.specs.Loans.{is_returnable}
-use Rattle.acc_dev.specs.Room.{room_of}
+use Rattle.acc_dev.specs.Room.{room_ready}
 use Rattle.acc_dev.specs.Device.{DeviceState, IsPutBack}
 use Rattle.acc_dev.specs.Kept.{stored_loan, stored_len}
 use Rattle.acc_dev.proofs.Keeping.{device_of, filled_read}
@@ -55,5 +55,5 @@ returns-clause-put c =
     let s = c.self.inside in
     let found = rw (c.deref.ensures.value, c.block.ensures) at c.in-Some.ensures.found in
     let back = rw c.into_block.ensures.value at c.restore_at.ensures.restored in
-    subst (λ (d : DeviceState). IsPutBack d (device_of s.holes c.restore_at.new.slab.slots s.index.items s.births (room_of s)) c.args.lease) c.self.view_is
-    (put_back_of s.holes s.slab c.restore_at.new.slab s.index.items s.births c.in-Some.at (room_of s) c.index.result.now c.args.lease c.self.invariant.0 found c.index.ensures back)
+    subst (λ (d : DeviceState). IsPutBack d (device_of s.holes c.restore_at.new.slab.slots s.index.items s.births (room_ready s)) c.args.lease) c.self.view_is
+    (put_back_of s.holes s.slab c.restore_at.new.slab s.index.items s.births c.in-Some.at (room_ready s) c.index.result.now c.args.lease c.self.invariant.0 found c.index.ensures back)

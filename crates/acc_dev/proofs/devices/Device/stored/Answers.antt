@@ -1,5 +1,5 @@
 use Rattle.std.proofs.Common.{sym, subst}
-use Rattle.acc_dev.specs.Room.{room_of}
+use Rattle.acc_dev.specs.Room.{room_ready}
 use Rattle.acc_dev.specs.Device.{DeviceState, HasBlock}
 use Rattle.acc_dev.proofs.Keeping.{TellsReference, not_missed, told_reference}
 use Rattle.acc_dev.proofs.devices.Device.stored.Goals as goal
@@ -14,7 +14,7 @@ told : (c : goal.After-get) → TellsReference c.args.self.now c.args.block c.ge
 told c =
     let s = c.self.inside in
     let found = rw c.deref.ensures.value at c.in_ok-at.ensures.found in
-    subst (λ (d : DeviceState). TellsReference d c.args.block c.get.result) c.self.view_is (told_reference s.holes s.slab.slots s.index.items s.births c.in_ok-at.at c.args.block (room_of c.self.inside) c.index.result.now c.get.result c.self.invariant.0 found c.index.ensures c.get.ensures)
+    subst (λ (d : DeviceState). TellsReference d c.args.block c.get.result) c.self.view_is (told_reference s.holes s.slab.slots s.index.items s.births c.in_ok-at.at c.args.block (room_ready c.self.inside) c.index.result.now c.get.result c.self.invariant.0 found c.index.ensures c.get.ensures)
 
 pub returns-clause-block : goal.returns-clause-block
 returns-clause-block c = (told c).block

@@ -2,7 +2,7 @@ use Rattle.std.proofs.Common.{◌≡◌, ◌+◌, ◌≤◌, List, ℕ, true, fa
 use Rattle.std.proofs.lemmas.Bool.{false≢true}
 use Rattle.acc_base.specs.Bytes.{bytes_of}
 use Rattle.acc_base.specs.Loans.{Leased, is_lent, len_of}
-use Rattle.acc_dev.specs.Room.{room_of}
+use Rattle.acc_dev.specs.Room.{room_ready}
 use Rattle.acc_dev.specs.Marks.{is_ended_at}
 use Rattle.acc_dev.specs.Device.{DeviceState, HasBlock, IsTakenOut}
 use Rattle.acc_dev.specs.Kept.{stored_loan, stored_len, stored_ended}
@@ -35,7 +35,7 @@ lend_at-requires-clause-within c =
     let s = c.self.inside in
     let found = rw c.deref.ensures.value at c.in-Some.ensures.found in
     let none = sym c.loan_at.ensures ∙ none_here c.loan_at.result (sym c.is_some.ensures ∙ c.if-is_some.false) in
-    let within : c.args.offset + c.args.len ≤ len_of c.args.block (device_of s.holes s.slab.slots s.index.items s.births (room_of s)).blocks = subst (λ (d : DeviceState). c.args.offset + c.args.len ≤ len_of c.args.block d.blocks) (sym c.self.view_is) c.requires.within in
+    let within : c.args.offset + c.args.len ≤ len_of c.args.block (device_of s.holes s.slab.slots s.index.items s.births (room_ready s)).blocks = subst (λ (d : DeviceState). c.args.offset + c.args.len ≤ len_of c.args.block d.blocks) (sym c.self.view_is) c.requires.within in
     let long = long_at s.holes s.slab.slots s.index.items c.in-Some.at c.args.block c.index.result.now c.self.invariant.0 found c.index.ensures in
     rw (whole_at s.holes s.slab.slots s.index.items c.in-Some.at c.index.result.now c.self.invariant.0 c.index.ensures found.in_bounds none) (rw long at within)
 
@@ -82,5 +82,5 @@ returns-clause-out c =
     let s = c.self.inside in
     let found = rw c.deref.ensures.value at c.in-Some.ensures.found in
     let none = sym c.loan_at.ensures ∙ none_here c.loan_at.result (sym c.is_some.ensures ∙ c.if-is_some.false) in
-    subst (λ (d : DeviceState). IsTakenOut d (device_of s.holes c.lend_at.new.slab.slots s.index.items s.births (room_of s)) (record { serial = c.args.serial; block = c.args.block; offset = c.args.offset; len = c.args.len })) c.self.view_is
-    (taken_out_of s.holes s.slab c.lend_at.new.slab s.index.items s.births c.in-Some.at (room_of s) c.index.result.now (record { serial = c.args.serial; block = c.args.block; offset = c.args.offset; len = c.args.len }) c.self.invariant.0 found c.index.ensures none c.lend_at.ensures.lent)
+    subst (λ (d : DeviceState). IsTakenOut d (device_of s.holes c.lend_at.new.slab.slots s.index.items s.births (room_ready s)) (record { serial = c.args.serial; block = c.args.block; offset = c.args.offset; len = c.args.len })) c.self.view_is
+    (taken_out_of s.holes s.slab c.lend_at.new.slab s.index.items s.births c.in-Some.at (room_ready s) c.index.result.now (record { serial = c.args.serial; block = c.args.block; offset = c.args.offset; len = c.args.len }) c.self.invariant.0 found c.index.ensures none c.lend_at.ensures.lent)

@@ -1,7 +1,7 @@
 use Rattle.std.proofs.Common.{◌≡◌, ◌+◌, ◌≤◌, List, ℕ, sym, subst, length, get_or, None, arith}
 use Rattle.acc_base.specs.Bytes.{bytes_of}
-use Rattle.acc_dev.specs.Room.{room_of}
-use Rattle.acc_dev.specs.Device.{DeviceState, HasBlock, IsWritten}
+use Rattle.acc_dev.specs.Room.{room_ready}
+use Rattle.acc_dev.specs.Device.{DeviceState, HasBlock, IsBlockWritten}
 use Rattle.acc_dev.specs.Kept.{memories_in, stored_bytes}
 use Rattle.acc_dev.proofs.Keeping.{device_of, not_missed, filled_read}
 use Rattle.acc_dev.proofs.Writes.{IsRewritten, bytes_at, rewritten_from, written_kept, written_of}
@@ -42,5 +42,5 @@ pub returns : goal.returns
 returns c =
     let s = c.self.inside in
     let found = rw c.deref.ensures.value at c.in-Some.ensures.found in
-    subst (λ (d : DeviceState). IsWritten d (device_of s.holes c.write_at.new.slab.slots s.index.items s.births (room_of c.self.inside)) c.args.block c.args.offset c.args.bytes.now) c.self.view_is
-    (written_of s.holes s.slab.slots c.write_at.new.slab.slots s.index.items s.births c.in-Some.at c.args.block c.args.offset (room_of c.self.inside) c.index.result.now c.args.bytes.now c.self.invariant.0 found c.index.ensures (rewritten c))
+    subst (λ (d : DeviceState). IsBlockWritten d (device_of s.holes c.write_at.new.slab.slots s.index.items s.births (room_ready c.self.inside)) c.args.block c.args.offset c.args.bytes.now) c.self.view_is
+    (written_of s.holes s.slab.slots c.write_at.new.slab.slots s.index.items s.births c.in-Some.at c.args.block c.args.offset (room_ready c.self.inside) c.index.result.now c.args.bytes.now c.self.invariant.0 found c.index.ensures (rewritten c))

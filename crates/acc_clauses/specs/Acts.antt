@@ -42,7 +42,7 @@ use Rattle.acc_clauses.specs.declared.environments.Environment.{Environment}
 use Rattle.acc_clauses.specs.declared.numbers.Numbers.{Numbers}
 use Rattle.acc_clauses.specs.declared.plans.Head.{Head}
 use Rattle.acc_clauses.specs.declared.plans.Head.TheVariants.{Plain, Entry, Leaving, Waiting, Stepping}
-use Rattle.acc_clauses.specs.Planned.{Planned, in_written_order, held_by}
+use Rattle.acc_clauses.specs.Planned.{Planned, held_by}
 use Rattle.acc_clauses.specs.Contents.{Room, Contents, state_of, room_of, AreMarked, bare_state}
 use Rattle.acc_clauses.specs.Overlays.{is_queue, puts_by, puts_in}
 
@@ -377,8 +377,7 @@ pub record HasPlanRoom (p : Planned) (room : Room) : Type 0 where
 
 -- ---- what a plan notes
 
--- beside the tasks of a plan with this head stand what they do in written order, the lengths of the blocks that they bear, and what a region holds that they enter
-pub record IsNoted (head : Head) (tasks : List Task) (dids did : List Did) (lens : List ℕ) (holdings : List Holding) : Type 0 where
-  pub did_is : did ≡ in_written_order head dids
+-- beside the tasks of a plan with this head stand the lengths of the blocks that they bear, and what a region holds that they enter
+pub record IsNoted (head : Head) (tasks : List Task) (dids : List Did) (lens : List ℕ) (holdings : List Holding) : Type 0 where
   pub lens_are : lens ≡ lens_born tasks dids
   pub holdings_are : holdings ≡ held_by head tasks dids

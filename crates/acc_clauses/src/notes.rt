@@ -1,6 +1,7 @@
 //! What a plan notes of its tasks, so that nothing has to be gathered when it is done.
 
-ghost use Rattle.std.specs.Prelude.{◌≡◌, ◌+◌, ◌++◌, ◌<◌, ◌≤◌, [], length};
+ghost use Rattle.std.specs.Prelude.{◌≡◌, ◌+◌, ◌++◌, ◌<◌, ◌≤◌, [], length, IfOk, IfErr};
+ghost use Rattle.acc_base.specs.declared.faults.Fault.TheVariants.{Memory};
 ghost use Rattle.acc_base.specs.Walk.{block_counted, pointer_attached};
 ghost use Rattle.acc_clauses.specs.Overlays.{tasks_in, dids_in};
 ghost use Rattle.acc_clauses.specs.Planned.{in_written_order, holding_by, holdings_by, held_by};
@@ -9,26 +10,31 @@ ghost use Rattle.acc_clauses.specs.Acts.{birth_of, lens_born};
 use crate::acted::Acted;
 use crate::plans::Head;
 use crate::rows::section_of;
-use acc_base::{Aim, Did, Holding, Step, Task};
+use acc_base::{Aim, Did, Fault, Holding, Step, Task};
 use arrayvec::ArrayVec;
+use std::alloc::{AllocError, Global};
 
 // What the tasks do, in the order in which they act.
-fn tell(did: &mut ArrayVec<Did, 64>, acts: &[Acted])
-    requires { length acts.now ≤ 64 }
-    ensures { did.new.items ≡ dids_in acts.now }
+fn tell(alloc: Global, acts: &[Acted]) -> Result<Vec<Did>, AllocError>
+    ensures { IfOk result (λ did. did.items ≡ dids_in acts.now) }
 {
-    did.clear();
+    let mut did = Vec::with_capacity(alloc, acts.len())?;
     for x in acts {
-        did.push(x.did);
+        did.push(x.did)?;
     }
+    Ok(did)
 }
 
-/// What the tasks do, in the order in which their items are written.
-pub fn tell_written(did: &mut ArrayVec<Did, 64>, head: Head, acts: &[Acted])
-    requires { length acts.now ≤ 64 }
-    ensures { did.new.items ≡ in_written_order head (dids_in acts.now) }
+/// What the tasks do, in the order in which their items are written: a list allocated at its length.
+///
+/// # Errors
+///
+/// [`Fault::Memory`] alone.
+pub fn tell_written(alloc: Global, head: Head, acts: &[Acted]) -> Result<Vec<Did>, Fault>
+    ensures ok { IfOk result (λ did. did.items ≡ in_written_order head (dids_in acts.now)) }
+    ensures only { IfErr result (λ fault. fault ≡ Memory) }
 {
-    tell(did, acts);
+    let mut did = tell(alloc, acts)?;
     match head {
         Head::Plain => {}
         Head::Entry => {}
@@ -36,6 +42,7 @@ pub fn tell_written(did: &mut ArrayVec<Did, 64>, head: Head, acts: &[Acted])
         Head::Waiting(_) => {}
         Head::Stepping(_) => {}
     }
+    Ok(did)
 }
 
 // Notes the length of the block that a task bears, if it bears one.

@@ -13,7 +13,7 @@ ghost use Rattle.acc_clauses.specs.Planned.{HasFewHoldings, asked_of, head_plann
 use crate::drafts::Draft;
 use crate::items::judge;
 use crate::lending::transfers_free;
-use crate::notes::{note_births, note_held, tell_written};
+use crate::notes::{note_births, note_held};
 use crate::parts::Parts;
 use crate::plans::{Head, Plan};
 use crate::tasks::{enter_data_tasks, enter_tasks, exit_tasks, leaving_tasks, move_tasks};
@@ -161,7 +161,6 @@ pub(crate) fn plan(parts: &Parts, directive: &Directive, plan: &mut Plan) -> Res
     let judged = judge_all(parts, &plan.asked, &mut plan.draft);
     plan.head = head_planned(directive);
     let acts = plan.draft.acts();
-    tell_written(&mut plan.did, plan.head, acts);
     note_births(&mut plan.lens, acts);
     note_held(&mut plan.holdings, plan.head, acts);
     judged?;

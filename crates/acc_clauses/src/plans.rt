@@ -1,6 +1,7 @@
 //! The plan of a directive.
 
-ghost use Rattle.std.specs.Prelude.{◌≡◌, ◌≤◌, [], None, length};
+ghost use Rattle.std.specs.Prelude.{◌≡◌, ◌≤◌, [], None, length, IfOk, IfErr};
+ghost use Rattle.acc_base.specs.declared.faults.Fault.TheVariants.{Memory};
 ghost use Rattle.acc_clauses.specs.Overlays.{tasks_in, dids_in};
 ghost use Rattle.acc_clauses.specs.Planned.{in_written_order, held_by};
 ghost use Rattle.acc_clauses.specs.Acts.{lens_born};
@@ -8,8 +9,10 @@ ghost use Rattle.acc_clauses.specs.declared.plans.Head.TheVariants.{Plain};
 
 use crate::acted::Acted;
 use crate::drafts::Draft;
-use acc_base::{Did, Holding, Task};
+use crate::notes::tell_written;
+use acc_base::{Did, Fault, Holding, Task};
 use arrayvec::ArrayVec;
+use std::alloc::Global;
 use std::marker::Model;
 
 /// What a directive does beside its tasks.
@@ -29,7 +32,7 @@ pub enum Head {
 
 /// A directive that was judged whole: what each of its items will do.
 ///
-/// All of it lies in the value, some 25 KiB for 64 items, so a plan that is used again and again costs nothing to make.
+/// All of it lies in the value, some 22 KiB for 64 items, so a plan that is used again and again costs nothing to make.
 #[derive(Drop)]
 pub struct Plan {
     pub(crate) head: Head,
@@ -38,9 +41,7 @@ pub struct Plan {
     // What the items ask, in the order in which they act.
     pub(crate) asked: ArrayVec<Task, 64>,
     pub(crate) draft: Draft,
-    // What was noted of its tasks: what they do in written order, the lengths of the blocks that they bear, and what a
-    // region that they enter holds.
-    pub(crate) did: ArrayVec<Did, 64>,
+    // What was noted of its tasks: the lengths of the blocks that they bear, and what a region that they enter holds.
     pub(crate) lens: ArrayVec<u64, 64>,
     pub(crate) holdings: ArrayVec<Holding, 64>,
 }
@@ -54,7 +55,7 @@ impl Model for Plan {
 
     ghost view = { λ p. record { head = p.head; queue = p.queue; tasks = tasks_in p.draft; dids = dids_in p.draft } };
 
-    ghost invariant = { λ p. IsNoted p.head (tasks_in p.draft) (dids_in p.draft) p.did.items p.lens.items p.holdings.items };
+    ghost invariant = { λ p. IsNoted p.head (tasks_in p.draft) (dids_in p.draft) p.lens.items p.holdings.items };
 }
 
 impl Plan {
@@ -67,7 +68,6 @@ impl Plan {
             queue: None,
             asked: ArrayVec::new(),
             draft: Draft::new(),
-            did: ArrayVec::new(),
             lens: ArrayVec::new(),
             holdings: ArrayVec::new(),
         }
@@ -96,11 +96,16 @@ impl Plan {
         self.draft.acts()
     }
 
-    /// What each item does, in the order in which the directive or the region names them.
-    pub fn did(&self) -> &[Did]
-        ensures { result.now ≡ in_written_order self.now.head self.now.dids }
+    /// What each item does, in the order in which the directive or the region names them: a list allocated at its length.
+    ///
+    /// # Errors
+    ///
+    /// [`Fault::Memory`] alone.
+    pub fn did(&self, alloc: Global) -> Result<Vec<Did>, Fault>
+        ensures ok { IfOk result (λ did. did.items ≡ in_written_order self.now.head self.now.dids) }
+        ensures only { IfErr result (λ fault. fault ≡ Memory) }
     {
-        &self.did
+        tell_written(alloc, self.head, self.acts())
     }
 
     /// The lengths of the blocks that its tasks bear, one after the other.

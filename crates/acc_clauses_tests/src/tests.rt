@@ -6,8 +6,8 @@ ghost use Rattle.acc_clauses.specs.Acts.{HasPlanRoom};
 ghost use Rattle.acc_clauses.specs.Stored.{IsPlan};
 
 use acc_base::{
-    Aim, Config, Counters, Directive, Ended, EnterClause, ExitClause, Fault, Found, Item, List,
-    Loan, RegionClause, Section, Step, UpdateClause,
+    Aim, Config, Counters, Did, Directive, Ended, EnterClause, ExitClause, Fault, Found, Item,
+    List, Loan, RegionClause, Section, Step, UpdateClause,
 };
 use acc_clauses::{Plan, Store};
 use acc_lend::{Add, Lease, run_one};
@@ -205,32 +205,27 @@ fn answer(store: &mut Store, directive: &Directive) -> Option<Result<Plan, Fault
     }
 }
 
-/// The plan has these steps.
-fn has_steps(plan: &Plan, wanted: &[Step]) -> bool {
-    let did = plan.did();
+/// These are the steps.
+fn are_steps(did: &[Did], wanted: &[Step]) -> bool {
     did.len() == wanted.len() && did.iter().zip(wanted).all(|(did, step)| did.step == *step)
 }
 
-/// The plan has these aims.
-fn has_aims(plan: &Plan, wanted: &[Aim]) -> bool {
-    let did = plan.did();
+/// These are the aims.
+fn are_aims(did: &[Did], wanted: &[Aim]) -> bool {
     did.len() == wanted.len() && did.iter().zip(wanted).all(|(did, aim)| did.aim == *aim)
 }
 
-fn aims(store: &mut Store, directive: &Directive, wanted: &[Aim]) -> bool {
-    match answer(store, directive) {
-        Some(Ok(plan)) => has_aims(&plan, wanted),
-        Some(Err(_)) => false,
-        None => false,
-    }
+/// What each item of a directive did that was carried out.
+fn did(alloc: Global, store: &mut Store, directive: &Directive) -> Option<Vec<Did>> {
+    answer(store, directive)?.ok()?.did(alloc).ok()
 }
 
-fn does(store: &mut Store, directive: &Directive, wanted: &[Step]) -> bool {
-    match answer(store, directive) {
-        Some(Ok(plan)) => has_steps(&plan, wanted),
-        Some(Err(_)) => false,
-        None => false,
-    }
+fn aims(alloc: Global, store: &mut Store, directive: &Directive, wanted: &[Aim]) -> bool {
+    did(alloc, store, directive).is_some_and(|did| are_aims(&did, wanted))
+}
+
+fn does(alloc: Global, store: &mut Store, directive: &Directive, wanted: &[Step]) -> bool {
+    did(alloc, store, directive).is_some_and(|did| are_steps(&did, wanted))
 }
 
 fn refuses(store: &mut Store, directive: &Directive, wanted: Fault) -> bool {
@@ -357,11 +352,11 @@ fn agrees(
     match turn {
         Turn::Does(ask, steps) => {
             let directive = directive_of(alloc, ask)?;
-            Ok(does(store, &directive, steps))
+            Ok(does(alloc, store, &directive, steps))
         }
         Turn::Aims(ask, wanted) => {
             let directive = directive_of(alloc, ask)?;
-            Ok(aims(store, &directive, wanted))
+            Ok(aims(alloc, store, &directive, wanted))
         }
         Turn::Refused(ask, fault) => {
             let directive = directive_of(alloc, ask)?;

@@ -1,6 +1,6 @@
 -- A directive that was judged becomes its event, and a call its verdict.
 use Rattle.std.proofs.Common.{ℕ, ◌≡◌, ◌+◌, ◌-◌, ◌<◌, ◌≤◌, Bool, true, false, arith, refl, sym, ◌∙◌, ap, subst, length-append, length-drop, List, [], ◌∷◌, ◌++◌, length, Option, Some, None, Result, Ok, Err}
-use Rattle.std.specs.Prelude.{⊤, not, nat_le, take, drop, is_none, option_map, ◌&&◌, IfOk, IfErr, OnOk}
+use Rattle.std.specs.Prelude.{⊤, not, nat_le, take, drop, is_none, option_map, unwrap_or, ◌&&◌, IfOk, IfErr, OnOk}
 use Rattle.std.proofs.lemmas.List.{take_all, length-take-le}
 use Rattle.std.proofs.lemmas.Bool.Decides.{nat_tests}
 use Rattle.acc_base.specs.declared.items.Section.{Section}
@@ -33,9 +33,9 @@ use Rattle.acc_clauses.specs.Planned.{Planned, head_planned, in_written_order}
 use Rattle.acc_lend.specs.Loans.{with_section, written_over}
 use Rattle.acc_table.specs.declared.calls.Reply.{Reply}
 use Rattle.acc_table.specs.declared.calls.Reply.TheVariants.{Done}
-use Rattle.acc_table.specs.Calls.{IsCarriedOut, IsDone, IsRefusal}
+use Rattle.acc_table.specs.Calls.{reply_of, IsCarriedOut, IsDone, IsRefusal}
 use Rattle.acc_table.specs.Kept.{world_of}
-use Rattle.acc_table.specs.Making.{verdict_stored, verdict_told, is_idle, is_loan, admitted, write_admitted, planned_verdict, MayBeToldOf, IsMadeInto, IsCommitted, IsAsBefore}
+use Rattle.acc_table.specs.Making.{verdict_stored, is_idle, number_told, event_told, reply_told, is_loan, admitted, write_admitted, planned_verdict, MayBeToldOf, IsMadeInto, IsCommitted, IsAsBefore}
 
 -- ---- the event
 
@@ -49,28 +49,31 @@ stored (Update items if_present queue) s dids = refl
 stored (Wait queue) s dids = refl
 stored (Step queue) s dids = refl
 
--- a step makes the transfer of the block that is told, and nothing where none is
-pub step_told : (queue : ℕ) (head : Option Transfer) (block : Option ℕ) → block ≡ option_map (λ t. t.block) head → verdict_told (option_map (Stepped queue) block) ≡ step_verdict queue head
-step_told queue None None e = refl
-step_told queue None (Some b) e = cc
-step_told queue (Some t) None e = cc
-step_told queue (Some t) (Some b) e = let same : b ≡ t.block = cc in rw same refl
-
--- where there is nothing to do, the directive is the step of an empty queue
-pub idle_told : (d : Directive) (s : State) (did : List Did) → verdict_stored d s did ≡ Idle → is_idle d s ≡ true
-idle_told (Enter items) s did e = cc
-idle_told (Exit number) s did e = cc
-idle_told (EnterData items queue) s did e = cc
-idle_told (ExitData items finalize queue) s did e = cc
-idle_told (Update items if_present queue) s did e = cc
-idle_told (Wait queue) s did e = cc
-idle_told (Step queue) s did e = go (head_of queue s.records.queues) e
+-- where there is something to do, it is the event that tells the number
+pub told : (d : Directive) (s : State) (did : List Did) → is_idle d s ≡ false → verdict_stored d s did ≡ Makes (event_told d (number_told d s) did)
+told (Enter items) s did e = refl
+told (Exit number) s did e = refl
+told (EnterData items queue) s did e = refl
+told (ExitData items finalize queue) s did e = refl
+told (Update items if_present queue) s did e = refl
+told (Wait queue) s did e = refl
+told (Step queue) s did e = go (head_of queue s.records.queues) e
   where
-    go : (o : Option Transfer) → step_verdict queue o ≡ Idle → is_none (option_map (λ (t : Transfer). t.block) o) ≡ true
-    go None x = refl
-    go (Some t) x = cc
+    go : (o : Option Transfer) → is_none (option_map (λ (t : Transfer). t.block) o) ≡ false → step_verdict queue o ≡ Makes (Stepped queue (unwrap_or (option_map (λ (t : Transfer). t.block) o) 0))
+    go None x = cc
+    go (Some t) x = refl
 
--- and the other way round
+-- its reply is the one that tells the number
+pub replied : (d : Directive) (n : ℕ) (did : List Did) (s : State) → reply_told d n ≡ reply_of (event_told d n did) s
+replied (Enter items) n did s = refl
+replied (Exit number) n did s = refl
+replied (EnterData items queue) n did s = refl
+replied (ExitData items finalize queue) n did s = refl
+replied (Update items if_present queue) n did s = refl
+replied (Wait queue) n did s = refl
+replied (Step queue) n did s = refl
+
+-- where the directive is the step of an empty queue, there is nothing to do
 pub told_idle : (d : Directive) (s : State) (dids : List Did) → is_idle d s ≡ true → verdict_of d s dids ≡ Idle
 told_idle (Enter items) s dids e = cc
 told_idle (Exit number) s dids e = cc

@@ -1,5 +1,5 @@
 -- How a directive that was judged becomes an event, and what is refused before its items are judged.
-use Rattle.std.specs.Prelude.{ℕ, ◌≡◌, ◌++◌, ◌∷◌, [], Bool, true, false, List, length, Option, Some, None, is_none, option_map, Result, Ok, Err, MatchResult, ⊤}
+use Rattle.std.specs.Prelude.{ℕ, ◌≡◌, ◌++◌, ◌∷◌, [], Bool, true, false, List, length, is_none, option_map, unwrap_or, Result, Ok, Err, MatchResult, ⊤}
 use Rattle.acc_base.specs.declared.items.Section.{Section}
 use Rattle.acc_base.specs.declared.directives.Directive.{Directive}
 use Rattle.acc_base.specs.declared.calls.Call.TheVariants.{Lend, Gather}
@@ -35,11 +35,6 @@ verdict_stored (Update items if_present queue) s did = Makes (events.Updated ite
 verdict_stored (Wait queue) s did = Makes (events.Waited queue (length (steps_of queue s.records.queues)))
 verdict_stored (Step queue) s did = step_verdict queue (head_of queue s.records.queues)
 
--- an event, or none where there is nothing to do
-abbrev pub verdict_told : Option Event → Verdict
-verdict_told None = Idle
-verdict_told (Some e) = Makes e
-
 -- the directive is the step of an empty queue
 abbrev pub is_idle : Directive → State → Bool
 is_idle (Enter items) s = false
@@ -49,6 +44,36 @@ is_idle (ExitData items finalize queue) s = false
 is_idle (Update items if_present queue) s = false
 is_idle (Wait queue) s = false
 is_idle (Step queue) s = is_none (option_map (λ t. t.block) (head_of queue s.records.queues))
+
+-- the number that the event of a directive tells of the state before it
+abbrev pub number_told : Directive → State → ℕ
+number_told (Enter items) s = s.register.next
+number_told (Exit number) s = 0
+number_told (EnterData items queue) s = 0
+number_told (ExitData items finalize queue) s = 0
+number_told (Update items if_present queue) s = 0
+number_told (Wait queue) s = length (steps_of queue s.records.queues)
+number_told (Step queue) s = unwrap_or (option_map (λ t. t.block) (head_of queue s.records.queues)) 0
+
+-- the event of a directive, not idle, that tells this number, and whose items did this, in written order
+abbrev pub event_told : Directive → ℕ → List Did → Event
+event_told (Enter items) n did = events.Entered n items did
+event_told (Exit number) n did = events.Left number did
+event_told (EnterData items queue) n did = events.EnteredData items queue did
+event_told (ExitData items finalize queue) n did = events.ExitedData items finalize queue did
+event_told (Update items if_present queue) n did = events.Updated items if_present queue did
+event_told (Wait queue) n did = events.Waited queue n
+event_told (Step queue) n did = events.Stepped queue n
+
+-- what a directive is answered whose event tells this number
+abbrev pub reply_told : Directive → ℕ → Reply
+reply_told (Enter items) n = replies.Entered n
+reply_told (Exit number) n = replies.Done
+reply_told (EnterData items queue) n = replies.Done
+reply_told (ExitData items finalize queue) n = replies.Done
+reply_told (Update items if_present queue) n = replies.Done
+reply_told (Wait queue) n = replies.Drained n
+reply_told (Step queue) n = replies.Done
 
 -- the refusals of a directive that come before those of its items
 unfoldable pub admitted : World → Directive → Result ⊤ Fault

@@ -1,6 +1,6 @@
 //! How a judged directive becomes an event. All growths come before the first change.
 
-ghost use Rattle.std.specs.Prelude.{◌≡◌, ◌<◌, ◌^◌, ◌++◌, ◌∷◌, [], false, length, Ok, vec_len, vec_capacity, IfOk, IfErr, OnOk, OnErr};
+ghost use Rattle.std.specs.Prelude.{◌≡◌, ◌<◌, ◌^◌, ◌++◌, ◌∷◌, [], false, length, Ok, vec_len, vec_capacity, is_none, IfOk, IfErr, OnOk, OnErr, IfSome};
 ghost use Rattle.acc_base.specs.declared.faults.Fault.TheVariants.{Memory};
 ghost use Rattle.acc_base.specs.declared.events.Event.TheVariants.{HostWritten};
 ghost use Rattle.acc_base.specs.Bytes.{host_after_write};
@@ -9,23 +9,49 @@ ghost use Rattle.acc_base.specs.Records.{layout_of, State};
 ghost use Rattle.acc_clauses.specs.Acts.{CanWrite, HasPlanRoom};
 ghost use Rattle.acc_clauses.specs.Planned.{in_written_order, IsPlannedOn};
 ghost use Rattle.acc_clauses.specs.Stored.{IsPlan};
-ghost use Rattle.acc_table.specs.Calls.{reply_of};
-ghost use Rattle.acc_table.specs.Making.{verdict_told, verdict_stored, is_idle, planned_verdict, MayBeToldOf, IsCommitted, IsAsBefore, is_loan};
+ghost use Rattle.acc_table.specs.Making.{is_idle, number_told, event_told, reply_told, planned_verdict, MayBeToldOf, IsCommitted, IsAsBefore};
 
 use crate::calls::Reply;
 use acc_base::{Did, Directive, Event, Fault, List};
 use acc_clauses::{Plan, Store};
 
-/// The event of a directive whose items did this, in written order. `None` is for the step of an empty queue, with
-/// which there is nothing to do.
-fn event_stored(store: &Store, directive: Directive, did: List<Did>) -> Option<Event>
-    ensures { verdict_told result ≡ verdict_stored directive store.now.state did }
+/// Whether the directive is the step of an empty queue, with which there is nothing to do.
+fn is_idle(store: &Store, directive: &Directive) -> bool
+    ensures { result ≡ is_idle directive.now store.now.state }
 {
-    let event = match directive {
-        Directive::Enter { items } => {
-            let number = store.next_region();
-            Event::Entered { number, items, did }
-        }
+    match directive {
+        Directive::Step { queue } => store.head_block(*queue).is_none(),
+        Directive::Enter { .. } => false,
+        Directive::Exit { .. } => false,
+        Directive::EnterData { .. } => false,
+        Directive::ExitData { .. } => false,
+        Directive::Update { .. } => false,
+        Directive::Wait { .. } => false,
+    }
+}
+
+/// The number that the event of a directive tells of the state before it: that of the region that is entered, of the
+/// transfers that a wait makes, or of the block that a step's transfer names; 0 for all others.
+fn number_told(store: &Store, directive: &Directive) -> u64
+    ensures { result ≡ number_told directive.now store.now.state }
+{
+    match directive {
+        Directive::Enter { .. } => store.next_region(),
+        Directive::Wait { queue } => store.waiting(*queue),
+        Directive::Step { queue } => store.head_block(*queue).unwrap_or(0),
+        Directive::Exit { .. } => 0,
+        Directive::EnterData { .. } => 0,
+        Directive::ExitData { .. } => 0,
+        Directive::Update { .. } => 0,
+    }
+}
+
+/// The event of a directive that tells this number, and whose items did this, in written order.
+fn event_told(directive: Directive, number: u64, did: List<Did>) -> Event
+    ensures { result ≡ event_told directive number did }
+{
+    match directive {
+        Directive::Enter { items } => Event::Entered { number, items, did },
         Directive::Exit { number } => Event::Left { number, did },
         Directive::EnterData { items, queue } => Event::EnteredData { items, queue, did },
         Directive::ExitData {
@@ -48,49 +74,29 @@ fn event_stored(store: &Store, directive: Directive, did: List<Did>) -> Option<E
             queue,
             did,
         },
-        Directive::Wait { queue } => {
-            let count = store.waiting(queue);
-            Event::Waited { queue, count }
-        }
-        Directive::Step { queue } => {
-            let block = store.head_block(queue)?;
-            Event::Stepped { queue, block }
-        }
-    };
-    Some(event)
-}
-
-/// Whether the directive is the step of an empty queue, with which there is nothing to do.
-fn is_idle(store: &Store, directive: &Directive) -> bool
-    ensures { result ≡ is_idle directive.now store.now.state }
-{
-    match directive {
-        Directive::Step { queue } => store.head_block(*queue).is_none(),
-        Directive::Enter { .. } => false,
-        Directive::Exit { .. } => false,
-        Directive::EnterData { .. } => false,
-        Directive::ExitData { .. } => false,
-        Directive::Update { .. } => false,
-        Directive::Wait { .. } => false,
+        Directive::Wait { queue } => Event::Waited {
+            queue,
+            count: number,
+        },
+        Directive::Step { queue } => Event::Stepped {
+            queue,
+            block: number,
+        },
     }
 }
 
-/// What the call answers that made an event, which is not that of a loan.
-fn reply_of(event: &Event) -> Reply
-    requires { is_loan event.now ≡ false }
-    ensures { (s : State) → result ≡ reply_of event.now s }
+/// What a directive is answered whose event tells this number.
+fn reply_told(directive: &Directive, number: u64) -> Reply
+    ensures { result ≡ reply_told directive.now number }
 {
-    match event {
-        Event::Entered { number, .. } => Reply::Entered { number: *number },
-        Event::Left { .. } => Reply::Done,
-        Event::EnteredData { .. } => Reply::Done,
-        Event::ExitedData { .. } => Reply::Done,
-        Event::Updated { .. } => Reply::Done,
-        Event::Waited { count, .. } => Reply::Drained { count: *count },
-        Event::Stepped { .. } => Reply::Done,
-        Event::HostWritten { .. } => Reply::Done,
-        Event::Gathered { .. } => Reply::Done,
-        Event::Lent { .. } => unreachable!(),
+    match directive {
+        Directive::Enter { .. } => Reply::Entered { number },
+        Directive::Wait { .. } => Reply::Drained { count: number },
+        Directive::Exit { .. } => Reply::Done,
+        Directive::EnterData { .. } => Reply::Done,
+        Directive::ExitData { .. } => Reply::Done,
+        Directive::Update { .. } => Reply::Done,
+        Directive::Step { .. } => Reply::Done,
     }
 }
 
@@ -104,7 +110,7 @@ fn make_room(store: &mut Store, trace: &mut Vec<Event>, plan: &Plan) -> Result<L
     ensures place { OnOk result (vec_len trace.new < vec_capacity trace.new) }
     ensures only { IfErr result (λ fault. fault ≡ Memory) }
 {
-    let did = Vec::from_slice(*trace.allocator(), plan.did())?;
+    let did = plan.did(*trace.allocator())?;
     trace.reserve(1)?;
     store.reserve(plan)?;
     Ok(List::from_vec(did))
@@ -127,38 +133,40 @@ fn commit(
     requires place { vec_len trace.old < vec_capacity trace.old }
     ensures done { IsCommitted (planned_verdict directive plan.now store.old) result store.old store.new trace.old.items trace.new.items }
 {
-    let Some(event) = event_stored(store, directive, did) else {
-        unreachable!()
-    };
+    let number = number_told(store, &directive);
+    let reply = reply_told(&directive, number);
     store.commit(plan);
-    let reply = reply_of(&event);
-    trace.push_reserved(event);
+    trace.push_reserved(event_told(directive, number, did));
     reply
 }
 
-/// Makes room for a directive for which this was planned, does it and stores its event, and answers the reply; where
-/// there is nothing to do, nothing changes.
-fn do_planned(
+/// Judges a directive, and makes room for it and its event. Answers what its items will do, or `None` where there is
+/// nothing to do. Nothing but room changes.
+///
+/// # Errors
+///
+/// The first refusal of the directive's items, or [`Fault::Memory`] where there is none.
+fn prepare(
     store: &mut Store,
     trace: &mut Vec<Event>,
-    plan: &Plan,
-    directive: Directive,
-) -> Result<Reply, (Directive, Fault)>
-    requires planned { IsPlannedOn store.old.limits directive (layout_of store.old.state) plan.now }
+    plan: &mut Plan,
+    directive: &Directive,
+) -> Result<Option<List<Did>>, Fault>
     requires births { store.old.state.records.births < 2 ^ 47 }
-    requires regions { store.old.state.register.next < 2 ^ 48 }
-    ensures done { IfOk result (λ reply. IsCommitted (planned_verdict directive plan.now store.old) reply store.old store.new trace.old.items trace.new.items) }
-    ensures busy { OnErr result (is_idle directive store.old.state ≡ false) }
-    ensures back { IfErr result (λ back. (back.0 ≡ directive) × (back.1 ≡ Memory)) }
-    ensures same { OnErr result (IsAsBefore store.old store.new trace.old.items trace.new.items) }
+    ensures same { IsAsBefore store.old store.new trace.old.items trace.new.items }
+    ensures judged { OnOk result (plan_of store.old.limits directive.now store.old.state ≡ Ok (planned_verdict directive.now plan.new store.old)) }
+    ensures planned { OnOk result (IsPlannedOn store.old.limits directive.now (layout_of store.old.state) plan.new) }
+    ensures idle { IfOk result (λ did. is_none did ≡ is_idle directive.now store.old.state) }
+    ensures did { IfOk result (λ told. IfSome told (λ did. did ≡ in_written_order plan.new.head plan.new.dids)) }
+    ensures room { IfOk result (λ told. IfSome told (λ _. HasPlanRoom plan.new store.new.room)) }
+    ensures place { IfOk result (λ told. IfSome told (λ _. vec_len trace.new < vec_capacity trace.new)) }
+    ensures refused { IfErr result (MayBeToldOf (plan_of store.old.limits directive.now store.old.state)) }
 {
-    if is_idle(store, &directive) {
-        return Ok(Reply::Idle);
+    store.plan(directive, plan)?;
+    if is_idle(store, directive) {
+        return Ok(None);
     }
-    match make_room(store, trace, plan) {
-        Ok(did) => Ok(commit(store, trace, plan, directive, did)),
-        Err(fault) => Err((directive, fault)),
-    }
+    Ok(Some(make_room(store, trace, plan)?))
 }
 
 /// Judges a directive, makes room for it, does it and stores its event, and answers the reply.
@@ -182,8 +190,9 @@ pub fn carry_out(
     ensures refused { IfErr result (λ back. MayBeToldOf (plan_of store.old.limits directive store.old.state) back.1) }
     ensures same { OnErr result (IsAsBefore store.old store.new trace.old.items trace.new.items) }
 {
-    match store.plan(&directive, plan) {
-        Ok(()) => do_planned(store, trace, plan, directive),
+    match prepare(store, trace, plan, &directive) {
+        Ok(Some(did)) => Ok(commit(store, trace, plan, directive, did)),
+        Ok(None) => Ok(Reply::Idle),
         Err(fault) => Err((directive, fault)),
     }
 }

@@ -10,7 +10,7 @@ use Rattle.acc_placement.specs.Space.{Space}
 use Rattle.acc_dev.specs.declared.entries.Stored.{Stored}
 use Rattle.acc_dev.specs.Kept.{stored_len, stored_bytes, stored_loan, slot_of, blocks_in, loans_in, IsInOrOut, IsBacked, AreSlotsKept, IsEntry}
 use Rattle.acc_dev.proofs.Rising.{start, all_at}
-use Rattle.acc_dev.proofs.Lending.{loan_of-none}
+use Rattle.acc_dev.proofs.LoanLists.{loan_of-none}
 use Rattle.acc_dev.proofs.Lent.{loans_all}
 use Rattle.acc_dev.proofs.Keeping.{entry_read, len_at}
 use Rattle.acc_dev.proofs.Writes.{loan_at, long_at}

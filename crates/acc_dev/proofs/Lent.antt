@@ -13,7 +13,7 @@ use Rattle.acc_dev.specs.Device.{AreLoansRising}
 use Rattle.acc_dev.specs.Kept.{stored_len, stored_bytes, stored_ended, stored_loan, slot_of, blocks_in, memories_in, loans_in, loan_before, IsIndexRising, IsEntry, IsInOrOut, IsBacked}
 use Rattle.acc_dev.proofs.Rising.{start, all_at, all_from}
 use Rattle.acc_dev.proofs.Slots.{AreSame, AreTold, KeepsOthers, block_at-entry}
-use Rattle.acc_dev.proofs.Lending.{loan_of-here, loan_of-later, loan_of-none, with_loan-first, with_loan-later, without_loan-none, without_loan-here, without_loan-later}
+use Rattle.acc_dev.proofs.LoanLists.{loan_of-here, loan_of-later, loan_of-none, with_loan-first, with_loan-later, without_loan-none, without_loan-here, without_loan-later}
 
 -- the slots of an index have their bytes, or are lent
 abbrev pub AreBacked : List (Option Stored) → List (ℕ × ℕ) → Type 0

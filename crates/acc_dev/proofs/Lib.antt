@@ -1,6 +1,6 @@
 pub mod Rising
 pub mod Slots
-pub mod Lending
+pub mod LoanLists
 pub mod Lent
 pub mod Placing
 pub mod Keeping

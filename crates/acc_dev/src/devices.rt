@@ -1,6 +1,6 @@
 //! Device memory as one value.
 
-ghost use Rattle.std.specs.Prelude.{◌≡◌, ◌+◌, ◌^◌, ◌<◌, ◌≤◌, ◌⊎◌, ◌↔◌, ◌++◌, length, map, drop, [], replicate, vec_capacity, All, IfOk, IfErr, OnOk, OnErr, IsOk, IsErr, IsSome, IsSomeAnd, IfSome, IsTrue, Err, None, Some, true, false};
+ghost use Rattle.std.specs.Prelude.{◌≡◌, ◌+◌, ◌^◌, ◌<◌, ◌≤◌, ◌⊎◌, ◌↔◌, ◌++◌, length, drop, [], replicate, All, IfOk, IfErr, OnOk, OnErr, IsSome, IsSomeAnd, IfSome, IsTrue, Err, None, Some, true, false};
 ghost use Rattle.std.specs.List.{AllZip, AllByRecursion};
 ghost use Rattle.std.specs.Bool.{OnTrue, OnFalse};
 ghost use Rattle.acc_base.specs.Limits.{IsSize, IsFromOne};
@@ -9,25 +9,22 @@ ghost use Rattle.acc_base.specs.Blocks.{rounded as rounded_of, place_for, block_
 ghost use Rattle.acc_base.specs.Holes.{IsDevice};
 ghost use Rattle.acc_base.specs.Bytes.{bytes_of, fill_byte};
 ghost use Rattle.acc_base.specs.Accounts.{IsMemoryOf};
-ghost use Rattle.acc_base.specs.Loans.{loan_of, is_lent, len_of, is_returnable};
+ghost use Rattle.acc_base.specs.Loans.{loan_of, is_lent};
 ghost use Rattle.acc_placement.specs.Ranges.{IsTakeBelow};
 ghost use Rattle.acc_dev.specs.Marks.{Mark, pins_at, is_ended_at, lowest_ended as lowest_ended_of, IsMarkOf, IsSoundMark};
-ghost use Rattle.acc_dev.specs.Device.{HasBlock, IsNew, IsUnchanged, IsBorn, IsBornWith, IsNextRoom, IsBlockWritten, IsMarked, IsPinned, IsUnpinned, IsEnded, IsRetired, IsTakenOut, IsPutBack, IsLoanOn, AreLoansRising, HasBlocksApart, birth_place, planned_blocks};
+ghost use Rattle.acc_dev.specs.Device.{HasBlock, IsNew, IsUnchanged, IsBorn, IsBornWith, IsNextRoom, IsBlockWritten, IsMarked, IsPinned, IsUnpinned, IsEnded, IsRetired, IsLoanOn, AreLoansRising, HasBlocksApart, birth_place, planned_blocks};
+ghost use Rattle.acc_dev.specs.Kept.{IsStoredOf};
 
 use crate::entries::{
-    Stored, is_loan_at, lend_at, loan_at, lowest_ended, make_room, position_of, put, remove_at,
-    restore_at, set_mark, write_at,
+    Stored, lowest_ended, make_room, position_of, put, remove_at, set_mark, slot_of_block, write_at,
 };
-use acc_base::{DEVICE_BASE, Ended, Fault, Loan, MEMORY_MAX};
-use acc_lend::Lease;
+use crate::filling::{fill, filled, make_vectors};
+use acc_base::{DEVICE_BASE, Ended, Fault, MEMORY_MAX};
 use acc_placement::{Holes, rounded};
 use slab::Slab;
 use std::alloc::Global;
 use std::collections::VecDeque;
 use std::marker::Model;
-
-/// The byte of a new block that is not set to zero.
-const FILL_BYTE: u8 = 0xa5;
 
 /// Device memory: blocks, each with a number, a place and bytes (OpenACC 3.3, section 2.6, data environment).
 ///
@@ -50,11 +47,11 @@ const FILL_BYTE: u8 = 0xa5;
 /// lists that grow. [`Device::ended`] looks at each block once.
 #[derive(Drop)]
 pub struct Device {
-    alloc: Global,
+    pub(crate) alloc: Global,
     holes: Holes,
-    slab: Slab<Stored>,
+    pub(crate) slab: Slab<Stored>,
     // The number and the slot of each block, by rising number.
-    index: Vec<(u64, usize)>,
+    pub(crate) index: Vec<(u64, usize)>,
     births: u64,
     // For each birth to come for which room was made, an empty vector that its bytes fit into.
     ready: VecDeque<Vec<u8>>,
@@ -259,9 +256,7 @@ impl Device {
         requires { HasBlock self.now block }
         ensures { IsSomeAnd (block_at block self.now.blocks) (λ b. (result.0 ≡ b.place) × (result.1 ≡ size_of b)) }
     {
-        let Some(stored) = self.stored(block) else {
-            unreachable!()
-        };
+        let stored = self.stored(block);
         (stored.place, rounded(stored.len))
     }
 
@@ -272,7 +267,7 @@ impl Device {
         ensures bytes { IfSome result (λ bytes. bytes.now ≡ bytes_of block self.now.memories) }
         ensures len { IfSome result (λ bytes. IsSomeAnd (block_at block self.now.blocks) (λ b. length bytes.now ≡ b.len)) }
     {
-        let stored = self.stored(block)?;
+        let stored = self.stored(block);
         if stored.loan.is_some() {
             return None;
         }
@@ -287,10 +282,7 @@ impl Device {
         requires in_range { offset + length bytes.now ≤ length (bytes_of block self.old.memories) }
         ensures { IsBlockWritten self.old self.new block offset bytes.now }
     {
-        let Some(at) = position_of(&self.index, block) else {
-            unreachable!()
-        };
-        let slot = self.index[at].1;
+        let slot = slot_of_block(&self.index, block);
         write_at(&mut self.slab, slot, offset as usize, bytes);
     }
 
@@ -343,90 +335,6 @@ impl Device {
         }
         self.mark(block, pins, true);
         false
-    }
-
-    /// Moves the bytes of a block of the device, which is mapped, into a lease of `len` bytes of it from place `offset`
-    /// on, which end within the block. The block stays where it is and is lent until [`Device::put_back`] takes the
-    /// lease. No byte is copied, and no memory is needed (OpenACC 3.3, sections 2.5, compute constructs, and 2.6, data
-    /// environment).
-    ///
-    /// # Errors
-    ///
-    /// [`Fault::Lent`] with the number of the block, exactly where it is lent already. The device is then as before.
-    pub fn take_out(
-        &mut self,
-        block: u64,
-        serial: u64,
-        offset: u64,
-        len: u64,
-    ) -> Result<Lease, Fault>
-        requires there { HasBlock self.old block }
-        requires mapped { is_ended_at block self.old.marks ≡ false }
-        requires within { offset + len ≤ len_of block self.old.blocks }
-        ensures lent { IsErr result ↔ (is_lent block self.old.loans ≡ true) }
-        ensures only { IfErr result (λ fault. fault ≡ Fault.Lent block) }
-        ensures lease { IfOk result (λ lease. lease ≡ record { serial = serial; block = block; offset = offset; len = len; bytes = bytes_of block self.old.memories }) }
-        ensures out { OnOk result (IsTakenOut self.old self.new (record { serial = serial; block = block; offset = offset; len = len })) }
-        ensures same { OnErr result (self.new ≡ self.old) }
-    {
-        let Some(at) = position_of(&self.index, block) else {
-            unreachable!()
-        };
-        let slot = self.index[at].1;
-        if loan_at(&self.slab, slot).is_some() {
-            return Err(Fault::Lent { block });
-        }
-        let loan = Loan {
-            serial,
-            block,
-            offset,
-            len,
-        };
-        Ok(lend_at(&mut self.slab, slot, self.alloc, loan))
-    }
-
-    /// Moves the bytes of a lease back into its block, which is no longer lent. No byte is copied, and no memory is
-    /// needed.
-    ///
-    /// # Errors
-    ///
-    /// [`Fault::NoLease`] with the lease's serial number, and the lease itself, exactly where the device has no loan of
-    /// this serial number, block, place and length of the section, or the lease has not as many bytes as the block is
-    /// long. The device is then as before.
-    pub fn put_back(&mut self, lease: Lease) -> Result<(), (Lease, Fault)>
-        ensures fits { IsOk result ↔ (is_returnable lease self.old.blocks self.old.loans ≡ true) }
-        ensures back { IfErr result (λ back. (back.0 ≡ lease) × (back.1 ≡ Fault.NoLease lease.serial)) }
-        ensures put { OnOk result (IsPutBack self.old self.new lease) }
-        ensures same { OnErr result (self.new ≡ self.old) }
-    {
-        let serial = lease.serial();
-        let Some(at) = position_of(&self.index, lease.block()) else {
-            return Err((lease, Fault::NoLease { serial }));
-        };
-        let slot = self.index[at].1;
-        if !is_loan_at(&self.slab, slot, &lease) {
-            return Err((lease, Fault::NoLease { serial }));
-        }
-        restore_at(&mut self.slab, slot, lease.into_block());
-        Ok(())
-    }
-
-    /// The loan of a block of the device; `None` exactly where it is not lent.
-    pub fn loan(&self, block: u64) -> Option<Loan>
-        requires { HasBlock self.now block }
-        ensures { result ≡ loan_of block self.now.loans }
-    {
-        self.stored(block)?.loan
-    }
-
-    /// Whether [`Device::put_back`] takes a lease. It needs no memory.
-    pub fn is_returnable(&self, lease: &Lease) -> bool
-        ensures { result ≡ is_returnable lease.now self.now.blocks self.now.loans }
-    {
-        match position_of(&self.index, lease.block()) {
-            Some(at) => is_loan_at(&self.slab, self.index[at].1, lease),
-            None => false,
-        }
     }
 
     /// How many queued transfers name a block of the device, at most 2^32.
@@ -503,9 +411,7 @@ impl Device {
         ensures ended { result.1 ≡ is_ended_at block self.now.marks }
         ensures free { result.1 ≡ true → is_lent block self.now.loans ≡ false }
     {
-        let Some(stored) = self.stored(block) else {
-            unreachable!()
-        };
+        let stored = self.stored(block);
         (stored.pins, stored.ended)
     }
 
@@ -517,82 +423,15 @@ impl Device {
         requires free { ended ≡ true → is_lent block self.old.loans ≡ false }
         ensures { (change : Mark → Mark) → change (record { block = block; pins = pins_at block self.old.marks; ended = is_ended_at block self.old.marks }) ≡ record { block = block; pins = pins; ended = ended } → IsMarked self.old self.new block change }
     {
-        let Some(at) = position_of(&self.index, block) else {
-            unreachable!()
-        };
-        let slot = self.index[at].1;
+        let slot = slot_of_block(&self.index, block);
         set_mark(&mut self.slab, slot, pins, ended);
     }
 
-    /// What the slot of a block of the device has: there is always something.
-    fn stored(&self, block: u64) -> Option<&Stored>
+    /// What the slot of a block of the device has.
+    pub(crate) fn stored(&self, block: u64) -> &Stored
         requires { HasBlock self.now block }
-        ensures block { IsSomeAnd result (λ stored. block_at block self.now.blocks ≡ Some (record { number = block; place = stored.now.place; len = stored.now.len })) }
-        ensures bytes { IfSome result (λ stored. stored.now.bytes.items ≡ bytes_of block self.now.memories) }
-        ensures long { IfSome result (λ stored. is_lent block self.now.loans ≡ false → length stored.now.bytes.items ≡ stored.now.len) }
-        ensures len { IfSome result (λ stored. IsFromOne MEMORY_MAX stored.now.len) }
-        ensures pins { IfSome result (λ stored. stored.now.pins ≡ pins_at block self.now.marks) }
-        ensures few { IfSome result (λ stored. stored.now.pins ≤ 2 ^ 32) }
-        ensures ended { IfSome result (λ stored. stored.now.ended ≡ is_ended_at block self.now.marks) }
-        ensures loan { IfSome result (λ stored. stored.now.loan ≡ loan_of block self.now.loans) }
-        ensures free { IfSome result (λ stored. stored.now.ended ≡ true → is_lent block self.now.loans ≡ false) }
+        ensures { IsStoredOf self.now block result.now }
     {
-        let at = position_of(&self.index, block)?;
-        self.slab.get(self.index[at].1)
+        &self.slab[slot_of_block(&self.index, block)]
     }
-}
-
-/// The byte that fills a new block.
-fn byte_that_fills(zero: bool) -> u8
-    ensures { result ≡ fill_byte zero }
-{
-    if zero { 0 } else { FILL_BYTE }
-}
-
-/// Puts an empty vector for each length, with room for as many bytes, into a list that is empty.
-fn add_vectors(vectors: &mut VecDeque<Vec<u8>>, alloc: Global, lens: &[u64]) -> Result<(), Fault>
-    requires { vectors.old.items ≡ [] }
-    ensures room { OnOk result (map (λ v. vec_capacity v) vectors.new.items ≡ lens.now) }
-    ensures empty { OnOk result (AllByRecursion (λ v. v.items ≡ []) vectors.new.items) }
-    ensures only { IfErr result (λ fault. fault ≡ Fault.Memory) }
-{
-    for len in lens {
-        vectors.push_back(Vec::with_capacity(alloc, *len as usize)?)?;
-    }
-    Ok(())
-}
-
-/// As [`add_vectors`], but the list is empty again where memory is refused. It keeps its own room.
-fn make_vectors(vectors: &mut VecDeque<Vec<u8>>, alloc: Global, lens: &[u64]) -> Result<(), Fault>
-    requires { vectors.old.items ≡ [] }
-    ensures room { OnOk result (map (λ v. vec_capacity v) vectors.new.items ≡ lens.now) }
-    ensures empty { OnOk result (AllByRecursion (λ v. v.items ≡ []) vectors.new.items) }
-    ensures none { OnErr result (vectors.new.items ≡ []) }
-    ensures only { IfErr result (λ fault. fault ≡ Fault.Memory) }
-{
-    let made = add_vectors(vectors, alloc, lens);
-    if made.is_err() {
-        vectors.clear();
-    }
-    made
-}
-
-/// Fills an empty vector that has room with the bytes of a new block.
-fn fill(bytes: &mut Vec<u8>, len: u64, zero: bool)
-    requires empty { bytes.old.items ≡ [] }
-    requires room { len ≤ vec_capacity bytes.old }
-    ensures { bytes.new.items ≡ replicate len (fill_byte zero) }
-{
-    let Ok(()) = bytes.resize(len as usize, byte_that_fills(zero)) else {
-        unreachable!()
-    };
-}
-
-/// The bytes of a new block.
-fn filled(alloc: Global, len: u64, zero: bool) -> Result<Vec<u8>, Fault>
-    ensures ok { IfOk result (λ bytes. bytes.items ≡ replicate len (fill_byte zero)) }
-    ensures only { IfErr result (λ fault. fault ≡ Fault.Memory) }
-{
-    let fill = byte_that_fills(zero);
-    Ok(vec![in alloc; fill; len as usize]?)
 }

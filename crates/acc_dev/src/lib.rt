@@ -3,6 +3,8 @@
 
 mod devices;
 mod entries;
+mod filling;
+mod lending;
 #[cfg(test)]
 mod tests;
 

@@ -1,0 +1,88 @@
+//! The loans of a device: a block is taken out by a lease, which is put back.
+
+ghost use Rattle.std.specs.Prelude.{◌≡◌, ◌+◌, ◌≤◌, ◌↔◌, IfOk, IfErr, OnOk, OnErr, IsOk, IsErr, true, false};
+ghost use Rattle.acc_base.specs.Bytes.{bytes_of};
+ghost use Rattle.acc_base.specs.Loans.{loan_of, is_lent, len_of, is_returnable};
+ghost use Rattle.acc_dev.specs.Marks.{is_ended_at};
+ghost use Rattle.acc_dev.specs.Device.{HasBlock, IsTakenOut, IsPutBack};
+
+use crate::devices::Device;
+use crate::entries::{lend_at, loan_at, restore_at, slot_back, slot_of_block};
+use acc_base::{Fault, Loan};
+use acc_lend::Lease;
+
+impl Device {
+    /// Moves the bytes of a block of the device, which is mapped, into a lease of `len` bytes of it from place `offset`
+    /// on, which end within the block. The block stays where it is and is lent until [`Device::put_back`] takes the
+    /// lease. No byte is copied, and no memory is needed (OpenACC 3.3, sections 2.5, compute constructs, and 2.6, data
+    /// environment).
+    ///
+    /// # Errors
+    ///
+    /// [`Fault::Lent`] with the number of the block, exactly where it is lent already. The device is then as before.
+    pub fn take_out(
+        &mut self,
+        block: u64,
+        serial: u64,
+        offset: u64,
+        len: u64,
+    ) -> Result<Lease, Fault>
+        requires there { HasBlock self.old block }
+        requires mapped { is_ended_at block self.old.marks ≡ false }
+        requires within { offset + len ≤ len_of block self.old.blocks }
+        ensures lent { IsErr result ↔ (is_lent block self.old.loans ≡ true) }
+        ensures only { IfErr result (λ fault. fault ≡ Fault.Lent block) }
+        ensures lease { IfOk result (λ lease. lease ≡ record { serial = serial; block = block; offset = offset; len = len; bytes = bytes_of block self.old.memories }) }
+        ensures out { OnOk result (IsTakenOut self.old self.new (record { serial = serial; block = block; offset = offset; len = len })) }
+        ensures same { OnErr result (self.new ≡ self.old) }
+    {
+        let slot = slot_of_block(&self.index, block);
+        if loan_at(&self.slab, slot).is_some() {
+            return Err(Fault::Lent { block });
+        }
+        let loan = Loan {
+            serial,
+            block,
+            offset,
+            len,
+        };
+        Ok(lend_at(&mut self.slab, slot, self.alloc, loan))
+    }
+
+    /// Moves the bytes of a lease back into its block, which is no longer lent. No byte is copied, and no memory is
+    /// needed.
+    ///
+    /// # Errors
+    ///
+    /// [`Fault::NoLease`] with the lease's serial number, and the lease itself, exactly where the device has no loan of
+    /// this serial number, block, place and length of the section, or the lease has not as many bytes as the block is
+    /// long. The device is then as before.
+    pub fn put_back(&mut self, lease: Lease) -> Result<(), (Lease, Fault)>
+        ensures fits { IsOk result ↔ (is_returnable lease self.old.blocks self.old.loans ≡ true) }
+        ensures back { IfErr result (λ back. (back.0 ≡ lease) × (back.1 ≡ Fault.NoLease lease.serial)) }
+        ensures put { OnOk result (IsPutBack self.old self.new lease) }
+        ensures same { OnErr result (self.new ≡ self.old) }
+    {
+        let serial = lease.serial();
+        let Some(slot) = slot_back(&self.slab, &self.index, &lease) else {
+            return Err((lease, Fault::NoLease { serial }));
+        };
+        restore_at(&mut self.slab, slot, lease.into_block());
+        Ok(())
+    }
+
+    /// The loan of a block of the device; `None` exactly where it is not lent.
+    pub fn loan(&self, block: u64) -> Option<Loan>
+        requires { HasBlock self.now block }
+        ensures { result ≡ loan_of block self.now.loans }
+    {
+        self.stored(block).loan
+    }
+
+    /// Whether [`Device::put_back`] takes a lease. It needs no memory.
+    pub fn is_returnable(&self, lease: &Lease) -> bool
+        ensures { result ≡ is_returnable lease.now self.now.blocks self.now.loans }
+    {
+        slot_back(&self.slab, &self.index, lease).is_some()
+    }
+}

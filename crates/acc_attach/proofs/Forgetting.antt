@@ -5,10 +5,10 @@ use Rattle.std.specs.List.{AllByRecursion, copy_within}
 use Rattle.std.proofs.lemmas.Bool.Decides.{nat_tests}
 use Rattle.std.proofs.lemmas.List.Edits.{take-paste}
 use Rattle.acc_base.specs.declared.attachments.Attachment.{Attachment}
+use Rattle.acc_base.specs.Splits.{IsSplitBy}
 use Rattle.acc_base.specs.Accounts.{EachPair}
 use Rattle.acc_base.specs.Attachments.{IsBefore, without_attachments}
 use Rattle.acc_base.proofs.Elements.{EachPair-weaker}
-use Rattle.acc_attach.specs.Kept.{IsSplitBy}
 
 -- the blocks of rising counters do not fall
 block_le : (a b : Attachment) → IsBefore a b → a.block ≤ b.block

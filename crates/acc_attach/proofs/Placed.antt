@@ -5,12 +5,13 @@ use Rattle.std.specs.List.{AllByRecursion, list_any, insert, remove}
 use Rattle.std.proofs.lemmas.Bool.Decides.{nat_tests}
 use Rattle.acc_base.specs.declared.attachments.Attachment.{Attachment}
 use Rattle.acc_base.specs.Section.{covers}
+use Rattle.acc_base.specs.Splits.{IsSplitBy}
 use Rattle.acc_base.specs.Accounts.{EachPair}
 use Rattle.acc_base.specs.Attachments.{pointer_at, is_of, IsBefore, is_before, count_at, with_attachment, without_attachment, with_count, is_skipped, next_pointer}
 use Rattle.acc_base.proofs.Results.{equal}
 use Rattle.acc_base.proofs.Elements.{EachPair-weaker, AllByRecursion-weaker, find_none, find-none}
 use Rattle.acc_base.proofs.Attached.{same_block, same_pointer, before, behind, before-trans, before-other}
-use Rattle.acc_attach.specs.Kept.{IsSplitBy, is_below, is_from}
+use Rattle.acc_attach.specs.Kept.{is_below, is_from}
 
 -- a counter with this key
 abbrev pub probe : ℕ → ℕ → Attachment

@@ -1,5 +1,6 @@
 pub mod Results
 pub mod Elements
+pub mod Splitting
 pub mod Lookups
 pub mod Where
 pub mod Pointers

@@ -1,11 +1,11 @@
 -- The index of block numbers, as entries come and go.
-use Rattle.std.proofs.Common.{ℕ, ◌≡◌, ◌<◌, refl, sym, ap, ◌∙◌, Bool, true, false, cond, List, length, get_or, insert, Option, Some, None, IsSome, arith, rules}
+use Rattle.std.proofs.Common.{ℕ, ◌≡◌, ◌<◌, refl, ap, ◌∙◌, Bool, true, false, cond, List, insert, Option, Some, None, IsSome}
 use Rattle.std.specs.Prelude.{◌==◌, not, option_map}
 use Rattle.std.specs.List.{remove}
-use Rattle.acc_base.specs.Accounts.{EachPair}
+use Rattle.acc_base.specs.Splits.{IsSplitBy}
 use Rattle.acc_base.proofs.Elements.{EachPair-filter}
 use Rattle.acc_present.specs.declared.index.Entry.{Entry}
-use Rattle.acc_present.specs.Kept.{IsSplitBy, AreBlocksRising, start_in}
+use Rattle.acc_present.specs.Kept.{AreBlocksRising, start_in}
 use Rattle.acc_present.proofs.Keyed as keyed
 
 abbrev pub entry_key : Entry → ℕ
@@ -27,8 +27,8 @@ none_from None e = refl
 none_from (Some x) e = cc
 
 -- the entry of a block stands at the place of its number
-pub entry_at : (block i : ℕ) (index : List Entry) → AreBlocksRising index → IsSome (start_in block index) → IsSplitBy entry_key block index i → keyed.IsFoundAt entry_key block index i no_entry
-entry_at block i index rise there parts = keyed.found_at entry_key block index i no_entry rise parts.below parts.above (there_from (keyed.at entry_key block index) there)
+pub entry_at : (block i : ℕ) (index : List Entry) → AreBlocksRising index → IsSome (start_in block index) → IsSplitBy (keyed.is_key_below entry_key block) index i → keyed.IsFoundAt entry_key block index i no_entry
+entry_at block i index rise there parts = keyed.found_at entry_key block index i no_entry rise parts (there_from (keyed.at entry_key block index) there)
 
 -- the index has one entry more
 pub record IsPut (new : Entry) (old index : List Entry) : Type 0 where
@@ -39,7 +39,7 @@ some_cond : (b : Bool) (new : Entry) (o : Option Entry) → option_map entry_sta
 some_cond true new o = refl
 some_cond false new o = refl
 
-pub put_in : (new : Entry) (old index : List Entry) (i : ℕ) → AreBlocksRising old → start_in new.block old ≡ None → IsSplitBy entry_key new.block old i → index ≡ insert old i new → IsPut new old index
+pub put_in : (new : Entry) (old index : List Entry) (i : ℕ) → AreBlocksRising old → start_in new.block old ≡ None → IsSplitBy (keyed.is_key_below entry_key new.block) old i → index ≡ insert old i new → IsPut new old index
 put_in new old index i rise none parts is =
     let absent = none_from (keyed.at entry_key new.block old) none in
     record {

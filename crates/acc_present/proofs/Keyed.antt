@@ -1,35 +1,16 @@
 -- Lists whose elements have a key that rises or tells them apart: searches by the key, and changes at a place.
-use Rattle.std.proofs.Common.{ℕ, zero, suc, ◌≡◌, ◌<◌, ◌≤◌, refl, sym, ap, ◌∙◌, Bool, true, false, cond, List, [], ◌∷◌, length, get_or, set, take, drop, insert, Option, Some, None, IsSome, arith, rules, inl, inr, ltb}
-use Rattle.std.specs.Prelude.{◌==◌, not, map, find, filter, option_map, nat_lt, nat_le}
+use Rattle.std.proofs.Common.{ℕ, zero, suc, ◌≡◌, ◌<◌, ◌≤◌, refl, sym, ap, Bool, true, false, cond, List, [], ◌∷◌, length, get_or, set, take, drop, insert, Option, Some, None, IsSome, arith, rules}
+use Rattle.std.specs.Prelude.{◌==◌, not, map, find, filter, nat_lt, nat_le}
 use Rattle.std.specs.List.{AllByRecursion, remove}
-use Rattle.std.specs.List.Sorted.{IsPartitionPoint, IsNonDecreasingBy}
-use Rattle.std.proofs.lemmas.Bool.{cases_eq, false≢true}
 use Rattle.std.proofs.lemmas.Bool.Decides.{nat_tests}
-use Rattle.std.proofs.lemmas.List.Sorted.{IsNonDecreasingBy-from_default, IsNonDecreasingBy-short}
+use Rattle.acc_base.specs.Splits.{IsSplitBy}
 use Rattle.acc_base.specs.Accounts.{EachPair}
 use Rattle.acc_base.proofs.Results.{equal, equal_self}
-use Rattle.acc_base.proofs.Elements.{AllByRecursion-weaker, AllByRecursion-both, find_none, find-none, found_has}
+use Rattle.acc_base.proofs.Elements.{AllByRecursion-weaker, AllByRecursion-both, EachPair-weaker, find_none, find-none, found_has}
+use Rattle.acc_base.proofs.Splitting.{all_at}
 use Rattle.acc_base.proofs.Lookups as lookups
-use Rattle.acc_present.specs.Kept.{IsSplitBy}
 
 -- ---- each element
-
-pub all_at : {X : Type 0} (P : X → Type 0) (xs : List X) (i : ℕ) (d : X) → i < length xs → AllByRecursion P xs → P (get_or xs i d)
-all_at P [] i d lt h = absurd (omega arith)
-all_at P (x ∷ xs) zero d lt h = h.0
-all_at P (x ∷ xs) (suc i) d lt h = all_at P xs i d (omega arith) h.1
-
-all_front : {X : Type 0} (P : X → Type 0) (xs : List X) (i : ℕ) → ((k : ℕ) (d : X) → k < i → P (get_or xs k d)) → AllByRecursion P (take i xs)
-all_front P [] zero h = tt
-all_front P [] (suc i) h = tt
-all_front P (x ∷ xs) zero h = tt
-all_front P (x ∷ xs) (suc i) h = (h 0 x (omega arith), all_front P xs i (λ k d lt. h (suc k) d (omega arith)))
-
-all_back : {X : Type 0} (P : X → Type 0) (xs : List X) (i : ℕ) → ((k : ℕ) (d : X) → i ≤ k → k < length xs → P (get_or xs k d)) → AllByRecursion P (drop i xs)
-all_back P [] zero h = tt
-all_back P [] (suc i) h = tt
-all_back P (x ∷ xs) zero h = (h 0 x (omega arith) (omega arith), all_back P xs 0 (λ k d le lt. h (suc k) d (omega arith) (omega arith)))
-all_back P (x ∷ xs) (suc i) h = all_back P xs i (λ k d le lt. h (suc k) d (omega arith) (omega arith))
 
 pub all-take : {X : Type 0} (P : X → Type 0) (xs : List X) (i : ℕ) → AllByRecursion P xs → AllByRecursion P (take i xs)
 all-take P [] zero h = tt
@@ -82,30 +63,29 @@ module _ {X : Type 0} (key : X → ℕ) where
   differ [] h = tt
   differ (x ∷ xs) h = (AllByRecursion-weaker (λ y. key x < key y) (λ y. key x ≡ key y → ⊥) xs (λ y less same. absurd (omega arith)) h.0, differ xs h.1)
 
-  rise_at : (xs : List X) (i j : ℕ) (d : X) → Rise xs → i < j → j < length xs → key (get_or xs i d) < key (get_or xs j d)
-  rise_at [] i j d r lt within = absurd (omega arith)
-  rise_at (x ∷ xs) i zero d r lt within = absurd (omega arith)
-  rise_at (x ∷ xs) zero (suc j) d r lt within = all_at (λ y. key x < key y) xs j d (omega arith) r.0
-  rise_at (x ∷ xs) (suc i) (suc j) d r lt within = rise_at xs i j d r.1 (omega arith) (omega arith)
+  -- ---- a search by halves
 
-  rise_to : (xs : List X) (i j : ℕ) (d : X) → Rise xs → i ≤ j → j < length xs → key (get_or xs i d) ≤ key (get_or xs j d)
-  rise_to xs i j d r le within = elim (cases_eq i j) [
-    | inl same ↦ omega (arith, ap (λ (k : ℕ). key (get_or xs k d)) same)
-    | inr differs ↦ omega (arith, rise_at xs i j d r (omega arith) within)
-  ]
+  -- the key of an element is below a number
+  abbrev pub is_key_below : ℕ → X → Bool
+  is_key_below number x = nat_lt (key x) number
 
-  -- rising keys do not fall, as a search by halves asks
-  pub non_decreasing : (xs : List X) → Rise xs → IsNonDecreasingBy key xs
-  non_decreasing [] r = IsNonDecreasingBy-short key [] (omega arith)
-  non_decreasing (x ∷ xs) r = IsNonDecreasingBy-from_default key (x ∷ xs) x (λ i j le within. rise_to (x ∷ xs) i j x r le within)
+  -- keys below a number stand first where keys rise
+  pub below_first : (number : ℕ) (xs : List X) → Rise xs → EachPair (λ x y. is_key_below number y ≡ true → is_key_below number x ≡ true) xs
+  below_first number xs r = EachPair-weaker (λ x y. key x < key y) (λ x y. is_key_below number y ≡ true → is_key_below number x ≡ true) xs (λ x y less e. grind (arith, nat_tests)) r
 
-  -- where a search by halves ends
-  pub split : (xs : List X) (number i : ℕ) → i ≤ length xs → IsPartitionPoint (λ x. ltb (key x) number ≡ true) (λ x. ltb (key x) number ≡ false) xs i → IsSplitBy key number xs i
-  split xs number i bound parts = record {
-    bound = bound;
-    below = all_front (λ x. key x < number) xs i (λ k d lt. let t : ltb (key (get_or xs k d)) number ≡ true = parts.0 k d (omega arith) lt in grind (arith, nat_tests));
-    above = all_back (λ x. number ≤ key x) xs i (λ k d le lt. let t : ltb (key (get_or xs k d)) number ≡ false = parts.1 k d le lt in grind (arith, nat_tests));
-  }
+  -- the keys before the place of a number are below it
+  pub keys_below : (number : ℕ) (xs : List X) (i : ℕ) → IsSplitBy (is_key_below number) xs i → AllByRecursion (λ x. key x < number) (take i xs)
+  keys_below number xs i parts = AllByRecursion-weaker (λ x. is_key_below number x ≡ true) (λ x. key x < number) (take i xs) (λ x e. grind (arith, nat_tests)) parts.passed
+
+  -- and those from it on are not
+  pub keys_from : (number : ℕ) (xs : List X) (i : ℕ) → IsSplitBy (is_key_below number) xs i → AllByRecursion (λ x. number ≤ key x) (drop i xs)
+  keys_from number xs i parts = AllByRecursion-weaker (λ x. is_key_below number x ≡ false) (λ x. number ≤ key x) (drop i xs) (λ x e. grind (arith, nat_tests)) parts.failed
+
+  -- the others are split at the place before
+  split_rest : (number : ℕ) (x : X) (xs : List X) (i : ℕ) → IsSplitBy (is_key_below number) (x ∷ xs) (suc i) → IsSplitBy (is_key_below number) xs i
+  split_rest number x xs i parts = record { bound = omega (arith, parts.bound); passed = parts.passed.1; failed = parts.failed }
+
+  -- ---- the element of a key
 
   -- no key is this one where all are above it
   at-above : (number : ℕ) (xs : List X) → AllByRecursion (λ x. number < key x) xs → at number xs ≡ None
@@ -117,53 +97,54 @@ module _ {X : Type 0} (key : X → ℕ) where
     pub key_is : key (get_or xs i d) ≡ number
     pub found : at number xs ≡ Some (get_or xs i d)
 
-  pub found_at : (number : ℕ) (xs : List X) (i : ℕ) (d : X) → Rise xs → AllByRecursion (λ x. key x < number) (take i xs) → AllByRecursion (λ x. number ≤ key x) (drop i xs) → IsSome (at number xs) → IsFoundAt number xs i d
-  found_at number [] i d r below above there = absurd (search (rules, there))
-  found_at number (x ∷ xs) zero d r below above there = go (key x == number) refl there
+  pub found_at : (number : ℕ) (xs : List X) (i : ℕ) (d : X) → Rise xs → IsSplitBy (is_key_below number) xs i → IsSome (at number xs) → IsFoundAt number xs i d
+  found_at number [] i d r parts there = absurd (search (rules, there))
+  found_at number (x ∷ xs) zero d r parts there = go (key x == number) refl there
     where
       go : (b : Bool) → (key x == number) ≡ b → IsSome (cond b (Some x) (at number xs)) → IsFoundAt number (x ∷ xs) zero d
       go true e s = record { bound = omega arith; key_is = equal _ _ e; found = rw e }
       go false e s =
-          let lowest : number < key x = grind (arith, nat_tests, above.0) in
+          let least = parts.failed.0 in
+          let lowest : number < key x = grind (arith, nat_tests) in
           let none : at number xs ≡ None = at-above number xs (AllByRecursion-weaker (λ y. key x < key y) (λ y. number < key y) xs (λ y less. omega arith) r.0) in
           absurd (search (rules, rw none at s))
-  found_at number (x ∷ xs) (suc i) d r below above there =
-      let less : key x < number = below.0 in
+  found_at number (x ∷ xs) (suc i) d r parts there =
+      let less = parts.passed.0 in
       let t : (key x == number) ≡ false = grind (arith, nat_tests) in
-      let later = found_at number xs i d r.1 below.1 above (rw t at there) in
+      let later = found_at number xs i d r.1 (split_rest number x xs i parts) (rw t at there) in
       record { bound = omega (arith, later.bound); key_is = later.key_is; found = rw t later.found }
 
   -- the place of a key that is there is within the list
-  pub found_within : (number : ℕ) (xs : List X) (i : ℕ) → AllByRecursion (λ x. key x < number) (take i xs) → IsSome (at number xs) → i < length xs
-  found_within number [] i below there = absurd (search (rules, there))
-  found_within number (x ∷ xs) zero below there = omega arith
-  found_within number (x ∷ xs) (suc i) below there =
-      let less : key x < number = below.0 in
+  pub found_within : (number : ℕ) (xs : List X) (i : ℕ) → IsSplitBy (is_key_below number) xs i → IsSome (at number xs) → i < length xs
+  found_within number [] i parts there = absurd (search (rules, there))
+  found_within number (x ∷ xs) zero parts there = omega arith
+  found_within number (x ∷ xs) (suc i) parts there =
+      let less = parts.passed.0 in
       let t : (key x == number) ≡ false = grind (arith, nat_tests) in
-      omega (arith, found_within number xs i below.1 (rw t at there))
+      omega (arith, found_within number xs i (split_rest number x xs i parts) (rw t at there))
 
   -- what stands at the place of a number is the element of that key, if it has it
-  pub at_place : (number : ℕ) (xs : List X) (i : ℕ) (d : X) → AllByRecursion (λ x. key x < number) (take i xs) → i < length xs → key (get_or xs i d) ≡ number → at number xs ≡ Some (get_or xs i d)
-  at_place number [] i d below within is = absurd (omega arith)
-  at_place number (x ∷ xs) zero d below within is = let t : (key x == number) ≡ true = grind (arith, nat_tests) in rw t
-  at_place number (x ∷ xs) (suc i) d below within is =
-      let less : key x < number = below.0 in
+  pub at_place : (number : ℕ) (xs : List X) (i : ℕ) (d : X) → IsSplitBy (is_key_below number) xs i → i < length xs → key (get_or xs i d) ≡ number → at number xs ≡ Some (get_or xs i d)
+  at_place number [] i d parts within is = absurd (omega arith)
+  at_place number (x ∷ xs) zero d parts within is = let t : (key x == number) ≡ true = grind (arith, nat_tests) in rw t
+  at_place number (x ∷ xs) (suc i) d parts within is =
+      let less = parts.passed.0 in
       let t : (key x == number) ≡ false = grind (arith, nat_tests) in
-      rw t (at_place number xs i d below.1 (omega arith) is)
+      rw t (at_place number xs i d (split_rest number x xs i parts) (omega arith) is)
 
   -- and else there is none
-  pub at_no_place : (number : ℕ) (xs : List X) (i : ℕ) (d : X) → Rise xs → AllByRecursion (λ x. key x < number) (take i xs) → AllByRecursion (λ x. number ≤ key x) (drop i xs) → (i < length xs → key (get_or xs i d) ≡ number → ⊥) → at number xs ≡ None
-  at_no_place number [] i d r below above other = refl
-  at_no_place number (x ∷ xs) zero d r below above other =
-      let least : number ≤ key x = above.0 in
+  pub at_no_place : (number : ℕ) (xs : List X) (i : ℕ) (d : X) → Rise xs → IsSplitBy (is_key_below number) xs i → (i < length xs → key (get_or xs i d) ≡ number → ⊥) → at number xs ≡ None
+  at_no_place number [] i d r parts other = refl
+  at_no_place number (x ∷ xs) zero d r parts other =
+      let least = parts.failed.0 in
       let differs : key x ≡ number → ⊥ = other (omega arith) in
       let t : (key x == number) ≡ false = grind (arith, nat_tests) in
-      let less : number < key x = omega arith in
+      let less : number < key x = grind (arith, nat_tests, differs) in
       rw t (at-above number xs (AllByRecursion-weaker (λ y. key x < key y) (λ y. number < key y) xs (λ y more. omega arith) r.0))
-  at_no_place number (x ∷ xs) (suc i) d r below above other =
-      let less : key x < number = below.0 in
+  at_no_place number (x ∷ xs) (suc i) d r parts other =
+      let less = parts.passed.0 in
       let t : (key x == number) ≡ false = grind (arith, nat_tests) in
-      rw t (at_no_place number xs i d r.1 below.1 above (λ lt. other (omega arith)))
+      rw t (at_no_place number xs i d r.1 (split_rest number x xs i parts) (λ lt. other (omega arith)))
 
   -- an element that a search finds is the one of its key
   pub at-found : (p : X → Bool) (xs : List X) (x : X) → Rise xs → find p xs ≡ Some x → at (key x) xs ≡ Some x
@@ -178,25 +159,25 @@ module _ {X : Type 0} (key : X → ℕ) where
           rw f (rest h)
 
   -- the first key from a number on stands at the place of the number
-  pub first_at : (number : ℕ) (xs : List X) (i : ℕ) (d : X) → AllByRecursion (λ x. key x < number) (take i xs) → AllByRecursion (λ x. number ≤ key x) (drop i xs) → i < length xs → find (λ x. nat_le number (key x)) xs ≡ Some (get_or xs i d)
-  first_at number [] i d below above within = absurd (omega arith)
-  first_at number (x ∷ xs) zero d below above within = let least : number ≤ key x = above.0 in let t : nat_le number (key x) ≡ true = grind (arith, nat_tests) in rw t
-  first_at number (x ∷ xs) (suc i) d below above within = let less : key x < number = below.0 in let t : nat_le number (key x) ≡ false = grind (arith, nat_tests) in rw t (first_at number xs i d below.1 above (omega arith))
+  pub first_at : (number : ℕ) (xs : List X) (i : ℕ) (d : X) → IsSplitBy (is_key_below number) xs i → i < length xs → find (λ x. nat_le number (key x)) xs ≡ Some (get_or xs i d)
+  first_at number [] i d parts within = absurd (omega arith)
+  first_at number (x ∷ xs) zero d parts within = let least = parts.failed.0 in let t : nat_le number (key x) ≡ true = grind (arith, nat_tests) in rw t
+  first_at number (x ∷ xs) (suc i) d parts within = let less = parts.passed.0 in let t : nat_le number (key x) ≡ false = grind (arith, nat_tests) in rw t (first_at number xs i d (split_rest number x xs i parts) (omega arith))
 
   -- and there is none where the place is behind all
-  pub first_none : (number : ℕ) (xs : List X) (i : ℕ) → AllByRecursion (λ x. key x < number) (take i xs) → length xs ≤ i → find (λ x. nat_le number (key x)) xs ≡ None
-  first_none number [] i below within = refl
-  first_none number (x ∷ xs) zero below within = absurd (omega arith)
-  first_none number (x ∷ xs) (suc i) below within = let less : key x < number = below.0 in let t : nat_le number (key x) ≡ false = grind (arith, nat_tests) in rw t (first_none number xs i below.1 (omega arith))
+  pub first_none : (number : ℕ) (xs : List X) (i : ℕ) → IsSplitBy (is_key_below number) xs i → length xs ≤ i → find (λ x. nat_le number (key x)) xs ≡ None
+  first_none number [] i parts within = refl
+  first_none number (x ∷ xs) zero parts within = absurd (omega arith)
+  first_none number (x ∷ xs) (suc i) parts within = let less = parts.passed.0 in let t : nat_le number (key x) ≡ false = grind (arith, nat_tests) in rw t (first_none number xs i (split_rest number x xs i parts) (omega arith))
 
   -- ---- an element more
 
   -- the keys behind the place of a new one are above it
-  pub above_new : (number : ℕ) (xs : List X) (i : ℕ) → AllByRecursion (λ x. number ≤ key x) (drop i xs) → at number xs ≡ None → AllByRecursion (λ x. number < key x) (drop i xs)
-  above_new number xs i above none = AllByRecursion-both (λ x. number ≤ key x) (λ x. (key x == number) ≡ false) (λ x. number < key x) (drop i xs) (λ x le other. grind (arith, nat_tests)) above (all-drop (λ x. (key x == number) ≡ false) xs i (find_none (λ x. key x == number) xs none))
+  pub above_new : (number : ℕ) (xs : List X) (i : ℕ) → IsSplitBy (is_key_below number) xs i → at number xs ≡ None → AllByRecursion (λ x. number < key x) (drop i xs)
+  above_new number xs i parts none = AllByRecursion-both (λ x. number ≤ key x) (λ x. (key x == number) ≡ false) (λ x. number < key x) (drop i xs) (λ x le other. grind (arith, nat_tests)) (keys_from number xs i parts) (all-drop (λ x. (key x == number) ≡ false) xs i (find_none (λ x. key x == number) xs none))
 
-  pub rise-insert : (xs : List X) (i : ℕ) (new : X) → Rise xs → IsSplitBy key (key new) xs i → at (key new) xs ≡ None → Rise (insert xs i new)
-  rise-insert xs i new r parts none = pairs-insert (λ x y. key x < key y) xs i new r parts.below (above_new (key new) xs i parts.above none)
+  pub rise-insert : (xs : List X) (i : ℕ) (new : X) → Rise xs → IsSplitBy (is_key_below (key new)) xs i → at (key new) xs ≡ None → Rise (insert xs i new)
+  rise-insert xs i new r parts none = pairs-insert (λ x y. key x < key y) xs i new r (keys_below (key new) xs i parts) (above_new (key new) xs i parts none)
 
   pub at-insert : (xs : List X) (i : ℕ) (new : X) (number : ℕ) → at (key new) xs ≡ None → at number (insert xs i new) ≡ cond (key new == number) (Some new) (at number xs)
   at-insert [] zero new number none = refl

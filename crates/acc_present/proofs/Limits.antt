@@ -1,6 +1,6 @@
 -- No counter is above the limit, as mappings begin, change and end.
-use Rattle.std.proofs.Common.{ℕ, zero, suc, ◌≡◌, ◌+◌, ◌<◌, ◌≤◌, refl, Bool, true, false, cond, List, [], ◌∷◌, length, get_or, set, Some, arith}
-use Rattle.std.specs.Prelude.{◌==◌, map, nat_lt, option_map, unwrap_or}
+use Rattle.std.proofs.Common.{ℕ, zero, suc, ◌≡◌, ◌<◌, ◌≤◌, Bool, true, false, cond, List, [], ◌∷◌, get_or, set, Some, arith}
+use Rattle.std.specs.Prelude.{◌==◌, nat_lt, option_map, unwrap_or}
 use Rattle.std.specs.List.{AllByRecursion}
 use Rattle.acc_base.specs.declared.mappings.Range.{Range}
 use Rattle.acc_base.specs.declared.mappings.Counter.{Counter}

@@ -1,22 +1,22 @@
 -- The mapped ranges and their index, as mappings begin and end.
-use Rattle.std.proofs.Common.{ℕ, zero, suc, ◌≡◌, ◌+◌, ◌<◌, ◌≤◌, refl, sym, ap, ◌∙◌, subst, Bool, true, false, cond, List, [], ◌∷◌, length, get_or, set, take, drop, insert, Option, Some, None, IsSome, arith, rules}
-use Rattle.std.specs.Prelude.{◌==◌, ◌||◌, not, map, find, filter, option_map, nat_lt, nat_le}
-use Rattle.std.specs.List.{AllByRecursion, list_all, remove}
+use Rattle.std.proofs.Common.{ℕ, zero, suc, ◌≡◌, ◌<◌, ◌≤◌, refl, sym, ap, ◌∙◌, Bool, true, false, cond, List, [], ◌∷◌, get_or, set, take, drop, insert, Option, Some, None, IsSome, arith, rules}
+use Rattle.std.specs.Prelude.{◌==◌, not, option_map, nat_lt}
+use Rattle.std.specs.List.{AllByRecursion, remove}
 use Rattle.std.proofs.lemmas.Bool.Decides.{nat_tests}
-use Rattle.acc_base.specs.declared.items.Section.{Section}
 use Rattle.acc_base.specs.declared.mappings.Range.{Range}
 use Rattle.acc_base.specs.declared.mappings.Found.TheVariants.{Absent}
-use Rattle.acc_base.specs.Section.{is_empty, is_apart, end_of}
-use Rattle.acc_base.specs.Ranges.{where_is, range_of, with_range, without_range, changed_at, bare_range, risen, fallen, cleared}
+use Rattle.acc_base.specs.Section.{is_apart}
+use Rattle.acc_base.specs.Ranges.{where_is, range_of, with_range, without_range, changed_at, risen, fallen, cleared}
 use Rattle.acc_base.specs.declared.mappings.Counter.{Counter}
 use Rattle.acc_base.specs.declared.mappings.Counter.TheVariants.{Structured, Dynamic}
+use Rattle.acc_base.specs.Splits.{IsSplitBy}
 use Rattle.acc_base.specs.Accounts.{EachPair, IsBelow}
 use Rattle.acc_base.proofs.Where.{absent_says}
 use Rattle.acc_base.proofs.Results.{equal}
 use Rattle.acc_base.proofs.Elements.{AllByRecursion-weaker, AllByRecursion-both, AllByRecursion-filter, AllByRecursion-map, EachPair-filter, EachPair-map, find_none, list_all-from}
 use Rattle.acc_present.specs.declared.index.Entry.{Entry}
 use Rattle.acc_present.specs.Present.{AreMapped}
-use Rattle.acc_present.specs.Kept.{IsSplitBy, AreBlocksRising, start_in, start_at, IsIndexed, IsRangeAt, no_range}
+use Rattle.acc_present.specs.Kept.{AreBlocksRising, start_in, start_at, IsIndexed, IsRangeAt, no_range}
 use Rattle.acc_present.proofs.Keyed as keyed
 use Rattle.acc_present.proofs.Keyed.{all-take, all-drop, all-insert, pairs-insert}
 
@@ -36,7 +36,7 @@ starts_rise (r ∷ rs) some rise =
     (AllByRecursion-weaker (λ (t : Range). IsBelow r.section t.section) (λ t. r.section.start < t.section.start) rs (λ t below. omega arith) rise.0, starts_rise rs some.1 rise.1)
 
 -- the range at the place of the start that the index gives is that of the block
-pub range_there : (block start i : ℕ) (rs : List Range) (index : List Entry) → IsIndexed rs index → IsSome (range_of block rs) → start_in block index ≡ Some start → IsSplitBy start_key start rs i → IsRangeAt block rs i
+pub range_there : (block start i : ℕ) (rs : List Range) (index : List Entry) → IsIndexed rs index → IsSome (range_of block rs) → start_in block index ≡ Some start → IsSplitBy (keyed.is_key_below start_key start) rs i → IsRangeAt block rs i
 range_there block start i rs index kept there given parts = go (range_of block rs) refl there
   where
     go : (o : Option Range) → range_of block rs ≡ o → IsSome o → IsRangeAt block rs i
@@ -47,7 +47,7 @@ range_there block start i rs index kept there given parts = go (range_of block r
         let same : start ≡ start_key r = cc in
         let own : keyed.at start_key (start_key r) rs ≡ Some r = keyed.at-found start_key (λ t. t.block == block) rs r rise e in
         let own_there : IsSome (keyed.at start_key start rs) = rw same (rw own refl) in
-        let at = keyed.found_at start_key start rs i no_range rise parts.below parts.above own_there in
+        let at = keyed.found_at start_key start rs i no_range rise parts own_there in
         let is : Some (get_or rs i no_range) ≡ Some r = sym at.found ∙ ap (λ n. keyed.at start_key n rs) same ∙ own in
         record { bound = at.bound; found = e ∙ sym is }
 
@@ -89,16 +89,16 @@ pub record IsPlaced (new : Range) (rs : List Range) (i : ℕ) : Type 0 where
   pub above : AllByRecursion (λ (r : Range). IsBelow new.section r.section) (drop i rs)
   pub later : AllByRecursion (λ (r : Range). new.section.start < r.section.start) (drop i rs)
 
-pub placed : (new : Range) (rs : List Range) (i : ℕ) → AreMapped rs → where_is new.section rs ≡ Absent → IsSplitBy start_key new.section.start rs i → IsPlaced new rs i
+pub placed : (new : Range) (rs : List Range) (i : ℕ) → AreMapped rs → where_is new.section rs ≡ Absent → IsSplitBy (keyed.is_key_below start_key new.section.start) rs i → IsPlaced new rs i
 placed new rs i m absent parts =
     let says = absent_says new.section rs absent in
     let len : 0 < new.section.len = grind (arith, nat_tests, says.1) in
     let apart = list_all-from (λ r. is_apart new.section r.section) rs says.0 in
     let clear : AllByRecursion (λ (r : Range). (0 < r.section.len) × (is_apart new.section r.section ≡ true)) rs = AllByRecursion-both (λ (r : Range). 0 < r.section.len) (λ r. is_apart new.section r.section ≡ true) (λ (r : Range). (0 < r.section.len) × (is_apart new.section r.section ≡ true)) rs (λ r l a. (l, a)) m.some apart in
-    let above : AllByRecursion (λ (r : Range). IsBelow new.section r.section) (drop i rs) = AllByRecursion-both (λ (r : Range). new.section.start ≤ r.section.start) (λ (r : Range). (0 < r.section.len) × (is_apart new.section r.section ≡ true)) (λ (r : Range). IsBelow new.section r.section) (drop i rs) (λ r le h. let l = h.0 in let a = h.1 in grind (arith, nat_tests)) parts.above (all-drop (λ (r : Range). (0 < r.section.len) × (is_apart new.section r.section ≡ true)) rs i clear) in
+    let above : AllByRecursion (λ (r : Range). IsBelow new.section r.section) (drop i rs) = AllByRecursion-both (λ (r : Range). new.section.start ≤ r.section.start) (λ (r : Range). (0 < r.section.len) × (is_apart new.section r.section ≡ true)) (λ (r : Range). IsBelow new.section r.section) (drop i rs) (λ r le h. let l = h.0 in let a = h.1 in grind (arith, nat_tests)) (keyed.keys_from start_key new.section.start rs i parts) (all-drop (λ (r : Range). (0 < r.section.len) × (is_apart new.section r.section ≡ true)) rs i clear) in
     record {
       some = len;
-      below = AllByRecursion-both (λ (r : Range). r.section.start < new.section.start) (λ (r : Range). (0 < r.section.len) × (is_apart new.section r.section ≡ true)) (λ (r : Range). IsBelow r.section new.section) (take i rs) (λ r less h. let l = h.0 in let a = h.1 in grind (arith, nat_tests)) parts.below (all-take (λ (r : Range). (0 < r.section.len) × (is_apart new.section r.section ≡ true)) rs i clear);
+      below = AllByRecursion-both (λ (r : Range). r.section.start < new.section.start) (λ (r : Range). (0 < r.section.len) × (is_apart new.section r.section ≡ true)) (λ (r : Range). IsBelow r.section new.section) (take i rs) (λ r less h. let l = h.0 in let a = h.1 in grind (arith, nat_tests)) (keyed.keys_below start_key new.section.start rs i parts) (all-take (λ (r : Range). (0 < r.section.len) × (is_apart new.section r.section ≡ true)) rs i clear);
       above = above;
       later = AllByRecursion-weaker (λ (r : Range). IsBelow new.section r.section) (λ (r : Range). new.section.start < r.section.start) (drop i rs) (λ r below. omega arith) above;
     }
@@ -123,12 +123,12 @@ pub record IsMappedNow (new : Range) (rs ts : List Range) (index : List Entry) :
   pub ranges : ts ≡ with_range new rs
   pub indexed : IsIndexed ts index
 
-pub mapped_now : (new : Range) (rs ts : List Range) (i : ℕ) (old index : List Entry) → IsIndexed rs old → where_is new.section rs ≡ Absent → range_of new.block rs ≡ None → IsSplitBy start_key new.section.start rs i → ts ≡ insert rs i new
+pub mapped_now : (new : Range) (rs ts : List Range) (i : ℕ) (old index : List Entry) → IsIndexed rs old → where_is new.section rs ≡ Absent → range_of new.block rs ≡ None → IsSplitBy (keyed.is_key_below start_key new.section.start) rs i → ts ≡ insert rs i new
     → AreBlocksRising index → ((block : ℕ) → start_in block index ≡ cond (new.block == block) (Some new.section.start) (start_in block old)) → IsMappedNow new rs ts index
 mapped_now new rs ts i old index kept absent none parts is rising starts =
     let p = placed new rs i kept.mapped absent parts in
     record {
-      ranges = is ∙ sym (with_range-insert new rs i parts.below p.later);
+      ranges = is ∙ sym (with_range-insert new rs i (keyed.keys_below start_key new.section.start rs i parts) p.later);
       indexed = record {
         mapped = rw is (mapped-insert new rs i kept.mapped p none);
         rising = rising;

@@ -1,15 +1,14 @@
 -- The open regions, as they come and go.
-use Rattle.std.proofs.Common.{ℕ, zero, suc, ◌≡◌, ◌<◌, ◌≤◌, refl, sym, ap, ◌∙◌, Bool, true, false, cond, List, [], ◌∷◌, length, get_or, take, drop, insert, Option, Some, None, IsSome, arith, rules}
-use Rattle.std.specs.Prelude.{◌==◌, not, map, find, filter, option_map, nat_lt}
+use Rattle.std.proofs.Common.{ℕ, zero, suc, ◌≡◌, ◌<◌, ◌≤◌, refl, sym, ap, ◌∙◌, Bool, true, false, cond, List, [], ◌∷◌, length, get_or, take, drop, insert, Option, Some, None, IsSome, arith}
+use Rattle.std.specs.Prelude.{◌==◌, not, map, filter, option_map, nat_lt}
 use Rattle.std.specs.List.{AllByRecursion, remove}
 use Rattle.std.proofs.lemmas.Bool.Decides.{nat_tests}
-use Rattle.acc_base.specs.declared.regions.Holding.{Holding}
 use Rattle.acc_base.specs.Register.{Region, region_at, newest_region, holdings_at, with_region, without_region}
-use Rattle.acc_base.specs.Accounts.{EachPair}
+use Rattle.acc_base.specs.Splits.{IsSplitBy}
 use Rattle.acc_base.proofs.Elements.{EachPair-filter}
 use Rattle.acc_present.specs.declared.register.OpenRegion.{OpenRegion}
 use Rattle.acc_present.specs.Present.{AreNumbered}
-use Rattle.acc_present.specs.Kept.{IsSplitBy, AreNumbersRising, region_of}
+use Rattle.acc_present.specs.Kept.{AreNumbersRising, region_of}
 use Rattle.acc_present.proofs.Keyed as keyed
 
 abbrev pub number_key : OpenRegion → ℕ
@@ -54,15 +53,15 @@ holdings_map number xs = ap (option_map (λ (r : Region). r.holdings)) (region_a
     go None = refl
     go (Some o) = refl
 
-pub holdings_there : (number : ℕ) (xs : List OpenRegion) (i : ℕ) (d : OpenRegion) → IsSplitBy number_key number xs i → i < length xs → (get_or xs i d).number ≡ number → holdings_at number (map region_of xs) ≡ Some ((get_or xs i d).holdings.items)
-holdings_there number xs i d parts within is = holdings_map number xs ∙ ap (option_map (λ (o : OpenRegion). o.holdings.items)) (keyed.at_place number_key number xs i d parts.below within is)
+pub holdings_there : (number : ℕ) (xs : List OpenRegion) (i : ℕ) (d : OpenRegion) → IsSplitBy (keyed.is_key_below number_key number) xs i → i < length xs → (get_or xs i d).number ≡ number → holdings_at number (map region_of xs) ≡ Some ((get_or xs i d).holdings.items)
+holdings_there number xs i d parts within is = holdings_map number xs ∙ ap (option_map (λ (o : OpenRegion). o.holdings.items)) (keyed.at_place number_key number xs i d parts within is)
 
-pub holdings_none : (number : ℕ) (xs : List OpenRegion) (i : ℕ) (d : OpenRegion) → AreNumbersRising xs → IsSplitBy number_key number xs i → (i < length xs → (get_or xs i d).number ≡ number → ⊥) → holdings_at number (map region_of xs) ≡ None
-holdings_none number xs i d rise parts other = holdings_map number xs ∙ ap (option_map (λ (o : OpenRegion). o.holdings.items)) (keyed.at_no_place number_key number xs i d rise parts.below parts.above other)
+pub holdings_none : (number : ℕ) (xs : List OpenRegion) (i : ℕ) (d : OpenRegion) → AreNumbersRising xs → IsSplitBy (keyed.is_key_below number_key number) xs i → (i < length xs → (get_or xs i d).number ≡ number → ⊥) → holdings_at number (map region_of xs) ≡ None
+holdings_none number xs i d rise parts other = holdings_map number xs ∙ ap (option_map (λ (o : OpenRegion). o.holdings.items)) (keyed.at_no_place number_key number xs i d rise parts other)
 
 -- and none behind all of them
-pub holdings_past : (number : ℕ) (xs : List OpenRegion) (i : ℕ) → IsSplitBy number_key number xs i → length xs ≤ i → holdings_at number (map region_of xs) ≡ None
-holdings_past number xs i parts past = holdings_map number xs ∙ ap (option_map (λ (o : OpenRegion). o.holdings.items)) (go xs i parts.below past)
+pub holdings_past : (number : ℕ) (xs : List OpenRegion) (i : ℕ) → IsSplitBy (keyed.is_key_below number_key number) xs i → length xs ≤ i → holdings_at number (map region_of xs) ≡ None
+holdings_past number xs i parts past = holdings_map number xs ∙ ap (option_map (λ (o : OpenRegion). o.holdings.items)) (go xs i (keyed.keys_below number_key number xs i parts) past)
   where
     go : (ys : List OpenRegion) (j : ℕ) → AllByRecursion (λ (o : OpenRegion). o.number < number) (take j ys) → length ys ≤ j → keyed.at number_key number ys ≡ None
     go [] j below past = refl
@@ -97,12 +96,12 @@ pub record IsPut (new : OpenRegion) (old xs : List OpenRegion) : Type 0 where
   pub rising : AreNumbersRising xs
   pub regions : map region_of xs ≡ with_region (region_of new) (map region_of old)
 
-pub put_in : (new : OpenRegion) (old xs : List OpenRegion) (i : ℕ) → AreNumbersRising old → region_at new.number (map region_of old) ≡ None → IsSplitBy number_key new.number old i → xs ≡ insert old i new → IsPut new old xs
+pub put_in : (new : OpenRegion) (old xs : List OpenRegion) (i : ℕ) → AreNumbersRising old → region_at new.number (map region_of old) ≡ None → IsSplitBy (keyed.is_key_below number_key new.number) old i → xs ≡ insert old i new → IsPut new old xs
 put_in new old xs i rise none parts is =
     let absent = new_number new.number old none in
     record {
       rising = rw is (keyed.rise-insert number_key old i new rise parts absent);
-      regions = ap (map region_of) is ∙ sym (with_region-insert new old i parts.below (keyed.above_new number_key new.number old i parts.above absent));
+      regions = ap (map region_of) is ∙ sym (with_region-insert new old i (keyed.keys_below number_key new.number old i parts) (keyed.above_new number_key new.number old i parts absent));
     }
 
 -- ---- a region less
@@ -120,9 +119,9 @@ pub record IsRegionRemoved (number : ℕ) (old xs : List OpenRegion) : Type 0 wh
   pub rising : AreNumbersRising xs
   pub regions : map region_of xs ≡ without_region number (map region_of old)
 
-pub taken_out : (number i : ℕ) (old xs : List OpenRegion) (d : OpenRegion) → AreNumbersRising old → IsSome (region_at number (map region_of old)) → IsSplitBy number_key number old i → xs ≡ remove old i → IsRegionRemoved number old xs
+pub taken_out : (number i : ℕ) (old xs : List OpenRegion) (d : OpenRegion) → AreNumbersRising old → IsSome (region_at number (map region_of old)) → IsSplitBy (keyed.is_key_below number_key number) old i → xs ≡ remove old i → IsRegionRemoved number old xs
 taken_out number i old xs d rise there parts is =
-    let at = keyed.found_at number_key number old i d rise parts.below parts.above (there_number number old there) in
+    let at = keyed.found_at number_key number old i d rise parts (there_number number old there) in
     let same = is ∙ keyed.remove-filter number_key old i number d (keyed.differ number_key old rise) at.bound at.key_is in
     record {
       rising = rw same (EachPair-filter (λ (o : OpenRegion) (p : OpenRegion). o.number < p.number) (λ o. not (o.number == number)) old rise);

@@ -2,7 +2,7 @@ use Rattle.std.proofs.Common.{rules}
 use Rattle.std.specs.Prelude.{nat_le}
 use Rattle.std.proofs.lemmas.List.Sorted.{IsPartitionPoint-from_clause}
 use Rattle.acc_base.specs.declared.attachments.Attachment.{Attachment}
-use Rattle.acc_attach.proofs.Splitting.{parted, split}
+use Rattle.acc_base.proofs.Splitting.{parted, split}
 use Rattle.acc_attach.proofs.Forgetting.{upto_parts}
 use Rattle.acc_attach.proofs.counters.first_behind.Goals as goal
 

@@ -1,7 +1,7 @@
 use Rattle.std.proofs.Common.{rules}
 use Rattle.std.proofs.lemmas.List.Sorted.{IsPartitionPoint-from_clause}
+use Rattle.acc_base.proofs.Splitting.{parted, split}
 use Rattle.acc_attach.specs.Kept.{is_below}
-use Rattle.acc_attach.proofs.Splitting.{parted, split}
 use Rattle.acc_attach.proofs.Placed.{below_parts}
 use Rattle.acc_attach.proofs.counters.place_of.Goals as goal
 

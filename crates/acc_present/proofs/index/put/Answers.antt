@@ -1,5 +1,5 @@
 use Rattle.std.specs.Prelude.{IsOk}
-use Rattle.acc_present.proofs.Indexing.{IsPut, put_in}
+use Rattle.acc_present.proofs.Indexing.{put_in}
 use Rattle.acc_present.proofs.index.put.Goals as goal
 
 pub returns-clause-rising : goal.returns-clause-rising

@@ -1,4 +1,4 @@
-use Rattle.std.proofs.Common.{arith, rules}
+use Rattle.std.proofs.Common.{rules}
 use Rattle.acc_present.proofs.Indexing.{entry_at, taken_out}
 use Rattle.acc_present.proofs.index.take_out.Goals as goal
 

@@ -1,5 +1,5 @@
 use Rattle.std.specs.Prelude.{IsOk}
-use Rattle.acc_present.proofs.Registering.{IsPut, put_in}
+use Rattle.acc_present.proofs.Registering.{put_in}
 use Rattle.acc_present.proofs.register.put.Goals as goal
 
 pub returns-clause-rising : goal.returns-clause-rising

@@ -2,6 +2,7 @@ pub mod Results
 pub mod Elements
 pub mod Splitting
 pub mod Lookups
+pub mod KeptPlaces
 pub mod Where
 pub mod Pointers
 pub mod Attached

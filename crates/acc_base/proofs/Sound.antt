@@ -27,7 +27,8 @@ use Rattle.acc_base.specs.Waits.{records_made, records_stepped, records_drained}
 use Rattle.acc_base.specs.Accounts.{EachPair, IsHostSection, IsBelow, AreRangesApart, IsOnDevice, IsClearOf, AreBlocksApart, IsMapped, HasOneBlockEach, IsCounted, AreAttachmentsSound, IsTransferSound, AreQueuesSound, AreRecordsSound, IsLoanSound, AreLoansSound}
 use Rattle.acc_base.proofs.Results.{and_true, equal}
 use Rattle.acc_base.proofs.Elements.{AllByRecursion-weaker, AllByRecursion-both, AllByRecursion-filter, AllByRecursion-passed, AllByRecursion-map, AllByRecursion-append, EachPair-filter, EachPair-push, EachPair-map, list_all-from, find_none, found_has}
-use Rattle.acc_base.proofs.Lookups.{change_at, number-change, at-changed, at-without_other, at-push_there, at-push_new, at-own, at-none}
+use Rattle.acc_base.proofs.KeptPlaces.{block_of, KeepsPlace, section-change, block-change, risen_keeps, fallen_keeps, cleared_keeps}
+use Rattle.acc_base.proofs.Lookups.{change_at, at-changed, at-without_other, at-push_there, at-push_new, at-own, at-none}
 use Rattle.acc_base.proofs.Counting.{with_there, with_new}
 use Rattle.acc_base.proofs.Where.{absent_says}
 use Rattle.acc_base.proofs.Places.{place_for-found, IsFoundPlace, place_for-even}
@@ -39,24 +40,6 @@ use Rattle.acc_base.proofs.Lending.{loans-weaker, loans-other, range_of-with_oth
 use Rattle.acc_base.proofs.Judged.{IsBirth, IsCount}
 
 -- ---- a change of the counters of one range
-
-abbrev pub block_of : Range → ℕ
-block_of r = r.block
-
--- a change that leaves all but the counters
-pub record KeepsPlace (f : Range → Range) : Type 0 where
-  pub section : (r : Range) → (f r).section ≡ r.section
-  pub block : (r : Range) → (f r).block ≡ r.block
-
-section-change : (k : ℕ) (f : Range → Range) → KeepsPlace f → (r : Range) → (change_at block_of k f r).section ≡ r.section
-section-change k f keeps r = go (r.block == k)
-  where
-    go : (b : Bool) → (cond b (f r) r).section ≡ r.section
-    go true = keeps.section r
-    go false = refl
-
-block-change : (k : ℕ) (f : Range → Range) → KeepsPlace f → (r : Range) → (change_at block_of k f r).block ≡ r.block
-block-change k f keeps r = number-change block_of k f keeps.block r
 
 changed_ranges : (l : Limits) (k : ℕ) (f : Range → Range) (rs : List Range) → KeepsPlace f → AreRangesApart l rs → AreRangesApart l (changed_at k f rs)
 changed_ranges l k f rs keeps h = record {
@@ -103,18 +86,12 @@ changed_counted l k f w h changes = AllByRecursion-map (IsCounted l) (change_at 
 
 -- ---- what a task does to the counters of a range
 
--- a counter that rose leaves section and block
-risen_keeps : (counter : Counter) → KeepsPlace (risen counter)
-risen_keeps Structured = record { section = λ r. refl; block = λ r. refl }
-risen_keeps Dynamic = record { section = λ r. refl; block = λ r. refl }
-
 -- a task leaves section and block
 pub recounted_keeps : (task : Task) → KeepsPlace (recounted task)
-recounted_keeps (Enter Structured item queue) = record { section = λ r. refl; block = λ r. refl }
-recounted_keeps (Enter Dynamic item queue) = record { section = λ r. refl; block = λ r. refl }
-recounted_keeps (Leave holding) = record { section = λ r. refl; block = λ r. refl }
-recounted_keeps (Exit true item queue) = record { section = λ r. refl; block = λ r. refl }
-recounted_keeps (Exit false item queue) = record { section = λ r. refl; block = λ r. refl }
+recounted_keeps (Enter counter item queue) = risen_keeps counter
+recounted_keeps (Leave holding) = fallen_keeps Structured
+recounted_keeps (Exit true item queue) = cleared_keeps
+recounted_keeps (Exit false item queue) = fallen_keeps Dynamic
 recounted_keeps (Move if_present item queue) = record { section = λ r. refl; block = λ r. refl }
 
 -- the counter of a block is that of its range

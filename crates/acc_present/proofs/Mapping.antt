@@ -6,11 +6,10 @@ use Rattle.std.proofs.lemmas.Bool.Decides.{nat_tests}
 use Rattle.acc_base.specs.declared.mappings.Range.{Range}
 use Rattle.acc_base.specs.declared.mappings.Found.TheVariants.{Absent}
 use Rattle.acc_base.specs.Section.{is_apart}
-use Rattle.acc_base.specs.Ranges.{where_is, range_of, with_range, without_range, changed_at, risen, fallen, cleared}
-use Rattle.acc_base.specs.declared.mappings.Counter.{Counter}
-use Rattle.acc_base.specs.declared.mappings.Counter.TheVariants.{Structured, Dynamic}
+use Rattle.acc_base.specs.Ranges.{where_is, range_of, with_range, without_range, changed_at}
 use Rattle.acc_base.specs.Splits.{IsSplitBy}
 use Rattle.acc_base.specs.Accounts.{EachPair, IsBelow}
+use Rattle.acc_base.proofs.KeptPlaces.{KeepsPlace, section-change, block-change}
 use Rattle.acc_base.proofs.Where.{absent_says}
 use Rattle.acc_base.proofs.Results.{equal}
 use Rattle.acc_base.proofs.Elements.{AllByRecursion-weaker, AllByRecursion-both, AllByRecursion-filter, AllByRecursion-map, EachPair-filter, EachPair-map, find_none, list_all-from}
@@ -169,51 +168,26 @@ unmapped_now block i rs ts old index kept place is rising starts =
 
 -- ---- a range changed
 
--- a change of counters alone
-pub record KeepsPlace (f : Range → Range) : Type 0 where
-  pub section : (r : Range) → (f r).section ≡ r.section
-  pub block : (r : Range) → (f r).block ≡ r.block
-
 pub changed_indexed : (block : ℕ) (f : Range → Range) (rs : List Range) (index : List Entry) → KeepsPlace f → IsIndexed rs index → IsIndexed (changed_at block f rs) index
 changed_indexed block f rs index keeps kept = record { mapped = changed_mapped; rising = kept.rising; agrees = λ other. kept.agrees other ∙ sym (start_same other rs) }
   where
-    one : Range → Range
-    one r = cond (r.block == block) (f r) r
-
-    section_same : (r : Range) → (cond (r.block == block) (f r) r).section ≡ r.section
-    section_same r = elim (r.block == block) as (λ b. (cond b (f r) r).section ≡ r.section) [ true ↦ keeps.section r | false ↦ refl ]
-
-    block_same : (r : Range) → (cond (r.block == block) (f r) r).block ≡ r.block
-    block_same r = elim (r.block == block) as (λ b. (cond b (f r) r).block ≡ r.block) [ true ↦ keeps.block r | false ↦ refl ]
-
     changed_mapped : AreMapped (changed_at block f rs)
     changed_mapped = record {
-      some = AllByRecursion-map (λ (r : Range). 0 < r.section.len) (λ r. cond (r.block == block) (f r) r) rs (AllByRecursion-weaker (λ (r : Range). 0 < r.section.len) (λ r. 0 < (cond (r.block == block) (f r) r).section.len) rs (λ r l. rw (section_same r) l) kept.mapped.some);
-      rising = EachPair-map (λ (r : Range) (t : Range). IsBelow r.section t.section) (λ r. cond (r.block == block) (f r) r) rs (λ r t b. rw (section_same r, section_same t) b) kept.mapped.rising;
-      own_block = EachPair-map (λ (r : Range) (t : Range). r.block ≡ t.block → ⊥) (λ r. cond (r.block == block) (f r) r) rs (λ r t d. rw (block_same r, block_same t) d) kept.mapped.own_block;
+      some = AllByRecursion-map (λ (r : Range). 0 < r.section.len) (λ r. cond (r.block == block) (f r) r) rs (AllByRecursion-weaker (λ (r : Range). 0 < r.section.len) (λ r. 0 < (cond (r.block == block) (f r) r).section.len) rs (λ r l. rw (section-change block f keeps r) l) kept.mapped.some);
+      rising = EachPair-map (λ (r : Range) (t : Range). IsBelow r.section t.section) (λ r. cond (r.block == block) (f r) r) rs (λ r t b. rw (section-change block f keeps r, section-change block f keeps t) b) kept.mapped.rising;
+      own_block = EachPair-map (λ (r : Range) (t : Range). r.block ≡ t.block → ⊥) (λ r. cond (r.block == block) (f r) r) rs (λ r t d. rw (block-change block f keeps r, block-change block f keeps t) d) kept.mapped.own_block;
     }
 
     start_same : (other : ℕ) (xs : List Range) → start_at other (changed_at block f xs) ≡ start_at other xs
     start_same other [] = refl
     start_same other (x ∷ xs) =
-        ap (λ n. option_map start_key (cond (n == other) (Some (cond (x.block == block) (f x) x)) (range_of other (changed_at block f xs)))) (block_same x)
+        ap (λ n. option_map start_key (cond (n == other) (Some (cond (x.block == block) (f x) x)) (range_of other (changed_at block f xs)))) (block-change block f keeps x)
         ∙ pick (start_same other xs) (x.block == other)
       where
         pick : start_at other (changed_at block f xs) ≡ start_at other xs → (b : Bool) → option_map start_key (cond b (Some (cond (x.block == block) (f x) x)) (range_of other (changed_at block f xs))) ≡ option_map start_key (cond b (Some x) (range_of other xs))
-        pick rest true = ap (λ s. Some s.start) (section_same x)
+        pick rest true = ap (λ s. Some s.start) (section-change block f keeps x)
         pick rest false = rest
 
 -- writing a changed range in its place changes that of the block
 pub set_changed : (block i : ℕ) (f : Range → Range) (rs : List Range) (new : Range) → AreMapped rs → IsRangeAt block rs i → new ≡ f (get_or rs i no_range) → set rs i new ≡ changed_at block f rs
 set_changed block i f rs new m place is = ap (set rs i) is ∙ keyed.set-map block_key rs i block no_range f m.own_block place.bound (block_there block i rs place)
-
-pub keeps_risen : (counter : Counter) → KeepsPlace (risen counter)
-keeps_risen Structured = record { section = λ r. refl; block = λ r. refl }
-keeps_risen Dynamic = record { section = λ r. refl; block = λ r. refl }
-
-pub keeps_fallen : (counter : Counter) → KeepsPlace (fallen counter)
-keeps_fallen Structured = record { section = λ r. refl; block = λ r. refl }
-keeps_fallen Dynamic = record { section = λ r. refl; block = λ r. refl }
-
-pub keeps_cleared : KeepsPlace cleared
-keeps_cleared = record { section = λ r. refl; block = λ r. refl }

@@ -28,6 +28,7 @@ pub mod Told
 pub mod Traced
 pub mod Accounted
 pub mod Runs
+pub mod ExampleItems
 mod Examples
 mod RegionExamples
 mod PointerExamples

@@ -26,6 +26,9 @@ pub mod AllTasks
 pub mod Registers
 pub mod Told
 pub mod Traced
+pub mod LegalEvents
+pub mod Exits
+pub mod Accepted
 pub mod Accounted
 pub mod Runs
 pub mod ExampleItems

@@ -1,8 +1,9 @@
 pub mod Results
+pub mod Options
 pub mod Elements
 pub mod Splitting
 pub mod Lookups
-pub mod KeptPlaces
+pub mod RangeChanges
 pub mod Where
 pub mod Pointers
 pub mod Attached

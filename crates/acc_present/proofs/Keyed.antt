@@ -1,5 +1,5 @@
 -- Lists whose elements have a key that rises or tells them apart: searches by the key, and changes at a place.
-use Rattle.std.proofs.Common.{ℕ, zero, suc, ◌≡◌, ◌<◌, ◌≤◌, refl, sym, ap, Bool, true, false, cond, List, [], ◌∷◌, length, get_or, set, take, drop, insert, Option, Some, None, IsSome, arith, rules}
+use Rattle.std.proofs.Common.{ℕ, zero, suc, ◌≡◌, ◌<◌, ◌≤◌, refl, sym, ap, Bool, true, false, cond, List, [], ◌∷◌, length, get_or, set, take, drop, insert, Some, None, IsSome, arith, rules}
 use Rattle.std.specs.Prelude.{◌==◌, not, map, find, filter, nat_lt, nat_le}
 use Rattle.std.specs.List.{AllByRecursion, remove}
 use Rattle.std.proofs.lemmas.Bool.Decides.{nat_tests}
@@ -8,22 +8,25 @@ use Rattle.acc_base.specs.Accounts.{EachPair}
 use Rattle.acc_base.proofs.Results.{equal, equal_self}
 use Rattle.acc_base.proofs.Elements.{AllByRecursion-weaker, AllByRecursion-both, EachPair-weaker, find_none, find-none, found_has}
 use Rattle.acc_base.proofs.Splitting.{all_at}
-use Rattle.acc_base.proofs.Lookups as lookups
+use Rattle.acc_base.proofs.Lookups.{at, AreDistinct, at-without_same, at-without_other}
 
 -- ---- each element
 
+-- what all have, the first have
 pub all-take : {X : Type 0} (P : X → Type 0) (xs : List X) (i : ℕ) → AllByRecursion P xs → AllByRecursion P (take i xs)
 all-take P [] zero h = tt
 all-take P [] (suc i) h = tt
 all-take P (x ∷ xs) zero h = tt
 all-take P (x ∷ xs) (suc i) h = (h.0, all-take P xs i h.1)
 
+-- and so have the others
 pub all-drop : {X : Type 0} (P : X → Type 0) (xs : List X) (i : ℕ) → AllByRecursion P xs → AllByRecursion P (drop i xs)
 all-drop P [] zero h = tt
 all-drop P [] (suc i) h = tt
 all-drop P (x ∷ xs) zero h = h
 all-drop P (x ∷ xs) (suc i) h = all-drop P xs i h.1
 
+-- what all have and a new one, all have with it
 pub all-insert : {X : Type 0} (P : X → Type 0) (xs : List X) (i : ℕ) (new : X) → AllByRecursion P xs → P new → AllByRecursion P (insert xs i new)
 all-insert P [] zero new h p = (p, tt)
 all-insert P [] (suc i) new h p = (p, tt)
@@ -32,12 +35,14 @@ all-insert P (x ∷ xs) (suc i) new h p = (h.0, all-insert P xs i new h.1 p)
 
 -- ---- each pair
 
+-- what each two have, each two have behind a place
 pub pairs-drop : {X : Type 0} (R : X → X → Type 0) (xs : List X) (i : ℕ) → EachPair R xs → EachPair R (drop i xs)
 pairs-drop R [] zero h = tt
 pairs-drop R [] (suc i) h = tt
 pairs-drop R (x ∷ xs) zero h = h
 pairs-drop R (x ∷ xs) (suc i) h = pairs-drop R xs i h.1
 
+-- what each two have, and each with a new one in its place, each two have with it
 pub pairs-insert : {X : Type 0} (R : X → X → Type 0) (xs : List X) (i : ℕ) (new : X) → EachPair R xs → AllByRecursion (λ x. R x new) (take i xs) → AllByRecursion (R new) (drop i xs) → EachPair R (insert xs i new)
 pairs-insert R [] zero new h below above = (tt, tt)
 pairs-insert R [] (suc i) new h below above = (tt, tt)
@@ -51,17 +56,10 @@ module _ {X : Type 0} (key : X → ℕ) where
   abbrev pub Rise : List X → Type 0
   Rise xs = EachPair (λ x y. key x < key y) xs
 
-  -- the keys differ
-  abbrev pub Differ : List X → Type 0
-  Differ xs = EachPair (λ x y. key x ≡ key y → ⊥) xs
-
-  -- the element of a key
-  abbrev pub at : ℕ → List X → Option X
-  at number xs = find (λ x. key x == number) xs
-
-  pub differ : (xs : List X) → Rise xs → Differ xs
-  differ [] h = tt
-  differ (x ∷ xs) h = (AllByRecursion-weaker (λ y. key x < key y) (λ y. key x ≡ key y → ⊥) xs (λ y less same. absurd (omega arith)) h.0, differ xs h.1)
+  -- rising keys differ
+  pub rise_distinct : (xs : List X) → Rise xs → AreDistinct key xs
+  rise_distinct [] h = tt
+  rise_distinct (x ∷ xs) h = (AllByRecursion-weaker (λ y. key x < key y) (λ y. key x ≡ key y → ⊥) xs (λ y less same. absurd (omega arith)) h.0, rise_distinct xs h.1)
 
   -- ---- a search by halves
 
@@ -88,25 +86,26 @@ module _ {X : Type 0} (key : X → ℕ) where
   -- ---- the element of a key
 
   -- no key is this one where all are above it
-  at-above : (number : ℕ) (xs : List X) → AllByRecursion (λ x. number < key x) xs → at number xs ≡ None
+  at-above : (number : ℕ) (xs : List X) → AllByRecursion (λ x. number < key x) xs → at key number xs ≡ None
   at-above number xs h = find-none (λ x. key x == number) xs (AllByRecursion-weaker (λ x. number < key x) (λ x. (key x == number) ≡ false) xs (λ x less. grind (arith, nat_tests)) h)
 
   -- what stands at the place of a key that is there
   pub record IsFoundAt (number : ℕ) (xs : List X) (i : ℕ) (d : X) : Type 0 where
     pub bound : i < length xs
     pub key_is : key (get_or xs i d) ≡ number
-    pub found : at number xs ≡ Some (get_or xs i d)
+    pub found : at key number xs ≡ Some (get_or xs i d)
 
-  pub found_at : (number : ℕ) (xs : List X) (i : ℕ) (d : X) → Rise xs → IsSplitBy (is_key_below number) xs i → IsSome (at number xs) → IsFoundAt number xs i d
+  -- an element that is there stands at the place of its key
+  pub found_at : (number : ℕ) (xs : List X) (i : ℕ) (d : X) → Rise xs → IsSplitBy (is_key_below number) xs i → IsSome (at key number xs) → IsFoundAt number xs i d
   found_at number [] i d r parts there = absurd (search (rules, there))
   found_at number (x ∷ xs) zero d r parts there = go (key x == number) refl there
     where
-      go : (b : Bool) → (key x == number) ≡ b → IsSome (cond b (Some x) (at number xs)) → IsFoundAt number (x ∷ xs) zero d
+      go : (b : Bool) → (key x == number) ≡ b → IsSome (cond b (Some x) (at key number xs)) → IsFoundAt number (x ∷ xs) zero d
       go true e s = record { bound = omega arith; key_is = equal _ _ e; found = rw e }
       go false e s =
           let least = parts.failed.0 in
           let lowest : number < key x = grind (arith, nat_tests) in
-          let none : at number xs ≡ None = at-above number xs (AllByRecursion-weaker (λ y. key x < key y) (λ y. number < key y) xs (λ y less. omega arith) r.0) in
+          let none : at key number xs ≡ None = at-above number xs (AllByRecursion-weaker (λ y. key x < key y) (λ y. number < key y) xs (λ y less. omega arith) r.0) in
           absurd (search (rules, rw none at s))
   found_at number (x ∷ xs) (suc i) d r parts there =
       let less = parts.passed.0 in
@@ -115,7 +114,7 @@ module _ {X : Type 0} (key : X → ℕ) where
       record { bound = omega (arith, later.bound); key_is = later.key_is; found = rw t later.found }
 
   -- the place of a key that is there is within the list
-  pub found_within : (number : ℕ) (xs : List X) (i : ℕ) → IsSplitBy (is_key_below number) xs i → IsSome (at number xs) → i < length xs
+  pub found_within : (number : ℕ) (xs : List X) (i : ℕ) → IsSplitBy (is_key_below number) xs i → IsSome (at key number xs) → i < length xs
   found_within number [] i parts there = absurd (search (rules, there))
   found_within number (x ∷ xs) zero parts there = omega arith
   found_within number (x ∷ xs) (suc i) parts there =
@@ -124,7 +123,7 @@ module _ {X : Type 0} (key : X → ℕ) where
       omega (arith, found_within number xs i (split_rest number x xs i parts) (rw t at there))
 
   -- what stands at the place of a number is the element of that key, if it has it
-  pub at_place : (number : ℕ) (xs : List X) (i : ℕ) (d : X) → IsSplitBy (is_key_below number) xs i → i < length xs → key (get_or xs i d) ≡ number → at number xs ≡ Some (get_or xs i d)
+  pub at_place : (number : ℕ) (xs : List X) (i : ℕ) (d : X) → IsSplitBy (is_key_below number) xs i → i < length xs → key (get_or xs i d) ≡ number → at key number xs ≡ Some (get_or xs i d)
   at_place number [] i d parts within is = absurd (omega arith)
   at_place number (x ∷ xs) zero d parts within is = let t : (key x == number) ≡ true = grind (arith, nat_tests) in rw t
   at_place number (x ∷ xs) (suc i) d parts within is =
@@ -133,7 +132,7 @@ module _ {X : Type 0} (key : X → ℕ) where
       rw t (at_place number xs i d (split_rest number x xs i parts) (omega arith) is)
 
   -- and else there is none
-  pub at_no_place : (number : ℕ) (xs : List X) (i : ℕ) (d : X) → Rise xs → IsSplitBy (is_key_below number) xs i → (i < length xs → key (get_or xs i d) ≡ number → ⊥) → at number xs ≡ None
+  pub at_no_place : (number : ℕ) (xs : List X) (i : ℕ) (d : X) → Rise xs → IsSplitBy (is_key_below number) xs i → (i < length xs → key (get_or xs i d) ≡ number → ⊥) → at key number xs ≡ None
   at_no_place number [] i d r parts other = refl
   at_no_place number (x ∷ xs) zero d r parts other =
       let least = parts.failed.0 in
@@ -147,11 +146,11 @@ module _ {X : Type 0} (key : X → ℕ) where
       rw t (at_no_place number xs i d r.1 (split_rest number x xs i parts) (λ lt. other (omega arith)))
 
   -- an element that a search finds is the one of its key
-  pub at-found : (p : X → Bool) (xs : List X) (x : X) → Rise xs → find p xs ≡ Some x → at (key x) xs ≡ Some x
+  pub at-found : (p : X → Bool) (xs : List X) (x : X) → Rise xs → find p xs ≡ Some x → at key (key x) xs ≡ Some x
   at-found p [] x r e = cc
   at-found p (y ∷ ys) x r e = go (at-found p ys x r.1) (p y) refl e
     where
-      go : (find p ys ≡ Some x → at (key x) ys ≡ Some x) → (b : Bool) → p y ≡ b → cond b (Some y) (find p ys) ≡ Some x → at (key x) (y ∷ ys) ≡ Some x
+      go : (find p ys ≡ Some x → at key (key x) ys ≡ Some x) → (b : Bool) → p y ≡ b → cond b (Some y) (find p ys) ≡ Some x → at key (key x) (y ∷ ys) ≡ Some x
       go rest true t h = let same : y ≡ x = cc in rw (← same) (rw (equal_self (key y)) refl)
       go rest false t h =
           let less : key y < key x = (found_has (λ z. key y < key z) p ys x r.0 h).0 in
@@ -173,25 +172,28 @@ module _ {X : Type 0} (key : X → ℕ) where
   -- ---- an element more
 
   -- the keys behind the place of a new one are above it
-  pub above_new : (number : ℕ) (xs : List X) (i : ℕ) → IsSplitBy (is_key_below number) xs i → at number xs ≡ None → AllByRecursion (λ x. number < key x) (drop i xs)
+  pub above_new : (number : ℕ) (xs : List X) (i : ℕ) → IsSplitBy (is_key_below number) xs i → at key number xs ≡ None → AllByRecursion (λ x. number < key x) (drop i xs)
   above_new number xs i parts none = AllByRecursion-both (λ x. number ≤ key x) (λ x. (key x == number) ≡ false) (λ x. number < key x) (drop i xs) (λ x le other. grind (arith, nat_tests)) (keys_from number xs i parts) (all-drop (λ x. (key x == number) ≡ false) xs i (find_none (λ x. key x == number) xs none))
 
-  pub rise-insert : (xs : List X) (i : ℕ) (new : X) → Rise xs → IsSplitBy (is_key_below (key new)) xs i → at (key new) xs ≡ None → Rise (insert xs i new)
+  -- keys rise with a new one in its place
+  pub rise-insert : (xs : List X) (i : ℕ) (new : X) → Rise xs → IsSplitBy (is_key_below (key new)) xs i → at key (key new) xs ≡ None → Rise (insert xs i new)
   rise-insert xs i new r parts none = pairs-insert (λ x y. key x < key y) xs i new r (keys_below (key new) xs i parts) (above_new (key new) xs i parts none)
 
-  pub at-insert : (xs : List X) (i : ℕ) (new : X) (number : ℕ) → at (key new) xs ≡ None → at number (insert xs i new) ≡ cond (key new == number) (Some new) (at number xs)
+  -- the element of a key, with a new one
+  pub at-insert : (xs : List X) (i : ℕ) (new : X) (number : ℕ) → at key (key new) xs ≡ None → at key number (insert xs i new) ≡ cond (key new == number) (Some new) (at key number xs)
   at-insert [] zero new number none = refl
   at-insert [] (suc i) new number none = refl
   at-insert (x ∷ xs) zero new number none = refl
   at-insert (x ∷ xs) (suc i) new number none = go (at-insert xs i new number) (key x == key new) refl none (key x == number) refl
     where
-      go : (at (key new) xs ≡ None → at number (insert xs i new) ≡ cond (key new == number) (Some new) (at number xs)) → (a : Bool) → (key x == key new) ≡ a → cond a (Some x) (at (key new) xs) ≡ None → (b : Bool) → (key x == number) ≡ b → cond b (Some x) (at number (insert xs i new)) ≡ cond (key new == number) (Some new) (cond b (Some x) (at number xs))
+      go : (at key (key new) xs ≡ None → at key number (insert xs i new) ≡ cond (key new == number) (Some new) (at key number xs)) → (a : Bool) → (key x == key new) ≡ a → cond a (Some x) (at key (key new) xs) ≡ None → (b : Bool) → (key x == number) ≡ b → cond b (Some x) (at key number (insert xs i new)) ≡ cond (key new == number) (Some new) (cond b (Some x) (at key number xs))
       go rest true e h b f = cc
       go rest false e h true f = let other : (key new == number) ≡ false = grind (arith, nat_tests) in rw other refl
       go rest false e h false f = rest h
 
   -- ---- an element less
 
+  -- leaving out a key that none has leaves all
   filter_all : (number : ℕ) (xs : List X) → AllByRecursion (λ x. number ≡ key x → ⊥) xs → filter (λ x. not (key x == number)) xs ≡ xs
   filter_all number [] h = refl
   filter_all number (x ∷ xs) h =
@@ -199,7 +201,7 @@ module _ {X : Type 0} (key : X → ℕ) where
       rw t (ap (λ ys. x ∷ ys) (filter_all number xs h.1))
 
   -- taking out the element at a place is leaving out its key
-  pub remove-filter : (xs : List X) (i number : ℕ) (d : X) → Differ xs → i < length xs → key (get_or xs i d) ≡ number → remove xs i ≡ filter (λ x. not (key x == number)) xs
+  pub remove-filter : (xs : List X) (i number : ℕ) (d : X) → AreDistinct key xs → i < length xs → key (get_or xs i d) ≡ number → remove xs i ≡ filter (λ x. not (key x == number)) xs
   remove-filter [] i number d r lt is = absurd (omega arith)
   remove-filter (x ∷ xs) zero number d r lt is =
       let t : (key x == number) ≡ true = grind (arith, nat_tests) in
@@ -210,15 +212,17 @@ module _ {X : Type 0} (key : X → ℕ) where
       let t : (key x == number) ≡ false = grind (arith, nat_tests) in
       rw t (ap (λ ys. x ∷ ys) (remove-filter xs i number d r.1 (omega arith) is))
 
-  pub at-without : (xs : List X) (number other : ℕ) → at other (filter (λ x. not (key x == number)) xs) ≡ cond (number == other) None (at other xs)
+  -- the element of a key, without one
+  pub at-without : (xs : List X) (number other : ℕ) → at key other (filter (λ x. not (key x == number)) xs) ≡ cond (number == other) None (at key other xs)
   at-without xs number other = go (number == other) refl
     where
-      go : (b : Bool) → (number == other) ≡ b → at other (filter (λ x. not (key x == number)) xs) ≡ cond b None (at other xs)
-      go true e = let same : number ≡ other = equal _ _ e in rw (← same) (lookups.at-without_same key number xs)
-      go false e = lookups.at-without_other key number other xs (grind (arith, nat_tests))
+      go : (b : Bool) → (number == other) ≡ b → at key other (filter (λ x. not (key x == number)) xs) ≡ cond b None (at key other xs)
+      go true e = let same : number ≡ other = equal _ _ e in rw (← same) (at-without_same key number xs)
+      go false e = at-without_other key number other xs (grind (arith, nat_tests))
 
   -- ---- an element changed
 
+  -- changing the element of a key that none has leaves all
   map_all : (number : ℕ) (f : X → X) (xs : List X) → AllByRecursion (λ x. number ≡ key x → ⊥) xs → map (λ x. cond (key x == number) (f x) x) xs ≡ xs
   map_all number f [] h = refl
   map_all number f (x ∷ xs) h =
@@ -226,7 +230,7 @@ module _ {X : Type 0} (key : X → ℕ) where
       rw t (ap (λ ys. x ∷ ys) (map_all number f xs h.1))
 
   -- changing the element at a place is changing that of its key
-  pub set-map : (xs : List X) (i number : ℕ) (d : X) (f : X → X) → Differ xs → i < length xs → key (get_or xs i d) ≡ number → set xs i (f (get_or xs i d)) ≡ map (λ x. cond (key x == number) (f x) x) xs
+  pub set-map : (xs : List X) (i number : ℕ) (d : X) (f : X → X) → AreDistinct key xs → i < length xs → key (get_or xs i d) ≡ number → set xs i (f (get_or xs i d)) ≡ map (λ x. cond (key x == number) (f x) x) xs
   set-map [] i number d f r lt is = absurd (omega arith)
   set-map (x ∷ xs) zero number d f r lt is =
       let t : (key x == number) ≡ true = grind (arith, nat_tests) in

@@ -1,6 +1,6 @@
 use Rattle.std.proofs.Common.{refl}
 use Rattle.acc_base.specs.Ranges.{cleared}
-use Rattle.acc_base.proofs.KeptPlaces.{cleared_keeps}
+use Rattle.acc_base.proofs.RangeChanges.{cleared_keeps}
 use Rattle.acc_present.proofs.Mapping.{set_changed, changed_indexed}
 use Rattle.acc_present.proofs.ranges.clear.Goals as goal
 

@@ -1,5 +1,5 @@
 use Rattle.acc_base.specs.Ranges.{fallen}
-use Rattle.acc_base.proofs.KeptPlaces.{fallen_keeps}
+use Rattle.acc_base.proofs.RangeChanges.{fallen_keeps}
 use Rattle.acc_present.proofs.Mapping.{set_changed, changed_indexed}
 use Rattle.acc_present.proofs.ranges.lower.Goals as goal
 

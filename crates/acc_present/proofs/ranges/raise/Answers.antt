@@ -1,5 +1,5 @@
 use Rattle.acc_base.specs.Ranges.{risen}
-use Rattle.acc_base.proofs.KeptPlaces.{risen_keeps}
+use Rattle.acc_base.proofs.RangeChanges.{risen_keeps}
 use Rattle.acc_present.proofs.Mapping.{set_changed, changed_indexed}
 use Rattle.acc_present.specs.Kept.{no_range}
 use Rattle.acc_present.proofs.Limits.{limit_set, limit_risen}

@@ -5,10 +5,10 @@ use Rattle.std.specs.List.{AllByRecursion, copy_within}
 use Rattle.std.proofs.lemmas.Bool.Decides.{nat_tests}
 use Rattle.std.proofs.lemmas.List.Edits.{take-paste}
 use Rattle.acc_base.specs.declared.attachments.Attachment.{Attachment}
+use Rattle.acc_base.specs.Splits.{IsSplitBy}
 use Rattle.acc_base.specs.Accounts.{EachPair}
 use Rattle.acc_base.specs.Attachments.{IsBefore, without_attachments}
 use Rattle.acc_base.proofs.Elements.{EachPair-weaker}
-use Rattle.acc_attach.specs.Kept.{IsSplitBy}
 
 -- the blocks of rising counters do not fall
 block_le : (a b : Attachment) → IsBefore a b → a.block ≤ b.block
@@ -16,12 +16,12 @@ block_le a b (inl h) = omega arith
 block_le a b (inr h) = omega (arith, h.0)
 
 -- those of earlier blocks stand first
-pub below_parts : (block : ℕ) (xs : List Attachment) → EachPair IsBefore xs → EachPair (λ x y. nat_lt y.block block ≡ true → nat_lt x.block block ≡ true) xs
-below_parts block xs h = EachPair-weaker IsBefore (λ x y. nat_lt y.block block ≡ true → nat_lt x.block block ≡ true) xs (λ x y first e. let le = block_le x y first in grind (arith, nat_tests)) h
+pub below_block_first : (block : ℕ) (xs : List Attachment) → EachPair IsBefore xs → EachPair (λ x y. nat_lt y.block block ≡ true → nat_lt x.block block ≡ true) xs
+below_block_first block xs h = EachPair-weaker IsBefore (λ x y. nat_lt y.block block ≡ true → nat_lt x.block block ≡ true) xs (λ x y first e. let le = block_le x y first in grind (arith, nat_tests)) h
 
 -- and those of later blocks last
-pub upto_parts : (block : ℕ) (xs : List Attachment) → EachPair IsBefore xs → EachPair (λ x y. nat_le y.block block ≡ true → nat_le x.block block ≡ true) xs
-upto_parts block xs h = EachPair-weaker IsBefore (λ x y. nat_le y.block block ≡ true → nat_le x.block block ≡ true) xs (λ x y first e. let le = block_le x y first in grind (arith, nat_tests)) h
+pub upto_block_first : (block : ℕ) (xs : List Attachment) → EachPair IsBefore xs → EachPair (λ x y. nat_le y.block block ≡ true → nat_le x.block block ≡ true) xs
+upto_block_first block xs h = EachPair-weaker IsBefore (λ x y. nat_le y.block block ≡ true → nat_le x.block block ≡ true) xs (λ x y first e. let le = block_le x y first in grind (arith, nat_tests)) h
 
 -- the first of a block does not stand behind the last
 pub first_le : (block : ℕ) (xs : List Attachment) (first behind : ℕ) → IsSplitBy (λ a. nat_lt a.block block) xs first → IsSplitBy (λ a. nat_le a.block block) xs behind → first ≤ behind

@@ -1,4 +1,3 @@
-pub mod Splitting
 pub mod Placed
 pub mod Forgetting
 pub mod Keeping

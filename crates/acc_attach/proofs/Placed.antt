@@ -5,12 +5,13 @@ use Rattle.std.specs.List.{AllByRecursion, list_any, insert, remove}
 use Rattle.std.proofs.lemmas.Bool.Decides.{nat_tests}
 use Rattle.acc_base.specs.declared.attachments.Attachment.{Attachment}
 use Rattle.acc_base.specs.Section.{covers}
+use Rattle.acc_base.specs.Splits.{IsSplitBy}
 use Rattle.acc_base.specs.Accounts.{EachPair}
 use Rattle.acc_base.specs.Attachments.{pointer_at, is_of, IsBefore, is_before, count_at, with_attachment, without_attachment, with_count, is_skipped, next_pointer}
 use Rattle.acc_base.proofs.Results.{equal}
 use Rattle.acc_base.proofs.Elements.{EachPair-weaker, AllByRecursion-weaker, find_none, find-none}
 use Rattle.acc_base.proofs.Attached.{same_block, same_pointer, before, behind, before-trans, before-other}
-use Rattle.acc_attach.specs.Kept.{IsSplitBy, is_below, is_from}
+use Rattle.acc_attach.specs.Kept.{is_below, is_from}
 
 -- a counter with this key
 abbrev pub probe : ℕ → ℕ → Attachment
@@ -26,8 +27,8 @@ test_before a b (inr h) = let s : (a.block == b.block) ≡ true = grind (arith, 
     go false s t = rw (s, t)
 
 -- standing before a pointer parts rising counters
-pub below_parts : (block pointer : ℕ) (xs : List Attachment) → EachPair IsBefore xs → EachPair (λ x y. is_below block pointer y ≡ true → is_below block pointer x ≡ true) xs
-below_parts block pointer xs h = EachPair-weaker IsBefore (λ x y. is_below block pointer y ≡ true → is_below block pointer x ≡ true) xs (λ x y first e. test_before x (probe block pointer) (before-trans x y (probe block pointer) first (before y (probe block pointer) e))) h
+pub below_pointer_first : (block pointer : ℕ) (xs : List Attachment) → EachPair IsBefore xs → EachPair (λ x y. is_below block pointer y ≡ true → is_below block pointer x ≡ true) xs
+below_pointer_first block pointer xs h = EachPair-weaker IsBefore (λ x y. is_below block pointer y ≡ true → is_below block pointer x ≡ true) xs (λ x y first e. test_before x (probe block pointer) (before-trans x y (probe block pointer) first (before y (probe block pointer) e))) h
 
 -- the first that fails a test stands where those that pass it end
 pub find_split : (test : Attachment → Bool) (xs : List Attachment) (i : ℕ) → IsSplitBy test xs i → find (λ x. not (test x)) xs ≡ slice_get xs i
@@ -46,8 +47,8 @@ abbrev pub IsAtOrBehind : ℕ → ℕ → Attachment → Type 0
 IsAtOrBehind block pointer a = (block < a.block) ⊎ ((a.block ≡ block) × (pointer ≤ a.pointer))
 
 -- what fails the test of standing before a pointer comes there or behind
-pub from : (block pointer : ℕ) (a : Attachment) → is_below block pointer a ≡ false → IsAtOrBehind block pointer a
-from block pointer a e = go (nat_lt a.block block) refl (a.block == block) refl (nat_lt a.pointer pointer) refl e
+pub at_or_behind : (block pointer : ℕ) (a : Attachment) → is_below block pointer a ≡ false → IsAtOrBehind block pointer a
+at_or_behind block pointer a e = go (nat_lt a.block block) refl (a.block == block) refl (nat_lt a.pointer pointer) refl e
   where
     go : (s : Bool) → nat_lt a.block block ≡ s → (t : Bool) → (a.block == block) ≡ t → (u : Bool) → nat_lt a.pointer pointer ≡ u → (s || (t && u)) ≡ false → IsAtOrBehind block pointer a
     go true f t g u h k = cc
@@ -96,7 +97,7 @@ module _ (block pointer : ℕ) (test : Attachment → Bool) (below : (a : Attach
     where
       rest : is_below block pointer x ≡ false → (t : Bool) → test x ≡ t → cond t (Some x) (find test xs) ≡ cond t (Some x) None
       rest e true f = refl
-      rest e false f = find-none test xs (AllByRecursion-weaker (IsBefore x) (λ y. test y ≡ false) xs (λ y k. none_after x y (from block pointer x e) f k) h.0)
+      rest e false f = find-none test xs (AllByRecursion-weaker (IsBefore x) (λ y. test y ≡ false) xs (λ y k. none_after x y (at_or_behind block pointer x e) f k) h.0)
 
       go : find test xs ≡ passed test (find (is_from block pointer) xs) → (b : Bool) → is_below block pointer x ≡ b → cond (test x) (Some x) (find test xs) ≡ passed test (cond (not b) (Some x) (find (is_from block pointer) xs))
       go later true e = rw (below x (before x (probe block pointer) e)) later
@@ -169,7 +170,7 @@ find_next block address xs h = find_first block address (begins_from block addre
 
 -- the first counter from an address on is of the block
 pub next_there : (block address : ℕ) (xs : List Attachment) (a : Attachment) → EachPair IsBefore xs → Some a ≡ find (is_from block address) xs → a.block ≡ block → Some a.pointer ≡ next_pointer block address xs
-next_there block address xs a h e is = go (from block address a (is_first block address xs a e))
+next_there block address xs a h e is = go (at_or_behind block address a (is_first block address xs a e))
   where
     go : IsAtOrBehind block address a → Some a.pointer ≡ next_pointer block address xs
     go (inl less) = absurd (omega arith)
@@ -257,7 +258,7 @@ skipped_found block address xs h = any_found (skips block address) xs ∙ ap (λ
 
 -- the first counter from seven bytes below on tells whether an address is skipped
 pub skipped_first : (block address : ℕ) (xs : List Attachment) (a : Attachment) → EachPair IsBefore xs → Some a ≡ find (is_from block (address - 7)) xs → (a.block == block && nat_le a.pointer address) ≡ is_skipped block xs address
-skipped_first block address xs a h e = sym (skipped_found block address xs h ∙ ap (λ o. is_some (passed (skips block address) o)) (sym e) ∙ go (skips block address a) ∙ skips_test block address a (from block (address - 7) a (is_first block (address - 7) xs a e)))
+skipped_first block address xs a h e = sym (skipped_found block address xs h ∙ ap (λ o. is_some (passed (skips block address) o)) (sym e) ∙ go (skips block address a) ∙ skips_test block address a (at_or_behind block (address - 7) a (is_first block (address - 7) xs a e)))
   where
     go : (b : Bool) → is_some (cond b (Some a) None) ≡ b
     go true = refl
@@ -320,8 +321,8 @@ insert_at new (x ∷ xs) zero p f h = rw (test_behind new x f.0 h.0)
 insert_at new (x ∷ xs) (suc i) p f h = rw (test_not_behind new x p.0) (ap (λ ys. x ∷ ys) (insert_at new xs i p.1 f h.1))
 
 -- a counter that was zero goes in at its place
-pub added : (new : Attachment) (xs : List Attachment) (i : ℕ) → 0 < new.count → find (is_of new.block new.pointer) xs ≡ None → IsSplitBy (is_below new.block new.pointer) xs i → insert xs i new ≡ with_count new.block new.pointer new.count xs
-added new xs i some none parts =
+pub counter_added : (new : Attachment) (xs : List Attachment) (i : ℕ) → 0 < new.count → find (is_of new.block new.pointer) xs ≡ None → IsSplitBy (is_below new.block new.pointer) xs i → insert xs i new ≡ with_count new.block new.pointer new.count xs
+counter_added new xs i some none parts =
     let t : (new.count == 0) ≡ false = grind (arith, nat_tests) in
     let others = find_none (is_of new.block new.pointer) xs none in
     sym (rw t (ap (with_attachment new) (without_none new.block new.pointer xs others) ∙ insert_at new xs i parts.passed parts.failed others))
@@ -332,8 +333,8 @@ pub record IsThere (block pointer : ℕ) (xs : List Attachment) (i : ℕ) (d : A
   pub its_own : is_of block pointer (get_or xs i d) ≡ true
 
 -- where a pointer has a counter, it stands at its place
-pub there : (block pointer : ℕ) (xs : List Attachment) (i : ℕ) (d : Attachment) → EachPair IsBefore xs → IsSplitBy (is_below block pointer) xs i → IsSome (find (is_of block pointer) xs) → IsThere block pointer xs i d
-there block pointer xs i d h parts some = go xs i h parts.passed parts.failed some
+pub counter_there : (block pointer : ℕ) (xs : List Attachment) (i : ℕ) (d : Attachment) → EachPair IsBefore xs → IsSplitBy (is_below block pointer) xs i → IsSome (find (is_of block pointer) xs) → IsThere block pointer xs i d
+counter_there block pointer xs i d h parts some = go xs i h parts.passed parts.failed some
   where
     go : (ys : List Attachment) (j : ℕ) → EachPair IsBefore ys → AllByRecursion (λ y. is_below block pointer y ≡ true) (take j ys) → AllByRecursion (λ y. is_below block pointer y ≡ false) (drop j ys) → IsSome (find (is_of block pointer) ys) → IsThere block pointer ys j d
     go [] j r p f s = absurd (search (rules, s))
@@ -342,13 +343,13 @@ there block pointer xs i d h parts some = go xs i h parts.passed parts.failed so
         first : (b : Bool) → is_of block pointer y ≡ b → IsSome (cond b (Some y) (find (is_of block pointer) ys)) → IsThere block pointer (y ∷ ys) zero d
         first true e k = record { bound = omega arith; its_own = e }
         first false e k =
-            let none : find (is_of block pointer) ys ≡ None = find-none (is_of block pointer) ys (AllByRecursion-weaker (IsBefore y) (λ z. is_of block pointer z ≡ false) ys (λ z l. not_of_behind block pointer y z (from block pointer y f.0) e l) r.0) in
+            let none : find (is_of block pointer) ys ≡ None = find-none (is_of block pointer) ys (AllByRecursion-weaker (IsBefore y) (λ z. is_of block pointer z ≡ false) ys (λ z l. not_of_behind block pointer y z (at_or_behind block pointer y f.0) e l) r.0) in
             absurd (search (rules, rw none at k))
     go (y ∷ ys) (suc j) r p f s = let later = go ys j r.1 p.1 f (rw (not_of block pointer y p.0) at s) in record { bound = omega (arith, later.bound); its_own = later.its_own }
 
 -- a counter is taken out at its place
-pub taken_out : (block pointer : ℕ) (xs : List Attachment) (i : ℕ) (d : Attachment) → EachPair IsBefore xs → IsSplitBy (is_below block pointer) xs i → IsThere block pointer xs i d → remove xs i ≡ without_attachment block pointer xs
-taken_out block pointer xs i d h parts is = sym (go xs i h parts.passed is.bound is.its_own)
+pub counter_removed : (block pointer : ℕ) (xs : List Attachment) (i : ℕ) (d : Attachment) → EachPair IsBefore xs → IsSplitBy (is_below block pointer) xs i → IsThere block pointer xs i d → remove xs i ≡ without_attachment block pointer xs
+counter_removed block pointer xs i d h parts is = sym (go xs i h parts.passed is.bound is.its_own)
   where
     go : (ys : List Attachment) (j : ℕ) → EachPair IsBefore ys → AllByRecursion (λ y. is_below block pointer y ≡ true) (take j ys) → j < length ys → is_of block pointer (get_or ys j d) ≡ true → without_attachment block pointer ys ≡ remove ys j
     go [] j r p lt e = absurd (omega arith)
@@ -369,8 +370,8 @@ before_same new x y e h = test_before new y (go h)
     go (inr k) = let block = same_block new.block new.pointer x e in let pointer = same_pointer new.block new.pointer x e in inr (sym block ∙ k.0, omega (arith, k.1))
 
 -- a counter gets another value at its place
-pub changed : (new : Attachment) (xs : List Attachment) (i : ℕ) (d : Attachment) → 0 < new.count → EachPair IsBefore xs → IsSplitBy (is_below new.block new.pointer) xs i → IsThere new.block new.pointer xs i d → set xs i new ≡ with_count new.block new.pointer new.count xs
-changed new xs i d some h parts is = let t : (new.count == 0) ≡ false = grind (arith, nat_tests) in sym (rw t (go xs i h parts.passed is.bound is.its_own))
+pub counter_changed : (new : Attachment) (xs : List Attachment) (i : ℕ) (d : Attachment) → 0 < new.count → EachPair IsBefore xs → IsSplitBy (is_below new.block new.pointer) xs i → IsThere new.block new.pointer xs i d → set xs i new ≡ with_count new.block new.pointer new.count xs
+counter_changed new xs i d some h parts is = let t : (new.count == 0) ≡ false = grind (arith, nat_tests) in sym (rw t (go xs i h parts.passed is.bound is.its_own))
   where
     go : (ys : List Attachment) (j : ℕ) → EachPair IsBefore ys → AllByRecursion (λ y. is_below new.block new.pointer y ≡ true) (take j ys) → j < length ys → is_of new.block new.pointer (get_or ys j d) ≡ true → with_attachment new (without_attachment new.block new.pointer ys) ≡ set ys j new
     go [] j r p lt e = absurd (omega arith)

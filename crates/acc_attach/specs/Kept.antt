@@ -1,13 +1,6 @@
 -- How the attachment counters are searched. No public clause cites this module.
-use Rattle.std.specs.Prelude.{ℕ, ◌≡◌, ◌≤◌, Bool, true, false, not, ◌&&◌, ◌||◌, nat_lt, ◌==◌, List, length, take, drop}
-use Rattle.std.specs.List.{AllByRecursion}
+use Rattle.std.specs.Prelude.{ℕ, Bool, not, ◌&&◌, ◌||◌, nat_lt, ◌==◌}
 use Rattle.acc_base.specs.declared.attachments.Attachment.{Attachment}
-
--- the elements before a place pass a test, and those from it on do not
-pub record IsSplitBy {X : Type 0} (test : X → Bool) (xs : List X) (at : ℕ) : Type 0 where
-  pub bound : at ≤ length xs
-  pub passed : AllByRecursion (λ x. test x ≡ true) (take at xs)
-  pub failed : AllByRecursion (λ x. test x ≡ false) (drop at xs)
 
 -- the counter stands before that of this pointer
 abbrev pub is_below : ℕ → ℕ → Attachment → Bool

@@ -3,7 +3,8 @@
 ghost use Rattle.std.specs.Prelude.{◌≡◌, ◌+◌, ◌<◌, ◌≤◌, ◌++◌, length, take, drop, find, nat_lt, nat_le, None, Some, IsSome, ◌&&◌, ◌==◌, vec_len, vec_capacity};
 ghost use Rattle.acc_base.specs.Accounts.{EachPair};
 ghost use Rattle.acc_base.specs.Attachments.{IsBefore, is_of, count_at, with_count, without_attachment, without_attachments, is_skipped, next_pointer};
-ghost use Rattle.acc_attach.specs.Kept.{IsSplitBy, is_below, is_from};
+ghost use Rattle.acc_base.specs.Splits.{IsSplitBy};
+ghost use Rattle.acc_attach.specs.Kept.{is_below, is_from};
 
 use acc_base::Attachment;
 

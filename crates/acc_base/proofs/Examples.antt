@@ -18,7 +18,8 @@ use Rattle.acc_base.specs.Ranges.{where_is}
 use Rattle.acc_base.specs.Blocks.{used_bytes}
 use Rattle.acc_base.specs.Steps.{did_of}
 use Rattle.acc_base.specs.History.{dynamic_in}
-use Rattle.acc_base.proofs.Runs.{ran_with, ran, small, at, item, enter_data_of, exit_data_of, finalize_of, update_of, update_if_present_of, idle, range, block, memory, host_of}
+use Rattle.acc_base.proofs.Runs.{ran_with, ran, small}
+use Rattle.acc_base.proofs.ExampleItems.{at, item, host_of, enter_data_of, exit_data_of, finalize_of, update_of, update_if_present_of, idle, range, block, memory}
 
 -- ---- an array is mapped and deleted
 
@@ -349,10 +350,10 @@ unfolding ran
 to_device_counted = refl
 
 -- of two blocks only that of the section changes
-to_second : (ran (HostWrite 0x1000 (1 ∷ 2 ∷ 3 ∷ 4 ∷ []) ∷ enter_data_of (item (enter.Create true) (at 0x1000 2) ∷ item (enter.Create true) (at 0x1002 2) ∷ []) ∷ update_of (item ToDevice (at 0x1003 1) ∷ []) ∷ [])).world.state.memories
+to_second_range : (ran (HostWrite 0x1000 (1 ∷ 2 ∷ 3 ∷ 4 ∷ []) ∷ enter_data_of (item (enter.Create true) (at 0x1000 2) ∷ item (enter.Create true) (at 0x1002 2) ∷ []) ∷ update_of (item ToDevice (at 0x1003 1) ∷ []) ∷ [])).world.state.memories
     ≡ memory 1 (0 ∷ 0 ∷ []) ∷ memory 2 (0 ∷ 4 ∷ []) ∷ []
 unfolding ran
-to_second = refl
+to_second_range = refl
 
 abbrev to_self : List (Call Leased)
 to_self = HostWrite 0x1004 (1 ∷ 2 ∷ 3 ∷ 4 ∷ []) ∷ enter_data_of (item enter.Copyin (at 0x1004 4) ∷ []) ∷ HostWrite 0x1002 (5 ∷ 6 ∷ 7 ∷ 8 ∷ 9 ∷ 10 ∷ []) ∷ update_of (item ToSelf (at 0x1005 2) ∷ []) ∷ []

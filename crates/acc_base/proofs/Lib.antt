@@ -1,6 +1,9 @@
 pub mod Results
+pub mod Options
 pub mod Elements
+pub mod Splitting
 pub mod Lookups
+pub mod RangeChanges
 pub mod Where
 pub mod Pointers
 pub mod Attached
@@ -24,8 +27,12 @@ pub mod AllTasks
 pub mod Registers
 pub mod Told
 pub mod Traced
+pub mod LegalEvents
+pub mod Exits
+pub mod Accepted
 pub mod Accounted
 pub mod Runs
+pub mod ExampleItems
 mod Examples
 mod RegionExamples
 mod PointerExamples

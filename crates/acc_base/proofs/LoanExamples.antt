@@ -1,15 +1,10 @@
 -- Blocks whose bytes are out in a lease, with values worked out by hand.
 use Rattle.std.proofs.Common.{ℕ, ◌≡◌, refl, List, [], ◌∷◌, ◌++◌, Option, Some, None, true, false, replicate}
-use Rattle.acc_base.specs.declared.items.Section.{Section}
-use Rattle.acc_base.specs.declared.items.Item.{Item}
 use Rattle.acc_base.specs.declared.items.RegionClause.TheVariants.{Copy, Copyin, NoCreate, Present, Attach}
-use Rattle.acc_base.specs.declared.items.EnterClause.{EnterClause}
 use Rattle.acc_base.specs.declared.items.EnterClause.TheVariants as enter
-use Rattle.acc_base.specs.declared.items.ExitClause.{ExitClause}
 use Rattle.acc_base.specs.declared.items.ExitClause.TheVariants as exit
-use Rattle.acc_base.specs.declared.items.UpdateClause.{UpdateClause}
 use Rattle.acc_base.specs.declared.items.UpdateClause.TheVariants.{ToSelf, ToDevice}
-use Rattle.acc_base.specs.declared.directives.Directive.TheVariants.{EnterData, ExitData, Update, Wait, Step}
+use Rattle.acc_base.specs.declared.directives.Directive.TheVariants.{ExitData}
 use Rattle.acc_base.specs.declared.calls.Call.{Call}
 use Rattle.acc_base.specs.declared.calls.Call.TheVariants.{Do, HostWrite, Lend, Gather}
 use Rattle.acc_base.specs.declared.events.Step.TheVariants.{Nothing, Counted, Born, Dropped, Moved}
@@ -18,50 +13,18 @@ use Rattle.acc_base.specs.declared.loans.Loan.{Loan}
 use Rattle.acc_base.specs.declared.faults.Fault.{Fault}
 use Rattle.acc_base.specs.declared.faults.Fault.TheVariants.{NoTickets, TraceFull, OutOfHost, Misaligned, NoQueue, PartlyPresent, NotPresent, CounterFull, Lent, DeviceFull, QueueFull, NoRegion, NoLease}
 use Rattle.acc_base.specs.Loans.{Leased}
-use Rattle.acc_base.specs.Limits.{Limits}
 use Rattle.acc_base.specs.Judge.{leased}
 use Rattle.acc_base.specs.Steps.{did_of}
-use Rattle.acc_base.proofs.Runs.{ran_with, at, item, enter_of, exit_of, enter_data_of, exit_data_of, finalize_of, update_of, update_if_present_of, idle, memory, region, host_of}
-
--- a queue has room for two transfers
-abbrev limits : Limits
-limits = record { host = 64; device = 64; regions = 3; tickets = 100; counter_max = 4; queue_cap = 2; trace_cap = 100 }
-
--- directives with `async`
-abbrev enter_later : ℕ → List (Item EnterClause) → Call Leased
-enter_later q items = Do (EnterData items (Some q))
-
-abbrev exit_later : ℕ → List (Item ExitClause) → Call Leased
-exit_later q items = Do (ExitData items false (Some q))
-
-abbrev update_later : ℕ → List (Item UpdateClause) → Call Leased
-update_later q items = Do (Update items false (Some q))
-
-abbrev wait_all : Call Leased
-wait_all = Do (Wait None)
-
-abbrev wait_for : ℕ → Call Leased
-wait_for q = Do (Wait (Some q))
-
-abbrev step : ℕ → Call Leased
-step q = Do (Step q)
+use Rattle.acc_base.proofs.Runs.{ran_with}
+use Rattle.acc_base.proofs.ExampleItems.{limits, twice_at_most, at, a, b, c, four, item, via, alone, to_b, host_of, enter_of, exit_of, enter_data_of, exit_data_of, finalize_of, update_of, update_if_present_of, idle, enter_later, exit_later, update_later, wait_all, wait_for, step, point_to, block, memory, region}
 
 -- a lease comes back: serial number, block, place and length of the section, and the bytes of the block
 abbrev gather : ℕ → ℕ → ℕ → ℕ → List ℕ → Call Leased
 gather serial block offset len bytes = Gather (record { serial = serial; block = block; offset = offset; len = len; bytes = bytes })
 
+-- which loan: its serial number, block, place and length
 abbrev loan : ℕ → ℕ → ℕ → ℕ → Loan
 loan serial block offset len = record { serial = serial; block = block; offset = offset; len = len }
-
--- two arrays side by side, and a third behind them
-abbrev a : Section
-a = at 0x1000 16
-
-abbrev b : Section
-b = at 0x1010 16
-
-abbrev c : Section
-c = at 0x1020 16
 
 abbrev zeros : List ℕ
 zeros = replicate 16 0
@@ -134,18 +97,15 @@ unfolding ran_with
 lendable_once = refl
 
 -- tickets and room in the trace come first
-no_ticket_first : (ran_with (record limits { tickets = 1; trace_cap = 1 }) (idle ∷ Lend 9 a ∷ gather 1 1 0 16 zeros ∷ [])).refused ≡ None ∷ Some (NoTickets 0) ∷ Some (NoTickets 0) ∷ []
+no_ticket_for_loan : (ran_with (record limits { tickets = 1; trace_cap = 1 }) (idle ∷ Lend 9 a ∷ gather 1 1 0 16 zeros ∷ [])).refused ≡ None ∷ Some (NoTickets 0) ∷ Some (NoTickets 0) ∷ []
 unfolding ran_with
-no_ticket_first = refl
+no_ticket_for_loan = refl
 
 then_no_room : (ran_with (record limits { trace_cap = 1 }) (idle ∷ Lend 9 a ∷ gather 1 1 0 16 zeros ∷ [])).refused ≡ None ∷ Some (TraceFull 1) ∷ Some (TraceFull 1) ∷ []
 unfolding ran_with
 then_no_room = refl
 
 -- ---- bytes: those of the block leave with the lease, and those of the lease come back
-
-abbrev four : Section
-four = at 0x1000 4
 
 abbrev ready : List (Call Leased)
 ready = HostWrite 0x1000 (0x0a ∷ 0x0b ∷ 0x0c ∷ 0x0d ∷ []) ∷ enter_data_of (item enter.Copyin four ∷ []) ∷ enter_of (item Copy four ∷ []) ∷ []
@@ -262,16 +222,16 @@ old_lease = refl
 abbrev two_mapped : List (Call Leased)
 two_mapped = enter_of [] ∷ enter_data_of (item enter.Copyin a ∷ item enter.Copyin b ∷ []) ∷ []
 
-abbrev two_queues : List (Call Leased)
-two_queues = two_mapped ++ update_later 0 (item ToSelf b ∷ []) ∷ update_later 1 (item ToSelf a ∷ []) ∷ Lend 1 a ∷ []
+abbrev two_queues_lent : List (Call Leased)
+two_queues_lent = two_mapped ++ update_later 0 (item ToSelf b ∷ []) ∷ update_later 1 (item ToSelf a ∷ []) ∷ Lend 1 a ∷ []
 
-two_queues_refused : (ran_with limits (two_queues ++ wait_all ∷ wait_for 1 ∷ step 1 ∷ wait_for 16 ∷ wait_for 0 ∷ wait_all ∷ step 0 ∷ [])).refused ≡ fine 5 ++ Some (Lent 1) ∷ Some (Lent 1) ∷ Some (Lent 1) ∷ Some (NoQueue 16) ∷ None ∷ Some (Lent 1) ∷ None ∷ []
+two_queues_lent_refused : (ran_with limits (two_queues_lent ++ wait_all ∷ wait_for 1 ∷ step 1 ∷ wait_for 16 ∷ wait_for 0 ∷ wait_all ∷ step 0 ∷ [])).refused ≡ fine 5 ++ Some (Lent 1) ∷ Some (Lent 1) ∷ Some (Lent 1) ∷ Some (NoQueue 16) ∷ None ∷ Some (Lent 1) ∷ None ∷ []
 unfolding ran_with
-two_queues_refused = refl
+two_queues_lent_refused = refl
 
-two_queues_world : (ran_with limits (two_queues ++ wait_all ∷ wait_for 1 ∷ step 1 ∷ [])).world ≡ (ran_with limits two_queues).world
+two_queues_lent_world : (ran_with limits (two_queues_lent ++ wait_all ∷ wait_for 1 ∷ step 1 ∷ [])).world ≡ (ran_with limits two_queues_lent).world
 unfolding ran_with
-two_queues_world = refl
+two_queues_lent_world = refl
 
 -- the first transfer of a queue is of a free block, the second of a lent one
 abbrev one_queue : List (Call Leased)
@@ -332,33 +292,22 @@ unfolding ran_with
 left_in_order = refl
 
 -- where section and pointer lie is told before; that the queue is full after
-abbrev full_queue : List (Call Leased)
-full_queue = enter_of [] ∷ enter_data_of (item enter.Copyin a ∷ []) ∷ update_later 4 (item ToSelf a ∷ item ToSelf a ∷ []) ∷ exit_later 4 (item exit.Copyout a ∷ []) ∷ Lend 1 a ∷ exit_later 4 (item exit.Copyout a ∷ []) ∷ exit_data_of (item exit.Delete (at 0x1008 16) ∷ [])
+abbrev full_queue_lent : List (Call Leased)
+full_queue_lent = enter_of [] ∷ enter_data_of (item enter.Copyin a ∷ []) ∷ update_later 4 (item ToSelf a ∷ item ToSelf a ∷ []) ∷ exit_later 4 (item exit.Copyout a ∷ []) ∷ Lend 1 a ∷ exit_later 4 (item exit.Copyout a ∷ []) ∷ exit_data_of (item exit.Delete (at 0x1008 16) ∷ [])
     ∷ exit_data_of (record { clause = exit.Delete; section = a; pointer = Some 0x1004 } ∷ []) ∷ exit_data_of (record { clause = exit.Delete; section = a; pointer = Some 0x103c } ∷ []) ∷ update_of (item ToSelf (at 0x103f 2) ∷ []) ∷ []
 
-full_queue_refused : (ran_with limits full_queue).refused ≡ fine 3 ++ Some (QueueFull 4) ∷ None ∷ Some (Lent 1) ∷ Some (PartlyPresent 0) ∷ Some (Misaligned 0) ∷ Some (OutOfHost 0) ∷ Some (OutOfHost 0) ∷ []
+full_queue_lent_refused : (ran_with limits full_queue_lent).refused ≡ fine 3 ++ Some (QueueFull 4) ∷ None ∷ Some (Lent 1) ∷ Some (PartlyPresent 0) ∷ Some (Misaligned 0) ∷ Some (OutOfHost 0) ∷ Some (OutOfHost 0) ∷ []
 unfolding ran_with
-full_queue_refused = refl
+full_queue_lent_refused = refl
 
 -- ---- pointers in lent blocks: the first array has one at 0x1008
 
--- an item with that pointer, and the pointer alone
-abbrev via : {C : Type 0} → C → Section → Item C
-via clause s = record { clause = clause; section = s; pointer = Some 0x1008 }
-
-abbrev alone : {C : Type 0} → C → Item C
-alone clause = item clause (at 0x1008 8)
-
--- the host's pointer is made to hold an address below 0x1100
-abbrev point_to : ℕ → Call Leased
-point_to low = HostWrite 0x1008 (low ∷ 0x10 ∷ 0 ∷ 0 ∷ 0 ∷ 0 ∷ 0 ∷ 0 ∷ [])
-
 -- it is attached by the item of the second array
-abbrev pointed : List (Call Leased)
-pointed = point_to 0x10 ∷ enter_of [] ∷ enter_data_of (item enter.Copyin a ∷ via enter.Copyin b ∷ []) ∷ []
+abbrev aimed_at_b : List (Call Leased)
+aimed_at_b = point_to 0x10 ∷ enter_of [] ∷ enter_data_of (item enter.Copyin a ∷ via enter.Copyin b ∷ []) ∷ []
 
 -- an item that leaves detaches its pointer before its step
-detached_first : (ran_with limits (pointed ++ Lend 1 a ∷ Lend 1 b ∷ exit_data_of (via exit.Delete b ∷ []) ∷ exit_data_of (item exit.Delete b ∷ []) ∷ finalize_of (alone exit.Detach ∷ []) ∷ [])).refused
+detached_first : (ran_with limits (aimed_at_b ++ Lend 1 a ∷ Lend 1 b ∷ exit_data_of (via exit.Delete b ∷ []) ∷ exit_data_of (item exit.Delete b ∷ []) ∷ finalize_of (alone exit.Detach ∷ []) ∷ [])).refused
     ≡ fine 5 ++ Some (Lent 1) ∷ Some (Lent 2) ∷ Some (Lent 1) ∷ []
 unfolding ran_with
 detached_first = refl
@@ -370,7 +319,7 @@ unfolding ran_with
 left_first = refl
 
 -- only the pointer's own block counts: what it is aimed at may be lent
-target_lent : (ran_with limits (pointed ++ Lend 1 b ∷ enter_data_of (alone enter.Attach ∷ []) ∷ exit_data_of (alone exit.Detach ∷ []) ∷ exit_data_of (via exit.Delete b ∷ []) ∷ [])).refused ≡ fine 6 ++ Some (Lent 2) ∷ []
+target_lent : (ran_with limits (aimed_at_b ++ Lend 1 b ∷ enter_data_of (alone enter.Attach ∷ []) ∷ exit_data_of (alone exit.Detach ∷ []) ∷ exit_data_of (via exit.Delete b ∷ []) ∷ [])).refused ≡ fine 6 ++ Some (Lent 2) ∷ []
 unfolding ran_with
 target_lent = refl
 
@@ -387,15 +336,15 @@ unfolding ran_with
 pointed_full_device = refl
 
 -- an attachment counter at its limit is told after the lent block
-abbrev attached_full : List (Call Leased)
-attached_full = pointed ++ enter_data_of (alone enter.Attach ∷ []) ∷ Lend 1 a ∷ enter_data_of (alone enter.Attach ∷ []) ∷ gather 1 1 0 16 (replicate 8 0 ++ 0x10 ∷ 0 ∷ 0 ∷ 0 ∷ 1 ∷ 0 ∷ 0 ∷ 0 ∷ []) ∷ enter_data_of (alone enter.Attach ∷ []) ∷ []
+abbrev attached_full_lent : List (Call Leased)
+attached_full_lent = aimed_at_b ++ enter_data_of (alone enter.Attach ∷ []) ∷ Lend 1 a ∷ enter_data_of (alone enter.Attach ∷ []) ∷ gather 1 1 0 16 (replicate 8 0 ++ to_b) ∷ enter_data_of (alone enter.Attach ∷ []) ∷ []
 
-attached_full_refused : (ran_with (record limits { counter_max = 2 }) attached_full).refused ≡ fine 5 ++ Some (Lent 1) ∷ None ∷ Some (CounterFull 0) ∷ []
+attached_full_lent_refused : (ran_with twice_at_most attached_full_lent).refused ≡ fine 5 ++ Some (Lent 1) ∷ None ∷ Some (CounterFull 0) ∷ []
 unfolding ran_with
-attached_full_refused = refl
+attached_full_lent_refused = refl
 
 -- a reference counter at its limit is told before the lent block of the pointer, and without one
-counted_full : (ran_with (record limits { counter_max = 2 }) (point_to 0x00 ∷ enter_of [] ∷ enter_data_of (item enter.Copyin a ∷ item enter.Copyin a ∷ []) ∷ Lend 1 a ∷ enter_data_of (item enter.Copyin a ∷ []) ∷ enter_data_of (via enter.Copyin a ∷ []) ∷ enter_of (item Present a ∷ via Present a ∷ []) ∷ enter_of (item Present a ∷ item Present a ∷ via Present a ∷ []) ∷ [])).refused
+counted_full : (ran_with twice_at_most (point_to 0x00 ∷ enter_of [] ∷ enter_data_of (item enter.Copyin a ∷ item enter.Copyin a ∷ []) ∷ Lend 1 a ∷ enter_data_of (item enter.Copyin a ∷ []) ∷ enter_data_of (via enter.Copyin a ∷ []) ∷ enter_of (item Present a ∷ via Present a ∷ []) ∷ enter_of (item Present a ∷ item Present a ∷ via Present a ∷ []) ∷ [])).refused
     ≡ fine 4 ++ Some (CounterFull 0) ∷ Some (CounterFull 0) ∷ Some (Lent 1) ∷ Some (CounterFull 2) ∷ []
 unfolding ran_with
 counted_full = refl
@@ -413,12 +362,12 @@ unfolding ran_with
 idle_pointer_told = refl
 
 -- an attached pointer stays so where the step of its item is no action
-idle_step : (ran_with limits (pointed ++ Lend 1 a ∷ exit_data_of (via exit.Delete c ∷ []) ∷ enter_of (via NoCreate c ∷ []) ∷ enter_of (via NoCreate b ∷ []) ∷ [])).refused ≡ fine 6 ++ Some (Lent 1) ∷ []
+idle_step : (ran_with limits (aimed_at_b ++ Lend 1 a ∷ exit_data_of (via exit.Delete c ∷ []) ∷ enter_of (via NoCreate c ∷ []) ∷ enter_of (via NoCreate b ∷ []) ∷ [])).refused ≡ fine 6 ++ Some (Lent 1) ∷ []
 unfolding ran_with
 idle_step = refl
 
 -- a region does not detach the pointer of a block that was born since, which may be lent
-born_since : (ran_with limits (point_to 0x10 ∷ enter_data_of (item enter.Copyin a ∷ item enter.Copyin b ∷ []) ∷ enter_of (alone Attach ∷ []) ∷ exit_data_of (item exit.Delete a ∷ []) ∷ enter_data_of (item enter.Copyin a ∷ alone enter.Attach ∷ []) ∷ Lend 1 a ∷ exit_data_of (alone exit.Detach ∷ []) ∷ exit_of 1 ∷ [])).refused
+born_since_lent : (ran_with limits (point_to 0x10 ∷ enter_data_of (item enter.Copyin a ∷ item enter.Copyin b ∷ []) ∷ enter_of (alone Attach ∷ []) ∷ exit_data_of (item exit.Delete a ∷ []) ∷ enter_data_of (item enter.Copyin a ∷ alone enter.Attach ∷ []) ∷ Lend 1 a ∷ exit_data_of (alone exit.Detach ∷ []) ∷ exit_of 1 ∷ [])).refused
     ≡ fine 6 ++ Some (Lent 3) ∷ None ∷ []
 unfolding ran_with
-born_since = refl
+born_since_lent = refl

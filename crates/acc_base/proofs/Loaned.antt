@@ -30,7 +30,7 @@ use Rattle.acc_base.proofs.Lookups.{at-own}
 use Rattle.acc_base.proofs.Elements.{found_has}
 use Rattle.acc_base.proofs.Where.{IsInsideOf, inside_says}
 use Rattle.acc_base.proofs.Lending.{loans-with, loans-without}
-use Rattle.acc_base.proofs.Sound.{block_of}
+use Rattle.acc_base.proofs.RangeChanges.{block_of}
 
 -- ---- the loans stay, whatever tasks and transfers do
 

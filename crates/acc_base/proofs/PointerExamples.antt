@@ -1,5 +1,5 @@
 -- Pointers attached and detached, with values worked out by hand.
-use Rattle.std.proofs.Common.{ℕ, ◌≡◌, refl, List, [], ◌∷◌, ◌++◌, Some, Ok, Err, true, false, replicate}
+use Rattle.std.proofs.Common.{◌≡◌, refl, List, [], ◌∷◌, ◌++◌, Some, Ok, Err, true, false, replicate}
 use Rattle.acc_base.specs.declared.items.EnterClause.TheVariants as enter
 use Rattle.acc_base.specs.declared.items.ExitClause.TheVariants as exit
 use Rattle.acc_base.specs.declared.items.UpdateClause.TheVariants.{ToSelf, ToDevice}
@@ -9,27 +9,20 @@ use Rattle.acc_base.specs.declared.attachments.Aim.{Aim}
 use Rattle.acc_base.specs.declared.attachments.Aim.TheVariants as aims
 use Rattle.acc_base.specs.declared.faults.Fault.TheVariants.{OutOfHost, Misaligned, CounterFull}
 use Rattle.acc_base.specs.Loans.{Leased}
-use Rattle.acc_base.specs.Limits.{Limits}
 use Rattle.acc_base.specs.Records.{State}
 use Rattle.acc_base.specs.Calls.{World}
 use Rattle.acc_base.specs.Clauses.{pointer_checked}
 use Rattle.acc_base.specs.Detaching.{block_with, judge_detach, judge_release}
 use Rattle.acc_base.specs.Pointers.{device_pointer, target_of, judge_attach, aimed}
-use Rattle.acc_base.proofs.Runs.{ran_in, ran_with, at, item, enter_data_of, exit_data_of, update_of, memory}
-
-abbrev limits : Limits
-limits = record { host = 64; device = 64; regions = 3; tickets = 100; counter_max = 2; queue_cap = 4; trace_cap = 100 }
+use Rattle.acc_base.proofs.Runs.{ran_in, ran_with}
+use Rattle.acc_base.proofs.ExampleItems.{limits, twice_at_most, at, a, b, c, item, to_b, to_c, as_host, ones, enter_data_of, exit_data_of, update_of, point_to, memory}
 
 -- ---- a pointer at 0x1008, in the range of its structure, and two targets
-
--- the host's pointer is made to hold an address below 0x1100
-abbrev point_to : ℕ → Call Leased
-point_to low = HostWrite 0x1008 (low ∷ 0x10 ∷ 0 ∷ 0 ∷ 0 ∷ 0 ∷ 0 ∷ 0 ∷ [])
 
 -- the structure and both targets are mapped, and the pointer holds the first target's address
 mapped : World
 unfolding ran_with
-mapped = (ran_with limits (point_to 0x10 ∷ enter_data_of (item enter.Copyin (at 0x1000 16) ∷ item enter.Copyin (at 0x1010 16) ∷ item enter.Copyin (at 0x1020 16) ∷ []) ∷ [])).world
+mapped = (ran_with limits (point_to 0x10 ∷ enter_data_of (item enter.Copyin a ∷ item enter.Copyin b ∷ item enter.Copyin c ∷ []) ∷ [])).world
 
 abbrev start : State
 start = mapped.state
@@ -78,7 +71,7 @@ unfolding twice once mapped ran_with aimed
 twice_counts = refl
 
 -- a counter at its limit does not rise
-twice_full : judge_attach limits 3 0x1008 twice ≡ Err (CounterFull 3)
+twice_full : judge_attach twice_at_most 3 0x1008 twice ≡ Err (CounterFull 3)
 unfolding twice once mapped ran_with aimed judge_attach
 twice_full = refl
 
@@ -100,7 +93,7 @@ moved_counts : moved.records.attached ≡ record { block = 1; pointer = 0x1008; 
 unfolding moved aside twice once mapped ran_with ran_in after_calls aimed
 moved_counts = refl
 
-moved_bytes : moved.memories ≡ memory 1 (replicate 8 0 ++ 0x20 ∷ 0 ∷ 0 ∷ 0 ∷ 1 ∷ 0 ∷ 0 ∷ 0 ∷ []) ∷ memory 2 (replicate 16 0) ∷ memory 3 (replicate 16 0) ∷ []
+moved_bytes : moved.memories ≡ memory 1 (replicate 8 0 ++ to_c) ∷ memory 2 (replicate 16 0) ∷ memory 3 (replicate 16 0) ∷ []
 unfolding moved aside twice once mapped ran_with ran_in after_calls aimed
 moved_bytes = refl
 
@@ -118,7 +111,7 @@ free_counts : free.records.attached ≡ []
 unfolding free moved aside twice once mapped ran_with ran_in after_calls aimed
 free_counts = refl
 
-free_bytes : free.memories ≡ memory 1 (replicate 8 0 ++ 0x20 ∷ 0x10 ∷ 0 ∷ 0 ∷ 0 ∷ 0 ∷ 0 ∷ 0 ∷ []) ∷ memory 2 (replicate 16 0) ∷ memory 3 (replicate 16 0) ∷ []
+free_bytes : free.memories ≡ memory 1 (replicate 8 0 ++ as_host 0x20) ∷ memory 2 (replicate 16 0) ∷ memory 3 (replicate 16 0) ∷ []
 unfolding free moved aside twice once mapped ran_with ran_in after_calls aimed
 free_bytes = refl
 
@@ -133,7 +126,7 @@ twice_cleared : judge_detach true 0x1008 twice.records ≡ aims.Cleared 0x1008 1
 unfolding twice once mapped ran_with aimed judge_detach
 twice_cleared = refl
 
-cleared_bytes : (aimed (aims.Cleared 0x1008 1) twice).memories ≡ memory 1 (replicate 8 0 ++ 0x10 ∷ 0x10 ∷ 0 ∷ 0 ∷ 0 ∷ 0 ∷ 0 ∷ 0 ∷ []) ∷ memory 2 (replicate 16 0) ∷ memory 3 (replicate 16 0) ∷ []
+cleared_bytes : (aimed (aims.Cleared 0x1008 1) twice).memories ≡ memory 1 (replicate 8 0 ++ as_host 0x10) ∷ memory 2 (replicate 16 0) ∷ memory 3 (replicate 16 0) ∷ []
 unfolding twice once mapped ran_with aimed
 cleared_bytes = refl
 
@@ -157,41 +150,38 @@ released_elsewhere = refl
 
 -- ---- transfers leave out what is attached
 
-abbrev ones : List ℕ
-ones = replicate 8 0x11
-
 -- the host's structure is all new, and copied to the device
 abbrev copied_in : List (Call Leased)
-copied_in = HostWrite 0x1000 (ones ++ ones) ∷ update_of (item ToDevice (at 0x1000 16) ∷ []) ∷ []
+copied_in = HostWrite 0x1000 (ones ++ ones) ∷ update_of (item ToDevice a ∷ []) ∷ []
 
-copied_in_bytes : (after_calls copied_in once).memories ≡ memory 1 (ones ++ 0x10 ∷ 0 ∷ 0 ∷ 0 ∷ 1 ∷ 0 ∷ 0 ∷ 0 ∷ []) ∷ memory 2 (replicate 16 0) ∷ memory 3 (replicate 16 0) ∷ []
+copied_in_bytes : (after_calls copied_in once).memories ≡ memory 1 (ones ++ to_b) ∷ memory 2 (replicate 16 0) ∷ memory 3 (replicate 16 0) ∷ []
 unfolding once mapped ran_with ran_in after_calls aimed
 copied_in_bytes = refl
 
 -- a section that cuts the pointer in the middle
 cut_bytes : (after_calls (HostWrite 0x1000 (ones ++ ones) ∷ update_of (item ToDevice (at 0x1004 8) ∷ []) ∷ []) once).memories
-    ≡ memory 1 (replicate 4 0 ++ replicate 4 0x11 ++ 0x10 ∷ 0 ∷ 0 ∷ 0 ∷ 1 ∷ 0 ∷ 0 ∷ 0 ∷ []) ∷ memory 2 (replicate 16 0) ∷ memory 3 (replicate 16 0) ∷ []
+    ≡ memory 1 (replicate 4 0 ++ replicate 4 0x11 ++ to_b) ∷ memory 2 (replicate 16 0) ∷ memory 3 (replicate 16 0) ∷ []
 unfolding once mapped ran_with ran_in after_calls aimed
 cut_bytes = refl
 
 -- the other way: the host's pointer stays, and so does every byte behind the section
-copied_out_host : (after_calls (HostWrite 0x1000 (ones ++ ones) ∷ update_of (item ToSelf (at 0x1000 16) ∷ []) ∷ []) once).host ≡ replicate 8 0 ++ ones ++ replicate 48 0
+copied_out_host : (after_calls (HostWrite 0x1000 (ones ++ ones) ∷ update_of (item ToSelf a ∷ []) ∷ []) once).host ≡ replicate 8 0 ++ ones ++ replicate 48 0
 unfolding once mapped ran_with ran_in after_calls aimed
 copied_out_host = refl
 
 -- at the end of the mapping too, and the counters are gone with the block
-ended_host : (after_calls (HostWrite 0x1000 (ones ++ ones) ∷ exit_data_of (item exit.Copyout (at 0x1000 16) ∷ []) ∷ []) once).host ≡ replicate 8 0 ++ ones ++ replicate 48 0
+ended_host : (after_calls (HostWrite 0x1000 (ones ++ ones) ∷ exit_data_of (item exit.Copyout a ∷ []) ∷ []) once).host ≡ replicate 8 0 ++ ones ++ replicate 48 0
 unfolding once mapped ran_with ran_in after_calls aimed
 ended_host = refl
 
-ended_counts : (after_calls (exit_data_of (item exit.Copyout (at 0x1000 16) ∷ []) ∷ []) once).records.attached ≡ []
+ended_counts : (after_calls (exit_data_of (item exit.Copyout a ∷ []) ∷ []) once).records.attached ≡ []
 unfolding once mapped ran_with ran_in after_calls aimed
 ended_counts = refl
 
 -- a pointer whose target's mapping has ended keeps its bytes and its counter
 abandoned : State
 unfolding once mapped ran_with ran_in after_calls aimed
-abandoned = after_calls (exit_data_of (item exit.Delete (at 0x1010 16) ∷ []) ∷ []) once
+abandoned = after_calls (exit_data_of (item exit.Delete b ∷ []) ∷ []) once
 
 abandoned_counts : abandoned.records.attached ≡ record { block = 1; pointer = 0x1008; count = 1 } ∷ []
 unfolding abandoned once mapped ran_with ran_in after_calls aimed
@@ -213,7 +203,7 @@ abandoned_detach = refl
 -- ---- what is not attached
 
 -- a null pointer has no target
-null_attach : judge_attach limits 0 0x1008 (ran_with limits (enter_data_of (item enter.Copyin (at 0x1000 16) ∷ []) ∷ [])).world.state ≡ Ok aims.None
+null_attach : judge_attach limits 0 0x1008 (ran_with limits (enter_data_of (item enter.Copyin a ∷ []) ∷ [])).world.state ≡ Ok aims.None
 unfolding ran_with judge_attach
 null_attach = refl
 

@@ -29,7 +29,8 @@ use Rattle.acc_base.proofs.Lookups.{at-own, at-none, at-push_new}
 use Rattle.acc_base.proofs.Where.{IsInsideOf, inside_says, absent_says}
 use Rattle.acc_base.proofs.Judged.{IsBirth, IsInRangeOf, IsJudgedTo, step_judged, task_says, IsStepFree, not_lent_says}
 use Rattle.acc_base.proofs.Queued.{pins-le_put, queues-put}
-use Rattle.acc_base.proofs.Sound.{KeepsPlace, block_of, number_of_block, recounted_keeps, counted_sound, dropped_sound, ended_sound, birth_sound, first_counted}
+use Rattle.acc_base.proofs.RangeChanges.{KeepsPlace, block_of}
+use Rattle.acc_base.proofs.Sound.{number_of_block, recounted_keeps, counted_sound, dropped_sound, ended_sound, birth_sound, first_counted}
 
 -- ---- the clause tables
 

@@ -1,51 +1,20 @@
 -- Transfers that wait in queues, and blocks that outlive their mapping, with values worked out by hand.
 use Rattle.std.proofs.Common.{ℕ, ◌≡◌, refl, List, [], ◌∷◌, ◌++◌, Some, None, true, false, replicate}
 use Rattle.acc_base.specs.declared.items.Section.{Section}
-use Rattle.acc_base.specs.declared.items.Item.{Item}
-use Rattle.acc_base.specs.declared.items.EnterClause.{EnterClause}
 use Rattle.acc_base.specs.declared.items.EnterClause.TheVariants as enter
-use Rattle.acc_base.specs.declared.items.ExitClause.{ExitClause}
 use Rattle.acc_base.specs.declared.items.ExitClause.TheVariants as exit
-use Rattle.acc_base.specs.declared.items.UpdateClause.{UpdateClause}
 use Rattle.acc_base.specs.declared.items.UpdateClause.TheVariants.{ToSelf, ToDevice}
-use Rattle.acc_base.specs.declared.directives.Directive.TheVariants.{EnterData, ExitData, Update, Wait, Step}
 use Rattle.acc_base.specs.declared.calls.Call.{Call}
-use Rattle.acc_base.specs.declared.calls.Call.TheVariants.{Do, HostWrite}
+use Rattle.acc_base.specs.declared.calls.Call.TheVariants.{HostWrite}
 use Rattle.acc_base.specs.declared.events.Step.TheVariants.{Born, Dropped, Moved}
 use Rattle.acc_base.specs.declared.events.Event.TheVariants.{EnteredData, ExitedData, Updated, Waited, Stepped, HostWritten}
 use Rattle.acc_base.specs.declared.faults.Fault.TheVariants.{NoQueue, NotPresent, QueueFull}
 use Rattle.acc_base.specs.Loans.{Leased}
-use Rattle.acc_base.specs.Limits.{Limits}
 use Rattle.acc_base.specs.Queues.{new_queues, queue_at}
 use Rattle.acc_base.specs.Steps.{did_of}
 use Rattle.acc_base.specs.Waits.{ended_from}
-use Rattle.acc_base.proofs.Runs.{ran_with, at, item, enter_data_of, exit_data_of, update_of, block, memory, host_of}
-
--- a queue has room for two transfers
-abbrev limits : Limits
-limits = record { host = 64; device = 64; regions = 1; tickets = 100; counter_max = 4; queue_cap = 2; trace_cap = 100 }
-
--- directives with `async`
-abbrev enter_later : ℕ → List (Item EnterClause) → Call Leased
-enter_later q items = Do (EnterData items (Some q))
-
-abbrev exit_later : ℕ → List (Item ExitClause) → Call Leased
-exit_later q items = Do (ExitData items false (Some q))
-
-abbrev update_later : ℕ → List (Item UpdateClause) → Call Leased
-update_later q items = Do (Update items false (Some q))
-
-abbrev wait_all : Call Leased
-wait_all = Do (Wait None)
-
-abbrev wait_for : ℕ → Call Leased
-wait_for q = Do (Wait (Some q))
-
-abbrev step : ℕ → Call Leased
-step q = Do (Step q)
-
-abbrev array : Section
-array = at 0x1000 16
+use Rattle.acc_base.proofs.Runs.{ran_with}
+use Rattle.acc_base.proofs.ExampleItems.{limits, at, a, item, host_of, enter_data_of, exit_data_of, update_of, enter_later, exit_later, update_later, wait_all, wait_for, step, block, memory}
 
 abbrev byte : Section
 byte = at 0x1000 1
@@ -57,7 +26,7 @@ first_is b = HostWrite 0x1000 (b ∷ [])
 -- ---- a copy to host memory is put into a queue, the mapping ends, and the section is mapped again
 
 abbrev ended : List (Call Leased)
-ended = first_is 7 ∷ enter_data_of (item enter.Copyin array ∷ []) ∷ first_is 9 ∷ exit_later 1 (item exit.Copyout array ∷ []) ∷ enter_data_of (item (enter.Create false) array ∷ []) ∷ []
+ended = first_is 7 ∷ enter_data_of (item enter.Copyin a ∷ []) ∷ first_is 9 ∷ exit_later 1 (item exit.Copyout a ∷ []) ∷ enter_data_of (item (enter.Create false) a ∷ []) ∷ []
 
 -- the first block stays, so the new one lies behind it
 ended_blocks : (ran_with limits ended).world.state.records.blocks ≡ block 1 0x1_0000_0000 16 ∷ block 2 0x1_0000_0010 16 ∷ []
@@ -76,7 +45,7 @@ ended_alone : ended_from 0x1_0000_0001 (ran_with limits ended).world.state.recor
 unfolding ran_with
 ended_alone = refl
 
-ended_queue : queue_at 1 (ran_with limits ended).world.state.records.queues ≡ record { block = 1; offset = 0; section = array; out = true } ∷ []
+ended_queue : queue_at 1 (ran_with limits ended).world.state.records.queues ≡ record { block = 1; offset = 0; section = a; out = true } ∷ []
 unfolding ran_with
 ended_queue = refl
 
@@ -105,8 +74,8 @@ unfolding ran_with
 waited_queues = refl
 
 waited_told : (ran_with limits waited).world.history.trace
-    ≡ HostWritten 0x1000 1 ∷ EnteredData (item enter.Copyin array ∷ []) None (did_of (Born 1 0x1_0000_0000) ∷ []) ∷ HostWritten 0x1000 1
-    ∷ ExitedData (item exit.Copyout array ∷ []) false (Some 1) (did_of (Dropped 1 true) ∷ []) ∷ EnteredData (item (enter.Create false) array ∷ []) None (did_of (Born 2 0x1_0000_0010) ∷ []) ∷ Waited (Some 1) 1 ∷ []
+    ≡ HostWritten 0x1000 1 ∷ EnteredData (item enter.Copyin a ∷ []) None (did_of (Born 1 0x1_0000_0000) ∷ []) ∷ HostWritten 0x1000 1
+    ∷ ExitedData (item exit.Copyout a ∷ []) false (Some 1) (did_of (Dropped 1 true) ∷ []) ∷ EnteredData (item (enter.Create false) a ∷ []) None (did_of (Born 2 0x1_0000_0010) ∷ []) ∷ Waited (Some 1) 1 ∷ []
 unfolding ran_with
 waited_told = refl
 
@@ -214,8 +183,8 @@ deleted_before_gone = refl
 -- ---- a block that has ended keeps its attached pointers till it is given back, and no transfer touches their bytes
 
 abbrev pointed : List (Call Leased)
-pointed = HostWrite 0x1000 (0x10 ∷ 0x10 ∷ []) ∷ enter_data_of (item enter.Copyin (at 0x1000 16) ∷ item enter.Copyin (at 0x1010 8) ∷ []) ∷ enter_data_of (item enter.Attach (at 0x1000 8) ∷ [])
-    ∷ exit_later 0 (item exit.Copyout (at 0x1000 16) ∷ []) ∷ HostWrite 0x1000 (replicate 16 1) ∷ []
+pointed = HostWrite 0x1000 (0x10 ∷ 0x10 ∷ []) ∷ enter_data_of (item enter.Copyin a ∷ item enter.Copyin (at 0x1010 8) ∷ []) ∷ enter_data_of (item enter.Attach (at 0x1000 8) ∷ [])
+    ∷ exit_later 0 (item exit.Copyout a ∷ []) ∷ HostWrite 0x1000 (replicate 16 1) ∷ []
 
 pointed_counts : (ran_with limits pointed).world.state.records.attached ≡ record { block = 1; pointer = 0x1000; count = 1 } ∷ []
 unfolding ran_with

@@ -12,23 +12,12 @@ use Rattle.acc_base.specs.declared.events.Event.TheVariants.{Entered, Left, Ente
 use Rattle.acc_base.specs.declared.events.Step.TheVariants.{Nothing, Counted, Born, Dropped}
 use Rattle.acc_base.specs.declared.faults.Fault.TheVariants.{NoTickets, NoAllowance, TooManyItems, TraceFull, OutOfHost, PartlyPresent, NotPresent, CounterFull, DeviceFull, NoRegion}
 use Rattle.acc_base.specs.Loans.{Leased}
-use Rattle.acc_base.specs.Limits.{Limits}
 use Rattle.acc_base.specs.Queues.{new_queues}
 use Rattle.acc_base.specs.Records.{new_state}
 use Rattle.acc_base.specs.Steps.{did_of}
 use Rattle.acc_base.specs.History.{structured_in, dynamic_in}
-use Rattle.acc_base.proofs.Runs.{ran_with, at, item, enter_of, exit_of, enter_data_of, exit_data_of, finalize_of, update_of, range, block, memory, holding, region, host_of}
-
-abbrev limits : Limits
-limits = record { host = 64; device = 64; regions = 3; tickets = 100; counter_max = 64; queue_cap = 4; trace_cap = 100 }
-
--- the first bytes of host memory
-abbrev a : Section
-a = at 0x1000 16
-
--- four of them
-abbrev four : Section
-four = at 0x1000 4
+use Rattle.acc_base.proofs.Runs.{ran_with}
+use Rattle.acc_base.proofs.ExampleItems.{limits, twice_at_most, at, a, b, four, item, host_of, enter_of, exit_of, enter_data_of, exit_data_of, finalize_of, update_of, range, block, memory, holding, region}
 
 abbrev wrote_first : Call Leased
 wrote_first = HostWrite 0x1000 (1 ∷ 2 ∷ 3 ∷ 4 ∷ [])
@@ -95,9 +84,9 @@ counted_without_create_left = refl
 
 -- ---- two adjacent ranges are not one
 
-over_both : (ran_with limits (enter_data_of (item enter.Copyin a ∷ item enter.Copyin (at 0x1010 16) ∷ []) ∷ enter_one Present (at 0x1000 32) ∷ enter_one NoCreate (at 0x1008 16) ∷ [])).refused ≡ None ∷ Some (PartlyPresent 0) ∷ Some (PartlyPresent 0) ∷ []
+entered_over_both : (ran_with limits (enter_data_of (item enter.Copyin a ∷ item enter.Copyin b ∷ []) ∷ enter_one Present (at 0x1000 32) ∷ enter_one NoCreate (at 0x1008 16) ∷ [])).refused ≡ None ∷ Some (PartlyPresent 0) ∷ Some (PartlyPresent 0) ∷ []
 unfolding ran_with
-over_both = refl
+entered_over_both = refl
 
 -- ---- which clause needs the section present, and what fills a new block
 
@@ -302,33 +291,33 @@ empty_inside = refl
 
 -- ---- how many items, and how often a range is counted
 
-sixty_four_counted : (ran_with limits (enter_of (replicate 64 (item Copyin a)) ∷ [])).world.state.records.ranges ≡ range a 1 64 0 ∷ []
+sixty_four_entered : (ran_with limits (enter_of (replicate 64 (item Copyin a)) ∷ [])).world.state.records.ranges ≡ range a 1 64 0 ∷ []
 unfolding ran_with
-sixty_four_counted = refl
+sixty_four_entered = refl
 
 sixty_four_left : (ran_with limits (enter_of (replicate 64 (item Copyin a)) ∷ exit_of 1 ∷ [])).world.state.records ≡ record { ranges = []; blocks = []; attached = []; births = 1; queues = new_queues; loans = [] }
 unfolding ran_with
 sixty_four_left = refl
 
-sixty_five_refused : (ran_with limits (enter_of (replicate 65 (item Copyin a)) ∷ [])).refused ≡ Some (TooManyItems 65) ∷ []
+sixty_five_entered : (ran_with limits (enter_of (replicate 65 (item Copyin a)) ∷ [])).refused ≡ Some (TooManyItems 65) ∷ []
 unfolding ran_with
-sixty_five_refused = refl
+sixty_five_entered = refl
 
 -- the two counters have the limit each for itself, and a refused directive counts nothing
 abbrev counters_full : List (Call Leased)
 counters_full = enter_of (item Copyin a ∷ item Copyin a ∷ item Copyin a ∷ []) ∷ enter_of (item Copyin a ∷ item Copyin a ∷ []) ∷ enter_data_of (item enter.Copyin a ∷ item enter.Copyin a ∷ []) ∷ enter_one Present a ∷ enter_data_of (item enter.Copyin (at 0x1010 1) ∷ item enter.Copyin a ∷ []) ∷ []
 
-counters_full_refused : (ran_with (record limits { counter_max = 2 }) counters_full).refused ≡ Some (CounterFull 2) ∷ None ∷ None ∷ Some (CounterFull 0) ∷ Some (CounterFull 1) ∷ []
+counters_full_refused : (ran_with twice_at_most counters_full).refused ≡ Some (CounterFull 2) ∷ None ∷ None ∷ Some (CounterFull 0) ∷ Some (CounterFull 1) ∷ []
 unfolding ran_with
 counters_full_refused = refl
 
-counters_full_ranges : (ran_with (record limits { counter_max = 2 }) counters_full).world.state.records ≡ record { ranges = range a 1 2 2 ∷ []; blocks = block 1 0x1_0000_0000 16 ∷ []; attached = []; births = 1; queues = new_queues; loans = [] }
+counters_full_ranges : (ran_with twice_at_most counters_full).world.state.records ≡ record { ranges = range a 1 2 2 ∷ []; blocks = block 1 0x1_0000_0000 16 ∷ []; attached = []; births = 1; queues = new_queues; loans = [] }
 unfolding ran_with
 counters_full_ranges = refl
 
-three_of_two_left : (ran_with (record limits { counter_max = 2 }) (enter_of (item Copyin a ∷ item Copyin a ∷ item Copyin a ∷ []) ∷ [])).world.state ≡ new_state 64
+three_entered_left : (ran_with twice_at_most (enter_of (item Copyin a ∷ item Copyin a ∷ item Copyin a ∷ []) ∷ [])).world.state ≡ new_state 64
 unfolding ran_with
-three_of_two_left = refl
+three_entered_left = refl
 
 -- ---- numbers of regions rise, and refused entries use none
 

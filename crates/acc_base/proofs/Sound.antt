@@ -27,7 +27,9 @@ use Rattle.acc_base.specs.Waits.{records_made, records_stepped, records_drained}
 use Rattle.acc_base.specs.Accounts.{EachPair, IsHostSection, IsBelow, AreRangesApart, IsOnDevice, IsClearOf, AreBlocksApart, IsMapped, HasOneBlockEach, IsCounted, AreAttachmentsSound, IsTransferSound, AreQueuesSound, AreRecordsSound, IsLoanSound, AreLoansSound}
 use Rattle.acc_base.proofs.Results.{and_true, equal}
 use Rattle.acc_base.proofs.Elements.{AllByRecursion-weaker, AllByRecursion-both, AllByRecursion-filter, AllByRecursion-passed, AllByRecursion-map, AllByRecursion-append, EachPair-filter, EachPair-push, EachPair-map, list_all-from, find_none, found_has}
-use Rattle.acc_base.proofs.Lookups.{change_at, number-change, at-changed, at-without_other, at-push_there, at-push_new, at-own, at-none}
+use Rattle.acc_base.proofs.Options.{still_some}
+use Rattle.acc_base.proofs.RangeChanges.{all_with, block_of, KeepsPlace, section-change, block-change, risen_keeps, fallen_keeps, cleared_keeps}
+use Rattle.acc_base.proofs.Lookups.{change_at, at-changed, at-without_other, at-push_there, at-push_new, at-own, at-none}
 use Rattle.acc_base.proofs.Counting.{with_there, with_new}
 use Rattle.acc_base.proofs.Where.{absent_says}
 use Rattle.acc_base.proofs.Places.{place_for-found, IsFoundPlace, place_for-even}
@@ -40,33 +42,11 @@ use Rattle.acc_base.proofs.Judged.{IsBirth, IsCount}
 
 -- ---- a change of the counters of one range
 
-abbrev pub block_of : Range → ℕ
-block_of r = r.block
-
--- a change that leaves all but the counters
-pub record KeepsPlace (f : Range → Range) : Type 0 where
-  pub section : (r : Range) → (f r).section ≡ r.section
-  pub block : (r : Range) → (f r).block ≡ r.block
-
-section-change : (k : ℕ) (f : Range → Range) → KeepsPlace f → (r : Range) → (change_at block_of k f r).section ≡ r.section
-section-change k f keeps r = go (r.block == k)
-  where
-    go : (b : Bool) → (cond b (f r) r).section ≡ r.section
-    go true = keeps.section r
-    go false = refl
-
-block-change : (k : ℕ) (f : Range → Range) → KeepsPlace f → (r : Range) → (change_at block_of k f r).block ≡ r.block
-block-change k f keeps r = number-change block_of k f keeps.block r
-
 changed_ranges : (l : Limits) (k : ℕ) (f : Range → Range) (rs : List Range) → KeepsPlace f → AreRangesApart l rs → AreRangesApart l (changed_at k f rs)
 changed_ranges l k f rs keeps h = record {
   in_host = AllByRecursion-map (λ r. IsHostSection l r.section) (change_at block_of k f) rs (AllByRecursion-weaker (λ r. IsHostSection l r.section) (λ r. IsHostSection l (change_at block_of k f r).section) rs (λ r p. subst (IsHostSection l) (sym (section-change k f keeps r)) p) h.in_host);
   rising = EachPair-map (λ r t. IsBelow r.section t.section) (change_at block_of k f) rs (λ r t p. subst (λ s. IsBelow s (change_at block_of k f t).section) (sym (section-change k f keeps r)) (subst (λ s. IsBelow r.section s) (sym (section-change k f keeps t)) p)) h.rising;
 }
-
-option_map_some : {X Y : Type 0} (f : X → Y) (o : Option X) → IsSome o → IsSome (option_map f o)
-option_map_some f None p = cc
-option_map_some f (Some x) p = refl
 
 -- a block that is mapped is in use
 mapped_used : (o : Option Range) (pinned : Bool) → IsSome o → (is_some o || pinned) ≡ true
@@ -85,7 +65,7 @@ changed_each k f w keeps h = record {
   mapped = AllByRecursion-map (IsMapped w.blocks) (change_at block_of k f) w.ranges (AllByRecursion-weaker (IsMapped w.blocks) (λ r. IsMapped w.blocks (change_at block_of k f r)) w.ranges same h.mapped);
   distinct = EachPair-map (λ r t. r.block ≡ t.block → ⊥) (change_at block_of k f) w.ranges (λ r t p e. p (sym (block-change k f keeps r) ∙ (e ∙ block-change k f keeps t))) h.distinct;
   in_use = AllByRecursion-weaker (λ b. is_in_use b.number w ≡ true) (λ b. is_in_use b.number (record w { ranges = changed_at k f w.ranges }) ≡ true) w.blocks
-      (λ b p. use_kept (range_of b.number w.ranges) (range_of b.number (changed_at k f w.ranges)) _ (λ q. rw (at-changed block_of k b.number f w.ranges keeps.block) (option_map_some (change_at block_of k f) (range_of b.number w.ranges) q)) p) h.in_use;
+      (λ b p. use_kept (range_of b.number w.ranges) (range_of b.number (changed_at k f w.ranges)) _ (λ q. rw (at-changed block_of k b.number f w.ranges keeps.block) (still_some (change_at block_of k f) (range_of b.number w.ranges) q)) p) h.in_use;
 }
   where
     same : (r : Range) → IsMapped w.blocks r → IsMapped w.blocks (change_at block_of k f r)
@@ -103,18 +83,12 @@ changed_counted l k f w h changes = AllByRecursion-map (IsCounted l) (change_at 
 
 -- ---- what a task does to the counters of a range
 
--- a counter that rose leaves section and block
-risen_keeps : (counter : Counter) → KeepsPlace (risen counter)
-risen_keeps Structured = record { section = λ r. refl; block = λ r. refl }
-risen_keeps Dynamic = record { section = λ r. refl; block = λ r. refl }
-
 -- a task leaves section and block
 pub recounted_keeps : (task : Task) → KeepsPlace (recounted task)
-recounted_keeps (Enter Structured item queue) = record { section = λ r. refl; block = λ r. refl }
-recounted_keeps (Enter Dynamic item queue) = record { section = λ r. refl; block = λ r. refl }
-recounted_keeps (Leave holding) = record { section = λ r. refl; block = λ r. refl }
-recounted_keeps (Exit true item queue) = record { section = λ r. refl; block = λ r. refl }
-recounted_keeps (Exit false item queue) = record { section = λ r. refl; block = λ r. refl }
+recounted_keeps (Enter counter item queue) = risen_keeps counter
+recounted_keeps (Leave holding) = fallen_keeps Structured
+recounted_keeps (Exit true item queue) = cleared_keeps
+recounted_keeps (Exit false item queue) = fallen_keeps Dynamic
 recounted_keeps (Move if_present item queue) = record { section = λ r. refl; block = λ r. refl }
 
 -- the counter of a block is that of its range
@@ -320,10 +294,7 @@ drained_sound l (q ∷ qs) w h = drained_sound l qs (records_stepped q w) (stepp
 
 -- ---- a birth
 
-pub all_with : (P : Range → Type 0) (new : Range) (rs : List Range) → P new → AllByRecursion P rs → AllByRecursion P (with_range new rs)
-all_with P new [] n h = (n, tt)
-all_with P new (r ∷ rs) n h = elim (nat_lt new.section.start r.section.start) as (λ b. AllByRecursion P (cond b (new ∷ r ∷ rs) (r ∷ with_range new rs))) [ true ↦ (n, (h.0, h.1)) | false ↦ (h.0, all_with P new rs n h.1) ]
-
+-- what each two ranges have, and each with a new one on either side
 apart_with : (R : Range → Range → Type 0) (new : Range) (rs : List Range) → AllByRecursion (λ r. R new r × R r new) rs → EachPair R rs → EachPair R (with_range new rs)
 apart_with R new [] a h = (tt, tt)
 apart_with R new (r ∷ rs) a h = elim (nat_lt new.section.start r.section.start) as (λ b. EachPair R (cond b (new ∷ r ∷ rs) (r ∷ with_range new rs))) [

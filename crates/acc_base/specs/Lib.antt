@@ -1,6 +1,7 @@
 pub mod Limits
 pub mod Faults
 pub mod Results
+pub mod Splits
 pub mod Section
 pub mod Ranges
 pub mod Attachments

@@ -28,7 +28,7 @@ use Rattle.acc_base.proofs.Elements.{found_has, AllByRecursion-weaker}
 use Rattle.acc_base.proofs.Lending.{loans-with, loans-without}
 use Rattle.acc_base.proofs.Loaned.{with_loans, placed_loan}
 use Rattle.acc_base.proofs.Memories.{AreBrought, lent_sized, gathered_sized}
-use Rattle.acc_base.proofs.Accounted.{lend_legal, IsGathered, gather_legal}
+use Rattle.acc_base.proofs.LegalEvents.{lend_legal, IsGathered, gather_legal}
 use Rattle.acc_base.proofs.Registers.{AreFew}
 use Rattle.acc_dev.specs.Marks.{is_ended_at, IsMarkOf}
 use Rattle.acc_dev.specs.Device.{DeviceState, HasBlock, IsTakenOut, IsPutBack}

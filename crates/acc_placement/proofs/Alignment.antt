@@ -6,31 +6,31 @@ use Rattle.std.proofs.lemmas.List.Elements.{All-append, All-take, All-drop}
 use Rattle.acc_base.specs.Blocks.{rounded}
 
 -- what holds of each of two lists holds of the first
-pub all_front : (P : ℕ × ℕ → Type 0) (l r : List (ℕ × ℕ)) → All P (l ++ r) → All P l
-all_front P [] r a k d lt = absurd (omega arith)
-all_front P (h ∷ l) r a zero d lt = a zero d (omega arith)
-all_front P (h ∷ l) r a (suc k) d lt = all_front P l r (λ j e u. a (suc j) e (omega arith)) k d (omega arith)
+pub All-left : (P : ℕ × ℕ → Type 0) (l r : List (ℕ × ℕ)) → All P (l ++ r) → All P l
+All-left P [] r a k d lt = absurd (omega arith)
+All-left P (h ∷ l) r a zero d lt = a zero d (omega arith)
+All-left P (h ∷ l) r a (suc k) d lt = All-left P l r (λ j e u. a (suc j) e (omega arith)) k d (omega arith)
 
 -- what holds of each of two lists holds of the second
-pub all_rest : (P : ℕ × ℕ → Type 0) (l r : List (ℕ × ℕ)) → All P (l ++ r) → All P r
-all_rest P [] r a = a
-all_rest P (h ∷ l) r a = all_rest P l r (λ j e u. a (suc j) e (omega arith))
+pub All-right : (P : ℕ × ℕ → Type 0) (l r : List (ℕ × ℕ)) → All P (l ++ r) → All P r
+All-right P [] r a = a
+All-right P (h ∷ l) r a = All-right P l r (λ j e u. a (suc j) e (omega arith))
 
 -- what holds of each range holds of one between two lists
-pub all_middle : (P : ℕ × ℕ → Type 0) (l : List (ℕ × ℕ)) (x : ℕ × ℕ) (r : List (ℕ × ℕ)) → All P (l ++ x ∷ r) → P x
-all_middle P l x r a = all_rest P l (x ∷ r) a 0 x (omega arith)
+pub All-middle : (P : ℕ × ℕ → Type 0) (l : List (ℕ × ℕ)) (x : ℕ × ℕ) (r : List (ℕ × ℕ)) → All P (l ++ x ∷ r) → P x
+All-middle P l x r a = All-right P l (x ∷ r) a 0 x (omega arith)
 
 -- what holds of each range holds of those behind one
-pub all_back : (P : ℕ × ℕ → Type 0) (l : List (ℕ × ℕ)) (x : ℕ × ℕ) (r : List (ℕ × ℕ)) → All P (l ++ x ∷ r) → All P r
-all_back P l x r a k d lt = all_rest P l (x ∷ r) a (suc k) d (omega arith)
+pub All-behind : (P : ℕ × ℕ → Type 0) (l : List (ℕ × ℕ)) (x : ℕ × ℕ) (r : List (ℕ × ℕ)) → All P (l ++ x ∷ r) → All P r
+All-behind P l x r a k d lt = All-right P l (x ∷ r) a (suc k) d (omega arith)
 
 -- what holds of each range holds of each that is left without one
 pub All-remove : (P : ℕ × ℕ → Type 0) (xs : List (ℕ × ℕ)) (i : ℕ) → All P xs → All P (remove xs i)
 All-remove P xs i a = All-append P (take i xs) (drop (suc i) xs) (All-take P i xs a) (All-drop P (suc i) xs a)
 
 -- the range that an index reads
-pub all_at : (P : ℕ × ℕ → Type 0) (xs : List (ℕ × ℕ)) (i : ℕ) (x : ℕ × ℕ) → x ≡ get_or xs i x → i < length xs → All P xs → P x
-all_at P xs i x is lt a = subst P (sym is) (a i x lt)
+pub All-read : (P : ℕ × ℕ → Type 0) (xs : List (ℕ × ℕ)) (i : ℕ) (x : ℕ × ℕ) → x ≡ get_or xs i x → i < length xs → All P xs → P x
+All-read P xs i x is lt a = subst P (sym is) (a i x lt)
 
 -- the end of a taken range is a multiple of 16 where its place is
 pub end_aligned : (ts : List (ℕ × ℕ)) (size at end : ℕ) → Any (λ t. (end ≡ t.0 + rounded t.1) × (t.0 < at + size) × (at < end)) ts → All (λ t. t.0 % 16 ≡ 0) ts → end % 16 ≡ 0

@@ -15,16 +15,20 @@ use Rattle.acc_placement.proofs.Cutting.{cut_whole, cut_front}
 pub split_at : (hs : List (ℕ × ℕ)) (i : ℕ) (d : ℕ × ℕ) → i < length hs → hs ≡ take i hs ++ get_or hs i d ∷ drop (suc i) hs
 split_at hs i d lt = sym (take-append-drop i hs) ∙ ap (λ r. take i hs ++ r) (drop-cons hs i d lt)
 
+-- the same, round the range that was read there
+pub split_read : (hs : List (ℕ × ℕ)) (i : ℕ) (x : ℕ × ℕ) → x ≡ get_or hs i x → i < length hs → hs ≡ take i hs ++ x ∷ drop (suc i) hs
+split_read hs i x is lt = split_at hs i x lt ∙ ap (λ (y : ℕ × ℕ). take i hs ++ y ∷ drop (suc i) hs) (sym is)
+
 -- leaving out the hole at an index takes all of its addresses
 pub cut_at_whole : (low high : ℕ) (hs : List (ℕ × ℕ)) (i n : ℕ) (x : ℕ × ℕ) → x ≡ get_or hs i x → x.1 ≡ n → i < length hs → IsRising low hs high → IsCut low high hs (remove hs i) x.0 n
 cut_at_whole low high hs i n x at e lt s =
-    let split : hs ≡ take i hs ++ x ∷ drop (suc i) hs = split_at hs i x lt ∙ ap (λ y. take i hs ++ y ∷ drop (suc i) hs) (sym at) in
+    let split = split_read hs i x at lt in
     subst (λ (h : List (ℕ × ℕ)). IsCut low high h (remove hs i) x.0 n) (sym split) (cut_whole low (take i hs) x (drop (suc i) hs) high n e (subst (λ (h : List (ℕ × ℕ)). IsRising low h high) split s))
 
 -- making the hole at an index shorter at its front takes its first addresses
 pub cut_at_front : (low high : ℕ) (hs : List (ℕ × ℕ)) (i n : ℕ) (x : ℕ × ℕ) → x ≡ get_or hs i x → n < x.1 → i < length hs → IsRising low hs high → IsCut low high hs (set hs i (x.0 + n, x.1 - n)) x.0 n
 cut_at_front low high hs i n x at e lt s =
-    let split : hs ≡ take i hs ++ x ∷ drop (suc i) hs = split_at hs i x lt ∙ ap (λ y. take i hs ++ y ∷ drop (suc i) hs) (sym at) in
+    let split = split_read hs i x at lt in
     rw (set_split hs i (x.0 + n, x.1 - n) lt) (subst (λ (h : List (ℕ × ℕ)). IsCut low high h (take i hs ++ (x.0 + n, x.1 - n) ∷ drop (suc i) hs) x.0 n) (sym split) (cut_front low (take i hs) x (drop (suc i) hs) high n e (subst (λ (h : List (ℕ × ℕ)). IsRising low h high) split s)))
 
 -- the first hole that is large enough is so, as it was read
@@ -34,7 +38,7 @@ is_large hs i n x f at = subst (λ (y : ℕ × ℕ). n ≤ y.1) (get_or_default 
 -- the hole at i lies below the upper end
 pub hole_below : (low high : ℕ) (hs : List (ℕ × ℕ)) (i : ℕ) (x : ℕ × ℕ) → x ≡ get_or hs i x → i < length hs → IsRising low hs high → x.0 + x.1 ≤ high
 hole_below low high hs i x at lt s =
-    let split : hs ≡ take i hs ++ x ∷ drop (suc i) hs = split_at hs i x lt ∙ ap (λ y. take i hs ++ y ∷ drop (suc i) hs) (sym at) in
+    let split = split_read hs i x at lt in
     (rising_back low (take i hs) (x ∷ drop (suc i) hs) high (subst (λ (h : List (ℕ × ℕ)). IsRising low h high) split s)).2
 
 -- the place of the first hole that fits is the least place that fits

@@ -10,7 +10,7 @@ use Rattle.acc_base.specs.Holes.{IsIn, IsRising, total}
 use Rattle.acc_base.specs.Section.{Spans}
 use Rattle.acc_placement.specs.Changes.{IsFilled, IsAbsorbed}
 use Rattle.acc_placement.proofs.Rising.{after, rising_front, rising_back, rising_join, rising_from, in_join_left, in_join_right, in_parts, total-append}
-use Rattle.acc_placement.proofs.AtIndex.{split_at}
+use Rattle.acc_placement.proofs.AtIndex.{split_read}
 use Rattle.acc_placement.proofs.Cutting.{fill_between, fill_onto}
 
 -- the least place after ranges is one behind the end of the last
@@ -49,15 +49,15 @@ pub put_onto : (low high : ℕ) (hs : List (ℕ × ℕ)) (at p n : ℕ) (x : ℕ
 put_onto low high hs at p n x is pos within touch not_empty limit s behind =
     let lt : at - 1 < length hs = omega arith in
     let e : suc (at - 1) ≡ at = omega arith in
-    let split : hs ≡ take (at - 1) hs ++ x ∷ drop at hs = split_at hs (at - 1) x lt ∙ ap (λ (y : ℕ × ℕ). take (at - 1) hs ++ y ∷ drop (suc (at - 1)) hs) (sym is) ∙ ap (λ (k : ℕ). take (at - 1) hs ++ x ∷ drop k hs) e in
+    let split : hs ≡ take (at - 1) hs ++ x ∷ drop at hs = split_read hs (at - 1) x is lt ∙ ap (λ (k : ℕ). take (at - 1) hs ++ x ∷ drop k hs) e in
     let s2 : IsRising low (take (at - 1) hs ++ x ∷ drop at hs) high = subst (λ (h : List (ℕ × ℕ)). IsRising low h high) split s in
     let b = rising_back low (take (at - 1) hs) (x ∷ drop at hs) high s2 in
     let front : IsRising low (take (at - 1) hs ++ x ∷ []) high = rising_join low (take (at - 1) hs) (x ∷ []) high (rising_front low (take (at - 1) hs) (x ∷ drop at hs) high s2) (b.0, b.1, b.2, tt) in
     rw (set_split hs (at - 1) (x.0, x.1 + n) lt, e) (subst (λ (h : List (ℕ × ℕ)). IsFilled low high h (take (at - 1) hs ++ (x.0, x.1 + n) ∷ drop at hs) p n) (sym split) (fill_onto low (take (at - 1) hs) x (drop at hs) high p n front touch not_empty limit behind))
 
 -- what `put` leaves elsewhere
-pub put_in : (low high : ℕ) (hs : List (ℕ × ℕ)) (at p n : ℕ) → after low (take at hs) ≤ p → 0 < n → p + n ≤ high → IsRising low (take at hs) high → IsRising (p + n + 1) (drop at hs) high → IsFilled low high hs (insert hs at (p, n)) p n
-put_in low high hs at p n below not_empty limit front behind =
+pub put_between : (low high : ℕ) (hs : List (ℕ × ℕ)) (at p n : ℕ) → after low (take at hs) ≤ p → 0 < n → p + n ≤ high → IsRising low (take at hs) high → IsRising (p + n + 1) (drop at hs) high → IsFilled low high hs (insert hs at (p, n)) p n
+put_between low high hs at p n below not_empty limit front behind =
     subst (λ (h : List (ℕ × ℕ)). IsFilled low high h (take at hs ++ (p, n) ∷ drop at hs) p n) (take-append-drop at hs) (fill_between low (take at hs) (drop at hs) high p n front below not_empty limit behind)
 
 -- the last hole before the place does not end there
@@ -107,8 +107,8 @@ pub record IsParted (hs : List (ℕ × ℕ)) (at p n top : ℕ) : Type 0 where
   pub behind : IsRising (p + n) (drop at hs) top
 
 -- a place among the holes parts them into those that end before and those that begin behind
-pub parted : (xs hs : List (ℕ × ℕ)) (at p n top : ℕ) → xs ≡ hs → 0 < n → All (λ h. h.0 < p) (take at xs) → (at < length xs → p ≤ (get_or xs at (0, 0)).0) → ((a : ℕ) → Spans p n a → IsIn hs a → ⊥) → IsRising 0 hs top → IsParted hs at p n top
-parted xs hs at p n top e pos below not_below not_free s =
+pub holes_parted : (xs hs : List (ℕ × ℕ)) (at p n top : ℕ) → xs ≡ hs → 0 < n → All (λ h. h.0 < p) (take at xs) → (at < length xs → p ≤ (get_or xs at (0, 0)).0) → ((a : ℕ) → Spans p n a → IsIn hs a → ⊥) → IsRising 0 hs top → IsParted hs at p n top
+holes_parted xs hs at p n top e pos below not_below not_free s =
     let b : All (λ (h : ℕ × ℕ). h.0 < p) (take at hs) = subst (λ (l : List (ℕ × ℕ)). All (λ (h : ℕ × ℕ). h.0 < p) (take at l)) e below in
     let nb : at < length hs → p ≤ (get_or hs at (0, 0)).0 = subst (λ (l : List (ℕ × ℕ)). at < length l → p ≤ (get_or l at (0, 0)).0) e not_below in
     let j : take at hs ++ drop at hs ≡ hs = take-append-drop at hs in

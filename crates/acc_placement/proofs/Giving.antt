@@ -8,7 +8,7 @@ use Rattle.acc_placement.specs.Ranges.{IsAligned}
 use Rattle.acc_placement.specs.Changes.{IsFilled}
 use Rattle.acc_placement.specs.Space.{Space, IsCanonical, IsPartition, IsTaken, IsTakenFrom, IsGivenBack}
 use Rattle.acc_placement.proofs.Rising.{in_bounds, in_join_left, in_join_right, in_parts, total-append}
-use Rattle.acc_placement.proofs.Alignment.{all_front, all_middle, all_back}
+use Rattle.acc_placement.proofs.Alignment.{All-left, All-middle, All-behind}
 use Rattle.acc_placement.proofs.Counting.{IsEdged, length_holes}
 
 -- a list without one of its ranges
@@ -120,7 +120,7 @@ given_partition old new before after p n g part =
     record {
       count = omega (arith, part.count, g.taken, length-append before ((p, n) ∷ after), length-append before after);
       sizes = omega (arith, part.sizes, g.used, g.size, total-append before ((p, n) ∷ after), total-append before after);
-      aligned = All-append IsAligned before after (all_front IsAligned before ((p, n) ∷ after) part.aligned) (all_back IsAligned before (p, n) after part.aligned);
+      aligned = All-append IsAligned before after (All-left IsAligned before ((p, n) ∷ after) part.aligned) (All-behind IsAligned before (p, n) after part.aligned);
       disjoint = disjoint_shorter before after (p, n) part.disjoint;
       within = λ a i. rw (g.base, g.size) (part.within a (in_longer before after (p, n) a i));
       not_free = λ a i h. elim (g.free a h) [
@@ -148,7 +148,7 @@ tells_taken r p n pos s t =
       limit = taken_limit r t.before t.after p n pos t.partition;
       not_free = taken_not_free r t.before t.after p n t.partition;
       count = taken_count r t.before t.after p n t.partition;
-      aligned = (all_middle IsAligned t.before (p, n) t.after t.partition.aligned).0;
+      aligned = (All-middle IsAligned t.before (p, n) t.after t.partition.aligned).0;
       room = λ new top f. length_new r new t.before t.after p n top s t.partition f;
     }
 

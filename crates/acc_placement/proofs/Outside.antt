@@ -1,5 +1,5 @@
 -- Places outside of listed ranges.
-use Rattle.std.proofs.Common.{◌≡◌, ℕ, suc, ◌+◌, ◌<◌, ◌≤◌, ◌⊎◌, List, [], ◌∷◌, ◌++◌, inl, inr, arith, subst, sym, ap, ◌∙◌, length, take, drop, get_or}
+use Rattle.std.proofs.Common.{◌≡◌, ℕ, suc, ◌+◌, ◌<◌, ◌≤◌, ◌⊎◌, List, [], ◌∷◌, inl, inr, arith, subst, sym, ap, ◌∙◌, length, take, drop, get_or}
 use Rattle.std.specs.Prelude.{All, Any}
 use Rattle.std.proofs.lemmas.Bool.{cases_lt}
 use Rattle.acc_base.specs.Blocks.{rounded}
@@ -11,7 +11,7 @@ use Rattle.std.proofs.Math.Seq.{drop-cons}
 use Rattle.std.proofs.Common.{zero, add-one}
 use Rattle.acc_placement.specs.Changes.{IsBeside}
 use Rattle.acc_placement.proofs.Rising.{after, rising_back, fit_step, in_bounds}
-use Rattle.acc_placement.proofs.AtIndex.{split_at, hole_below}
+use Rattle.acc_placement.proofs.AtIndex.{split_read, hole_below}
 
 -- a place that is clear of each listed range is outside of all
 pub beside_all : (ts : List (ℕ × ℕ)) (n q : ℕ) → All (λ t. (q + n ≤ t.0) ⊎ (t.0 + rounded t.1 ≤ q)) ts → IsBeside ts n q
@@ -54,7 +54,7 @@ moved ts n at end top (k, t, lt, is, p) fits pos =
 -- one step of the walk along the holes
 pub tried : (low high : ℕ) (hs : List (ℕ × ℕ)) (i : ℕ) (x : ℕ × ℕ) (ts : List (ℕ × ℕ)) (n place : ℕ) → 0 < n → i < length hs → x ≡ get_or hs i x → IsRising low hs high → x.0 + x.1 < place + n → ((q : ℕ) → x.0 ≤ q → IsBeside ts n q → place ≤ q) → ((q : ℕ) → IsFitBeside hs (all_rounded ts) n q → IsFit (drop i hs) n q) → (q : ℕ) → IsFitBeside hs (all_rounded ts) n q → IsFit (drop (i + 1) hs) n q
 tried low high hs i x ts n place pos lt is s small least so_far q f =
-    let split : hs ≡ take i hs ++ x ∷ drop (suc i) hs = split_at hs i x lt ∙ ap (λ (y : ℕ × ℕ). take i hs ++ y ∷ drop (suc i) hs) (sym is) in
+    let split = split_read hs i x is lt in
     let b = rising_back low (take i hs) (x ∷ drop (suc i) hs) high (subst (λ (h : List (ℕ × ℕ)). IsRising low h high) split s) in
     let d : drop i hs ≡ x ∷ drop (suc i) hs = drop-cons hs i x lt ∙ ap (λ (y : ℕ × ℕ). y ∷ drop (suc i) hs) (sym is) in
     let g : IsFit (x ∷ drop (suc i) hs) n q = subst (λ (h : List (ℕ × ℕ)). IsFit h n q) d (so_far q f) in
@@ -66,7 +66,7 @@ tried low high hs i x ts n place pos lt is s small least so_far q f =
 -- the place at which the walk along the holes stops is the least
 pub found : (low high : ℕ) (hs : List (ℕ × ℕ)) (i : ℕ) (x : ℕ × ℕ) (ts : List (ℕ × ℕ)) (n place : ℕ) → 0 < n → i < length hs → x ≡ get_or hs i x → IsRising low hs high → x.0 ≤ place → place + n ≤ x.0 + x.1 → IsBeside ts n place → ((q : ℕ) → x.0 ≤ q → IsBeside ts n q → place ≤ q) → ((q : ℕ) → IsFitBeside hs (all_rounded ts) n q → IsFit (drop i hs) n q) → IsLeastFitBeside hs (all_rounded ts) n place
 found low high hs i x ts n place pos lt is s ge fits outside least so_far =
-    let split : hs ≡ take i hs ++ x ∷ drop (suc i) hs = split_at hs i x lt ∙ ap (λ (y : ℕ × ℕ). take i hs ++ y ∷ drop (suc i) hs) (sym is) in
+    let split = split_read hs i x is lt in
     let b = rising_back low (take i hs) (x ∷ drop (suc i) hs) high (subst (λ (h : List (ℕ × ℕ)). IsRising low h high) split s) in
     let d : drop i hs ≡ x ∷ drop (suc i) hs = drop-cons hs i x lt ∙ ap (λ (y : ℕ × ℕ). y ∷ drop (suc i) hs) (sym is) in (
       λ a w. (in_at hs i x a lt (sym is) (omega arith, omega arith), outside a w),

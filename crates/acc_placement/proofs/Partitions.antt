@@ -1,5 +1,5 @@
 -- What a caller that keeps a list of its taken ranges does with it.
-use Rattle.std.proofs.Common.{◌≡◌, ℕ, suc, ◌+◌, ◌<◌, ◌↔◌, List, [], ◌∷◌, ◌++◌, inl, inr, arith, sym, subst, ap, ◌∙◌, length, take, drop, get_or, length-append}
+use Rattle.std.proofs.Common.{◌≡◌, ℕ, suc, ◌+◌, ◌<◌, ◌↔◌, List, [], ◌∷◌, ◌++◌, inl, inr, arith, sym, subst, ◌∙◌, length, take, drop, get_or, length-append}
 use Rattle.std.specs.List.{remove}
 use Rattle.std.proofs.lemmas.List.{append-nil}
 use Rattle.std.proofs.lemmas.List.Elements.{All-append, All-cons}
@@ -8,8 +8,8 @@ use Rattle.acc_base.specs.Section.{Spans}
 use Rattle.acc_placement.specs.Ranges.{IsFit, IsAligned}
 use Rattle.acc_placement.specs.Space.{Space, IsCanonical, IsPartition, IsTaken, IsSameSpace}
 use Rattle.acc_placement.proofs.Rising.{in_bounds, rising_disjoint, disjoint_join, in_join_left, in_join_right, in_parts, total-append}
-use Rattle.acc_placement.proofs.Alignment.{all_front, all_rest, all_middle, all_back}
-use Rattle.acc_placement.proofs.AtIndex.{split_at}
+use Rattle.acc_placement.proofs.Alignment.{All-left, All-right, All-middle, All-behind}
+use Rattle.acc_placement.proofs.AtIndex.{split_read}
 
 -- the taken ranges of an unchanged space
 pub partition_unchanged : (old new : Space) (ts : List (ℕ × ℕ)) → IsSameSpace old new → IsPartition old ts → IsPartition new ts
@@ -47,16 +47,12 @@ partition_moved r before after x p =
     record {
       count = omega (arith, p.count, length-append before (x ∷ after), length-append before after);
       sizes = omega (arith, p.sizes, total-append before (x ∷ after), total-append before after);
-      aligned = All-append IsAligned before (x ∷ after) (all_front IsAligned before after (all_back IsAligned [] x (before ++ after) p.aligned)) (All-cons IsAligned x after (all_middle IsAligned [] x (before ++ after) p.aligned) (all_rest IsAligned before after (all_back IsAligned [] x (before ++ after) p.aligned)));
+      aligned = All-append IsAligned before (x ∷ after) (All-left IsAligned before after (All-behind IsAligned [] x (before ++ after) p.aligned)) (All-cons IsAligned x after (All-middle IsAligned [] x (before ++ after) p.aligned) (All-right IsAligned before after (All-behind IsAligned [] x (before ++ after) p.aligned)));
       disjoint = disjoint_moved before after x p.disjoint;
       within = λ a i. p.within a (in_front before after x a i);
       not_free = λ a i h. p.not_free a (in_front before after x a i) h;
       covered = λ a w. elim (p.covered a w) [ inl h ↦ inl h | inr i ↦ inr (in_moved before after x a i) ];
     }
-
--- a list is what stands before an index, the range that was read there, and what stands behind
-split : (ts : List (ℕ × ℕ)) (i : ℕ) (x : ℕ × ℕ) → x ≡ get_or ts i x → i < length ts → ts ≡ take i ts ++ x ∷ drop (suc i) ts
-split ts i x is lt = split_at ts i x lt ∙ ap (λ (y : ℕ × ℕ). take i ts ++ y ∷ drop (suc i) ts) (sym is)
 
 -- the newest range, put at the end
 pub partition_last : (r : Space) (ts : List (ℕ × ℕ)) (x : ℕ × ℕ) → IsPartition r (x ∷ ts) → IsPartition r (ts ++ x ∷ [])
@@ -68,12 +64,12 @@ taken_at r ts i x n is size lt p =
     record {
       before = take i ts;
       after = drop (suc i) ts;
-      partition = rw size (subst (λ (l : List (ℕ × ℕ)). IsPartition r l) (split ts i x is lt) p);
+      partition = rw size (subst (λ (l : List (ℕ × ℕ)). IsPartition r l) (split_read ts i x is lt) p);
     }
 
 -- the list without the range at an index, which was given back
 pub partition_without : (old new : Space) (ts : List (ℕ × ℕ)) (i : ℕ) (x : ℕ × ℕ) (n : ℕ) → x ≡ get_or ts i x → n ≡ x.1 → i < length ts → IsPartition old ts → ((before after : List (ℕ × ℕ)) → IsPartition old (before ++ (x.0, n) ∷ after) → IsPartition new (before ++ after)) → IsPartition new (remove ts i)
-partition_without old new ts i x n is size lt p back = back (take i ts) (drop (suc i) ts) (rw size (subst (λ (l : List (ℕ × ℕ)). IsPartition old l) (split ts i x is lt) p))
+partition_without old new ts i x n is size lt p back = back (take i ts) (drop (suc i) ts) (rw size (subst (λ (l : List (ℕ × ℕ)). IsPartition old l) (split_read ts i x is lt) p))
 
 -- addresses of the space that are in no taken range are free
 pub fit_where_clear : (r : Space) (ts : List (ℕ × ℕ)) (n q : ℕ) → IsPartition r ts → ((a : ℕ) → Spans q n a → Spans r.base r.size a × ¬ IsIn ts a) → IsFit r.holes n q

@@ -1,19 +1,20 @@
 -- Where a section lies, one range after the other.
-use Rattle.std.proofs.Common.{ℕ, zero, suc, ◌≡◌, ◌+◌, ◌<◌, ◌≤◌, refl, sym, ap, ◌∙◌, subst, Bool, true, false, cond, List, [], ◌∷◌, ◌++◌, length, get_or, take, drop, drop-cons, Option, Some, None, arith}
-use Rattle.std.specs.Prelude.{◌==◌, ◌-◌, not, nat_le, find, filter}
+use Rattle.std.proofs.Common.{ℕ, zero, suc, ◌≡◌, ◌<◌, ◌≤◌, refl, sym, ap, ◌∙◌, subst, Bool, true, false, cond, List, [], ◌∷◌, length, get_or, take, drop, drop-cons, None, arith}
+use Rattle.std.specs.Prelude.{◌==◌, ◌-◌, not, nat_lt}
 use Rattle.std.specs.List.{AllByRecursion, list_all, list_any}
 use Rattle.std.proofs.lemmas.Bool.Decides.{nat_tests}
 use Rattle.acc_base.specs.declared.items.Section.{Section}
 use Rattle.acc_base.specs.declared.mappings.Range.{Range}
 use Rattle.acc_base.specs.declared.mappings.Found.{Found}
-use Rattle.acc_base.specs.declared.mappings.Found.TheVariants.{Empty, Inside, Partly, Absent}
+use Rattle.acc_base.specs.declared.mappings.Found.TheVariants.{Inside, Partly, Absent}
 use Rattle.acc_base.specs.Section.{is_empty, is_within, is_apart, end_of}
 use Rattle.acc_base.specs.Ranges.{where_is, where_is_apart, without_ranges, range_around, found_in}
+use Rattle.acc_base.specs.Splits.{IsSplitBy}
 use Rattle.acc_base.specs.Accounts.{EachPair, IsBelow}
 use Rattle.acc_base.proofs.Elements.{AllByRecursion-weaker, AllByRecursion-both, AllByRecursion-filter, find-none, list_all-to}
 use Rattle.acc_present.specs.Present.{AreMapped}
 use Rattle.acc_present.specs.Kept.{no_range}
-use Rattle.acc_present.proofs.Keyed.{all_at, all-drop, pairs-drop}
+use Rattle.acc_present.proofs.Keyed.{all-drop, pairs-drop, keys_below}
 
 -- one of the listed blocks is this one
 abbrev pub is_listed : List ℕ → ℕ → Bool
@@ -98,11 +99,12 @@ skip_front s blocks (r ∷ rs) zero some lens ends = refl
 skip_front s blocks (r ∷ rs) (suc i) some lens ends = skip_below s blocks r rs some lens.0 ends.0 ∙ skip_front s blocks rs i some lens.1 ends.1
 
 -- so a search may begin at the place before that of the section's start
-pub found_from : (s : Section) (blocks : List ℕ) (rs : List Range) (at from : ℕ) → 0 < s.len → AreMapped rs → at ≤ length rs → AllByRecursion (λ (r : Range). r.section.start < s.start) (take at rs) → from ≡ at - 1 → where_is_apart s blocks rs ≡ where_is_apart s blocks (drop from rs)
-found_from s blocks rs zero from some m bound below is = let zero_is : from ≡ 0 = omega arith in rw zero_is refl
-found_from s blocks rs (suc i) from some m bound below is =
+pub found_from : (s : Section) (blocks : List ℕ) (rs : List Range) (at from : ℕ) → 0 < s.len → AreMapped rs → IsSplitBy (λ (r : Range). nat_lt r.section.start s.start) rs at → from ≡ at - 1 → where_is_apart s blocks rs ≡ where_is_apart s blocks (drop from rs)
+found_from s blocks rs zero from some m parts is = let zero_is : from ≡ 0 = omega arith in rw zero_is refl
+found_from s blocks rs (suc i) from some m parts is =
+    let within = parts.bound in
     let same : from ≡ i = omega arith in
-    rw same (skip_front s blocks rs i some m.some (ends_below rs i s.start m.rising (omega arith) below))
+    rw same (skip_front s blocks rs i some m.some (ends_below rs i s.start m.rising (omega arith) (keys_below (λ r. r.section.start) s.start rs (suc i) parts)))
 
 -- what the range at a place tells of the ranges from it on, it tells of all, where those before it say nothing
 pub told_here : (s : Section) (blocks : List ℕ) (rs : List Range) (i : ℕ) (found : Found) → i < length rs → AreMapped rs

@@ -1,6 +1,6 @@
 -- Blocks above those of all ranges, and blocks that a look-up names.
 use Rattle.std.proofs.Common.{ℕ, ◌≡◌, ◌+◌, ◌<◌, refl, Bool, true, false, cond, List, [], ◌∷◌, Some, None, IsSome, arith}
-use Rattle.std.specs.Prelude.{◌==◌, not, find, nat_lt}
+use Rattle.std.specs.Prelude.{◌==◌, not, find}
 use Rattle.std.specs.List.{AllByRecursion}
 use Rattle.std.proofs.lemmas.Bool.Decides.{nat_tests}
 use Rattle.acc_base.specs.declared.items.Section.{Section}
@@ -9,6 +9,7 @@ use Rattle.acc_base.specs.declared.mappings.Found.TheVariants.{Inside}
 use Rattle.acc_base.specs.Section.{is_within}
 use Rattle.acc_base.specs.Ranges.{where_is, range_of, with_range, without_range, bare_range}
 use Rattle.acc_base.proofs.Where.{inside_says}
+use Rattle.acc_base.proofs.RangeChanges.{all_with}
 use Rattle.acc_base.proofs.Elements.{AllByRecursion-weaker, AllByRecursion-filter, find-none}
 
 -- a block above those of all ranges has none
@@ -19,27 +20,18 @@ fresh_none n rs h = find-none (λ r. r.block == n) rs (AllByRecursion-weaker (λ
 pub fresh_later : (n : ℕ) (rs : List Range) → AllByRecursion (λ r. r.block < n) rs → AllByRecursion (λ r. r.block < n + 1) rs
 fresh_later n rs h = AllByRecursion-weaker (λ r. r.block < n) (λ r. r.block < n + 1) rs (λ r less. omega arith) h
 
--- blocks below a number stay below it where a range with such a block is added
-fresh_with : (n : ℕ) (new : Range) (rs : List Range) → new.block < n → AllByRecursion (λ r. r.block < n) rs → AllByRecursion (λ r. r.block < n) (with_range new rs)
-fresh_with n new [] p h = (p, tt)
-fresh_with n new (r ∷ rs) p h = go (fresh_with n new rs p h.1) (nat_lt new.section.start r.section.start)
-  where
-    go : AllByRecursion (λ r. r.block < n) (with_range new rs) → (b : Bool) → AllByRecursion (λ r. r.block < n) (cond b (new ∷ r ∷ rs) (r ∷ with_range new rs))
-    go rest true = (p, h)
-    go rest false = (h.0, rest)
-
 -- a range with a block above all others leaves the next block above them all
 pub fresh_added : (s : Section) (n : ℕ) (rs : List Range) → AllByRecursion (λ r. r.block < n) rs → AllByRecursion (λ r. r.block < n + 1) (with_range (bare_range s n) rs)
-fresh_added s n rs h = fresh_with (n + 1) (bare_range s n) rs (omega arith) (fresh_later n rs h)
+fresh_added s n rs h = all_with (λ r. r.block < n + 1) (bare_range s n) rs (omega arith) (fresh_later n rs h)
 
 -- blocks below a number stay below it where a range is taken out
 pub fresh_without : (n block : ℕ) (rs : List Range) → AllByRecursion (λ r. r.block < n) rs → AllByRecursion (λ r. r.block < n) (without_range block rs)
 fresh_without n block rs h = AllByRecursion-filter (λ r. r.block < n) (λ r. not (r.block == block)) rs h
 
 -- the first range that passes a test has a block, and so that block has a range
-same_block : (p : Range → Bool) (rs : List Range) (r : Range) → find p rs ≡ Some r → IsSome (range_of r.block rs)
-same_block p [] r e = cc
-same_block p (x ∷ xs) r e = go (same_block p xs r) (p x) e (x.block == r.block) refl
+block_there : (p : Range → Bool) (rs : List Range) (r : Range) → find p rs ≡ Some r → IsSome (range_of r.block rs)
+block_there p [] r e = cc
+block_there p (x ∷ xs) r e = go (block_there p xs r) (p x) e (x.block == r.block) refl
   where
     go : (find p xs ≡ Some r → IsSome (range_of r.block xs)) → (b : Bool) → cond b (Some x) (find p xs) ≡ Some r → (d : Bool) → (x.block == r.block) ≡ d → IsSome (cond d (Some x) (range_of r.block xs))
     go rest b h true f = refl
@@ -50,4 +42,4 @@ same_block p (x ∷ xs) r e = go (same_block p xs r) (p x) e (x.block == r.block
 pub inside_there : (s : Section) (rs : List Range) (block offset : ℕ) → where_is s rs ≡ Inside block offset → IsSome (range_of block rs)
 inside_there s rs block offset e =
     let told = inside_says s rs block offset e in
-    rw (← told.1.block_is) (same_block (λ r. is_within s r.section) rs told.0 told.1.around)
+    rw (← told.1.block_is) (block_there (λ r. is_within s r.section) rs told.0 told.1.around)

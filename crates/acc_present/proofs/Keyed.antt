@@ -1,48 +1,32 @@
 -- Lists whose elements have a key that rises or tells them apart: searches by the key, and changes at a place.
-use Rattle.std.proofs.Common.{ℕ, zero, suc, ◌≡◌, ◌<◌, ◌≤◌, refl, sym, ap, ◌∙◌, Bool, true, false, cond, List, [], ◌∷◌, length, get_or, set, take, drop, insert, Option, Some, None, IsSome, arith, rules, inl, inr, ltb}
-use Rattle.std.specs.Prelude.{◌==◌, not, map, find, filter, option_map, nat_lt, nat_le}
+use Rattle.std.proofs.Common.{ℕ, zero, suc, ◌≡◌, ◌<◌, ◌≤◌, refl, sym, ap, Bool, true, false, cond, List, [], ◌∷◌, length, get_or, set, take, drop, insert, Some, None, IsSome, arith, rules}
+use Rattle.std.specs.Prelude.{◌==◌, not, map, find, filter, nat_lt, nat_le}
 use Rattle.std.specs.List.{AllByRecursion, remove}
-use Rattle.std.specs.List.Sorted.{IsPartitionPoint, IsNonDecreasingBy}
-use Rattle.std.proofs.lemmas.Bool.{cases_eq, false≢true}
 use Rattle.std.proofs.lemmas.Bool.Decides.{nat_tests}
-use Rattle.std.proofs.lemmas.List.Sorted.{IsNonDecreasingBy-from_default, IsNonDecreasingBy-short}
+use Rattle.acc_base.specs.Splits.{IsSplitBy}
 use Rattle.acc_base.specs.Accounts.{EachPair}
 use Rattle.acc_base.proofs.Results.{equal, equal_self}
-use Rattle.acc_base.proofs.Elements.{AllByRecursion-weaker, AllByRecursion-both, find_none, find-none, found_has}
-use Rattle.acc_base.proofs.Lookups as lookups
-use Rattle.acc_present.specs.Kept.{IsSplitBy}
+use Rattle.acc_base.proofs.Elements.{AllByRecursion-weaker, AllByRecursion-both, EachPair-weaker, find_none, find-none, found_has}
+use Rattle.acc_base.proofs.Splitting.{all_at}
+use Rattle.acc_base.proofs.Lookups.{at, AreDistinct, at-without_same, at-without_other}
 
 -- ---- each element
 
-pub all_at : {X : Type 0} (P : X → Type 0) (xs : List X) (i : ℕ) (d : X) → i < length xs → AllByRecursion P xs → P (get_or xs i d)
-all_at P [] i d lt h = absurd (omega arith)
-all_at P (x ∷ xs) zero d lt h = h.0
-all_at P (x ∷ xs) (suc i) d lt h = all_at P xs i d (omega arith) h.1
-
-all_front : {X : Type 0} (P : X → Type 0) (xs : List X) (i : ℕ) → ((k : ℕ) (d : X) → k < i → P (get_or xs k d)) → AllByRecursion P (take i xs)
-all_front P [] zero h = tt
-all_front P [] (suc i) h = tt
-all_front P (x ∷ xs) zero h = tt
-all_front P (x ∷ xs) (suc i) h = (h 0 x (omega arith), all_front P xs i (λ k d lt. h (suc k) d (omega arith)))
-
-all_back : {X : Type 0} (P : X → Type 0) (xs : List X) (i : ℕ) → ((k : ℕ) (d : X) → i ≤ k → k < length xs → P (get_or xs k d)) → AllByRecursion P (drop i xs)
-all_back P [] zero h = tt
-all_back P [] (suc i) h = tt
-all_back P (x ∷ xs) zero h = (h 0 x (omega arith) (omega arith), all_back P xs 0 (λ k d le lt. h (suc k) d (omega arith) (omega arith)))
-all_back P (x ∷ xs) (suc i) h = all_back P xs i (λ k d le lt. h (suc k) d (omega arith) (omega arith))
-
+-- what all have, the first have
 pub all-take : {X : Type 0} (P : X → Type 0) (xs : List X) (i : ℕ) → AllByRecursion P xs → AllByRecursion P (take i xs)
 all-take P [] zero h = tt
 all-take P [] (suc i) h = tt
 all-take P (x ∷ xs) zero h = tt
 all-take P (x ∷ xs) (suc i) h = (h.0, all-take P xs i h.1)
 
+-- and so have the others
 pub all-drop : {X : Type 0} (P : X → Type 0) (xs : List X) (i : ℕ) → AllByRecursion P xs → AllByRecursion P (drop i xs)
 all-drop P [] zero h = tt
 all-drop P [] (suc i) h = tt
 all-drop P (x ∷ xs) zero h = h
 all-drop P (x ∷ xs) (suc i) h = all-drop P xs i h.1
 
+-- what all have and a new one, all have with it
 pub all-insert : {X : Type 0} (P : X → Type 0) (xs : List X) (i : ℕ) (new : X) → AllByRecursion P xs → P new → AllByRecursion P (insert xs i new)
 all-insert P [] zero new h p = (p, tt)
 all-insert P [] (suc i) new h p = (p, tt)
@@ -51,12 +35,14 @@ all-insert P (x ∷ xs) (suc i) new h p = (h.0, all-insert P xs i new h.1 p)
 
 -- ---- each pair
 
+-- what each two have, each two have behind a place
 pub pairs-drop : {X : Type 0} (R : X → X → Type 0) (xs : List X) (i : ℕ) → EachPair R xs → EachPair R (drop i xs)
 pairs-drop R [] zero h = tt
 pairs-drop R [] (suc i) h = tt
 pairs-drop R (x ∷ xs) zero h = h
 pairs-drop R (x ∷ xs) (suc i) h = pairs-drop R xs i h.1
 
+-- what each two have, and each with a new one in its place, each two have with it
 pub pairs-insert : {X : Type 0} (R : X → X → Type 0) (xs : List X) (i : ℕ) (new : X) → EachPair R xs → AllByRecursion (λ x. R x new) (take i xs) → AllByRecursion (R new) (drop i xs) → EachPair R (insert xs i new)
 pairs-insert R [] zero new h below above = (tt, tt)
 pairs-insert R [] (suc i) new h below above = (tt, tt)
@@ -70,107 +56,101 @@ module _ {X : Type 0} (key : X → ℕ) where
   abbrev pub Rise : List X → Type 0
   Rise xs = EachPair (λ x y. key x < key y) xs
 
-  -- the keys differ
-  abbrev pub Differ : List X → Type 0
-  Differ xs = EachPair (λ x y. key x ≡ key y → ⊥) xs
+  -- rising keys differ
+  pub rise_distinct : (xs : List X) → Rise xs → AreDistinct key xs
+  rise_distinct [] h = tt
+  rise_distinct (x ∷ xs) h = (AllByRecursion-weaker (λ y. key x < key y) (λ y. key x ≡ key y → ⊥) xs (λ y less same. absurd (omega arith)) h.0, rise_distinct xs h.1)
 
-  -- the element of a key
-  abbrev pub at : ℕ → List X → Option X
-  at number xs = find (λ x. key x == number) xs
+  -- ---- a search by halves
 
-  pub differ : (xs : List X) → Rise xs → Differ xs
-  differ [] h = tt
-  differ (x ∷ xs) h = (AllByRecursion-weaker (λ y. key x < key y) (λ y. key x ≡ key y → ⊥) xs (λ y less same. absurd (omega arith)) h.0, differ xs h.1)
+  -- the key of an element is below a number
+  abbrev pub is_key_below : ℕ → X → Bool
+  is_key_below number x = nat_lt (key x) number
 
-  rise_at : (xs : List X) (i j : ℕ) (d : X) → Rise xs → i < j → j < length xs → key (get_or xs i d) < key (get_or xs j d)
-  rise_at [] i j d r lt within = absurd (omega arith)
-  rise_at (x ∷ xs) i zero d r lt within = absurd (omega arith)
-  rise_at (x ∷ xs) zero (suc j) d r lt within = all_at (λ y. key x < key y) xs j d (omega arith) r.0
-  rise_at (x ∷ xs) (suc i) (suc j) d r lt within = rise_at xs i j d r.1 (omega arith) (omega arith)
+  -- keys below a number stand first where keys rise
+  pub below_first : (number : ℕ) (xs : List X) → Rise xs → EachPair (λ x y. is_key_below number y ≡ true → is_key_below number x ≡ true) xs
+  below_first number xs r = EachPair-weaker (λ x y. key x < key y) (λ x y. is_key_below number y ≡ true → is_key_below number x ≡ true) xs (λ x y less e. grind (arith, nat_tests)) r
 
-  rise_to : (xs : List X) (i j : ℕ) (d : X) → Rise xs → i ≤ j → j < length xs → key (get_or xs i d) ≤ key (get_or xs j d)
-  rise_to xs i j d r le within = elim (cases_eq i j) [
-    | inl same ↦ omega (arith, ap (λ (k : ℕ). key (get_or xs k d)) same)
-    | inr differs ↦ omega (arith, rise_at xs i j d r (omega arith) within)
-  ]
+  -- the keys before the place of a number are below it
+  pub keys_below : (number : ℕ) (xs : List X) (i : ℕ) → IsSplitBy (is_key_below number) xs i → AllByRecursion (λ x. key x < number) (take i xs)
+  keys_below number xs i parts = AllByRecursion-weaker (λ x. is_key_below number x ≡ true) (λ x. key x < number) (take i xs) (λ x e. grind (arith, nat_tests)) parts.passed
 
-  -- rising keys do not fall, as a search by halves asks
-  pub non_decreasing : (xs : List X) → Rise xs → IsNonDecreasingBy key xs
-  non_decreasing [] r = IsNonDecreasingBy-short key [] (omega arith)
-  non_decreasing (x ∷ xs) r = IsNonDecreasingBy-from_default key (x ∷ xs) x (λ i j le within. rise_to (x ∷ xs) i j x r le within)
+  -- and those from it on are not
+  pub keys_from : (number : ℕ) (xs : List X) (i : ℕ) → IsSplitBy (is_key_below number) xs i → AllByRecursion (λ x. number ≤ key x) (drop i xs)
+  keys_from number xs i parts = AllByRecursion-weaker (λ x. is_key_below number x ≡ false) (λ x. number ≤ key x) (drop i xs) (λ x e. grind (arith, nat_tests)) parts.failed
 
-  -- where a search by halves ends
-  pub split : (xs : List X) (number i : ℕ) → i ≤ length xs → IsPartitionPoint (λ x. ltb (key x) number ≡ true) (λ x. ltb (key x) number ≡ false) xs i → IsSplitBy key number xs i
-  split xs number i bound parts = record {
-    bound = bound;
-    below = all_front (λ x. key x < number) xs i (λ k d lt. let t : ltb (key (get_or xs k d)) number ≡ true = parts.0 k d (omega arith) lt in grind (arith, nat_tests));
-    above = all_back (λ x. number ≤ key x) xs i (λ k d le lt. let t : ltb (key (get_or xs k d)) number ≡ false = parts.1 k d le lt in grind (arith, nat_tests));
-  }
+  -- the others are split at the place before
+  split_rest : (number : ℕ) (x : X) (xs : List X) (i : ℕ) → IsSplitBy (is_key_below number) (x ∷ xs) (suc i) → IsSplitBy (is_key_below number) xs i
+  split_rest number x xs i parts = record { bound = omega (arith, parts.bound); passed = parts.passed.1; failed = parts.failed }
+
+  -- ---- the element of a key
 
   -- no key is this one where all are above it
-  at-above : (number : ℕ) (xs : List X) → AllByRecursion (λ x. number < key x) xs → at number xs ≡ None
+  at-above : (number : ℕ) (xs : List X) → AllByRecursion (λ x. number < key x) xs → at key number xs ≡ None
   at-above number xs h = find-none (λ x. key x == number) xs (AllByRecursion-weaker (λ x. number < key x) (λ x. (key x == number) ≡ false) xs (λ x less. grind (arith, nat_tests)) h)
 
   -- what stands at the place of a key that is there
   pub record IsFoundAt (number : ℕ) (xs : List X) (i : ℕ) (d : X) : Type 0 where
     pub bound : i < length xs
     pub key_is : key (get_or xs i d) ≡ number
-    pub found : at number xs ≡ Some (get_or xs i d)
+    pub found : at key number xs ≡ Some (get_or xs i d)
 
-  pub found_at : (number : ℕ) (xs : List X) (i : ℕ) (d : X) → Rise xs → AllByRecursion (λ x. key x < number) (take i xs) → AllByRecursion (λ x. number ≤ key x) (drop i xs) → IsSome (at number xs) → IsFoundAt number xs i d
-  found_at number [] i d r below above there = absurd (search (rules, there))
-  found_at number (x ∷ xs) zero d r below above there = go (key x == number) refl there
+  -- an element that is there stands at the place of its key
+  pub found_at : (number : ℕ) (xs : List X) (i : ℕ) (d : X) → Rise xs → IsSplitBy (is_key_below number) xs i → IsSome (at key number xs) → IsFoundAt number xs i d
+  found_at number [] i d r parts there = absurd (search (rules, there))
+  found_at number (x ∷ xs) zero d r parts there = go (key x == number) refl there
     where
-      go : (b : Bool) → (key x == number) ≡ b → IsSome (cond b (Some x) (at number xs)) → IsFoundAt number (x ∷ xs) zero d
+      go : (b : Bool) → (key x == number) ≡ b → IsSome (cond b (Some x) (at key number xs)) → IsFoundAt number (x ∷ xs) zero d
       go true e s = record { bound = omega arith; key_is = equal _ _ e; found = rw e }
       go false e s =
-          let lowest : number < key x = grind (arith, nat_tests, above.0) in
-          let none : at number xs ≡ None = at-above number xs (AllByRecursion-weaker (λ y. key x < key y) (λ y. number < key y) xs (λ y less. omega arith) r.0) in
+          let least = parts.failed.0 in
+          let lowest : number < key x = grind (arith, nat_tests) in
+          let none : at key number xs ≡ None = at-above number xs (AllByRecursion-weaker (λ y. key x < key y) (λ y. number < key y) xs (λ y less. omega arith) r.0) in
           absurd (search (rules, rw none at s))
-  found_at number (x ∷ xs) (suc i) d r below above there =
-      let less : key x < number = below.0 in
+  found_at number (x ∷ xs) (suc i) d r parts there =
+      let less = parts.passed.0 in
       let t : (key x == number) ≡ false = grind (arith, nat_tests) in
-      let later = found_at number xs i d r.1 below.1 above (rw t at there) in
+      let later = found_at number xs i d r.1 (split_rest number x xs i parts) (rw t at there) in
       record { bound = omega (arith, later.bound); key_is = later.key_is; found = rw t later.found }
 
   -- the place of a key that is there is within the list
-  pub found_within : (number : ℕ) (xs : List X) (i : ℕ) → AllByRecursion (λ x. key x < number) (take i xs) → IsSome (at number xs) → i < length xs
-  found_within number [] i below there = absurd (search (rules, there))
-  found_within number (x ∷ xs) zero below there = omega arith
-  found_within number (x ∷ xs) (suc i) below there =
-      let less : key x < number = below.0 in
+  pub found_within : (number : ℕ) (xs : List X) (i : ℕ) → IsSplitBy (is_key_below number) xs i → IsSome (at key number xs) → i < length xs
+  found_within number [] i parts there = absurd (search (rules, there))
+  found_within number (x ∷ xs) zero parts there = omega arith
+  found_within number (x ∷ xs) (suc i) parts there =
+      let less = parts.passed.0 in
       let t : (key x == number) ≡ false = grind (arith, nat_tests) in
-      omega (arith, found_within number xs i below.1 (rw t at there))
+      omega (arith, found_within number xs i (split_rest number x xs i parts) (rw t at there))
 
   -- what stands at the place of a number is the element of that key, if it has it
-  pub at_place : (number : ℕ) (xs : List X) (i : ℕ) (d : X) → AllByRecursion (λ x. key x < number) (take i xs) → i < length xs → key (get_or xs i d) ≡ number → at number xs ≡ Some (get_or xs i d)
-  at_place number [] i d below within is = absurd (omega arith)
-  at_place number (x ∷ xs) zero d below within is = let t : (key x == number) ≡ true = grind (arith, nat_tests) in rw t
-  at_place number (x ∷ xs) (suc i) d below within is =
-      let less : key x < number = below.0 in
+  pub at_place : (number : ℕ) (xs : List X) (i : ℕ) (d : X) → IsSplitBy (is_key_below number) xs i → i < length xs → key (get_or xs i d) ≡ number → at key number xs ≡ Some (get_or xs i d)
+  at_place number [] i d parts within is = absurd (omega arith)
+  at_place number (x ∷ xs) zero d parts within is = let t : (key x == number) ≡ true = grind (arith, nat_tests) in rw t
+  at_place number (x ∷ xs) (suc i) d parts within is =
+      let less = parts.passed.0 in
       let t : (key x == number) ≡ false = grind (arith, nat_tests) in
-      rw t (at_place number xs i d below.1 (omega arith) is)
+      rw t (at_place number xs i d (split_rest number x xs i parts) (omega arith) is)
 
   -- and else there is none
-  pub at_no_place : (number : ℕ) (xs : List X) (i : ℕ) (d : X) → Rise xs → AllByRecursion (λ x. key x < number) (take i xs) → AllByRecursion (λ x. number ≤ key x) (drop i xs) → (i < length xs → key (get_or xs i d) ≡ number → ⊥) → at number xs ≡ None
-  at_no_place number [] i d r below above other = refl
-  at_no_place number (x ∷ xs) zero d r below above other =
-      let least : number ≤ key x = above.0 in
+  pub at_no_place : (number : ℕ) (xs : List X) (i : ℕ) (d : X) → Rise xs → IsSplitBy (is_key_below number) xs i → (i < length xs → key (get_or xs i d) ≡ number → ⊥) → at key number xs ≡ None
+  at_no_place number [] i d r parts other = refl
+  at_no_place number (x ∷ xs) zero d r parts other =
+      let least = parts.failed.0 in
       let differs : key x ≡ number → ⊥ = other (omega arith) in
       let t : (key x == number) ≡ false = grind (arith, nat_tests) in
-      let less : number < key x = omega arith in
+      let less : number < key x = grind (arith, nat_tests, differs) in
       rw t (at-above number xs (AllByRecursion-weaker (λ y. key x < key y) (λ y. number < key y) xs (λ y more. omega arith) r.0))
-  at_no_place number (x ∷ xs) (suc i) d r below above other =
-      let less : key x < number = below.0 in
+  at_no_place number (x ∷ xs) (suc i) d r parts other =
+      let less = parts.passed.0 in
       let t : (key x == number) ≡ false = grind (arith, nat_tests) in
-      rw t (at_no_place number xs i d r.1 below.1 above (λ lt. other (omega arith)))
+      rw t (at_no_place number xs i d r.1 (split_rest number x xs i parts) (λ lt. other (omega arith)))
 
   -- an element that a search finds is the one of its key
-  pub at-found : (p : X → Bool) (xs : List X) (x : X) → Rise xs → find p xs ≡ Some x → at (key x) xs ≡ Some x
+  pub at-found : (p : X → Bool) (xs : List X) (x : X) → Rise xs → find p xs ≡ Some x → at key (key x) xs ≡ Some x
   at-found p [] x r e = cc
   at-found p (y ∷ ys) x r e = go (at-found p ys x r.1) (p y) refl e
     where
-      go : (find p ys ≡ Some x → at (key x) ys ≡ Some x) → (b : Bool) → p y ≡ b → cond b (Some y) (find p ys) ≡ Some x → at (key x) (y ∷ ys) ≡ Some x
+      go : (find p ys ≡ Some x → at key (key x) ys ≡ Some x) → (b : Bool) → p y ≡ b → cond b (Some y) (find p ys) ≡ Some x → at key (key x) (y ∷ ys) ≡ Some x
       go rest true t h = let same : y ≡ x = cc in rw (← same) (rw (equal_self (key y)) refl)
       go rest false t h =
           let less : key y < key x = (found_has (λ z. key y < key z) p ys x r.0 h).0 in
@@ -178,39 +158,42 @@ module _ {X : Type 0} (key : X → ℕ) where
           rw f (rest h)
 
   -- the first key from a number on stands at the place of the number
-  pub first_at : (number : ℕ) (xs : List X) (i : ℕ) (d : X) → AllByRecursion (λ x. key x < number) (take i xs) → AllByRecursion (λ x. number ≤ key x) (drop i xs) → i < length xs → find (λ x. nat_le number (key x)) xs ≡ Some (get_or xs i d)
-  first_at number [] i d below above within = absurd (omega arith)
-  first_at number (x ∷ xs) zero d below above within = let least : number ≤ key x = above.0 in let t : nat_le number (key x) ≡ true = grind (arith, nat_tests) in rw t
-  first_at number (x ∷ xs) (suc i) d below above within = let less : key x < number = below.0 in let t : nat_le number (key x) ≡ false = grind (arith, nat_tests) in rw t (first_at number xs i d below.1 above (omega arith))
+  pub first_at : (number : ℕ) (xs : List X) (i : ℕ) (d : X) → IsSplitBy (is_key_below number) xs i → i < length xs → find (λ x. nat_le number (key x)) xs ≡ Some (get_or xs i d)
+  first_at number [] i d parts within = absurd (omega arith)
+  first_at number (x ∷ xs) zero d parts within = let least = parts.failed.0 in let t : nat_le number (key x) ≡ true = grind (arith, nat_tests) in rw t
+  first_at number (x ∷ xs) (suc i) d parts within = let less = parts.passed.0 in let t : nat_le number (key x) ≡ false = grind (arith, nat_tests) in rw t (first_at number xs i d (split_rest number x xs i parts) (omega arith))
 
   -- and there is none where the place is behind all
-  pub first_none : (number : ℕ) (xs : List X) (i : ℕ) → AllByRecursion (λ x. key x < number) (take i xs) → length xs ≤ i → find (λ x. nat_le number (key x)) xs ≡ None
-  first_none number [] i below within = refl
-  first_none number (x ∷ xs) zero below within = absurd (omega arith)
-  first_none number (x ∷ xs) (suc i) below within = let less : key x < number = below.0 in let t : nat_le number (key x) ≡ false = grind (arith, nat_tests) in rw t (first_none number xs i below.1 (omega arith))
+  pub first_none : (number : ℕ) (xs : List X) (i : ℕ) → IsSplitBy (is_key_below number) xs i → length xs ≤ i → find (λ x. nat_le number (key x)) xs ≡ None
+  first_none number [] i parts within = refl
+  first_none number (x ∷ xs) zero parts within = absurd (omega arith)
+  first_none number (x ∷ xs) (suc i) parts within = let less = parts.passed.0 in let t : nat_le number (key x) ≡ false = grind (arith, nat_tests) in rw t (first_none number xs i (split_rest number x xs i parts) (omega arith))
 
   -- ---- an element more
 
   -- the keys behind the place of a new one are above it
-  pub above_new : (number : ℕ) (xs : List X) (i : ℕ) → AllByRecursion (λ x. number ≤ key x) (drop i xs) → at number xs ≡ None → AllByRecursion (λ x. number < key x) (drop i xs)
-  above_new number xs i above none = AllByRecursion-both (λ x. number ≤ key x) (λ x. (key x == number) ≡ false) (λ x. number < key x) (drop i xs) (λ x le other. grind (arith, nat_tests)) above (all-drop (λ x. (key x == number) ≡ false) xs i (find_none (λ x. key x == number) xs none))
+  pub above_new : (number : ℕ) (xs : List X) (i : ℕ) → IsSplitBy (is_key_below number) xs i → at key number xs ≡ None → AllByRecursion (λ x. number < key x) (drop i xs)
+  above_new number xs i parts none = AllByRecursion-both (λ x. number ≤ key x) (λ x. (key x == number) ≡ false) (λ x. number < key x) (drop i xs) (λ x le other. grind (arith, nat_tests)) (keys_from number xs i parts) (all-drop (λ x. (key x == number) ≡ false) xs i (find_none (λ x. key x == number) xs none))
 
-  pub rise-insert : (xs : List X) (i : ℕ) (new : X) → Rise xs → IsSplitBy key (key new) xs i → at (key new) xs ≡ None → Rise (insert xs i new)
-  rise-insert xs i new r parts none = pairs-insert (λ x y. key x < key y) xs i new r parts.below (above_new (key new) xs i parts.above none)
+  -- keys rise with a new one in its place
+  pub rise-insert : (xs : List X) (i : ℕ) (new : X) → Rise xs → IsSplitBy (is_key_below (key new)) xs i → at key (key new) xs ≡ None → Rise (insert xs i new)
+  rise-insert xs i new r parts none = pairs-insert (λ x y. key x < key y) xs i new r (keys_below (key new) xs i parts) (above_new (key new) xs i parts none)
 
-  pub at-insert : (xs : List X) (i : ℕ) (new : X) (number : ℕ) → at (key new) xs ≡ None → at number (insert xs i new) ≡ cond (key new == number) (Some new) (at number xs)
+  -- the element of a key, with a new one
+  pub at-insert : (xs : List X) (i : ℕ) (new : X) (number : ℕ) → at key (key new) xs ≡ None → at key number (insert xs i new) ≡ cond (key new == number) (Some new) (at key number xs)
   at-insert [] zero new number none = refl
   at-insert [] (suc i) new number none = refl
   at-insert (x ∷ xs) zero new number none = refl
   at-insert (x ∷ xs) (suc i) new number none = go (at-insert xs i new number) (key x == key new) refl none (key x == number) refl
     where
-      go : (at (key new) xs ≡ None → at number (insert xs i new) ≡ cond (key new == number) (Some new) (at number xs)) → (a : Bool) → (key x == key new) ≡ a → cond a (Some x) (at (key new) xs) ≡ None → (b : Bool) → (key x == number) ≡ b → cond b (Some x) (at number (insert xs i new)) ≡ cond (key new == number) (Some new) (cond b (Some x) (at number xs))
+      go : (at key (key new) xs ≡ None → at key number (insert xs i new) ≡ cond (key new == number) (Some new) (at key number xs)) → (a : Bool) → (key x == key new) ≡ a → cond a (Some x) (at key (key new) xs) ≡ None → (b : Bool) → (key x == number) ≡ b → cond b (Some x) (at key number (insert xs i new)) ≡ cond (key new == number) (Some new) (cond b (Some x) (at key number xs))
       go rest true e h b f = cc
       go rest false e h true f = let other : (key new == number) ≡ false = grind (arith, nat_tests) in rw other refl
       go rest false e h false f = rest h
 
   -- ---- an element less
 
+  -- leaving out a key that none has leaves all
   filter_all : (number : ℕ) (xs : List X) → AllByRecursion (λ x. number ≡ key x → ⊥) xs → filter (λ x. not (key x == number)) xs ≡ xs
   filter_all number [] h = refl
   filter_all number (x ∷ xs) h =
@@ -218,7 +201,7 @@ module _ {X : Type 0} (key : X → ℕ) where
       rw t (ap (λ ys. x ∷ ys) (filter_all number xs h.1))
 
   -- taking out the element at a place is leaving out its key
-  pub remove-filter : (xs : List X) (i number : ℕ) (d : X) → Differ xs → i < length xs → key (get_or xs i d) ≡ number → remove xs i ≡ filter (λ x. not (key x == number)) xs
+  pub remove-filter : (xs : List X) (i number : ℕ) (d : X) → AreDistinct key xs → i < length xs → key (get_or xs i d) ≡ number → remove xs i ≡ filter (λ x. not (key x == number)) xs
   remove-filter [] i number d r lt is = absurd (omega arith)
   remove-filter (x ∷ xs) zero number d r lt is =
       let t : (key x == number) ≡ true = grind (arith, nat_tests) in
@@ -229,15 +212,17 @@ module _ {X : Type 0} (key : X → ℕ) where
       let t : (key x == number) ≡ false = grind (arith, nat_tests) in
       rw t (ap (λ ys. x ∷ ys) (remove-filter xs i number d r.1 (omega arith) is))
 
-  pub at-without : (xs : List X) (number other : ℕ) → at other (filter (λ x. not (key x == number)) xs) ≡ cond (number == other) None (at other xs)
+  -- the element of a key, without one
+  pub at-without : (xs : List X) (number other : ℕ) → at key other (filter (λ x. not (key x == number)) xs) ≡ cond (number == other) None (at key other xs)
   at-without xs number other = go (number == other) refl
     where
-      go : (b : Bool) → (number == other) ≡ b → at other (filter (λ x. not (key x == number)) xs) ≡ cond b None (at other xs)
-      go true e = let same : number ≡ other = equal _ _ e in rw (← same) (lookups.at-without_same key number xs)
-      go false e = lookups.at-without_other key number other xs (grind (arith, nat_tests))
+      go : (b : Bool) → (number == other) ≡ b → at key other (filter (λ x. not (key x == number)) xs) ≡ cond b None (at key other xs)
+      go true e = let same : number ≡ other = equal _ _ e in rw (← same) (at-without_same key number xs)
+      go false e = at-without_other key number other xs (grind (arith, nat_tests))
 
   -- ---- an element changed
 
+  -- changing the element of a key that none has leaves all
   map_all : (number : ℕ) (f : X → X) (xs : List X) → AllByRecursion (λ x. number ≡ key x → ⊥) xs → map (λ x. cond (key x == number) (f x) x) xs ≡ xs
   map_all number f [] h = refl
   map_all number f (x ∷ xs) h =
@@ -245,7 +230,7 @@ module _ {X : Type 0} (key : X → ℕ) where
       rw t (ap (λ ys. x ∷ ys) (map_all number f xs h.1))
 
   -- changing the element at a place is changing that of its key
-  pub set-map : (xs : List X) (i number : ℕ) (d : X) (f : X → X) → Differ xs → i < length xs → key (get_or xs i d) ≡ number → set xs i (f (get_or xs i d)) ≡ map (λ x. cond (key x == number) (f x) x) xs
+  pub set-map : (xs : List X) (i number : ℕ) (d : X) (f : X → X) → AreDistinct key xs → i < length xs → key (get_or xs i d) ≡ number → set xs i (f (get_or xs i d)) ≡ map (λ x. cond (key x == number) (f x) x) xs
   set-map [] i number d f r lt is = absurd (omega arith)
   set-map (x ∷ xs) zero number d f r lt is =
       let t : (key x == number) ≡ true = grind (arith, nat_tests) in

@@ -1,21 +1,13 @@
 -- No counter is above the limit, as mappings begin, change and end.
-use Rattle.std.proofs.Common.{ℕ, zero, suc, ◌≡◌, ◌+◌, ◌<◌, ◌≤◌, refl, Bool, true, false, cond, List, [], ◌∷◌, length, get_or, set, Some, arith}
-use Rattle.std.specs.Prelude.{◌==◌, map, nat_lt, option_map, unwrap_or}
+use Rattle.std.proofs.Common.{ℕ, zero, suc, ◌≡◌, ◌<◌, ◌≤◌, Bool, true, false, cond, List, [], ◌∷◌, get_or, set, Some, arith}
+use Rattle.std.specs.Prelude.{◌==◌, option_map, unwrap_or}
 use Rattle.std.specs.List.{AllByRecursion}
 use Rattle.acc_base.specs.declared.mappings.Range.{Range}
 use Rattle.acc_base.specs.declared.mappings.Counter.{Counter}
 use Rattle.acc_base.specs.declared.mappings.Counter.TheVariants.{Structured, Dynamic}
-use Rattle.acc_base.specs.Ranges.{with_range, changed_at, risen, fallen, cleared, counter_in, counter_of, range_of, bare_range}
+use Rattle.acc_base.specs.Ranges.{changed_at, risen, fallen, cleared, counter_in, counter_of, range_of, bare_range}
 use Rattle.acc_base.specs.declared.items.Section.{Section}
 use Rattle.acc_present.specs.Present.{IsWithinLimit}
-
-pub limit_with : (m : ℕ) (new : Range) (rs : List Range) → IsWithinLimit m new → AllByRecursion (IsWithinLimit m) rs → AllByRecursion (IsWithinLimit m) (with_range new rs)
-limit_with m new [] p h = (p, tt)
-limit_with m new (r ∷ rs) p h = go (limit_with m new rs p h.1) (nat_lt new.section.start r.section.start)
-  where
-    go : AllByRecursion (IsWithinLimit m) (with_range new rs) → (b : Bool) → AllByRecursion (IsWithinLimit m) (cond b (new ∷ r ∷ rs) (r ∷ with_range new rs))
-    go rest true = (p, h)
-    go rest false = (h.0, rest)
 
 pub limit_changed : (m block : ℕ) (f : Range → Range) (rs : List Range) → ((r : Range) → IsWithinLimit m r → IsWithinLimit m (f r)) → AllByRecursion (IsWithinLimit m) rs → AllByRecursion (IsWithinLimit m) (changed_at block f rs)
 limit_changed m block f [] keeps h = tt

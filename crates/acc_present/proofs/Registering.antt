@@ -1,17 +1,19 @@
 -- The open regions, as they come and go.
-use Rattle.std.proofs.Common.{ℕ, zero, suc, ◌≡◌, ◌<◌, ◌≤◌, refl, sym, ap, ◌∙◌, Bool, true, false, cond, List, [], ◌∷◌, length, get_or, take, drop, insert, Option, Some, None, IsSome, arith, rules}
-use Rattle.std.specs.Prelude.{◌==◌, not, map, find, filter, option_map, nat_lt}
+use Rattle.std.proofs.Common.{ℕ, zero, suc, ◌≡◌, ◌<◌, ◌≤◌, refl, sym, ap, ◌∙◌, Bool, true, false, cond, List, [], ◌∷◌, length, get_or, take, drop, insert, Option, Some, None, IsSome, arith}
+use Rattle.std.specs.Prelude.{◌==◌, not, map, filter, option_map, nat_lt}
 use Rattle.std.specs.List.{AllByRecursion, remove}
 use Rattle.std.proofs.lemmas.Bool.Decides.{nat_tests}
-use Rattle.acc_base.specs.declared.regions.Holding.{Holding}
 use Rattle.acc_base.specs.Register.{Region, region_at, newest_region, holdings_at, with_region, without_region}
-use Rattle.acc_base.specs.Accounts.{EachPair}
+use Rattle.acc_base.specs.Splits.{IsSplitBy}
 use Rattle.acc_base.proofs.Elements.{EachPair-filter}
+use Rattle.acc_base.proofs.Lookups.{at}
+use Rattle.acc_base.proofs.Options.{some_mapped, from_none, from_some}
 use Rattle.acc_present.specs.declared.register.OpenRegion.{OpenRegion}
 use Rattle.acc_present.specs.Present.{AreNumbered}
-use Rattle.acc_present.specs.Kept.{IsSplitBy, AreNumbersRising, region_of}
+use Rattle.acc_present.specs.Kept.{AreNumbersRising, region_of}
 use Rattle.acc_present.proofs.Keyed as keyed
 
+-- a region's number
 abbrev pub number_key : OpenRegion → ℕ
 number_key o = o.number
 
@@ -20,51 +22,45 @@ numbers_above : (n : ℕ) (xs : List OpenRegion) → AllByRecursion (λ (o : Ope
 numbers_above n [] h = tt
 numbers_above n (x ∷ xs) h = (h.0, numbers_above n xs h.1)
 
+-- and so they do in the register that they stand for
 pub numbered : (xs : List OpenRegion) → AreNumbersRising xs → AreNumbered (map region_of xs)
 numbered [] h = tt
 numbered (x ∷ xs) h = (numbers_above x.number xs h.0, numbered xs h.1)
 
 -- the region of a number
-pub region_at-map : (number : ℕ) (xs : List OpenRegion) → region_at number (map region_of xs) ≡ option_map region_of (keyed.at number_key number xs)
+pub region_at-map : (number : ℕ) (xs : List OpenRegion) → region_at number (map region_of xs) ≡ option_map region_of (at number_key number xs)
 region_at-map number [] = refl
-region_at-map number (x ∷ xs) = go (region_at-map number xs) (x.number == number)
-  where
-    go : region_at number (map region_of xs) ≡ option_map region_of (keyed.at number_key number xs) → (b : Bool) → cond b (Some (region_of x)) (region_at number (map region_of xs)) ≡ option_map region_of (cond b (Some x) (keyed.at number_key number xs))
-    go rest true = refl
-    go rest false = rest
+region_at-map number (x ∷ xs) = ap (cond (x.number == number) (Some (region_of x))) (region_at-map number xs) ∙ sym (some_mapped region_of (x.number == number) x (at number_key number xs))
 
-none_from : (o : Option OpenRegion) → option_map region_of o ≡ None → o ≡ None
-none_from None e = refl
-none_from (Some x) e = cc
+-- a number that no open region has
+pub new_number : (number : ℕ) (xs : List OpenRegion) → region_at number (map region_of xs) ≡ None → at number_key number xs ≡ None
+new_number number xs none = from_none region_of (at number_key number xs) (sym (region_at-map number xs) ∙ none)
 
-some_from : (o : Option OpenRegion) → IsSome (option_map region_of o) → IsSome o
-some_from None s = s
-some_from (Some x) s = refl
+-- and one that an open region has
+pub there_number : (number : ℕ) (xs : List OpenRegion) → IsSome (region_at number (map region_of xs)) → IsSome (at number_key number xs)
+there_number number xs there = from_some region_of (at number_key number xs) (rw (region_at-map number xs) at there)
 
-pub new_number : (number : ℕ) (xs : List OpenRegion) → region_at number (map region_of xs) ≡ None → keyed.at number_key number xs ≡ None
-new_number number xs none = none_from (keyed.at number_key number xs) (sym (region_at-map number xs) ∙ none)
-
-pub there_number : (number : ℕ) (xs : List OpenRegion) → IsSome (region_at number (map region_of xs)) → IsSome (keyed.at number_key number xs)
-there_number number xs there = some_from (keyed.at number_key number xs) (rw (region_at-map number xs) at there)
-
-holdings_map : (number : ℕ) (xs : List OpenRegion) → holdings_at number (map region_of xs) ≡ option_map (λ (o : OpenRegion). o.holdings.items) (keyed.at number_key number xs)
-holdings_map number xs = ap (option_map (λ (r : Region). r.holdings)) (region_at-map number xs) ∙ go (keyed.at number_key number xs)
+-- what the region of a number holds
+holdings_map : (number : ℕ) (xs : List OpenRegion) → holdings_at number (map region_of xs) ≡ option_map (λ (o : OpenRegion). o.holdings.items) (at number_key number xs)
+holdings_map number xs = ap (option_map (λ (r : Region). r.holdings)) (region_at-map number xs) ∙ go (at number_key number xs)
   where
     go : (o : Option OpenRegion) → option_map (λ (r : Region). r.holdings) (option_map region_of o) ≡ option_map (λ (o : OpenRegion). o.holdings.items) o
     go None = refl
     go (Some o) = refl
 
-pub holdings_there : (number : ℕ) (xs : List OpenRegion) (i : ℕ) (d : OpenRegion) → IsSplitBy number_key number xs i → i < length xs → (get_or xs i d).number ≡ number → holdings_at number (map region_of xs) ≡ Some ((get_or xs i d).holdings.items)
-holdings_there number xs i d parts within is = holdings_map number xs ∙ ap (option_map (λ (o : OpenRegion). o.holdings.items)) (keyed.at_place number_key number xs i d parts.below within is)
+-- that of the region at the place of its number
+pub holdings_there : (number : ℕ) (xs : List OpenRegion) (i : ℕ) (d : OpenRegion) → IsSplitBy (keyed.is_key_below number_key number) xs i → i < length xs → (get_or xs i d).number ≡ number → holdings_at number (map region_of xs) ≡ Some ((get_or xs i d).holdings.items)
+holdings_there number xs i d parts within is = holdings_map number xs ∙ ap (option_map (λ (o : OpenRegion). o.holdings.items)) (keyed.at_place number_key number xs i d parts within is)
 
-pub holdings_none : (number : ℕ) (xs : List OpenRegion) (i : ℕ) (d : OpenRegion) → AreNumbersRising xs → IsSplitBy number_key number xs i → (i < length xs → (get_or xs i d).number ≡ number → ⊥) → holdings_at number (map region_of xs) ≡ None
-holdings_none number xs i d rise parts other = holdings_map number xs ∙ ap (option_map (λ (o : OpenRegion). o.holdings.items)) (keyed.at_no_place number_key number xs i d rise parts.below parts.above other)
+-- nothing where another region stands there
+pub holdings_none : (number : ℕ) (xs : List OpenRegion) (i : ℕ) (d : OpenRegion) → AreNumbersRising xs → IsSplitBy (keyed.is_key_below number_key number) xs i → (i < length xs → (get_or xs i d).number ≡ number → ⊥) → holdings_at number (map region_of xs) ≡ None
+holdings_none number xs i d rise parts other = holdings_map number xs ∙ ap (option_map (λ (o : OpenRegion). o.holdings.items)) (keyed.at_no_place number_key number xs i d rise parts other)
 
 -- and none behind all of them
-pub holdings_past : (number : ℕ) (xs : List OpenRegion) (i : ℕ) → IsSplitBy number_key number xs i → length xs ≤ i → holdings_at number (map region_of xs) ≡ None
-holdings_past number xs i parts past = holdings_map number xs ∙ ap (option_map (λ (o : OpenRegion). o.holdings.items)) (go xs i parts.below past)
+pub holdings_past : (number : ℕ) (xs : List OpenRegion) (i : ℕ) → IsSplitBy (keyed.is_key_below number_key number) xs i → length xs ≤ i → holdings_at number (map region_of xs) ≡ None
+holdings_past number xs i parts past = holdings_map number xs ∙ ap (option_map (λ (o : OpenRegion). o.holdings.items)) (go xs i (keyed.keys_below number_key number xs i parts) past)
   where
-    go : (ys : List OpenRegion) (j : ℕ) → AllByRecursion (λ (o : OpenRegion). o.number < number) (take j ys) → length ys ≤ j → keyed.at number_key number ys ≡ None
+    go : (ys : List OpenRegion) (j : ℕ) → AllByRecursion (λ (o : OpenRegion). o.number < number) (take j ys) → length ys ≤ j → at number_key number ys ≡ None
     go [] j below past = refl
     go (y ∷ ys) zero below past = absurd (omega arith)
     go (y ∷ ys) (suc j) below past =
@@ -72,6 +68,7 @@ holdings_past number xs i parts past = holdings_map number xs ∙ ap (option_map
         let t : (y.number == number) ≡ false = grind (arith, nat_tests) in
         rw t (go ys j below.1 (omega arith))
 
+-- none was entered last where none is open
 pub newest_none : (xs : List OpenRegion) → length xs ≡ 0 → newest_region (map region_of xs) ≡ None
 newest_none [] e = refl
 newest_none (x ∷ xs) e = absurd (omega (arith, e))
@@ -86,6 +83,7 @@ newest_last (x ∷ y ∷ xs) (suc i) d e = newest_last (y ∷ xs) i d (omega (ar
 
 -- ---- a region more
 
+-- the register with a region more is that of the list with one more
 with_region-insert : (new : OpenRegion) (xs : List OpenRegion) (i : ℕ) → AllByRecursion (λ (o : OpenRegion). o.number < new.number) (take i xs) → AllByRecursion (λ (o : OpenRegion). new.number < o.number) (drop i xs) → with_region (region_of new) (map region_of xs) ≡ map region_of (insert xs i new)
 with_region-insert new [] zero below above = refl
 with_region-insert new [] (suc i) below above = refl
@@ -93,20 +91,22 @@ with_region-insert new (x ∷ xs) zero below above = let less : new.number < x.n
 with_region-insert new (x ∷ xs) (suc i) below above = let less : x.number < new.number = below.0 in let t : nat_lt new.number x.number ≡ false = grind (arith, nat_tests) in rw t (ap (λ rs. region_of x ∷ rs) (with_region-insert new xs i below.1 above))
 
 -- the list has one region more
-pub record IsPut (new : OpenRegion) (old xs : List OpenRegion) : Type 0 where
+pub record IsRegionAdded (new : OpenRegion) (old xs : List OpenRegion) : Type 0 where
   pub rising : AreNumbersRising xs
   pub regions : map region_of xs ≡ with_region (region_of new) (map region_of old)
 
-pub put_in : (new : OpenRegion) (old xs : List OpenRegion) (i : ℕ) → AreNumbersRising old → region_at new.number (map region_of old) ≡ None → IsSplitBy number_key new.number old i → xs ≡ insert old i new → IsPut new old xs
-put_in new old xs i rise none parts is =
+-- a region that is put in at its place
+pub region_added : (new : OpenRegion) (old xs : List OpenRegion) (i : ℕ) → AreNumbersRising old → region_at new.number (map region_of old) ≡ None → IsSplitBy (keyed.is_key_below number_key new.number) old i → xs ≡ insert old i new → IsRegionAdded new old xs
+region_added new old xs i rise none parts is =
     let absent = new_number new.number old none in
     record {
       rising = rw is (keyed.rise-insert number_key old i new rise parts absent);
-      regions = ap (map region_of) is ∙ sym (with_region-insert new old i parts.below (keyed.above_new number_key new.number old i parts.above absent));
+      regions = ap (map region_of) is ∙ sym (with_region-insert new old i (keyed.keys_below number_key new.number old i parts) (keyed.above_new number_key new.number old i parts absent));
     }
 
 -- ---- a region less
 
+-- and without a region that of the list without it
 filter_map : (number : ℕ) (xs : List OpenRegion) → map region_of (filter (λ (o : OpenRegion). not (o.number == number)) xs) ≡ without_region number (map region_of xs)
 filter_map number [] = refl
 filter_map number (x ∷ xs) = go (filter_map number xs) (x.number == number)
@@ -120,10 +120,11 @@ pub record IsRegionRemoved (number : ℕ) (old xs : List OpenRegion) : Type 0 wh
   pub rising : AreNumbersRising xs
   pub regions : map region_of xs ≡ without_region number (map region_of old)
 
-pub taken_out : (number i : ℕ) (old xs : List OpenRegion) (d : OpenRegion) → AreNumbersRising old → IsSome (region_at number (map region_of old)) → IsSplitBy number_key number old i → xs ≡ remove old i → IsRegionRemoved number old xs
-taken_out number i old xs d rise there parts is =
-    let at = keyed.found_at number_key number old i d rise parts.below parts.above (there_number number old there) in
-    let same = is ∙ keyed.remove-filter number_key old i number d (keyed.differ number_key old rise) at.bound at.key_is in
+-- a region that is taken out
+pub region_removed : (number i : ℕ) (old xs : List OpenRegion) (d : OpenRegion) → AreNumbersRising old → IsSome (region_at number (map region_of old)) → IsSplitBy (keyed.is_key_below number_key number) old i → xs ≡ remove old i → IsRegionRemoved number old xs
+region_removed number i old xs d rise there parts is =
+    let found = keyed.found_at number_key number old i d rise parts (there_number number old there) in
+    let same = is ∙ keyed.remove-filter number_key old i number d (keyed.rise_distinct number_key old rise) found.bound found.key_is in
     record {
       rising = rw same (EachPair-filter (λ (o : OpenRegion) (p : OpenRegion). o.number < p.number) (λ o. not (o.number == number)) old rise);
       regions = ap (map region_of) same ∙ filter_map number old;

@@ -1,7 +1,5 @@
 -- How the present table keeps its ranges and regions. No public clause cites this module.
-use Rattle.std.specs.Prelude.{ℕ, ◌≡◌, ◌<◌, ◌≤◌, ◌==◌, List, map, length, Option, Some, find, option_map, take, drop, slice_index_or}
-use Rattle.std.specs.List.{AllByRecursion}
-use Rattle.acc_base.specs.declared.items.Section.{Section}
+use Rattle.std.specs.Prelude.{ℕ, ◌≡◌, ◌<◌, ◌==◌, List, length, Option, Some, find, option_map, slice_index_or}
 use Rattle.acc_base.specs.declared.mappings.Range.{Range}
 use Rattle.acc_base.specs.Ranges.{range_of}
 use Rattle.acc_base.specs.Register.{Region}
@@ -9,12 +7,6 @@ use Rattle.acc_base.specs.Accounts.{EachPair}
 use Rattle.acc_present.specs.declared.index.Entry.{Entry}
 use Rattle.acc_present.specs.declared.register.OpenRegion.{OpenRegion}
 use Rattle.acc_present.specs.Present.{AreMapped}
-
--- the keys of the elements before a place are below a number, and those from it on are not
-pub record IsSplitBy {X : Type 0} (key : X → ℕ) (number : ℕ) (xs : List X) (at : ℕ) : Type 0 where
-  pub bound : at ≤ length xs
-  pub below : AllByRecursion (λ x. key x < number) (take at xs)
-  pub above : AllByRecursion (λ x. number ≤ key x) (drop at xs)
 
 -- ---- the index of block numbers
 

@@ -1,5 +1,5 @@
 -- What contracts see of the present table: the mapped ranges, the open data regions, and the room for more (OpenACC 3.3, sections 2.6.5 and 2.6.7).
-use Rattle.std.specs.Prelude.{ℕ, ◌≡◌, ◌^◌, ◌<◌, ◌≤◌, List, [], Option, IsSome}
+use Rattle.std.specs.Prelude.{ℕ, ◌≡◌, ◌^◌, ◌<◌, ◌≤◌, List, [], IsSome}
 use Rattle.std.specs.List.{AllByRecursion}
 use Rattle.acc_base.specs.declared.mappings.Range.{Range}
 use Rattle.acc_base.specs.Ranges.{range_of}

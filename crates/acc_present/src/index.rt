@@ -1,7 +1,8 @@
 //! The index of block numbers, which gives the start of each block's range.
 
-ghost use Rattle.std.specs.Prelude.{◌≡◌, ℕ, ◌+◌, ◌<◌, ◌≤◌, ◌==◌, None, Some, IsSome, if◌then◌else◌, vec_len, vec_capacity};
-ghost use Rattle.acc_present.specs.Kept.{AreBlocksRising, IsSplitBy, start_in};
+ghost use Rattle.std.specs.Prelude.{◌≡◌, ℕ, ◌+◌, ◌<◌, ◌≤◌, ◌==◌, nat_lt, None, Some, IsSome, if◌then◌else◌, vec_len, vec_capacity};
+ghost use Rattle.acc_base.specs.Splits.{IsSplitBy};
+ghost use Rattle.acc_present.specs.Kept.{AreBlocksRising, start_in};
 
 /// Where the range of a block begins.
 #[derive(Clone, Copy)]
@@ -15,7 +16,7 @@ pub struct Entry {
 /// The place of a block's entry, or the place at which it would stand.
 fn place_of(index: &[Entry], block: u64) -> usize
     requires { AreBlocksRising index.now }
-    ensures { IsSplitBy (λ entry. entry.block) block index.now result }
+    ensures { IsSplitBy (λ entry. nat_lt entry.block block) index.now result }
 {
     index.partition_point(|entry| entry.block < block)
 }

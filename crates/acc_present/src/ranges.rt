@@ -1,12 +1,13 @@
 //! The mapped ranges by rising start, with an index of their blocks.
 
-ghost use Rattle.std.specs.Prelude.{◌≡◌, List, ◌∷◌, IfSome, IfNone, ◌+◌, ◌-◌, ◌<◌, ◌≤◌, ◌==◌, ◌^◌, [], length, drop, find, nat_le, None, Some, IsSome, IsTrue, OnOk, IfErr, min, vec_len, vec_capacity};
+ghost use Rattle.std.specs.Prelude.{◌≡◌, List, ◌∷◌, IfSome, IfNone, ◌+◌, ◌-◌, ◌<◌, ◌≤◌, ◌==◌, ◌^◌, [], length, drop, find, nat_le, nat_lt, None, Some, IsSome, IsTrue, OnOk, IfErr, min, vec_len, vec_capacity};
 ghost use Rattle.std.specs.Bool.{OnTrue, OnFalse};
 ghost use Rattle.std.specs.List.{list_any, AllByRecursion};
 ghost use Rattle.acc_base.specs.Section.{is_within, is_apart, end_of};
 ghost use Rattle.acc_base.specs.Ranges.{where_is, where_is_apart, range_of, range_from, counter_of, counter_in, with_range, without_range, changed_at, bare_range, risen, fallen, cleared};
+ghost use Rattle.acc_base.specs.Splits.{IsSplitBy};
 ghost use Rattle.acc_present.specs.Present.{AreMapped, IsWithinLimit};
-ghost use Rattle.acc_present.specs.Kept.{IsSplitBy, IsIndexed, IsRangeAt};
+ghost use Rattle.acc_present.specs.Kept.{IsIndexed, IsRangeAt};
 
 use crate::index::{Entry, put, start_of, take_out};
 use acc_base::{Counter, Fault, Found, Range, Section};
@@ -40,7 +41,7 @@ fn is_listed(blocks: &[u64], block: u64) -> bool
 /// The place of the first range that starts at or above an address, or how many ranges there are.
 fn first_from(ranges: &[Range], address: u64) -> usize
     requires { AreMapped ranges.now }
-    ensures { IsSplitBy (λ r. r.section.start) address ranges.now result }
+    ensures { IsSplitBy (λ r. nat_lt r.section.start address) ranges.now result }
 {
     ranges.partition_point(|r| r.section.start < address)
 }

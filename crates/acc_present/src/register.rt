@@ -1,9 +1,10 @@
 //! The register of open data regions.
 
-ghost use Rattle.std.specs.Prelude.{◌≡◌, ◌+◌, ◌<◌, ◌≤◌, [], ◌∷◌, ◌++◌, length, map, None, Some, IsSome, IfErr, OnOk, OnErr, MatchOption, vec_len, vec_capacity};
+ghost use Rattle.std.specs.Prelude.{◌≡◌, ◌+◌, ◌<◌, ◌≤◌, [], ◌∷◌, ◌++◌, length, map, nat_lt, None, Some, IsSome, IfErr, OnOk, OnErr, MatchOption, vec_len, vec_capacity};
 ghost use Rattle.acc_base.specs.Register.{region_at, newest_region, holdings_at, with_region, without_region};
+ghost use Rattle.acc_base.specs.Splits.{IsSplitBy};
 ghost use Rattle.acc_present.specs.Present.{AreNumbered};
-ghost use Rattle.acc_present.specs.Kept.{AreNumbersRising, IsSplitBy, region_of};
+ghost use Rattle.acc_present.specs.Kept.{AreNumbersRising, region_of};
 
 use acc_base::{Fault, Holding};
 use std::alloc::Global;
@@ -22,7 +23,7 @@ pub struct OpenRegion {
 /// The place of a region, or the place at which it would stand.
 fn place_of(regions: &[OpenRegion], number: u64) -> usize
     requires { AreNumbersRising regions.now }
-    ensures { IsSplitBy (λ o. o.number) number regions.now result }
+    ensures { IsSplitBy (λ o. nat_lt o.number number) regions.now result }
 {
     regions.partition_point(|o| o.number < number)
 }

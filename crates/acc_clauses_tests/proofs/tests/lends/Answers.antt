@@ -4,7 +4,7 @@ use Rattle.acc_base.specs.declared.events.Event.TheVariants.{Lent}
 use Rattle.acc_base.specs.declared.loans.Loan.{Loan}
 use Rattle.acc_base.specs.Records.{layout_of}
 use Rattle.acc_base.specs.History.{IsLegal}
-use Rattle.acc_base.proofs.Accounted.{lend_legal}
+use Rattle.acc_base.proofs.LegalEvents.{lend_legal}
 use Rattle.acc_clauses.specs.Contents.{Contents}
 use Rattle.acc_clauses_tests.proofs.tests.lends.Goals as goal
 

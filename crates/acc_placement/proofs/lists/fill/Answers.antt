@@ -1,11 +1,11 @@
 use Rattle.std.proofs.Common.{◌^◌, arith}
 use Rattle.acc_placement.proofs.Rising.{rising_from}
-use Rattle.acc_placement.proofs.Filling.{IsParted, parted, mid_rising, filled_after_absorbed}
+use Rattle.acc_placement.proofs.Filling.{IsParted, holes_parted, mid_rising, filled_after_absorbed}
 use Rattle.acc_placement.proofs.lists.fill.Goals as goal
 
 -- where the place parts the holes
 parts : (c : goal.After-put-arg-1) → IsParted c.args.holes.now.items c.count_below-at.result c.args.place c.args.size (2 ^ 41)
-parts c = parted c.deref.result.now c.args.holes.now.items c.count_below-at.result c.args.place c.args.size (2 ^ 41) c.deref.ensures.value c.requires.not_empty c.count_below-at.ensures.below c.count_below-at.ensures.not_below c.requires.not_free c.requires.rising
+parts c = holes_parted c.deref.result.now c.args.holes.now.items c.count_below-at.result c.args.place c.args.size (2 ^ 41) c.deref.ensures.value c.requires.not_empty c.count_below-at.ensures.below c.count_below-at.ensures.not_below c.requires.not_free c.requires.rising
 
 pub put-requires-clause-limit : goal.put-requires-clause-limit
 put-requires-clause-limit c =

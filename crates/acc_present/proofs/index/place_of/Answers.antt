@@ -1,10 +1,11 @@
-use Rattle.std.proofs.Common.{ltb, rules}
-use Rattle.std.proofs.lemmas.List.Sorted.{IsPartitionPoint-from_clause, IsPartitionedBy-ltb}
-use Rattle.acc_present.proofs.Keyed.{split, non_decreasing}
+use Rattle.std.proofs.Common.{rules}
+use Rattle.std.proofs.lemmas.List.Sorted.{IsPartitionPoint-from_clause}
+use Rattle.acc_base.proofs.Splitting.{parted, split}
+use Rattle.acc_present.proofs.Keyed.{is_key_below, below_first}
 use Rattle.acc_present.proofs.Indexing.{entry_key}
 use Rattle.acc_present.proofs.index.place_of.Goals as goal
 
 pub returns : goal.returns
 returns c =
-    let sorted = IsPartitionedBy-ltb entry_key c.args.index.now c.args.block (non_decreasing entry_key c.args.index.now c.requires) in
-    split entry_key c.args.index.now c.args.block _ c.partition_point.ensures.bound (IsPartitionPoint-from_clause (λ e. ltb (entry_key e) c.args.block) _ _ c.partition_point.ensures.partitioned sorted (λ a r q k. search rules))
+    let sorted = parted (is_key_below entry_key c.args.block) c.args.index.now (below_first entry_key c.args.block c.args.index.now c.requires) in
+    split (is_key_below entry_key c.args.block) c.args.index.now _ c.partition_point.ensures.bound (IsPartitionPoint-from_clause (is_key_below entry_key c.args.block) _ _ c.partition_point.ensures.partitioned sorted (λ a r q k. search rules))

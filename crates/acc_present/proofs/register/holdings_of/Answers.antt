@@ -1,4 +1,4 @@
-use Rattle.std.proofs.Common.{List, Some, sym, ap, ◌∙◌, arith}
+use Rattle.std.proofs.Common.{List, Some, sym, ap, ◌∙◌}
 use Rattle.std.proofs.lemmas.List.{get_or_default}
 use Rattle.acc_base.specs.declared.regions.Holding.{Holding}
 use Rattle.acc_present.specs.declared.register.OpenRegion.{OpenRegion}

@@ -2,11 +2,12 @@ use Rattle.std.proofs.Common.{List, sym, subst}
 use Rattle.std.specs.List.{AllByRecursion}
 use Rattle.acc_base.specs.declared.mappings.Range.{Range}
 use Rattle.acc_base.specs.Ranges.{bare_range}
+use Rattle.acc_base.proofs.RangeChanges.{all_with}
 use Rattle.acc_present.specs.Present.{IsWithinLimit}
-use Rattle.acc_present.proofs.Limits.{limit_with, limit_bare}
+use Rattle.acc_present.proofs.Limits.{limit_bare}
 use Rattle.acc_present.proofs.presence.Present.add_reserved.Goals as goal
 
 pub invariant_of-self : goal.invariant_of-self
 invariant_of-self c =
     let P : List Range → Type 0 = λ rs. AllByRecursion (IsWithinLimit c.self.inside.counter_max) rs in
-    (c.self.invariant.0, subst P (sym c.map.ensures.ranges) (limit_with c.self.inside.counter_max (bare_range c.args.section c.args.block) c.self.inside.mappings.ranges (limit_bare c.self.inside.counter_max c.args.section c.args.block) c.self.invariant.1))
+    (c.self.invariant.0, subst P (sym c.map.ensures.ranges) (all_with (IsWithinLimit c.self.inside.counter_max) (bare_range c.args.section c.args.block) c.self.inside.mappings.ranges (limit_bare c.self.inside.counter_max c.args.section c.args.block) c.self.invariant.1))

@@ -3,7 +3,7 @@ use Rattle.std.proofs.Common.{ℕ, zero, suc, ◌≡◌, ◌<◌, ◌≤◌, Boo
 use Rattle.std.specs.List.{AllByRecursion}
 use Rattle.std.specs.List.Sorted.{IsPartitionPoint, IsPartitionedBy}
 use Rattle.acc_base.specs.Accounts.{EachPair}
-use Rattle.acc_attach.specs.Kept.{IsSplitBy}
+use Rattle.acc_base.specs.Splits.{IsSplitBy}
 
 -- what holds at each of the first places holds of the first elements
 all_front : {X : Type 0} (P : X → Type 0) (xs : List X) (i : ℕ) → ((k : ℕ) (d : X) → k < i → P (get_or xs k d)) → AllByRecursion P (take i xs)

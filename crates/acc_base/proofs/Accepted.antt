@@ -1,0 +1,130 @@
+-- What an accepted call finds: a ticket, places in the trace and the register, and a layout in which its event is legal.
+use Rattle.std.proofs.Common.{ℕ, ◌≡◌, ◌<◌, ◌≤◌, subst, false, List, [], length, Option, Some, None, Result, Ok, arith}
+use Rattle.std.specs.Prelude.{nat_le, nat_lt, ⊤}
+use Rattle.std.proofs.lemmas.Bool.Decides.{nat_tests}
+use Rattle.acc_base.specs.declared.transfers.Transfer.{Transfer}
+use Rattle.acc_base.specs.declared.directives.Directive.{Directive}
+use Rattle.acc_base.specs.declared.directives.Directive.TheVariants.{Enter, Exit, EnterData, ExitData, Update, Wait}
+use Rattle.acc_base.specs.declared.directives.Directive.TheVariants as directives
+use Rattle.acc_base.specs.declared.calls.Call.{Call}
+use Rattle.acc_base.specs.declared.calls.Call.TheVariants.{Do, HostWrite, Lend, Gather}
+use Rattle.acc_base.specs.declared.events.Did.{Did}
+use Rattle.acc_base.specs.declared.events.Event.{Event}
+use Rattle.acc_base.specs.declared.events.Event.TheVariants.{Entered, Left, EnteredData, ExitedData, Updated, Waited, Stepped, HostWritten, Lent, Gathered}
+use Rattle.acc_base.specs.declared.faults.Fault.{Fault}
+use Rattle.acc_base.specs.Results.{◌>>=◌, ◌>>◌}
+use Rattle.acc_base.specs.Records.{Records, State, layout_of}
+use Rattle.acc_base.specs.Loans.{Leased}
+use Rattle.acc_base.specs.Queues.{head_of}
+use Rattle.acc_base.specs.Judge.{few_items, step_verdict, verdict_of, directive_verdict, host_write_event, lend_event, gather_event}
+use Rattle.acc_base.specs.Calls.{World, judge, ticket, allowance, trace_room, bytes_brought, event_count, open_regions}
+use Rattle.acc_base.specs.Judge.{Verdict, Makes}
+use Rattle.acc_base.specs.History.{IsLegal}
+use Rattle.acc_base.specs.Accounts.{AreRecordsSound}
+use Rattle.acc_base.proofs.Results.{bind_ok, then_ok, refused_not}
+use Rattle.acc_base.proofs.Memories.{AreBrought}
+use Rattle.acc_base.proofs.LegalEvents.{same_event, IsMadeBy, made_by, host_write_legal, lend_legal, IsGathered, gather_legal}
+
+-- an entry names at most 64 items, and finds fewer open regions than the limit says
+abbrev pub IsEntryAllowed : ℕ → ℕ → Event → Type 0
+IsEntryAllowed most regions (Entered number items did) = (length items ≤ 64) × (regions < most)
+IsEntryAllowed most regions (Left number did) = ⊤
+IsEntryAllowed most regions (EnteredData items queue did) = ⊤
+IsEntryAllowed most regions (ExitedData items finalize queue did) = ⊤
+IsEntryAllowed most regions (Updated items if_present queue did) = ⊤
+IsEntryAllowed most regions (Waited queue count) = ⊤
+IsEntryAllowed most regions (Stepped queue block) = ⊤
+IsEntryAllowed most regions (HostWritten addr len) = ⊤
+IsEntryAllowed most regions (Lent region section block serial) = ⊤
+IsEntryAllowed most regions (Gathered serial block) = ⊤
+
+-- what an accepted call's event finds: a ticket, places in the trace and the register, and a layout in which it is legal; and the bytes that it brings back are as many as the block has
+pub record IsAccepted (w : World) (brought : List ℕ) (e : Event) : Type 0 where
+  pub tickets : event_count w.history < w.limits.tickets
+  pub trace : length w.history.trace < w.limits.trace_cap
+  pub room : IsEntryAllowed w.limits.regions (open_regions w.state) e
+  pub legal : IsLegal w.limits e (layout_of w.state)
+  pub fits : AreBrought e brought w.state.records
+
+below_limit : (most n : ℕ) → nat_le most n ≡ false → n < most
+below_limit most n e = grind (arith, nat_tests)
+
+at_most : (most n : ℕ) → nat_lt most n ≡ false → n ≤ most
+at_most most n e = grind (arith, nat_tests)
+
+-- a directive finds a place in the register where it needs one
+some_room : (w : World) (d : Directive) (dids : List Did) (e : Event) → allowance w d ≡ Ok tt → few_items d ≡ Ok tt → verdict_of d w.state dids ≡ Makes e → IsEntryAllowed w.limits.regions (open_regions w.state) e
+some_room w (Enter items) dids e a f h = subst (IsEntryAllowed w.limits.regions (open_regions w.state)) (same_event _ _ h) (at_most 64 (length items) (refused_not _ _ f), below_limit w.limits.regions (open_regions w.state) (refused_not _ _ a))
+some_room w (Exit number) dids e a f h = subst (IsEntryAllowed w.limits.regions (open_regions w.state)) (same_event _ _ h) tt
+some_room w (EnterData items queue) dids e a f h = subst (IsEntryAllowed w.limits.regions (open_regions w.state)) (same_event _ _ h) tt
+some_room w (ExitData items finalize queue) dids e a f h = subst (IsEntryAllowed w.limits.regions (open_regions w.state)) (same_event _ _ h) tt
+some_room w (Update items if_present queue) dids e a f h = subst (IsEntryAllowed w.limits.regions (open_regions w.state)) (same_event _ _ h) tt
+some_room w (Wait queue) dids e a f h = subst (IsEntryAllowed w.limits.regions (open_regions w.state)) (same_event _ _ h) tt
+some_room w (directives.Step queue) dids e a f h = go (head_of queue w.state.records.queues) h
+  where
+    go : (o : Option Transfer) → step_verdict queue o ≡ Makes e → IsEntryAllowed w.limits.regions (open_regions w.state) e
+    go None made = cc
+    go (Some t) made = subst (IsEntryAllowed w.limits.regions (open_regions w.state)) (same_event _ _ made) tt
+
+made_same : (x e : Event) → ◌≡◌ {A = Result Verdict Fault} (Ok (Makes x)) (Ok (Makes e)) → x ≡ e
+made_same x e h = cc
+
+-- the verdict on an event
+abbrev makes : Result Event Fault → Result Verdict Fault
+makes r = r >>= λ e. Ok (Makes e)
+
+made : (r : Result Event Fault) (e : Event) → makes r ≡ Ok (Makes e) → r ≡ Ok e
+made r e h =
+    let found : (x : Event) × (r ≡ Ok x) × (Ok (Makes x) ≡ Ok (Makes e)) = bind_ok r (λ x. Ok (Makes x)) (Makes e) h in
+    subst (λ y. r ≡ Ok y) (made_same found.0 e found.2) found.1
+
+-- the events of directives bring no bytes back
+no_bytes : (d : Directive) (s : State) (dids : List Did) (e : Event) (brought : List ℕ) (w : Records) → verdict_of d s dids ≡ Makes e → AreBrought e brought w
+no_bytes (Enter items) s dids e brought w h = subst (λ x. AreBrought x brought w) (same_event _ _ h) tt
+no_bytes (Exit number) s dids e brought w h = subst (λ x. AreBrought x brought w) (same_event _ _ h) tt
+no_bytes (EnterData items queue) s dids e brought w h = subst (λ x. AreBrought x brought w) (same_event _ _ h) tt
+no_bytes (ExitData items finalize queue) s dids e brought w h = subst (λ x. AreBrought x brought w) (same_event _ _ h) tt
+no_bytes (Update items if_present queue) s dids e brought w h = subst (λ x. AreBrought x brought w) (same_event _ _ h) tt
+no_bytes (Wait queue) s dids e brought w h = subst (λ x. AreBrought x brought w) (same_event _ _ h) tt
+no_bytes (directives.Step queue) s dids e brought w h = go (head_of queue s.records.queues) h
+  where
+    go : (o : Option Transfer) → step_verdict queue o ≡ Makes e → AreBrought e brought w
+    go None made = cc
+    go (Some t) made = subst (λ x. AreBrought x brought w) (same_event _ _ made) tt
+
+-- a call with a ticket and a place in the trace, whose judgement is the event's
+admitted : (w : World) (r : Result Event Fault) (e : Event) → (ticket w >> (trace_room w >> makes r)) ≡ Ok (Makes e) → (event_count w.history < w.limits.tickets) × (length w.history.trace < w.limits.trace_cap) × (r ≡ Ok e)
+admitted w r e h =
+    let first : (ticket w ≡ Ok tt) × ((trace_room w >> makes r) ≡ Ok (Makes e)) = then_ok (ticket w) (trace_room w >> makes r) (Makes e) h in
+    let second : (trace_room w ≡ Ok tt) × (makes r ≡ Ok (Makes e)) = then_ok (trace_room w) (makes r) (Makes e) first.1 in
+    (below_limit w.limits.tickets (event_count w.history) (refused_not _ _ first.0), below_limit w.limits.trace_cap (length w.history.trace) (refused_not _ _ second.0), made r e second.1)
+
+-- a call that is judged to make an event is accepted
+pub accepted : (w : World) (call : Call Leased) (e : Event) → AreRecordsSound w.limits w.state.records → judge w call ≡ Ok (Makes e) → IsAccepted w (bytes_brought call) e
+unfolding judge
+accepted w (Do d) e sound h =
+    let last : Result Verdict Fault = directive_verdict w.limits d w.state in
+    let first : (ticket w ≡ Ok tt) × ((allowance w d >> (few_items d >> (trace_room w >> last))) ≡ Ok (Makes e)) = then_ok (ticket w) (allowance w d >> (few_items d >> (trace_room w >> last))) (Makes e) h in
+    let second : (allowance w d ≡ Ok tt) × ((few_items d >> (trace_room w >> last)) ≡ Ok (Makes e)) = then_ok (allowance w d) (few_items d >> (trace_room w >> last)) (Makes e) first.1 in
+    let third : (few_items d ≡ Ok tt) × ((trace_room w >> last) ≡ Ok (Makes e)) = then_ok (few_items d) (trace_room w >> last) (Makes e) second.1 in
+    let fourth : (trace_room w ≡ Ok tt) × (last ≡ Ok (Makes e)) = then_ok (trace_room w) last (Makes e) third.1 in
+    let by : IsMadeBy w.limits d w.state e = made_by w.limits d w.state e fourth.1 in
+    record {
+      tickets = below_limit w.limits.tickets (event_count w.history) (refused_not _ _ first.0);
+      trace = below_limit w.limits.trace_cap (length w.history.trace) (refused_not _ _ fourth.0);
+      room = some_room w d by.dids e second.0 third.0 by.verdict_is;
+      legal = by.legal;
+      fits = no_bytes d w.state by.dids e [] w.state.records by.verdict_is;
+    }
+accepted w (HostWrite addr bytes) e sound h =
+    let by = admitted w (host_write_event w.limits addr (length bytes)) e h in
+    let wrote : (HostWritten addr (length bytes) ≡ e) × IsLegal w.limits e (layout_of w.state) = host_write_legal w.limits addr (length bytes) (layout_of w.state) e by.2 in
+    record { tickets = by.0; trace = by.1; room = subst (IsEntryAllowed w.limits.regions (open_regions w.state)) wrote.0 tt; legal = wrote.1; fits = subst (λ x. AreBrought x bytes w.state.records) wrote.0 tt }
+accepted w (Lend region section) e sound h =
+    let by = admitted w (lend_event w.limits region section w.state) e h in
+    let lent : (block : ℕ) × (Lent region section block w.state.register.serial ≡ e) × IsLegal w.limits e (layout_of w.state) = lend_legal w.limits region section w.state e by.2 in
+    record { tickets = by.0; trace = by.1; room = subst (IsEntryAllowed w.limits.regions (open_regions w.state)) lent.1 tt; legal = lent.2; fits = subst (λ x. AreBrought x [] w.state.records) lent.1 tt }
+accepted w (Gather lease) e sound h =
+    let by = admitted w (gather_event lease w.state.records) e h in
+    let back : IsGathered w.limits lease w.state e = gather_legal w.limits lease w.state e sound by.2 in
+    record { tickets = by.0; trace = by.1; room = subst (IsEntryAllowed w.limits.regions (open_regions w.state)) back.event_is tt; legal = back.legal; fits = back.fits }

@@ -74,7 +74,7 @@ module _ (place : ℕ) (ts : List Transfer) (loans : List Loan) (all : Result �
 -- ---- those of all queues
 
 -- the transfers of these queues
-abbrev all_of : List (List Transfer) → List Transfer
+abbrev pub all_of : List (List Transfer) → List Transfer
 all_of queues = flat_map (λ transfers. transfers) queues
 
 -- two lists
@@ -87,7 +87,7 @@ none_lent-append (x ∷ xs) ys loans = go (not_lent (Some x.block) loans) (none_
     go (Err fault) rest = refl
 
 -- those from a queue on are its own, and those of the queues behind it
-queues-split : (q : ℕ) (queues : List (List Transfer)) (loans : List Loan) → none_lent (all_of (drop q queues)) loans ≡ (none_lent (queue_at q queues) loans >> none_lent (all_of (drop (suc q) queues)) loans)
+pub queues-split : (q : ℕ) (queues : List (List Transfer)) (loans : List Loan) → none_lent (all_of (drop q queues)) loans ≡ (none_lent (queue_at q queues) loans >> none_lent (all_of (drop (suc q) queues)) loans)
 queues-split zero [] loans = refl
 queues-split zero (ts ∷ queues) loans = ap (λ us. none_lent us loans) (flat_map-cons (λ (us : List Transfer). us) ts queues) ∙ none_lent-append ts (all_of queues) loans
 queues-split (suc q) [] loans = refl

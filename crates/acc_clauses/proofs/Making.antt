@@ -1,12 +1,9 @@
 -- The first transfer of a queue can be made, and leaves the parts sound.
-use Rattle.std.proofs.Common.{ℕ, ◌≡◌, ◌+◌, ◌-◌, ◌≤◌, sym, ◌∙◌, subst, true, List, [], ◌∷◌, length, Some, arith, Ok, false, ap}
+use Rattle.std.proofs.Common.{ℕ, ◌≡◌, ◌+◌, ◌-◌, ◌≤◌, sym, ◌∙◌, subst, true, List, [], ◌∷◌, length, Some, arith, Ok, false}
 use Rattle.std.specs.Prelude.{drop, take}
 use Rattle.std.specs.List.{AllByRecursion}
 use Rattle.std.proofs.lemmas.Bool.Decides.{nat_tests}
-use Rattle.acc_base.specs.declared.loans.Loan.{Loan}
-use Rattle.acc_base.proofs.Results.{then_ok}
-use Rattle.acc_base.proofs.Judged.{not_lent_says}
-use Rattle.acc_base.specs.Loans.{is_lent, not_lent, none_lent}
+use Rattle.acc_base.specs.Loans.{is_lent, none_lent}
 use Rattle.acc_base.specs.declared.items.Section.{Section}
 use Rattle.acc_base.specs.declared.transfers.Transfer.{Transfer}
 use Rattle.acc_base.specs.Limits.{Limits, IsWithinBounds}
@@ -25,6 +22,7 @@ use Rattle.acc_clauses.specs.declared.numbers.Numbers.{Numbers}
 use Rattle.acc_clauses.specs.declared.environments.Environment.{Environment}
 use Rattle.acc_clauses.specs.Contents.{state_of, ArePartsSound}
 use Rattle.acc_clauses.specs.Acts.{CanStep, IsSteppedBy}
+use Rattle.acc_clauses.proofs.Emptying.{first_free}
 use Rattle.acc_clauses.proofs.Moving.{bytes_of-len}
 use Rattle.acc_clauses.proofs.Steps.{is_some}
 use Rattle.acc_clauses.proofs.Legal.{host_end}
@@ -41,16 +39,9 @@ first_has P q t queues e h =
     let each : AllByRecursion P (t ∷ drop 1 (queue_at q queues)) = subst (AllByRecursion P) (head_first (queue_at q queues) t e) (all-at (AllByRecursion P) queues q [] tt h) in
     each.0
 
--- the first transfer of a queue names no block that is lent
-pub first_free : (q : ℕ) (t : Transfer) (queues : List (List Transfer)) (loans : List Loan) → head_of q queues ≡ Some t → none_lent (take 1 (queue_at q queues)) loans ≡ Ok tt → is_lent t.block loans ≡ false
-first_free q t queues loans e free =
-    let first : queue_at q queues ≡ t ∷ drop 1 (queue_at q queues) = head_first (queue_at q queues) t e in
-    let one : none_lent (t ∷ []) loans ≡ Ok tt = subst (λ ts. none_lent ts loans ≡ Ok tt) (ap (take 1) first) free in
-    not_lent_says t.block loans (then_ok (not_lent (Some t.block) loans) (none_lent [] loans) tt one).0
-
 pub can_step : (l : Limits) (x : Environment) (next : Numbers) (q : ℕ) → IsWithinBounds l → none_lent (take 1 (queue_at q x.queues.queues)) x.device.loans ≡ Ok tt → ArePartsSound l x next → CanStep q x
 can_step l x next q bounds free sound t e =
-    let out : is_lent t.block x.device.loans ≡ false = first_free q t x.queues.queues x.device.loans e free in
+    let out : is_lent t.block x.device.loans ≡ false = first_free q x.queues.queues x.device.loans t e free in
     let has : IsTransferSound l x.device.blocks t = first_has (IsTransferSound l x.device.blocks) q t x.queues.queues e sound.sound.records.queues.transfers in
     record {
       in_host = subst (λ n. is_within t.section (host_memory n) ≡ true) (sym sound.sound.memories.host) has.in_host.within;

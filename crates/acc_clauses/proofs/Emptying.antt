@@ -1,10 +1,9 @@
 -- While a queue is emptied, none of the transfers that are left is of a block that is lent.
 use Rattle.std.proofs.Common.{ℕ, zero, suc, ◌+◌, ◌≡◌, refl, sym, ◌∙◌, ap, subst, List, [], ◌∷◌, Option, Some, None, Ok, take, drop, replicate, add-one, false}
-use Rattle.std.specs.Prelude.{length, slice_get, slice_set, slice_index_or}
+use Rattle.std.specs.Prelude.{slice_get, slice_set}
 use Rattle.std.specs.List.{flat_map}
 use Rattle.acc_base.specs.declared.loans.Loan.{Loan}
 use Rattle.acc_base.specs.declared.transfers.Transfer.{Transfer}
-use Rattle.acc_base.specs.Results.{◌>>◌}
 use Rattle.acc_base.specs.Loans.{is_lent, not_lent, none_lent}
 use Rattle.acc_base.specs.Queues.{queue_at, head_of, popped}
 use Rattle.acc_base.specs.Records.{Records, State}
@@ -74,7 +73,7 @@ unfolding drained
 queue-drained q zero s = refl
 queue-drained q (suc n) s = queue-drained q n (stepped q s) ∙ (ap (drop n) (queue-stepped q s) ∙ drop-one n (queue_at q s.records.queues))
 
-same_loans : (qs : List ℕ) (s : State) → (drained qs s).records.loans ≡ s.records.loans
+pub same_loans : (qs : List ℕ) (s : State) → (drained qs s).records.loans ≡ s.records.loans
 same_loans qs s = ap (λ (w : Records). w.loans) (records-drained qs s) ∙ loans-drained qs s.records
 
 -- the next step of a queue makes a transfer whose block is not lent, where none that waited there is of such a block

@@ -1,5 +1,5 @@
 -- Whether a step needs a block that is lent, and whether queued transfers are of one, told by the first that is.
-use Rattle.std.proofs.Common.{ℕ, zero, suc, ◌≡◌, ◌+◌, refl, sym, ◌∙◌, ap, List, [], ◌∷◌, ◌++◌, drop, add-one, Option, Some, None, Result, Ok, Err}
+use Rattle.std.proofs.Common.{ℕ, zero, suc, ◌≡◌, ◌+◌, refl, sym, ◌∙◌, ap, List, [], ◌∷◌, ◌++◌, drop, add-one, Option, Some, Result, Ok, Err, length, arith}
 use Rattle.std.specs.Prelude.{⊤, option_map, slice_get}
 use Rattle.std.specs.List.{flat_map}
 use Rattle.std.proofs.lemmas.List.Concat.{flat_map-cons}
@@ -70,6 +70,14 @@ module _ (place : ℕ) (ts : List Transfer) (loans : List Loan) (all : Result �
   -- it is not
   pub place_free : (x : ⊤) → Ok x ≡ not_lent block loans → none_lent (drop (place + 1) ts) loans ≡ all
   place_free x e = ap (λ n. none_lent (drop n ts) loans) (add-one place) ∙ passed (not_lent block loans) (none_lent (drop (suc place) ts) loans) all x here e
+
+-- ---- none is lent
+
+-- where no block is lent, no transfer is of one
+pub none_unlent : (ts : List Transfer) (loans : List Loan) → length loans ≡ 0 → Ok tt ≡ none_lent ts loans
+none_unlent [] loans e = refl
+none_unlent (t ∷ ts) [] e = none_unlent ts [] e
+none_unlent (t ∷ ts) (l ∷ loans) e = absurd (omega (arith, e))
 
 -- ---- those of all queues
 

@@ -1,5 +1,5 @@
 -- The first transfer of a queue can be made, and leaves the parts sound.
-use Rattle.std.proofs.Common.{ℕ, ◌≡◌, ◌+◌, ◌-◌, ◌≤◌, sym, ◌∙◌, subst, true, List, [], ◌∷◌, length, Some, arith, Ok, false}
+use Rattle.std.proofs.Common.{ℕ, ◌≡◌, ◌+◌, ◌-◌, ◌≤◌, sym, ◌∙◌, subst, true, List, [], ◌∷◌, length, Some, arith, Ok, false, ap}
 use Rattle.std.specs.Prelude.{drop, take}
 use Rattle.std.specs.List.{AllByRecursion}
 use Rattle.std.proofs.lemmas.Bool.Decides.{nat_tests}
@@ -22,7 +22,7 @@ use Rattle.acc_clauses.specs.declared.numbers.Numbers.{Numbers}
 use Rattle.acc_clauses.specs.declared.environments.Environment.{Environment}
 use Rattle.acc_clauses.specs.Contents.{state_of, ArePartsSound}
 use Rattle.acc_clauses.specs.Acts.{CanStep, IsSteppedBy}
-use Rattle.acc_clauses.proofs.Emptying.{first_free}
+use Rattle.acc_clauses.proofs.Emptying.{first_free, same_loans}
 use Rattle.acc_clauses.proofs.Moving.{bytes_of-len}
 use Rattle.acc_clauses.proofs.Steps.{is_some}
 use Rattle.acc_clauses.proofs.Legal.{host_end}
@@ -57,13 +57,20 @@ step_sound : (l : Limits) (q : ℕ) (s : State) → AreRecordsSound l s.records 
 unfolding drained records_drained
 step_sound l q s h m = (subst (AreRecordsSound l) (sym (records-drained (q ∷ []) s)) (stepped_sound l q s.records h), drained_sized l (q ∷ []) s m)
 
+step_loans : (q : ℕ) (s : State) → (stepped q s).records.loans ≡ s.records.loans
+unfolding drained
+step_loans q s = same_loans (q ∷ []) s
+
 pub stepped_parts : (l : Limits) (x y : Environment) (next : Numbers) (q : ℕ) → ArePartsSound l x next → IsSteppedBy q x y → ArePartsSound l y next
 stepped_parts l x y next q sound done =
     let after : AreRecordsSound l (stepped q (state_of x next)).records × AreMemoriesSized l (stepped q (state_of x next)) = step_sound l q (state_of x next) sound.sound.records sound.sound.memories in
     let there : AreRecordsSound l (state_of y next).records × AreMemoriesSized l (state_of y next) =
     subst (λ (s : State). AreRecordsSound l s.records × AreMemoriesSized l s) (sym (done.state next)) after in
+    let loans : y.device.loans ≡ x.device.loans = ap (λ (s : State). s.records.loans) (done.state next) ∙ step_loans q (state_of x next) in
     record {
       sized = record { counters = done.counter_max ∙ sound.sized.counters; device = done.size ∙ sound.sized.device; pointers = done.pointer_max ∙ sound.sized.pointers; queues = done.queue_cap ∙ sound.sized.queues };
       sound = record { records = there.0; memories = there.1 };
       marked = done.marked;
+      lent = sound.lent ∙ ap length (sym loans);
+      few = sound.few;
     }

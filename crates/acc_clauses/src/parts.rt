@@ -25,8 +25,8 @@ mod mappings;
 mod queues;
 mod regions;
 
-/// The parts of a data environment, which fit one another, with the limits and the numbers of the next region and the
-/// next loan.
+/// The parts of a data environment, which fit one another, with the limits, the numbers of the next region and the
+/// next loan, and how many blocks are lent.
 #[derive(Drop)]
 pub(crate) struct Parts {
     config: Config,
@@ -63,6 +63,7 @@ impl Parts {
             numbers: Numbers {
                 region: 1,
                 serial: 1,
+                lent: 0,
             },
         })
     }

@@ -1,6 +1,6 @@
 //! What the parts tell of device blocks and of loans.
 
-ghost use Rattle.std.specs.Prelude.{◌≡◌, ◌+◌, ◌++◌, All};
+ghost use Rattle.std.specs.Prelude.{◌≡◌, ◌+◌, ◌++◌, All, length};
 ghost use Rattle.acc_base.specs.Limits.{IsFromOne};
 ghost use Rattle.acc_base.specs.declared.addresses.TheConstants.{MEMORY_MAX};
 ghost use Rattle.acc_base.specs.Section.{device_base};
@@ -75,6 +75,13 @@ impl Parts {
         ensures { result ≡ is_lent block self.now.state.records.loans }
     {
         self.loan(block).is_some()
+    }
+
+    /// How many blocks are lent.
+    pub(crate) fn loans(&self) -> u64
+        ensures { result ≡ length self.now.state.records.loans }
+    {
+        self.numbers.lent
     }
 
     /// The serial number that the next loan gets.

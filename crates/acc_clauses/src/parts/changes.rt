@@ -153,6 +153,7 @@ impl Parts {
             .take_out(loan.block, loan.serial, loan.offset, loan.len);
         let Ok(lease) = taken else { unreachable!() };
         self.numbers.serial += 1;
+        self.numbers.lent += 1;
         lease
     }
 
@@ -162,6 +163,7 @@ impl Parts {
         ensures limits { self.new.limits ≡ self.old.limits }
         ensures state { self.new.state ≡ gathered_state lease self.old.state }
     {
+        self.numbers.lent = self.numbers.lent.saturating_sub(1);
         match self.environment.device.put_back(lease) {
             Ok(()) => {}
             Err((lease, _)) => lease.abandon(),

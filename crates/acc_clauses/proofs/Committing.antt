@@ -43,7 +43,7 @@ use Rattle.acc_clauses.specs.Stored.{IsHeldWithin, IsHoldingWithin, AreHoldingsW
 use Rattle.acc_clauses.proofs.Holding.{leaves_known}
 use Rattle.acc_clauses.proofs.Entering.{regions_within, entered_within}
 use Rattle.acc_clauses.proofs.Events.{IsEventOf, event_of_plan, planned_legal, idle_plan}
-use Rattle.acc_clauses.proofs.Finishing.{IsPlain, brought-plain, plain_verdict, after_plan, event_sound}
+use Rattle.acc_clauses.proofs.Finishing.{IsPlain, plain_verdict, after_plan, event_sound}
 
 -- ---- the tasks of a directive
 
@@ -278,7 +278,7 @@ made_sound : (d : Directive) (c f : Contents) (p : Planned) (e : Event) → IsWi
 made_sound d c f p e bounds h planned limits state used is plain =
     let l : Limits = c.limits in
     let P : State → Type 0 = λ s. AreHoldingsWithin s.records s.register.regions in
-    event_sound l e [] c f bounds refl limits h (planned_legal l d c.state p e planned is) (brought-plain e c.state.records plain) (state ∙ sym (after_plan l p c.state e is plain))
+    event_sound l e [] c f bounds refl limits h (planned_legal l d c.state p e planned is) (plain.brought c.state.records) (state ∙ sym (after_plan l p c.state e is plain))
     (subst AreFew (sym is.register) (few_after d c p h planned))
     (subst (λ (m : Limits). used_bytes f.state.records.blocks ≤ m.device) limits used)
     (subst P (sym state) (within_finished d c p bounds h planned))

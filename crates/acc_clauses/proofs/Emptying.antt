@@ -1,31 +1,25 @@
 -- While a queue is emptied, none of the transfers that are left is of a block that is lent.
-use Rattle.std.proofs.Common.{ℕ, zero, suc, ◌+◌, ◌≡◌, refl, sym, ◌∙◌, ap, subst, List, [], ◌∷◌, ◌++◌, Option, Some, None, Ok, take, drop, replicate, add-one}
-use Rattle.std.specs.Prelude.{length, slice_get, slice_set, slice_index_or}
+use Rattle.std.proofs.Common.{ℕ, zero, suc, ◌+◌, ◌≡◌, refl, sym, ◌∙◌, ap, subst, List, [], ◌∷◌, Option, Some, None, Ok, take, drop, replicate, add-one, false}
+use Rattle.std.specs.Prelude.{slice_get, slice_set}
 use Rattle.std.specs.List.{flat_map}
 use Rattle.acc_base.specs.declared.loans.Loan.{Loan}
 use Rattle.acc_base.specs.declared.transfers.Transfer.{Transfer}
-use Rattle.acc_base.specs.Results.{◌>>◌}
-use Rattle.acc_base.specs.Loans.{not_lent, none_lent}
+use Rattle.acc_base.specs.Loans.{is_lent, not_lent, none_lent}
 use Rattle.acc_base.specs.Queues.{queue_at, head_of, popped}
 use Rattle.acc_base.specs.Records.{Records, State}
 use Rattle.acc_base.specs.Steps.{released}
 use Rattle.acc_base.specs.Waits.{state_made, stepped, drained}
 use Rattle.acc_base.proofs.Results.{then_ok}
+use Rattle.acc_base.proofs.Judged.{not_lent_says}
 use Rattle.acc_base.proofs.Walked.{records-drained}
 use Rattle.acc_base.proofs.Loaned.{loans-drained}
 use Rattle.acc_clauses.proofs.Emptied.{later-drained}
+use Rattle.acc_clauses.proofs.Freed.{queues-split}
 
 abbrev AreFree : List Transfer → List Loan → Type 0
 AreFree ts loans = none_lent ts loans ≡ Ok tt
 
 -- ---- parts of a list of transfers
-
-free-append : (xs ys : List Transfer) (loans : List Loan) → AreFree (xs ++ ys) loans → AreFree xs loans × AreFree ys loans
-free-append [] ys loans h = (refl, h)
-free-append (x ∷ xs) ys loans h =
-    let both : (not_lent (Some x.block) loans ≡ Ok tt) × AreFree (xs ++ ys) loans = then_ok (not_lent (Some x.block) loans) (none_lent (xs ++ ys) loans) tt h in
-    let rest : AreFree xs loans × AreFree ys loans = free-append xs ys loans both.1 in
-    (rw both.0 rest.0, rest.1)
 
 free-drop : (n : ℕ) (ts : List Transfer) (loans : List Loan) → AreFree ts loans → AreFree (drop n ts) loans
 free-drop zero ts loans h = h
@@ -35,6 +29,16 @@ free-drop (suc n) (t ∷ ts) loans h = free-drop n ts loans (then_ok (not_lent (
 free-first : (ts : List Transfer) (loans : List Loan) → AreFree ts loans → AreFree (take 1 ts) loans
 free-first [] loans h = h
 free-first (t ∷ ts) loans h = rw (then_ok (not_lent (Some t.block) loans) (none_lent ts loans) tt h).0 refl
+
+-- the first transfer of a queue is not of a block that is lent
+pub first_free : (q : ℕ) (queues : List (List Transfer)) (loans : List Loan) (t : Transfer) → head_of q queues ≡ Some t → none_lent (take 1 (queue_at q queues)) loans ≡ Ok tt → is_lent t.block loans ≡ false
+first_free q queues loans t = go (queue_at q queues)
+  where
+    go : (ts : List Transfer) → slice_get ts 0 ≡ Some t → AreFree (take 1 ts) loans → is_lent t.block loans ≡ false
+    go [] first free = cc
+    go (x ∷ ts) first free =
+        let same : x ≡ t = cc in
+        subst (λ (y : Transfer). is_lent y.block loans ≡ false) same (not_lent_says x.block loans (then_ok (not_lent (Some x.block) loans) (none_lent [] loans) tt free).0)
 
 -- ---- a queue after some of its steps
 
@@ -69,7 +73,7 @@ unfolding drained
 queue-drained q zero s = refl
 queue-drained q (suc n) s = queue-drained q n (stepped q s) ∙ (ap (drop n) (queue-stepped q s) ∙ drop-one n (queue_at q s.records.queues))
 
-same_loans : (qs : List ℕ) (s : State) → (drained qs s).records.loans ≡ s.records.loans
+pub same_loans : (qs : List ℕ) (s : State) → (drained qs s).records.loans ≡ s.records.loans
 same_loans qs s = ap (λ (w : Records). w.loans) (records-drained qs s) ∙ loans-drained qs s.records
 
 -- the next step of a queue makes a transfer whose block is not lent, where none that waited there is of such a block
@@ -81,20 +85,16 @@ next_free q n s t free e =
 
 -- ---- all queues
 
--- the transfers of the queues from one on are those of that queue, and then those of the queues behind it
-queues-split : (i : ℕ) (queues : List (List Transfer)) → flat_map (λ ts. ts) (drop i queues) ≡ queue_at i queues ++ flat_map (λ ts. ts) (drop (suc i) queues)
-queues-split zero [] = refl
-queues-split (suc i) [] = refl
-queues-split zero (ts ∷ queues) = refl
-queues-split (suc i) (ts ∷ queues) = queues-split i queues
+-- those from a queue on are its own, and those of the queues behind it
+split_free : (q : ℕ) (queues : List (List Transfer)) (loans : List Loan) → AreFree (flat_map (λ ts. ts) (drop q queues)) loans → AreFree (queue_at q queues) loans × AreFree (flat_map (λ ts. ts) (drop (suc q) queues)) loans
+split_free q queues loans h = then_ok (none_lent (queue_at q queues) loans) (none_lent (flat_map (λ ts. ts) (drop (suc q) queues)) loans) tt (sym (queues-split q queues loans) ∙ h)
 
 pub queue_free : (q : ℕ) (s : State) → none_lent (flat_map (λ ts. ts) (drop q s.records.queues)) s.records.loans ≡ Ok tt → none_lent (queue_at q s.records.queues) s.records.loans ≡ Ok tt
-queue_free q s h = (free-append (queue_at q s.records.queues) (flat_map (λ ts. ts) (drop (suc q) s.records.queues)) s.records.loans (subst (λ ts. AreFree ts s.records.loans) (queues-split q s.records.queues) h)).0
+queue_free q s h = (split_free q s.records.queues s.records.loans h).0
 
 -- once a queue is emptied, those behind it are as free as before
 pub rest_free : (q n : ℕ) (s t : State) → none_lent (flat_map (λ ts. ts) (drop q s.records.queues)) s.records.loans ≡ Ok tt → t ≡ drained (replicate n q) s → none_lent (flat_map (λ ts. ts) (drop (q + 1) t.records.queues)) t.records.loans ≡ Ok tt
 rest_free q n s t h e =
-    let behind : AreFree (flat_map (λ ts. ts) (drop (suc q) s.records.queues)) s.records.loans
-    = (free-append (queue_at q s.records.queues) (flat_map (λ ts. ts) (drop (suc q) s.records.queues)) s.records.loans (subst (λ ts. AreFree ts s.records.loans) (queues-split q s.records.queues) h)).1 in
+    let behind : AreFree (flat_map (λ ts. ts) (drop (suc q) s.records.queues)) s.records.loans = (split_free q s.records.queues s.records.loans h).1 in
     let after : AreFree (flat_map (λ ts. ts) (drop (suc q) (drained (replicate n q) s).records.queues)) (drained (replicate n q) s).records.loans = rw (later-drained q n s, same_loans (replicate n q) s) behind in
     subst (λ m. AreFree (flat_map (λ ts. ts) (drop m t.records.queues)) t.records.loans) (sym (add-one q)) (subst (λ (x : State). AreFree (flat_map (λ ts. ts) (drop (suc q) x.records.queues)) x.records.loans) (sym e) after)

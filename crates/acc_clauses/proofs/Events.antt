@@ -1,6 +1,6 @@
 -- The event of a plan is legal, and has the tasks, the steps, the queues and the register of the plan. Where a plan makes none, it changes nothing.
-use Rattle.std.proofs.Common.{ℕ, ◌≡◌, refl, sym, ap, subst, ◌∙◌, false, List, [], ◌∷◌, Option, Some, None, Result, Ok}
-use Rattle.std.specs.Prelude.{map, take, slice_get, unwrap_or, option_map, IsSome}
+use Rattle.std.proofs.Common.{ℕ, ◌≡◌, refl, sym, ap, subst, ◌∙◌, List, [], ◌∷◌, Option, Some, None, Ok}
+use Rattle.std.specs.Prelude.{map, unwrap_or, option_map, IsSome}
 use Rattle.std.proofs.lemmas.List.{reverse-reverse}
 use Rattle.acc_base.specs.declared.directives.Directive.{Directive}
 use Rattle.acc_base.specs.declared.directives.Directive.TheVariants.{Enter, Exit, EnterData, ExitData, Update, Wait, Step}
@@ -11,22 +11,19 @@ use Rattle.acc_base.specs.declared.tasks.Task.{Task}
 use Rattle.acc_base.specs.declared.transfers.Transfer.{Transfer}
 use Rattle.acc_base.specs.declared.events.Did.{Did}
 use Rattle.acc_base.specs.declared.events.Event.{Event}
-use Rattle.acc_base.specs.declared.events.Event.TheVariants as events
-use Rattle.acc_base.specs.declared.faults.Fault.{Fault}
 use Rattle.acc_base.specs.Limits.{Limits}
 use Rattle.acc_base.specs.Records.{Records, State, layout_of}
 use Rattle.acc_base.specs.Register.{holdings_at, opened}
-use Rattle.acc_base.specs.Queues.{queue_at, head_of, queue_named}
-use Rattle.acc_base.specs.declared.loans.Loan.{Loan}
-use Rattle.acc_base.specs.Loans.{is_lent, not_lent, none_lent}
+use Rattle.acc_base.specs.Queues.{head_of, queue_named}
+use Rattle.acc_base.specs.Loans.{none_lent}
 use Rattle.acc_base.specs.Waits.{state_made, stepped, drained, steps_of}
 use Rattle.acc_base.specs.Walk.{enter_task, leave_tasks, asked_in, done_in, stepped_in, holdings_of, register_after, block_counted, pointer_attached}
 use Rattle.acc_base.specs.Acting.{act_all_state, host_after}
 use Rattle.acc_base.specs.Judge.{tasks_of_region, Makes, Idle, step_verdict, verdict_of}
 use Rattle.acc_base.specs.History.{AreJudged, NamesRight, IsLegal}
-use Rattle.acc_base.proofs.Results.{then_ok}
-use Rattle.acc_base.proofs.Judged.{not_lent_says}
+use Rattle.acc_base.proofs.Results.{ok_same}
 use Rattle.acc_clauses.specs.Planned.{Planned, IsPlannedOn, head_planned, transfers_by, holdings_by, register_planned, steps_by, finished}
+use Rattle.acc_clauses.proofs.Emptying.{first_free}
 
 -- what the event of a plan asks, does and names
 pub record IsEventOf (l : Limits) (p : Planned) (s : State) (e : Event) : Type 0 where
@@ -39,13 +36,10 @@ pub record IsEventOf (l : Limits) (p : Planned) (s : State) (e : Event) : Type 0
 
 -- ---- the tasks
 
-asked_same : (ts us : List Task) → ◌≡◌ {A = Result (List Task) Fault} (Ok ts) (Ok us) → ts ≡ us
-asked_same ts us e = cc
-
 -- the region that is left is open, and its tasks undo what it holds
 left_asked : (number : ℕ) (o : Option (List Holding)) (ts : List Task) → tasks_of_region number o ≡ Ok ts → IsSome o × (leave_tasks (unwrap_or o []) ≡ ts)
 left_asked number None ts e = absurd cc
-left_asked number (Some holdings) ts e = (refl, asked_same _ _ e)
+left_asked number (Some holdings) ts e = (refl, ok_same _ _ e)
 
 -- what an entry holds is read of its tasks
 held_asked : (items : List (Item RegionClause)) (dids : List Did) → holdings_of items dids ≡ holdings_by (map enter_task items) dids
@@ -78,28 +72,21 @@ known_queue l d s p queue h same = subst (λ o. queue_named o ≡ Ok tt) same h.
 transfers_free : (l : Limits) (d : Directive) (s : State) (p : Planned) → IsPlannedOn l d (layout_of s) p → none_lent (transfers_by (head_planned d) s.records.queues) s.records.loans ≡ Ok tt
 transfers_free l d s p h = subst (λ k. none_lent (transfers_by k s.records.queues) s.records.loans ≡ Ok tt) h.head h.free
 
--- the first one is of a block that is not lent
-first_free : (ts : List Transfer) (loans : List Loan) (t : Transfer) → slice_get ts 0 ≡ Some t → none_lent (take 1 ts) loans ≡ Ok tt → is_lent t.block loans ≡ false
-first_free [] loans t first free = cc
-first_free (x ∷ ts) loans t first free =
-    let same : x ≡ t = cc in
-    subst (λ (y : Transfer). is_lent y.block loans ≡ false) same (not_lent_says x.block loans (then_ok (not_lent (Some x.block) loans) (none_lent [] loans) tt free).0)
-
 -- the first transfer of a queue is made
 step_event : (l : Limits) (queue : ℕ) (s : State) (p : Planned) (e : Event) → IsPlannedOn l (Step queue) (layout_of s) p → (o : Option Transfer) → head_of queue s.records.queues ≡ o → step_verdict queue o ≡ Makes e → IsEventOf l p s e
 step_event l queue s p e h None first made = cc
 step_event l queue s p e h (Some t) first made = subst (IsEventOf l p s) (event_same _ _ made) (record {
-  asked = asked_same _ _ h.tasks;
-  done = sym (none_done l 0 p.dids s.records (subst (λ ts. AreJudged l 0 ts p.dids s.records) (sym (asked_same _ _ h.tasks)) h.judged));
+  asked = ok_same _ _ h.tasks;
+  done = sym (none_done l 0 p.dids s.records (subst (λ ts. AreJudged l 0 ts p.dids s.records) (sym (ok_same _ _ h.tasks)) h.judged));
   steps = rw h.head refl;
   register = rw h.head refl;
-  names = (ap (option_map (λ (x : Transfer). x.block)) first, first_free (queue_at queue s.records.queues) s.records.loans t first (transfers_free l (Step queue) s p h));
+  names = (ap (option_map (λ (x : Transfer). x.block)) first, first_free queue s.records.queues s.records.loans t first (transfers_free l (Step queue) s p h));
   host = λ bytes. refl;
 })
 
 pub event_of_plan : (l : Limits) (d : Directive) (s : State) (p : Planned) (e : Event) → IsPlannedOn l d (layout_of s) p → verdict_of d s p.dids ≡ Makes e → IsEventOf l p s e
 event_of_plan l (Enter items) s p e h made =
-    let same : map enter_task items ≡ p.tasks = asked_same _ _ h.tasks in
+    let same : map enter_task items ≡ p.tasks = ok_same _ _ h.tasks in
     subst (IsEventOf l p s) (event_same _ _ made) (record {
       asked = same;
       done = refl;
@@ -112,7 +99,7 @@ event_of_plan l (Exit number) s p e h made =
     let left : IsSome (holdings_at number s.register.regions) × (leave_tasks (unwrap_or (holdings_at number s.register.regions) []) ≡ p.tasks) = left_asked number (holdings_at number s.register.regions) p.tasks h.tasks in
     subst (IsEventOf l p s) (event_same _ _ made) (record { asked = left.1; done = reverse-reverse p.dids; steps = rw h.head refl; register = rw h.head refl; names = left.0; host = λ bytes. refl })
 event_of_plan l (EnterData items queue) s p e h made = subst (IsEventOf l p s) (event_same _ _ made) (record {
-  asked = asked_same _ _ h.tasks;
+  asked = ok_same _ _ h.tasks;
   done = refl;
   steps = rw h.head refl;
   register = rw h.head refl;
@@ -120,7 +107,7 @@ event_of_plan l (EnterData items queue) s p e h made = subst (IsEventOf l p s) (
   host = λ bytes. refl;
 })
 event_of_plan l (ExitData items finalize queue) s p e h made = subst (IsEventOf l p s) (event_same _ _ made) (record {
-  asked = asked_same _ _ h.tasks;
+  asked = ok_same _ _ h.tasks;
   done = refl;
   steps = rw h.head refl;
   register = rw h.head refl;
@@ -128,7 +115,7 @@ event_of_plan l (ExitData items finalize queue) s p e h made = subst (IsEventOf 
   host = λ bytes. refl;
 })
 event_of_plan l (Update items if_present queue) s p e h made = subst (IsEventOf l p s) (event_same _ _ made) (record {
-  asked = asked_same _ _ h.tasks;
+  asked = ok_same _ _ h.tasks;
   done = refl;
   steps = rw h.head refl;
   register = rw h.head refl;
@@ -136,7 +123,7 @@ event_of_plan l (Update items if_present queue) s p e h made = subst (IsEventOf 
   host = λ bytes. refl;
 })
 event_of_plan l (Wait queue) s p e h made =
-    let none : [] ≡ p.tasks = asked_same _ _ h.tasks in
+    let none : [] ≡ p.tasks = ok_same _ _ h.tasks in
     subst (IsEventOf l p s) (event_same _ _ made) (record {
       asked = none;
       done = sym (none_done l 0 p.dids s.records (subst (λ ts. AreJudged l 0 ts p.dids s.records) (sym none) h.judged));
@@ -163,7 +150,7 @@ empty_step queue s none = ap (λ o. state_made queue o s) none
 
 step_idle : (l : Limits) (queue : ℕ) (s : State) (p : Planned) → IsPlannedOn l (Step queue) (layout_of s) p → (o : Option Transfer) → head_of queue s.records.queues ≡ o → step_verdict queue o ≡ Idle → finished p (act_all_state p.tasks p.dids s) ≡ s
 step_idle l queue s p h None first idle =
-    let none : [] ≡ p.tasks = asked_same _ _ h.tasks in
+    let none : [] ≡ p.tasks = ok_same _ _ h.tasks in
     ap (finished p) (still l (Step queue) s p h none) ∙ rw h.head (ap (λ (t : State). record t { register = s.register }) (empty_step queue s first))
 step_idle l queue s p h (Some t) first idle = cc
 

@@ -1,12 +1,11 @@
 -- What a planned directive makes of a store: the state after its event, and a store that is sound.
-use Rattle.std.specs.Prelude.{⊤, Option, Some, None}
+use Rattle.std.specs.Prelude.{Option, Some, None}
 use Rattle.std.proofs.Common.{◌≡◌, ◌≤◌, refl, sym, ◌∙◌, ap, subst, ℕ, List, [], arith}
 use Rattle.acc_base.specs.declared.directives.Directive.{Directive}
 use Rattle.acc_base.specs.declared.directives.Directive.TheVariants as directives
 use Rattle.acc_base.specs.declared.transfers.Transfer.{Transfer}
 use Rattle.acc_base.specs.declared.events.Did.{Did}
 use Rattle.acc_base.specs.declared.events.Event.{Event}
-use Rattle.acc_base.specs.declared.events.Event.TheVariants.{Entered, Left, EnteredData, ExitedData, Updated, Waited, Stepped, HostWritten, Lent, Gathered}
 use Rattle.acc_base.specs.Limits.{Limits, IsWithinBounds}
 use Rattle.acc_base.specs.Records.{Records, Layout, Memory, State, layout_of}
 use Rattle.acc_base.specs.Register.{Register}
@@ -30,72 +29,29 @@ use Rattle.acc_clauses.proofs.Events.{IsEventOf}
 
 -- ---- the state
 
--- the event of a directive or of a write: it lends nothing, and brings nothing back
-abbrev pub IsPlain : Event → Type 0
-IsPlain (Entered number items did) = ⊤
-IsPlain (Left number did) = ⊤
-IsPlain (EnteredData items queue did) = ⊤
-IsPlain (ExitedData items finalize queue did) = ⊤
-IsPlain (Updated items if_present queue did) = ⊤
-IsPlain (Waited queue count) = ⊤
-IsPlain (Stepped queue block) = ⊤
-IsPlain (HostWritten addr len) = ⊤
-IsPlain (Lent region section block serial) = ⊥
-IsPlain (Gathered serial block) = ⊥
-
-loaned-plain : (e : Event) (w : Records) → IsPlain e → loaned e w ≡ w
-unfolding loaned
-loaned-plain (Entered number items did) w plain = refl
-loaned-plain (Left number did) w plain = refl
-loaned-plain (EnteredData items queue did) w plain = refl
-loaned-plain (ExitedData items finalize queue did) w plain = refl
-loaned-plain (Updated items if_present queue did) w plain = refl
-loaned-plain (Waited queue count) w plain = refl
-loaned-plain (Stepped queue block) w plain = refl
-loaned-plain (HostWritten addr len) w plain = refl
-loaned-plain (Lent region section block serial) w plain = absurd plain
-loaned-plain (Gathered serial block) w plain = absurd plain
-
-memories-plain : (e : Event) (ms : List Memory) → IsPlain e → memories_after e [] ms ≡ ms
-memories-plain (Entered number items did) ms plain = refl
-memories-plain (Left number did) ms plain = refl
-memories-plain (EnteredData items queue did) ms plain = refl
-memories-plain (ExitedData items finalize queue did) ms plain = refl
-memories-plain (Updated items if_present queue did) ms plain = refl
-memories-plain (Waited queue count) ms plain = refl
-memories-plain (Stepped queue block) ms plain = refl
-memories-plain (HostWritten addr len) ms plain = refl
-memories-plain (Lent region section block serial) ms plain = absurd plain
-memories-plain (Gathered serial block) ms plain = absurd plain
-
-pub brought-plain : (e : Event) (w : Records) → IsPlain e → AreBrought e [] w
-brought-plain (Entered number items did) w plain = tt
-brought-plain (Left number did) w plain = tt
-brought-plain (EnteredData items queue did) w plain = tt
-brought-plain (ExitedData items finalize queue did) w plain = tt
-brought-plain (Updated items if_present queue did) w plain = tt
-brought-plain (Waited queue count) w plain = tt
-brought-plain (Stepped queue block) w plain = tt
-brought-plain (HostWritten addr len) w plain = tt
-brought-plain (Lent region section block serial) w plain = tt
-brought-plain (Gathered serial block) w plain = absurd plain
+-- an event that lends nothing, and brings nothing back
+pub record IsPlain (e : Event) : Type 0 where
+  pub records : (w : Records) → loaned e w ≡ w
+  pub memories : (ms : List Memory) → memories_after e [] ms ≡ ms
+  pub brought : (w : Records) → AreBrought e [] w
 
 plain_same : (x e : Event) → Makes x ≡ Makes e → IsPlain x → IsPlain e
 plain_same x e h plain = let is : x ≡ e = cc in subst IsPlain is plain
 
--- so is the event of each directive
+-- the event of each directive is one
 pub plain_verdict : (d : Directive) (s : State) (dids : List Did) (e : Event) → verdict_of d s dids ≡ Makes e → IsPlain e
-plain_verdict (directives.Enter items) s dids e h = plain_same _ e h tt
-plain_verdict (directives.Exit number) s dids e h = plain_same _ e h tt
-plain_verdict (directives.EnterData items queue) s dids e h = plain_same _ e h tt
-plain_verdict (directives.ExitData items finalize queue) s dids e h = plain_same _ e h tt
-plain_verdict (directives.Update items if_present queue) s dids e h = plain_same _ e h tt
-plain_verdict (directives.Wait queue) s dids e h = plain_same _ e h tt
+unfolding loaned
+plain_verdict (directives.Enter items) s dids e h = plain_same _ e h (record { records = λ w. refl; memories = λ ms. refl; brought = λ w. tt })
+plain_verdict (directives.Exit number) s dids e h = plain_same _ e h (record { records = λ w. refl; memories = λ ms. refl; brought = λ w. tt })
+plain_verdict (directives.EnterData items queue) s dids e h = plain_same _ e h (record { records = λ w. refl; memories = λ ms. refl; brought = λ w. tt })
+plain_verdict (directives.ExitData items finalize queue) s dids e h = plain_same _ e h (record { records = λ w. refl; memories = λ ms. refl; brought = λ w. tt })
+plain_verdict (directives.Update items if_present queue) s dids e h = plain_same _ e h (record { records = λ w. refl; memories = λ ms. refl; brought = λ w. tt })
+plain_verdict (directives.Wait queue) s dids e h = plain_same _ e h (record { records = λ w. refl; memories = λ ms. refl; brought = λ w. tt })
 plain_verdict (directives.Step queue) s dids e h = go (head_of queue s.records.queues) h
   where
     go : (o : Option Transfer) → step_verdict queue o ≡ Makes e → IsPlain e
-    go None made = cc
-    go (Some t) made = plain_same _ e made tt
+    go None made = absurd cc
+    go (Some t) made = plain_same _ e made (record { records = λ w. refl; memories = λ ms. refl; brought = λ w. tt })
 
 -- what an event without bytes makes of a state, once its steps and its register are known
 by_parts : (e : Event) (a b : State) (x y : Register) → a ≡ b → x ≡ y → ((bytes : List ℕ) → host_after e [] bytes ≡ bytes) → IsPlain e
@@ -105,7 +61,7 @@ by_parts e a b x y same register host plain =
     let Q : State → State = λ t. record t { register = x } in
     let R : Records → State = λ w. record { records = w; register = x; host = a.host; memories = memories_after e [] a.memories } in
     let S : List Memory → State = λ ms. record { records = a.records; register = x; host = a.host; memories = ms } in
-    ap P (host a.host) ∙ ap R (loaned-plain e a.records plain) ∙ ap S (memories-plain e a.memories plain) ∙ ap Q same ∙ ap (λ (g : Register). record b { register = g }) register
+    ap P (host a.host) ∙ ap R (plain.records a.records) ∙ ap S (plain.memories a.memories) ∙ ap Q same ∙ ap (λ (g : Register). record b { register = g }) register
 
 -- the state after the event of a plan is that after its tasks, and then its queues and its register
 pub after_plan : (l : Limits) (p : Planned) (s : State) (e : Event) → IsEventOf l p s e → IsPlain e → after e [] s ≡ finished p (act_all_state p.tasks p.dids s)

@@ -1,5 +1,5 @@
 -- Whether a step needs a block that is lent, and whether queued transfers are of one, told by the first that is.
-use Rattle.std.proofs.Common.{ℕ, zero, suc, ◌≡◌, ◌+◌, refl, sym, ◌∙◌, ap, List, [], ◌∷◌, ◌++◌, drop, add-one, Option, Some, None, Result, Ok, Err}
+use Rattle.std.proofs.Common.{ℕ, zero, suc, ◌≡◌, ◌+◌, refl, sym, ◌∙◌, ap, List, [], ◌∷◌, ◌++◌, drop, add-one, Option, Some, Result, Ok, Err, length, arith}
 use Rattle.std.specs.Prelude.{⊤, option_map, slice_get}
 use Rattle.std.specs.List.{flat_map}
 use Rattle.std.proofs.lemmas.List.Concat.{flat_map-cons}
@@ -71,10 +71,18 @@ module _ (place : ℕ) (ts : List Transfer) (loans : List Loan) (all : Result �
   pub place_free : (x : ⊤) → Ok x ≡ not_lent block loans → none_lent (drop (place + 1) ts) loans ≡ all
   place_free x e = ap (λ n. none_lent (drop n ts) loans) (add-one place) ∙ passed (not_lent block loans) (none_lent (drop (suc place) ts) loans) all x here e
 
+-- ---- none is lent
+
+-- where no block is lent, no transfer is of one
+pub none_unlent : (ts : List Transfer) (loans : List Loan) → length loans ≡ 0 → Ok tt ≡ none_lent ts loans
+none_unlent [] loans e = refl
+none_unlent (t ∷ ts) [] e = none_unlent ts [] e
+none_unlent (t ∷ ts) (l ∷ loans) e = absurd (omega (arith, e))
+
 -- ---- those of all queues
 
 -- the transfers of these queues
-abbrev all_of : List (List Transfer) → List Transfer
+abbrev pub all_of : List (List Transfer) → List Transfer
 all_of queues = flat_map (λ transfers. transfers) queues
 
 -- two lists
@@ -87,7 +95,7 @@ none_lent-append (x ∷ xs) ys loans = go (not_lent (Some x.block) loans) (none_
     go (Err fault) rest = refl
 
 -- those from a queue on are its own, and those of the queues behind it
-queues-split : (q : ℕ) (queues : List (List Transfer)) (loans : List Loan) → none_lent (all_of (drop q queues)) loans ≡ (none_lent (queue_at q queues) loans >> none_lent (all_of (drop (suc q) queues)) loans)
+pub queues-split : (q : ℕ) (queues : List (List Transfer)) (loans : List Loan) → none_lent (all_of (drop q queues)) loans ≡ (none_lent (queue_at q queues) loans >> none_lent (all_of (drop (suc q) queues)) loans)
 queues-split zero [] loans = refl
 queues-split zero (ts ∷ queues) loans = ap (λ us. none_lent us loans) (flat_map-cons (λ (us : List Transfer). us) ts queues) ∙ none_lent-append ts (all_of queues) loans
 queues-split (suc q) [] loans = refl

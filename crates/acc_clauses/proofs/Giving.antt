@@ -1,5 +1,5 @@
 -- What the copy of a task's section leaves of the parts, made at once or put into a queue.
-use Rattle.std.proofs.Common.{ℕ, ◌≡◌, ◌-◌, ◌<◌, ◌≤◌, refl, sym, ap, subst, Bool, true, false, cond, ◌&&◌, [], length, Option, Some, None, Ok, arith}
+use Rattle.std.proofs.Common.{ℕ, ◌≡◌, ◌<◌, ◌≤◌, refl, sym, ap, subst, Bool, true, false, cond, ◌&&◌, [], length, Option, Some, None, Ok, arith}
 use Rattle.std.specs.Prelude.{nat_le, unwrap_or, option_map, IsSome, is_some}
 use Rattle.std.proofs.lemmas.Bool.Decides.{nat_tests}
 use Rattle.acc_base.proofs.Judged.{not_lent_says}
@@ -25,7 +25,7 @@ use Rattle.acc_base.specs.Bytes.{bytes_of, step_state}
 use Rattle.acc_base.proofs.Results.{equal_self, refused_not}
 use Rattle.acc_queues.specs.Queued.{spare_at}
 use Rattle.acc_clauses.specs.declared.environments.Environment.{Environment}
-use Rattle.acc_clauses.specs.Contents.{state_of, room_of, bare_state}
+use Rattle.acc_clauses.specs.Contents.{room_of, bare_state}
 use Rattle.acc_clauses.specs.Overlays.{moves, is_queue, puts_by}
 use Rattle.acc_clauses.specs.Acts.{CanMove, CanPut, CanMoveBytes, CanQueue, HasPutRoom, moved_state, filled_later, given_state, IsMovedBy, IsFilledLater, IsGivenBy, IsActedBy, CanNeed}
 use Rattle.acc_clauses.proofs.Changes.{changed_to}

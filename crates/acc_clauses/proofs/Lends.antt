@@ -1,6 +1,7 @@
 -- A block is lent, and comes back: what the device needs for it, and what it leaves of the parts and of a store.
-use Rattle.std.proofs.Common.{ℕ, ◌≡◌, ◌+◌, ◌<◌, ◌≤◌, refl, sym, ◌∙◌, ap, subst, Bool, true, false, List, [], ◌∷◌, Option, Some, None, Ok, arith}
-use Rattle.std.specs.Prelude.{◌==◌, not, is_none, unwrap_or, option_map, IsSome, ⊤}
+use Rattle.std.proofs.Common.{ℕ, ◌≡◌, ◌+◌, ◌-◌, ◌<◌, ◌≤◌, refl, sym, ◌∙◌, ap, subst, Bool, true, false, cond, List, [], ◌∷◌, Option, Some, None, Ok, arith}
+use Rattle.std.specs.Prelude.{◌==◌, not, is_none, is_some, unwrap_or, option_map, IsSome, nat_lt, length}
+use Rattle.std.proofs.lemmas.Bool.Decides.{nat_tests}
 use Rattle.std.specs.List.{AllByRecursion, AllZip}
 use Rattle.acc_base.specs.declared.items.Section.{Section}
 use Rattle.acc_base.specs.declared.mappings.Range.{Range}
@@ -16,20 +17,19 @@ use Rattle.acc_base.specs.Records.{Records, State, layout_of}
 use Rattle.acc_base.specs.Register.{Region}
 use Rattle.acc_base.specs.Ranges.{range_of}
 use Rattle.acc_base.specs.Blocks.{block_at, used_bytes}
-use Rattle.acc_base.specs.Loans.{Leased, is_lent, with_loan, without_loan, len_of, is_returnable}
-use Rattle.acc_base.specs.Walk.{loan_at, loaned, register_after}
+use Rattle.acc_base.specs.Loans.{Leased, loan_of, is_loan_of, is_lent, with_loan, without_loan, len_of, is_returnable}
+use Rattle.acc_base.specs.Walk.{loan_at, loaned}
 use Rattle.acc_base.specs.Waits.{drained}
 use Rattle.acc_base.specs.Acting.{act_all_state, after}
 use Rattle.acc_base.specs.Judge.{gather_event}
 use Rattle.acc_base.specs.History.{IsLegal}
-use Rattle.acc_base.specs.Accounts.{IsMapped, IsMemoryOf, IsLoanSound, AreRecordsSound, AreMemoriesSized}
-use Rattle.acc_base.proofs.Results.{equal, then_ok, refused_not, not_false}
+use Rattle.acc_base.specs.Accounts.{EachPair, IsMapped, IsLoanSound, AreRecordsSound, AreMemoriesSized}
+use Rattle.acc_base.proofs.Results.{equal, and_true, then_ok, refused_not, not_false}
 use Rattle.acc_base.proofs.Elements.{found_has, AllByRecursion-weaker}
 use Rattle.acc_base.proofs.Lending.{loans-with, loans-without}
 use Rattle.acc_base.proofs.Loaned.{with_loans, placed_loan}
-use Rattle.acc_base.proofs.Memories.{AreBrought, lent_sized, gathered_sized}
+use Rattle.acc_base.proofs.Memories.{lent_sized, gathered_sized}
 use Rattle.acc_base.proofs.LegalEvents.{lend_legal, IsGathered, gather_legal}
-use Rattle.acc_base.proofs.Registers.{AreFew}
 use Rattle.acc_dev.specs.Marks.{is_ended_at, IsMarkOf}
 use Rattle.acc_dev.specs.Device.{DeviceState, HasBlock, IsTakenOut, IsPutBack}
 use Rattle.acc_clauses.specs.declared.environments.Environment.{Environment}
@@ -74,9 +74,55 @@ lend_within l x n loan parts sound =
 
 -- ---- the parts
 
--- the numbers after a loan
+-- the numbers after a loan, and after its end
 abbrev pub numbered_on : Numbers → Numbers
-numbered_on n = record { region = n.region; serial = n.serial + 1 }
+numbered_on n = record { region = n.region; serial = n.serial + 1; lent = n.lent + 1 }
+
+abbrev pub numbered_off : Numbers → Numbers
+numbered_off n = record { region = n.region; serial = n.serial; lent = n.lent - 1 }
+
+-- one loan more
+length-with : (new : Loan) (ls : List Loan) → length (with_loan new ls) ≡ length ls + 1
+length-with new [] = refl
+length-with new (l ∷ ls) = go (nat_lt new.block l.block) (length-with new ls)
+  where
+    go : (b : Bool) → length (with_loan new ls) ≡ length ls + 1 → length (cond b (new ∷ l ∷ ls) (l ∷ with_loan new ls)) ≡ length (l ∷ ls) + 1
+    go true rest = omega arith
+    go false rest = omega (arith, rest)
+
+-- the loans of later blocks stay
+without-later : (block : ℕ) (ls : List Loan) → AllByRecursion (λ (l : Loan). block < l.block) ls → without_loan block ls ≡ ls
+without-later block [] later = refl
+without-later block (l ∷ ls) later =
+    let other : (l.block == block) ≡ false = grind (arith, nat_tests, later.0) in
+    rw other (ap (λ ms. l ∷ ms) (without-later block ls later.1))
+
+some_lent : (block : ℕ) (ls : List Loan) → is_lent block ls ≡ true → 0 < length ls
+some_lent block [] lent = cc
+some_lent block (l ∷ ls) lent = omega arith
+
+-- and one less
+length-without : (block : ℕ) (ls : List Loan) → EachPair (λ (l m : Loan). l.block < m.block) ls → is_lent block ls ≡ true → length (without_loan block ls) ≡ length ls - 1
+length-without block [] rising lent = refl
+length-without block (l ∷ ls) rising lent = go (l.block == block) refl (length-without block ls rising.1)
+  where
+    go : (b : Bool) → (l.block == block) ≡ b → (is_lent block ls ≡ true → length (without_loan block ls) ≡ length ls - 1) → length (without_loan block (l ∷ ls)) ≡ length (l ∷ ls) - 1
+    go true e rest =
+        let own : AllByRecursion (λ (m : Loan). block < m.block) ls = subst (λ n. AllByRecursion (λ (m : Loan). n < m.block) ls) (equal l.block block e) rising.0 in
+        let later : length (without_loan block ls) ≡ length ls = ap length (without-later block ls own) in
+        rw e (omega (arith, later))
+    go false e rest =
+        let step : is_lent block (l ∷ ls) ≡ is_lent block ls = rw e refl in
+        let left : is_lent block ls ≡ true = sym step ∙ lent in
+        rw e (omega (arith, rest left, some_lent block ls left))
+
+-- the block of a lease that is returnable is lent
+loan_some : (lease : Leased) (o : Option Loan) → is_loan_of lease o ≡ true → is_some o ≡ true
+loan_some lease None e = cc
+loan_some lease (Some l) e = refl
+
+returnable_lent : (lease : Leased) (w : Records) → is_returnable lease w.blocks w.loans ≡ true → is_lent lease.block w.loans ≡ true
+returnable_lent lease w e = loan_some lease (loan_of lease.block w.loans) (and_true _ _ e).0
 
 pub lent_is : (x : Environment) (n : Numbers) (d : DeviceState) (loan : Loan) → IsTakenOut x.device d loan → state_of (record x { device = d }) (numbered_on n) ≡ lent_state loan (state_of x n)
 lent_is x n d loan out = state_by (record x { device = d }) (numbered_on n) (lent_state loan (state_of x n)) refl out.blocks refl out.births refl out.loans refl refl refl refl out.memories
@@ -92,10 +138,12 @@ lent_parts l x n d loan parts free sound out =
       sized = record { counters = parts.sized.counters; device = out.size ∙ parts.sized.device; pointers = parts.sized.pointers; queues = parts.sized.queues };
       sound = record { records = subst (λ (t : State). AreRecordsSound l t.records) (sym is) records; memories = subst (AreMemoriesSized l) (sym is) memories };
       marked = rw out.marks parts.marked;
+      lent = ap (λ k. k + 1) parts.lent ∙ (sym (length-with loan x.device.loans) ∙ ap length (sym out.loans));
+      few = omega (arith, parts.few);
     }
 
-pub gathered_is : (x : Environment) (n : Numbers) (d : DeviceState) (lease : Leased) → IsPutBack x.device d lease → state_of (record x { device = d }) n ≡ gathered_state lease (state_of x n)
-gathered_is x n d lease back = state_by (record x { device = d }) n (gathered_state lease (state_of x n)) refl back.blocks refl back.births refl back.loans refl refl refl refl back.memories
+pub gathered_is : (x : Environment) (n : Numbers) (d : DeviceState) (lease : Leased) → IsPutBack x.device d lease → state_of (record x { device = d }) (numbered_off n) ≡ gathered_state lease (state_of x n)
+gathered_is x n d lease back = state_by (record x { device = d }) (numbered_off n) (gathered_state lease (state_of x n)) refl back.blocks refl back.births refl back.loans refl refl refl refl back.memories
 
 -- a lease that a block fits is gathered
 pub gather_is : (lease : Leased) (w : Records) → is_returnable lease w.blocks w.loans ≡ true → gather_event lease w ≡ Ok (Gathered lease.serial lease.block)
@@ -106,17 +154,19 @@ pub returnable : (lease : Leased) (w : Records) (e : Event) → gather_event lea
 unfolding gather_event
 returnable lease w e h = not_false _ (refused_not _ _ (then_ok (refuse_if (not (is_returnable lease w.blocks w.loans)) (NoLease lease.serial)) (Ok (Gathered lease.serial lease.block)) e h).0)
 
-pub gathered_parts : (l : Limits) (x : Environment) (n : Numbers) (d : DeviceState) (lease : Leased) → ArePartsSound l x n → is_returnable lease x.device.blocks x.device.loans ≡ true → IsPutBack x.device d lease → ArePartsSound l (record x { device = d }) n
+pub gathered_parts : (l : Limits) (x : Environment) (n : Numbers) (d : DeviceState) (lease : Leased) → ArePartsSound l x n → is_returnable lease x.device.blocks x.device.loans ≡ true → IsPutBack x.device d lease → ArePartsSound l (record x { device = d }) (numbered_off n)
 gathered_parts l x n d lease parts fits back =
     let s : State = state_of x n in
     let long : IsGathered l lease s (Gathered lease.serial lease.block) = gather_legal l lease s (Gathered lease.serial lease.block) parts.sound.records (gather_is lease s.records fits) in
     let records : AreRecordsSound l (gathered_state lease s).records = with_loans l s.records (without_loan lease.block s.records.loans) parts.sound.records (loans-without s.records.ranges lease.block s.records.loans parts.sound.records.loans) in
     let memories : AreMemoriesSized l (gathered_state lease s) = record { host = parts.sound.memories.host; blocks = gathered_sized lease.block lease.bytes s.records.loans s.memories s.records.blocks long.fits parts.sound.memories.blocks } in
-    let is : state_of (record x { device = d }) n ≡ gathered_state lease s = gathered_is x n d lease back in
+    let is : state_of (record x { device = d }) (numbered_off n) ≡ gathered_state lease s = gathered_is x n d lease back in
     record {
       sized = record { counters = parts.sized.counters; device = back.size ∙ parts.sized.device; pointers = parts.sized.pointers; queues = parts.sized.queues };
       sound = record { records = subst (λ (t : State). AreRecordsSound l t.records) (sym is) records; memories = subst (AreMemoriesSized l) (sym is) memories };
       marked = rw back.marks parts.marked;
+      lent = ap (λ k. k - 1) parts.lent ∙ (sym (length-without lease.block x.device.loans parts.sound.records.loans.rising (returnable_lent lease s.records fits)) ∙ ap length (sym back.loans));
+      few = omega (arith, parts.few);
     }
 
 -- ---- the store

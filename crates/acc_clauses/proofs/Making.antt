@@ -3,10 +3,7 @@ use Rattle.std.proofs.Common.{ℕ, ◌≡◌, ◌+◌, ◌-◌, ◌≤◌, sym, 
 use Rattle.std.specs.Prelude.{drop, take}
 use Rattle.std.specs.List.{AllByRecursion}
 use Rattle.std.proofs.lemmas.Bool.Decides.{nat_tests}
-use Rattle.acc_base.specs.declared.loans.Loan.{Loan}
-use Rattle.acc_base.proofs.Results.{then_ok}
-use Rattle.acc_base.proofs.Judged.{not_lent_says}
-use Rattle.acc_base.specs.Loans.{is_lent, not_lent, none_lent}
+use Rattle.acc_base.specs.Loans.{is_lent, none_lent}
 use Rattle.acc_base.specs.declared.items.Section.{Section}
 use Rattle.acc_base.specs.declared.transfers.Transfer.{Transfer}
 use Rattle.acc_base.specs.Limits.{Limits, IsWithinBounds}
@@ -25,6 +22,7 @@ use Rattle.acc_clauses.specs.declared.numbers.Numbers.{Numbers}
 use Rattle.acc_clauses.specs.declared.environments.Environment.{Environment}
 use Rattle.acc_clauses.specs.Contents.{state_of, ArePartsSound}
 use Rattle.acc_clauses.specs.Acts.{CanStep, IsSteppedBy}
+use Rattle.acc_clauses.proofs.Emptying.{first_free, same_loans}
 use Rattle.acc_clauses.proofs.Moving.{bytes_of-len}
 use Rattle.acc_clauses.proofs.Steps.{is_some}
 use Rattle.acc_clauses.proofs.Legal.{host_end}
@@ -41,16 +39,9 @@ first_has P q t queues e h =
     let each : AllByRecursion P (t ∷ drop 1 (queue_at q queues)) = subst (AllByRecursion P) (head_first (queue_at q queues) t e) (all-at (AllByRecursion P) queues q [] tt h) in
     each.0
 
--- the first transfer of a queue names no block that is lent
-pub first_free : (q : ℕ) (t : Transfer) (queues : List (List Transfer)) (loans : List Loan) → head_of q queues ≡ Some t → none_lent (take 1 (queue_at q queues)) loans ≡ Ok tt → is_lent t.block loans ≡ false
-first_free q t queues loans e free =
-    let first : queue_at q queues ≡ t ∷ drop 1 (queue_at q queues) = head_first (queue_at q queues) t e in
-    let one : none_lent (t ∷ []) loans ≡ Ok tt = subst (λ ts. none_lent ts loans ≡ Ok tt) (ap (take 1) first) free in
-    not_lent_says t.block loans (then_ok (not_lent (Some t.block) loans) (none_lent [] loans) tt one).0
-
 pub can_step : (l : Limits) (x : Environment) (next : Numbers) (q : ℕ) → IsWithinBounds l → none_lent (take 1 (queue_at q x.queues.queues)) x.device.loans ≡ Ok tt → ArePartsSound l x next → CanStep q x
 can_step l x next q bounds free sound t e =
-    let out : is_lent t.block x.device.loans ≡ false = first_free q t x.queues.queues x.device.loans e free in
+    let out : is_lent t.block x.device.loans ≡ false = first_free q x.queues.queues x.device.loans t e free in
     let has : IsTransferSound l x.device.blocks t = first_has (IsTransferSound l x.device.blocks) q t x.queues.queues e sound.sound.records.queues.transfers in
     record {
       in_host = subst (λ n. is_within t.section (host_memory n) ≡ true) (sym sound.sound.memories.host) has.in_host.within;
@@ -66,13 +57,20 @@ step_sound : (l : Limits) (q : ℕ) (s : State) → AreRecordsSound l s.records 
 unfolding drained records_drained
 step_sound l q s h m = (subst (AreRecordsSound l) (sym (records-drained (q ∷ []) s)) (stepped_sound l q s.records h), drained_sized l (q ∷ []) s m)
 
+step_loans : (q : ℕ) (s : State) → (stepped q s).records.loans ≡ s.records.loans
+unfolding drained
+step_loans q s = same_loans (q ∷ []) s
+
 pub stepped_parts : (l : Limits) (x y : Environment) (next : Numbers) (q : ℕ) → ArePartsSound l x next → IsSteppedBy q x y → ArePartsSound l y next
 stepped_parts l x y next q sound done =
     let after : AreRecordsSound l (stepped q (state_of x next)).records × AreMemoriesSized l (stepped q (state_of x next)) = step_sound l q (state_of x next) sound.sound.records sound.sound.memories in
     let there : AreRecordsSound l (state_of y next).records × AreMemoriesSized l (state_of y next) =
     subst (λ (s : State). AreRecordsSound l s.records × AreMemoriesSized l s) (sym (done.state next)) after in
+    let loans : y.device.loans ≡ x.device.loans = ap (λ (s : State). s.records.loans) (done.state next) ∙ step_loans q (state_of x next) in
     record {
       sized = record { counters = done.counter_max ∙ sound.sized.counters; device = done.size ∙ sound.sized.device; pointers = done.pointer_max ∙ sound.sized.pointers; queues = done.queue_cap ∙ sound.sized.queues };
       sound = record { records = there.0; memories = there.1 };
       marked = done.marked;
+      lent = sound.lent ∙ ap length (sym loans);
+      few = sound.few;
     }

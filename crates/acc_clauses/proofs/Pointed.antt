@@ -3,7 +3,6 @@ use Rattle.std.proofs.Common.{ℕ, ◌≡◌, refl, sym, ap, ◌∙◌, Bool, tr
 use Rattle.std.specs.Prelude.{◌||◌, ⊤}
 use Rattle.std.proofs.lemmas.Bool.{false≢true}
 use Rattle.acc_base.specs.declared.attachments.Aim.{Aim}
-use Rattle.acc_base.specs.declared.attachments.Aim.TheVariants as aims
 use Rattle.acc_base.specs.declared.mappings.Counter.{Counter}
 use Rattle.acc_base.specs.declared.items.Item.{Item}
 use Rattle.acc_base.specs.declared.items.RegionClause.{RegionClause}

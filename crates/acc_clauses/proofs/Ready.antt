@@ -1,6 +1,6 @@
 -- What a task is judged to do, its step and what becomes of its pointer, can be done, and leaves the parts sound.
 use Rattle.std.proofs.Common.{ℕ, ◌≡◌, ◌<◌, ◌^◌, refl, sym, ◌∙◌, ap, subst, Bool, true, false, cond, Option, Some, None, Ok, arith}
-use Rattle.std.specs.Prelude.{◌==◌}
+use Rattle.std.specs.Prelude.{◌==◌, length}
 use Rattle.std.proofs.lemmas.Bool.Decides.{nat_tests}
 use Rattle.acc_base.specs.Loans.{is_lent, not_lent}
 use Rattle.acc_base.specs.declared.mappings.Found.{Found}
@@ -33,6 +33,7 @@ use Rattle.acc_base.proofs.Judged.{IsJudgedTo, task_says, step_judged, not_lent_
 use Rattle.acc_base.proofs.Puts.{acted_sound}
 use Rattle.acc_base.proofs.Aimed.{leave_sound, exit_sound, move_sound, says_aimed, task_left}
 use Rattle.acc_base.proofs.Walked.{records-act_state}
+use Rattle.acc_base.proofs.Loaned.{loans-act}
 use Rattle.acc_base.proofs.Memories.{step_sized, aimed_sized, act_sized}
 use Rattle.acc_clauses.specs.declared.numbers.Numbers.{Numbers}
 use Rattle.acc_clauses.specs.declared.environments.Environment.{Environment}
@@ -197,8 +198,11 @@ parts_sound l x y next task did bounds sound judged done =
     done_sound l (state_of x next) task did bounds sound.sound.records sound.sound.memories judged in
     let there : AreRecordsSound l (state_of y next).records × AreMemoriesSized l (state_of y next) =
     subst (λ (s : State). AreRecordsSound l s.records × AreMemoriesSized l s) (sym (done.state next)) after in
+    let loans : y.device.loans ≡ x.device.loans = ap (λ (s : State). s.records.loans) (done.state next) ∙ (ap (λ (w : Records). w.loans) (records-act_state task did (state_of x next)) ∙ loans-act task did (state_of x next).records) in
     record {
       sized = record { counters = done.counter_max ∙ sound.sized.counters; device = done.size ∙ sound.sized.device; pointers = done.pointer_max ∙ sound.sized.pointers; queues = done.queue_cap ∙ sound.sized.queues };
       sound = record { records = there.0; memories = there.1 };
       marked = done.marked;
+      lent = sound.lent ∙ ap length (sym loans);
+      few = sound.few;
     }

@@ -9,7 +9,7 @@ use Rattle.acc_base.specs.Bytes.{bytes_of, host_byte, memory_changed, is_moved, 
 use Rattle.acc_base.proofs.Memories.{length-moved_in, length-moved_out}
 use Rattle.acc_dev.specs.Device.{DeviceState}
 use Rattle.acc_clauses.specs.declared.environments.Environment.{Environment}
-use Rattle.acc_clauses.specs.Contents.{state_of, bare_state}
+use Rattle.acc_clauses.specs.Contents.{bare_state}
 use Rattle.acc_clauses.specs.Acts.{CanCopy}
 use Rattle.acc_clauses.specs.Copies.{moved_below, IsRunEnd}
 use Rattle.acc_clauses.proofs.Runs.{within_both, IsRun, run_within, written_next, written_start, written_end, changed-twice, changed-none, changed_same}

@@ -1,5 +1,5 @@
 -- What contracts see of a store and of its parts: the limits, the state, and the room for more.
-use Rattle.std.specs.Prelude.{ℕ, ◌≡◌, List, is_none}
+use Rattle.std.specs.Prelude.{ℕ, ◌≡◌, ◌<◌, List, is_none, length}
 use Rattle.std.specs.List.{AllByRecursion}
 use Rattle.acc_base.specs.declared.mappings.Range.{Range}
 use Rattle.acc_base.specs.declared.transfers.Transfer.{Transfer}
@@ -40,7 +40,7 @@ state_of x next = record {
 
 -- the state that the parts come to, whatever region or loan comes next
 abbrev pub bare_numbers : Numbers
-bare_numbers = record { region = 0; serial = 0 }
+bare_numbers = record { region = 0; serial = 0; lent = 0 }
 
 abbrev pub bare_state : Environment → State
 bare_state x = state_of x bare_numbers
@@ -73,11 +73,13 @@ pub record AreContentsSound (c : Contents) : Type 0 where
   pub records : AreRecordsSound c.limits c.state.records
   pub memories : AreMemoriesSized c.limits c.state
 
--- the parts fit one another, and what they come to is sound
+-- the parts fit one another, what they come to is sound, and the blocks that are lent are counted: fewer than the number of the next loan
 pub record ArePartsSound (l : Limits) (x : Environment) (next : Numbers) : Type 0 where
   pub sized : AreSizedBy l x
   pub sound : AreContentsSound (contents_of l x next)
   pub marked : AreMarked x
+  pub lent : next.lent ≡ length x.device.loans
+  pub few : next.lent < next.serial
 
 -- nothing is mapped, no region is open, and host memory is zero
 pub record AreNew (l : Limits) (c : Contents) : Type 0 where

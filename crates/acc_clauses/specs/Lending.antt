@@ -1,5 +1,5 @@
 -- Lending a block, and taking it back: what is planned, and what it leaves of a state.
-use Rattle.std.specs.Prelude.{ℕ, ◌≡◌, List, [], map, Ok}
+use Rattle.std.specs.Prelude.{ℕ, ◌≡◌, [], map, Ok}
 use Rattle.acc_base.specs.declared.items.Section.{Section}
 use Rattle.acc_base.specs.declared.loans.Loan.{Loan}
 use Rattle.acc_base.specs.declared.events.Event.TheVariants.{Lent}

@@ -11,7 +11,7 @@ use acc_base::{
 };
 use acc_clauses::{Plan, Store};
 use acc_lend::{Add, Lease, run_one};
-use rows::{GROWING, P, ROWS, TO_B};
+use rows::{GROWING, LIVES, LOANS, P, POINTERS, QUEUES, TO_B};
 use std::alloc::{AllocError, Global};
 use std::process::Abort;
 use std::test::Fail;
@@ -411,10 +411,18 @@ fn first_wrong(
     Ok(None)
 }
 
+/// New stores answer as each of the rows says.
+fn rows_hold(rt: &impl Abort, alloc: Global, rows: &[Row]) -> Result<(), Fail> {
+    for row in rows {
+        assert_eq!(rt; first_difference(alloc, row)?, None, "{}", row.name);
+    }
+    Ok(())
+}
+
 #[test]
 fn stores_answer_as_the_rows_say(rt: HostRuntime) -> Result<(), Fail> {
-    for row in &ROWS {
-        assert_eq!(rt; first_difference(rt.alloc(), row)?, None, "{}", row.name);
+    for rows in [LIVES, POINTERS, QUEUES, LOANS] {
+        rows_hold(&rt, rt.alloc(), rows)?;
     }
     Ok(())
 }

@@ -1,5 +1,4 @@
-use Rattle.std.proofs.Common.{◌≡◌, ◌∙◌, ap, sym, rules, Ok}
-use Rattle.acc_base.specs.Results.{◌>>◌}
+use Rattle.std.proofs.Common.{rules}
 use Rattle.acc_clauses.specs.Overlays.{records_after}
 use Rattle.acc_clauses.proofs.Pointed.{step_refused, step_after, row_refused, enters_not, left_judged}
 use Rattle.acc_clauses.proofs.items.judge.Goals as goal

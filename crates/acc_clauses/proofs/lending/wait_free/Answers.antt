@@ -1,8 +1,14 @@
-use Rattle.std.proofs.Common.{◌∙◌, rules, ap, sym}
+use Rattle.std.proofs.Common.{◌≡◌, ◌∙◌, rules, ap, sym, length, arith}
 use Rattle.acc_base.specs.Waits.{transfers_of}
 use Rattle.acc_base.specs.Loans.{none_lent}
-use Rattle.acc_clauses.proofs.Freed.{queue_lent, queue_free}
+use Rattle.acc_clauses.proofs.Freed.{none_unlent, queue_lent, queue_free}
 use Rattle.acc_clauses.proofs.lending.wait_free.Goals as goal
+
+pub returns-then-loans-eq0 : goal.returns-then-loans-eq0
+returns-then-loans-eq0 c =
+    let w = c.args.parts.now.state.records in
+    let none : length w.loans ≡ 0 = omega (arith, c.loans.ensures, c.if-loans-eq0.true) in
+    none_unlent (transfers_of c.args.queue w.queues) w.loans none
 
 pub returns-in_err-queue_free-in-None : goal.returns-in_err-queue_free-in-None
 returns-in_err-queue_free-in-None c =

@@ -1,5 +1,4 @@
 use Rattle.std.proofs.Common.{◌≡◌, sym, subst, false}
-use Rattle.acc_base.specs.declared.loans.Loan.{Loan}
 use Rattle.acc_base.specs.Loans.{is_lent}
 use Rattle.acc_base.specs.Accounts.{IsLoanSound}
 use Rattle.acc_clauses.specs.Contents.{Contents}

@@ -3,12 +3,11 @@ use Rattle.acc_base.specs.declared.tasks.Task.{Task}
 use Rattle.acc_base.specs.declared.events.Did.{Did}
 use Rattle.acc_base.specs.Records.{State, layout_of}
 use Rattle.acc_base.specs.Acting.{act_all_state, after}
-use Rattle.acc_base.specs.declared.events.Event.{Event}
 use Rattle.acc_base.specs.Judge.{Makes, Idle, verdict_of}
 use Rattle.acc_base.specs.History.{AreJudged}
 use Rattle.acc_base.proofs.Walked.{register-act_all_state}
 use Rattle.acc_clauses.specs.Overlays.{tasks_in, dids_in, puts_in}
-use Rattle.acc_clauses.specs.Planned.{IsPlannedOn, finished}
+use Rattle.acc_clauses.specs.Planned.{IsPlannedOn}
 use Rattle.acc_clauses.specs.Contents.{Contents}
 use Rattle.acc_clauses.specs.Acts.{AreKnown, HasRoomFor, HasPutRoom, HasPlanRoom, lens_born, pointers_in}
 use Rattle.acc_clauses.specs.Stored.{IsPlan}

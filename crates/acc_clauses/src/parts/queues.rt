@@ -1,0 +1,32 @@
+//! What the parts tell of queues.
+
+ghost use Rattle.std.specs.Prelude.{◌≡◌, ◌≤◌, length, option_map, slice_get};
+ghost use Rattle.acc_base.specs.Queues.{queue_at, head_of};
+
+use crate::parts::Parts;
+
+impl Parts {
+    /// How many transfers wait in a queue; 0 where there is no such queue.
+    pub(crate) fn queue_len(&self, q: u64) -> u64
+        ensures value { result ≡ length (queue_at q self.now.state.records.queues) }
+        ensures limit { result ≤ self.now.limits.queue_cap }
+        ensures bound { self.now.limits.queue_cap ≤ 4096 }
+    {
+        self.laws();
+        self.environment.queues.len(q)
+    }
+
+    /// The block that the first transfer of a queue names, if it has one.
+    pub(crate) fn head_block(&self, q: u64) -> Option<u64>
+        ensures { result ≡ option_map (λ t. t.block) (head_of q self.now.state.records.queues) }
+    {
+        self.environment.queues.head(q).map(|t| t.block)
+    }
+
+    /// The block that the transfer at a place of a queue names, counted from its first one, if it has so many.
+    pub(crate) fn waiting_block(&self, q: u64, place: u64) -> Option<u64>
+        ensures { result ≡ option_map (λ t. t.block) (slice_get (queue_at q self.now.state.records.queues) place) }
+    {
+        self.environment.queues.at(q, place).map(|t| t.block)
+    }
+}

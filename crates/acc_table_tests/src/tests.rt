@@ -244,10 +244,6 @@ fn same<T: PartialEq + Debug + Copy>(rt: &impl Abort, row: &str, found: T, wante
     assert_eq!(rt; found, wanted, "{row}");
 }
 
-fn same_bytes(rt: &impl Abort, row: &str, found: Option<&[u8]>, wanted: Option<&[u8]>) {
-    assert_eq!(rt; found, wanted, "{row}");
-}
-
 fn answered(rt: &impl Abort, row: &Row, answers: &[Answer]) {
     same(rt, row.name, answers.len(), row.turns.len());
     for (&answer, &(_, wanted)) in answers.iter().zip(row.turns) {
@@ -273,8 +269,8 @@ fn check_one(rt: &impl Abort, row: &str, table: &Table, check: Check) {
         Check::Step(number, wanted) => same(rt, row, step_at(table.trace(), number), wanted),
         Check::Aim(number, wanted) => same(rt, row, aim_at(table.trace(), number), wanted),
         Check::Attached(pointer, wanted) => same(rt, row, table.attachment(pointer), wanted),
-        Check::Host(at, wanted) => same_bytes(rt, row, table.host_read(section(at)), wanted),
-        Check::Device(at, wanted) => same_bytes(rt, row, table.device_read(section(at)), wanted),
+        Check::Host(at, wanted) => same(rt, row, table.host_read(section(at)), wanted),
+        Check::Device(at, wanted) => same(rt, row, table.device_read(section(at)), wanted),
         Check::Queue(q, wanted) => same(rt, row, table.queue_len(q), wanted),
         Check::EndedFrom(from, wanted) => same(rt, row, table.ended(from), wanted),
         Check::Used(wanted) => same(rt, row, table.used(), wanted),

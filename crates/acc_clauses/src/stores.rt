@@ -92,10 +92,13 @@ impl Store {
     ///
     /// # Errors
     ///
-    /// `TooManyItems` above 64 items; `NoRegion` where the region is not open; `NoQueue` where there is no such queue; then
-    /// the first refusal of the items in the order in which they act: `OutOfHost`, `Misaligned`, `PartlyPresent`,
-    /// `NotPresent`, `Lent`, `CounterFull`, `DeviceFull` or `QueueFull`; or, of a wait or a step, `Lent` at the first
-    /// transfer whose block is lent. The plan is then of no use.
+    /// `TooManyItems` above 64 items; `NoRegion` where the region is not open; `NoQueue` where there is no such queue;
+    /// then the first refusal of the items in the order in which they act. Of an item these are, in this order: what
+    /// the clause tables refuse, which is `OutOfHost`, `Misaligned`, `PartlyPresent`, `NotPresent`, `CounterFull` or
+    /// `DeviceFull`; `Lent` for the block in which it detaches a pointer; `Lent` for the block from which its step
+    /// takes a counter, or whose bytes it copies at once; `QueueFull`; and for an entry, whose pointer is attached
+    /// after its step, `Lent` and then `CounterFull`. Of a wait or a step it is `Lent` at the first transfer whose
+    /// block is lent. The plan is then of no use.
     pub fn plan(&self, directive: &Directive, plan: &mut Plan) -> Result<(), Fault>
         requires births { self.now.state.records.births < 2 ^ 48 }
         ensures judged { let s = self.now.state in MatchResult result (λ _. plan_of self.now.limits directive.now s ≡ Ok (verdict_of directive.now s plan.new.dids)) (λ fault. plan_of self.now.limits directive.now s ≡ Err fault) }

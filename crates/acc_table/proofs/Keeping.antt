@@ -4,8 +4,7 @@ use Rattle.std.specs.Prelude.{IfOk, OnOk, OnErr}
 use Rattle.acc_base.specs.declared.faults.Fault.{Fault}
 use Rattle.acc_base.specs.declared.directives.Directive.{Directive}
 use Rattle.acc_base.specs.declared.calls.Call.{Call}
-use Rattle.acc_base.specs.declared.calls.Call.TheVariants.{Do, HostWrite, Lend, Gather}
-use Rattle.acc_base.specs.declared.items.Section.{Section}
+use Rattle.acc_base.specs.declared.calls.Call.TheVariants.{Do}
 use Rattle.acc_base.specs.Loans.{Leased}
 use Rattle.acc_base.specs.declared.transfers.Transfer.{Transfer}
 use Rattle.acc_base.specs.declared.tasks.Task.{Task}
@@ -141,14 +140,9 @@ kept_after w call e tasks k h asked few =
 pub kept_directive : (w : World) (d : Directive) (p : Planned) (e : Event) → IsKept w → IsPlannedOn w.limits d (layout_of w.state) p → verdict_of d w.state p.dids ≡ Makes e → judge w (Do d) ≡ Ok (Makes e) → IsKept (world_after (Do d) e w)
 kept_directive w d p e k planned is h = kept_after w (Do d) e p.tasks k h (planned_asked w.limits d w.state p e planned is) planned.few
 
-pub kept_write : (w : World) (addr : ℕ) (bytes : List ℕ) → IsKept w → judge w (HostWrite addr bytes) ≡ Ok (Makes (HostWritten addr (length bytes))) → IsKept (world_after (HostWrite addr bytes) (HostWritten addr (length bytes)) w)
-kept_write w addr bytes k h = kept_after w (HostWrite addr bytes) (HostWritten addr (length bytes)) [] k h refl (omega arith)
-
-pub kept_lend : (w : World) (region : ℕ) (section : Section) (block serial : ℕ) → IsKept w → judge w (Lend region section) ≡ Ok (Makes (Lent region section block serial)) → IsKept (world_after (Lend region section) (Lent region section block serial) w)
-kept_lend w region section block serial k h = kept_after w (Lend region section) (Lent region section block serial) [] k h refl (omega arith)
-
-pub kept_gather : (w : World) (lease : Leased) (serial block : ℕ) → IsKept w → judge w (Gather lease) ≡ Ok (Makes (Gathered serial block)) → IsKept (world_after (Gather lease) (Gathered serial block) w)
-kept_gather w lease serial block k h = kept_after w (Gather lease) (Gathered serial block) [] k h refl (omega arith)
+-- so does an event of no item: a write of the host, a loan, a lease that is back
+pub kept_alone : (w : World) (call : Call Leased) (e : Event) → IsKept w → judge w call ≡ Ok (Makes e) → asked_in e w.state.register ≡ [] → IsKept (world_after call e w)
+kept_alone w call e k h none = kept_after w call e [] k h none (omega arith)
 
 -- what a store and a trace keep that were made into those after an event, or only had room made
 pub kept_called : (call : Call Leased) (e : Event) (old new : Contents) (trace longer : List Event) (reply : Reply) → IsKept (world_after call e (world_of old trace)) → IsMadeInto e (bytes_brought call) reply old new trace longer → IsKept (world_of new longer)

@@ -1,10 +1,10 @@
 -- One turn after the other.
 use Rattle.std.proofs.lemmas.List.{append-nil}
 use Rattle.std.proofs.Common.{ℕ, ◌≡◌, ◌≤◌, ◌∙◌, arith, false, cond, refl, sym, ap, subst, List, [], ◌∷◌, ◌++◌, length, Result, Ok, Err, inl, inr}
-use Rattle.std.specs.Prelude.{MatchResult, Bool, true, find, filter, IfOk, IfErr, OnErr, ◌+◌, ◌<◌, slice_get, slice_index_or, nat_lt, ◌==◌, ◌&&◌, Option, Some, None}
+use Rattle.std.specs.Prelude.{MatchResult, Bool, true, find, filter, IfOk, IfErr, OnErr, ◌+◌, slice_get, slice_index_or, nat_lt, ◌==◌, ◌&&◌, Option, Some, None}
 use Rattle.std.specs.List.{position, position_or_len, remove}
 use Rattle.std.proofs.lemmas.List.Folds.{find_at}
-use Rattle.std.proofs.lemmas.Option.{slice_get-get_or, slice_get_read, slice_get_past}
+use Rattle.std.proofs.lemmas.Option.{slice_get-get_or, get_or_from_slice_get, slice_get_past}
 use Rattle.std.proofs.lemmas.Bool.Decides.{nat_tests}
 use Rattle.std.proofs.lemmas.List.Quantifiers.{position-Some}
 use Rattle.acc_base.proofs.Results.{and_true, equal}
@@ -30,11 +30,11 @@ use Rattle.acc_table.specs.declared.calls.Reply.TheVariants as replies
 use Rattle.acc_table.specs.Calls.{reply_of, IsCarriedOut, IsDone, MayWantMemory, IsRefusal}
 use Rattle.acc_clauses.specs.Contents.{Contents}
 use Rattle.acc_table.specs.Kept.{IsKept, world_of}
-use Rattle.acc_table.specs.Making.{is_loan, IsMadeInto}
+use Rattle.acc_table.specs.Making.{is_loan, IsLeaseJudged, IsMadeInto}
 use Rattle.acc_table.specs.Turns.{is_meant, brought_back, answer_to, asked_by, kept_by, lent_by, refuse_back, StaysRefused, MayCome, MayAnswer, IsRun}
 use Rattle.acc_table.specs.Turning.{is_lend, lends_in, IsTurnTaken, IsTurnMade, IsRefusalOf, IsTurnRefused}
 use Rattle.acc_table.proofs.Verdicts.{directive_no_loan, write_no_loan, gather_rewritten, judge_rewritten, judged_refused, made_wanted, made_done}
-use Rattle.acc_table.proofs.Keeping.{kept_gather, kept_called}
+use Rattle.acc_table.proofs.Keeping.{kept_alone, kept_called}
 
 -- ---- which call lends
 
@@ -98,20 +98,23 @@ refused w next leases rest turn fault h = go (asked_by turn leases) h.told
 -- the lease at this place of the list is the one that comes back with these bytes
 pub record IsBackAt (serial : ℕ) (bytes : List ℕ) (leases : List Leased) (at : ℕ) (lease : Leased) : Type 0 where
   pub asked : asked_by (Back serial bytes) leases ≡ Ok (Gather (with_section lease bytes))
+  pub there : slice_get leases at ≡ Some lease
   pub len : length bytes ≡ lease.len
   pub kept : remove leases at ≡ kept_by (Back serial bytes) leases
 
 -- so is that at the place that was found
-pub back_at : (serial : ℕ) (bytes : List ℕ) (leases : List Leased) (at : ℕ) (lease d : Leased) → position (is_meant serial (length bytes)) leases ≡ Some at → lease ≡ slice_index_or leases at d → IsBackAt serial bytes leases at lease
-back_at serial bytes leases at lease d place is =
+pub back_at : {serial : ℕ} {bytes : List ℕ} {leases seen : List Leased} {at : ℕ} {lease : Leased} {found : Option ℕ} → seen ≡ leases → found ≡ position (is_meant serial (length bytes)) seen → found ≡ Some at → lease ≡ slice_index_or leases at lease → IsBackAt serial bytes leases at lease
+back_at {serial = serial} {bytes = bytes} {leases = leases} {at = at} {lease = lease} same found_is some is =
     let test : Leased → Bool = is_meant serial (length bytes) in
-    let says = position-Some test leases at d place in
+    let place : position test leases ≡ Some at = subst (λ xs. position test xs ≡ Some at) same (sym found_is ∙ some) in
+    let says = position-Some test leases at lease place in
     let first : at ≡ position_or_len test leases = chosen_place (nat_lt (position_or_len test leases) (length leases)) place in
     let passes : (lease.serial == serial && lease.len == length bytes) ≡ true = subst (λ (l : Leased). is_meant serial (length bytes) l ≡ true) (sym is) says.1 in
     let both = and_true (lease.serial == serial) (lease.len == length bytes) passes in
-    let found : find test leases ≡ Some lease = find_at test leases ∙ (ap (slice_get leases) (sym first) ∙ (slice_get-get_or leases at d says.0 ∙ ap Some (sym is))) in
+    let there : slice_get leases at ≡ Some lease = slice_get-get_or leases at lease says.0 ∙ ap Some (sym is) in
     record {
-      asked = ap (brought_back serial bytes) found;
+      asked = ap (brought_back serial bytes) (find_at test leases ∙ (ap (slice_get leases) (sym first) ∙ there));
+      there = there;
       len = sym (equal lease.len (length bytes) both.1);
       kept = ap (remove leases) first;
     }
@@ -133,40 +136,55 @@ pub none_back : (w : World) (serial : ℕ) (bytes : List ℕ) (leases : List Lea
 none_back w serial bytes leases fault place told = subst (λ r. IsRefusalOf w r fault) (sym (ap (brought_back serial bytes) (position-None (is_meant serial (length bytes)) leases place))) told
 
 -- what is told of the lease as it is, is told of it with other bytes
-pub told_of : (w : World) (serial : ℕ) (bytes : List ℕ) (leases : List Leased) (at : ℕ) (lease : Leased) (fault : Fault) → IsBackAt serial bytes leases at lease → judge w (Gather lease) ≡ Err fault → IsRefusalOf w (asked_by (Back serial bytes) leases) fault
-told_of w serial bytes leases at lease fault back h = subst (λ r. IsRefusalOf w r fault) (sym back.asked) (judged_refused w (Gather (with_section lease bytes)) fault (judge_rewritten w lease bytes ∙ h))
+pub told_of : {serial : ℕ} {bytes : List ℕ} {leases : List Leased} {at : ℕ} {lease : Leased} {fault : Fault} (w : World) → IsBackAt serial bytes leases at lease → judge w (Gather lease) ≡ Err fault → IsRefusalOf w (asked_by (Back serial bytes) leases) fault
+told_of {bytes = bytes} {lease = lease} {fault = fault} w back h = subst (λ r. IsRefusalOf w r fault) (sym back.asked) (judged_refused w (Gather (with_section lease bytes)) fault (judge_rewritten w lease bytes ∙ h))
 
-pub wanted_of : (w : World) (serial : ℕ) (bytes : List ℕ) (leases : List Leased) (at : ℕ) (lease : Leased) (e : Event) → IsBackAt serial bytes leases at lease → judge w (Gather lease) ≡ Ok (Makes e) → IsRefusalOf w (asked_by (Back serial bytes) leases) Memory
-wanted_of w serial bytes leases at lease e back h = subst (λ r. IsRefusalOf w r Memory) (sym back.asked) (made_wanted w (Gather (with_section lease bytes)) e (judge_rewritten w lease bytes ∙ h))
+pub wanted_of : {serial : ℕ} {bytes : List ℕ} {leases : List Leased} {at : ℕ} {lease : Leased} {e : Event} (w : World) → IsBackAt serial bytes leases at lease → judge w (Gather lease) ≡ Ok (Makes e) → IsRefusalOf w (asked_by (Back serial bytes) leases) Memory
+wanted_of {bytes = bytes} {lease = lease} {e = e} w back h = subst (λ r. IsRefusalOf w r Memory) (sym back.asked) (made_wanted w (Gather (with_section lease bytes)) e (judge_rewritten w lease bytes ∙ h))
 
--- two reads of one place of a list are of one element
-pub same_at : (leases : List Leased) (at : ℕ) (x y : Leased) → at < length leases → x ≡ slice_index_or leases at x → y ≡ slice_index_or leases at y → x ≡ y
-same_at leases at x y low is also = let one : slice_get leases at ≡ Some x = slice_get_read leases (length leases) at x refl low is in let other : slice_get leases at ≡ Some y = slice_get_read leases (length leases) at y refl low also in let both : ◌≡◌ {A = Option Leased} (Some x) (Some y) = sym one ∙ other in cc
+-- a lease that is read at this place is the one that comes back
+pub same_back : {serial : ℕ} {bytes : List ℕ} {leases : List Leased} {at : ℕ} {lease removed : Leased} → IsBackAt serial bytes leases at lease → removed ≡ slice_index_or leases at removed → removed ≡ lease
+same_back {leases = leases} {at = at} {lease = lease} {removed = removed} back is = is ∙ get_or_from_slice_get leases at lease removed back.there
 
--- the judgement on the lease with other bytes
-pub rejudged : (w : World) (lease taken : Leased) (bytes : List ℕ) → taken ≡ with_section lease bytes → judge w (Gather lease) ≡ Ok (Makes (Gathered lease.serial lease.block)) → judge w (Gather taken) ≡ Ok (Makes (Gathered taken.serial taken.block))
-rejudged w lease taken bytes is judged = subst (λ (l : Leased). judge w (Gather l) ≡ Ok (Makes (Gathered l.serial l.block))) (sym is) (judge_rewritten w lease bytes ∙ judged)
+-- the lease that left this place of the list comes back with these bytes, and may come back to this world
+pub record IsReturned (w : World) (serial : ℕ) (bytes : List ℕ) (leases : List Leased) (at : ℕ) (lease : Leased) : Type 0 where
+  pub asked : asked_by (Back serial bytes) leases ≡ Ok (Gather lease)
+  pub kept : remove leases at ≡ kept_by (Back serial bytes) leases
+  pub event : gather_event lease w.state.records ≡ Ok (Gathered lease.serial lease.block)
+  pub judged : judge w (Gather lease) ≡ Ok (Makes (Gathered lease.serial lease.block))
 
--- and so it may come back
-pub returnable : (w : World) (lease taken : Leased) (bytes : List ℕ) → taken ≡ with_section lease bytes → gather_event lease w.state.records ≡ Ok (Gathered lease.serial lease.block) → gather_event taken w.state.records ≡ Ok (Gathered taken.serial taken.block)
-returnable w lease taken bytes is event = subst (λ (l : Leased). gather_event l w.state.records ≡ Ok (Gathered l.serial l.block)) (sym is) (gather_rewritten lease bytes w.state.records ∙ event)
+-- so does that which was judged in its place before these bytes were written over those that it lends
+pub returned : {serial : ℕ} {bytes : List ℕ} {leases : List Leased} {at : ℕ} {lease removed taken : Leased} {w now : World} → IsBackAt serial bytes leases at lease → removed ≡ slice_index_or leases at removed → taken ≡ with_section removed bytes → w ≡ now → IsLeaseJudged now lease (Ok tt) → IsReturned w serial bytes leases at taken
+returned {serial = serial} {bytes = bytes} {leases = leases} {at = at} {lease = lease} {taken = taken} {w = w} back is taken_is same judged =
+    let taken_of : with_section lease bytes ≡ taken = ap (λ (l : Leased). with_section l bytes) (sym (same_back back is)) ∙ sym taken_is in
+    let before : IsLeaseJudged w lease (Ok tt) = subst (λ (x : World). IsLeaseJudged x lease (Ok tt)) (sym same) judged in
+    subst (λ (l : Leased). IsReturned w serial bytes leases at l) taken_of (record {
+      asked = back.asked;
+      kept = back.kept;
+      event = gather_rewritten lease bytes w.state.records ∙ before.0;
+      judged = judge_rewritten w lease bytes ∙ before.1;
+    })
 
--- what a store and a trace keep that took back a lease
-pub back_kept : (old new : Contents) (trace longer : List Event) (lease taken : Leased) (bytes : List ℕ) (reply : Reply) → IsKept (world_of old trace) → taken ≡ with_section lease bytes → judge (world_of old trace) (Gather lease) ≡ Ok (Makes (Gathered lease.serial lease.block))
-    → IsMadeInto (Gathered taken.serial taken.block) taken.bytes reply old new trace longer → IsKept (world_of new longer)
-back_kept old new trace longer lease taken bytes reply k is judged m = kept_called (Gather taken) (Gathered taken.serial taken.block) old new trace longer reply (kept_gather (world_of old trace) taken taken.serial taken.block k (rejudged (world_of old trace) lease taken bytes is judged)) m
+-- what a store and a trace keep that took it back
+pub back_kept : {serial : ℕ} {bytes : List ℕ} {leases : List Leased} {at : ℕ} {lease : Leased} {reply : Reply} (old new : Contents) (trace room longer : List Event) → IsKept (world_of old trace) → IsReturned (world_of old trace) serial bytes leases at lease → room ≡ trace
+    → IsMadeInto (Gathered lease.serial lease.block) lease.bytes reply old new room longer → IsKept (world_of new longer)
+back_kept {lease = lease} {reply = reply} old new trace room longer k returned same m =
+    let made = subst (λ (before : List Event). IsMadeInto (Gathered lease.serial lease.block) lease.bytes reply old new before longer) same m in
+    kept_called (Gather lease) (Gathered lease.serial lease.block) old new trace longer reply (kept_alone (world_of old trace) (Gather lease) (Gathered lease.serial lease.block) k returned.judged refl) made
 
 -- the turn is made that brought it back
-pub back_made : (old new : Contents) (trace longer : List Event) (serial : ℕ) (bytes : List ℕ) (leases : List Leased) (at : ℕ) (lease taken : Leased) (reply : Reply) → IsBackAt serial bytes leases at lease → taken ≡ with_section lease bytes
-    → judge (world_of old trace) (Gather lease) ≡ Ok (Makes (Gathered lease.serial lease.block)) → IsMadeInto (Gathered taken.serial taken.block) taken.bytes reply old new trace longer → IsTurnMade (world_of old trace) leases (Back serial bytes) reply (world_of new longer) (remove leases at)
-back_made old new trace longer serial bytes leases at lease taken reply back is judged m = record {
-  call = Gather taken;
-  asked = back.asked ∙ ap (λ (l : Leased). Ok (Gather l)) (sym is);
-  done = made_done (Gather taken) (Gathered taken.serial taken.block) reply old new trace longer (rejudged (world_of old trace) lease taken bytes is judged) m;
-  kept_is = back.kept;
-  idle = λ idle. (let both : ◌≡◌ {A = Reply} replies.Done replies.Idle = sym m.reply ∙ idle in cc);
-  few = (let none : lent_by reply ≡ [] = ap lent_by m.reply in omega (arith, ap length none));
-}
+pub back_made : {serial : ℕ} {bytes : List ℕ} {leases : List Leased} {at : ℕ} {lease : Leased} {reply : Reply} (old new : Contents) (trace room longer : List Event) → IsReturned (world_of old trace) serial bytes leases at lease → room ≡ trace
+    → IsMadeInto (Gathered lease.serial lease.block) lease.bytes reply old new room longer → IsTurnMade (world_of old trace) leases (Back serial bytes) reply (world_of new longer) (remove leases at)
+back_made {lease = lease} {reply = reply} old new trace room longer returned same m =
+    let made = subst (λ (before : List Event). IsMadeInto (Gathered lease.serial lease.block) lease.bytes reply old new before longer) same m in
+    record {
+      call = Gather lease;
+      asked = returned.asked;
+      done = made_done (Gather lease) (Gathered lease.serial lease.block) reply old new trace longer returned.judged made;
+      kept_is = returned.kept;
+      idle = λ idle. (let both : ◌≡◌ {A = Reply} replies.Done replies.Idle = sym m.reply ∙ idle in cc);
+      few = (let none : lent_by reply ≡ [] = ap lent_by m.reply in omega (arith, ap length none));
+    }
 
 -- ---- a write of the host
 

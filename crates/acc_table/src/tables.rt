@@ -96,17 +96,20 @@ impl Table {
     /// - [`Fault::TraceFull`] where the stored trace has as many events as it may;
     /// - [`Fault::NoRegion`] where no region of the number is open that is exited;
     /// - [`Fault::NoQueue`] where the directive names a queue above 15;
-    /// - then, for the items in the order in which they act, each judged in what those before it leave, and told with
-    ///   its place in the written list: for a section that is not empty, [`Fault::OutOfHost`] where it is not in host
-    ///   memory; for the pointer of an item, [`Fault::OutOfHost`] where its eight bytes are not, and
-    ///   [`Fault::Misaligned`] where its address is no multiple of 8; [`Fault::PartlyPresent`] where some of the
-    ///   section's addresses are mapped but no one range has them all, [`Fault::NotPresent`] where `present`, or
-    ///   `update` without `if_present`, names a section that is absent, [`Fault::Lent`] where it would detach a pointer
-    ///   in a block that is lent, and then where it would take a counter from such a block or copy its bytes at once,
-    ///   [`Fault::CounterFull`] where an entry would raise a reference counter above the limit, [`Fault::DeviceFull`]
-    ///   where it needs a new block that fits nowhere, [`Fault::QueueFull`] where its transfer is put into a queue that
-    ///   has as many as the limit says, then [`Fault::Lent`] where it would attach a pointer in a block that is lent,
-    ///   and last [`Fault::CounterFull`] where it would raise the attachment counter of its pointer above the limit;
+    /// - then, for the items in the order in which they act, each judged in what those before it leave, where a refusal
+    ///   that names an item has its place in the written list:
+    ///   - what the clause tables refuse: for a section that is not empty, [`Fault::OutOfHost`] where it is not in host
+    ///     memory; for the pointer of an item, [`Fault::OutOfHost`] where its eight bytes are not, and
+    ///     [`Fault::Misaligned`] where its address is no multiple of 8; [`Fault::PartlyPresent`] where some of the
+    ///     section's addresses are mapped but no one range has them all, [`Fault::NotPresent`] where `present`, or
+    ///     `update` without `if_present`, names a section that is absent, [`Fault::CounterFull`] where an entry would
+    ///     raise a reference counter above the limit, [`Fault::DeviceFull`] where it needs a new block that fits
+    ///     nowhere;
+    ///   - [`Fault::Lent`] where it would detach a pointer in a block that is lent;
+    ///   - [`Fault::Lent`] where its step would take a counter from a block that is lent, or copy its bytes at once;
+    ///   - [`Fault::QueueFull`] where its transfer is put into a queue that has as many as the limit says;
+    ///   - for an entry, whose pointer is attached after its step, [`Fault::Lent`] where it would attach it in a block
+    ///     that is lent, and [`Fault::CounterFull`] where it would raise its attachment counter above the limit;
     /// - for a `wait`, or the step of a queue, [`Fault::Lent`] at the first transfer that it makes whose block is lent;
     /// - for a host write of some bytes, [`Fault::OutOfHost`] with item 0 where one of the addresses is not in host
     ///   memory;

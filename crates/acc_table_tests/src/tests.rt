@@ -3,15 +3,17 @@
 
 use acc_base::{
     Aim, Config, Counters, Did, Directive, Ended, EnterClause, Event, ExitClause, Fault, Found,
-    HOST_BASE, Item, List, RegionClause, Section, Step, UpdateClause,
+    Item, List, RegionClause, Section, Step, UpdateClause,
 };
-use acc_table::{Answer, Call, Lease, Mapped, Reply, Table, Turn, abandon, abandon_all};
-use rows::{LENDING, LIFE, ROWS, STRANGE, WIDE};
+use acc_table::{Answer, Mapped, Table, Turn, abandon_all};
+use rows::SUBJECTS;
 use std::alloc::{AllocError, Global};
 use std::fmt::Debug;
 use std::process::Abort;
 use std::test::Fail;
 
+mod growth;
+mod leases;
 mod rows;
 
 /// The limits in which rows differ. Both memories have 64 bytes.
@@ -242,10 +244,6 @@ fn same<T: PartialEq + Debug + Copy>(rt: &impl Abort, row: &str, found: T, wante
     assert_eq!(rt; found, wanted, "{row}");
 }
 
-fn same_bytes(rt: &impl Abort, row: &str, found: Option<&[u8]>, wanted: Option<&[u8]>) {
-    assert_eq!(rt; found, wanted, "{row}");
-}
-
 fn answered(rt: &impl Abort, row: &Row, answers: &[Answer]) {
     same(rt, row.name, answers.len(), row.turns.len());
     for (&answer, &(_, wanted)) in answers.iter().zip(row.turns) {
@@ -271,8 +269,8 @@ fn check_one(rt: &impl Abort, row: &str, table: &Table, check: Check) {
         Check::Step(number, wanted) => same(rt, row, step_at(table.trace(), number), wanted),
         Check::Aim(number, wanted) => same(rt, row, aim_at(table.trace(), number), wanted),
         Check::Attached(pointer, wanted) => same(rt, row, table.attachment(pointer), wanted),
-        Check::Host(at, wanted) => same_bytes(rt, row, table.host_read(section(at)), wanted),
-        Check::Device(at, wanted) => same_bytes(rt, row, table.device_read(section(at)), wanted),
+        Check::Host(at, wanted) => same(rt, row, table.host_read(section(at)), wanted),
+        Check::Device(at, wanted) => same(rt, row, table.device_read(section(at)), wanted),
         Check::Queue(q, wanted) => same(rt, row, table.queue_len(q), wanted),
         Check::EndedFrom(from, wanted) => same(rt, row, table.ended(from), wanted),
         Check::Used(wanted) => same(rt, row, table.used(), wanted),
@@ -312,145 +310,17 @@ fn run_row(rt: &(impl Abort + AllocGlobal), row: &Row) -> Result<(), Fault> {
     Ok(())
 }
 
+fn run_rows(rt: &(impl Abort + AllocGlobal), rows: &[Row]) -> Result<(), Fault> {
+    for row in rows {
+        run_row(rt, row)?;
+    }
+    Ok(())
+}
+
 #[test]
 fn each_row_is_answered_and_reported(rt: HostRuntime) -> Result<(), Fail> {
-    for row in &ROWS {
-        run_row(&rt, row)?;
+    for rows in SUBJECTS {
+        run_rows(&rt, rows)?;
     }
-    Ok(())
-}
-
-/// The call that came back brings a lease of this serial number, with so many bytes.
-fn came_back(rt: &impl Abort, call: Call, serial: u64, count: usize) {
-    match call {
-        Call::Gather(lease) => {
-            same(rt, "a strange lease", lease.serial(), serial);
-            same(rt, "a strange lease", lease.block_bytes().len(), count);
-            lease.abandon();
-        }
-        other => {
-            abandon(other);
-            panic!(rt; "a strange lease: another call came back")
-        }
-    }
-}
-
-/// A lease that is no loan of the table is refused, and comes back with its bytes.
-fn refuse(rt: &impl Abort, table: &mut Table, lease: Lease) {
-    let serial = lease.serial();
-    let count = lease.block_bytes().len();
-    match table.apply(Call::Gather(lease)) {
-        Ok(reply) => {
-            reply.abandon();
-            panic!(rt; "a strange lease: it was taken")
-        }
-        Err((call, fault)) => {
-            came_back(rt, call, serial, count);
-            same(rt, "a strange lease", fault, Fault::NoLease { serial });
-        }
-    }
-}
-
-fn refuse_each(rt: &(impl Abort + AllocGlobal), table: &mut Table) -> Result<(), AllocError> {
-    for &(serial, block, offset, len, count) in STRANGE {
-        let bytes = vec![in rt.alloc(); 0; count]?;
-        if offset + len <= bytes.len() {
-            refuse(rt, table, Lease::of(serial, block, offset, len, bytes));
-        }
-    }
-    Ok(())
-}
-
-#[test]
-fn a_lease_that_is_no_loan_comes_back(rt: HostRuntime) -> Result<(), Fail> {
-    let mut table = table_of(rt.alloc(), WIDE)?;
-    refuse(
-        &rt,
-        &mut table,
-        Lease::of(1, 1, 0, 16, vec![in rt.alloc(); 0; 16]?),
-    );
-    let answers = run_turns(&mut table, rt.alloc(), LENDING)?;
-    same(&rt, "a strange lease", answers.len(), LENDING.len());
-    refuse_each(&rt, &mut table)?;
-    same(&rt, "a strange lease", table.events(), 3);
-    Ok(())
-}
-
-/// Makes what may want memory, and once more where the first time wanted it.
-fn twice(alloc: Global, ask: Ask) -> Result<Turn, AllocError> {
-    match turn_of(alloc, ask) {
-        Ok(turn) => Ok(turn),
-        Err(_) => turn_of(alloc, ask),
-    }
-}
-
-/// The call that a turn makes; none where it brings back a lease.
-fn call_from(turn: Turn) -> Option<Call> {
-    match turn {
-        Turn::Do(directive) => Some(Call::Do(directive)),
-        Turn::HostWrite { addr, bytes } => Some(Call::HostWrite { addr, bytes }),
-        Turn::Lend { region, section } => Some(Call::Lend { region, section }),
-        Turn::Back { .. } => None,
-    }
-}
-
-/// What a refused call may not change.
-fn told(table: &Table) -> (u64, u64, Option<Mapped>) {
-    (table.events(), table.used(), table.mapped(0))
-}
-
-/// The call came back for want of memory: nothing changed, and it is accepted now.
-fn retry(
-    rt: &impl Abort,
-    table: &mut Table,
-    before: (u64, u64, Option<Mapped>),
-    back: (Call, Fault),
-) -> Reply {
-    let (call, fault) = back;
-    same(rt, "a refused growth", fault, Fault::Memory);
-    same(rt, "a refused growth", told(table), before);
-    match table.apply(call) {
-        Ok(reply) => reply,
-        Err((call, fault)) => {
-            abandon(call);
-            panic!(rt; "a refused growth: {fault}")
-        }
-    }
-}
-
-/// Makes a call, and once more where memory is refused.
-fn apply_twice(rt: &impl Abort, table: &mut Table, call: Call) -> Reply {
-    let before = told(table);
-    match table.apply(call) {
-        Ok(reply) => reply,
-        Err(back) => retry(rt, table, before, back),
-    }
-}
-
-/// Makes the calls one after the other. A block that is lent comes back at once.
-fn live(rt: &(impl Abort + AllocGlobal), table: &mut Table) -> Result<(), AllocError> {
-    for &ask in LIFE {
-        let turn = twice(rt.alloc(), ask)?;
-        let Some(call) = call_from(turn) else {
-            continue;
-        };
-        match apply_twice(rt, table, call) {
-            Reply::Lease(lease) => apply_twice(rt, table, Call::Gather(lease)).abandon(),
-            reply => reply.abandon(),
-        }
-    }
-    Ok(())
-}
-
-/// To be run with each allocation failing in turn: what is made here is made a second time where the first failed.
-#[test]
-fn a_refused_growth_changes_nothing(rt: HostRuntime) -> Result<(), Fail> {
-    let mut table = match table_of(rt.alloc(), WIDE) {
-        Ok(table) => table,
-        Err(_) => table_of(rt.alloc(), WIDE)?,
-    };
-    live(&rt, &mut table)?;
-    same(&rt, "a refused growth", table.events(), 18);
-    same(&rt, "a refused growth", table.used(), 0);
     Ok(())
 }

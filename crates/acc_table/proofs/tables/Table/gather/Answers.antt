@@ -1,4 +1,4 @@
-use Rattle.std.proofs.Common.{◌≡◌, sym, subst, Ok}
+use Rattle.std.proofs.Common.{◌≡◌, refl, sym, subst, Ok}
 use Rattle.std.specs.Prelude.{IfOk}
 use Rattle.acc_base.specs.declared.calls.Call.TheVariants.{Gather}
 use Rattle.acc_base.specs.declared.events.Event.{Event}
@@ -8,7 +8,7 @@ use Rattle.acc_base.specs.Judge.{Makes}
 use Rattle.acc_table.specs.Calls.{IsDone}
 use Rattle.acc_table.specs.Kept.{world_of}
 use Rattle.acc_table.proofs.Verdicts.{done_either}
-use Rattle.acc_table.proofs.Keeping.{kept_gather, kept_either}
+use Rattle.acc_table.proofs.Keeping.{kept_alone, kept_either}
 use Rattle.acc_table.proofs.tables.Table.gather.Goals as goal
 
 pub invariant_of-self : goal.invariant_of-self
@@ -17,7 +17,7 @@ invariant_of-self c =
     let e : Event = Gathered c.args.lease.serial c.args.lease.block in
     let judged : judge w (Gather c.args.lease) ≡ Ok (Makes e) = subst (λ (x : World). judge x (Gather c.args.lease) ≡ Ok (Makes e)) (sym c.self.view_is) c.in-Ok.ensures.1 in
     kept_either (Gather c.args.lease) e c.self.inside.store c.gather.new.store c.self.inside.trace.items c.gather.new.trace.items c.gather.result c.self.invariant
-    (kept_gather w c.args.lease c.args.lease.serial c.args.lease.block c.self.invariant judged) c.gather.ensures.done c.gather.ensures.same
+    (kept_alone w (Gather c.args.lease) e c.self.invariant judged refl) c.gather.ensures.done c.gather.ensures.same
 
 pub returns-in-Ok-clause-done : goal.returns-in-Ok-clause-done
 returns-in-Ok-clause-done c =

@@ -1,4 +1,4 @@
-use Rattle.std.proofs.Common.{◌≡◌, sym, subst, Ok}
+use Rattle.std.proofs.Common.{◌≡◌, refl, sym, subst, Ok}
 use Rattle.std.specs.Prelude.{IfOk}
 use Rattle.acc_base.specs.declared.calls.Call.TheVariants.{Lend}
 use Rattle.acc_base.specs.declared.events.Event.{Event}
@@ -9,7 +9,7 @@ use Rattle.acc_base.specs.Judge.{Makes}
 use Rattle.acc_table.specs.Calls.{IsDone}
 use Rattle.acc_table.specs.Kept.{world_of}
 use Rattle.acc_table.proofs.Verdicts.{done_either}
-use Rattle.acc_table.proofs.Keeping.{kept_lend, kept_either}
+use Rattle.acc_table.proofs.Keeping.{kept_alone, kept_either}
 use Rattle.acc_table.proofs.tables.Table.lend.Goals as goal
 
 pub invariant_of-self : goal.invariant_of-self
@@ -19,7 +19,7 @@ invariant_of-self c =
     let e : Event = Lent c.args.region c.args.section loan.block loan.serial in
     let judged : judge w (Lend c.args.region c.args.section) ≡ Ok (Makes e) = subst (λ (x : World). judge x (Lend c.args.region c.args.section) ≡ Ok (Makes e)) (sym c.self.view_is) c.in_ok-loan.ensures.1 in
     kept_either (Lend c.args.region c.args.section) e c.self.inside.store c.lend.new.store c.self.inside.trace.items c.lend.new.trace.items c.lend.result c.self.invariant
-    (kept_lend w c.args.region c.args.section loan.block loan.serial c.self.invariant judged) c.lend.ensures.done c.lend.ensures.same
+    (kept_alone w (Lend c.args.region c.args.section) e c.self.invariant judged refl) c.lend.ensures.done c.lend.ensures.same
 
 pub returns-clause-done : goal.returns-clause-done
 returns-clause-done c =

@@ -1,5 +1,5 @@
 -- A kernel, from the call for its loan to the call that brings the loan back.
-use Rattle.std.proofs.Common.{◌≡◌, ℕ, List, Option, Some, None, Result, Ok, Err, refl, sym, ap, ◌∙◌, false}
+use Rattle.std.proofs.Common.{◌≡◌, ℕ, List, Option, Some, None, Result, Ok, Err, refl, sym, ap, ◌∙◌, inl, inr, false}
 use Rattle.std.specs.Prelude.{MatchResult, IfSome, option_map, is_none}
 use Rattle.acc_base.specs.declared.items.Section.{Section}
 use Rattle.acc_base.specs.declared.calls.Call.{Call}
@@ -20,7 +20,7 @@ use Rattle.acc_table.specs.Calls.{reply_of, IsCarriedOut, IsDone, IsRefusal}
 use Rattle.acc_table.specs.Queries.{host_read_of}
 use Rattle.acc_script.specs.declared.print.effects.Effect.{Effect}
 use Rattle.acc_script.specs.Kernels.{source_of}
-use Rattle.acc_script.specs.Scripts.{State, back_from}
+use Rattle.acc_script.specs.Scripts.{State, state_after, back_from}
 use Rattle.acc_script.specs.Sessions.{CallsFor, Performs, refusal_of}
 use Rattle.acc_script.proofs.Accepted.{accepted}
 use Rattle.acc_script.proofs.Refused.{refused_by}
@@ -42,7 +42,7 @@ module _ (old new : State) (region : ℕ) (kernel : ScriptKernel) (over : Sectio
   launch_refused fault refusal same = by fault refusal
     where
       by : (f : Fault) → IsRefusal old.world (Lend region over) f → Performs old (Kernel region kernel over) new (refusal_of f)
-      by Memory h = (refl, accepted old.world (Lend region over) h)
+      by Memory h = (refl, (accepted old.world (Lend region over) h, inl same))
       by f h = rw (read, refused_by old.world (Lend region over) f (λ e. absurd cc) h, same) refl
 
   module _ (mid : World) (lease : Leased) where
@@ -60,7 +60,9 @@ module _ (old new : State) (region : ℕ) (kernel : ScriptKernel) (over : Sectio
           where
             told : (r : Result Effect Fault) → CallsFor (record { world = mid; layout = old.layout }) (back_from kernel src lease) new r → Performs old (Kernel region kernel over) new r
             told (Ok effect) h = rw (read, is, ← replied, ← now) h
-            told (Err fault) h = (h.0, rw is refl)
+            told (Err fault) h =
+                let lent : new ≡ state_after (Lend region over) e old = h.2 ∙ ap (λ (w : World). record { world = w; layout = old.layout }) now in
+                (h.0, (rw is refl, inr (e, is, lent)))
 
         by : (r : Result Verdict Fault) → judge old.world (Lend region over) ≡ r → MatchResult r (λ verdict. IsCarriedOut old.world (Lend region over) verdict (Lease lease) mid) (λ fault. ⊥) → Performs old (Kernel region kernel over) new result
         by (Ok (Makes e)) is h = made e is h.0 h.1

@@ -1,7 +1,8 @@
 -- What a script does and prints, line by line, and how it ends.
-use Rattle.std.specs.Prelude.{ℕ, ◌+◌, Bool, true, false, ◌||◌, List, [], ◌∷◌, Option, Some, None, Result, Ok, Err, ◌==◌, if◌then◌else◌}
+use Rattle.std.specs.Prelude.{◌≡◌, ℕ, ◌+◌, Bool, true, false, ◌||◌, List, [], ◌∷◌, Option, Some, None, Result, Ok, Err, ◌==◌, if◌then◌else◌}
 use Rattle.acc_base.specs.declared.calls.Call.{Call}
 use Rattle.acc_base.specs.declared.calls.Call.TheVariants.{Do, HostWrite, Lend, Gather}
+use Rattle.acc_base.specs.declared.events.Event.{Event}
 use Rattle.acc_base.specs.declared.faults.Fault.{Fault}
 use Rattle.acc_base.specs.declared.faults.Fault.TheVariants.{OutOfHost}
 use Rattle.acc_base.specs.declared.faults.ScriptFault.{ScriptFault}
@@ -52,10 +53,14 @@ pub record Turned : Type 0 where
 abbrev pub answered : State → Effect → Turned
 answered s effect = record { state = s; effect = effect }
 
+-- the state after an event of a call
+abbrev pub state_after : Call Leased → Event → State → State
+state_after call event s = record { world = world_after call event s.world; layout = s.layout }
+
 -- a call changes the world where the table accepts it and makes an event; what is accepted and makes none is the step of
 -- an empty queue
 abbrev pub called : State → Call Leased → Result Verdict Fault → Turned
-called s call (Ok (Makes event)) = record { state = record { world = world_after call event s.world; layout = s.layout }; effect = Nothing }
+called s call (Ok (Makes event)) = record { state = state_after call event s; effect = Nothing }
 called s call (Ok Idle) = answered s EmptyQueue
 called s call (Err fault) = answered s (Refused fault)
 
@@ -71,9 +76,14 @@ gathered s kernel src _ = answered s Nothing
 
 -- a kernel with what the call for its loan comes to, which is never that there is nothing to do
 abbrev pub on_loan : State → ScriptKernel → List ℕ → Call Leased → Result Verdict Fault → Turned
-on_loan s kernel src call (Ok (Makes event)) = gathered (record { world = world_after call event s.world; layout = s.layout }) kernel src (reply_of event s.world.state)
+on_loan s kernel src call (Ok (Makes event)) = gathered (state_after call event s) kernel src (reply_of event s.world.state)
 on_loan s kernel src call (Ok Idle) = answered s Nothing
 on_loan s kernel src call (Err fault) = answered s (Refused fault)
+
+-- a state after another with the loan of a section in a region, which the table accepts, and nothing else
+abbrev pub IsLentFrom : State → ℕ → Section → State → Type 0
+IsLentFrom old region over new =
+    (event : Event) × (judge old.world (Lend region over) ≡ Ok (Makes event)) × (new ≡ state_after (Lend region over) event old)
 
 -- a kernel over a section, with the bytes of its source: where host memory does not have these, nothing is lent
 abbrev pub launched : State → ℕ → ScriptKernel → Section → Option (List ℕ) → Turned

@@ -1,5 +1,5 @@
 -- What a session of the code is, and what it may be refused.
-use Rattle.std.specs.Prelude.{◌≡◌, Result, Ok, Err, IsOk}
+use Rattle.std.specs.Prelude.{◌≡◌, ◌⊎◌, Result, Ok, Err, IsOk}
 use Rattle.acc_base.specs.declared.faults.Fault.{Fault}
 use Rattle.acc_base.specs.declared.faults.Fault.TheVariants.{Memory}
 use Rattle.acc_base.specs.Limits.{Limits}
@@ -13,7 +13,7 @@ use Rattle.acc_script.specs.declared.print.effects.Effect.{Effect}
 use Rattle.acc_script.specs.declared.print.effects.Effect.TheVariants.{Nothing, EmptyQueue, Refused}
 use Rattle.acc_script.specs.declared.sessions.Session.{Session}
 use Rattle.acc_read.specs.Statements.{Meaning, Declare, Direct, Kernel, Write}
-use Rattle.acc_script.specs.Scripts.{State, new_session, called, turned}
+use Rattle.acc_script.specs.Scripts.{State, new_session, called, IsLentFrom, turned}
 
 -- a session as its table's world and its arrays
 abbrev pub session_state : Session → State
@@ -24,12 +24,12 @@ abbrev pub Opens : Limits → Result Session Fault → Type 0
 Opens limits (Ok session) = session_state session ≡ new_session limits
 Opens limits (Err fault) = fault ≡ Memory
 
--- a statement that takes memory to run, and that the table accepts where it is one for the table; nothing changed, but
--- the block of a kernel may be lent
+-- a statement that takes memory to run, and that the table accepts where it is one for the table; nothing changed, or a
+-- kernel's block was lent and nothing else
 abbrev pub MayWant : State → Meaning → State → Type 0
 MayWant old (Declare name array) new = new ≡ old
 MayWant old (Direct directive) new = IsOk (judge old.world (Do directive)) × (new ≡ old)
-MayWant old (Kernel region kernel over) new = IsOk (judge old.world (Lend region over))
+MayWant old (Kernel region kernel over) new = IsOk (judge old.world (Lend region over)) × ((new ≡ old) ⊎ IsLentFrom old region over new)
 MayWant old (Write addr bytes) new = IsOk (judge old.world (HostWrite addr bytes)) × (new ≡ old)
 MayWant old _ new = ⊥
 

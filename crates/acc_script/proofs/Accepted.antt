@@ -1,6 +1,7 @@
--- A table that wants memory for a call was asked for one that is accepted: no refusal of the definitions is want of memory.
+-- A table that wants memory for a call was asked for one that makes an event: no refusal of the definitions is want of
+-- memory.
 use Rattle.std.proofs.Common.{◌≡◌, ℕ, suc, Bool, true, false, cond, List, [], ◌∷◌, length, Option, Some, None, Result, Ok, Err, refl}
-use Rattle.std.specs.Prelude.{⊤, ◌%◌, is_none, not, ◌&&◌, nat_le, nat_lt, ◌==◌, MatchResult, IsOk}
+use Rattle.std.specs.Prelude.{⊤, ◌%◌, is_none, not, ◌&&◌, nat_le, nat_lt, ◌==◌, MatchResult}
 use Rattle.acc_base.specs.declared.items.Section.{Section}
 use Rattle.acc_base.specs.declared.items.RegionClause.{RegionClause}
 use Rattle.acc_base.specs.declared.items.RegionClause.TheVariants as region
@@ -45,9 +46,10 @@ use Rattle.acc_base.specs.Bytes.{step_state}
 use Rattle.acc_base.specs.Detaching.{block_with}
 use Rattle.acc_base.specs.Pointers.{device_pointer, target_of, attach_there, judge_attach}
 use Rattle.acc_base.specs.Acting.{attach_if, judge_aim, judge_task, act_state, judge_all}
-use Rattle.acc_base.specs.Judge.{Verdict, Makes, item_limit, item_count, few_items, tasks_of_region, tasks_of, queue_in, transfers_in, verdict_of, directive_verdict, host_write_event, lend_there, lend_event, gather_event}
+use Rattle.acc_base.specs.Judge.{Verdict, Makes, Idle, item_limit, item_count, few_items, tasks_of_region, tasks_of, queue_in, transfers_in, verdict_of, directive_verdict, host_write_event, lend_there, lend_event, gather_event}
 use Rattle.acc_base.specs.Calls.{World, event_count, open_regions, ticket, allowance, trace_room, judge}
 use Rattle.acc_table.specs.Calls.{MayWantMemory, IsRefusal}
+use Rattle.acc_script.specs.Scripts.{makes_event}
 
 -- no want of memory is among the answers
 abbrev Tells : {A : Type 0} → Result A Fault → Type 0
@@ -334,11 +336,12 @@ judge_tells w (HostWrite addr bytes) = event_tells w (host_write_event w.limits 
 judge_tells w (Lend region section) = event_tells w (lend_event w.limits region section w.state) (lend_tells w.limits region section w.state)
 judge_tells w (Gather lease) = event_tells w (gather_event lease w.state.records) (gather_tells lease w.state.records)
 
--- a call for which a table wants memory is one that is accepted
-pub accepted : (w : World) (call : Call Leased) → IsRefusal w call Memory → IsOk (judge w call)
+-- a call for which a table wants memory is one that makes an event
+pub accepted : (w : World) (call : Call Leased) → IsRefusal w call Memory → makes_event (judge w call) ≡ true
 accepted w call refusal = by (judge w call) (judge_tells w call) refusal
   where
-    by : (r : Result Verdict Fault) → Tells r → MatchResult r (λ verdict. MayWantMemory verdict Memory) (λ fault. Memory ≡ fault) → IsOk r
-    by (Ok verdict) told h = refl
+    by : (r : Result Verdict Fault) → Tells r → MatchResult r (λ verdict. MayWantMemory verdict Memory) (λ fault. Memory ≡ fault) → makes_event r ≡ true
+    by (Ok (Makes e)) told h = refl
+    by (Ok Idle) told h = absurd h
     by (Err Memory) told h = absurd told
     by (Err _) told h = absurd cc

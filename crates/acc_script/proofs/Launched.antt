@@ -42,7 +42,7 @@ module _ (old new : State) (region : ℕ) (kernel : ScriptKernel) (over : Sectio
   launch_refused fault refusal same = by fault refusal
     where
       by : (f : Fault) → IsRefusal old.world (Lend region over) f → Performs old (Kernel region kernel over) new (refusal_of f)
-      by Memory h = (refl, (accepted old.world (Lend region over) h, inl same))
+      by Memory h = (refl, (rw read (accepted old.world (Lend region over) h), inl same))
       by f h = rw (read, refused_by old.world (Lend region over) f (λ e. absurd cc) h, same) refl
 
   module _ (mid : World) (lease : Leased) where
@@ -62,7 +62,7 @@ module _ (old new : State) (region : ℕ) (kernel : ScriptKernel) (over : Sectio
             told (Ok effect) h = rw (read, is, ← replied, ← now) h
             told (Err fault) h =
                 let lent : new ≡ state_after (Lend region over) e old = h.2 ∙ ap (λ (w : World). record { world = w; layout = old.layout }) now in
-                (h.0, (rw is refl, inr (e, is, lent)))
+                (h.0, (rw (read, is) refl, inr (e, is, lent)))
 
         by : (r : Result Verdict Fault) → judge old.world (Lend region over) ≡ r → MatchResult r (λ verdict. IsCarriedOut old.world (Lend region over) verdict (Lease lease) mid) (λ fault. ⊥) → Performs old (Kernel region kernel over) new result
         by (Ok (Makes e)) is h = made e is h.0 h.1

@@ -15,10 +15,9 @@ use Rattle.acc_script.specs.declared.print.effects.Effect.{Effect}
 use Rattle.acc_script.specs.Told.{Taken, Took, TookFront}
 use Rattle.acc_read.specs.Lines.{lines_of}
 use Rattle.acc_read.specs.Reading.{◌>>=◌, wants}
-use Rattle.acc_read.specs.Statements.{Meaning, Declare, Direct, Kernel, takes_memory}
-use Rattle.acc_read.specs.Statements.{Write as WriteBytes}
+use Rattle.acc_read.specs.Statements.{Meaning, takes_memory}
 use Rattle.acc_script.specs.Sessions.{MayWant}
-use Rattle.acc_script.specs.Scripts.{State, Turned, turned, is_refused, meaning_in, line_turned, line_wants, line_text, Transcript, Ended, Faulty, ended, noted, transcript_from}
+use Rattle.acc_script.specs.Scripts.{State, Turned, turned, is_refused, meaning_in, line_turned, needs_memory, line_wants, line_text, Transcript, Ended, Faulty, ended, noted, transcript_from}
 use Rattle.acc_script.specs.Runs.{RanLine, LostLine, LineRuns, Played}
 use Rattle.acc_script.proofs.Fronts.{Took_then, Took-then_front}
 
@@ -48,21 +47,26 @@ line_lost number s after line old new meaning effect said is wrote = record { tu
 
 -- a line that was read and could not be run, since there was no memory for it
 pub line_wanted : (number : ℕ) (s after left : State) (line : List ℕ) (old : Option Taken) (meaning : Meaning) (fault : Fault) → meaning_in s line ≡ Ok meaning → (fault ≡ Memory) × MayWant s meaning left → LineRuns number s line old old after (Err fault)
-line_wanted number s after left line old meaning fault said h = rw (h.0, said) (takes meaning h.1, refl)
+line_wanted number s after left line old meaning fault said h = rw (h.0, said) (either (takes_memory meaning) h.1.0, refl)
   where
-    takes : (m : Meaning) → MayWant s m left → takes_memory m ≡ true
-    takes (Declare name array) k = refl
-    takes (Direct directive) k = refl
-    takes (Kernel region kernel section) k = refl
-    takes (WriteBytes addr bytes) k = refl
-    takes _ k = absurd k
+    either : (a : Bool) {b : Bool} → b ≡ true → (a || b) ≡ true
+    either true k = refl
+    either false k = k
+
+-- a line that could not be read, since there was no memory for it
+pub line_unread : (number : ℕ) (s after : State) (line : List ℕ) (old : Option Taken) → wants takes_memory (meaning_in s line) ≡ true → LineRuns number s line old old after (Err Memory)
+line_unread number s after line old h = (by (meaning_in s line) h, refl)
+  where
+    by : (r : Result Meaning ScriptFault) → wants takes_memory r ≡ true → wants (needs_memory s) r ≡ true
+    by (Ok meaning) k = rw k refl
+    by (Err kind) k = absurd cc
 
 -- a line that takes memory is one that is run
 wanting_runs : (s : State) (line : List ℕ) → line_wants s line ≡ true → (turn : Turned) × (line_turned s line ≡ Ok turn)
 unfolding line_turned
 wanting_runs s line h = by (meaning_in s line) h
   where
-    by : (r : Result Meaning ScriptFault) → wants takes_memory r ≡ true → (turn : Turned) × ((r >>= (λ meaning. Ok (turned s meaning))) ≡ Ok turn)
+    by : (r : Result Meaning ScriptFault) → wants (needs_memory s) r ≡ true → (turn : Turned) × ((r >>= (λ meaning. Ok (turned s meaning))) ≡ Ok turn)
     by (Ok meaning) k = (turned s meaning, refl)
     by (Err kind) k = absurd cc
 

@@ -1,5 +1,5 @@
 -- What a script does and prints, line by line, and how it ends.
-use Rattle.std.specs.Prelude.{◌≡◌, ℕ, ◌+◌, Bool, true, false, ◌||◌, List, [], ◌∷◌, Option, Some, None, Result, Ok, Err, ◌==◌, if◌then◌else◌}
+use Rattle.std.specs.Prelude.{◌≡◌, ℕ, ◌+◌, Bool, true, false, ◌&&◌, ◌||◌, List, [], ◌∷◌, Option, Some, None, Result, Ok, Err, is_some, ◌==◌, if◌then◌else◌}
 use Rattle.acc_base.specs.declared.calls.Call.{Call}
 use Rattle.acc_base.specs.declared.calls.Call.TheVariants.{Do, HostWrite, Lend, Gather}
 use Rattle.acc_base.specs.declared.events.Event.{Event}
@@ -108,6 +108,22 @@ turned s (Present section) = answered s (Presence (is_inside (where_is section s
 turned s (Address addr) = answered s (Place (device_address_of addr s.world.state.records))
 turned s Report = answered s Reported
 
+-- a call comes to an event
+abbrev pub makes_event : Result Verdict Fault → Bool
+makes_event (Ok (Makes event)) = true
+makes_event (Ok Idle) = false
+makes_event (Err fault) = false
+
+-- a statement takes memory to run: it declares, or the table accepts the call that it makes and an event comes of that;
+-- of a kernel this is the call for its loan, where host memory has the bytes of its source
+abbrev pub run_takes_memory : State → Meaning → Bool
+run_takes_memory s (Declare name array) = true
+run_takes_memory s (Direct directive) = makes_event (judge s.world (Do directive))
+run_takes_memory s (Kernel region kernel over) =
+    is_some (host_read_of (source_of kernel) s.world.state.host) && makes_event (judge s.world (Lend region over))
+run_takes_memory s (Write addr bytes) = makes_event (judge s.world (HostWrite addr bytes))
+run_takes_memory s _ = false
+
 -- what the line of a number prints
 abbrev pub effect_text : ℕ → World → Effect → List ℕ
 effect_text number w Nothing = []
@@ -136,9 +152,13 @@ line_turned s line = do
   meaning ← meaning_in s line
   Ok (turned s meaning)
 
+-- a statement takes memory to read or to run
+abbrev pub needs_memory : State → Meaning → Bool
+needs_memory s meaning = takes_memory meaning || run_takes_memory s meaning
+
 -- the line is not at fault, and what it asks for takes memory
 abbrev pub line_wants : State → List ℕ → Bool
-line_wants s line = wants takes_memory (meaning_in s line)
+line_wants s line = wants (needs_memory s) (meaning_in s line)
 
 -- what the line of a number prints, once it was run
 abbrev pub line_text : ℕ → Turned → List ℕ

@@ -38,8 +38,9 @@ pub enum Status {
 /// - [`Fault::Script`] at the first line that is at fault, or behind the last line where a data region is then open. What
 ///   the lines before print was written.
 /// - [`Fault::Write`] where the writer fails. It has then taken a front of what the script prints.
-/// - [`Fault::Memory`]. What some first lines print was written; the line after them is not at fault, and declares,
-///   directs, runs a kernel or writes. Nothing was written where memory was wanting for the input or for the table.
+/// - [`Fault::Memory`]. What some first lines print was written; the line after them is not at fault, and lists items
+///   or bytes, declares, or makes a call that makes an event. Nothing was written where memory was wanting for the
+///   input or for the table.
 pub fn run<R: Threads + Wait + Sync + AllocGlobal, S: Source, W: Sink>(
     rt: &R,
     reader: &mut S,

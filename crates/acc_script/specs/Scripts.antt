@@ -57,8 +57,8 @@ answered s effect = record { state = s; effect = effect }
 abbrev pub state_after : Call Leased → Event → State → State
 state_after call event s = record { world = world_after call event s.world; layout = s.layout }
 
--- a call changes the world where the table accepts it and makes an event; what is accepted and makes none is the step of
--- an empty queue
+-- a call changes the world where the table accepts it and makes an event; what is accepted and makes none is the step
+-- of an empty queue
 abbrev pub called : State → Call Leased → Result Verdict Fault → Turned
 called s call (Ok (Makes event)) = record { state = state_after call event s; effect = Nothing }
 called s call (Ok Idle) = answered s EmptyQueue
@@ -71,19 +71,23 @@ back_from kernel src lease = Gather (with_section lease (image_of kernel (sectio
 -- a kernel with what the call for its loan replied, which is never but a lease: it is brought back, and its block stays
 -- lent where that is refused
 abbrev pub gathered : State → ScriptKernel → List ℕ → Reply → Turned
-gathered s kernel src (replies.Lease lease) = called s (back_from kernel src lease) (judge s.world (back_from kernel src lease))
+gathered s kernel src (replies.Lease lease) =
+    called s (back_from kernel src lease) (judge s.world (back_from kernel src lease))
 gathered s kernel src _ = answered s Nothing
 
 -- a kernel with what the call for its loan comes to, which is never that there is nothing to do
 abbrev pub on_loan : State → ScriptKernel → List ℕ → Call Leased → Result Verdict Fault → Turned
-on_loan s kernel src call (Ok (Makes event)) = gathered (state_after call event s) kernel src (reply_of event s.world.state)
+on_loan s kernel src call (Ok (Makes event)) =
+    gathered (state_after call event s) kernel src (reply_of event s.world.state)
 on_loan s kernel src call (Ok Idle) = answered s Nothing
 on_loan s kernel src call (Err fault) = answered s (Refused fault)
 
 -- a state after another with the loan of a section in a region, which the table accepts, and nothing else
 abbrev pub IsLentFrom : State → ℕ → Section → State → Type 0
 IsLentFrom old region over new =
-    (event : Event) × (judge old.world (Lend region over) ≡ Ok (Makes event)) × (new ≡ state_after (Lend region over) event old)
+    (event : Event)
+    × (judge old.world (Lend region over) ≡ Ok (Makes event))
+    × (new ≡ state_after (Lend region over) event old)
 
 -- a kernel over a section, with the bytes of its source: where host memory does not have these, nothing is lent
 abbrev pub launched : State → ℕ → ScriptKernel → Section → Option (List ℕ) → Turned
@@ -98,9 +102,11 @@ shown section (Some bytes) = HostBytes section
 -- a state and a statement, as the state after it and what there is to print
 abbrev pub turned : State → Meaning → Turned
 turned s Blank = answered s Nothing
-turned s (Declare name array) = record { state = record { world = s.world; layout = with_array name array s.layout }; effect = Nothing }
+turned s (Declare name array) =
+    record { state = record { world = s.world; layout = with_array name array s.layout }; effect = Nothing }
 turned s (Direct directive) = called s (Do directive) (judge s.world (Do directive))
-turned s (Kernel region kernel over) = launched s region kernel over (host_read_of (source_of kernel) s.world.state.host)
+turned s (Kernel region kernel over) =
+    launched s region kernel over (host_read_of (source_of kernel) s.world.state.host)
 turned s (Write addr bytes) = called s (HostWrite addr bytes) (judge s.world (HostWrite addr bytes))
 turned s (Show section) = answered s (shown section (host_read_of section s.world.state.host))
 turned s (Peek section) = answered s (DeviceBytes section)
@@ -181,7 +187,11 @@ pub record Transcript : Type 0 where
 -- the line of a number, and the lines after it
 abbrev pub noted : ℕ → Bool → Result Turned ScriptFault → (Turned → Transcript) → Transcript
 noted number wanting (Err kind) others = record { texts = []; wanting = []; ending = Faulty number kind }
-noted number wanting (Ok turn) others = record { texts = line_text number turn ∷ (others turn).texts; wanting = wanting ∷ (others turn).wanting; ending = (others turn).ending }
+noted number wanting (Ok turn) others = record {
+  texts = line_text number turn ∷ (others turn).texts;
+  wanting = wanting ∷ (others turn).wanting;
+  ending = (others turn).ending;
+}
 
 -- the end of the input behind all lines: at fault where a region is open
 abbrev pub ended : ℕ → State → Bool → Ending
@@ -190,7 +200,9 @@ ended number s refused = if open_regions s.world.state == 0 then Ended refused e
 -- the lines from that of a number on; refused says whether one before was
 abbrev pub transcript_from : ℕ → State → Bool → List (List ℕ) → Transcript
 transcript_from number s refused [] = record { texts = []; wanting = []; ending = ended number s refused }
-transcript_from number s refused (line ∷ lines) = noted number (line_wants s line) (line_turned s line) (λ turn. transcript_from (number + 1) turn.state (refused || is_refused turn.effect) lines)
+transcript_from number s refused (line ∷ lines) =
+    noted number (line_wants s line) (line_turned s line)
+    (λ turn. transcript_from (number + 1) turn.state (refused || is_refused turn.effect) lines)
 
 -- an input as a script on a new table of these limits
 unfoldable pub transcript : Limits → List ℕ → Transcript

@@ -19,7 +19,8 @@ use Rattle.acc_read.specs.Statements.{Write, takes_memory, last_bytes_at, write_
 -- ---- one word
 
 -- a digit of either case has a value
-has_value : (upper lower decimal : Bool) (a b c : ℕ) → (decimal || upper) || lower ≡ true → is_some (cond upper (Some a) (cond lower (Some b) (cond decimal (Some c) None))) ≡ true
+has_value : (upper lower decimal : Bool) (a b c : ℕ) → (decimal || upper) || lower ≡ true
+    → is_some (cond upper (Some a) (cond lower (Some b) (cond decimal (Some c) None))) ≡ true
 has_value true lower decimal a b c e = refl
 has_value false true decimal a b c e = refl
 has_value false false true a b c e = refl
@@ -31,12 +32,14 @@ unfolding bytes_said
 not_digits word e = rw e refl
 
 -- a word with too many digits says no bytes
-pub many_digits : (word : List ℕ) → list_all is_ascii_hexdigit word ≡ true → 128 < length word → bytes_said word ≡ Err Number
+pub many_digits : (word : List ℕ) → list_all is_ascii_hexdigit word ≡ true → 128 < length word
+    → bytes_said word ≡ Err Number
 unfolding bytes_said
 many_digits word e more = rw (e, lt-ltb 128 (length word) more) refl
 
 -- a word with an odd number of digits says no bytes
-pub odd_digits : (word : List ℕ) → list_all is_ascii_hexdigit word ≡ true → length word ≤ 128 → length word % 2 ≡ 1 → bytes_said word ≡ Err Number
+pub odd_digits : (word : List ℕ) → list_all is_ascii_hexdigit word ≡ true → length word ≤ 128 → length word % 2 ≡ 1
+    → bytes_said word ≡ Err Number
 unfolding bytes_said
 odd_digits word e few odd = rw (e, le-ltb 128 (length word) few, eq-eqb (length word % 2) 1 odd) refl
 
@@ -49,18 +52,21 @@ all_values (c ∷ word) e =
     rw (here, all_values word parts.1) refl
 
 -- a word with an even number of digits, and not too many, says bytes
-pub right_word : (word : List ℕ) → list_all is_ascii_hexdigit word ≡ true → length word ≤ 128 → length word % 2 ≢ 1 → IsOk (bytes_said word)
+pub right_word : (word : List ℕ) → list_all is_ascii_hexdigit word ≡ true → length word ≤ 128 → length word % 2 ≢ 1
+    → IsOk (bytes_said word)
 unfolding bytes_said
 right_word word e few even =
     let bytes = decode_of-digits word (omega arith) (AllPass-from_list_all is_hex_digit word (all_values word e)) in
     rw (e, le-ltb 128 (length word) few, bytes.1) refl
 
 -- the bytes that a right word is decoded to are those that it says
-pub word_decoded : (word bytes : List ℕ) → IsOk (bytes_said word) → decode_of word ≡ Ok bytes → bytes_said word ≡ Ok bytes
+pub word_decoded : (word bytes : List ℕ) → IsOk (bytes_said word) → decode_of word ≡ Ok bytes
+    → bytes_said word ≡ Ok bytes
 unfolding bytes_said
 word_decoded word bytes right e = by (list_all is_ascii_hexdigit word) (nat_lt digit_limit (length word)) right
   where
-    by : (b c : Bool) → IsOk (cond (not b) (Err Syntax) (cond c (Err Number) (decoded (decode_of word)))) → cond (not b) (Err Syntax) (cond c (Err Number) (decoded (decode_of word))) ≡ Ok bytes
+    by : (b c : Bool) → IsOk (cond (not b) (Err Syntax) (cond c (Err Number) (decoded (decode_of word))))
+        → cond (not b) (Err Syntax) (cond c (Err Number) (decoded (decode_of word))) ≡ Ok bytes
     by false c h = absurd cc
     by true true h = absurd cc
     by true false h = rw e refl
@@ -73,21 +79,25 @@ unfolding last_bytes_at
 no_word text kind e = rw e refl
 
 -- a word that says no bytes is at fault before the end of the line is looked at
-pub last_faulty : (text word rest : List ℕ) (kind : ScriptFault) → word_at text ≡ Ok (word, rest) → bytes_said word ≡ Err kind → last_bytes_at text ≡ Err kind
+pub last_faulty : (text word rest : List ℕ) (kind : ScriptFault) → word_at text ≡ Ok (word, rest)
+    → bytes_said word ≡ Err kind → last_bytes_at text ≡ Err kind
 unfolding last_bytes_at
 last_faulty text word rest kind e f = rw (e, f) refl
 
 -- a right word with more behind it
-pub last_open : (text word rest : List ℕ) → word_at text ≡ Ok (word, rest) → IsOk (bytes_said word) → is_at_end rest ≡ false → last_bytes_at text ≡ Err Syntax
+pub last_open : (text word rest : List ℕ) → word_at text ≡ Ok (word, rest) → IsOk (bytes_said word)
+    → is_at_end rest ≡ false → last_bytes_at text ≡ Err Syntax
 unfolding last_bytes_at
 last_open text word rest e right more = rw e (by (bytes_said word) right)
   where
-    by : (r : Result (List ℕ) ScriptFault) → IsOk r → (r >>= (λ bytes. cond (is_at_end rest) (Ok bytes) (Err Syntax))) ≡ Err Syntax
+    by : (r : Result (List ℕ) ScriptFault) → IsOk r
+        → (r >>= (λ bytes. cond (is_at_end rest) (Ok bytes) (Err Syntax))) ≡ Err Syntax
     by (Ok bytes) h = rw more refl
     by (Err kind) h = absurd cc
 
 -- a right word at the end of the line
-pub last_said : (text word rest : List ℕ) → word_at text ≡ Ok (word, rest) → is_at_end rest ≡ true → last_bytes_at text ≡ bytes_said word
+pub last_said : (text word rest : List ℕ) → word_at text ≡ Ok (word, rest) → is_at_end rest ≡ true
+    → last_bytes_at text ≡ bytes_said word
 unfolding last_bytes_at
 last_said text word rest e ends = rw e (by (bytes_said word))
   where
@@ -96,10 +106,17 @@ last_said text word rest e ends = rw e (by (bytes_said word))
     by (Err kind) = refl
 
 -- a write of a right word is one that takes memory
-pub write_wants : (layout : ArrayLayout) (text rest word : List ℕ) (addr : ℕ) → address_at layout text ≡ Ok (addr, rest) → last_bytes_at rest ≡ bytes_said word → IsOk (bytes_said word) → wants takes_memory (write_at layout text) ≡ true
+pub write_wants : (layout : ArrayLayout) (text rest word : List ℕ) (addr : ℕ) → address_at layout text ≡ Ok (addr, rest)
+    → last_bytes_at rest ≡ bytes_said word → IsOk (bytes_said word) → wants takes_memory (write_at layout text) ≡ true
 unfolding write_at
 write_wants layout text rest word addr e said right = rw (e, said) (by (bytes_said word) right)
   where
     by : (r : Result (List ℕ) ScriptFault) → IsOk r → wants takes_memory (r >>= (λ bytes. Ok (Write addr bytes))) ≡ true
     by (Ok bytes) h = refl
     by (Err kind) h = absurd cc
+
+-- what a word is said to be by its digits
+pub ruleset word_laws = (not_digits, many_digits, odd_digits, right_word)
+
+-- what the last word of a line is said to be
+pub ruleset last_word_laws = (last_faulty, last_open, last_said, no_word)

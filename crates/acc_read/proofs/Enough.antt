@@ -28,12 +28,14 @@ use Rattle.acc_read.proofs.HeldClauses.{after_named, after_clause}
 -- ---- a reading that went well, as its steps
 
 -- a reading of two steps that went well, as its steps
-bind_is : {A B : Type 0} (read : Result A ScriptFault) (f : A → Result B ScriptFault) (y : B) → (read >>= f) ≡ Ok y → (x : A) × (read ≡ Ok x) × (f x ≡ Ok y)
+bind_is : {A B : Type 0} (read : Result A ScriptFault) (f : A → Result B ScriptFault) (y : B) → (read >>= f) ≡ Ok y
+    → (x : A) × (read ≡ Ok x) × (f x ≡ Ok y)
 bind_is (Ok x) f y e = (x, refl, e)
 bind_is (Err kind) f y e = absurd cc
 
 -- a choice between a fault and a value that gave a value, faults first
-then_ok : {A : Type 0} (b : Bool) (kind : ScriptFault) (x y : A) → cond b (Err kind) (Ok x) ≡ Ok y → (b ≡ false) × (x ≡ y)
+then_ok : {A : Type 0} (b : Bool) (kind : ScriptFault) (x y : A) → cond b (Err kind) (Ok x) ≡ Ok y
+    → (b ≡ false) × (x ≡ y)
 then_ok true kind x y e = absurd cc
 then_ok false kind x y e = (refl, cc)
 
@@ -43,7 +45,8 @@ else_ok true kind x y e = cc
 else_ok false kind x y e = absurd cc
 
 -- a choice between a fault and a reading that went well, faults first
-then_read : {A : Type 0} (b : Bool) (kind : ScriptFault) (read : Result A ScriptFault) (y : A) → cond b (Err kind) read ≡ Ok y → read ≡ Ok y
+then_read : {A : Type 0} (b : Bool) (kind : ScriptFault) (read : Result A ScriptFault) (y : A)
+    → cond b (Err kind) read ≡ Ok y → read ≡ Ok y
 then_read true kind read y e = absurd cc
 then_read false kind read y e = e
 
@@ -80,7 +83,8 @@ name_shorter text name e =
     subst (λ (w : List ℕ × List ℕ). length w.1 < length text) same (word_shorter text steps.0 steps.1)
 
 -- reading a number takes a byte at least
-number_shorter : (limit : ℕ) (text : List ℕ) (number : ℕ × List ℕ) → number_at limit text ≡ Ok number → length number.1 < length text
+number_shorter : (limit : ℕ) (text : List ℕ) (number : ℕ × List ℕ) → number_at limit text ≡ Ok number
+    → length number.1 < length text
 unfolding number_at
 number_shorter limit text number e =
     let word = bind_is (word_at text) (λ word. number_said limit word.0 >>= (λ n. Ok (n, word.1))) number e in
@@ -109,14 +113,16 @@ known_is None rest array e = absurd cc
 known_is (Some a) rest array e = let same : (a, rest) ≡ array = cc in ap (λ (x : Array × List ℕ). x.1) same
 
 -- reading the name of an array takes a byte at least
-known_shorter : (layout : ArrayLayout) (text : List ℕ) (array : Array × List ℕ) → known_at layout text ≡ Ok array → length array.1 < length text
+known_shorter : (layout : ArrayLayout) (text : List ℕ) (array : Array × List ℕ) → known_at layout text ≡ Ok array
+    → length array.1 < length text
 unfolding known_at
 known_shorter layout text array e =
     let name = bind_is (name_at text) (λ name. known (array_of name.0 layout) name.1) array e in
     subst (λ (xs : List ℕ). length xs < length text) (known_is (array_of name.0.0 layout) name.0.1 array name.2) (name_shorter text name.0 name.1)
 
 -- reading a part of an array makes no text longer
-part_shorter : (array : Array) (text : List ℕ) (part : Section × List ℕ) → part_at array text ≡ Ok part → length part.1 ≤ length text
+part_shorter : (array : Array) (text : List ℕ) (part : Section × List ℕ) → part_at array text ≡ Ok part
+    → length part.1 ≤ length text
 unfolding part_at
 part_shorter array text part e =
     let bracket = bind_is (mark_at left_bracket text) (λ bracket. number_at number_limit bracket >>= (λ from. mark_at colon from.1 >>= (λ between. number_at number_limit between >>= (λ len. mark_at right_bracket len.1 >>= (λ close. Ok (part_of array from.0 len.0, close)))))) part e in
@@ -127,14 +133,16 @@ part_shorter array text part e =
     omega (arith, rest_len (part_of array from.0.0 len.0.0) close.0 part close.2, mark_shorter left_bracket text bracket.0 bracket.1, number_shorter number_limit bracket.0 from.0 from.1, mark_shorter colon from.0.1 between.0 between.1, number_shorter number_limit between.0 len.0 len.1, mark_shorter right_bracket len.0.1 close.0 close.1)
 
 -- reading a section takes a byte at least
-section_shorter : (layout : ArrayLayout) (text : List ℕ) (section : Section × List ℕ) → section_at layout text ≡ Ok section → length section.1 < length text
+section_shorter : (layout : ArrayLayout) (text : List ℕ) (section : Section × List ℕ)
+    → section_at layout text ≡ Ok section → length section.1 < length text
 unfolding section_at
 section_shorter layout text section e =
     let array = bind_is (known_at layout text) (λ array. if is_mark_next left_bracket array.1 then part_at array.0 array.1 else Ok (whole array.0, array.1)) section e in
     let less = known_shorter layout text array.0 array.1 in
     by array.0.0 array.0.1 (is_mark_next left_bracket array.0.1) array.2 less
   where
-    by : (array : Array) (rest : List ℕ) (b : Bool) → cond b (part_at array rest) (Ok (whole array, rest)) ≡ Ok section → length rest < length text → length section.1 < length text
+    by : (array : Array) (rest : List ℕ) (b : Bool) → cond b (part_at array rest) (Ok (whole array, rest)) ≡ Ok section
+        → length rest < length text → length section.1 < length text
     by array rest true h less = omega (arith, part_shorter array rest section h)
     by array rest false h less = let same : (whole array, rest) ≡ section = cc in subst (λ (x : Section × List ℕ). length x.1 < length text) same less
 
@@ -155,7 +163,8 @@ abbrev only_section : Section → Named
 only_section section = aimed_section section None
 
 -- reading an offset of an array makes no text longer
-offset_shorter : (array : Array) (text : List ℕ) (addr : ℕ × List ℕ) → offset_at array text ≡ Ok addr → length addr.1 ≤ length text
+offset_shorter : (array : Array) (text : List ℕ) (addr : ℕ × List ℕ) → offset_at array text ≡ Ok addr
+    → length addr.1 ≤ length text
 unfolding offset_at
 offset_shorter array text addr e =
     let bracket = bind_is (mark_at left_bracket text) (λ bracket. number_at number_limit bracket >>= (λ from. mark_at right_bracket from.1 >>= (λ close. Ok (byte_of array from.0, close)))) addr e in
@@ -164,7 +173,8 @@ offset_shorter array text addr e =
     omega (arith, rest_len (byte_of array from.0.0) close.0 addr close.2, mark_shorter left_bracket text bracket.0 bracket.1, number_shorter number_limit bracket.0 from.0 from.1, mark_shorter right_bracket from.0.1 close.0 close.1)
 
 -- reading an address takes a byte at least
-address_shorter : (layout : ArrayLayout) (text : List ℕ) (addr : ℕ × List ℕ) → address_at layout text ≡ Ok addr → length addr.1 < length text
+address_shorter : (layout : ArrayLayout) (text : List ℕ) (addr : ℕ × List ℕ) → address_at layout text ≡ Ok addr
+    → length addr.1 < length text
 unfolding address_at
 address_shorter layout text addr e =
     let array = bind_is (known_at layout text) (λ array. offset_at array.0 array.1) addr e in
@@ -179,7 +189,8 @@ keyword_shorter keyword text rest e =
     subst (λ (xs : List ℕ). length xs < length text) same (word_shorter text word.0 word.1)
 
 -- reading the pointer behind `via` makes no text longer
-via_shorter : (layout : ArrayLayout) (text : List ℕ) (aim : Option ℕ × List ℕ) → via_at layout text ≡ Ok aim → length aim.1 ≤ length text
+via_shorter : (layout : ArrayLayout) (text : List ℕ) (aim : Option ℕ × List ℕ) → via_at layout text ≡ Ok aim
+    → length aim.1 ≤ length text
 unfolding via_at
 via_shorter layout text aim e =
     let rest = bind_is (keyword_at (codes "via") text) (λ rest. address_at layout rest >>= (λ pointer. Ok (Some pointer.0, pointer.1))) aim e in
@@ -187,7 +198,8 @@ via_shorter layout text aim e =
     omega (arith, rest_len (some_nat pointer.0.0) pointer.0.1 aim pointer.2, keyword_shorter (codes "via") text rest.0 rest.1, address_shorter layout rest.0 pointer.0 pointer.1)
 
 -- reading the pointer to a section, if there is one, makes no text longer
-aim_shorter : (layout : ArrayLayout) (text : List ℕ) (aim : Option ℕ × List ℕ) → aim_at layout text ≡ Ok aim → length aim.1 ≤ length text
+aim_shorter : (layout : ArrayLayout) (text : List ℕ) (aim : Option ℕ × List ℕ) → aim_at layout text ≡ Ok aim
+    → length aim.1 ≤ length text
 unfolding aim_at
 aim_shorter layout text aim e = by (is_word_next (codes "via") text) e
   where
@@ -196,7 +208,8 @@ aim_shorter layout text aim e = by (is_word_next (codes "via") text) e
     by false h = let same : (no_nat, text) ≡ aim = cc in subst (λ (x : Option ℕ × List ℕ). length x.1 ≤ length text) same (omega arith)
 
 -- reading what an item names takes a byte at least
-named_shorter : (kind : Kind) (layout : ArrayLayout) (text : List ℕ) (named : Named × List ℕ) → named_at kind layout text ≡ Ok named → length named.1 < length text
+named_shorter : (kind : Kind) (layout : ArrayLayout) (text : List ℕ) (named : Named × List ℕ)
+    → named_at kind layout text ≡ Ok named → length named.1 < length text
 unfolding named_at
 named_shorter Sections layout text named e =
     let section = bind_is (section_at layout text) (λ section. Ok (record { section = section.0; pointer = None }, section.1)) named e in
@@ -212,7 +225,8 @@ named_shorter Pointers layout text named e =
 -- ---- queues
 
 -- reading the number of a queue makes no text longer
-queue_number_shorter : (text : List ℕ) (queue : ℕ × List ℕ) → queue_number_at text ≡ Ok queue → length queue.1 ≤ length text
+queue_number_shorter : (text : List ℕ) (queue : ℕ × List ℕ) → queue_number_at text ≡ Ok queue
+    → length queue.1 ≤ length text
 unfolding queue_number_at
 queue_number_shorter text queue e =
     let inside = bind_is (mark_at left_parenthesis text) (λ inside. number_at number_limit inside >>= (λ number. mark_at right_parenthesis number.1 >>= (λ close. Ok (number.0, close)))) queue e in
@@ -249,47 +263,61 @@ module _ {C : Type 0} where
   items_one_more zero kind clause layout before text le =
       let none : text ≡ [] = nil_from_length text (omega arith) in
       subst (λ (xs : List ℕ). items_at 0 kind clause layout before xs ≡ items_at 1 kind clause layout before xs) (sym none) (rw (no_item kind layout) refl)
-  items_one_more (suc n) kind clause layout before text le = by (items_one_more n kind clause layout) (named_at kind layout text) refl
+  items_one_more (suc n) kind clause layout before text le =
+      by (items_one_more n kind clause layout) (named_at kind layout text) refl
     where
       next : ItemsAgree n kind clause layout → (named : Named × List ℕ) (b : Bool) → length named.1 < length text
-          → cond b (items_at n kind clause layout (before ++ item_of clause named.0 ∷ []) (skip_comma named.1)) (Ok (before ++ item_of clause named.0 ∷ [], named.1))
+          → cond b (items_at n kind clause layout (before ++ item_of clause named.0 ∷ []) (skip_comma named.1))
+          (Ok (before ++ item_of clause named.0 ∷ [], named.1))
           ≡ cond b (items_at (suc n) kind clause layout (before ++ item_of clause named.0 ∷ []) (skip_comma named.1)) (Ok (before ++ item_of clause named.0 ∷ [], named.1))
-      next shorter named true less = shorter (before ++ item_of clause named.0 ∷ []) (skip_comma named.1) (omega (arith, comma_le named.1))
+      next shorter named true less =
+          shorter (before ++ item_of clause named.0 ∷ []) (skip_comma named.1) (omega (arith, comma_le named.1))
       next shorter named false less = refl
 
-      by : ItemsAgree n kind clause layout → (r : Result (Named × List ℕ) ScriptFault) → named_at kind layout text ≡ r → (r >>= after_named n kind clause layout before) ≡ (r >>= after_named (suc n) kind clause layout before)
+      by : ItemsAgree n kind clause layout → (r : Result (Named × List ℕ) ScriptFault) → named_at kind layout text ≡ r
+          → (r >>= after_named n kind clause layout before) ≡ (r >>= after_named (suc n) kind clause layout before)
       by shorter (Ok named) e = next shorter named (is_mark_next comma named.1) (named_shorter kind layout text named e)
       by shorter (Err fault) e = refl
 
   -- as much fuel as the text has bytes is enough
-  pub items_enough : (more : ℕ) (kind : Kind) (clause : C) (layout : ArrayLayout) (before : List (Item C)) (text : List ℕ) → items_at (length text + more) kind clause layout before text ≡ items_at (length text) kind clause layout before text
+  pub items_enough : (more : ℕ) (kind : Kind) (clause : C) (layout : ArrayLayout) (before : List (Item C))
+      (text : List ℕ)
+      → items_at (length text + more) kind clause layout before text
+      ≡ items_at (length text) kind clause layout before text
   items_enough zero kind clause layout before text = let e : length text + 0 ≡ length text = omega arith in rw e refl
   items_enough (suc more) kind clause layout before text =
       let e : length text + suc more ≡ suc (length text + more) = omega arith in
       rw e (sym (items_one_more (length text + more) kind clause layout before text (omega arith)) ∙ items_enough more kind clause layout before text)
 
   -- reading items makes no text longer
-  items_le : (n : ℕ) (kind : Kind) (clause : C) (layout : ArrayLayout) (before : List (Item C)) (text : List ℕ) (items : List (Item C) × List ℕ) → items_at n kind clause layout before text ≡ Ok items → length items.1 ≤ length text
+  items_le : (n : ℕ) (kind : Kind) (clause : C) (layout : ArrayLayout) (before : List (Item C)) (text : List ℕ)
+      (items : List (Item C) × List ℕ) → items_at n kind clause layout before text ≡ Ok items
+      → length items.1 ≤ length text
   unfolding items_at
   items_le zero kind clause layout before text items e = absurd cc
   items_le (suc n) kind clause layout before text items e =
       let named = bind_is (named_at kind layout text) (after_named n kind clause layout before) items e in
       by (λ before' rest h. items_le n kind clause layout before' rest items h) named.0 (is_mark_next comma named.0.1) (named_shorter kind layout text named.0 named.1) named.2
     where
-      by : ((before' : List (Item C)) (rest : List ℕ) → items_at n kind clause layout before' rest ≡ Ok items → length items.1 ≤ length rest) → (named : Named × List ℕ) (b : Bool) → length named.1 < length text
-          → cond b (items_at n kind clause layout (before ++ item_of clause named.0 ∷ []) (skip_comma named.1)) (Ok (before ++ item_of clause named.0 ∷ [], named.1)) ≡ Ok items → length items.1 ≤ length text
-      by shorter named true less h = omega (arith, comma_le named.1, shorter (before ++ item_of clause named.0 ∷ []) (skip_comma named.1) h)
+      by : ((before' : List (Item C)) (rest : List ℕ) → items_at n kind clause layout before' rest ≡ Ok items
+          → length items.1 ≤ length rest) → (named : Named × List ℕ) (b : Bool) → length named.1 < length text
+          → cond b (items_at n kind clause layout (before ++ item_of clause named.0 ∷ []) (skip_comma named.1))
+          (Ok (before ++ item_of clause named.0 ∷ [], named.1)) ≡ Ok items → length items.1 ≤ length text
+      by shorter named true less h =
+          omega (arith, comma_le named.1, shorter (before ++ item_of clause named.0 ∷ []) (skip_comma named.1) h)
       by shorter named false less h = let rest : named.1 ≡ items.1 = cc in rw (← rest) (omega arith)
 
   -- ---- clauses
 
   -- a clause that is one leaves the text as it is
-  some_clause_is : (o : Option C) (rest : List ℕ) (clause : C × List ℕ) → some_clause o rest ≡ Ok clause → rest ≡ clause.1
+  some_clause_is : (o : Option C) (rest : List ℕ) (clause : C × List ℕ) → some_clause o rest ≡ Ok clause
+      → rest ≡ clause.1
   some_clause_is None rest clause e = absurd cc
   some_clause_is (Some c) rest clause e = let same : (c, rest) ≡ clause = cc in ap (λ (x : C × List ℕ). x.1) same
 
   -- reading a modifier makes no text longer
-  modifier_le : (grammar : Grammar C) (clause : C) (text : List ℕ) (modified : C × List ℕ) → modifier_at grammar clause text ≡ Ok modified → length modified.1 ≤ length text
+  modifier_le : (grammar : Grammar C) (clause : C) (text : List ℕ) (modified : C × List ℕ)
+      → modifier_at grammar clause text ≡ Ok modified → length modified.1 ≤ length text
   unfolding modifier_at
   modifier_le grammar clause text modified e =
       let word = bind_is (word_at text) (λ word. mark_at colon word.1 >>= (λ between. some_clause (grammar.modified clause word.0) between)) modified e in
@@ -298,16 +326,20 @@ module _ {C : Type 0} where
       subst (λ (xs : List ℕ). length xs ≤ length text) same (omega (arith, word_shorter text word.0 word.1, mark_shorter colon word.0.1 between.0 between.1))
 
   -- reading a clause with its modifier, if it has one, makes no text longer
-  modified_le : (grammar : Grammar C) (clause : C) (text : List ℕ) (modified : C × List ℕ) → modified_at grammar clause text ≡ Ok modified → length modified.1 ≤ length text
+  modified_le : (grammar : Grammar C) (clause : C) (text : List ℕ) (modified : C × List ℕ)
+      → modified_at grammar clause text ≡ Ok modified → length modified.1 ≤ length text
   unfolding modified_at
   modified_le grammar clause text modified e = by (is_word_before colon text) e
     where
-      by : (b : Bool) → cond b (modifier_at grammar clause text) (Ok (clause, text)) ≡ Ok modified → length modified.1 ≤ length text
+      by : (b : Bool) → cond b (modifier_at grammar clause text) (Ok (clause, text)) ≡ Ok modified
+          → length modified.1 ≤ length text
       by true h = modifier_le grammar clause text modified h
       by false h = let same : (clause, text) ≡ modified = cc in subst (λ (x : C × List ℕ). length x.1 ≤ length text) same (omega arith)
 
   -- reading the items of a clause in parentheses makes no text longer
-  group_le : (grammar : Grammar C) (clause : C) (layout : ArrayLayout) (before : List (Item C)) (text : List ℕ) (items : List (Item C) × List ℕ) → group_at grammar clause layout before text ≡ Ok items → length items.1 ≤ length text
+  group_le : (grammar : Grammar C) (clause : C) (layout : ArrayLayout) (before : List (Item C)) (text : List ℕ)
+      (items : List (Item C) × List ℕ) → group_at grammar clause layout before text ≡ Ok items
+      → length items.1 ≤ length text
   unfolding group_at
   group_le grammar clause layout before text items e =
       let inside = bind_is (mark_at left_parenthesis text) (λ inside. modified_at grammar clause inside >>= (λ modified. items_at (length modified.1) (grammar.lists modified.0) modified.0 layout before modified.1 >>= (λ items. mark_at right_parenthesis items.1 >>= (λ close. Ok (items.0, close))))) items e in
@@ -317,7 +349,8 @@ module _ {C : Type 0} where
       omega (arith, rest_len group.0.0 close.0 items close.2, mark_shorter left_parenthesis text inside.0 inside.1, modified_le grammar clause inside.0 modified.0 modified.1, items_le (length modified.0.1) (grammar.lists modified.0.0) modified.0.0 layout before modified.0.1 group.0 group.1, mark_shorter right_parenthesis group.0.1 close.0 close.1)
 
   -- reading a clause of a word makes no text longer
-  listed_le : (o : Option C) (grammar : Grammar C) (layout : ArrayLayout) (before : ClausesRead C) (text : List ℕ) (read : ClausesRead C × List ℕ) → listed o grammar layout before text ≡ Ok read → length read.1 ≤ length text
+  listed_le : (o : Option C) (grammar : Grammar C) (layout : ArrayLayout) (before : ClausesRead C) (text : List ℕ)
+      (read : ClausesRead C × List ℕ) → listed o grammar layout before text ≡ Ok read → length read.1 ≤ length text
   listed_le None grammar layout before text read e = absurd cc
   listed_le (Some clause) grammar layout before text read e =
       let items = bind_is (group_at grammar clause layout before.items text) (λ items. Ok (record before { items = items.0 }, items.1)) read e in
@@ -325,32 +358,38 @@ module _ {C : Type 0} where
       subst (λ (x : ClausesRead C × List ℕ). length x.1 ≤ length text) same (group_le grammar clause layout before.items text items.0 items.1)
 
   -- reading an option makes no text longer
-  passed_le : (before : ClausesRead C) (text : List ℕ) (read : ClausesRead C × List ℕ) → passed_over before text ≡ Ok read → length read.1 ≤ length text
+  passed_le : (before : ClausesRead C) (text : List ℕ) (read : ClausesRead C × List ℕ)
+      → passed_over before text ≡ Ok read → length read.1 ≤ length text
   passed_le before text read e =
       let parts = then_ok before.has_option Syntax (record before { has_option = true }, text) read e in
       subst (λ (x : ClausesRead C × List ℕ). length x.1 ≤ length text) parts.1 (omega arith)
 
   -- reading `async` and its queue makes no text longer
-  queued_le : (before : ClausesRead C) (text : List ℕ) (read : ClausesRead C × List ℕ) → queued before text ≡ Ok read → length read.1 ≤ length text
+  queued_le : (before : ClausesRead C) (text : List ℕ) (read : ClausesRead C × List ℕ) → queued before text ≡ Ok read
+      → length read.1 ≤ length text
   queued_le before text read e =
       let queue = bind_is (queue_at text) (λ queue. Ok (record before { queue = Some queue.0 }, queue.1)) read (then_read (is_some before.queue) Syntax (with_queue before text) read e) in
       let same : (record before { queue = Some queue.0.0 }, queue.0.1) ≡ read = cc in
       subst (λ (x : ClausesRead C × List ℕ). length x.1 ≤ length text) same (queue_le text queue.0 queue.1)
 
   -- reading a clause or an option takes a byte at least
-  clause_shorter : (grammar : Grammar C) (layout : ArrayLayout) (before : ClausesRead C) (text : List ℕ) (read : ClausesRead C × List ℕ) → clause_at grammar layout before text ≡ Ok read → length read.1 < length text
+  clause_shorter : (grammar : Grammar C) (layout : ArrayLayout) (before : ClausesRead C) (text : List ℕ)
+      (read : ClausesRead C × List ℕ) → clause_at grammar layout before text ≡ Ok read → length read.1 < length text
   unfolding clause_at
   clause_shorter grammar layout before text read e =
       let word = bind_is (word_at text) (λ word. if grammar.is_option word.0 then passed_over before word.1 else if grammar.is_async word.0 then queued before word.1 else listed (grammar.clause_of word.0) grammar layout before word.1) read e in
       by (grammar.is_option word.0.0) (grammar.is_async word.0.0) (grammar.clause_of word.0.0) word.0.1 (word_shorter text word.0 word.1) word.2
     where
-      by : (b q : Bool) (o : Option C) (rest : List ℕ) → length rest < length text → cond b (passed_over before rest) (cond q (queued before rest) (listed o grammar layout before rest)) ≡ Ok read → length read.1 < length text
+      by : (b q : Bool) (o : Option C) (rest : List ℕ) → length rest < length text
+          → cond b (passed_over before rest) (cond q (queued before rest) (listed o grammar layout before rest))
+          ≡ Ok read → length read.1 < length text
       by true q o rest less h = omega (arith, passed_le before rest read h)
       by false true o rest less h = omega (arith, queued_le before rest read h)
       by false false o rest less h = omega (arith, listed_le o grammar layout before rest read h)
 
   -- no clause stands in an empty text
-  no_clause : (grammar : Grammar C) (layout : ArrayLayout) (before : ClausesRead C) → clause_at grammar layout before [] ≡ Err Syntax
+  no_clause : (grammar : Grammar C) (layout : ArrayLayout) (before : ClausesRead C)
+      → clause_at grammar layout before [] ≡ Err Syntax
   unfolding clause_at word_at
   no_clause grammar layout before = refl
 
@@ -364,19 +403,24 @@ module _ {C : Type 0} where
   clauses_one_more zero grammar layout before text le =
       let none : text ≡ [] = nil_from_length text (omega arith) in
       subst (λ (xs : List ℕ). clauses_at 0 grammar layout before xs ≡ clauses_at 1 grammar layout before xs) (sym none) (rw (no_clause grammar layout before) refl)
-  clauses_one_more (suc n) grammar layout before text le = by (clauses_one_more n grammar layout) (clause_at grammar layout before text) refl
+  clauses_one_more (suc n) grammar layout before text le =
+      by (clauses_one_more n grammar layout) (clause_at grammar layout before text) refl
     where
       next : ClausesAgree n grammar layout → (read : ClausesRead C × List ℕ) (b : Bool) → length read.1 < length text
-          → cond b (with_clause read.0) (clauses_at n grammar layout read.0 (skip_comma read.1)) ≡ cond b (with_clause read.0) (clauses_at (suc n) grammar layout read.0 (skip_comma read.1))
+          → cond b (with_clause read.0) (clauses_at n grammar layout read.0 (skip_comma read.1))
+          ≡ cond b (with_clause read.0) (clauses_at (suc n) grammar layout read.0 (skip_comma read.1))
       next shorter read true less = refl
       next shorter read false less = shorter read.0 (skip_comma read.1) (omega (arith, comma_le read.1))
 
-      by : ClausesAgree n grammar layout → (r : Result (ClausesRead C × List ℕ) ScriptFault) → clause_at grammar layout before text ≡ r → (r >>= after_clause n grammar layout) ≡ (r >>= after_clause (suc n) grammar layout)
+      by : ClausesAgree n grammar layout → (r : Result (ClausesRead C × List ℕ) ScriptFault)
+          → clause_at grammar layout before text ≡ r
+          → (r >>= after_clause n grammar layout) ≡ (r >>= after_clause (suc n) grammar layout)
       by shorter (Ok read) e = next shorter read (is_at_end read.1) (clause_shorter grammar layout before text read e)
       by shorter (Err kind) e = refl
 
   -- as much fuel as the text has bytes is enough
-  pub clauses_enough : (more : ℕ) (grammar : Grammar C) (layout : ArrayLayout) (before : ClausesRead C) (text : List ℕ) → clauses_at (length text + more) grammar layout before text ≡ clauses_at (length text) grammar layout before text
+  pub clauses_enough : (more : ℕ) (grammar : Grammar C) (layout : ArrayLayout) (before : ClausesRead C) (text : List ℕ)
+      → clauses_at (length text + more) grammar layout before text ≡ clauses_at (length text) grammar layout before text
   clauses_enough zero grammar layout before text = let e : length text + 0 ≡ length text = omega arith in rw e refl
   clauses_enough (suc more) grammar layout before text =
       let e : length text + suc more ≡ suc (length text + more) = omega arith in

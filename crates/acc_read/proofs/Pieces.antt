@@ -10,8 +10,11 @@ abbrev feed_at : List ℕ → ℕ
 feed_at input = prefix_len (λ b. not (b == 10)) input
 
 -- one step of the walk, whichever byte comes first
-step : (here : Bool) (b : ℕ) (bytes : List ℕ) → ((0 < length bytes) → pieces bytes ≡ take (feed_at bytes) bytes ∷ pieces (drop (feed_at bytes + 1) bytes))
-    → cond here ([] ∷ pieces bytes) (onto_first b (pieces bytes)) ≡ take (cond (not here) (1 + feed_at bytes) 0) (b ∷ bytes) ∷ pieces (drop (cond (not here) (1 + feed_at bytes) 0 + 1) (b ∷ bytes))
+step : (here : Bool) (b : ℕ) (bytes : List ℕ)
+    → ((0 < length bytes) → pieces bytes ≡ take (feed_at bytes) bytes ∷ pieces (drop (feed_at bytes + 1) bytes))
+    → cond here ([] ∷ pieces bytes) (onto_first b (pieces bytes))
+    ≡ take (cond (not here) (1 + feed_at bytes) 0) (b ∷ bytes)
+    ∷ pieces (drop (cond (not here) (1 + feed_at bytes) 0 + 1) (b ∷ bytes))
 step true b bytes h = refl
 step false b [] h = refl
 step false b (c ∷ bytes) h =
@@ -20,7 +23,8 @@ step false b (c ∷ bytes) h =
     rw (e, e1) (ap (onto_first b) (h (omega arith)))
 
 -- an input as its first piece and the pieces of what follows
-pub first_piece : (input : List ℕ) → 0 < length input → pieces input ≡ take (feed_at input) input ∷ pieces (drop (feed_at input + 1) input)
+pub first_piece : (input : List ℕ) → 0 < length input
+    → pieces input ≡ take (feed_at input) input ∷ pieces (drop (feed_at input + 1) input)
 first_piece [] h = absurd (omega arith)
 first_piece (b ∷ bytes) h = step (b == 10) b bytes (first_piece bytes)
 
@@ -30,6 +34,10 @@ drop_one [] = refl
 drop_one (x ∷ xs) = let e : min (length (x ∷ xs)) 1 ≡ 1 = omega arith in rw e refl
 
 -- the lines of an input are its first line and the lines of what follows
-pub first_line : (input : List ℕ) → 0 < length input → lines_of input ≡ without_return (take (feed_at input) input) ∷ lines_of (drop (min (length (drop (feed_at input) input)) 1) (drop (feed_at input) input))
+pub first_line : (input : List ℕ) → 0 < length input
+    → lines_of input
+    ≡ without_return (take (feed_at input) input)
+    ∷ lines_of (drop (min (length (drop (feed_at input) input)) 1) (drop (feed_at input) input))
 unfolding lines_of
-first_line input h = rw (drop_one (drop (feed_at input) input), drop-drop) (ap (map without_return) (first_piece input h))
+first_line input h =
+    rw (drop_one (drop (feed_at input) input), drop-drop) (ap (map without_return) (first_piece input h))

@@ -33,7 +33,8 @@ abbrev pub nothing_seen : Seen
 nothing_seen = record { clause = false; has_option = false; has_queue = false }
 
 -- the text after a clause of a word, if the word is one
-abbrev pub listed_end : {C : Type 0} → Option C → Grammar C → ArrayLayout → Seen → List ℕ → Result (Seen × List ℕ) ScriptFault
+abbrev pub listed_end : {C : Type 0} → Option C → Grammar C → ArrayLayout → Seen → List ℕ
+    → Result (Seen × List ℕ) ScriptFault
 listed_end None grammar layout seen rest = Err Syntax
 listed_end (Some clause) grammar layout seen rest = do
   after ← group_end grammar clause layout rest
@@ -67,7 +68,8 @@ abbrev pub seen_clause : Seen → Result Seen ScriptFault
 seen_clause seen = if seen.clause then Ok seen else Err Syntax
 
 -- what is seen up to the end of the line, with a clause among it; fuel bounds the number of clauses and options
-unfoldable pub clauses_end : {C : Type 0} → (fuel : ℕ) → Grammar C → ArrayLayout → Seen → List ℕ → Result Seen ScriptFault
+unfoldable pub clauses_end : {C : Type 0} → (fuel : ℕ) → Grammar C → ArrayLayout → Seen → List ℕ
+    → Result Seen ScriptFault
 clauses_end zero grammar layout seen text = Err Syntax
 clauses_end (suc fuel) grammar layout seen text = do
   after ← clause_end grammar layout seen text

@@ -15,7 +15,8 @@ use Rattle.acc_read.specs.Grammar.{Grammar}
 
 -- one item or more, separated by commas, behind the items before; fuel bounds their number, and as much as the text
 -- has bytes is enough (`items_enough`)
-unfoldable pub items_at : {C : Type 0} → (fuel : ℕ) → Kind → C → ArrayLayout → List (Item C) → List ℕ → Result (List (Item C) × List ℕ) ScriptFault
+unfoldable pub items_at : {C : Type 0} → (fuel : ℕ) → Kind → C → ArrayLayout → List (Item C) → List ℕ
+    → Result (List (Item C) × List ℕ) ScriptFault
 items_at zero kind clause layout before text = Err Syntax
 items_at (suc fuel) kind clause layout before text = do
   named ← named_at kind layout text
@@ -39,10 +40,12 @@ modifier_at grammar clause text = do
 
 -- the first word is a modifier exactly where a colon follows it
 unfoldable pub modified_at : {C : Type 0} → Grammar C → C → List ℕ → Result (C × List ℕ) ScriptFault
-modified_at grammar clause text = if is_word_before colon text then modifier_at grammar clause text else Ok (clause, text)
+modified_at grammar clause text = if is_word_before colon text then modifier_at grammar clause text
+    else Ok (clause, text)
 
 -- the items of a clause, in parentheses
-unfoldable pub group_at : {C : Type 0} → Grammar C → C → ArrayLayout → List (Item C) → List ℕ → Result (List (Item C) × List ℕ) ScriptFault
+unfoldable pub group_at : {C : Type 0} → Grammar C → C → ArrayLayout → List (Item C) → List ℕ
+    → Result (List (Item C) × List ℕ) ScriptFault
 group_at grammar clause layout before text = do
   inside ← mark_at left_parenthesis text
   modified ← modified_at grammar clause inside
@@ -63,7 +66,8 @@ abbrev pub nothing_read : {C : Type 0} → ClausesRead C
 nothing_read = record { items = []; has_option = false; queue = None }
 
 -- the items of the clause of a word, behind those before, if the word is one
-abbrev pub listed : {C : Type 0} → Option C → Grammar C → ArrayLayout → ClausesRead C → List ℕ → Result (ClausesRead C × List ℕ) ScriptFault
+abbrev pub listed : {C : Type 0} → Option C → Grammar C → ArrayLayout → ClausesRead C → List ℕ
+    → Result (ClausesRead C × List ℕ) ScriptFault
 listed None grammar layout before rest = Err Syntax
 listed (Some clause) grammar layout before rest = do
   items ← group_at grammar clause layout before.items rest
@@ -84,7 +88,8 @@ abbrev pub queued : {C : Type 0} → ClausesRead C → List ℕ → Result (Clau
 queued before rest = if is_some before.queue then Err Syntax else with_queue before rest
 
 -- a clause or an option
-unfoldable pub clause_at : {C : Type 0} → Grammar C → ArrayLayout → ClausesRead C → List ℕ → Result (ClausesRead C × List ℕ) ScriptFault
+unfoldable pub clause_at : {C : Type 0} → Grammar C → ArrayLayout → ClausesRead C → List ℕ
+    → Result (ClausesRead C × List ℕ) ScriptFault
 clause_at grammar layout before text = do
   word ← word_at text
   if grammar.is_option word.0
@@ -98,7 +103,8 @@ with_clause read = if length read.items == 0 then Err Syntax else Ok read
 
 -- clauses and options up to the end of the line, with or without a comma between two of them; fuel bounds their number,
 -- and as much as the text has bytes is enough (`clauses_enough`)
-unfoldable pub clauses_at : {C : Type 0} → (fuel : ℕ) → Grammar C → ArrayLayout → ClausesRead C → List ℕ → Result (ClausesRead C) ScriptFault
+unfoldable pub clauses_at : {C : Type 0} → (fuel : ℕ) → Grammar C → ArrayLayout → ClausesRead C → List ℕ
+    → Result (ClausesRead C) ScriptFault
 clauses_at zero grammar layout before text = Err Syntax
 clauses_at (suc fuel) grammar layout before text = do
   read ← clause_at grammar layout before text

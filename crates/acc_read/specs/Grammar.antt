@@ -12,8 +12,8 @@ use Rattle.acc_base.specs.declared.items.UpdateClause.TheVariants.{ToSelf, ToDev
 use Rattle.acc_read.specs.declared.items.Kind.{Kind}
 use Rattle.acc_read.specs.declared.items.Kind.TheVariants.{Sections, Items, Pointers}
 
--- the clause of a word, a clause with the modifier of a word, what a clause lists, and the words of the option and of the
--- queue, where the directive has such
+-- the clause of a word, a clause with the modifier of a word, what a clause lists, and the words of the option and of
+-- the queue, where the directive has such
 pub record Grammar (C : Type 0) : Type 0 where
   pub clause_of : List ℕ → Option C
   pub modified : C → List ℕ → Option C
@@ -59,7 +59,13 @@ region_lists _ = Items
 
 -- the words of `data`
 abbrev pub region_grammar : Grammar RegionClause
-region_grammar = record { clause_of = region_clause_of; modified = region_modified; lists = region_lists; is_option = no_option; is_async = no_option }
+region_grammar = record {
+  clause_of = region_clause_of;
+  modified = region_modified;
+  lists = region_lists;
+  is_option = no_option;
+  is_async = no_option;
+}
 
 -- ---- `enter data` (OpenACC 3.3, the enter data directive)
 
@@ -83,7 +89,13 @@ enter_lists _ = Items
 
 -- the words of `enter data`
 abbrev pub enter_grammar : Grammar EnterClause
-enter_grammar = record { clause_of = enter_clause_of; modified = enter_modified; lists = enter_lists; is_option = no_option; is_async = says_async }
+enter_grammar = record {
+  clause_of = enter_clause_of;
+  modified = enter_modified;
+  lists = enter_lists;
+  is_option = no_option;
+  is_async = says_async;
+}
 
 -- ---- `exit data` (OpenACC 3.3, the exit data directive)
 
@@ -105,7 +117,13 @@ is_finalize word = bytes_eq word (codes "finalize")
 
 -- the words of `exit data`
 abbrev pub exit_grammar : Grammar ExitClause
-exit_grammar = record { clause_of = exit_clause_of; modified = λ clause word. None; lists = exit_lists; is_option = is_finalize; is_async = says_async }
+exit_grammar = record {
+  clause_of = exit_clause_of;
+  modified = λ clause word. None;
+  lists = exit_lists;
+  is_option = is_finalize;
+  is_async = says_async;
+}
 
 -- ---- `update` (OpenACC 3.3, the update directive)
 
@@ -122,4 +140,10 @@ is_if_present word = bytes_eq word (codes "if_present")
 
 -- the words of `update`
 abbrev pub update_grammar : Grammar UpdateClause
-update_grammar = record { clause_of = update_clause_of; modified = λ clause word. None; lists = λ clause. Sections; is_option = is_if_present; is_async = says_async }
+update_grammar = record {
+  clause_of = update_clause_of;
+  modified = λ clause word. None;
+  lists = λ clause. Sections;
+  is_option = is_if_present;
+  is_async = says_async;
+}

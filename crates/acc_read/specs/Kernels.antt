@@ -31,7 +31,8 @@ last_source_at layout text = do
   Ok (source.0, section)
 
 -- a kernel with what was read for it, and the section
-abbrev pub formed : {A : Type 0} → (A → ScriptKernel) → Result (A × Section) ScriptFault → Result (ScriptKernel × Section) ScriptFault
+abbrev pub formed : {A : Type 0} → (A → ScriptKernel) → Result (A × Section) ScriptFault
+    → Result (ScriptKernel × Section) ScriptFault
 formed form (Ok read) = Ok (form read.0, read.1)
 formed form (Err kind) = Err kind
 

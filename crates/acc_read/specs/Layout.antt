@@ -34,7 +34,11 @@ next_array len layout =
 
 -- a layout with one more array, behind the others
 abbrev pub with_array : List ℕ → Array → ArrayLayout → ArrayLayout
-with_array name array layout = record { names = map.insert layout.names name array; last_end = array.end; limit = layout.limit }
+with_array name array layout = record {
+  names = map.insert layout.names name array;
+  last_end = array.end;
+  limit = layout.limit;
+}
 
 -- all of an array
 abbrev pub whole : Array → Section

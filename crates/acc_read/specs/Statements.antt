@@ -33,12 +33,19 @@ pub data Meaning : Type 0 where
   Address : (addr : ℕ) → Meaning
   Report : Meaning
 
--- a statement that takes memory to read or to run: one that declares, directs, runs a kernel or writes, and none that
--- only asks
+-- a directive with clauses, whose items are a list
+abbrev pub has_items : Directive → Bool
+has_items (Enter items) = true
+has_items (Exit number) = false
+has_items (EnterData items queue) = true
+has_items (ExitData items finalize queue) = true
+has_items (Update items if_present queue) = true
+has_items (Wait queue) = false
+has_items (Step queue) = false
+
+-- a statement that takes memory to read: a directive with clauses, and a write, whose bytes are a list
 abbrev pub takes_memory : Meaning → Bool
-takes_memory (Declare name array) = true
-takes_memory (Direct directive) = true
-takes_memory (Kernel region kernel section) = true
+takes_memory (Direct directive) = has_items directive
 takes_memory (Write addr bytes) = true
 takes_memory _ = false
 

@@ -67,7 +67,8 @@ is_at_end text = length (skip_blanks text) == 0
 
 -- the next word, and the text after it
 unfoldable pub word_at : List ℕ → Result (List ℕ × List ℕ) ScriptFault
-word_at text = let token = skip_blanks text in if word_len token == 0 then Err Syntax else Ok (take (word_len token) token, drop (word_len token) token)
+word_at text = let token = skip_blanks text in if word_len token == 0 then Err Syntax
+    else Ok (take (word_len token) token, drop (word_len token) token)
 
 -- the text after this word, which stands next
 unfoldable pub keyword_at : List ℕ → List ℕ → Result (List ℕ) ScriptFault
@@ -108,7 +109,9 @@ value_of digits = fold (λ value digit. value * 10 + (digit - 48)) 0 digits
 
 -- the number that a word of digits says, up to a limit
 unfoldable pub number_said : ℕ → List ℕ → Result ℕ ScriptFault
-number_said limit word = if not (list_all is_ascii_digit word) then Err Syntax else if nat_le (value_of word) limit then Ok (value_of word) else Err Number
+number_said limit word = if not (list_all is_ascii_digit word) then Err Syntax
+    else if nat_le (value_of word) limit then Ok (value_of word)
+    else Err Number
 
 -- the next word as a number up to a limit, and the text after it
 unfoldable pub number_at : ℕ → List ℕ → Result (ℕ × List ℕ) ScriptFault

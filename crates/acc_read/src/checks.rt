@@ -24,7 +24,7 @@ pub struct Seen {
 }
 
 /// The text after one item or more, separated by commas.
-#[tactic(auto, using(crate::proofs::ClauseEnds::items_end_fail, crate::proofs::ClauseEnds::items_end_done, crate::proofs::ClauseEnds::items_end_go_on, crate::proofs::ClauseEnds::items_end_none))]
+#[tactic(auto, using(crate::proofs::ClauseEnds::items_end_steps))]
 fn items_end<'a>(kind: Kind, arrays: &Arrays, text: &'a [u8]) -> Result<&'a [u8], ScriptFault>
     ensures { Reads (λ x. x.now) result (items_end (length text.now) kind arrays.now text.now) }
 {
@@ -116,7 +116,7 @@ fn seen_clause(seen: Seen) -> Result<Seen, ScriptFault>
 }
 
 /// What is seen up to the end of the line, at least one clause among it.
-#[tactic(auto, using(crate::proofs::ClauseEnds::clauses_end_fail, crate::proofs::ClauseEnds::clauses_end_done, crate::proofs::ClauseEnds::clauses_end_go_on, crate::proofs::ClauseEnds::clauses_end_none))]
+#[tactic(auto, using(crate::proofs::ClauseEnds::clauses_end_steps))]
 pub fn clauses_end<C: Clause>(arrays: &Arrays, text: &[u8]) -> Result<Seen, ScriptFault>
     ensures { Reads (λ x. x) result (clauses_end (length text.now) C.grammar arrays.now nothing_seen text.now) }
 {

@@ -27,7 +27,7 @@ pub struct Clauses<C> {
 }
 
 /// One item or more, separated by commas, behind the items before; the text after them.
-#[tactic(auto, using(crate::proofs::HeldClauses::items_fail, crate::proofs::HeldClauses::items_done, crate::proofs::HeldClauses::items_go_on, crate::proofs::HeldClauses::items_none))]
+#[tactic(auto, using(crate::proofs::HeldClauses::items_steps))]
 fn items_at<'a, C: Copy>(
     kind: Kind,
     clause: C,
@@ -142,7 +142,7 @@ fn with_clause<C: Copy>(mut clauses: Clauses<C>) -> Result<Clauses<C>, Trouble>
 }
 
 /// The clauses and options up to the end of the line, at least one clause, held in memory as they are read.
-#[tactic(auto, using(crate::proofs::HeldClauses::clauses_fail, crate::proofs::HeldClauses::clauses_done, crate::proofs::HeldClauses::clauses_go_on, crate::proofs::HeldClauses::clauses_none))]
+#[tactic(auto, using(crate::proofs::HeldClauses::clauses_steps))]
 fn held_clauses<C: Clause>(
     alloc: Global,
     arrays: &Arrays,

@@ -157,7 +157,7 @@ fn capped_value(limit: u32, digits: &[u8]) -> u64
 }
 
 /// The number that a word says, up to a limit.
-#[tactic(auto, using(crate::proofs::Numbers::is_above, crate::proofs::Numbers::is_number), unfolding(crate::specs::Tokens::number_said))]
+#[tactic(auto, using(crate::proofs::Numbers::number_laws), unfolding(crate::specs::Tokens::number_said))]
 fn number_said(limit: u32, word: &[u8]) -> Result<u32, ScriptFault>
     ensures read { Reads (λ n. n) result (number_said limit word.now) }
     ensures bound { IfOk result (λ n. n ≤ limit) }
@@ -236,7 +236,7 @@ fn has_hex_digits(word: &[u8]) -> bool
 }
 
 /// Whether a word says bytes, and else its fault.
-#[tactic(auto, using(crate::proofs::ByteWords::not_digits, crate::proofs::ByteWords::many_digits, crate::proofs::ByteWords::odd_digits, crate::proofs::ByteWords::right_word))]
+#[tactic(auto, using(crate::proofs::ByteWords::word_laws))]
 pub fn check_bytes(word: &[u8]) -> Result<(), ScriptFault>
     ensures { Checks result (bytes_said word.now) }
 {

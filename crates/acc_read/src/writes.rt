@@ -26,7 +26,7 @@ pub fn write_at(alloc: Global, arrays: &Arrays, text: &[u8]) -> Result<Statement
 }
 
 /// A word that says bytes, up to the end of the line.
-#[tactic(auto, using(crate::proofs::ByteWords::last_faulty, crate::proofs::ByteWords::last_open, crate::proofs::ByteWords::last_said, crate::proofs::ByteWords::no_word))]
+#[tactic(auto, using(crate::proofs::ByteWords::last_word_laws))]
 fn last_bytes_at(text: &[u8]) -> Result<&[u8], ScriptFault>
     ensures { MatchResult result
         (λ word. IsOk (bytes_said word.now) × (last_bytes_at text.now ≡ bytes_said word.now))

@@ -1,6 +1,7 @@
--- A table that wants memory for a call was asked for one that is accepted: no refusal of the definitions is want of memory.
+-- A table that wants memory for a call was asked for one that makes an event: no refusal of the definitions is want of
+-- memory.
 use Rattle.std.proofs.Common.{◌≡◌, ℕ, suc, Bool, true, false, cond, List, [], ◌∷◌, length, Option, Some, None, Result, Ok, Err, refl}
-use Rattle.std.specs.Prelude.{⊤, ◌%◌, is_none, not, ◌&&◌, nat_le, nat_lt, ◌==◌, MatchResult, IsOk}
+use Rattle.std.specs.Prelude.{⊤, ◌%◌, is_none, not, ◌&&◌, nat_le, nat_lt, ◌==◌, MatchResult}
 use Rattle.acc_base.specs.declared.items.Section.{Section}
 use Rattle.acc_base.specs.declared.items.RegionClause.{RegionClause}
 use Rattle.acc_base.specs.declared.items.RegionClause.TheVariants as region
@@ -45,9 +46,10 @@ use Rattle.acc_base.specs.Bytes.{step_state}
 use Rattle.acc_base.specs.Detaching.{block_with}
 use Rattle.acc_base.specs.Pointers.{device_pointer, target_of, attach_there, judge_attach}
 use Rattle.acc_base.specs.Acting.{attach_if, judge_aim, judge_task, act_state, judge_all}
-use Rattle.acc_base.specs.Judge.{Verdict, Makes, item_limit, item_count, few_items, tasks_of_region, tasks_of, queue_in, transfers_in, verdict_of, directive_verdict, host_write_event, lend_there, lend_event, gather_event}
+use Rattle.acc_base.specs.Judge.{Verdict, Makes, Idle, item_limit, item_count, few_items, tasks_of_region, tasks_of, queue_in, transfers_in, verdict_of, directive_verdict, host_write_event, lend_there, lend_event, gather_event}
 use Rattle.acc_base.specs.Calls.{World, event_count, open_regions, ticket, allowance, trace_room, judge}
 use Rattle.acc_table.specs.Calls.{MayWantMemory, IsRefusal}
+use Rattle.acc_script.specs.Scripts.{makes_event}
 
 -- no want of memory is among the answers
 abbrev Tells : {A : Type 0} → Result A Fault → Type 0
@@ -56,7 +58,8 @@ Tells (Err Memory) = ⊥
 Tells (Err _) = ⊤
 
 -- a step and what follows it tell no want of memory
-bind_tells : {A B : Type 0} (r : Result A Fault) (f : A → Result B Fault) → Tells r → ((x : A) → Tells (f x)) → Tells (r >>= f)
+bind_tells : {A B : Type 0} (r : Result A Fault) (f : A → Result B Fault) → Tells r → ((x : A) → Tells (f x))
+    → Tells (r >>= f)
 bind_tells (Ok x) f h k = k x
 bind_tells (Err Memory) f h k = absurd h
 bind_tells (Err _) f h k = tt
@@ -84,11 +87,14 @@ born_tells None n section w = tt
 born_tells (Some place) n section w = tt
 
 -- the row of an absent section tells no want of memory
-absent_tells : (clause : RegionClause) (l : Limits) (n : ℕ) (section : Section) (w : Records) → Tells (enter_absent clause l n section w)
+absent_tells : (clause : RegionClause) (l : Limits) (n : ℕ) (section : Section) (w : Records)
+    → Tells (enter_absent clause l n section w)
 absent_tells region.Copy l n section w = born_tells (place_for l.device w.blocks (rounded section.len)) n section w
 absent_tells region.Copyin l n section w = born_tells (place_for l.device w.blocks (rounded section.len)) n section w
-absent_tells (region.Copyout filled) l n section w = born_tells (place_for l.device w.blocks (rounded section.len)) n section w
-absent_tells (region.Create filled) l n section w = born_tells (place_for l.device w.blocks (rounded section.len)) n section w
+absent_tells (region.Copyout filled) l n section w =
+    born_tells (place_for l.device w.blocks (rounded section.len)) n section w
+absent_tells (region.Create filled) l n section w =
+    born_tells (place_for l.device w.blocks (rounded section.len)) n section w
 absent_tells region.NoCreate l n section w = tt
 absent_tells region.Present l n section w = tt
 absent_tells region.Attach l n section w = tt
@@ -100,7 +106,8 @@ counted_tells l counter n block w =
     then_tells (refuse_if full (CounterFull n)) (Ok (steps.Counted block)) (either_tells full (Err (CounterFull n)) (Ok tt) tt tt) tt
 
 -- an entry tells no want of memory, wherever its section lies
-enter_tells : (found : Found) (l : Limits) (counter : Counter) (clause : RegionClause) (n : ℕ) (section : Section) (w : Records) → Tells (enter_row found l counter clause n section w)
+enter_tells : (found : Found) (l : Limits) (counter : Counter) (clause : RegionClause) (n : ℕ) (section : Section)
+    (w : Records) → Tells (enter_row found l counter clause n section w)
 enter_tells Empty l counter clause n section w = tt
 enter_tells (Inside block offset) l counter clause n section w = counted_tells l counter n block w
 enter_tells Absent l counter clause n section w = absent_tells clause l n section w
@@ -153,10 +160,12 @@ row_tells l n (tasks.Move if_present item queue) w =
 
 -- nor does the look for room in a queue
 queue_tells : (queue_cap q : ℕ) (queues : List (List Transfer)) → Tells (queue_room queue_cap q queues)
-queue_tells queue_cap q queues = either_tells (nat_le queue_cap (length (queue_at q queues))) (Err (QueueFull q)) (Ok tt) tt tt
+queue_tells queue_cap q queues =
+    either_tells (nat_le queue_cap (length (queue_at q queues))) (Err (QueueFull q)) (Ok tt) tt tt
 
 -- nor does that for a transfer, where there is one and it has a queue
-transfer_tells : (queue_cap : ℕ) (queue : Option ℕ) (t : Option Transfer) (queues : List (List Transfer)) → Tells (room_for queue_cap queue t queues)
+transfer_tells : (queue_cap : ℕ) (queue : Option ℕ) (t : Option Transfer) (queues : List (List Transfer))
+    → Tells (room_for queue_cap queue t queues)
 transfer_tells queue_cap None t queues = tt
 transfer_tells queue_cap (Some q) None queues = tt
 transfer_tells queue_cap (Some q) (Some t) queues = queue_tells queue_cap q queues
@@ -172,7 +181,9 @@ all_lent_tells [] loans = tt
 all_lent_tells (t ∷ ts) loans = then_tells (not_lent (Some t.block) loans) (none_lent ts loans) (lent_tells (Some t.block) loans) (all_lent_tells ts loans)
 
 -- what follows the row of an item tells no want of memory
-held_tells : (detached needed : Option ℕ) (queue_cap : ℕ) (queue : Option ℕ) (t : Option Transfer) (step : Step) (w : Records) → Tells (not_lent detached w.loans >> (not_lent needed w.loans >> (room_for queue_cap queue t w.queues >> Ok step)))
+held_tells : (detached needed : Option ℕ) (queue_cap : ℕ) (queue : Option ℕ) (t : Option Transfer) (step : Step)
+    (w : Records)
+    → Tells (not_lent detached w.loans >> (not_lent needed w.loans >> (room_for queue_cap queue t w.queues >> Ok step)))
 held_tells detached needed queue_cap queue t step w =
     let room = room_for queue_cap queue t w.queues >> Ok step in
     then_tells (not_lent detached w.loans) (not_lent needed w.loans >> room) (lent_tells detached w.loans)
@@ -295,7 +306,8 @@ ticket_tells w = either_tells (nat_le w.limits.tickets (event_count w.history)) 
 
 -- the check for one more region tells no want of memory
 allowance_tells : (w : World) (directive : Directive) → Tells (allowance w directive)
-allowance_tells w (directives.Enter items) = either_tells (nat_le w.limits.regions (open_regions w.state)) (Err (NoAllowance 0)) (Ok tt) tt tt
+allowance_tells w (directives.Enter items) =
+    either_tells (nat_le w.limits.regions (open_regions w.state)) (Err (NoAllowance 0)) (Ok tt) tt tt
 allowance_tells w (directives.Exit number) = tt
 allowance_tells w (directives.EnterData items queue) = tt
 allowance_tells w (directives.ExitData items finalize queue) = tt
@@ -309,14 +321,16 @@ room_tells w = either_tells (nat_le w.limits.trace_cap (length w.history.trace))
 
 -- the check of the number of items tells no want of memory
 few_tells : (directive : Directive) → Tells (few_items directive)
-few_tells directive = either_tells (nat_lt item_limit (item_count directive)) (Err (TooManyItems (item_count directive))) (Ok tt) tt tt
+few_tells directive =
+    either_tells (nat_lt item_limit (item_count directive)) (Err (TooManyItems (item_count directive))) (Ok tt) tt tt
 
 -- nor does what follows the check of a write
 makes_tells : (r : Result Event Fault) → Tells r → Tells (r >>= (λ e. Ok (Makes e)))
 makes_tells r h = bind_tells r (λ e. Ok (Makes e)) h (λ e. tt)
 
 -- nor does an event with the checks before it
-event_tells : (w : World) (r : Result Event Fault) → Tells r → Tells (ticket w >> (trace_room w >> (r >>= (λ e. Ok (Makes e)))))
+event_tells : (w : World) (r : Result Event Fault) → Tells r
+    → Tells (ticket w >> (trace_room w >> (r >>= (λ e. Ok (Makes e)))))
 event_tells w r h =
     let event : Result Verdict Fault = r >>= (λ e. Ok (Makes e)) in
     then_tells (ticket w) (trace_room w >> event) (ticket_tells w) (then_tells (trace_room w) event (room_tells w) (makes_tells r h))
@@ -330,15 +344,19 @@ judge_tells w (Do directive) =
     (then_tells (allowance w directive) (few_items directive >> (trace_room w >> verdict)) (allowance_tells w directive)
     (then_tells (few_items directive) (trace_room w >> verdict) (few_tells directive)
     (then_tells (trace_room w) verdict (room_tells w) (directive_tells w.limits directive w.state))))
-judge_tells w (HostWrite addr bytes) = event_tells w (host_write_event w.limits addr (length bytes)) (write_tells w.limits addr (length bytes))
-judge_tells w (Lend region section) = event_tells w (lend_event w.limits region section w.state) (lend_tells w.limits region section w.state)
+judge_tells w (HostWrite addr bytes) =
+    event_tells w (host_write_event w.limits addr (length bytes)) (write_tells w.limits addr (length bytes))
+judge_tells w (Lend region section) =
+    event_tells w (lend_event w.limits region section w.state) (lend_tells w.limits region section w.state)
 judge_tells w (Gather lease) = event_tells w (gather_event lease w.state.records) (gather_tells lease w.state.records)
 
--- a call for which a table wants memory is one that is accepted
-pub accepted : (w : World) (call : Call Leased) → IsRefusal w call Memory → IsOk (judge w call)
+-- a call for which a table wants memory is one that makes an event
+pub accepted : (w : World) (call : Call Leased) → IsRefusal w call Memory → makes_event (judge w call) ≡ true
 accepted w call refusal = by (judge w call) (judge_tells w call) refusal
   where
-    by : (r : Result Verdict Fault) → Tells r → MatchResult r (λ verdict. MayWantMemory verdict Memory) (λ fault. Memory ≡ fault) → IsOk r
-    by (Ok verdict) told h = refl
+    by : (r : Result Verdict Fault) → Tells r
+        → MatchResult r (λ verdict. MayWantMemory verdict Memory) (λ fault. Memory ≡ fault) → makes_event r ≡ true
+    by (Ok (Makes e)) told h = refl
+    by (Ok Idle) told h = absurd h
     by (Err Memory) told h = absurd told
     by (Err _) told h = absurd cc

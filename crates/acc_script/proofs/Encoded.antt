@@ -7,7 +7,8 @@ use Rattle.acc_script.specs.Told.{Taken, Took, TookFront}
 use Rattle.acc_script.proofs.Fronts.{took_nothing, Took_then, Took-then_front}
 
 -- the digits of two lists of bytes, one behind the other
-encode_with-append : (table xs ys : List ℕ) → encode_with table (xs ++ ys) ≡ encode_with table xs ++ encode_with table ys
+encode_with-append : (table xs ys : List ℕ)
+    → encode_with table (xs ++ ys) ≡ encode_with table xs ++ encode_with table ys
 unfolding encode_with
 encode_with-append table [] ys = refl
 encode_with-append table (x ∷ xs) ys = rw (encode_with-append table xs ys) refl
@@ -18,7 +19,9 @@ unfolding encode_with
 no_digits a = took_nothing a
 
 -- the digits of a piece, written behind those of the bytes before
-pub took_piece : (a b c : Option Taken) (bytes rest piece : List ℕ) (at n : ℕ) → rest ≡ drop at bytes → piece ≡ take n rest → Took a b (encode_lower (take at bytes)) → Took b c (encode_lower piece) → Took a c (encode_lower (take (at + n) bytes))
+pub took_piece : (a b c : Option Taken) (bytes rest piece : List ℕ) (at n : ℕ) → rest ≡ drop at bytes
+    → piece ≡ take n rest → Took a b (encode_lower (take at bytes)) → Took b c (encode_lower piece)
+    → Took a c (encode_lower (take (at + n) bytes))
 took_piece a b c bytes rest piece at n r e p q =
     let part : piece ≡ take n (drop at bytes) = e ∙ ap (take n) r in
     let joined : encode_lower (take (at + n) bytes) ≡ encode_lower (take at bytes) ++ encode_lower piece =
@@ -26,7 +29,9 @@ took_piece a b c bytes rest piece at n r e p q =
     rw joined (Took_then a b c (encode_lower (take at bytes)) (encode_lower piece) p q)
 
 -- the sink failed in the digits of a piece
-pub lost_piece : (a b c : Option Taken) (bytes rest piece : List ℕ) (at n : ℕ) → rest ≡ drop at bytes → piece ≡ take n rest → Took a b (encode_lower (take at bytes)) → TookFront b c (encode_lower piece) → TookFront a c (encode_lower bytes)
+pub lost_piece : (a b c : Option Taken) (bytes rest piece : List ℕ) (at n : ℕ) → rest ≡ drop at bytes
+    → piece ≡ take n rest → Took a b (encode_lower (take at bytes)) → TookFront b c (encode_lower piece)
+    → TookFront a c (encode_lower bytes)
 lost_piece a b c bytes rest piece at n r e p q =
     let part : piece ≡ take n (drop at bytes) = e ∙ ap (take n) r in
     let others = drop n (drop at bytes) in

@@ -8,7 +8,8 @@ use Rattle.acc_script.specs.Told.{Taken, Took, TookFront, one_more}
 use Rattle.acc_script.specs.Ends.{Wrote}
 
 -- a sink took one text, failed in the next, and others follow
-pub Took-then_front : (a b c : Option Taken) (xs ys more : List ℕ) → Took a b xs → TookFront b c ys → TookFront a c (xs ++ (ys ++ more))
+pub Took-then_front : (a b c : Option Taken) (xs ys more : List ℕ) → Took a b xs → TookFront b c ys
+    → TookFront a c (xs ++ (ys ++ more))
 Took-then_front None b c xs ys more p q = tt
 Took-then_front (Some a) None c xs ys more p q = absurd p
 Took-then_front (Some a) (Some b) None xs ys more p q = absurd q
@@ -21,7 +22,9 @@ Took-then_front (Some a) (Some b) (Some c) xs ys more p q = (
 )
 
 -- a sink took some pieces and failed in the next
-pub front_of_pieces : {X : Type 0} (f : X → List ℕ) (a b c : Option Taken) (pieces : List X) (i : ℕ) (d : X) → i < length pieces → Took a b (flat_map f (take i pieces)) → TookFront b c (f (get_or pieces i d)) → TookFront a c (flat_map f pieces)
+pub front_of_pieces : {X : Type 0} (f : X → List ℕ) (a b c : Option Taken) (pieces : List X) (i : ℕ) (d : X)
+    → i < length pieces → Took a b (flat_map f (take i pieces)) → TookFront b c (f (get_or pieces i d))
+    → TookFront a c (flat_map f pieces)
 front_of_pieces {X} f a b c pieces i d lt p q =
     let tail : flat_map f (drop i pieces) ≡ f (get_or pieces i d) ++ flat_map f (drop (suc i) pieces) = ap (flat_map f) (drop-cons pieces i d lt) ∙ flat_map-cons f (get_or pieces i d) (drop (suc i) pieces) in
     let whole : flat_map f pieces ≡ flat_map f (take i pieces) ++ (f (get_or pieces i d) ++ flat_map f (drop (suc i) pieces)) =
@@ -33,13 +36,15 @@ pub Took_then : (a b c : Option Taken) (xs ys : List ℕ) → Took a b xs → To
 Took_then None b c xs ys p q = tt
 Took_then (Some a) None c xs ys p q = absurd p
 Took_then (Some a) (Some b) None xs ys p q = absurd q
-Took_then (Some a) (Some b) (Some c) xs ys p q = (q.0 ∙ ap (λ (x : List ℕ). x ++ ys) p.0 ∙ append_assoc a.bytes xs ys, q.1 ∙ p.1)
+Took_then (Some a) (Some b) (Some c) xs ys p q =
+    (q.0 ∙ ap (λ (x : List ℕ). x ++ ys) p.0 ∙ append_assoc a.bytes xs ys, q.1 ∙ p.1)
 
 -- a front of a text is one of the text with more behind it
 pub front_more : (a b : Option Taken) (xs ys : List ℕ) → TookFront a b xs → TookFront a b (xs ++ ys)
 front_more None b xs ys p = tt
 front_more (Some a) None xs ys p = absurd p
-front_more (Some a) (Some b) xs ys p = (p.0, p.1 ++ ys, ap (λ (z : List ℕ). z ++ ys) p.2 ∙ append_assoc p.0 p.1 ys, p.3, p.4)
+front_more (Some a) (Some b) xs ys p =
+    (p.0, p.1 ++ ys, ap (λ (z : List ℕ). z ++ ys) p.2 ∙ append_assoc p.0 p.1 ys, p.3, p.4)
 
 -- a sink took one text and failed in the next
 pub front_then : (a b c : Option Taken) (xs ys : List ℕ) → Took a b xs → TookFront b c ys → TookFront a c (xs ++ ys)
@@ -55,7 +60,8 @@ front_then (Some a) (Some b) (Some c) xs ys p q = (
 )
 
 -- a text that was written, and what was then written of another
-pub wrote_then : (a b c : Option Taken) (xs ys : List ℕ) (done : Bool) → Took a b xs → Wrote b c ys done → Wrote a c (xs ++ ys) done
+pub wrote_then : (a b c : Option Taken) (xs ys : List ℕ) (done : Bool) → Took a b xs → Wrote b c ys done
+    → Wrote a c (xs ++ ys) done
 wrote_then a b c xs ys true p q = Took_then a b c xs ys p q
 wrote_then a b c xs ys false p q = front_then a b c xs ys p q
 

@@ -13,12 +13,15 @@ pub leaves_all : (a : Option Taken) (whole : List ℕ) → Leaves a a whole whol
 leaves_all a whole = ([], refl, took_nothing a)
 
 -- one part more was written
-pub leaves_less : (a b c : Option Taken) (whole left part more : List ℕ) → left ≡ part ++ more → Leaves a b whole left → Took b c part → Leaves a c whole more
+pub leaves_less : (a b c : Option Taken) (whole left part more : List ℕ) → left ≡ part ++ more → Leaves a b whole left
+    → Took b c part → Leaves a c whole more
 leaves_less a b c whole left part more e h p = (h.0 ++ part, h.1 ∙ ap (λ (x : List ℕ). h.0 ++ x) e ∙ sym (append_assoc h.0 part more), Took_then a b c h.0 part h.2 p)
 
 -- the sink failed in the next part
-pub leaves_lost : (a b c : Option Taken) (whole left part more : List ℕ) → left ≡ part ++ more → Leaves a b whole left → TookFront b c part → TookFront a c whole
-leaves_lost a b c whole left part more e h p = rw (h.1 ∙ ap (λ (x : List ℕ). h.0 ++ x) e) (Took-then_front a b c h.0 part more h.2 p)
+pub leaves_lost : (a b c : Option Taken) (whole left part more : List ℕ) → left ≡ part ++ more → Leaves a b whole left
+    → TookFront b c part → TookFront a c whole
+leaves_lost a b c whole left part more e h p =
+    rw (h.1 ∙ ap (λ (x : List ℕ). h.0 ++ x) e) (Took-then_front a b c h.0 part more h.2 p)
 
 -- nothing is left
 pub leaves_none : (a b : Option Taken) (whole left : List ℕ) → left ≡ [] → Leaves a b whole left → Took a b whole

@@ -9,13 +9,17 @@ use Rattle.acc_base.specs.Calls.{World, event_count, open_regions}
 use Rattle.acc_script.specs.Texts.{refusal_start, refusal_text, sizes_text, device_text, totals_text, report_text}
 
 -- the texts of a refusal, grouped as they are written
-regrouped : (line number name fields : List ℕ) → ((codes "line " ++ (line ++ (codes ": refused " ++ (number ++ (codes " " ++ name))))) ++ fields) ++ codes "\n" ≡ codes "line " ++ (line ++ (codes ": refused " ++ ((number ++ codes " " ++ name ++ fields) ++ codes "\n")))
+regrouped : (line number name fields : List ℕ)
+    → ((codes "line " ++ (line ++ (codes ": refused " ++ (number ++ (codes " " ++ name))))) ++ fields) ++ codes "\n"
+    ≡ codes "line " ++ (line ++ (codes ": refused " ++ ((number ++ codes " " ++ name ++ fields) ++ codes "\n")))
 regrouped line number name fields = simp append_assoc
 
 -- the line of a refusal as its start, its fields and its end
-pub refusal_parts : (line : ℕ) (fault : Fault) → refusal_text line fault ≡ (refusal_start line fault ++ fields_text fault) ++ codes "\n"
+pub refusal_parts : (line : ℕ) (fault : Fault)
+    → refusal_text line fault ≡ (refusal_start line fault ++ fields_text fault) ++ codes "\n"
 unfolding refusal_text
-refusal_parts line fault = sym (regrouped (decimal line) (decimal (number_of fault)) (name_of fault) (fields_text fault))
+refusal_parts line fault =
+    sym (regrouped (decimal line) (decimal (number_of fault)) (name_of fault) (fields_text fault))
 
 -- ---- the report
 

@@ -13,16 +13,19 @@ use Rattle.acc_script.specs.Sessions.{CallsFor, refusal_of}
 use Rattle.acc_script.proofs.Accepted.{accepted}
 
 -- a refusal that is no want of memory is that of the definitions
-pub refused_by : (w : World) (call : Call Leased) (fault : Fault) → (fault ≡ Memory → ⊥) → IsRefusal w call fault → judge w call ≡ Err fault
+pub refused_by : (w : World) (call : Call Leased) (fault : Fault) → (fault ≡ Memory → ⊥) → IsRefusal w call fault
+    → judge w call ≡ Err fault
 refused_by w call fault other refusal = by (judge w call) refusal
   where
-    by : (r : Result Verdict Fault) → MatchResult r (λ verdict. MayWantMemory verdict fault) (λ first. fault ≡ first) → r ≡ Err fault
+    by : (r : Result Verdict Fault) → MatchResult r (λ verdict. MayWantMemory verdict fault) (λ first. fault ≡ first)
+        → r ≡ Err fault
     by (Ok (Makes e)) h = absurd (other h)
     by (Ok Idle) h = absurd h
     by (Err first) h = rw h refl
 
 -- a call that was refused is printed, or wants memory
-pub refused_call : (old new : State) (call : Call Leased) (fault : Fault) → IsRefusal old.world call fault → new ≡ old → CallsFor old call new (refusal_of fault)
+pub refused_call : (old new : State) (call : Call Leased) (fault : Fault) → IsRefusal old.world call fault → new ≡ old
+    → CallsFor old call new (refusal_of fault)
 refused_call old new call fault refusal same = by fault refusal
   where
     by : (f : Fault) → IsRefusal old.world call f → CallsFor old call new (refusal_of f)

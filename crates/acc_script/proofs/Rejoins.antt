@@ -16,7 +16,8 @@ list_is : (x y : List ℕ) → some_list x ≡ Some y → x ≡ y
 list_is x y e = cc
 
 -- what was given, after some more bytes were consumed
-consumed : (all left after bs : List ℕ) → take (length all - length left) all ++ left ≡ all → left ≡ bs ++ after → take (length all - length after) all ≡ take (length all - length left) all ++ bs
+consumed : (all left after bs : List ℕ) → take (length all - length left) all ++ left ≡ all → left ≡ bs ++ after
+    → take (length all - length after) all ≡ take (length all - length left) all ++ bs
 consumed all left after bs whole e =
     let p : List ℕ = take (length all - length left) all in
     let regrouped : all ≡ (p ++ bs) ++ after = sym whole ∙ ap (λ (x : List ℕ). p ++ x) e ∙ sym (append_assoc p bs after) in
@@ -24,18 +25,21 @@ consumed all left after bs whole e =
     ap (take (length all - length after)) regrouped ∙ take_at (p ++ bs) after (length all - length after) len
 
 -- what was given and what is left make the whole, after some more bytes were consumed
-rejoins : (all left after bs : List ℕ) → take (length all - length left) all ++ left ≡ all → left ≡ bs ++ after → take (length all - length after) all ++ after ≡ all
+rejoins : (all left after bs : List ℕ) → take (length all - length left) all ++ left ≡ all → left ≡ bs ++ after
+    → take (length all - length after) all ++ after ≡ all
 rejoins all left after bs whole e = rw (consumed all left after bs whole e) (append_assoc (take (length all - length left) all) bs after ∙ ap (λ (x : List ℕ). take (length all - length left) all ++ x) (sym e) ∙ whole)
 
 -- what was given and what is left make the whole, over a read
-pub follows_read : (start old new : Option (List ℕ)) (bs : List ℕ) → rejoined start old ≡ start → Consumes old new bs → rejoined start new ≡ start
+pub follows_read : (start old new : Option (List ℕ)) (bs : List ℕ) → rejoined start old ≡ start → Consumes old new bs
+    → rejoined start new ≡ start
 follows_read None old new bs h c = refl
 follows_read (Some all) None new bs h c = absurd cc
 follows_read (Some all) (Some left) None bs h c = absurd c
 follows_read (Some all) (Some left) (Some after) bs h c = ap some_list (rejoins all left after bs (list_is _ all h) c)
 
 -- what was given and what is left make the whole, where nothing was consumed
-pub follows_kept : (start old new : Option (List ℕ)) → rejoined start old ≡ start → Keeps old new → rejoined start new ≡ start
+pub follows_kept : (start old new : Option (List ℕ)) → rejoined start old ≡ start → Keeps old new
+    → rejoined start new ≡ start
 follows_kept None old new h c = refl
 follows_kept (Some all) None new h c = absurd cc
 follows_kept (Some all) (Some left) None h c = absurd c
@@ -46,35 +50,46 @@ abbrev some_given : Given → Option Given
 some_given g = Some g
 
 -- a read gives the bytes that it consumed
-pub gives_read : (start old new : Option (List ℕ)) (bs : List ℕ) (ended next : Bool) (failures : ℕ) → rejoined start old ≡ start → Consumes old new bs → Becomes (given_by (offered_of start old ended failures)) (given_by (offered_of start new next failures)) (λ g. record { bytes = g.bytes ++ bs; ended = next; failures = g.failures })
+pub gives_read : (start old new : Option (List ℕ)) (bs : List ℕ) (ended next : Bool) (failures : ℕ)
+    → rejoined start old ≡ start → Consumes old new bs
+    → Becomes (given_by (offered_of start old ended failures)) (given_by (offered_of start new next failures))
+    (λ g. record { bytes = g.bytes ++ bs; ended = next; failures = g.failures })
 gives_read None old new bs ended next failures h c = tt
 gives_read (Some all) None new bs ended next failures h c = tt
 gives_read (Some all) (Some left) None bs ended next failures h c = absurd c
 gives_read (Some all) (Some left) (Some after) bs ended next failures h c = ap (λ (x : List ℕ). some_given (record { bytes = x; ended = next; failures = failures })) (consumed all left after bs (list_is _ all h) c)
 
 -- a read that failed gives nothing, and is one more failure
-pub gives_nothing : (start old new : Option (List ℕ)) (ended : Bool) (failures more : ℕ) → Keeps old new → more ≡ one_more failures → Becomes (given_by (offered_of start old ended failures)) (given_by (offered_of start new ended more)) (λ g. record g { failures = one_more g.failures })
+pub gives_nothing : (start old new : Option (List ℕ)) (ended : Bool) (failures more : ℕ) → Keeps old new
+    → more ≡ one_more failures
+    → Becomes (given_by (offered_of start old ended failures)) (given_by (offered_of start new ended more))
+    (λ g. record g { failures = one_more g.failures })
 gives_nothing None old new ended failures more c e = tt
 gives_nothing (Some all) None new ended failures more c e = tt
 gives_nothing (Some all) (Some left) None ended failures more c e = absurd c
 gives_nothing (Some all) (Some left) (Some after) ended failures more c e = rw (c, e) refl
 
 -- a read hands out the front of what was left
-pub hands_read : (start old new : Option (List ℕ)) (n : ℕ) (piece : List ℕ) (ended next : Bool) (failures more : ℕ) → rejoined start old ≡ start → Consumes old new (take n piece) → HandsOut (offered_of start old ended failures) (offered_of start new next more) (Some n) piece
+pub hands_read : (start old new : Option (List ℕ)) (n : ℕ) (piece : List ℕ) (ended next : Bool) (failures more : ℕ)
+    → rejoined start old ≡ start → Consumes old new (take n piece)
+    → HandsOut (offered_of start old ended failures) (offered_of start new next more) (Some n) piece
 hands_read None old new n piece ended next failures more h c = tt
 hands_read (Some all) None new n piece ended next failures more h c = absurd cc
 hands_read (Some all) (Some left) None n piece ended next failures more h c = absurd c
 hands_read (Some all) (Some left) (Some after) n piece ended next failures more h c = c
 
 -- a read that failed leaves what was left
-pub hands_nothing : (start old new : Option (List ℕ)) (piece : List ℕ) (ended next : Bool) (failures more : ℕ) → rejoined start old ≡ start → Keeps old new → HandsOut (offered_of start old ended failures) (offered_of start new next more) None piece
+pub hands_nothing : (start old new : Option (List ℕ)) (piece : List ℕ) (ended next : Bool) (failures more : ℕ)
+    → rejoined start old ≡ start → Keeps old new
+    → HandsOut (offered_of start old ended failures) (offered_of start new next more) None piece
 hands_nothing None old new piece ended next failures more h c = tt
 hands_nothing (Some all) None new piece ended next failures more h c = absurd cc
 hands_nothing (Some all) (Some left) None piece ended next failures more h c = absurd c
 hands_nothing (Some all) (Some left) (Some after) piece ended next failures more h c = c
 
 -- what was told of the end stays true where nothing was consumed
-pub ends_kept : (start old new : Option (List ℕ)) (ended : Bool) → rejoined start old ≡ start → EndsAt start ended old → Keeps old new → EndsAt start ended new
+pub ends_kept : (start old new : Option (List ℕ)) (ended : Bool) → rejoined start old ≡ start → EndsAt start ended old
+    → Keeps old new → EndsAt start ended new
 ends_kept None old new ended h e c = tt
 ends_kept (Some all) old new false h e c = tt
 ends_kept (Some all) None new true h e c = absurd cc
@@ -82,7 +97,8 @@ ends_kept (Some all) (Some left) None true h e c = absurd c
 ends_kept (Some all) (Some left) (Some after) true h e c = rw c e
 
 -- a read that gave nothing, into a piece with room, was at the end
-pub ends_read : (start new : Option (List ℕ)) (n len : ℕ) → (n ≡ 0 → 0 < len → IsAtEnd new) → 0 < len → EndsAt start (n == 0) new
+pub ends_read : (start new : Option (List ℕ)) (n len : ℕ) → (n ≡ 0 → 0 < len → IsAtEnd new) → 0 < len
+    → EndsAt start (n == 0) new
 ends_read None new n len h lt = tt
 ends_read (Some all) new (suc n) len h lt =
     let t : (suc n == 0) ≡ false = grind (arith, nat_tests) in
@@ -91,7 +107,8 @@ ends_read (Some all) None zero len h lt = tt
 ends_read (Some all) (Some left) zero len h lt = h refl lt
 
 -- a read into a piece without room leaves what was told of the end
-pub ends_without_room : (start old new : Option (List ℕ)) (ended : Bool) (bs : List ℕ) → rejoined start old ≡ start → EndsAt start ended old → Consumes old new bs → length bs ≡ 0 → EndsAt start ended new
+pub ends_without_room : (start old new : Option (List ℕ)) (ended : Bool) (bs : List ℕ) → rejoined start old ≡ start
+    → EndsAt start ended old → Consumes old new bs → length bs ≡ 0 → EndsAt start ended new
 ends_without_room None old new ended bs h e c l = tt
 ends_without_room (Some all) old new false bs h e c l = tt
 ends_without_room (Some all) None new true bs h e c l = absurd cc
@@ -100,8 +117,12 @@ ends_without_room (Some all) (Some left) (Some after) true [] h e c l = sym c �
 ends_without_room (Some all) (Some left) (Some after) true (b ∷ bs) h e c l = absurd (omega arith)
 
 -- what a reader is known to have left is nothing once its end was told
-pub ends_empty : (start left : Option (List ℕ)) (ended : Bool) (failures : ℕ) → EndsAt start ended left → EndsEmpty (offered_of start left ended failures)
+pub ends_empty : (start left : Option (List ℕ)) (ended : Bool) (failures : ℕ) → EndsAt start ended left
+    → EndsEmpty (offered_of start left ended failures)
 ends_empty None left ended failures e = tt
 ends_empty (Some all) None ended failures e = tt
 ends_empty (Some all) (Some left) true failures e = λ _. e
 ends_empty (Some all) (Some left) false failures e = λ told. absurd cc
+
+-- what a read leaves of a stream, and what it hands over
+pub ruleset reading_laws = (follows_read, follows_kept, gives_read, gives_nothing, hands_read, hands_nothing, ends_kept, ends_read, ends_without_room, ends_empty)

@@ -52,11 +52,13 @@ lowest_first (b ∷ bs) = ap (λ (o : Option Block). Some (lower b o)) (lowest_f
 -- ---- blocks by place
 
 -- what holds of a block and of others holds of them all
-all_placed : (P : Block → Type 0) (b : Block) (cs : List Block) → P b → AllByRecursion P cs → AllByRecursion P (placed_among b cs)
+all_placed : (P : Block → Type 0) (b : Block) (cs : List Block) → P b → AllByRecursion P cs
+    → AllByRecursion P (placed_among b cs)
 all_placed P b [] p h = (p, tt)
 all_placed P b (c ∷ cs) p h = by (nat_le b.place c.place) (all_placed P b cs p h.1)
   where
-    by : (t : Bool) → AllByRecursion P (placed_among b cs) → AllByRecursion P (cond t (b ∷ c ∷ cs) (c ∷ placed_among b cs))
+    by : (t : Bool) → AllByRecursion P (placed_among b cs)
+        → AllByRecursion P (cond t (b ∷ c ∷ cs) (c ∷ placed_among b cs))
     by true others = (p, h)
     by false others = (h.0, others)
 
@@ -66,11 +68,13 @@ all_by_place P [] h = tt
 all_by_place P (b ∷ bs) h = all_placed P b (by_place bs) h.0 (all_by_place P bs h.1)
 
 -- a block among others that rise
-rise_placed : (b : Block) (cs : List Block) → AllByRecursion (LiesElsewhere b) cs → EachPair LiesUnder cs → EachPair LiesUnder (placed_among b cs)
+rise_placed : (b : Block) (cs : List Block) → AllByRecursion (LiesElsewhere b) cs → EachPair LiesUnder cs
+    → EachPair LiesUnder (placed_among b cs)
 rise_placed b [] other rising = (tt, tt)
 rise_placed b (c ∷ cs) other rising = by (nat_le b.place c.place) refl (rise_placed b cs other.1 rising.1)
   where
-    by : (t : Bool) → nat_le b.place c.place ≡ t → EachPair LiesUnder (placed_among b cs) → EachPair LiesUnder (cond t (b ∷ c ∷ cs) (c ∷ placed_among b cs))
+    by : (t : Bool) → nat_le b.place c.place ≡ t → EachPair LiesUnder (placed_among b cs)
+        → EachPair LiesUnder (cond t (b ∷ c ∷ cs) (c ∷ placed_among b cs))
     by true e others =
         let le : b.place ≤ c.place = leb-true b.place c.place e in
         let lt : b.place < c.place = omega (arith, other.0) in
@@ -80,28 +84,35 @@ rise_placed b (c ∷ cs) other rising = by (nat_le b.place c.place) refl (rise_p
 -- blocks at different places rise by place
 rise_by_place : (bs : List Block) → EachPair LiesElsewhere bs → EachPair LiesUnder (by_place bs)
 rise_by_place [] other = tt
-rise_by_place (b ∷ bs) other = rise_placed b (by_place bs) (all_by_place (LiesElsewhere b) bs other.0) (rise_by_place bs other.1)
+rise_by_place (b ∷ bs) other =
+    rise_placed b (by_place bs) (all_by_place (LiesElsewhere b) bs other.0) (rise_by_place bs other.1)
 
 -- ---- those from an address on
 
 -- a block from the address on, among others from there on
-kept_placed : (from : ℕ) (b : Block) (cs : List Block) → lies_from from b ≡ true → filter (lies_from from) (placed_among b cs) ≡ placed_among b (filter (lies_from from) cs)
+kept_placed : (from : ℕ) (b : Block) (cs : List Block) → lies_from from b ≡ true
+    → filter (lies_from from) (placed_among b cs) ≡ placed_among b (filter (lies_from from) cs)
 kept_placed from b [] e = rw e refl
 kept_placed from b (c ∷ cs) e = by (nat_le b.place c.place) (lies_from from c) refl refl (kept_placed from b cs e)
   where
-    by : (t u : Bool) → nat_le b.place c.place ≡ t → lies_from from c ≡ u → filter (lies_from from) (placed_among b cs) ≡ placed_among b (filter (lies_from from) cs)
-        → filter (lies_from from) (cond t (b ∷ c ∷ cs) (c ∷ placed_among b cs)) ≡ placed_among b (cond u (c ∷ filter (lies_from from) cs) (filter (lies_from from) cs))
+    by : (t u : Bool) → nat_le b.place c.place ≡ t → lies_from from c ≡ u
+        → filter (lies_from from) (placed_among b cs) ≡ placed_among b (filter (lies_from from) cs)
+        → filter (lies_from from) (cond t (b ∷ c ∷ cs) (c ∷ placed_among b cs))
+        ≡ placed_among b (cond u (c ∷ filter (lies_from from) cs) (filter (lies_from from) cs))
     by true true te ue others = rw (e, ue, te) refl
-    by true false te ue others = absurd (omega (arith, leb-true from b.place e, leb-true b.place c.place te, leb-false from c.place ue))
+    by true false te ue others =
+        absurd (omega (arith, leb-true from b.place e, leb-true b.place c.place te, leb-false from c.place ue))
     by false true te ue others = rw (ue, te) (ap (λ (xs : List Block). c ∷ xs) others)
     by false false te ue others = rw ue others
 
 -- a block below the address is not among them
-dropped_placed : (from : ℕ) (b : Block) (cs : List Block) → lies_from from b ≡ false → filter (lies_from from) (placed_among b cs) ≡ filter (lies_from from) cs
+dropped_placed : (from : ℕ) (b : Block) (cs : List Block) → lies_from from b ≡ false
+    → filter (lies_from from) (placed_among b cs) ≡ filter (lies_from from) cs
 dropped_placed from b [] e = rw e refl
 dropped_placed from b (c ∷ cs) e = by (nat_le b.place c.place) (dropped_placed from b cs e)
   where
-    by : (t : Bool) → filter (lies_from from) (placed_among b cs) ≡ filter (lies_from from) cs → filter (lies_from from) (cond t (b ∷ c ∷ cs) (c ∷ placed_among b cs)) ≡ filter (lies_from from) (c ∷ cs)
+    by : (t : Bool) → filter (lies_from from) (placed_among b cs) ≡ filter (lies_from from) cs
+        → filter (lies_from from) (cond t (b ∷ c ∷ cs) (c ∷ placed_among b cs)) ≡ filter (lies_from from) (c ∷ cs)
     by true others = rw e refl
     by false others = elim (lies_from from c) as (λ u. cond u (c ∷ filter (lies_from from) (placed_among b cs)) (filter (lies_from from) (placed_among b cs)) ≡ cond u (c ∷ filter (lies_from from) cs) (filter (lies_from from) cs)) [
       | true ↦ ap (λ (xs : List Block). c ∷ xs) others
@@ -109,11 +120,15 @@ dropped_placed from b (c ∷ cs) e = by (nat_le b.place c.place) (dropped_placed
     ]
 
 -- those from an address on, by place
-kept_by_place : (from : ℕ) (bs : List Block) → filter (lies_from from) (by_place bs) ≡ by_place (filter (lies_from from) bs)
+kept_by_place : (from : ℕ) (bs : List Block)
+    → filter (lies_from from) (by_place bs) ≡ by_place (filter (lies_from from) bs)
 kept_by_place from [] = refl
 kept_by_place from (b ∷ bs) = by (lies_from from b) refl (kept_by_place from bs)
   where
-    by : (t : Bool) → lies_from from b ≡ t → filter (lies_from from) (by_place bs) ≡ by_place (filter (lies_from from) bs) → filter (lies_from from) (placed_among b (by_place bs)) ≡ by_place (cond t (b ∷ filter (lies_from from) bs) (filter (lies_from from) bs))
+    by : (t : Bool) → lies_from from b ≡ t
+        → filter (lies_from from) (by_place bs) ≡ by_place (filter (lies_from from) bs)
+        → filter (lies_from from) (placed_among b (by_place bs))
+        ≡ by_place (cond t (b ∷ filter (lies_from from) bs) (filter (lies_from from) bs))
     by true e others = kept_placed from b (by_place bs) e ∙ ap (placed_among b) others
     by false e others = dropped_placed from b (by_place bs) e ∙ others
 
@@ -132,12 +147,14 @@ first_from : (from : ℕ) (bs : List Block) (b : Block) → first (filter (lies_
 first_from from [] b e = absurd cc
 first_from from (c ∷ cs) b e = by (first_from from cs b) (lies_from from c) refl e
   where
-    by : (first (filter (lies_from from) cs) ≡ Some b → from ≤ b.place) → (t : Bool) → lies_from from c ≡ t → first (cond t (c ∷ filter (lies_from from) cs) (filter (lies_from from) cs)) ≡ Some b → from ≤ b.place
+    by : (first (filter (lies_from from) cs) ≡ Some b → from ≤ b.place) → (t : Bool) → lies_from from c ≡ t
+        → first (cond t (c ∷ filter (lies_from from) cs) (filter (lies_from from) cs)) ≡ Some b → from ≤ b.place
     by others true u h = let same : c ≡ b = cc in subst (λ (x : Block). from ≤ x.place) same (leb-true from c.place u)
     by others false u h = others h
 
 -- of blocks that rise, those from an address on are the first there and those above it
-next_kept : (from : ℕ) (bs : List Block) (b : Block) → EachPair LiesUnder bs → first (filter (lies_from from) bs) ≡ Some b → filter (lies_from from) bs ≡ b ∷ filter (lies_from (b.place + 1)) bs
+next_kept : (from : ℕ) (bs : List Block) (b : Block) → EachPair LiesUnder bs
+    → first (filter (lies_from from) bs) ≡ Some b → filter (lies_from from) bs ≡ b ∷ filter (lies_from (b.place + 1)) bs
 next_kept from [] b rising e = absurd cc
 next_kept from (c ∷ cs) b rising e = by (next_kept from cs b rising.1) (lies_from from c) refl e
   where
@@ -146,8 +163,12 @@ next_kept from (c ∷ cs) b rising e = by (next_kept from cs b rising.1) (lies_f
         let low : from ≤ c.place = leb-true from c.place u in
         rw (all_kept from cs (AllByRecursion-weaker (LiesUnder c) (λ x. from ≤ x.place) cs (λ x under. omega arith) rising.0), lt-leb (c.place + 1) c.place (omega arith), all_kept (c.place + 1) cs (AllByRecursion-weaker (LiesUnder c) (λ x. c.place + 1 ≤ x.place) cs (λ x under. omega arith) rising.0)) refl
 
-    by : (first (filter (lies_from from) cs) ≡ Some b → filter (lies_from from) cs ≡ b ∷ filter (lies_from (b.place + 1)) cs)
-        → (t : Bool) → lies_from from c ≡ t → first (cond t (c ∷ filter (lies_from from) cs) (filter (lies_from from) cs)) ≡ Some b → cond t (c ∷ filter (lies_from from) cs) (filter (lies_from from) cs) ≡ b ∷ filter (lies_from (b.place + 1)) (c ∷ cs)
+    by : (first (filter (lies_from from) cs) ≡ Some b
+        → filter (lies_from from) cs ≡ b ∷ filter (lies_from (b.place + 1)) cs)
+        → (t : Bool) → lies_from from c ≡ t
+        → first (cond t (c ∷ filter (lies_from from) cs) (filter (lies_from from) cs)) ≡ Some b
+        → cond t (c ∷ filter (lies_from from) cs) (filter (lies_from from) cs)
+        ≡ b ∷ filter (lies_from (b.place + 1)) (c ∷ cs)
     by others true u h = let same : c ≡ b = cc in subst (λ (x : Block). c ∷ filter (lies_from from) cs ≡ x ∷ filter (lies_from (x.place + 1)) (c ∷ cs)) same (here u)
     by others false u h =
         let above : from ≤ b.place = first_from from cs b h in
@@ -177,7 +198,8 @@ kept_ended : (from : ℕ) (w : Records) → by_place (ended_blocks from w) ≡ f
 kept_ended from w = ap by_place (filter_both (has_ended w) (lies_from from) w.blocks) ∙ sym (kept_by_place from (filter (has_ended w) w.blocks))
 
 -- blocks that do not overlap lie at different places
-elsewhere : (device : ℕ) (bs : List Block) → AllByRecursion (IsOnDevice device) bs → EachPair IsClearOf bs → EachPair LiesElsewhere bs
+elsewhere : (device : ℕ) (bs : List Block) → AllByRecursion (IsOnDevice device) bs → EachPair IsClearOf bs
+    → EachPair LiesElsewhere bs
 elsewhere device [] on_device apart = tt
 elsewhere device (b ∷ bs) on_device apart = (AllByRecursion-both (IsOnDevice device) (IsClearOf b) (LiesElsewhere b) bs other on_device.1 apart.0, elsewhere device bs on_device.1 apart.1)
   where
@@ -195,7 +217,8 @@ module _ (device births from : ℕ) (w : Records) (apart : AreBlocksApart device
 
   module _ (e : Ended) (found : Some e ≡ ended_from from w) where
     -- the block of which an answer tells, and that it is the first
-    block_found : (b : Block) × (first (filter (lies_from from) (ended_by_place w)) ≡ Some b) × (told_ended w.queues b ≡ e)
+    block_found : (b : Block) × (first (filter (lies_from from) (ended_by_place w)) ≡ Some b)
+        × (told_ended w.queues b ≡ e)
     block_found =
         let view = found_view (told_ended w.queues) (lowest (ended_blocks from w)) e found in
         (view.0, sym (lowest_first (ended_blocks from w) ∙ ap first (kept_ended from w)) ∙ view.1, view.2)

@@ -31,9 +31,11 @@ abbrev LiesInHost : Limits → Range → Type 0
 LiesInHost l r = IsHostSection l r.section
 
 -- no range behind one starts below its end
-none_below : (from : ℕ) (t : Range) (ts : List Range) → AllByRecursion (Precedes t) ts → from ≤ t.section.start + t.section.len → below from ts ≡ []
+none_below : (from : ℕ) (t : Range) (ts : List Range) → AllByRecursion (Precedes t) ts
+    → from ≤ t.section.start + t.section.len → below from ts ≡ []
 none_below from t [] behind le = refl
-none_below from t (u ∷ us) behind le = rw (le-leb from u.section.start (omega (arith, behind.0))) (none_below from t us behind.1 le)
+none_below from t (u ∷ us) behind le =
+    rw (le-leb from u.section.start (omega (arith, behind.0))) (none_below from t us behind.1 le)
 
 -- nothing starts below the least address
 pub none_below_zero : (ranges : List Range) → below 0 ranges ≡ []
@@ -51,7 +53,8 @@ all_below from (t ∷ ts) none =
 
 module _ (l : Limits) (from : ℕ) (r : Range) where
   -- one more range
-  pub next_below : (ranges : List Range) → AllByRecursion (LiesInHost l) ranges → EachPair Precedes ranges → range_from from ranges ≡ Some r → below (r.section.start + 1) ranges ≡ below from ranges ++ r ∷ []
+  pub next_below : (ranges : List Range) → AllByRecursion (LiesInHost l) ranges → EachPair Precedes ranges
+      → range_from from ranges ≡ Some r → below (r.section.start + 1) ranges ≡ below from ranges ++ r ∷ []
   next_below [] in_host rising found = absurd cc
   next_below (t ∷ ts) in_host rising found =
       elim (starts_from from t) as (λ b. starts_from from t ≡ b → cond b (Some t) (range_from from ts) ≡ Some r → below (r.section.start + 1) (t ∷ ts) ≡ cond (not b) (t ∷ below from ts) (below from ts) ++ r ∷ []) [
@@ -67,7 +70,8 @@ module _ (l : Limits) (from : ℕ) (r : Range) where
       ] refl found
 
   -- the ranges before it, and those behind
-  found_splits : (ranges : List Range) → EachPair Precedes ranges → range_from from ranges ≡ Some r → (rest : List Range) × (ranges ≡ below from ranges ++ r ∷ rest)
+  found_splits : (ranges : List Range) → EachPair Precedes ranges → range_from from ranges ≡ Some r
+      → (rest : List Range) × (ranges ≡ below from ranges ++ r ∷ rest)
   found_splits [] rising found = absurd cc
   found_splits (t ∷ ts) rising found =
       elim (starts_from from t) as (λ b. starts_from from t ≡ b → cond b (Some t) (range_from from ts) ≡ Some r → (rest : List Range) × (t ∷ ts ≡ cond (not b) (t ∷ below from ts) (below from ts) ++ r ∷ rest)) [
@@ -79,7 +83,9 @@ module _ (l : Limits) (from : ℕ) (r : Range) where
       ] refl found
 
   -- it starts where the search began or behind, and it lies well below the last address
-  pub found_start : (ranges : List Range) → IsWithinBounds l → AllByRecursion (LiesInHost l) ranges → range_from from ranges ≡ Some r → (from ≤ r.section.start) × (r.section.start < 2 ^ 32) × (end_of r.section < 2 ^ 32)
+  pub found_start : (ranges : List Range) → IsWithinBounds l → AllByRecursion (LiesInHost l) ranges
+      → range_from from ranges ≡ Some r
+      → (from ≤ r.section.start) × (r.section.start < 2 ^ 32) × (end_of r.section < 2 ^ 32)
   found_start ranges bounds in_host found =
       let lies = found_has (LiesInHost l) (starts_from from) ranges r in_host found in
       let ends : end_of r.section ≤ host_base + l.host = leb-true (end_of r.section) (end_of (host_memory l.host)) (and_parts (nat_le host_base r.section.start) (nat_le (end_of r.section) (end_of (host_memory l.host))) lies.0.within).1 in
@@ -87,14 +93,17 @@ module _ (l : Limits) (from : ℕ) (r : Range) where
 
   module _ (text : Range → List ℕ) (ranges : List Range) (a b c : Option Taken) where
     -- its text after those of the ranges before it
-    pub took_found : AllByRecursion (LiesInHost l) ranges → EachPair Precedes ranges → range_from from ranges ≡ Some r → Took a b (flat_map text (below from ranges)) → Took b c (text r) → Took a c (flat_map text (below (r.section.start + 1) ranges))
+    pub took_found : AllByRecursion (LiesInHost l) ranges → EachPair Precedes ranges → range_from from ranges ≡ Some r
+        → Took a b (flat_map text (below from ranges)) → Took b c (text r)
+        → Took a c (flat_map text (below (r.section.start + 1) ranges))
     took_found in_host rising found p q =
         let joined : flat_map text (below (r.section.start + 1) ranges) ≡ flat_map text (below from ranges) ++ text r =
         ap (flat_map text) (next_below ranges in_host rising found) ∙ flat_map-append text (below from ranges) (r ∷ []) ∙ ap (λ (x : List ℕ). flat_map text (below from ranges) ++ x) (flat_map-cons text r [] ∙ append-nil (text r)) in
         rw joined (Took_then a b c (flat_map text (below from ranges)) (text r) p q)
 
     -- the sink failed in its text
-    pub lost_found : EachPair Precedes ranges → range_from from ranges ≡ Some r → Took a b (flat_map text (below from ranges)) → TookFront b c (text r) → TookFront a c (flat_map text ranges)
+    pub lost_found : EachPair Precedes ranges → range_from from ranges ≡ Some r
+        → Took a b (flat_map text (below from ranges)) → TookFront b c (text r) → TookFront a c (flat_map text ranges)
     lost_found rising found p q =
         let split = found_splits ranges rising found in
         let whole : flat_map text ranges ≡ flat_map text (below from ranges) ++ (text r ++ flat_map text split.0) =
@@ -102,7 +111,8 @@ module _ (l : Limits) (from : ℕ) (r : Range) where
         rw whole (Took-then_front a b c (flat_map text (below from ranges)) (text r) (flat_map text split.0) p q)
 
 -- what a look-up found, seen by a view
-pub found_view : {X Y : Type 0} (view : X → Y) (o : Option X) (y : Y) → Some y ≡ option_map view o → (x : X) × (o ≡ Some x) × (view x ≡ y)
+pub found_view : {X Y : Type 0} (view : X → Y) (o : Option X) (y : Y) → Some y ≡ option_map view o
+    → (x : X) × (o ≡ Some x) × (view x ≡ y)
 found_view view None y e = absurd cc
 found_view view (Some x) y e = (x, refl, cc)
 

@@ -18,7 +18,8 @@ Printed old new text (Err _) = ⊥
 -- ---- a line
 
 -- a line was run, and what it printed was written
-pub record RanLine (number : ℕ) (s : State) (line : List ℕ) (old new : Option Taken) (after : State) (refused : Bool) : Type 0 where
+pub record RanLine (number : ℕ) (s : State) (line : List ℕ) (old new : Option Taken) (after : State)
+    (refused : Bool) : Type 0 where
   pub turn : Turned
   pub is : line_turned s line ≡ Ok turn
   pub state : after ≡ turn.state
@@ -35,7 +36,8 @@ pub record LostLine (number : ℕ) (s : State) (line : List ℕ) (old new : Opti
 abbrev pub LineRuns : ℕ → State → List ℕ → Option Taken → Option Taken → State → Result Bool Fault → Type 0
 LineRuns number s line old new after (Ok refused) = RanLine number s line old new after refused
 LineRuns number s line old new after (Err Memory) = (line_wants s line ≡ true) × (new ≡ old)
-LineRuns number s line old new after (Err (Script at kind)) = (at ≡ number) × (line_turned s line ≡ Err kind) × (new ≡ old)
+LineRuns number s line old new after (Err (Script at kind)) =
+    (at ≡ number) × (line_turned s line ≡ Err kind) × (new ≡ old)
 LineRuns number s line old new after (Err Write) = LostLine number s line old new
 LineRuns number s line old new after (Err _) = ⊥
 
@@ -45,9 +47,12 @@ LineRuns number s line old new after (Err _) = ⊥
 -- of the input is at fault; nothing where there was no memory for a table, and the lines before one that takes memory
 -- where there was none for it; or a front of it where the sink failed
 abbrev pub Played : Transcript → Option Taken → Option Taken → Result Status Fault → Type 0
-Played t old new (Ok status) = (refused : Bool) × (t.ending ≡ Ended refused) × (status ≡ status_of refused) × Took old new (concat t.texts)
+Played t old new (Ok status) =
+    (refused : Bool) × (t.ending ≡ Ended refused) × (status ≡ status_of refused) × Took old new (concat t.texts)
 Played t old new (Err (Script number kind)) = (t.ending ≡ Faulty number kind) × Took old new (concat t.texts)
-Played t old new (Err Memory) = (new ≡ old) ⊎ ((lines : ℕ) × (slice_index_or t.wanting lines false ≡ true) × Took old new (concat (take lines t.texts)))
+Played t old new (Err Memory) =
+    (new ≡ old)
+    ⊎ ((lines : ℕ) × (slice_index_or t.wanting lines false ≡ true) × Took old new (concat (take lines t.texts)))
 Played t old new (Err Write) = TookFront old new (concat t.texts)
 Played t old new (Err _) = ⊥
 
@@ -55,14 +60,17 @@ Played t old new (Err _) = ⊥
 
 -- the source told its end and did not fail, and what it gave in this call was run as a script
 abbrev pub RanAll : Limits → Option Given → Option Given → Option Taken → Option Taken → Result Status Fault → Type 0
-RanAll limits given gave taken took result = (input : List ℕ) × GaveAll given gave input × Played (transcript limits input) taken took result
+RanAll limits given gave taken took result =
+    (input : List ℕ) × GaveAll given gave input × Played (transcript limits input) taken took result
 
 -- a run read its whole input and played it; or there was no memory to read more of it, or it could not be read, and
 -- nothing was written
 abbrev pub Ran : Limits → Option Given → Option Given → Option Taken → Option Taken → Result Status Fault → Type 0
 Ran limits given gave taken took (Ok status) = RanAll limits given gave taken took (Ok status)
-Ran limits given gave taken took (Err (Script number kind)) = RanAll limits given gave taken took (Err (Script number kind))
-Ran limits given gave taken took (Err Memory) = RanAll limits given gave taken took (Err Memory) ⊎ (GaveSome given gave × (took ≡ taken))
+Ran limits given gave taken took (Err (Script number kind)) =
+    RanAll limits given gave taken took (Err (Script number kind))
+Ran limits given gave taken took (Err Memory) =
+    RanAll limits given gave taken took (Err Memory) ⊎ (GaveSome given gave × (took ≡ taken))
 Ran limits given gave taken took (Err Read) = FailedOrPassed input_limit given gave × (took ≡ taken)
 Ran limits given gave taken took (Err Write) = RanAll limits given gave taken took (Err Write)
 Ran limits given gave taken took (Err _) = ⊥

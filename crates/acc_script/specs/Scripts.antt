@@ -1,7 +1,8 @@
 -- What a script does and prints, line by line, and how it ends.
-use Rattle.std.specs.Prelude.{ℕ, ◌+◌, Bool, true, false, ◌||◌, List, [], ◌∷◌, Option, Some, None, Result, Ok, Err, ◌==◌, if◌then◌else◌}
+use Rattle.std.specs.Prelude.{◌≡◌, ℕ, ◌+◌, Bool, true, false, ◌&&◌, ◌||◌, List, [], ◌∷◌, Option, Some, None, Result, Ok, Err, is_some, ◌==◌, if◌then◌else◌}
 use Rattle.acc_base.specs.declared.calls.Call.{Call}
 use Rattle.acc_base.specs.declared.calls.Call.TheVariants.{Do, HostWrite, Lend, Gather}
+use Rattle.acc_base.specs.declared.events.Event.{Event}
 use Rattle.acc_base.specs.declared.faults.Fault.{Fault}
 use Rattle.acc_base.specs.declared.faults.Fault.TheVariants.{OutOfHost}
 use Rattle.acc_base.specs.declared.faults.ScriptFault.{ScriptFault}
@@ -52,10 +53,14 @@ pub record Turned : Type 0 where
 abbrev pub answered : State → Effect → Turned
 answered s effect = record { state = s; effect = effect }
 
--- a call changes the world where the table accepts it and makes an event; what is accepted and makes none is the step of
--- an empty queue
+-- the state after an event of a call
+abbrev pub state_after : Call Leased → Event → State → State
+state_after call event s = record { world = world_after call event s.world; layout = s.layout }
+
+-- a call changes the world where the table accepts it and makes an event; what is accepted and makes none is the step
+-- of an empty queue
 abbrev pub called : State → Call Leased → Result Verdict Fault → Turned
-called s call (Ok (Makes event)) = record { state = record { world = world_after call event s.world; layout = s.layout }; effect = Nothing }
+called s call (Ok (Makes event)) = record { state = state_after call event s; effect = Nothing }
 called s call (Ok Idle) = answered s EmptyQueue
 called s call (Err fault) = answered s (Refused fault)
 
@@ -66,14 +71,23 @@ back_from kernel src lease = Gather (with_section lease (image_of kernel (sectio
 -- a kernel with what the call for its loan replied, which is never but a lease: it is brought back, and its block stays
 -- lent where that is refused
 abbrev pub gathered : State → ScriptKernel → List ℕ → Reply → Turned
-gathered s kernel src (replies.Lease lease) = called s (back_from kernel src lease) (judge s.world (back_from kernel src lease))
+gathered s kernel src (replies.Lease lease) =
+    called s (back_from kernel src lease) (judge s.world (back_from kernel src lease))
 gathered s kernel src _ = answered s Nothing
 
 -- a kernel with what the call for its loan comes to, which is never that there is nothing to do
 abbrev pub on_loan : State → ScriptKernel → List ℕ → Call Leased → Result Verdict Fault → Turned
-on_loan s kernel src call (Ok (Makes event)) = gathered (record { world = world_after call event s.world; layout = s.layout }) kernel src (reply_of event s.world.state)
+on_loan s kernel src call (Ok (Makes event)) =
+    gathered (state_after call event s) kernel src (reply_of event s.world.state)
 on_loan s kernel src call (Ok Idle) = answered s Nothing
 on_loan s kernel src call (Err fault) = answered s (Refused fault)
+
+-- a state after another with the loan of a section in a region, which the table accepts, and nothing else
+abbrev pub IsLentFrom : State → ℕ → Section → State → Type 0
+IsLentFrom old region over new =
+    (event : Event)
+    × (judge old.world (Lend region over) ≡ Ok (Makes event))
+    × (new ≡ state_after (Lend region over) event old)
 
 -- a kernel over a section, with the bytes of its source: where host memory does not have these, nothing is lent
 abbrev pub launched : State → ℕ → ScriptKernel → Section → Option (List ℕ) → Turned
@@ -88,15 +102,33 @@ shown section (Some bytes) = HostBytes section
 -- a state and a statement, as the state after it and what there is to print
 abbrev pub turned : State → Meaning → Turned
 turned s Blank = answered s Nothing
-turned s (Declare name array) = record { state = record { world = s.world; layout = with_array name array s.layout }; effect = Nothing }
+turned s (Declare name array) =
+    record { state = record { world = s.world; layout = with_array name array s.layout }; effect = Nothing }
 turned s (Direct directive) = called s (Do directive) (judge s.world (Do directive))
-turned s (Kernel region kernel over) = launched s region kernel over (host_read_of (source_of kernel) s.world.state.host)
+turned s (Kernel region kernel over) =
+    launched s region kernel over (host_read_of (source_of kernel) s.world.state.host)
 turned s (Write addr bytes) = called s (HostWrite addr bytes) (judge s.world (HostWrite addr bytes))
 turned s (Show section) = answered s (shown section (host_read_of section s.world.state.host))
 turned s (Peek section) = answered s (DeviceBytes section)
 turned s (Present section) = answered s (Presence (is_inside (where_is section s.world.state.records.ranges)))
 turned s (Address addr) = answered s (Place (device_address_of addr s.world.state.records))
 turned s Report = answered s Reported
+
+-- a call comes to an event
+abbrev pub makes_event : Result Verdict Fault → Bool
+makes_event (Ok (Makes event)) = true
+makes_event (Ok Idle) = false
+makes_event (Err fault) = false
+
+-- a statement takes memory to run: it declares, or the table accepts the call that it makes and an event comes of that;
+-- of a kernel this is the call for its loan, where host memory has the bytes of its source
+abbrev pub run_takes_memory : State → Meaning → Bool
+run_takes_memory s (Declare name array) = true
+run_takes_memory s (Direct directive) = makes_event (judge s.world (Do directive))
+run_takes_memory s (Kernel region kernel over) =
+    is_some (host_read_of (source_of kernel) s.world.state.host) && makes_event (judge s.world (Lend region over))
+run_takes_memory s (Write addr bytes) = makes_event (judge s.world (HostWrite addr bytes))
+run_takes_memory s _ = false
 
 -- what the line of a number prints
 abbrev pub effect_text : ℕ → World → Effect → List ℕ
@@ -126,9 +158,13 @@ line_turned s line = do
   meaning ← meaning_in s line
   Ok (turned s meaning)
 
+-- a statement takes memory to read or to run
+abbrev pub needs_memory : State → Meaning → Bool
+needs_memory s meaning = takes_memory meaning || run_takes_memory s meaning
+
 -- the line is not at fault, and what it asks for takes memory
 abbrev pub line_wants : State → List ℕ → Bool
-line_wants s line = wants takes_memory (meaning_in s line)
+line_wants s line = wants (needs_memory s) (meaning_in s line)
 
 -- what the line of a number prints, once it was run
 abbrev pub line_text : ℕ → Turned → List ℕ
@@ -151,7 +187,11 @@ pub record Transcript : Type 0 where
 -- the line of a number, and the lines after it
 abbrev pub noted : ℕ → Bool → Result Turned ScriptFault → (Turned → Transcript) → Transcript
 noted number wanting (Err kind) others = record { texts = []; wanting = []; ending = Faulty number kind }
-noted number wanting (Ok turn) others = record { texts = line_text number turn ∷ (others turn).texts; wanting = wanting ∷ (others turn).wanting; ending = (others turn).ending }
+noted number wanting (Ok turn) others = record {
+  texts = line_text number turn ∷ (others turn).texts;
+  wanting = wanting ∷ (others turn).wanting;
+  ending = (others turn).ending;
+}
 
 -- the end of the input behind all lines: at fault where a region is open
 abbrev pub ended : ℕ → State → Bool → Ending
@@ -160,7 +200,9 @@ ended number s refused = if open_regions s.world.state == 0 then Ended refused e
 -- the lines from that of a number on; refused says whether one before was
 abbrev pub transcript_from : ℕ → State → Bool → List (List ℕ) → Transcript
 transcript_from number s refused [] = record { texts = []; wanting = []; ending = ended number s refused }
-transcript_from number s refused (line ∷ lines) = noted number (line_wants s line) (line_turned s line) (λ turn. transcript_from (number + 1) turn.state (refused || is_refused turn.effect) lines)
+transcript_from number s refused (line ∷ lines) =
+    noted number (line_wants s line) (line_turned s line)
+    (λ turn. transcript_from (number + 1) turn.state (refused || is_refused turn.effect) lines)
 
 -- an input as a script on a new table of these limits
 unfoldable pub transcript : Limits → List ℕ → Transcript

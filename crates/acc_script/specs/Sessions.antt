@@ -1,10 +1,9 @@
 -- What a session of the code is, and what it may be refused.
-use Rattle.std.specs.Prelude.{◌≡◌, Result, Ok, Err, IsOk}
+use Rattle.std.specs.Prelude.{◌≡◌, ◌⊎◌, true, Result, Ok, Err}
 use Rattle.acc_base.specs.declared.faults.Fault.{Fault}
 use Rattle.acc_base.specs.declared.faults.Fault.TheVariants.{Memory}
 use Rattle.acc_base.specs.Limits.{Limits}
 use Rattle.acc_base.specs.declared.calls.Call.{Call}
-use Rattle.acc_base.specs.declared.calls.Call.TheVariants.{Do, HostWrite, Lend}
 use Rattle.acc_base.specs.Loans.{Leased}
 use Rattle.acc_base.specs.Calls.{judge}
 use Rattle.acc_table.specs.declared.calls.Reply.{Reply}
@@ -12,8 +11,8 @@ use Rattle.acc_table.specs.declared.calls.Reply.TheVariants as replies
 use Rattle.acc_script.specs.declared.print.effects.Effect.{Effect}
 use Rattle.acc_script.specs.declared.print.effects.Effect.TheVariants.{Nothing, EmptyQueue, Refused}
 use Rattle.acc_script.specs.declared.sessions.Session.{Session}
-use Rattle.acc_read.specs.Statements.{Meaning, Declare, Direct, Kernel, Write}
-use Rattle.acc_script.specs.Scripts.{State, new_session, called, turned}
+use Rattle.acc_read.specs.Statements.{Meaning, Kernel}
+use Rattle.acc_script.specs.Scripts.{State, new_session, called, IsLentFrom, turned, makes_event, run_takes_memory}
 
 -- a session as its table's world and its arrays
 abbrev pub session_state : Session → State
@@ -24,14 +23,14 @@ abbrev pub Opens : Limits → Result Session Fault → Type 0
 Opens limits (Ok session) = session_state session ≡ new_session limits
 Opens limits (Err fault) = fault ≡ Memory
 
--- a statement that takes memory to run, and that the table accepts where it is one for the table; nothing changed, but
--- the block of a kernel may be lent
+-- nothing changed, but the block of a kernel may be lent
+abbrev pub IsLeft : State → Meaning → State → Type 0
+IsLeft old (Kernel region kernel over) new = (new ≡ old) ⊎ IsLentFrom old region over new
+IsLeft old _ new = new ≡ old
+
+-- a statement that takes memory to run, and the state that it leaves where memory is wanting
 abbrev pub MayWant : State → Meaning → State → Type 0
-MayWant old (Declare name array) new = new ≡ old
-MayWant old (Direct directive) new = IsOk (judge old.world (Do directive)) × (new ≡ old)
-MayWant old (Kernel region kernel over) new = IsOk (judge old.world (Lend region over))
-MayWant old (Write addr bytes) new = IsOk (judge old.world (HostWrite addr bytes)) × (new ≡ old)
-MayWant old _ new = ⊥
+MayWant old meaning new = (run_takes_memory old meaning ≡ true) × IsLeft old meaning new
 
 -- a statement was run; or it takes memory and is refused for nothing else
 abbrev pub Performs : State → Meaning → State → Result Effect Fault → Type 0
@@ -48,7 +47,7 @@ abbrev pub refusal_of : Fault → Result Effect Fault
 refusal_of Memory = Err Memory
 refusal_of fault = Ok (Refused fault)
 
--- a call was made; or it is one that is accepted, there was no memory for it, and nothing changed
+-- a call was made; or it is one that makes an event, there was no memory for it, and nothing changed
 abbrev pub CallsFor : State → Call Leased → State → Result Effect Fault → Type 0
 CallsFor old call new (Ok effect) = called old call (judge old.world call) ≡ record { state = new; effect = effect }
-CallsFor old call new (Err fault) = (fault ≡ Memory) × IsOk (judge old.world call) × (new ≡ old)
+CallsFor old call new (Err fault) = (fault ≡ Memory) × (makes_event (judge old.world call) ≡ true) × (new ≡ old)

@@ -11,7 +11,10 @@ pub record Offered : Type 0 where
 abbrev pub offered_of : Option (List ℕ) → Option (List ℕ) → Bool → ℕ → Option Offered
 offered_of None left ended failures = None
 offered_of (Some all) None ended failures = None
-offered_of (Some all) (Some left) ended failures = Some (record { given = record { bytes = take (length all - length left) all; ended = ended; failures = failures }; left = left })
+offered_of (Some all) (Some left) ended failures = Some (record {
+  given = record { bytes = take (length all - length left) all; ended = ended; failures = failures };
+  left = left;
+})
 
 -- what a reader gave and has left before its first read
 abbrev pub offered_at_first : Option (List ℕ) → Option Offered

@@ -27,7 +27,9 @@ field_text name value = name ++ decimal value
 
 -- the line of a refusal up to the fields of the fault
 abbrev pub refusal_start : ℕ → Fault → List ℕ
-refusal_start line fault = codes "line " ++ (decimal line ++ (codes ": refused " ++ (decimal (number_of fault) ++ (codes " " ++ name_of fault))))
+refusal_start line fault =
+    codes "line "
+    ++ (decimal line ++ (codes ": refused " ++ (decimal (number_of fault) ++ (codes " " ++ name_of fault))))
 
 -- a line that was refused
 unfoldable pub refusal_text : ℕ → Fault → List ℕ
@@ -37,11 +39,14 @@ refusal_text line fault = codes "line " ++ (decimal line ++ (codes ": refused " 
 
 -- the sizes of the two memories, and what blocks take of the device
 abbrev pub sizes_text : ℕ → ℕ → ℕ → List ℕ
-sizes_text host device used = codes "host " ++ (decimal host ++ (codes " device " ++ (decimal device ++ (codes " used " ++ (decimal used ++ codes "\n")))))
+sizes_text host device used =
+    codes "host "
+    ++ (decimal host ++ (codes " device " ++ (decimal device ++ (codes " used " ++ (decimal used ++ codes "\n")))))
 
 -- where a range is mapped to, and its counters
 abbrev pub mapping_text : ℕ → ℕ → ℕ → List ℕ
-mapping_text start len place = codes "map " ++ (address start ++ (codes " " ++ (decimal len ++ (codes " at " ++ address place))))
+mapping_text start len place =
+    codes "map " ++ (address start ++ (codes " " ++ (decimal len ++ (codes " at " ++ address place))))
 
 -- the end of the line of a mapped range, which says whether its block is lent
 abbrev pub lent_text : Bool → List ℕ
@@ -49,7 +54,8 @@ lent_text lent = if lent then codes " lent\n" else codes "\n"
 
 -- the two reference counters of a mapped range, and whether its block is lent, up to the end of its line
 abbrev pub counters_text : ℕ → ℕ → Bool → List ℕ
-counters_text structured dynamic lent = codes " structured " ++ (decimal structured ++ (codes " dynamic " ++ (decimal dynamic ++ lent_text lent)))
+counters_text structured dynamic lent =
+    codes " structured " ++ (decimal structured ++ (codes " dynamic " ++ (decimal dynamic ++ lent_text lent)))
 
 -- a mapped range
 unfoldable pub mapped_text : Mapped → List ℕ
@@ -57,7 +63,8 @@ mapped_text m = mapping_text m.start m.len m.place ++ counters_text m.structured
 
 -- how many regions are open, and how many events there were
 abbrev pub totals_text : ℕ → ℕ → List ℕ
-totals_text regions events = codes "regions " ++ (decimal regions ++ (codes " events " ++ (decimal events ++ codes "\n")))
+totals_text regions events =
+    codes "regions " ++ (decimal regions ++ (codes " events " ++ (decimal events ++ codes "\n")))
 
 -- a pointer and its attachment counter
 abbrev pub pointer_text : ℕ → ℕ → List ℕ
@@ -96,7 +103,9 @@ ranges_text w = flat_map (λ r. range_text w (mapped_as w.blocks w.loans r)) w.r
 
 -- where such a block lies, what it takes, and how many queued transfers name it
 abbrev pub ended_text : Ended → List ℕ
-ended_text e = codes "ended " ++ (address e.place ++ (codes " " ++ (decimal e.size ++ (codes " pins " ++ (decimal e.pins ++ codes "\n")))))
+ended_text e =
+    codes "ended "
+    ++ (address e.place ++ (codes " " ++ (decimal e.size ++ (codes " pins " ++ (decimal e.pins ++ codes "\n")))))
 
 -- a block among others that stand by rising place
 abbrev pub placed_among : Block → List Block → List Block

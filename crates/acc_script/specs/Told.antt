@@ -27,13 +27,20 @@ one_more failures = (failures + 1) % 2 ^ 64
 -- a source after a read into a piece, which then holds these bytes: a failure, or how many it gave
 abbrev pub after_read : Given → Option ℕ → List ℕ → Given
 after_read g None piece = record g { failures = one_more g.failures }
-after_read g (Some n) piece = record { bytes = g.bytes ++ take n piece; ended = (if length piece == 0 then g.ended else n == 0); failures = g.failures }
+after_read g (Some n) piece = record {
+  bytes = g.bytes ++ take n piece;
+  ended = (if length piece == 0 then g.ended else n == 0);
+  failures = g.failures;
+}
 
 -- a sink after a write of a piece: a failure, or how many bytes it took; none of a piece that is not empty is a
 -- failure too
 abbrev pub after_write : Taken → Option ℕ → List ℕ → Taken
 after_write t None piece = record t { failures = one_more t.failures }
-after_write t (Some n) piece = record { bytes = t.bytes ++ take n piece; failures = (if length piece == 0 then t.failures else if n == 0 then one_more t.failures else t.failures) }
+after_write t (Some n) piece = record {
+  bytes = t.bytes ++ take n piece;
+  failures = (if length piece == 0 then t.failures else if n == 0 then one_more t.failures else t.failures);
+}
 
 -- what is told changes so; where nothing is told, nothing is claimed
 abbrev pub Becomes : {A : Type 0} → Option A → Option A → (A → A) → Type 0
@@ -62,7 +69,8 @@ Failed (Some a) (Some b) = b.failures ≡ one_more a.failures
 abbrev pub FailedOrPassed : ℕ → Option Given → Option Given → Type 0
 FailedOrPassed limit None new = ⊤
 FailedOrPassed limit (Some a) None = ⊥
-FailedOrPassed limit (Some a) (Some b) = (b.failures ≡ one_more a.failures) ⊎ ((length b.bytes ≡ length a.bytes + limit + 1) × (b.failures ≡ a.failures))
+FailedOrPassed limit (Some a) (Some b) =
+    (b.failures ≡ one_more a.failures) ⊎ ((length b.bytes ≡ length a.bytes + limit + 1) × (b.failures ≡ a.failures))
 
 -- a sink took these bytes and did not fail, where it tells
 abbrev pub Took : Option Taken → Option Taken → List ℕ → Type 0
@@ -74,4 +82,6 @@ Took (Some a) (Some b) bytes = (b.bytes ≡ a.bytes ++ bytes) × (b.failures ≡
 abbrev pub TookFront : Option Taken → Option Taken → List ℕ → Type 0
 TookFront None new bytes = ⊤
 TookFront (Some a) None bytes = ⊥
-TookFront (Some a) (Some b) bytes = (front : List ℕ) × (rest : List ℕ) × (bytes ≡ front ++ rest) × (b.bytes ≡ a.bytes ++ front) × (b.failures ≡ one_more a.failures)
+TookFront (Some a) (Some b) bytes =
+    (front : List ℕ) × (rest : List ℕ) × (bytes ≡ front ++ rest) × (b.bytes ≡ a.bytes ++ front)
+    × (b.failures ≡ one_more a.failures)

@@ -26,8 +26,8 @@ pub enum Status {
 
 /// Reads a whole script, and then runs it line by line on a new table of these limits.
 ///
-/// `parts`, from 1 to 64, is how many parts the work of a kernel may be cut into. What is printed does not depend on it,
-/// and each kernel still runs as one part.
+/// `parts`, from 1 to 64, is how many parts the work of a kernel may be cut into. What is printed does not depend on
+/// it, and each kernel still runs as one part.
 ///
 /// What is said here of bytes read and written is proved where the source and the sink tell theirs ([`Source`],
 /// [`Sink`]).
@@ -35,11 +35,12 @@ pub enum Status {
 /// # Errors
 ///
 /// - [`Fault::Read`] where the reader fails or gives more than 16,777,216 bytes. Nothing was written.
-/// - [`Fault::Script`] at the first line that is at fault, or behind the last line where a data region is then open. What
-///   the lines before print was written.
+/// - [`Fault::Script`] at the first line that is at fault, or behind the last line where a data region is then open.
+///   What the lines before print was written.
 /// - [`Fault::Write`] where the writer fails. It has then taken a front of what the script prints.
-/// - [`Fault::Memory`]. What some first lines print was written; the line after them is not at fault, and declares,
-///   directs, runs a kernel or writes. Nothing was written where memory was wanting for the input or for the table.
+/// - [`Fault::Memory`]. What some first lines print was written; the line after them is not at fault, and lists items
+///   or bytes, declares, or makes a call that makes an event. Nothing was written where memory was wanting for the
+///   input or for the table.
 pub fn run<R: Threads + Wait + Sync + AllocGlobal, S: Source, W: Sink>(
     rt: &R,
     reader: &mut S,

@@ -44,8 +44,8 @@ impl Session {
     ///
     /// # Errors
     ///
-    /// [`Fault::Memory`] alone, for a statement that declares, directs, runs a kernel or writes, and is refused for
-    /// nothing else. Nothing changed, but a kernel's block is lent where memory is wanting to bring it back.
+    /// [`Fault::Memory`] alone, for a statement that declares, or makes a call that the table accepts and makes an
+    /// event of. Nothing changed, but a kernel's block is lent where memory is wanting to bring it back.
     pub fn perform(&mut self, alloc: Global, statement: Statement<'_>) -> Result<Effect, Fault>
         ensures { Performs (session_state self.old) (meaning_of statement.entry) (session_state self.new) result }
     {

@@ -74,9 +74,9 @@ pub fn tell_words<E: Sink>(err: &mut E, fault: WordsFault) -> u8 {
 ///
 /// `words` begins with the program's name. The script is read from `reader` and its output goes to `out`. A fault of
 /// the command line is told on `err` in the parser's words, and then nothing is read. Each other fault is told there in
-/// one line, after `out` was flushed: [`Fault::BadConfig`] before those of the run, and [`Fault::Write`] where the flush
-/// fails after a run without fault. Help that is asked for goes to `err` too, with status 0. A failure of `err` changes
-/// nothing.
+/// one line, after `out` was flushed: [`Fault::BadConfig`] before those of the run, and [`Fault::Write`] where the
+/// flush fails after a run without fault. Help that is asked for goes to `err` too, with status 0. A failure of `err`
+/// changes nothing.
 pub fn tool<R: Threads + Wait + Sync + AllocGlobal, S: Source, O: Output, E: Sink>(
     rt: &R,
     words: Vec<String>,

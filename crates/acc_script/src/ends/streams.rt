@@ -59,7 +59,7 @@ impl<R: Read + Drop> Source for FromRead<R> {
     ghost told = { λ s. given_by s };
 
     /// Gives what the reader gives; where that is known, the front of what it has left.
-    #[tactic(auto, using(crate::proofs::Rejoins::follows_read, crate::proofs::Rejoins::follows_kept, crate::proofs::Rejoins::gives_read, crate::proofs::Rejoins::gives_nothing, crate::proofs::Rejoins::hands_read, crate::proofs::Rejoins::hands_nothing, crate::proofs::Rejoins::ends_kept, crate::proofs::Rejoins::ends_read, crate::proofs::Rejoins::ends_without_room, crate::proofs::Rejoins::ends_empty))]
+    #[tactic(auto, using(crate::proofs::Rejoins::reading_laws))]
     fn read(&mut self, piece: &mut [u8]) -> Option<usize>
         ensures bound { IfSome result (λ n. n ≤ length piece.old) }
         ensures tells { Becomes (given_by self.old) (given_by self.new) (λ g. after_read g result piece.new) }

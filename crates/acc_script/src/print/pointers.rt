@@ -10,8 +10,8 @@ use crate::print::addresses::AddressBuffer;
 use acc_table::Table;
 use itoa::Buffer;
 
-/// A line for each attached pointer in a mapped range, by rising address; false where the sink failed. A pointer lies at
-/// a multiple of eight, so each of these is asked for.
+/// A line for each attached pointer in a mapped range, by rising address; false where the sink failed. A pointer lies
+/// at a multiple of eight, so each of these is asked for.
 pub fn write_pointers<W: Sink>(table: &Table, writer: &mut W, start: u64, len: u64) -> bool
     requires { start + len < 2 ^ 32 }
     ensures { Wrote (W.told writer.old) (W.told writer.new) (pointers_text start len table.now.state.records) result }

@@ -17,8 +17,8 @@ use itoa::Buffer;
 
 /// Writes the report of a table: the sizes of its memories, its mapped ranges by rising start with their counters,
 /// whether their blocks are lent and the attached pointers in them, the blocks whose mapping has ended by rising place,
-/// the queues that are not empty, and the numbers of open regions and of events. Takes no memory. What was written is proved where the sink tells its
-/// bytes.
+/// the queues that are not empty, and the numbers of open regions and of events. Takes no memory. What was written is
+/// proved where the sink tells its bytes.
 ///
 /// # Errors
 ///

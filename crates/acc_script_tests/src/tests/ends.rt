@@ -176,11 +176,13 @@ impl Sink for Narrow {
 
 /// A script that takes memory for its input, its names, its bytes, its items, its events, its region and its loan.
 const SCRIPT: &[u8; 123] =
-    b"array a 16\narray b 16\nwrite a[0] 0102\nshow a[0:2]\ndata copyin(b)\nreport\nkernel add 1 b\nenter data copyin(b[8:16])\nend data\n";
+    b"array a 16\narray b 16\nwrite a[0] 0102\nshow a[0:2]\ndata copyin(b)\nreport\nkernel add 1 b\n\
+        enter data copyin(b[8:16])\nend data\n";
 
 /// What it prints, and a zero: 5 bytes for those shown, 103 for the report, and 40 for the refusal.
 const PRINTED: &[u8; 149] =
-    b"0102\nhost 65536 device 65536 used 16\nmap 0x1010 16 at 0x100000000 structured 1 dynamic 0\nregions 1 events 2\nline 8: refused 10 PartlyPresent item 0\n\0";
+    b"0102\nhost 65536 device 65536 used 16\nmap 0x1010 16 at 0x100000000 structured 1 dynamic 0\nregions 1 events 2\n\
+        line 8: refused 10 PartlyPresent item 0\n\0";
 
 /// Runs the script from a source that gives its bytes one by one, and compares the answer and how much was printed.
 fn check_trickle<R: Abort + Threads + Wait + Sync + AllocGlobal>(

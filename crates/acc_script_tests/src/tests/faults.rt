@@ -237,7 +237,9 @@ pub const LONG: [(Parts<'static>, &str, End); 9] = [
             count: 257,
             last: "update self(a) async(1)\nreport\n",
         },
-        "line 259: refused 15 QueueFull q 0\nhost 65536 device 65536 used 16\nmap 0x1000 1 at 0x100000000 structured 0 dynamic 1\nqueue 0 length 256\nqueue 1 length 1\nregions 0 events 258\n",
+        "line 259: refused 15 QueueFull q 0\nhost 65536 device 65536 used 16\n\
+            map 0x1000 1 at 0x100000000 structured 0 dynamic 1\nqueue 0 length 256\nqueue 1 length 1\n\
+            regions 0 events 258\n",
         REFUSED,
     ),
     // A directive has 64 items at most.

@@ -23,18 +23,21 @@ pub const SCRIPTS: [(&str, &str, End); 27] = [
     ),
     // `update` copies its section alone, one way or the other.
     (
-        "array a 3\nenter data copyin(readonly: a)\nwrite a[0] 010203\nupdate device(a[1:1])\npeek a\nwrite a[0] ffffff\nupdate host(a[1:2])\nshow a\n",
+        "array a 3\nenter data copyin(readonly: a)\nwrite a[0] 010203\nupdate device(a[1:1])\npeek a\n\
+            write a[0] ffffff\nupdate host(a[1:2])\nshow a\n",
         "000200\nff0200\n",
         CLEAN,
     ),
     // `copyout` copies its section alone, and only where the mapping ends.
     (
-        "array a 4\nwrite a[0] 01020304\nenter data copyin(a)\nwrite a[0] ffffffff\nexit data copyout(a[1:2])\nshow a\npeek a\n",
+        "array a 4\nwrite a[0] 01020304\nenter data copyin(a)\nwrite a[0] ffffffff\nexit data copyout(a[1:2])\nshow a\n\
+            peek a\n",
         "ff0203ff\nnone\n",
         CLEAN,
     ),
     (
-        "array a 1\nenter data create(a)\nenter data create(zero: a)\nexit data copyout(a)\nshow a\nexit data copyout(a)\nshow a\n",
+        "array a 1\nenter data create(a)\nenter data create(zero: a)\nexit data copyout(a)\nshow a\n\
+            exit data copyout(a)\nshow a\n",
         "00\na5\n",
         CLEAN,
     ),
@@ -45,13 +48,19 @@ pub const SCRIPTS: [(&str, &str, End); 27] = [
     ),
     // A pointer holds the device address while it is attached, and the host's bytes again after.
     (
-        "array a 16\narray p 16\npoint p[0] to a[0]\nshow p[0:8]\nenter data copyin(a, p)\nenter data attach(p[0])\npeek p[0:8]\nreport\nexit data detach(p[0])\npeek p[0:8]\n",
-        "0010000000000000\n0000000001000000\nhost 65536 device 65536 used 32\nmap 0x1000 16 at 0x100000000 structured 0 dynamic 1\nmap 0x1010 16 at 0x100000010 structured 0 dynamic 1\npointer 0x1010 count 1\nregions 0 events 3\n0010000000000000\n",
+        "array a 16\narray p 16\npoint p[0] to a[0]\nshow p[0:8]\nenter data copyin(a, p)\nenter data attach(p[0])\n\
+            peek p[0:8]\nreport\nexit data detach(p[0])\npeek p[0:8]\n",
+        "0010000000000000\n0000000001000000\nhost 65536 device 65536 used 32\n\
+            map 0x1000 16 at 0x100000000 structured 0 dynamic 1\nmap 0x1010 16 at 0x100000010 structured 0 dynamic 1\n\
+            pointer 0x1010 count 1\nregions 0 events 3\n0010000000000000\n",
         CLEAN,
     ),
     (
-        "array a 16\narray p 8\npoint p[0] to a[4]\nenter data copyin(p)\nenter data copyin(a via p[0])\npeek p\nreport\nexit data delete(a via p[0])\npeek p\n",
-        "1400000001000000\nhost 65536 device 65536 used 32\nmap 0x1000 16 at 0x100000010 structured 0 dynamic 1\nmap 0x1010 8 at 0x100000000 structured 0 dynamic 1\npointer 0x1010 count 1\nregions 0 events 3\n0410000000000000\n",
+        "array a 16\narray p 8\npoint p[0] to a[4]\nenter data copyin(p)\nenter data copyin(a via p[0])\npeek p\n\
+            report\nexit data delete(a via p[0])\npeek p\n",
+        "1400000001000000\nhost 65536 device 65536 used 32\nmap 0x1000 16 at 0x100000010 structured 0 dynamic 1\n\
+            map 0x1010 8 at 0x100000000 structured 0 dynamic 1\npointer 0x1010 count 1\nregions 0 events 3\n\
+            0410000000000000\n",
         CLEAN,
     ),
     (
@@ -61,17 +70,20 @@ pub const SCRIPTS: [(&str, &str, End); 27] = [
     ),
     // Questions on the 16 bytes from the offset 8 on, which are mapped.
     (
-        "array a 32\nwrite a[22] 070809\nenter data copyin(a[8:16])\npresent a[8:16]\npresent a[9:1]\npresent a[8:17]\npresent a\npresent a[24:8]\npresent a[9:0]\n",
+        "array a 32\nwrite a[22] 070809\nenter data copyin(a[8:16])\npresent a[8:16]\npresent a[9:1]\npresent a[8:17]\n\
+            present a\npresent a[24:8]\npresent a[9:0]\n",
         "yes\nyes\nno\nno\nno\nno\n",
         CLEAN,
     ),
     (
-        "array a 32\nenter data copyin(a[8:16])\naddress a[8]\naddress a[23]\naddress a[24]\naddress a[7]\naddress a[4294967295]\n",
+        "array a 32\nenter data copyin(a[8:16])\naddress a[8]\naddress a[23]\naddress a[24]\naddress a[7]\n\
+            address a[4294967295]\n",
         "0x100000000\n0x10000000f\nnone\nnone\nnone\n",
         CLEAN,
     ),
     (
-        "array a 32\nwrite a[22] 070809\nenter data copyin(a[8:16])\npeek a[22:2]\npeek a[22:3]\npeek a[0:1]\npeek a[9:0]\n",
+        "array a 32\nwrite a[22] 070809\nenter data copyin(a[8:16])\npeek a[22:2]\npeek a[22:3]\npeek a[0:1]\n\
+            peek a[9:0]\n",
         "0708\nnone\nnone\nnone\n",
         CLEAN,
     ),
@@ -82,37 +94,54 @@ pub const SCRIPTS: [(&str, &str, End); 27] = [
     ),
     // Refusals of writes, shows and updates; of two items the second one.
     (
-        "array s 16\nupdate self(s)\nupdate self(s) if_present\nwrite s[65536] 01\nshow s[65535:2]\nshow s[65536:1]\nenter data create(s[0:8])\nupdate if_present device(s)\nupdate self(s[0:1]) device(s[8:1])\nexit data copyout(s)\nenter data create(zero: s)\nreport\n",
-        "line 2: refused 11 NotPresent item 0\nline 4: refused 7 OutOfHost item 0\nline 5: refused 7 OutOfHost item 0\nline 6: refused 7 OutOfHost item 0\nline 8: refused 10 PartlyPresent item 0\nline 9: refused 11 NotPresent item 1\nline 10: refused 10 PartlyPresent item 0\nline 11: refused 10 PartlyPresent item 0\nhost 65536 device 65536 used 16\nmap 0x1000 8 at 0x100000000 structured 0 dynamic 1\nregions 0 events 2\n",
+        "array s 16\nupdate self(s)\nupdate self(s) if_present\nwrite s[65536] 01\nshow s[65535:2]\nshow s[65536:1]\n\
+            enter data create(s[0:8])\nupdate if_present device(s)\nupdate self(s[0:1]) device(s[8:1])\n\
+            exit data copyout(s)\nenter data create(zero: s)\nreport\n",
+        "line 2: refused 11 NotPresent item 0\nline 4: refused 7 OutOfHost item 0\nline 5: refused 7 OutOfHost item 0\n\
+            line 6: refused 7 OutOfHost item 0\nline 8: refused 10 PartlyPresent item 0\n\
+            line 9: refused 11 NotPresent item 1\nline 10: refused 10 PartlyPresent item 0\n\
+            line 11: refused 10 PartlyPresent item 0\nhost 65536 device 65536 used 16\n\
+            map 0x1000 8 at 0x100000000 structured 0 dynamic 1\nregions 0 events 2\n",
         REFUSED,
     ),
     // The digits of 130 bytes are written in three pieces; the bytes 63 and 64 are at the end of one.
     (
         "array a 130\nwrite a[63] 0aFf\nshow a\n",
-        "0000000000000000000000000000000000000000000000000000000000000000000000000000000000000000000000000000000000000000000000000000000aff0000000000000000000000000000000000000000000000000000000000000000000000000000000000000000000000000000000000000000000000000000000000\n",
+        "0000000000000000000000000000000000000000000000000000000000000000000000000000000000000000000000000000\
+            000000000000000000000000000aff0000000000000000000000000000000000000000000000000000000000000000000000\
+            000000000000000000000000000000000000000000000000000000000000\n",
         CLEAN,
     ),
     // Arrays may be named as keywords are, and lie at multiples of 16.
     (
-        "array copyin 1\narray b23456789012345678901234567890_2\t00000000000000000017\narray data 1#\nenter data copyin(copyin)\r\n\tenter\tdata copyin ( data [ 0 : 1 ] ) # data\nenter data copyin(b23456789012345678901234567890_2)\nreport",
-        "host 65536 device 65536 used 64\nmap 0x1000 1 at 0x100000000 structured 0 dynamic 1\nmap 0x1010 17 at 0x100000020 structured 0 dynamic 1\nmap 0x1030 1 at 0x100000010 structured 0 dynamic 1\nregions 0 events 3\n",
+        "array copyin 1\narray b23456789012345678901234567890_2\t00000000000000000017\narray data 1#\n\
+            enter data copyin(copyin)\r\n\tenter\tdata copyin ( data [ 0 : 1 ] ) # data\n\
+            enter data copyin(b23456789012345678901234567890_2)\nreport",
+        "host 65536 device 65536 used 64\nmap 0x1000 1 at 0x100000000 structured 0 dynamic 1\n\
+            map 0x1010 17 at 0x100000020 structured 0 dynamic 1\nmap 0x1030 1 at 0x100000010 structured 0 dynamic 1\n\
+            regions 0 events 3\n",
         CLEAN,
     ),
     // Each clause counts, also of one array; with `finalize` they all go.
     (
         "array a 16\nenter data copyin(a) copyin(a) copyin(a)\nreport\nexit data delete(a) finalize\nreport\n",
-        "host 65536 device 65536 used 16\nmap 0x1000 16 at 0x100000000 structured 0 dynamic 3\nregions 0 events 1\nhost 65536 device 65536 used 0\nregions 0 events 2\n",
+        "host 65536 device 65536 used 16\nmap 0x1000 16 at 0x100000000 structured 0 dynamic 3\nregions 0 events 1\n\
+            host 65536 device 65536 used 0\nregions 0 events 2\n",
         CLEAN,
     ),
     // Clauses and options stand with or without a comma between two of them.
     (
-        "array a 16\nenter data copyin(a)copyin(a)\nexit data delete(a) , delete(a)\nenter data create(a, a)\nexit data finalize,delete(a)\nreport\n",
+        "array a 16\nenter data copyin(a)copyin(a)\nexit data delete(a) , delete(a)\nenter data create(a, a)\n\
+            exit data finalize,delete(a)\nreport\n",
         "host 65536 device 65536 used 0\nregions 0 events 4\n",
         CLEAN,
     ),
     // A modifier is one where a colon follows it; options stand before and behind clauses; digits are of either case.
     (
-        "array zero 2\narray readonly 2\narray if_present 1\nenter data create ( zero : zero )\nenter data copyin(readonly:readonly)\nenter data create(if_present)\nwrite zero [ 0 ] aBCd\nupdate if_present,device(zero)\npeek zero\nupdate self(if_present) , if_present\nshow if_present\nwrite readonly[1]7F#f\nupdate device(readonly)if_present\npeek readonly\n",
+        "array zero 2\narray readonly 2\narray if_present 1\nenter data create ( zero : zero )\n\
+            enter data copyin(readonly:readonly)\nenter data create(if_present)\nwrite zero [ 0 ] aBCd\n\
+            update if_present,device(zero)\npeek zero\nupdate self(if_present) , if_present\nshow if_present\n\
+            write readonly[1]7F#f\nupdate device(readonly)if_present\npeek readonly\n",
         "abcd\na5\n007f\n",
         CLEAN,
     ),
@@ -130,31 +159,41 @@ pub const SCRIPTS: [(&str, &str, End); 27] = [
 pub const REGIONS: [(&str, &str, End); 12] = [
     // A region with `copy`: bytes go in at its start and out at its end.
     (
-        "array a 4\nwrite a[0] 01020304\ndata copy(a)\nreport\nwrite a[0] ffffffff\nupdate self(a[1:1])\nshow a\nend data\nshow a\nreport\n",
-        "host 65536 device 65536 used 16\nmap 0x1000 4 at 0x100000000 structured 1 dynamic 0\nregions 1 events 2\nff02ffff\n01020304\nhost 65536 device 65536 used 0\nregions 0 events 5\n",
+        "array a 4\nwrite a[0] 01020304\ndata copy(a)\nreport\nwrite a[0] ffffffff\nupdate self(a[1:1])\nshow a\n\
+            end data\nshow a\nreport\n",
+        "host 65536 device 65536 used 16\nmap 0x1000 4 at 0x100000000 structured 1 dynamic 0\nregions 1 events 2\n\
+            ff02ffff\n01020304\nhost 65536 device 65536 used 0\nregions 0 events 5\n",
         CLEAN,
     ),
     // `finalize` takes no structured count, and what it no longer holds goes at the end of the region.
     (
-        "array a 4\nwrite a[0] 0a0b0c0d\nenter data copyin(a)\ndata present(a)\nexit data copyout(a) finalize\nreport\nend data\nshow a\nreport\n",
-        "host 65536 device 65536 used 16\nmap 0x1000 4 at 0x100000000 structured 1 dynamic 0\nregions 1 events 4\n0a0b0c0d\nhost 65536 device 65536 used 0\nregions 0 events 5\n",
+        "array a 4\nwrite a[0] 0a0b0c0d\nenter data copyin(a)\ndata present(a)\nexit data copyout(a) finalize\nreport\n\
+            end data\nshow a\nreport\n",
+        "host 65536 device 65536 used 16\nmap 0x1000 4 at 0x100000000 structured 1 dynamic 0\nregions 1 events 4\n\
+            0a0b0c0d\nhost 65536 device 65536 used 0\nregions 0 events 5\n",
         CLEAN,
     ),
     // `end data` is of the innermost region.
     (
-        "array a 16\narray b 16\ndata create(a)\ndata copyin(readonly: b) present(a)\nreport\nend data\nreport\nend data\nreport\n",
-        "host 65536 device 65536 used 32\nmap 0x1000 16 at 0x100000000 structured 2 dynamic 0\nmap 0x1010 16 at 0x100000010 structured 1 dynamic 0\nregions 2 events 2\nhost 65536 device 65536 used 16\nmap 0x1000 16 at 0x100000000 structured 1 dynamic 0\nregions 1 events 3\nhost 65536 device 65536 used 0\nregions 0 events 4\n",
+        "array a 16\narray b 16\ndata create(a)\ndata copyin(readonly: b) present(a)\nreport\nend data\nreport\n\
+            end data\nreport\n",
+        "host 65536 device 65536 used 32\nmap 0x1000 16 at 0x100000000 structured 2 dynamic 0\n\
+            map 0x1010 16 at 0x100000010 structured 1 dynamic 0\nregions 2 events 2\nhost 65536 device 65536 used 16\n\
+            map 0x1000 16 at 0x100000000 structured 1 dynamic 0\nregions 1 events 3\nhost 65536 device 65536 used 0\n\
+            regions 0 events 4\n",
         CLEAN,
     ),
     // The items are in written order: the first one is not there when it is asked for.
     (
         "array a 16\ndata no_create(a) create(a)\nreport\nend data\nreport\n",
-        "host 65536 device 65536 used 16\nmap 0x1000 16 at 0x100000000 structured 1 dynamic 0\nregions 1 events 1\nhost 65536 device 65536 used 0\nregions 0 events 2\n",
+        "host 65536 device 65536 used 16\nmap 0x1000 16 at 0x100000000 structured 1 dynamic 0\nregions 1 events 1\n\
+            host 65536 device 65536 used 0\nregions 0 events 2\n",
         CLEAN,
     ),
     // What fills a new block, and which clauses copy out.
     (
-        "array a 2\nwrite a[0] 0102\ndata copyout(zero: a)\npeek a\nend data\nshow a\ndata copyout(a)\nend data\nshow a\ndata create(zero: a)\npeek a\nend data\nshow a\ndata create(a)\npeek a\nend data\nshow a\n",
+        "array a 2\nwrite a[0] 0102\ndata copyout(zero: a)\npeek a\nend data\nshow a\ndata copyout(a)\nend data\n\
+            show a\ndata create(zero: a)\npeek a\nend data\nshow a\ndata create(a)\npeek a\nend data\nshow a\n",
         "0000\n0000\na5a5\n0000\na5a5\na5a5\na5a5\n",
         CLEAN,
     ),
@@ -173,7 +212,8 @@ pub const REGIONS: [(&str, &str, End); 12] = [
     // A region that is refused is not open.
     (
         "array a 16\ndata copy(a[0:8]), present(a[0:4])\ndata present(a[0:8]) create(a)\nreport\nend data\nend data\n",
-        "line 3: refused 10 PartlyPresent item 1\nhost 65536 device 65536 used 16\nmap 0x1000 8 at 0x100000000 structured 2 dynamic 0\nregions 1 events 1\n",
+        "line 3: refused 10 PartlyPresent item 1\nhost 65536 device 65536 used 16\n\
+            map 0x1000 8 at 0x100000000 structured 2 dynamic 0\nregions 1 events 1\n",
         Err((6, ScriptFault::NoOpenRegion)),
     ),
     ("end data\n", "", Err((1, ScriptFault::NoOpenRegion))),
@@ -190,7 +230,8 @@ pub const REGIONS: [(&str, &str, End); 12] = [
     ),
     (
         "array a 16\ndata create(a)\nupdate self(a[99999:1])\nreport",
-        "line 3: refused 7 OutOfHost item 0\nhost 65536 device 65536 used 16\nmap 0x1000 16 at 0x100000000 structured 1 dynamic 0\nregions 1 events 1\n",
+        "line 3: refused 7 OutOfHost item 0\nhost 65536 device 65536 used 16\n\
+            map 0x1000 16 at 0x100000000 structured 1 dynamic 0\nregions 1 events 1\n",
         Err((5, ScriptFault::Unclosed)),
     ),
 ];
@@ -227,14 +268,18 @@ pub const SMALL: [(Limits, &str, &str, End); 8] = [
     // A queue is full for a transfer alone, and for that queue; a wait empties it.
     (
         [64, 64, 1, 8, 8, 1, 8],
-        "array a 20\nenter data copyin(a) async\nupdate self(a) async\nupdate if_present self(a[0:0]) async\nupdate self(a) async(1)\nwait\nupdate self(a) async\nreport\n",
-        "line 3: refused 15 QueueFull q 0\nhost 64 device 64 used 32\nmap 0x1000 20 at 0x100000000 structured 0 dynamic 1\nqueue 0 length 1\nregions 0 events 5\n",
+        "array a 20\nenter data copyin(a) async\nupdate self(a) async\nupdate if_present self(a[0:0]) async\n\
+            update self(a) async(1)\nwait\nupdate self(a) async\nreport\n",
+        "line 3: refused 15 QueueFull q 0\nhost 64 device 64 used 32\n\
+            map 0x1000 20 at 0x100000000 structured 0 dynamic 1\nqueue 0 length 1\nregions 0 events 5\n",
         REFUSED,
     ),
     // The first place at which a block fits exactly; a refused second item takes the first one back.
     (
         [65_536, 64, 1, 8, 8, 1, 8],
-        "array a 16\narray b 16\narray c 32\narray d 17\nenter data copyin(a, b, c)\nexit data delete(a)\nenter data create(d)\nenter data create(d[0:16], d[16:1])\npresent d[0:16]\nenter data create(d[0:16])\naddress d[0]\n",
+        "array a 16\narray b 16\narray c 32\narray d 17\nenter data copyin(a, b, c)\nexit data delete(a)\n\
+            enter data create(d)\nenter data create(d[0:16], d[16:1])\npresent d[0:16]\nenter data create(d[0:16])\n\
+            address d[0]\n",
         "line 7: refused 14 DeviceFull item 0 need 32\nline 8: refused 14 DeviceFull item 1 need 16\nno\n0x100000000\n",
         REFUSED,
     ),
@@ -242,7 +287,8 @@ pub const SMALL: [(Limits, &str, &str, End); 8] = [
     (
         [64, 64, 1, 1, 8, 1, 8],
         "array a 16\ndata create(a)\nend data\nreport\n",
-        "line 3: refused 3 NoTickets left 0\nhost 64 device 64 used 16\nmap 0x1000 16 at 0x100000000 structured 1 dynamic 0\nregions 1 events 1\n",
+        "line 3: refused 3 NoTickets left 0\nhost 64 device 64 used 16\n\
+            map 0x1000 16 at 0x100000000 structured 1 dynamic 0\nregions 1 events 1\n",
         Err((5, ScriptFault::Unclosed)),
     ),
     // A refused `data` opens none.

@@ -9,28 +9,33 @@ pub const LIVES: [Row; 10] = [
     (
         "",
         "array a 32\nenter data copyin(a)\nreport\nexit data delete(a)\nreport\n",
-        "host 65536 device 65536 used 32\nmap 0x1000 32 at 0x100000000 structured 0 dynamic 1\nregions 0 events 1\nhost 65536 device 65536 used 0\nregions 0 events 2\n",
+        "host 65536 device 65536 used 32\nmap 0x1000 32 at 0x100000000 structured 0 dynamic 1\nregions 0 events 1\n\
+            host 65536 device 65536 used 0\nregions 0 events 2\n",
         "",
         0,
     ),
     (
         "",
         "array a 32\nenter data copyin(a[0:16])\nenter data copyin(a[8:16])\nenter data copyin(a[4:4])\nreport\n",
-        "line 3: refused 10 PartlyPresent item 0\nhost 65536 device 65536 used 16\nmap 0x1000 16 at 0x100000000 structured 0 dynamic 2\nregions 0 events 2\n",
+        "line 3: refused 10 PartlyPresent item 0\nhost 65536 device 65536 used 16\n\
+            map 0x1000 16 at 0x100000000 structured 0 dynamic 2\nregions 0 events 2\n",
         "",
         1,
     ),
     (
         "",
         "array a 16\nenter data copyin(a) copyin(a) copyin(a)\nreport\nexit data delete(a) finalize\nreport\n",
-        "host 65536 device 65536 used 16\nmap 0x1000 16 at 0x100000000 structured 0 dynamic 3\nregions 0 events 1\nhost 65536 device 65536 used 0\nregions 0 events 2\n",
+        "host 65536 device 65536 used 16\nmap 0x1000 16 at 0x100000000 structured 0 dynamic 3\nregions 0 events 1\n\
+            host 65536 device 65536 used 0\nregions 0 events 2\n",
         "",
         0,
     ),
     (
         "",
-        "array a 4\nwrite a[0] 0a0b0c0d\nenter data copyin(a)\ndata present(a)\nexit data copyout(a) finalize\nreport\nend data\nshow a\nreport\n",
-        "host 65536 device 65536 used 16\nmap 0x1000 4 at 0x100000000 structured 1 dynamic 0\nregions 1 events 4\n0a0b0c0d\nhost 65536 device 65536 used 0\nregions 0 events 5\n",
+        "array a 4\nwrite a[0] 0a0b0c0d\nenter data copyin(a)\ndata present(a)\nexit data copyout(a) finalize\nreport\n\
+            end data\nshow a\nreport\n",
+        "host 65536 device 65536 used 16\nmap 0x1000 4 at 0x100000000 structured 1 dynamic 0\nregions 1 events 4\n\
+            0a0b0c0d\nhost 65536 device 65536 used 0\nregions 0 events 5\n",
         "",
         0,
     ),
@@ -43,15 +48,18 @@ pub const LIVES: [Row; 10] = [
     ),
     (
         "",
-        "array a 16\nexit data delete(a)\nenter data create(zero: a)\npeek a[14:2]\nexit data delete(a)\nexit data delete(a)\nreport\n",
+        "array a 16\nexit data delete(a)\nenter data create(zero: a)\npeek a[14:2]\nexit data delete(a)\n\
+            exit data delete(a)\nreport\n",
         "0000\nhost 65536 device 65536 used 0\nregions 0 events 4\n",
         "",
         0,
     ),
     (
         "",
-        "array a 32\nwrite a[0] 0102\nenter data copyin(a[0:16])\nreport\nenter data copyin(a[8:16])\nexit data delete(a[0:16])\nreport\n",
-        "host 65536 device 65536 used 16\nmap 0x1000 16 at 0x100000000 structured 0 dynamic 1\nregions 0 events 2\nline 5: refused 10 PartlyPresent item 0\nhost 65536 device 65536 used 0\nregions 0 events 3\n",
+        "array a 32\nwrite a[0] 0102\nenter data copyin(a[0:16])\nreport\nenter data copyin(a[8:16])\n\
+            exit data delete(a[0:16])\nreport\n",
+        "host 65536 device 65536 used 16\nmap 0x1000 16 at 0x100000000 structured 0 dynamic 1\nregions 0 events 2\n\
+            line 5: refused 10 PartlyPresent item 0\nhost 65536 device 65536 used 0\nregions 0 events 3\n",
         "",
         1,
     ),
@@ -65,7 +73,9 @@ pub const LIVES: [Row; 10] = [
     (
         "",
         "array a 32\nenter data copyin(a[0:16])\nenter data copyin(a[16:16])\nupdate device(a)\npresent a\nreport",
-        "line 4: refused 10 PartlyPresent item 0\nno\nhost 65536 device 65536 used 32\nmap 0x1000 16 at 0x100000000 structured 0 dynamic 1\nmap 0x1010 16 at 0x100000010 structured 0 dynamic 1\nregions 0 events 2\n",
+        "line 4: refused 10 PartlyPresent item 0\nno\nhost 65536 device 65536 used 32\n\
+            map 0x1000 16 at 0x100000000 structured 0 dynamic 1\nmap 0x1010 16 at 0x100000010 structured 0 dynamic 1\n\
+            regions 0 events 2\n",
         "",
         1,
     ),
@@ -89,35 +99,40 @@ pub const COPIES: [Row; 7] = [
     ),
     (
         "",
-        "array a 3\nenter data copyin(readonly: a)\nwrite a[0] 010203\nupdate device(a[1:1])\npeek a\nwrite a[0] ffffff\nupdate host(a[1:2])\nshow a\n",
+        "array a 3\nenter data copyin(readonly: a)\nwrite a[0] 010203\nupdate device(a[1:1])\npeek a\n\
+            write a[0] ffffff\nupdate host(a[1:2])\nshow a\n",
         "000200\nff0200\n",
         "",
         0,
     ),
     (
         "",
-        "array a 4\nwrite a[0] 01020304\nenter data copyin(a)\nwrite a[0] ffffffff\nexit data copyout(a[1:2])\nshow a\npeek a\n",
+        "array a 4\nwrite a[0] 01020304\nenter data copyin(a)\nwrite a[0] ffffffff\nexit data copyout(a[1:2])\nshow a\n\
+            peek a\n",
         "ff0203ff\nnone\n",
         "",
         0,
     ),
     (
         "",
-        "array a 1\nenter data create(a)\nenter data create(zero: a)\nexit data copyout(a)\nshow a\nexit data copyout(a)\nshow a\n",
+        "array a 1\nenter data create(a)\nenter data create(zero: a)\nexit data copyout(a)\nshow a\n\
+            exit data copyout(a)\nshow a\n",
         "00\na5\n",
         "",
         0,
     ),
     (
         "",
-        "array a 32\nwrite a[22] 070809\nenter data copyin(a[8:16])\npeek a[22:2]\npeek a[22:3]\npeek a[9:0]\nshow a[21:4]\nshow a[9:0]\nshow a[4294967295:0]\n",
+        "array a 32\nwrite a[22] 070809\nenter data copyin(a[8:16])\npeek a[22:2]\npeek a[22:3]\npeek a[9:0]\n\
+            show a[21:4]\nshow a[9:0]\nshow a[4294967295:0]\n",
         "0708\nnone\nnone\n00070809\n-\n-\n",
         "",
         0,
     ),
     (
         "",
-        "array a 32\nenter data copyin(a[8:16])\npresent a[8:16]\npresent a[8:17]\npresent a[24:8]\npresent a[9:0]\naddress a[23]\naddress a[24]\naddress a[4294967295]\n",
+        "array a 32\nenter data copyin(a[8:16])\npresent a[8:16]\npresent a[8:17]\npresent a[24:8]\npresent a[9:0]\n\
+            address a[23]\naddress a[24]\naddress a[4294967295]\n",
         "yes\nno\nno\nno\n0x10000000f\nnone\nnone\n",
         "",
         0,
@@ -128,14 +143,18 @@ pub const COPIES: [Row; 7] = [
 pub const QUEUES: [Row; 2] = [
     (
         "",
-        "array a 16\nwrite a[0] 07\nenter data copyin(a)\nwrite a[0] 09\nexit data copyout(a) async(1)\nenter data create(a)\nreport\nshow a[0:1]\nwait(1)\nshow a[0:1]\nreport\n",
-        "host 65536 device 65536 used 32\nmap 0x1000 16 at 0x100000010 structured 0 dynamic 1\nended 0x100000000 16 pins 1\nqueue 1 length 1\nregions 0 events 5\n09\n07\nhost 65536 device 65536 used 16\nmap 0x1000 16 at 0x100000010 structured 0 dynamic 1\nregions 0 events 6\n",
+        "array a 16\nwrite a[0] 07\nenter data copyin(a)\nwrite a[0] 09\nexit data copyout(a) async(1)\n\
+            enter data create(a)\nreport\nshow a[0:1]\nwait(1)\nshow a[0:1]\nreport\n",
+        "host 65536 device 65536 used 32\nmap 0x1000 16 at 0x100000010 structured 0 dynamic 1\n\
+            ended 0x100000000 16 pins 1\nqueue 1 length 1\nregions 0 events 5\n09\n07\n\
+            host 65536 device 65536 used 16\nmap 0x1000 16 at 0x100000010 structured 0 dynamic 1\nregions 0 events 6\n",
         "",
         0,
     ),
     (
         "",
-        "array a 1\nwrite a[0] 01\nenter data copyin(a)\nupdate self(a) device(a) async\nwrite a[0] 02\nupdate device(a)\nwrite a[0] 03\nstep(0)\nshow a\nstep(0)\npeek a\nstep(0)\n",
+        "array a 1\nwrite a[0] 01\nenter data copyin(a)\nupdate self(a) device(a) async\nwrite a[0] 02\n\
+            update device(a)\nwrite a[0] 03\nstep(0)\nshow a\nstep(0)\npeek a\nstep(0)\n",
         "02\n02\nidle\n",
         "",
         0,
@@ -146,7 +165,8 @@ pub const QUEUES: [Row; 2] = [
 pub const KERNELS: [Row; 3] = [
     (
         "",
-        "array a 4\nwrite a[0] 01020304\nenter data copyin(a)\ndata copy(a)\nkernel add 1 a\nend data\nshow a\nexit data copyout(a)\nshow a\n",
+        "array a 4\nwrite a[0] 01020304\nenter data copyin(a)\ndata copy(a)\nkernel add 1 a\nend data\nshow a\n\
+            exit data copyout(a)\nshow a\n",
         "01020304\n02030405\n",
         "",
         0,
@@ -178,29 +198,39 @@ pub const REFUSALS: [Row; 5] = [
     ),
     (
         "",
-        "array s 16\nenter data attach(s[4])\nupdate self(s)\nupdate self(s) if_present\nwait(16)\nwrite s[65536] 01\npresent s\naddress s[0]\n",
-        "line 2: refused 8 Misaligned item 0\nline 3: refused 11 NotPresent item 0\nline 5: refused 9 NoQueue q 16\nline 6: refused 7 OutOfHost item 0\nno\nnone\n",
+        "array s 16\nenter data attach(s[4])\nupdate self(s)\nupdate self(s) if_present\nwait(16)\nwrite s[65536] 01\n\
+            present s\naddress s[0]\n",
+        "line 2: refused 8 Misaligned item 0\nline 3: refused 11 NotPresent item 0\nline 5: refused 9 NoQueue q 16\n\
+            line 6: refused 7 OutOfHost item 0\nno\nnone\n",
         "",
         1,
     ),
     (
         "--device 64",
-        "array a 16\narray b 16\narray c 32\narray d 17\nenter data copyin(a)\nenter data copyin(b)\nenter data copyin(c)\nexit data delete(a)\nenter data create(d)\nenter data create(d[0:16])\nenter data create(d[16:1])\npresent d[0:16]\naddress d[0]\nreport\n",
-        "line 9: refused 14 DeviceFull item 0 need 32\nline 11: refused 14 DeviceFull item 0 need 16\nyes\n0x100000000\nhost 65536 device 64 used 64\nmap 0x1010 16 at 0x100000010 structured 0 dynamic 1\nmap 0x1020 32 at 0x100000020 structured 0 dynamic 1\nmap 0x1040 16 at 0x100000000 structured 0 dynamic 1\nregions 0 events 5\n",
+        "array a 16\narray b 16\narray c 32\narray d 17\nenter data copyin(a)\nenter data copyin(b)\n\
+            enter data copyin(c)\nexit data delete(a)\nenter data create(d)\nenter data create(d[0:16])\n\
+            enter data create(d[16:1])\npresent d[0:16]\naddress d[0]\nreport\n",
+        "line 9: refused 14 DeviceFull item 0 need 32\nline 11: refused 14 DeviceFull item 0 need 16\nyes\n\
+            0x100000000\nhost 65536 device 64 used 64\nmap 0x1010 16 at 0x100000010 structured 0 dynamic 1\n\
+            map 0x1020 32 at 0x100000020 structured 0 dynamic 1\nmap 0x1040 16 at 0x100000000 structured 0 dynamic 1\n\
+            regions 0 events 5\n",
         "",
         1,
     ),
     (
         "--host 64",
-        "array a 64\nenter data copyin(a[60:5])\nexit data delete(a[64:1])\nenter data copyin(a[64:0])\nshow a[63:2]\nreport",
-        "line 2: refused 7 OutOfHost item 0\nline 3: refused 7 OutOfHost item 0\nline 5: refused 7 OutOfHost item 0\nhost 64 device 65536 used 0\nregions 0 events 1\n",
+        "array a 64\nenter data copyin(a[60:5])\nexit data delete(a[64:1])\nenter data copyin(a[64:0])\nshow a[63:2]\n\
+            report",
+        "line 2: refused 7 OutOfHost item 0\nline 3: refused 7 OutOfHost item 0\nline 5: refused 7 OutOfHost item 0\n\
+            host 64 device 65536 used 0\nregions 0 events 1\n",
         "",
         1,
     ),
     (
         "--host 16 --device 16",
         "array a 1\nenter data copyin(a)\nenter data copyin(a[1:1])\nenter data copyin(a[0:2])\nreport\n",
-        "line 3: refused 14 DeviceFull item 0 need 16\nline 4: refused 10 PartlyPresent item 0\nhost 16 device 16 used 16\nmap 0x1000 1 at 0x100000000 structured 0 dynamic 1\nregions 0 events 1\n",
+        "line 3: refused 14 DeviceFull item 0 need 16\nline 4: refused 10 PartlyPresent item 0\n\
+            host 16 device 16 used 16\nmap 0x1000 1 at 0x100000000 structured 0 dynamic 1\nregions 0 events 1\n",
         "",
         1,
     ),

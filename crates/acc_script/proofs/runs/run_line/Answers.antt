@@ -1,8 +1,10 @@
-use Rattle.std.proofs.Common.{rules, ◌≡◌, Ok}
+use Rattle.std.proofs.Common.{rules, ◌≡◌, true, Ok}
 use Rattle.acc_read.specs.Meanings.{meaning_of}
+use Rattle.acc_read.specs.Reading.{wants}
+use Rattle.acc_read.specs.Statements.{takes_memory}
 use Rattle.acc_script.specs.Sessions.{session_state}
 use Rattle.acc_script.specs.Scripts.{meaning_in}
-use Rattle.acc_script.proofs.LineByLine.{line_ran, line_lost, line_wanted}
+use Rattle.acc_script.proofs.LineByLine.{line_ran, line_lost, line_wanted, line_unread}
 use Rattle.std.proofs.lemmas.Result.{err_from_is_err_and}
 use Rattle.acc_script.proofs.runs.run_line.Goals as goal
 
@@ -27,3 +29,10 @@ returns-in_err-effect g c =
     let said : meaning_in s c.args.line.now ≡ Ok (meaning_of c.in-Ok.statement) = search rules in
     let p = err_from_is_err_and c.from_residual.result c.from_residual.ensures.1 in
     rw (p.1, p.2) (line_wanted c.args.number s (session_state c.perform.new.self) (session_state c.perform.new.self) c.args.line.now (told c.args.writer.now) (meaning_of c.in-Ok.statement) c.in_err-effect.field-0.0 said c.in_err-effect.ensures)
+
+pub returns-in-Err-Memory : goal.returns-in-Err-Memory
+returns-in-Err-Memory g c =
+    let told = g.W.Sink.told in
+    let s = session_state c.args.session.now in
+    let wanted : wants takes_memory (meaning_in s c.args.line.now) ≡ true = search rules in
+    line_unread c.args.number s s c.args.line.now (told c.args.writer.now) wanted

@@ -6,7 +6,11 @@ use Rattle.acc_script.proofs.LeftToWrite.{leaves_less, leaves_lost, leaves_none}
 use Rattle.acc_script.proofs.print.pointers.write_pointers.Goals as goal
 
 pub loop-init : goal.loop-init
-loop-init g c = record { place = omega arith; left = all_words_left (g.W.Sink.told c.args.writer.now) (word_count c.args.start c.args.len) (first_word c.args.start) c.args.table.now.state.records }
+loop-init g c = record {
+  place = omega arith;
+  left = all_words_left (g.W.Sink.told c.args.writer.now) (word_count c.args.start c.args.len)
+      (first_word c.args.start) c.args.table.now.state.records;
+}
 
 pub returns-then-not-write_attached : goal.returns-then-not-write_attached
 returns-then-not-write_attached g c =

@@ -7,5 +7,6 @@ use Rattle.acc_script.proofs.print.pointers.write_pointers.Given as goal
 abbrev pub invariant-loop : goal.invariant-loop
 invariant-loop g l = let w = l.table.state.records in record {
   place : l.at ≡ first_word l.start + 8 * l.counter;
-  left : Leaves (g.W.Sink.told l.fn.writer) (g.W.Sink.told l.writer) (pointers_text l.start l.len w) (words_text (word_count l.start l.len - l.counter) l.at w);
+  left : Leaves (g.W.Sink.told l.fn.writer) (g.W.Sink.told l.writer) (pointers_text l.start l.len w)
+      (words_text (word_count l.start l.len - l.counter) l.at w);
 }

@@ -11,7 +11,8 @@ use Rattle.acc_script.proofs.RisingRanges.{below, none_below_zero, all_below, fo
 use Rattle.acc_script.proofs.print.reports.write_ranges.Goals as goal
 
 pub each-init : goal.each-init
-each-init g c = rw (none_below_zero c.args.table.now.state.records.ranges) (took_nothing (g.W.Sink.told c.args.writer.now))
+each-init g c =
+    rw (none_below_zero c.args.table.now.state.records.ranges) (took_nothing (g.W.Sink.told c.args.writer.now))
 
 pub returns-then-not-write_range : goal.returns-then-not-write_range
 returns-then-not-write_range g c =

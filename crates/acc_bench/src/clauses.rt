@@ -4,6 +4,7 @@ ghost use Rattle.std.specs.Prelude.{◌<◌, ◌^◌};
 
 use crate::limits::largest;
 use crate::rows::tell;
+use crate::times::each_since;
 use acc_base::{Directive, EnterClause, ExitClause, Fault, HOST_BASE, Item, List, Section};
 use acc_clauses::{Plan, Store};
 use anyhow::Result;
@@ -19,13 +20,6 @@ const ROUNDS: u32 = 1_000;
 struct Worker {
     store: Store,
     plan: Plan,
-}
-
-/// A directive that maps sections, and the one that unmaps them.
-#[derive(Drop)]
-struct Pair {
-    enter: Directive,
-    exit: Directive,
 }
 
 /// Prints, for growing numbers of other ranges, how long it takes to map and unmap 16 bytes, where a directive has one
@@ -72,21 +66,21 @@ fn measure_items<R: Clock + AllocGlobal>(
     worker: &mut Worker,
     count: u32,
     items: u32,
-) -> Result<Duration>
-    requires { 0 < items }
-{
+) -> Result<Duration> {
     let pair = make_pair(rt.alloc(), count, items)?;
     time_pairs(rt, worker, &pair, items)
 }
 
 /// How long each of so many items of a pair takes, where the pair is carried out again and again.
-fn time_pairs<R: Clock>(rt: &R, worker: &mut Worker, pair: &Pair, items: u32) -> Result<Duration>
-    requires { 0 < items }
-{
+fn time_pairs<R: Clock>(
+    rt: &R,
+    worker: &mut Worker,
+    pair: &[Directive; 2],
+    items: u32,
+) -> Result<Duration> {
     let start = Instant::now(rt)?;
     carry_out_pairs(worker, pair)?;
-    let taken = start.elapsed(rt)?;
-    Ok(taken / ROUNDS / items)
+    each_since(rt, start, ROUNDS.saturating_mul(items), 0)
 }
 
 /// A store on which nothing is mapped.
@@ -106,7 +100,7 @@ fn map_others(worker: &mut Worker, alloc: Global, count: u32) -> Result<(), Faul
 }
 
 /// Maps and unmaps the sections of a pair, again and again.
-fn carry_out_pairs(worker: &mut Worker, pair: &Pair) -> Result<(), Fault> {
+fn carry_out_pairs(worker: &mut Worker, pair: &[Directive; 2]) -> Result<(), Fault> {
     for _ in 0..ROUNDS {
         carry_out_pair(worker, pair)?;
     }
@@ -114,9 +108,9 @@ fn carry_out_pairs(worker: &mut Worker, pair: &Pair) -> Result<(), Fault> {
 }
 
 /// Maps the sections of a pair and unmaps them.
-fn carry_out_pair(worker: &mut Worker, pair: &Pair) -> Result<(), Fault> {
-    carry_out(worker, &pair.enter)?;
-    carry_out(worker, &pair.exit)
+fn carry_out_pair(worker: &mut Worker, pair: &[Directive; 2]) -> Result<(), Fault> {
+    carry_out(worker, &pair[0])?;
+    carry_out(worker, &pair[1])
 }
 
 /// Carries out a directive where the store has had few enough blocks and regions, as each store here has.
@@ -149,11 +143,10 @@ fn sixteen_bytes_at(number: u32) -> Section {
 }
 
 /// The directives that map and unmap so many sections from a number on.
-fn make_pair(alloc: Global, first: u32, items: u32) -> Result<Pair, AllocError> {
-    Ok(Pair {
-        enter: enter_data(alloc, first, items)?,
-        exit: exit_data(alloc, first, items)?,
-    })
+fn make_pair(alloc: Global, first: u32, items: u32) -> Result<[Directive; 2], AllocError> {
+    let enter = enter_data(alloc, first, items)?;
+    let exit = exit_data(alloc, first, items)?;
+    Ok([enter, exit])
 }
 
 /// An `enter data copyin` of so many sections from a number on.

@@ -3,6 +3,7 @@
 ghost use Rattle.std.specs.Prelude.{◌≡◌, ◌+◌, ◌^◌, ◌≤◌, IfOk, OnOk};
 
 use crate::rows::tell;
+use crate::times::each_since;
 use acc_base::Fault;
 use acc_dev::Device;
 use anyhow::Result;
@@ -52,8 +53,7 @@ fn time_newest<R: Clock>(rt: &R, device: &mut Device) -> Result<Duration>
 {
     let start = Instant::now(rt)?;
     retire_newest(device)?;
-    let taken = start.elapsed(rt)?;
-    Ok(taken / ROUNDS as u32)
+    each_since(rt, start, ROUNDS as u32, 0)
 }
 
 /// How long a birth and the end of the oldest block last.
@@ -62,17 +62,14 @@ fn time_oldest<R: Clock>(rt: &R, device: &mut Device, count: u64) -> Result<Dura
 {
     let start = Instant::now(rt)?;
     retire_oldest(device, count)?;
-    let taken = start.elapsed(rt)?;
-    Ok(taken / ROUNDS as u32)
+    each_since(rt, start, ROUNDS as u32, 0)
 }
 
-/// How long a look-up lasts. It is a nanosecond at least where the number of bytes found is odd, so that no look-up can be
-/// left out.
+/// How long a look-up lasts.
 fn time_look_ups<R: Clock>(rt: &R, device: &Device, count: u64) -> Result<Duration> {
     let start = Instant::now(rt)?;
     let found = look_up(device, count);
-    let taken = start.elapsed(rt)?;
-    Ok(taken.max(Duration::from_nanos(found & 1)) / ROUNDS as u32)
+    each_since(rt, start, ROUNDS as u32, found)
 }
 
 /// A device with so many blocks of 16 bytes, and room for one more.

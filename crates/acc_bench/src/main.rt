@@ -5,14 +5,16 @@
 #![tactic(auto)]
 
 mod clauses;
+mod copies;
 mod device;
 mod limits;
 mod placement;
 mod present;
-mod queues;
 mod rows;
 mod script;
 mod table;
+mod times;
+mod work;
 
 use anyhow::Result;
 use std::env;

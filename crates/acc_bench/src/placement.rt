@@ -4,6 +4,7 @@ ghost use Rattle.std.specs.Prelude.{◌≡◌, ◌+◌, ◌^◌, ◌<◌, ◌≤
 ghost use Rattle.acc_bench.specs.Held.{IsHeld};
 
 use crate::rows::tell;
+use crate::times::each_since;
 use acc_base::{DEVICE_BASE, Fault};
 use acc_placement::Holes;
 use anyhow::Result;
@@ -36,8 +37,15 @@ fn measure<R: Print + Clock + AllocGlobal>(rt: &R, count: u64) -> Result<()>
     requires { count ≤ 2 ^ 20 }
 {
     let mut sieve = make_sieve(rt.alloc(), count)?;
-    let taken = time_takes(rt, &mut sieve)?;
-    let looked = time_looks(rt, &sieve)?;
+    measure_on(rt, &mut sieve, count)
+}
+
+/// Measures the calls on a sieve with so many small holes.
+fn measure_on<R: Print + Clock>(rt: &R, sieve: &mut Sieve, count: u64) -> Result<()>
+    requires { IsHeld sieve.old }
+{
+    let taken = time_takes(rt, sieve)?;
+    let looked = time_looks(rt, sieve)?;
     let rows = [("take and give back", taken), ("would_take", looked)];
     tell(rt, "placement: small holes", count, &rows)
 }
@@ -48,17 +56,14 @@ fn time_takes<R: Clock>(rt: &R, sieve: &mut Sieve) -> Result<Duration>
 {
     let start = Instant::now(rt)?;
     take_and_give_back(sieve)?;
-    let taken = start.elapsed(rt)?;
-    Ok(taken / ROUNDS)
+    each_since(rt, start, ROUNDS, 0)
 }
 
-/// How long a look lasts. It is a nanosecond at least where the number of places found is odd, so that no look can be left
-/// out.
+/// How long a look lasts.
 fn time_looks<R: Clock>(rt: &R, sieve: &Sieve) -> Result<Duration> {
     let start = Instant::now(rt)?;
     let found = would_take(sieve);
-    let looked = start.elapsed(rt)?;
-    Ok(looked.max(Duration::from_nanos(u64::from(found & 1))) / ROUNDS)
+    each_since(rt, start, ROUNDS, u64::from(found))
 }
 
 /// Takes 32 bytes, which only the last hole has, and gives them back.

@@ -5,6 +5,7 @@ ghost use Rattle.std.specs.List.{AllByRecursion};
 ghost use Rattle.acc_present.specs.Present.{HasRange};
 
 use crate::rows::tell;
+use crate::times::each_since;
 use acc_base::{Counters, Fault, Found, HOST_BASE, Section};
 use acc_present::Present;
 use anyhow::Result;
@@ -43,21 +44,31 @@ fn measure<R: Print + Clock + AllocGlobal>(rt: &R, count: u64) -> Result<()>
     requires { count ≤ 2 ^ 20 }
 {
     let mut present = make_table(rt.alloc(), count)?;
-    let starts = make_starts(rt.alloc(), count)?;
-    measure_look_ups(rt, &present, &starts, count)?;
-    measure_changes(rt, &mut present, count)
+    measure_on(rt, &mut present, count)
+}
+
+/// Measures the calls on a table of so many ranges.
+fn measure_on<R: Print + Clock + AllocGlobal>(
+    rt: &R,
+    present: &mut Present,
+    count: u64,
+) -> Result<()>
+    requires few { count ≤ 2 ^ 20 }
+    requires blocks { AllByRecursion (λ r. r.block < count) present.old.table.ranges }
+{
+    measure_look_ups(rt, present, count)?;
+    measure_changes(rt, present, count)
 }
 
 /// Measures the look-ups among so many ranges.
-fn measure_look_ups<R: Print + Clock>(
+fn measure_look_ups<R: Print + Clock + AllocGlobal>(
     rt: &R,
     present: &Present,
-    starts: &[u64],
     count: u64,
 ) -> Result<()> {
     let inside = time_look_ups(rt, present, count, 0)?;
     let absent = time_look_ups(rt, present, count, STRIDE / 2)?;
-    let plain = time_searches(rt, starts, count)?;
+    let plain = time_plain(rt, count)?;
     let rows = [
         ("find inside", inside),
         ("find absent", absent),
@@ -183,18 +194,16 @@ fn time_adds<R: Clock>(rt: &R, present: &mut Present, from: u64, first: u64) -> 
 {
     let start = Instant::now(rt)?;
     add_all(present, from, first)?;
-    let taken = start.elapsed(rt)?;
-    Ok(taken / CHANGES as u32)
+    each_since(rt, start, CHANGES as u32, 0)
 }
 
 /// How long a removal lasts, with the look-up before it.
 fn time_removes<R: Clock>(rt: &R, present: &mut Present, from: u64) -> Result<Duration>
-    ensures { (most : ℕ) → AllByRecursion (λ r. r.block < most) present.old.table.ranges → OnOk result (AllByRecursion (λ r. r.block < most) present.new.table.ranges) }
+    ensures { (most : ℕ) → AllByRecursion (λ r. r.block < most) present.old.table.ranges → AllByRecursion (λ r. r.block < most) present.new.table.ranges }
 {
     let start = Instant::now(rt)?;
     remove_all(present, from);
-    let taken = start.elapsed(rt)?;
-    Ok(taken / CHANGES as u32)
+    each_since(rt, start, CHANGES as u32, 0)
 }
 
 /// How long an addition and a removal last, from an address on. All is done once before, so that room is not made while
@@ -229,8 +238,7 @@ fn make_starts(alloc: Global, count: u64) -> Result<Vec<u64>, Fault> {
 fn time_look_ups<R: Clock>(rt: &R, present: &Present, count: u64, behind: u64) -> Result<Duration> {
     let start = Instant::now(rt)?;
     let found = look_up(present, count, behind);
-    let taken = start.elapsed(rt)?;
-    Ok(taken.max(Duration::from_nanos(found & 1)) / ROUNDS as u32)
+    each_since(rt, start, ROUNDS as u32, found)
 }
 
 /// Looks up sections all over the table, and answers how many are mapped.
@@ -251,12 +259,17 @@ fn mapped(present: &Present, section: Section) -> u64 {
     }
 }
 
-/// How long a plain search by halves lasts.
+/// How long a plain search by halves lasts, over as many starts.
+fn time_plain<R: Clock + AllocGlobal>(rt: &R, count: u64) -> Result<Duration> {
+    let starts = make_starts(rt.alloc(), count)?;
+    time_searches(rt, &starts, count)
+}
+
+/// How long a plain search by halves lasts, over these starts.
 fn time_searches<R: Clock>(rt: &R, starts: &[u64], count: u64) -> Result<Duration> {
     let start = Instant::now(rt)?;
     let found = search(starts, count);
-    let taken = start.elapsed(rt)?;
-    Ok(taken.max(Duration::from_nanos(found & 1)) / ROUNDS as u32)
+    each_since(rt, start, ROUNDS as u32, found)
 }
 
 /// Searches starts all over the list, and answers how many are there.

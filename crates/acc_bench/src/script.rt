@@ -2,6 +2,7 @@
 
 use crate::limits::largest;
 use crate::rows::tell;
+use crate::times::each_since;
 use acc_script::{MemorySink, MemorySource, Status, run as run_script};
 use anyhow::Result;
 use std::alloc::{AllocError, Global};
@@ -10,62 +11,54 @@ use std::sync::Wait;
 use std::thread::Threads;
 use std::time::{Duration, Instant};
 
+/// What a script is made of.
+#[derive(Clone, Copy)]
+enum Kind {
+    /// Comments of 64 bytes.
+    Comments,
+    /// Directives that map one array and unmap it.
+    Directives,
+    /// Arrays, and an empty section of each in a directive.
+    Arrays,
+    /// Arrays, each mapped, and a report of them all.
+    Mapped,
+}
+
+/// The scripts that are measured: what they are made of, and of how many of it.
+const SCRIPTS: [(Kind, u32); 7] = [
+    (Kind::Comments, 262_144),
+    (Kind::Directives, 100_000),
+    (Kind::Arrays, 20_000),
+    (Kind::Arrays, 80_000),
+    (Kind::Arrays, 240_000),
+    (Kind::Mapped, 32_000),
+    (Kind::Mapped, 64_000),
+];
+
 /// A comment of 64 bytes with its line feed.
-const COMMENT: &[u8; 64] = b"# nothing is asked for in this line, and nothing is to be done.\n";
+const COMMENT: &str = "# nothing is asked for in this line, and nothing is to be done.\n";
 
 /// Prints how long a script of 16 MiB of comments takes, one of 100,000 directives on one array, growing ones that declare
 /// arrays and use each once, and growing ones that map arrays one after the other and report them all.
 pub fn run<R: Print + Clock + Threads + Wait + Sync + AllocGlobal>(rt: &R) -> Result<()> {
-    measure_comments(rt)?;
-    measure_directives(rt)?;
-    for count in [20_000, 80_000, 240_000] {
-        measure_arrays(rt, count)?;
-    }
-    for count in [32_000, 64_000] {
-        measure_mapped(rt, count)?;
+    for (kind, count) in &SCRIPTS {
+        measure(rt, *kind, *count)?;
     }
     Ok(())
 }
 
-/// Measures a script of comments.
-fn measure_comments<R: Print + Clock + Threads + Wait + Sync + AllocGlobal>(rt: &R) -> Result<()> {
-    let script = comments(rt.alloc())?;
-    measure(rt, "script: comments of 64 bytes", 262_144, &script)
-}
-
-/// Measures a script of directives on one array.
-fn measure_directives<R: Print + Clock + Threads + Wait + Sync + AllocGlobal>(
+/// Measures a script.
+fn measure<R: Print + Clock + Threads + Wait + Sync + AllocGlobal>(
     rt: &R,
-) -> Result<()> {
-    let script = directives(rt.alloc())?;
-    measure(rt, "script: directives", 100_000, &script)
-}
-
-/// Measures a script that declares so many arrays and uses each once.
-fn measure_arrays<R: Print + Clock + Threads + Wait + Sync + AllocGlobal>(
-    rt: &R,
+    kind: Kind,
     count: u32,
 ) -> Result<()> {
-    let script = arrays(rt.alloc(), count)?;
-    measure(rt, "script: arrays", count, script.as_bytes())
-}
-
-/// Measures a script that maps so many arrays and reports them.
-fn measure_mapped<R: Print + Clock + Threads + Wait + Sync + AllocGlobal>(
-    rt: &R,
-    count: u32,
-) -> Result<()> {
-    let script = mapped(rt.alloc(), count)?;
-    measure(
-        rt,
-        "script: mapped arrays and a report",
-        count,
-        script.as_bytes(),
-    )
+    let script = script_of(rt.alloc(), kind, count)?;
+    measure_text(rt, name_of(kind), count, script.as_bytes())
 }
 
 /// Runs a script, and prints how long that took.
-fn measure<R: Print + Clock + Threads + Wait + Sync + AllocGlobal>(
+fn measure_text<R: Print + Clock + Threads + Wait + Sync + AllocGlobal>(
     rt: &R,
     name: &str,
     count: u32,
@@ -86,7 +79,7 @@ fn time_script<R: Clock + Threads + Wait + Sync + AllocGlobal>(
     let mut reader = MemorySource::new(script);
     let start = Instant::now(rt)?;
     let status = run_script(rt, &mut reader, writer, config, 1)?;
-    Ok((status, start.elapsed(rt)?))
+    Ok((status, each_since(rt, start, 1, 0)?))
 }
 
 /// How a script ended, in words.
@@ -97,42 +90,71 @@ fn ending(status: Status) -> &'static str {
     }
 }
 
-/// 16 MiB of comment lines.
-fn comments(alloc: Global) -> Result<Vec<u8>, AllocError> {
-    let mut script = Vec::new(alloc);
-    for _ in 0..262_144 {
-        script.extend_from_slice(COMMENT)?;
+/// What is printed of a script.
+fn name_of(kind: Kind) -> &'static str {
+    match kind {
+        Kind::Comments => "script: comments of 64 bytes",
+        Kind::Directives => "script: directives",
+        Kind::Arrays => "script: arrays",
+        Kind::Mapped => "script: mapped arrays and a report",
     }
-    Ok(script)
 }
 
-/// One array that is mapped and unmapped 50,000 times.
-fn directives(alloc: Global) -> Result<Vec<u8>, AllocError> {
-    let mut script = Vec::from_slice(alloc, b"array a 16\n")?;
-    for _ in 0..50_000 {
-        script.extend_from_slice(b"enter data copyin(a)\nexit data delete(a)\n")?;
-    }
-    Ok(script)
-}
-
-/// So many arrays, and an empty section of each in a directive.
-fn arrays(alloc: Global, count: u32) -> Result<String, AllocError> {
+/// A script of so many comments, directives or arrays.
+fn script_of(alloc: Global, kind: Kind, count: u32) -> Result<String, AllocError> {
     let mut script = String::new(alloc);
-    for number in 0..count {
-        write!(
-            script,
-            "array a{number} 1\nenter data copyin(a{number}[0:0])\n"
-        )?;
-    }
+    fill(&mut script, kind, count)?;
     Ok(script)
 }
 
-/// So many arrays, each mapped, and a report of them all.
-fn mapped(alloc: Global, count: u32) -> Result<String, AllocError> {
-    let mut script = String::new(alloc);
+/// Writes a script into an empty text.
+fn fill(script: &mut String, kind: Kind, count: u32) -> Result<(), AllocError> {
+    script.push_str(start_of(kind))?;
     for number in 0..count {
-        write!(script, "array a{number} 16\nenter data copyin(a{number})\n")?;
+        push_one(script, kind, number)?;
     }
-    script.push_str("report\n")?;
-    Ok(script)
+    script.push_str(end_of(kind))
+}
+
+/// The line that a script begins with.
+fn start_of(kind: Kind) -> &'static str {
+    match kind {
+        Kind::Directives => "array a 16\n",
+        Kind::Comments | Kind::Arrays | Kind::Mapped => "",
+    }
+}
+
+/// Writes the comment, the directive or the array of a number.
+fn push_one(script: &mut String, kind: Kind, number: u32) -> Result<(), AllocError> {
+    match kind {
+        Kind::Comments => script.push_str(COMMENT),
+        Kind::Directives => script.push_str(directive_of(number)),
+        Kind::Arrays => push_array(script, number, 1, "[0:0]"),
+        Kind::Mapped => push_array(script, number, 16, ""),
+    }
+}
+
+/// The directive of a number: those that map and those that unmap take turns.
+fn directive_of(number: u32) -> &'static str {
+    if number.is_multiple_of(2) {
+        "enter data copyin(a)\n"
+    } else {
+        "exit data delete(a)\n"
+    }
+}
+
+/// Writes the lines that declare an array of so many bytes, and name a section of it in a directive.
+fn push_array(script: &mut String, number: u32, len: u32, section: &str) -> Result<(), AllocError> {
+    write!(
+        script,
+        "array a{number} {len}\nenter data copyin(a{number}{section})\n"
+    )
+}
+
+/// The line that a script ends with.
+fn end_of(kind: Kind) -> &'static str {
+    match kind {
+        Kind::Mapped => "report\n",
+        Kind::Comments | Kind::Directives | Kind::Arrays => "",
+    }
 }

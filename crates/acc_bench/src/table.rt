@@ -1,31 +1,78 @@
 //! How long the calls of `acc_table` take.
 
-ghost use Rattle.std.specs.Prelude.{◌<◌};
-
-use crate::limits::largest;
-use crate::queues::measure_queues;
+use crate::copies::time_copies;
 use crate::rows::tell;
-use acc_base::{
-    Directive, EnterClause, ExitClause, Fault, HOST_BASE, Item, List, RegionClause, Section,
-    UpdateClause,
-};
-use acc_table::{Call, Reply, Table, abandon};
+use crate::work::{Work, map, map_others, new_table, repeat, sixteen_bytes_at, time, write};
+use acc_base::{EnterClause, Fault, HOST_BASE, Section};
+use acc_table::Table;
 use anyhow::Result;
-use std::alloc::{AllocError, Global};
+use std::alloc::Global;
 use std::rt::Clock;
-use std::time::{Duration, Instant};
+use std::time::Duration;
 
-/// How often a range is mapped and unmapped in one measurement.
+/// How often a work is done in one measurement, but for long updates and queued transfers.
 const ROUNDS: u32 = 1_000;
 
-/// What is made again and again in one measurement.
+/// How many queued transfers one measurement makes: as many as a queue holds.
+const TRANSFERS: u32 = 4_096;
+
+/// What is measured, each on a table of its own.
 #[derive(Clone, Copy)]
-enum Pair {
-    /// An `enter data copyin`, and an `exit data delete`.
-    Data,
-    /// The entry to a data region with `copyin`, and its exit.
-    Region,
+enum Subject {
+    /// Updates of so many bytes, so often.
+    Updates { len: u64, rounds: u32 },
+    /// Updates of 64 KiB in which so many pointers are attached.
+    Pointers { count: u64 },
+    /// Pairs of directives beside so many other ranges.
+    Mappings { count: u32 },
+    /// Queued transfers beside so many other ranges.
+    Queues { count: u32 },
 }
+
+/// All that is measured.
+const SUBJECTS: [Subject; 8] = [
+    Subject::Updates {
+        len: 65_536,
+        rounds: ROUNDS,
+    },
+    Subject::Updates {
+        len: 16_777_216,
+        rounds: 20,
+    },
+    Subject::Pointers { count: 1_000 },
+    Subject::Mappings { count: 0 },
+    Subject::Mappings { count: 1_000 },
+    Subject::Mappings { count: 10_000 },
+    Subject::Queues { count: 0 },
+    Subject::Queues { count: 10_000 },
+];
+
+/// Where works are measured.
+#[derive(Drop)]
+struct Scene {
+    // The words and the number that are printed in front of each work.
+    place: &'static str,
+    count: u64,
+    section: Section,
+    // How often a work is done while it is timed once, and how often it is timed. The least time is told.
+    rounds: u32,
+    tries: u32,
+}
+
+/// The works of an update.
+const UPDATES: [(&str, Work); 2] = [("device", Work::ToDevice), ("self", Work::ToSelf)];
+
+/// The works of a mapping.
+const MAPPINGS: [(&str, Work); 2] = [
+    ("enter data and exit data", Work::Data),
+    ("a region", Work::Region),
+];
+
+/// The works of a transfer.
+const TRANSFER: [(&str, Work); 2] = [
+    ("an update", Work::ToDevice),
+    ("put and stepped", Work::Step),
+];
 
 /// Prints how long an `update` of 64 KiB and one of 16 MiB take beside a plain copy of as many bytes, and one of 64 KiB
 /// that leaves 1,000 attached pointers out; and how long
@@ -33,394 +80,213 @@ enum Pair {
 /// map the bytes, and where the bytes are present. And how long an `update` of 16 bytes takes beside other ranges: made at
 /// once, put into a queue and stepped, and made by a `wait` for many.
 pub fn run<R: Print + Clock + AllocGlobal>(rt: &R) -> Result<()> {
-    measure_updates(rt, 65_536, 1_000)?;
-    measure_updates(rt, 16_777_216, 20)?;
-    measure_pointers(rt, 1_000, 1_000)?;
-    for count in [0, 1_000, 10_000] {
-        measure_mappings(rt, count)?;
-    }
-    for count in [0, 10_000] {
-        measure_queues(rt, count)?;
+    for subject in &SUBJECTS {
+        measure(rt, *subject)?;
     }
     Ok(())
+}
+
+/// Measures a subject on a table of its own.
+fn measure<R: Print + Clock + AllocGlobal>(rt: &R, subject: Subject) -> Result<()> {
+    let mut table = new_table(rt.alloc())?;
+    measure_on(rt, &mut table, subject)
+}
+
+/// Measures a subject on a table that is new.
+fn measure_on<R: Print + Clock + AllocGlobal>(
+    rt: &R,
+    table: &mut Table,
+    subject: Subject,
+) -> Result<()> {
+    match subject {
+        Subject::Updates { len, rounds } => measure_updates(rt, table, len, rounds),
+        Subject::Pointers { count } => measure_pointers(rt, table, count),
+        Subject::Mappings { count } => measure_mappings(rt, table, count),
+        Subject::Queues { count } => measure_queues(rt, table, count),
+    }
 }
 
 /// Measures updates of so many bytes, and a plain copy of them.
-fn measure_updates<R: Print + Clock + AllocGlobal>(rt: &R, len: u64, rounds: u32) -> Result<()>
-    requires { 0 < rounds }
-{
-    let section = Section {
-        start: HOST_BASE,
-        len,
-    };
-    let mut table = new_table(rt.alloc())?;
-    measure_updates_on(rt, &mut table, section, rounds)
-}
-
-/// Maps a section, and measures updates of it and a plain copy of as many bytes.
-fn measure_updates_on<R: Print + Clock + AllocGlobal>(
+fn measure_updates<R: Print + Clock + AllocGlobal>(
     rt: &R,
     table: &mut Table,
-    section: Section,
+    len: u64,
     rounds: u32,
-) -> Result<()>
-    requires { 0 < rounds }
-{
-    map(
-        table,
-        rt.alloc(),
-        EnterClause::Create { zero: true },
-        section,
-    )?;
-    tell_updates(
-        rt,
-        table,
+) -> Result<()> {
+    let section = first_bytes(len);
+    let clause = EnterClause::Create { zero: true };
+    map(table, rt.alloc(), clause, section)?;
+    let scene = Scene {
+        place: "table: update, bytes",
+        count: len,
         section,
         rounds,
-        "table: update, bytes",
-        section.len,
-    )
+        tries: 1,
+    };
+    tell_updates(rt, table, &scene)
 }
 
 /// Measures updates of 64 KiB in which so many pointers are attached, and a plain copy of as many bytes.
-fn measure_pointers<R: Print + Clock + AllocGlobal>(rt: &R, count: u64, rounds: u32) -> Result<()>
-    requires { 0 < rounds }
-{
-    let section = Section {
-        start: HOST_BASE,
-        len: 65_536,
+fn measure_pointers<R: Print + Clock + AllocGlobal>(
+    rt: &R,
+    table: &mut Table,
+    count: u64,
+) -> Result<()> {
+    let section = first_bytes(65_536);
+    map_pointers(table, rt.alloc(), section, count)?;
+    let scene = Scene {
+        place: "table: update of 65536 bytes, attached pointers",
+        count,
+        section,
+        rounds: ROUNDS,
+        tries: 1,
     };
-    let mut table = new_table(rt.alloc())?;
-    map(&mut table, rt.alloc(), EnterClause::Copyin, section)?;
-    attach_pointers(&mut table, rt.alloc(), count)?;
-    let place = "table: update of 65536 bytes, attached pointers";
-    tell_updates(rt, &mut table, section, rounds, place, count)
+    tell_updates(rt, table, &scene)
 }
 
-/// Attaches so many pointers, 64 bytes apart, each aimed at the first byte of host memory.
-fn attach_pointers(table: &mut Table, alloc: Global, count: u64) -> Result<(), Fault> {
+/// The first so many bytes of host memory.
+fn first_bytes(len: u64) -> Section {
+    Section {
+        start: HOST_BASE,
+        len,
+    }
+}
+
+/// Maps a section, and attaches so many pointers in it, 64 bytes apart.
+fn map_pointers(
+    table: &mut Table,
+    alloc: Global,
+    section: Section,
+    count: u64,
+) -> Result<(), Fault> {
+    map(table, alloc, EnterClause::Copyin, section)?;
     for number in 0..count {
-        let section = Section {
-            start: HOST_BASE.wrapping_add(number.wrapping_mul(64)),
-            len: 8,
-        };
-        write(table, alloc, section.start, &HOST_BASE.to_le_bytes())?;
-        map(table, alloc, EnterClause::Attach, section)?;
+        attach_pointer(table, alloc, number)?;
     }
     Ok(())
 }
 
-/// Writes into host memory.
-fn write(table: &mut Table, alloc: Global, addr: u64, bytes: &[u8]) -> Result<(), Fault> {
-    let bytes = List::from_vec(Vec::from_slice(alloc, bytes)?);
-    make(table, Call::HostWrite { addr, bytes })
+/// Attaches the pointer of a number, aimed at the first byte of host memory.
+fn attach_pointer(table: &mut Table, alloc: Global, number: u64) -> Result<(), Fault> {
+    let section = Section {
+        start: HOST_BASE.wrapping_add(number.wrapping_mul(64)),
+        len: 8,
+    };
+    write(table, alloc, section.start, &HOST_BASE.to_le_bytes())?;
+    map(table, alloc, EnterClause::Attach, section)
 }
 
-/// Measures updates of a section both ways, and a plain copy of as many bytes.
+/// Prints how long updates of a section take both ways, and a plain copy of as many bytes.
 fn tell_updates<R: Print + Clock + AllocGlobal>(
     rt: &R,
     table: &mut Table,
-    section: Section,
-    rounds: u32,
-    place: &str,
-    count: u64,
-) -> Result<()>
-    requires { 0 < rounds }
-{
-    let to_device = time_updates(rt, table, UpdateClause::ToDevice, section, rounds)?;
-    let to_self = time_updates(rt, table, UpdateClause::ToSelf, section, rounds)?;
-    let plain = time_copies(rt, section.len, rounds)?;
-    let rows = [
-        ("device", to_device),
-        ("self", to_self),
-        ("a plain copy", plain),
-    ];
-    tell(rt, place, count, &rows)
+    scene: &Scene,
+) -> Result<()> {
+    tell_works(rt, table, scene, &UPDATES)?;
+    let plain = time_copies(rt, scene.section.len, scene.rounds)?;
+    tell(rt, scene.place, scene.count, &[("a plain copy", plain)])
 }
 
-/// Maps a section.
-pub fn map(
-    table: &mut Table,
-    alloc: Global,
-    clause: EnterClause,
-    section: Section,
-) -> Result<(), Fault> {
-    apply(table, enter(alloc, clause, section)?)
-}
-
-/// How long an update of a section takes.
-pub fn time_updates<R: Clock + AllocGlobal>(
-    rt: &R,
-    table: &mut Table,
-    clause: UpdateClause,
-    section: Section,
-    rounds: u32,
-) -> Result<Duration>
-    requires { 0 < rounds }
-{
-    let start = Instant::now(rt)?;
-    make_updates(table, rt.alloc(), clause, section, rounds)?;
-    let taken = start.elapsed(rt)?;
-    Ok(taken / rounds)
-}
-
-/// How long a plain copy of so many bytes takes.
-fn time_copies<R: Clock + AllocGlobal>(rt: &R, len: u64, rounds: u32) -> Result<Duration>
-    requires { 0 < rounds }
-{
-    let mut source = vec![in rt.alloc(); 1; len as usize]?;
-    let mut target = vec![in rt.alloc(); 2; len as usize]?;
-    time_copies_of(rt, &mut source, &mut target, rounds)
-}
-
-/// How long it takes to copy all bytes. It is a nanosecond at least where the sum of the copies is odd, so that no copy
-/// can be left out.
-fn time_copies_of<R: Clock>(
-    rt: &R,
-    source: &mut Vec<u8>,
-    target: &mut Vec<u8>,
-    rounds: u32,
-) -> Result<Duration>
-    requires { 0 < rounds }
-{
-    let start = Instant::now(rt)?;
-    let sum = copy(source, target, rounds);
-    let taken = start.elapsed(rt)?;
-    Ok(taken.max(Duration::from_nanos(sum & 1)) / rounds)
-}
-
-/// Makes so many updates of a section, one after the other.
-fn make_updates(
-    table: &mut Table,
-    alloc: Global,
-    clause: UpdateClause,
-    section: Section,
-    rounds: u32,
-) -> Result<(), Fault> {
-    for _ in 0..rounds {
-        apply(table, update(alloc, clause, section, None)?)?;
-    }
-    Ok(())
-}
-
-/// Copies all bytes so many times, and answers a sum that depends on each copy, so that none can be left out.
-fn copy(source: &mut Vec<u8>, target: &mut Vec<u8>, rounds: u32) -> u64 {
-    let mut sum: u64 = 0;
-    for round in 0..rounds {
-        sum = sum.wrapping_add(copy_once(source, target, (round % 256) as u8));
-    }
-    sum
-}
-
-/// Copies all bytes, with this first one, and answers the last byte.
-fn copy_once(source: &mut Vec<u8>, target: &mut Vec<u8>, byte: u8) -> u64 {
-    if let Some(first) = source.first_mut() {
-        *first = byte;
-    }
-    if source.len() == target.len() {
-        target.copy_from_slice(source);
-    }
-    match target.last() {
-        Some(last) => *last as u64,
-        None => 0,
-    }
-}
-
-/// Measures both pairs of directives beside so many other ranges.
-fn measure_mappings<R: Print + Clock + AllocGlobal>(rt: &R, count: u32) -> Result<()> {
-    let mut table = new_table(rt.alloc())?;
-    measure_mappings_on(rt, &mut table, count)
-}
-
-/// Maps so many other ranges, and measures both pairs of directives for 16 bytes, absent and then present.
-fn measure_mappings_on<R: Print + Clock + AllocGlobal>(
+/// Measures both pairs of directives for 16 bytes beside so many other ranges, absent and then present.
+fn measure_mappings<R: Print + Clock + AllocGlobal>(
     rt: &R,
     table: &mut Table,
     count: u32,
 ) -> Result<()> {
     map_others(table, rt.alloc(), count)?;
+    measure_pairs(rt, table, count, "table: 16 absent bytes, ranges beside")?;
     let section = sixteen_bytes_at(count);
-    measure_both(
-        rt,
-        table,
-        section,
-        count,
-        "table: 16 absent bytes, ranges beside",
-    )?;
     map(table, rt.alloc(), EnterClause::Copyin, section)?;
-    measure_both(
+    measure_pairs(rt, table, count, "table: 16 present bytes, ranges beside")
+}
+
+/// Measures both pairs of directives for the 16 bytes behind so many other ranges.
+fn measure_pairs<R: Print + Clock + AllocGlobal>(
+    rt: &R,
+    table: &mut Table,
+    count: u32,
+    place: &'static str,
+) -> Result<()> {
+    let scene = Scene {
+        place,
+        count: u64::from(count),
+        section: sixteen_bytes_at(count),
+        rounds: ROUNDS,
+        tries: 1,
+    };
+    tell_works(rt, table, &scene, &MAPPINGS)
+}
+
+/// Measures transfers of 16 bytes behind so many other ranges.
+fn measure_queues<R: Print + Clock + AllocGlobal>(
+    rt: &R,
+    table: &mut Table,
+    count: u32,
+) -> Result<()> {
+    map_others(table, rt.alloc(), count.saturating_add(1))?;
+    // A trace that grows moves all its events, so the least time of some is told.
+    let scene = Scene {
+        place: "table: a transfer of 16 bytes, ranges beside",
+        count: u64::from(count),
+        section: sixteen_bytes_at(count),
+        rounds: TRANSFERS,
+        tries: 3,
+    };
+    tell_works(rt, table, &scene, &TRANSFER)?;
+    tell_wait(rt, table, &scene)
+}
+
+/// Prints how long each transfer of a `wait` takes.
+fn tell_wait<R: Print + Clock + AllocGlobal>(
+    rt: &R,
+    table: &mut Table,
+    scene: &Scene,
+) -> Result<()> {
+    repeat(table, rt.alloc(), Work::Put, scene.section, TRANSFERS)?;
+    let waited = time(rt, table, Work::Wait, scene.section, 1)?;
+    tell(
         rt,
-        table,
-        section,
-        count,
-        "table: 16 present bytes, ranges beside",
+        scene.place,
+        scene.count,
+        &[("made by a wait", waited / TRANSFERS)],
     )
 }
 
-/// Measures both pairs of directives for a section.
-fn measure_both<R: Print + Clock + AllocGlobal>(
+/// Prints how long each work takes.
+fn tell_works<R: Print + Clock + AllocGlobal>(
     rt: &R,
     table: &mut Table,
-    section: Section,
-    count: u32,
-    place: &str,
+    scene: &Scene,
+    works: &[(&str, Work)],
 ) -> Result<()> {
-    let data = time_pairs(rt, table, Pair::Data, section)?;
-    let region = time_pairs(rt, table, Pair::Region, section)?;
-    let rows = [("enter data and exit data", data), ("a region", region)];
-    tell(rt, place, u64::from(count), &rows)
+    for (name, work) in works {
+        tell_work(rt, table, scene, name, *work)?;
+    }
+    Ok(())
 }
 
-/// How long a pair of directives takes for a section.
-fn time_pairs<R: Clock + AllocGlobal>(
+/// Prints how long a work takes.
+fn tell_work<R: Print + Clock + AllocGlobal>(
     rt: &R,
     table: &mut Table,
-    pair: Pair,
-    section: Section,
+    scene: &Scene,
+    name: &str,
+    work: Work,
+) -> Result<()> {
+    let taken = least_time(rt, table, scene, work)?;
+    tell(rt, scene.place, scene.count, &[(name, taken)])
+}
+
+/// How long a work takes, at least.
+fn least_time<R: Clock + AllocGlobal>(
+    rt: &R,
+    table: &mut Table,
+    scene: &Scene,
+    work: Work,
 ) -> Result<Duration> {
-    let start = Instant::now(rt)?;
-    make_pairs(table, rt.alloc(), pair, section)?;
-    let taken = start.elapsed(rt)?;
-    Ok(taken / ROUNDS)
-}
-
-/// Maps so many ranges of 16 bytes that do not touch.
-pub fn map_others(table: &mut Table, alloc: Global, count: u32) -> Result<(), Fault> {
-    for number in 0..count {
-        map(table, alloc, EnterClause::Copyin, sixteen_bytes_at(number))?;
+    let mut least = Duration::MAX;
+    for _ in 0..scene.tries {
+        least = least.min(time(rt, table, work, scene.section, scene.rounds)?);
     }
-    Ok(())
-}
-
-/// The place of the range of a number, counted from 0.
-pub fn sixteen_bytes_at(number: u32) -> Section {
-    Section {
-        start: HOST_BASE + 32 * number as u64,
-        len: 16,
-    }
-}
-
-/// Makes a pair of directives again and again.
-fn make_pairs(table: &mut Table, alloc: Global, pair: Pair, section: Section) -> Result<(), Fault> {
-    for _ in 0..ROUNDS {
-        make_pair(table, alloc, pair, section)?;
-    }
-    Ok(())
-}
-
-/// Makes a pair of directives.
-fn make_pair(table: &mut Table, alloc: Global, pair: Pair, section: Section) -> Result<(), Fault> {
-    match pair {
-        Pair::Data => {
-            map(table, alloc, EnterClause::Copyin, section)?;
-            apply(table, exit(alloc, section)?)
-        }
-        Pair::Region => {
-            let number = enter_region(table, region(alloc, section)?)?;
-            apply(table, Directive::Exit { number })
-        }
-    }
-}
-
-/// A table with as much memory as there may be.
-pub fn new_table(alloc: Global) -> Result<Table, Fault> {
-    Table::new(alloc, largest()?)
-}
-
-/// An `enter data` of one item.
-fn enter(alloc: Global, clause: EnterClause, section: Section) -> Result<Directive, AllocError> {
-    Ok(Directive::EnterData {
-        items: List::from_vec(vec![in alloc;
-            Item {
-                clause,
-                section,
-                pointer: None
-            },
-        ]?),
-        queue: None,
-    })
-}
-
-/// The entry to a data region with one item.
-fn region(alloc: Global, section: Section) -> Result<Directive, AllocError> {
-    let clause = RegionClause::Copyin;
-    Ok(Directive::Enter {
-        items: List::from_vec(vec![in alloc;
-            Item {
-                clause,
-                section,
-                pointer: None
-            },
-        ]?),
-    })
-}
-
-/// An `exit data delete` of one section.
-fn exit(alloc: Global, section: Section) -> Result<Directive, AllocError> {
-    let clause = ExitClause::Delete;
-    Ok(Directive::ExitData {
-        items: List::from_vec(vec![in alloc;
-            Item {
-                clause,
-                section,
-                pointer: None
-            },
-        ]?),
-        finalize: false,
-        queue: None,
-    })
-}
-
-/// An `update` of one section, made at once or put into a queue.
-pub fn update(
-    alloc: Global,
-    clause: UpdateClause,
-    section: Section,
-    queue: Option<u64>,
-) -> Result<Directive, AllocError> {
-    Ok(Directive::Update {
-        items: List::from_vec(vec![in alloc;
-            Item {
-                clause,
-                section,
-                pointer: None
-            },
-        ]?),
-        if_present: false,
-        queue,
-    })
-}
-
-/// Carries out a directive.
-pub fn apply(table: &mut Table, directive: Directive) -> Result<(), Fault> {
-    make(table, Call::Do(directive))
-}
-
-/// Makes a call, whose answer is not looked at.
-fn make(table: &mut Table, call: Call) -> Result<(), Fault> {
-    match table.apply(call) {
-        Ok(reply) => {
-            reply.abandon();
-            Ok(())
-        }
-        Err((call, fault)) => {
-            abandon(call);
-            Err(fault)
-        }
-    }
-}
-
-/// Enters a data region, and answers its number.
-fn enter_region(table: &mut Table, directive: Directive) -> Result<u64, Fault> {
-    match table.apply(Call::Do(directive)) {
-        Ok(Reply::Entered { number }) => Ok(number),
-        Ok(other) => {
-            other.abandon();
-            Ok(0)
-        }
-        Err((call, fault)) => {
-            abandon(call);
-            Err(fault)
-        }
-    }
+    Ok(least)
 }

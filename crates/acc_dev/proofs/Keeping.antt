@@ -1,9 +1,8 @@
 -- What a device keeps, and what a look-up in it finds.
-use Rattle.std.proofs.Common.{ℕ, ◌≡◌, ◌+◌, ◌^◌, ◌<◌, ◌≤◌, refl, sym, ap, ◌∙◌, subst, List, [], ◌∷◌, ◌++◌, true, false, length, get_or, Option, Some, None, Bor, arith, ◌↔◌}
-use Rattle.std.specs.Prelude.{map, IsSome, IsSomeAnd, IfSome, IfNone, IsTrue, is_some, option_copied}
+use Rattle.std.proofs.Common.{ℕ, ◌≡◌, ◌+◌, ◌^◌, ◌<◌, ◌≤◌, refl, sym, ap, ◌∙◌, subst, List, [], ◌∷◌, ◌++◌, true, false, length, get_or, Option, Some, None, arith, ◌↔◌}
+use Rattle.std.specs.Prelude.{map, IsSome, IfSome, IfNone, IsTrue, is_some}
 use Rattle.std.specs.List.{AllByRecursion}
 use Rattle.std.proofs.lemmas.Bool.{false≢true}
-use Rattle.std.proofs.lemmas.List.{get_or_default}
 use Rattle.acc_base.specs.declared.addresses.TheConstants.{MEMORY_MAX}
 use Rattle.acc_base.specs.declared.loans.Loan.{Loan}
 use Rattle.acc_base.specs.declared.mappings.Block.{Block}
@@ -12,18 +11,21 @@ use Rattle.acc_base.specs.Section.{Spans}
 use Rattle.acc_base.specs.Holes.{IsIn, IsRising, taken_range, IsDevice}
 use Rattle.acc_base.specs.Blocks.{block_at, used_bytes}
 use Rattle.acc_base.specs.Bytes.{bytes_of}
-use Rattle.acc_base.specs.Loans.{loan_of, is_lent}
+use Rattle.acc_base.specs.Loans.{loan_of, is_lent, len_of}
 use Rattle.acc_base.specs.Accounts.{EachPair}
 use Rattle.acc_base.proofs.Elements.{AllByRecursion-map}
 use Rattle.acc_placement.specs.Space.{Space}
 use Rattle.acc_placement.proofs.Partitions.{all_disjoint, all_whole}
+use Rattle.slab.specs.Slab.{Slab, slab_len}
 use Rattle.acc_dev.specs.declared.entries.Stored.{Stored}
-use Rattle.acc_dev.specs.Device.{DeviceState, HasBlocksApart, IsLoanOn}
+use Rattle.acc_dev.specs.declared.devices.Device.TheInside.{Inside}
+use Rattle.acc_dev.specs.Room.{HasRoom}
+use Rattle.acc_dev.specs.Device.{DeviceState, HasBlock, HasBlocksApart, IsLoanOn}
 use Rattle.acc_dev.specs.Marks.{pins_at, is_ended_at, IsSoundMark}
-use Rattle.acc_dev.specs.Kept.{stored_len, stored_bytes, stored_pins, stored_ended, stored_loan, block_from, mark_from, marks_in, loans_in, slot_of, blocks_in, memories_in, IsIndexRising, IsOut, IsInOrOut, IsBacked, AreSlotsKept, AreNumbersBorn, IsEntry}
-use Rattle.acc_dev.proofs.Rising.{start, all_at, all_from}
+use Rattle.acc_dev.specs.Kept.{stored_len, stored_bytes, stored_pins, stored_ended, stored_loan, block_from, mark_from, marks_in, loans_in, slot_of, blocks_in, memories_in, IsIndexRising, IsOut, IsInOrOut, IsBacked, AreSlotsKept, AreNumbersBorn, IsEntry, IsSlotOf, IsStoredOf}
+use Rattle.acc_dev.proofs.Rising.{start, all_at, all_from, entry_read}
 use Rattle.acc_dev.proofs.Slots.{block_at-entry, bytes_of-entry, pins_at-entry, is_ended_at-entry, block_at-none}
-use Rattle.acc_dev.proofs.Lent.{loans_each, loan_of-entry, len_of-entry, long_entry, ended_free}
+use Rattle.acc_dev.proofs.Lent.{AreBacked, loans_each, loan_of-entry, len_of-entry, long_entry, ended_free}
 use Rattle.acc_dev.proofs.Placing.{IsShared, total-used, some_bytes, clear_of, on_device}
 
 -- what contracts see of a device
@@ -86,34 +88,14 @@ loans_on h s xs births room k =
 
 -- ---- look-ups
 
--- the entry at a place, as it was read
-pub entry_read : (xs : List (ℕ × ℕ)) (i : ℕ) (e : ℕ × ℕ) → e ≡ get_or xs i e → i < length xs → get_or xs i start ≡ e
-entry_read xs i e read lt = get_or_default xs i start e lt ∙ sym read
-
 -- the block of a number is there exactly where the search finds it
 pub found_there : (s : List (Option Stored)) (xs : List (ℕ × ℕ)) (n : ℕ) (o : Option ℕ) → IsIndexRising xs → IfSome o (IsEntry xs n) → IfNone o (AllByRecursion (λ e. e.0 ≡ n → ⊥) xs) → IsTrue (is_some o) ↔ IsSome (block_at n (blocks_in s xs))
 found_there s xs n None rise found none = (λ e. absurd (false≢true e), λ some. subst IsSome (block_at-none s xs n none) some)
 found_there s xs n (Some i) rise found none = (λ e. subst IsSome (sym (block_at-entry s xs i n rise found)) refl, λ some. refl)
 
--- a search does not miss a block that is there
-pub not_missed : (s : List (Option Stored)) (xs : List (ℕ × ℕ)) (n : ℕ) → AllByRecursion (λ e. e.0 ≡ n → ⊥) xs → IsSome (block_at n (blocks_in s xs)) → ⊥
-not_missed s xs n none some = false≢true (subst IsSome (block_at-none s xs n none) some)
-
 all-unmap : {X Y : Type 0} (P : Y → Type 0) (f : X → Y) (xs : List X) → AllByRecursion P (map f xs) → AllByRecursion (λ x. P (f x)) xs
 all-unmap P f [] h = tt
 all-unmap P f (x ∷ xs) h = (h.0, all-unmap P f xs h.1)
-
--- what the slot of an entry has
-pub record TellsStored (s : List (Option Stored)) (xs : List (ℕ × ℕ)) (n : ℕ) (x : Stored) : Type 0 where
-  pub block : block_at n (blocks_in s xs) ≡ Some (record { number = n; place = x.place; len = x.len })
-  pub bytes : x.bytes.items ≡ bytes_of n (memories_in s xs)
-  pub long : is_lent n (loans_in s xs) ≡ false → length x.bytes.items ≡ x.len
-  pub len : IsFromOne MEMORY_MAX x.len
-  pub pins : x.pins ≡ pins_at n (marks_in s xs)
-  pub few : x.pins ≤ 2 ^ 32
-  pub ended : x.ended ≡ is_ended_at n (marks_in s xs)
-  pub loan : x.loan ≡ loan_of n (loans_in s xs)
-  pub free : x.ended ≡ true → is_lent n (loans_in s xs) ≡ false
 
 -- each block has a byte at least, and not too many
 pub len_from : (s : List (Option Stored)) (xs : List (ℕ × ℕ)) (i : ℕ) → AllByRecursion (λ b. IsFromOne MEMORY_MAX b.len) (blocks_in s xs) → i < length xs → IsFromOne MEMORY_MAX (stored_len (slot_of s (get_or xs i start)))
@@ -130,21 +112,6 @@ len_stored h s xs i x k lt is = subst (λ (o : Option Stored). IsFromOne MEMORY_
 sound_at : (h : Space) (s : List (Option Stored)) (xs : List (ℕ × ℕ)) (i : ℕ) → AreSlotsKept h s xs → i < length xs → IsSoundMark (mark_from (get_or xs i start).0 (slot_of s (get_or xs i start)))
 sound_at h s xs i k lt = all_at (λ (e : ℕ × ℕ). IsSoundMark (mark_from e.0 (slot_of s e))) xs i start lt (all-unmap IsSoundMark (λ (e : ℕ × ℕ). mark_from e.0 (slot_of s e)) xs k.marks)
 
--- what the slot of an entry has is the block
-pub stored_at : (h : Space) (s : List (Option Stored)) (xs : List (ℕ × ℕ)) (i n : ℕ) (x : Stored) → AreSlotsKept h s xs → IsEntry xs n i → slot_of s (get_or xs i start) ≡ Some x → TellsStored s xs n x
-stored_at h s xs i n x k entry is =
-    record {
-      block = rw (block_at-entry s xs i n k.rising entry, is, entry.number);
-      bytes = sym (bytes_of-entry s xs i n k.rising entry ∙ ap stored_bytes is);
-      len = subst (λ (o : Option Stored). IsFromOne MEMORY_MAX (stored_len o)) is (len_at h s xs i k entry.in_bounds);
-      pins = sym (pins_at-entry s xs i n k.rising entry ∙ ap stored_pins is);
-      few = subst (λ (o : Option Stored). stored_pins o ≤ 2 ^ 32) is (sound_at h s xs i k entry.in_bounds).few;
-      ended = sym (is_ended_at-entry s xs i n k.rising entry ∙ ap stored_ended is);
-      long = λ free. subst (λ (o : Option Stored). length (stored_bytes o) ≡ stored_len o) is (long_entry s xs i n k.rising k.backed entry.in_bounds entry.number free);
-      loan = sym (loan_of-entry s xs i n k.rising k.backed entry.in_bounds entry.number ∙ ap stored_loan is);
-      free = λ ended. subst (λ (o : Option Stored). stored_ended o ≡ true → is_lent n (loans_in s xs) ≡ false) is (λ e. ended_free s xs i n k.rising k.backed entry.in_bounds entry.number e) ended;
-    }
-
 -- the slot of an entry is not empty
 pub filled_at : (h : Space) (s : List (Option Stored)) (xs : List (ℕ × ℕ)) (i : ℕ) → AreSlotsKept h s xs → i < length xs → IsSome (slot_of s (get_or xs i start))
 filled_at h s xs i k lt = all_at (λ (e : ℕ × ℕ). IsSome (slot_of s e)) xs i start lt k.filled
@@ -153,42 +120,68 @@ filled_at h s xs i k lt = all_at (λ (e : ℕ × ℕ). IsSome (slot_of s e)) xs 
 pub filled_read : (h : Space) (s : List (Option Stored)) (xs : List (ℕ × ℕ)) (i : ℕ) (e : ℕ × ℕ) → AreSlotsKept h s xs → e ≡ get_or xs i e → i < length xs → IsSome (get_or s e.1 None)
 filled_read h s xs i e k read lt = subst (λ (d : ℕ × ℕ). IsSome (slot_of s d)) (entry_read xs i e read lt) (filled_at h s xs i k lt)
 
--- the same of a reference into the slab
-pub told_stored : (h : Space) (s : List (Option Stored)) (xs : List (ℕ × ℕ)) (i n : ℕ) (r : Option (Bor Stored)) → AreSlotsKept h s xs → IsEntry xs n i → option_copied r ≡ slot_of s (get_or xs i start) → IsSomeAnd r (λ x. TellsStored s xs n x.now)
-told_stored h s xs i n None k entry is = absurd (false≢true (subst IsSome (sym is) (filled_at h s xs i k entry.in_bounds)))
-told_stored h s xs i n (Some x) k entry is = stored_at h s xs i n x.now k entry (sym is)
+-- ---- the slot of a block
 
-some_weaker : {X : Type 0} (P Q : X → Type 0) (o : Option X) → ((x : X) → P x → Q x) → IsSomeAnd o P → IsSomeAnd o Q × IfSome o Q
-some_weaker P Q None f h = absurd h
-some_weaker P Q (Some x) f h = (f x h, f x h)
+-- what is known of the slot of an entry is known by its place
+slot_known : (P : Option Stored → Type 0) (s : List (Option Stored)) (xs : List (ℕ × ℕ)) (n k : ℕ) (slot : IsSlotOf xs n k) → P (slot_of s (get_or xs slot.at start)) → P (get_or s k None)
+slot_known P s xs n k slot known = subst (λ (j : ℕ). P (get_or s j None)) slot.is known
 
--- the clauses on such a reference
-pub record TellsReference (d : DeviceState) (n : ℕ) (r : Option (Bor Stored)) : Type 0 where
-  pub block : IsSomeAnd r (λ x. block_at n d.blocks ≡ Some (record { number = n; place = x.now.place; len = x.now.len }))
-  pub bytes : IfSome r (λ x. x.now.bytes.items ≡ bytes_of n d.memories)
-  pub long : IfSome r (λ x. is_lent n d.loans ≡ false → length x.now.bytes.items ≡ x.now.len)
-  pub len : IfSome r (λ x. IsFromOne MEMORY_MAX x.now.len)
-  pub pins : IfSome r (λ x. x.now.pins ≡ pins_at n d.marks)
-  pub few : IfSome r (λ x. x.now.pins ≤ 2 ^ 32)
-  pub ended : IfSome r (λ x. x.now.ended ≡ is_ended_at n d.marks)
-  pub loan : IfSome r (λ x. x.now.loan ≡ loan_of n d.loans)
-  pub free : IfSome r (λ x. x.now.ended ≡ true → is_lent n d.loans ≡ false)
+-- a block that is there has an entry
+pub listed : (h : Space) (s : List (Option Stored)) (xs : List (ℕ × ℕ)) (births n : ℕ) (room : List ℕ) (d : DeviceState) → device_of h s xs births room ≡ d → HasBlock d n → AllByRecursion (λ e. e.0 ≡ n → ⊥) xs → ⊥
+listed h s xs births n room d is there none = false≢true (subst IsSome (block_at-none s xs n none) (subst (λ (x : DeviceState). HasBlock x n) (sym is) there))
 
--- what such a reference tells
-pub told_reference : (h : Space) (s : List (Option Stored)) (xs : List (ℕ × ℕ)) (births i n : ℕ) (room : List ℕ) (e : ℕ × ℕ) (r : Option (Bor Stored)) → AreSlotsKept h s xs → IsEntry xs n i → e ≡ get_or xs i e → option_copied r ≡ get_or s e.1 None
-    → TellsReference (device_of h s xs births room) n r
-told_reference h s xs births i n room e r k entry read is =
-    let same : get_or xs i start ≡ e = get_or_default xs i start e entry.in_bounds ∙ sym read in
-    let told : IsSomeAnd r (λ (x : Bor Stored). TellsStored s xs n x.now) = told_stored h s xs i n r k entry (is ∙ ap (slot_of s) (sym same)) in
-    let T : Bor Stored → Type 0 = λ x. TellsStored s xs n x.now in
+-- the slot of a block is not empty
+pub filled_slot : (h : Space) (s : List (Option Stored)) (xs : List (ℕ × ℕ)) (n k : ℕ) → AreSlotsKept h s xs → IsSlotOf xs n k → IsSome (get_or s k None)
+filled_slot h s xs n k kept slot = slot_known IsSome s xs n k slot (filled_at h s xs slot.at kept slot.entry.in_bounds)
+
+-- the bytes of a block are those of its slot
+pub bytes_at : (s : List (Option Stored)) (xs : List (ℕ × ℕ)) (n k : ℕ) → IsIndexRising xs → IsSlotOf xs n k → bytes_of n (memories_in s xs) ≡ stored_bytes (get_or s k None)
+bytes_at s xs n k rise slot = slot_known (λ o. bytes_of n (memories_in s xs) ≡ stored_bytes o) s xs n k slot (bytes_of-entry s xs slot.at n rise slot.entry)
+
+-- the loan of a block is that of its slot
+pub loan_at : (s : List (Option Stored)) (xs : List (ℕ × ℕ)) (n k : ℕ) → IsIndexRising xs → AreBacked s xs → IsSlotOf xs n k → loan_of n (loans_in s xs) ≡ stored_loan (get_or s k None)
+loan_at s xs n k rise backed slot = slot_known (λ o. loan_of n (loans_in s xs) ≡ stored_loan o) s xs n k slot (loan_of-entry s xs slot.at n rise backed slot.entry.in_bounds slot.entry.number)
+
+-- whether the mapping of a block has ended is what its slot says
+pub ended_at : (s : List (Option Stored)) (xs : List (ℕ × ℕ)) (n k : ℕ) → IsIndexRising xs → IsSlotOf xs n k → is_ended_at n (marks_in s xs) ≡ stored_ended (get_or s k None)
+ended_at s xs n k rise slot = slot_known (λ o. is_ended_at n (marks_in s xs) ≡ stored_ended o) s xs n k slot (is_ended_at-entry s xs slot.at n rise slot.entry)
+
+-- how many transfers name a block is what its slot says
+pub pins_at_slot : (s : List (Option Stored)) (xs : List (ℕ × ℕ)) (n k : ℕ) → IsIndexRising xs → IsSlotOf xs n k → pins_at n (marks_in s xs) ≡ stored_pins (get_or s k None)
+pins_at_slot s xs n k rise slot = slot_known (λ o. pins_at n (marks_in s xs) ≡ stored_pins o) s xs n k slot (pins_at-entry s xs slot.at n rise slot.entry)
+
+-- the length of a block is that of its slot
+pub long_at : (s : List (Option Stored)) (xs : List (ℕ × ℕ)) (n k : ℕ) → IsIndexRising xs → IsSlotOf xs n k → len_of n (blocks_in s xs) ≡ stored_len (get_or s k None)
+long_at s xs n k rise slot = slot_known (λ o. len_of n (blocks_in s xs) ≡ stored_len o) s xs n k slot (len_of-entry s xs slot.at n rise slot.entry)
+
+-- the slot of a block that is not lent has as many bytes as it is long
+pub whole_at : (s : List (Option Stored)) (xs : List (ℕ × ℕ)) (n k : ℕ) → IsIndexRising xs → AreBacked s xs → IsSlotOf xs n k → is_lent n (loans_in s xs) ≡ false → length (stored_bytes (get_or s k None)) ≡ stored_len (get_or s k None)
+whole_at s xs n k rise backed slot free = slot_known (λ o. length (stored_bytes o) ≡ stored_len o) s xs n k slot (long_entry s xs slot.at n rise backed slot.entry.in_bounds slot.entry.number free)
+
+-- each block has a byte at least, and not too many
+pub len_slot : (h : Space) (s : List (Option Stored)) (xs : List (ℕ × ℕ)) (n k : ℕ) → AreSlotsKept h s xs → IsSlotOf xs n k → IsFromOne MEMORY_MAX (stored_len (get_or s k None))
+len_slot h s xs n k kept slot = slot_known (λ o. IsFromOne MEMORY_MAX (stored_len o)) s xs n k slot (len_at h s xs slot.at kept slot.entry.in_bounds)
+
+-- what the slot of a block has is the block's, as contracts see it
+pub stored_of : (h : Space) (s : List (Option Stored)) (xs : List (ℕ × ℕ)) (births n k : ℕ) (room : List ℕ) (x : Stored) → AreSlotsKept h s xs → IsSlotOf xs n k → get_or s k None ≡ Some x → IsStoredOf (device_of h s xs births room) n x
+stored_of h s xs births n k room x kept slot is =
+    let i = slot.at in
+    let entry = slot.entry in
     record {
-      block = (some_weaker T (λ (x : Bor Stored). block_at n (blocks_in s xs) ≡ Some (record { number = n; place = x.now.place; len = x.now.len })) r (λ x t. t.block) told).0;
-      bytes = (some_weaker T (λ (x : Bor Stored). x.now.bytes.items ≡ bytes_of n (memories_in s xs)) r (λ x t. t.bytes) told).1;
-      long = (some_weaker T (λ (x : Bor Stored). is_lent n (loans_in s xs) ≡ false → length x.now.bytes.items ≡ x.now.len) r (λ x t. t.long) told).1;
-      len = (some_weaker T (λ (x : Bor Stored). IsFromOne MEMORY_MAX x.now.len) r (λ x t. t.len) told).1;
-      pins = (some_weaker T (λ (x : Bor Stored). x.now.pins ≡ pins_at n (marks_in s xs)) r (λ x t. t.pins) told).1;
-      few = (some_weaker T (λ (x : Bor Stored). x.now.pins ≤ 2 ^ 32) r (λ x t. t.few) told).1;
-      ended = (some_weaker T (λ (x : Bor Stored). x.now.ended ≡ is_ended_at n (marks_in s xs)) r (λ x t. t.ended) told).1;
-      loan = (some_weaker T (λ (x : Bor Stored). x.now.loan ≡ loan_of n (loans_in s xs)) r (λ x t. t.loan) told).1;
-      free = (some_weaker T (λ (x : Bor Stored). x.now.ended ≡ true → is_lent n (loans_in s xs) ≡ false) r (λ x t. t.free) told).1;
+      block_is = block_at-entry s xs i n kept.rising entry ∙ ap (λ (m : ℕ). Some (block_from m (slot_of s (get_or xs i start)))) entry.number
+          ∙ ap (λ (j : ℕ). Some (block_from n (get_or s j None))) slot.is ∙ ap (λ (o : Option Stored). Some (block_from n o)) is;
+      bytes = sym (bytes_at s xs n k kept.rising slot ∙ ap stored_bytes is);
+      long = λ free. subst (λ (o : Option Stored). length (stored_bytes o) ≡ stored_len o) is (whole_at s xs n k kept.rising kept.backed slot free);
+      len = subst (λ (o : Option Stored). IsFromOne MEMORY_MAX (stored_len o)) is (len_slot h s xs n k kept slot);
+      pins = sym (pins_at_slot s xs n k kept.rising slot ∙ ap stored_pins is);
+      few = subst (λ (o : Option Stored). stored_pins o ≤ 2 ^ 32) is (slot_known (λ o. stored_pins o ≤ 2 ^ 32) s xs n k slot (sound_at h s xs i kept entry.in_bounds).few);
+      ended = sym (ended_at s xs n k kept.rising slot ∙ ap stored_ended is);
+      loan = sym (loan_at s xs n k kept.rising kept.backed slot ∙ ap stored_loan is);
+      free = λ ended. ended_free s xs i n kept.rising kept.backed entry.in_bounds entry.number (rw (slot.is, is) ended);
     }
+
+-- ---- room
+
+-- a change of a slot leaves the room that was made
+pub room_kept : (d : Inside) (t : Slab Stored) → HasRoom d → slab_len t ≡ slab_len d.slab → t.capacity ≡ d.slab.capacity → HasRoom (record d { slab = t })
+room_kept d t r slots capacity = record { few = r.few; empty = r.empty; holes = r.holes; slots = omega (arith, r.slots, slots, capacity); entries = r.entries }

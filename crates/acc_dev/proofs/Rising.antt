@@ -8,6 +8,7 @@ use Rattle.std.specs.Result.{result_ok}
 use Rattle.std.proofs.lemmas.Bool.{cases_lt, cases_eq}
 use Rattle.std.proofs.lemmas.Bool.Decides.{nat_tests}
 use Rattle.std.proofs.lemmas.Cmp.{ranked}
+use Rattle.std.proofs.lemmas.List.{get_or_default}
 use Rattle.std.proofs.lemmas.List.Sorted.{IsNonDecreasingBy-from_default}
 use Rattle.acc_base.specs.Accounts.{EachPair}
 use Rattle.acc_dev.specs.Kept.{IsIndexRising, IsEntry}
@@ -69,6 +70,10 @@ filter-map {X} {Y} f p q (x ∷ xs) same = ap (λ b. cond b (f x ∷ filter q (m
 -- what an index outside of a list reads
 abbrev pub start : ℕ × ℕ
 start = (0, 0)
+
+-- the entry at a place, as it was read
+pub entry_read : (xs : List (ℕ × ℕ)) (i : ℕ) (e : ℕ × ℕ) → e ≡ get_or xs i e → i < length xs → get_or xs i start ≡ e
+entry_read xs i e read lt = get_or_default xs i start e lt ∙ sym read
 
 -- of two entries the later one has the greater number
 pub rise_at : (xs : List (ℕ × ℕ)) (i j : ℕ) → IsIndexRising xs → i < j → j < length xs → (get_or xs i start).0 < (get_or xs j start).0

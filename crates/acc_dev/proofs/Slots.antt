@@ -13,7 +13,7 @@ use Rattle.acc_base.proofs.Elements.{AllByRecursion-weaker}
 use Rattle.acc_base.proofs.Results.{equal_self}
 use Rattle.acc_dev.specs.declared.entries.Stored.{Stored}
 use Rattle.acc_dev.specs.Marks.{Mark, mark_at, pins_at, is_ended_at, mark_changed, IsMarkOf}
-use Rattle.acc_dev.specs.Kept.{stored_place, stored_len, stored_bytes, stored_pins, stored_ended, block_from, memory_from, mark_from, slot_of, blocks_in, memories_in, marks_in, IsIndexRising, IsEntry}
+use Rattle.acc_dev.specs.Kept.{stored_place, stored_len, stored_bytes, stored_pins, stored_ended, block_from, memory_from, mark_from, slot_of, blocks_in, memories_in, marks_in, IsIndexRising, IsEntry, IsSlotOf}
 use Rattle.acc_dev.proofs.Rising.{start, all_at, find_at, find-map, map-remove}
 
 -- the slots of these entries are as they were
@@ -143,7 +143,7 @@ abbrev pub AreTold : List (ℕ × ℕ) → ℕ → ℕ → Type 0
 AreTold xs n k = AllByRecursion (λ e. ((e.0 ≡ n) × (e.1 ≡ k)) ⊎ ((e.0 ≡ n → ⊥) × (e.1 ≡ k → ⊥))) xs
 
 -- the entries are told apart by their numbers as by their slots
-pub told : (xs : List (ℕ × ℕ)) (i : ℕ) → IsIndexRising xs → EachPair (λ d e. d.1 ≡ e.1 → ⊥) xs → i < length xs → AreTold xs (get_or xs i start).0 (get_or xs i start).1
+told : (xs : List (ℕ × ℕ)) (i : ℕ) → IsIndexRising xs → EachPair (λ d e. d.1 ≡ e.1 → ⊥) xs → i < length xs → AreTold xs (get_or xs i start).0 (get_or xs i start).1
 told [] i rise distinct lt = absurd (omega arith)
 told (x ∷ xs) zero rise distinct lt = (inl (refl, refl), off xs rise.0 distinct.0)
   where
@@ -153,6 +153,10 @@ told (x ∷ xs) zero rise distinct lt = (inl (refl, refl), off xs rise.0 distinc
 told (x ∷ xs) (suc i) rise distinct lt =
     let less : x.0 < (get_or xs i start).0 = all_at (λ (e : ℕ × ℕ). x.0 < e.0) xs i start (omega arith) rise.0 in
     (inr (λ same. omega arith, all_at (λ (e : ℕ × ℕ). x.1 ≡ e.1 → ⊥) xs i start (omega arith) distinct.0), told xs i rise.1 distinct.1 (omega arith))
+
+-- so is the entry of a block, by its slot
+pub told_slot : (xs : List (ℕ × ℕ)) (n k : ℕ) → IsIndexRising xs → EachPair (λ d e. d.1 ≡ e.1 → ⊥) xs → IsSlotOf xs n k → AreTold xs n k
+told_slot xs n k rise distinct slot = subst (λ (j : ℕ). AreTold xs n j) slot.is (subst (λ (m : ℕ). AreTold xs m (get_or xs slot.at start).1) slot.entry.number (told xs slot.at rise distinct slot.entry.in_bounds))
 
 -- what is made of the slot of one entry changes alone, where entries are told apart
 made-changed : {Y : Type 0} (f : ℕ → Option Stored → Y) (change : Y → Y) (s t : List (Option Stored)) (n k : ℕ) (xs : List (ℕ × ℕ)) → KeepsOthers s t k → f n (get_or t k None) ≡ change (f n (get_or s k None)) → ((m : ℕ) (o : Option Stored) → (m ≡ n → ⊥) → change (f m o) ≡ f m o) → AreTold xs n k
@@ -175,14 +179,13 @@ changed_here n change bytes = rw (equal_self n)
 changed_elsewhere : (n : ℕ) (change : List ℕ → List ℕ) (m : ℕ) (o : Option Stored) → (m ≡ n → ⊥) → memory_changed n change (memory_from m o) ≡ memory_from m o
 changed_elsewhere n change m o differs = let t : (m == n) ≡ false = grind (arith, nat_tests, differs) in rw t
 
--- a change of the bytes of an entry's slot changes the memory of its block alone
-pub memories_in-changed : (s t : List (Option Stored)) (xs : List (ℕ × ℕ)) (i n : ℕ) (change : List ℕ → List ℕ) → IsIndexRising xs → EachPair (λ d e. d.1 ≡ e.1 → ⊥) xs → IsEntry xs n i → KeepsOthers s t (get_or xs i start).1
-    → stored_bytes (get_or t (get_or xs i start).1 None) ≡ change (stored_bytes (get_or s (get_or xs i start).1 None)) → memories_in t xs ≡ map (memory_changed n change) (memories_in s xs)
-memories_in-changed s t xs i n change rise distinct entry others is =
-    let told_of : AreTold xs n (get_or xs i start).1 = subst (λ (m : ℕ). AreTold xs m (get_or xs i start).1) entry.number (told xs i rise distinct entry.in_bounds) in
-    made-changed memory_from (memory_changed n change) s t n (get_or xs i start).1 xs others
-    (ap (λ (b : List ℕ). let m : Memory = record { block = n; bytes = b } in m) is ∙ sym (changed_here n change (stored_bytes (get_or s (get_or xs i start).1 None))))
-    (changed_elsewhere n change) told_of
+-- a change of the bytes of a block's slot changes its memory alone
+pub memories_in-changed : (s t : List (Option Stored)) (xs : List (ℕ × ℕ)) (n k : ℕ) (change : List ℕ → List ℕ) → IsIndexRising xs → EachPair (λ d e. d.1 ≡ e.1 → ⊥) xs → IsSlotOf xs n k → KeepsOthers s t k
+    → stored_bytes (get_or t k None) ≡ change (stored_bytes (get_or s k None)) → memories_in t xs ≡ map (memory_changed n change) (memories_in s xs)
+memories_in-changed s t xs n k change rise distinct slot others is =
+    made-changed memory_from (memory_changed n change) s t n k xs others
+    (ap (λ (b : List ℕ). let m : Memory = record { block = n; bytes = b } in m) is ∙ sym (changed_here n change (stored_bytes (get_or s k None))))
+    (changed_elsewhere n change) (told_slot xs n k rise distinct slot)
 
 -- a change of a block's mark is a change of what its slot has
 marked_here : (n : ℕ) (change : Mark → Mark) (o : Option Stored) → mark_changed n change (mark_from n o) ≡ change (mark_from n o)
@@ -192,9 +195,8 @@ marked_here n change o = rw (equal_self n)
 marked_elsewhere : (n : ℕ) (change : Mark → Mark) (m : ℕ) (o : Option Stored) → (m ≡ n → ⊥) → mark_changed n change (mark_from m o) ≡ mark_from m o
 marked_elsewhere n change m o differs = let t : (m == n) ≡ false = grind (arith, nat_tests, differs) in rw t
 
--- a change of the mark of an entry's slot changes the mark of its block alone
-pub marks_in-changed : (s t : List (Option Stored)) (xs : List (ℕ × ℕ)) (i n : ℕ) (change : Mark → Mark) → IsIndexRising xs → EachPair (λ d e. d.1 ≡ e.1 → ⊥) xs → IsEntry xs n i → KeepsOthers s t (get_or xs i start).1
-    → mark_from n (get_or t (get_or xs i start).1 None) ≡ change (mark_from n (get_or s (get_or xs i start).1 None)) → marks_in t xs ≡ map (mark_changed n change) (marks_in s xs)
-marks_in-changed s t xs i n change rise distinct entry others is =
-    let told_of : AreTold xs n (get_or xs i start).1 = subst (λ (m : ℕ). AreTold xs m (get_or xs i start).1) entry.number (told xs i rise distinct entry.in_bounds) in
-    made-changed mark_from (mark_changed n change) s t n (get_or xs i start).1 xs others (is ∙ sym (marked_here n change (get_or s (get_or xs i start).1 None))) (marked_elsewhere n change) told_of
+-- a change of the mark of a block's slot changes its mark alone
+pub marks_in-changed : (s t : List (Option Stored)) (xs : List (ℕ × ℕ)) (n k : ℕ) (change : Mark → Mark) → IsIndexRising xs → EachPair (λ d e. d.1 ≡ e.1 → ⊥) xs → IsSlotOf xs n k → KeepsOthers s t k
+    → mark_from n (get_or t k None) ≡ change (mark_from n (get_or s k None)) → marks_in t xs ≡ map (mark_changed n change) (marks_in s xs)
+marks_in-changed s t xs n k change rise distinct slot others is =
+    made-changed mark_from (mark_changed n change) s t n k xs others (is ∙ sym (marked_here n change (get_or s k None))) (marked_elsewhere n change) (told_slot xs n k rise distinct slot)

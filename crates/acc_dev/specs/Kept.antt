@@ -1,5 +1,5 @@
 -- How a device keeps its blocks: each in a slot of a slab, and an index of their numbers and slots. No public clause cites this module.
-use Rattle.std.specs.Prelude.{ℕ, ◌≡◌, ◌≢◌, ◌+◌, ◌^◌, ◌<◌, ◌≤◌, ◌&&◌, if◌then◌else◌, nat_le, Bool, false, List, [], ◌∷◌, map, length, Option, Some, None, IsSome, slice_index_or}
+use Rattle.std.specs.Prelude.{ℕ, ◌≡◌, ◌≢◌, ◌+◌, ◌^◌, ◌<◌, ◌≤◌, ◌&&◌, if◌then◌else◌, nat_le, Bool, true, false, List, [], ◌∷◌, map, length, Option, Some, None, IsSome, slice_index_or}
 use Rattle.std.specs.List.{AllByRecursion}
 use Rattle.acc_base.specs.declared.addresses.TheConstants.{MEMORY_MAX}
 use Rattle.acc_base.specs.declared.loans.Loan.{Loan}
@@ -7,14 +7,17 @@ use Rattle.acc_base.specs.declared.mappings.Block.{Block}
 use Rattle.acc_base.specs.declared.mappings.Ended.{Ended}
 use Rattle.acc_base.specs.Limits.{IsFromOne}
 use Rattle.acc_base.specs.Section.{device_base}
-use Rattle.acc_base.specs.Blocks.{rounded}
+use Rattle.acc_base.specs.Blocks.{rounded, block_at}
+use Rattle.acc_base.specs.Bytes.{bytes_of}
+use Rattle.acc_base.specs.Loans.{loan_of, is_lent}
 use Rattle.acc_base.specs.Records.{Memory}
 use Rattle.acc_base.specs.Holes.{taken_range}
 use Rattle.acc_base.specs.Accounts.{EachPair}
 use Rattle.acc_placement.specs.Space.{Space, IsCanonical, IsPartition}
 use Rattle.slab.specs.Slab.{Slab, get}
 use Rattle.acc_dev.specs.declared.entries.Stored.{Stored}
-use Rattle.acc_dev.specs.Marks.{Mark, IsSoundMark}
+use Rattle.acc_dev.specs.Marks.{Mark, pins_at, is_ended_at, IsSoundMark}
+use Rattle.acc_dev.specs.Device.{DeviceState, overwritten}
 
 -- the place that a slot has; no slot of a block is empty
 abbrev pub stored_place : Option Stored → ℕ
@@ -126,6 +129,35 @@ pub record AreNumbersBorn (index : List (ℕ × ℕ)) (births : ℕ) : Type 0 wh
 pub record IsEntry (index : List (ℕ × ℕ)) (block at : ℕ) : Type 0 where
   pub in_bounds : at < length index
   pub number : (slice_index_or index at (0, 0)).0 ≡ block
+
+-- the slot is that of the block's entry
+pub record IsSlotOf (index : List (ℕ × ℕ)) (block slot : ℕ) : Type 0 where
+  pub at : ℕ
+  pub entry : IsEntry index block at
+  pub is : (slice_index_or index at (0, 0)).1 ≡ slot
+
+-- what a slot has is the block's, as contracts see it
+pub record IsStoredOf (d : DeviceState) (block : ℕ) (s : Stored) : Type 0 where
+  pub block_is : block_at block d.blocks ≡ Some (record { number = block; place = s.place; len = s.len })
+  pub bytes : s.bytes.items ≡ bytes_of block d.memories
+  pub long : is_lent block d.loans ≡ false → length s.bytes.items ≡ s.len
+  pub len : IsFromOne MEMORY_MAX s.len
+  pub pins : s.pins ≡ pins_at block d.marks
+  pub few : s.pins ≤ 2 ^ 32
+  pub ended : s.ended ≡ is_ended_at block d.marks
+  pub loan : s.loan ≡ loan_of block d.loans
+  pub free : s.ended ≡ true → is_lent block d.loans ≡ false
+
+-- the slot has the same place, length, mark and loan, and these bytes from an offset on; every other slot is as it was
+pub record IsRewritten (old new : Slab Stored) (slot offset : ℕ) (bytes : List ℕ) : Type 0 where
+  pub filled : IsSome (get new slot)
+  pub place : stored_place (get new slot) ≡ stored_place (get old slot)
+  pub len : stored_len (get new slot) ≡ stored_len (get old slot)
+  pub pins : stored_pins (get new slot) ≡ stored_pins (get old slot)
+  pub ended : stored_ended (get new slot) ≡ stored_ended (get old slot)
+  pub loan : stored_loan (get new slot) ≡ stored_loan (get old slot)
+  pub bytes_are : stored_bytes (get new slot) ≡ overwritten offset bytes (stored_bytes (get old slot))
+  pub others : (other : ℕ) → other ≢ slot → get new other ≡ get old other
 
 -- the slot has the same place, length, bytes and loan, and this mark; every other slot is as it was
 pub record IsRemarked (old new : Slab Stored) (slot pins : ℕ) (ended : Bool) : Type 0 where

@@ -13,9 +13,10 @@ ghost use Rattle.acc_base.specs.Loans.{loan_of, is_lent};
 ghost use Rattle.acc_placement.specs.Ranges.{IsTakeBelow};
 ghost use Rattle.acc_dev.specs.Marks.{Mark, pins_at, is_ended_at, lowest_ended as lowest_ended_of, IsMarkOf, IsSoundMark};
 ghost use Rattle.acc_dev.specs.Device.{HasBlock, IsNew, IsUnchanged, IsBorn, IsBornWith, IsNextRoom, IsBlockWritten, IsMarked, IsPinned, IsUnpinned, IsEnded, IsRetired, IsLoanOn, AreLoansRising, HasBlocksApart, birth_place, planned_blocks};
+ghost use Rattle.acc_dev.specs.Kept.{IsStoredOf};
 
 use crate::entries::{
-    Stored, lowest_ended, make_room, position_of, put, remove_at, set_mark, write_at,
+    Stored, lowest_ended, make_room, position_of, put, remove_at, set_mark, slot_of_block, write_at,
 };
 use crate::filling::{fill, filled, make_vectors};
 use acc_base::{DEVICE_BASE, Ended, Fault, MEMORY_MAX};
@@ -255,9 +256,7 @@ impl Device {
         requires { HasBlock self.now block }
         ensures { IsSomeAnd (block_at block self.now.blocks) (λ b. (result.0 ≡ b.place) × (result.1 ≡ size_of b)) }
     {
-        let Some(stored) = self.stored(block) else {
-            unreachable!()
-        };
+        let stored = self.stored(block);
         (stored.place, rounded(stored.len))
     }
 
@@ -268,7 +267,7 @@ impl Device {
         ensures bytes { IfSome result (λ bytes. bytes.now ≡ bytes_of block self.now.memories) }
         ensures len { IfSome result (λ bytes. IsSomeAnd (block_at block self.now.blocks) (λ b. length bytes.now ≡ b.len)) }
     {
-        let stored = self.stored(block)?;
+        let stored = self.stored(block);
         if stored.loan.is_some() {
             return None;
         }
@@ -283,10 +282,7 @@ impl Device {
         requires in_range { offset + length bytes.now ≤ length (bytes_of block self.old.memories) }
         ensures { IsBlockWritten self.old self.new block offset bytes.now }
     {
-        let Some(at) = position_of(&self.index, block) else {
-            unreachable!()
-        };
-        let slot = self.index[at].1;
+        let slot = slot_of_block(&self.index, block);
         write_at(&mut self.slab, slot, offset as usize, bytes);
     }
 
@@ -415,9 +411,7 @@ impl Device {
         ensures ended { result.1 ≡ is_ended_at block self.now.marks }
         ensures free { result.1 ≡ true → is_lent block self.now.loans ≡ false }
     {
-        let Some(stored) = self.stored(block) else {
-            unreachable!()
-        };
+        let stored = self.stored(block);
         (stored.pins, stored.ended)
     }
 
@@ -429,27 +423,15 @@ impl Device {
         requires free { ended ≡ true → is_lent block self.old.loans ≡ false }
         ensures { (change : Mark → Mark) → change (record { block = block; pins = pins_at block self.old.marks; ended = is_ended_at block self.old.marks }) ≡ record { block = block; pins = pins; ended = ended } → IsMarked self.old self.new block change }
     {
-        let Some(at) = position_of(&self.index, block) else {
-            unreachable!()
-        };
-        let slot = self.index[at].1;
+        let slot = slot_of_block(&self.index, block);
         set_mark(&mut self.slab, slot, pins, ended);
     }
 
-    /// What the slot of a block of the device has: there is always something.
-    pub(crate) fn stored(&self, block: u64) -> Option<&Stored>
+    /// What the slot of a block of the device has.
+    pub(crate) fn stored(&self, block: u64) -> &Stored
         requires { HasBlock self.now block }
-        ensures block { IsSomeAnd result (λ stored. block_at block self.now.blocks ≡ Some (record { number = block; place = stored.now.place; len = stored.now.len })) }
-        ensures bytes { IfSome result (λ stored. stored.now.bytes.items ≡ bytes_of block self.now.memories) }
-        ensures long { IfSome result (λ stored. is_lent block self.now.loans ≡ false → length stored.now.bytes.items ≡ stored.now.len) }
-        ensures len { IfSome result (λ stored. IsFromOne MEMORY_MAX stored.now.len) }
-        ensures pins { IfSome result (λ stored. stored.now.pins ≡ pins_at block self.now.marks) }
-        ensures few { IfSome result (λ stored. stored.now.pins ≤ 2 ^ 32) }
-        ensures ended { IfSome result (λ stored. stored.now.ended ≡ is_ended_at block self.now.marks) }
-        ensures loan { IfSome result (λ stored. stored.now.loan ≡ loan_of block self.now.loans) }
-        ensures free { IfSome result (λ stored. stored.now.ended ≡ true → is_lent block self.now.loans ≡ false) }
+        ensures { IsStoredOf self.now block result.now }
     {
-        let at = position_of(&self.index, block)?;
-        self.slab.get(self.index[at].1)
+        &self.slab[slot_of_block(&self.index, block)]
     }
 }

@@ -1,16 +1,16 @@
 //! The slots of blocks, and the index by which a number finds its slot.
 
-ghost use Rattle.std.specs.Prelude.{◌≡◌, ℕ, ◌+◌, ◌^◌, ◌<◌, ◌≤◌, ◌≢◌, List, [], ◌∷◌, ◌++◌, ◌&&◌, ◌==◌, length, IfSome, IfNone, IfErr, OnOk, IsOk, IsSome, Some, None, slice_index_or, vec_len, vec_capacity};
+ghost use Rattle.std.specs.Prelude.{◌≡◌, ℕ, ◌+◌, ◌^◌, ◌<◌, ◌≤◌, ◌≢◌, List, [], ◌∷◌, ◌++◌, ◌&&◌, ◌==◌, length, is_some, IfSome, IfNone, IfErr, OnOk, IsOk, IsSome, Some, None, slice_index_or, vec_len, vec_capacity};
 ghost use Rattle.std.specs.List.{AllByRecursion, remove};
 ghost use Rattle.slab.specs.Slab.{get, slab_len, HasRoomFor};
 ghost use Rattle.acc_base.specs.Limits.{IsFromOne};
 ghost use Rattle.acc_base.specs.Blocks.{rounded as rounded_of};
-ghost use Rattle.acc_base.specs.Loans.{is_loan_of};
+ghost use Rattle.acc_base.specs.Loans.{is_loan_of, is_returnable};
 ghost use Rattle.acc_placement.specs.Ranges.{IsFit, IsLeastFit};
 ghost use Rattle.acc_placement.specs.Space.{IsSameSpace};
 ghost use Rattle.acc_dev.specs.Device.{overwritten};
 ghost use Rattle.acc_dev.specs.Marks.{new_mark};
-ghost use Rattle.acc_dev.specs.Kept.{stored_place, stored_len, stored_bytes, stored_pins, stored_ended, stored_loan, slot_of, blocks_in, memories_in, marks_in, loans_in, lower_of as lower_one, lowest_told, told_of, IsIndexRising, IsEntry, AreSlotsKept, IsRemarked, IsRelent};
+ghost use Rattle.acc_dev.specs.Kept.{stored_place, stored_len, stored_bytes, stored_pins, stored_ended, stored_loan, slot_of, blocks_in, memories_in, marks_in, loans_in, lower_of as lower_one, lowest_told, told_of, IsIndexRising, IsEntry, IsSlotOf, IsBacked, AreSlotsKept, IsRewritten, IsRemarked, IsRelent};
 
 use acc_base::{Ended, Fault, Loan, MEMORY_MAX};
 use acc_lend::Lease;
@@ -43,6 +43,28 @@ pub fn position_of(index: &[(u64, usize)], block: u64) -> Option<usize>
     ensures none { IfNone result (AllByRecursion (λ e. e.0 ≡ block → ⊥) index.now) }
 {
     index.binary_search_by_key(&block, |entry| entry.0).ok()
+}
+
+/// The slot of a block, if it has one.
+fn find_slot(index: &[(u64, usize)], block: u64) -> Option<usize>
+    requires { IsIndexRising index.now }
+    ensures found { IfSome result (IsSlotOf index.now block) }
+    ensures none { IfNone result (AllByRecursion (λ e. e.0 ≡ block → ⊥) index.now) }
+{
+    let at = position_of(index, block)?;
+    Some(index[at].1)
+}
+
+/// The slot of a block that has one.
+pub fn slot_of_block(index: &[(u64, usize)], block: u64) -> usize
+    requires rising { IsIndexRising index.now }
+    requires there { AllByRecursion (λ e. e.0 ≡ block → ⊥) index.now → ⊥ }
+    ensures { IsSlotOf index.now block result }
+{
+    let Some(slot) = find_slot(index, block) else {
+        unreachable!()
+    };
+    slot
 }
 
 /// Makes room for `count` blocks more, so that so many calls of [`put`] need no memory. It is refused only where that
@@ -148,14 +170,7 @@ pub fn remove_at(
 pub fn write_at(slab: &mut Slab<Stored>, slot: usize, offset: usize, bytes: &[u8])
     requires filled { IsSome (get slab.old slot) }
     requires in_range { offset + length bytes.now ≤ length (stored_bytes (get slab.old slot)) }
-    ensures filled { IsSome (get slab.new slot) }
-    ensures place { stored_place (get slab.new slot) ≡ stored_place (get slab.old slot) }
-    ensures len { stored_len (get slab.new slot) ≡ stored_len (get slab.old slot) }
-    ensures bytes { stored_bytes (get slab.new slot) ≡ overwritten offset bytes.now (stored_bytes (get slab.old slot)) }
-    ensures pins { stored_pins (get slab.new slot) ≡ stored_pins (get slab.old slot) }
-    ensures ended { stored_ended (get slab.new slot) ≡ stored_ended (get slab.old slot) }
-    ensures loan { stored_loan (get slab.new slot) ≡ stored_loan (get slab.old slot) }
-    ensures others { (other : ℕ) → other ≢ slot → get slab.new other ≡ get slab.old other }
+    ensures written { IsRewritten slab.old slab.new slot offset bytes.now }
     ensures slots { slab_len slab.new ≡ slab_len slab.old }
     ensures capacity { slab.new.capacity ≡ slab.old.capacity }
 {
@@ -194,7 +209,7 @@ pub fn loan_at(slab: &Slab<Stored>, slot: usize) -> Option<Loan>
 
 /// Whether a lease brings the block of a slot back: the slot is lent under the lease's serial number, for the same
 /// section, and its block is as long as the lease has bytes.
-pub fn is_loan_at(slab: &Slab<Stored>, slot: usize, lease: &Lease) -> bool
+fn is_loan_at(slab: &Slab<Stored>, slot: usize, lease: &Lease) -> bool
     ensures { result ≡ (is_loan_of lease.now (stored_loan (get slab.now slot)) && stored_len (get slab.now slot) == length lease.now.bytes) }
 {
     let Some(stored) = slab.get(slot) else {
@@ -207,6 +222,21 @@ pub fn is_loan_at(slab: &Slab<Stored>, slot: usize, lease: &Lease) -> bool
         && loan.offset == lease.offset() as u64
         && loan.len == lease.len() as u64
         && stored.len == lease.block_bytes().len() as u64
+}
+
+/// The slot whose block a lease brings back, if there is one.
+pub fn slot_back(slab: &Slab<Stored>, index: &[(u64, usize)], lease: &Lease) -> Option<usize>
+    requires rising { IsIndexRising index.now }
+    requires backed { AllByRecursion (λ e. IsBacked e.0 (slot_of slab.now.slots e)) index.now }
+    ensures returnable { is_some result ≡ is_returnable lease.now (blocks_in slab.now.slots index.now) (loans_in slab.now.slots index.now) }
+    ensures slot { IfSome result (IsSlotOf index.now lease.now.block) }
+    ensures len { IfSome result (λ slot. stored_len (get slab.now slot) ≡ length lease.now.bytes) }
+{
+    let slot = find_slot(index, lease.block())?;
+    if is_loan_at(slab, slot, lease) {
+        return Some(slot);
+    }
+    None
 }
 
 /// Moves the bytes of a slot into a lease of this loan, and leaves none.

@@ -7,7 +7,7 @@ ghost use Rattle.acc_dev.specs.Marks.{is_ended_at};
 ghost use Rattle.acc_dev.specs.Device.{HasBlock, IsTakenOut, IsPutBack};
 
 use crate::devices::Device;
-use crate::entries::{is_loan_at, lend_at, loan_at, position_of, restore_at};
+use crate::entries::{lend_at, loan_at, restore_at, slot_back, slot_of_block};
 use acc_base::{Fault, Loan};
 use acc_lend::Lease;
 
@@ -36,10 +36,7 @@ impl Device {
         ensures out { OnOk result (IsTakenOut self.old self.new (record { serial = serial; block = block; offset = offset; len = len })) }
         ensures same { OnErr result (self.new ≡ self.old) }
     {
-        let Some(at) = position_of(&self.index, block) else {
-            unreachable!()
-        };
-        let slot = self.index[at].1;
+        let slot = slot_of_block(&self.index, block);
         if loan_at(&self.slab, slot).is_some() {
             return Err(Fault::Lent { block });
         }
@@ -67,13 +64,9 @@ impl Device {
         ensures same { OnErr result (self.new ≡ self.old) }
     {
         let serial = lease.serial();
-        let Some(at) = position_of(&self.index, lease.block()) else {
+        let Some(slot) = slot_back(&self.slab, &self.index, &lease) else {
             return Err((lease, Fault::NoLease { serial }));
         };
-        let slot = self.index[at].1;
-        if !is_loan_at(&self.slab, slot, &lease) {
-            return Err((lease, Fault::NoLease { serial }));
-        }
         restore_at(&mut self.slab, slot, lease.into_block());
         Ok(())
     }
@@ -83,16 +76,13 @@ impl Device {
         requires { HasBlock self.now block }
         ensures { result ≡ loan_of block self.now.loans }
     {
-        self.stored(block)?.loan
+        self.stored(block).loan
     }
 
     /// Whether [`Device::put_back`] takes a lease. It needs no memory.
     pub fn is_returnable(&self, lease: &Lease) -> bool
         ensures { result ≡ is_returnable lease.now self.now.blocks self.now.loans }
     {
-        match position_of(&self.index, lease.block()) {
-            Some(at) => is_loan_at(&self.slab, self.index[at].1, lease),
-            None => false,
-        }
+        slot_back(&self.slab, &self.index, lease).is_some()
     }
 }

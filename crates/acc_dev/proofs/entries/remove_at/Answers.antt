@@ -2,10 +2,10 @@ use Rattle.std.proofs.Common.{ℕ, ◌≡◌, ◌<◌, List, Option, Some, get_o
 use Rattle.acc_base.specs.Accounts.{EachPair}
 use Rattle.acc_dev.specs.declared.entries.Stored.{Stored}
 use Rattle.acc_dev.specs.Kept.{block_from, memory_from, mark_from, slot_of}
-use Rattle.acc_dev.proofs.Rising.{start}
+use Rattle.acc_dev.proofs.Rising.{start, entry_read}
 use Rattle.acc_dev.proofs.Slots.{AreSame, KeepsOthers, made-removed}
 use Rattle.acc_dev.proofs.Lent.{loans_in-same, loans_in-remove}
-use Rattle.acc_dev.proofs.Keeping.{entry_read, filled_read, len_stored}
+use Rattle.acc_dev.proofs.Keeping.{filled_read, len_stored}
 use Rattle.acc_dev.proofs.Ends.{taken_stored, same_left, left_kept}
 use Rattle.std.specs.List.{remove}
 use Rattle.acc_dev.proofs.entries.remove_at.Goals as goal

@@ -1,8 +1,8 @@
 use Rattle.std.proofs.Common.{◌≡◌, false, sym, subst, arith}
 use Rattle.acc_base.specs.Loans.{is_lent}
 use Rattle.acc_dev.specs.Room.{room_ready}
-use Rattle.acc_dev.specs.Device.{DeviceState, HasBlock, IsRetired}
-use Rattle.acc_dev.proofs.Keeping.{device_of, not_missed}
+use Rattle.acc_dev.specs.Device.{DeviceState, IsRetired}
+use Rattle.acc_dev.proofs.Keeping.{device_of, listed}
 use Rattle.acc_dev.proofs.Ends.{retired_of, counted_left}
 use Rattle.acc_dev.proofs.Writes.{free_at}
 use Rattle.acc_dev.proofs.devices.Device.give_back.Goals as goal
@@ -11,7 +11,7 @@ pub unreachable-requires : goal.unreachable-requires
 unreachable-requires c =
     let s = c.self.inside in
     let none = rw c.deref.ensures.value at c.in_default.ensures.none in
-    not_missed s.slab.slots s.index.items c.args.block none (subst (λ (d : DeviceState). HasBlock d c.args.block) (sym c.self.view_is) c.requires.there)
+    listed s.holes s.slab.slots s.index.items s.births c.args.block (room_ready s) c.args.self.now c.self.view_is c.requires.there none
 
 pub returns : goal.returns
 returns c =

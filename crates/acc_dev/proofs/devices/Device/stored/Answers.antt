@@ -1,44 +1,24 @@
-use Rattle.std.proofs.Common.{sym, subst}
+use Rattle.std.proofs.Common.{subst}
+use Rattle.acc_dev.specs.Device.{DeviceState}
+use Rattle.acc_dev.specs.Kept.{IsStoredOf}
 use Rattle.acc_dev.specs.Room.{room_ready}
-use Rattle.acc_dev.specs.Device.{DeviceState, HasBlock}
-use Rattle.acc_dev.proofs.Keeping.{TellsReference, not_missed, told_reference}
+use Rattle.acc_dev.proofs.Keeping.{listed, filled_slot, stored_of}
 use Rattle.acc_dev.proofs.devices.Device.stored.Goals as goal
 
-pub returns-in_err-at-clause-block : goal.returns-in_err-at-clause-block
-returns-in_err-at-clause-block c =
+pub slot_of_block-requires-clause-there : goal.slot_of_block-requires-clause-there
+slot_of_block-requires-clause-there c =
     let s = c.self.inside in
-    let none = rw c.deref.ensures.value at c.in_err-at.ensures.none in
-    absurd (not_missed s.slab.slots s.index.items c.args.block none (subst (λ (d : DeviceState). HasBlock d c.args.block) (sym c.self.view_is) c.requires))
+    rw c.deref.ensures.value (listed s.holes s.slab.slots s.index.items s.births c.args.block (room_ready s) c.args.self.now c.self.view_is c.requires)
 
-told : (c : goal.After-get) → TellsReference c.args.self.now c.args.block c.get.result
-told c =
+pub index-requires : goal.index-requires
+index-requires c =
     let s = c.self.inside in
-    let found = rw c.deref.ensures.value at c.in_ok-at.ensures.found in
-    subst (λ (d : DeviceState). TellsReference d c.args.block c.get.result) c.self.view_is (told_reference s.holes s.slab.slots s.index.items s.births c.in_ok-at.at c.args.block (room_ready c.self.inside) c.index.result.now c.get.result c.self.invariant.0 found c.index.ensures c.get.ensures)
+    let slot = rw c.deref.ensures.value at c.slot_of_block.ensures in
+    filled_slot s.holes s.slab.slots s.index.items c.args.block c.slot_of_block.result c.self.invariant.0 slot
 
-pub returns-clause-block : goal.returns-clause-block
-returns-clause-block c = (told c).block
-
-pub returns-clause-bytes : goal.returns-clause-bytes
-returns-clause-bytes c = (told c).bytes
-
-pub returns-clause-len : goal.returns-clause-len
-returns-clause-len c = (told c).len
-
-pub returns-clause-pins : goal.returns-clause-pins
-returns-clause-pins c = (told c).pins
-
-pub returns-clause-ended : goal.returns-clause-ended
-returns-clause-ended c = (told c).ended
-
-pub returns-clause-few : goal.returns-clause-few
-returns-clause-few c = (told c).few
-
-pub returns-clause-long : goal.returns-clause-long
-returns-clause-long c = (told c).long
-
-pub returns-clause-loan : goal.returns-clause-loan
-returns-clause-loan c = (told c).loan
-
-pub returns-clause-free : goal.returns-clause-free
-returns-clause-free c = (told c).free
+pub returns : goal.returns
+returns c =
+    let s = c.self.inside in
+    let slot = rw c.deref.ensures.value at c.slot_of_block.ensures in
+    subst (λ (d : DeviceState). IsStoredOf d c.args.block c.index.result.now) c.self.view_is
+    (stored_of s.holes s.slab.slots s.index.items s.births c.args.block c.slot_of_block.result (room_ready s) c.index.result.now c.self.invariant.0 slot c.index.ensures)

@@ -1,5 +1,5 @@
 -- What a device keeps, and what a look-up in it finds.
-use Rattle.std.proofs.Common.{ℕ, ◌≡◌, ◌+◌, ◌^◌, ◌<◌, ◌≤◌, refl, sym, ap, ◌∙◌, subst, List, [], ◌∷◌, ◌++◌, true, false, length, get_or, Option, Some, None, arith, ◌↔◌}
+use Rattle.std.proofs.Common.{ℕ, ◌≡◌, ◌+◌, ◌^◌, ◌<◌, ◌≤◌, refl, sym, ap, ◌∙◌, subst, List, [], ◌∷◌, ◌++◌, false, length, get_or, Option, Some, None, Vec, Global, vec_len, vec_capacity, arith, ◌↔◌}
 use Rattle.std.specs.Prelude.{map, IsSome, IfSome, IfNone, IsTrue, is_some}
 use Rattle.std.specs.List.{AllByRecursion}
 use Rattle.std.proofs.lemmas.Bool.{false≢true}
@@ -19,7 +19,7 @@ use Rattle.acc_placement.proofs.Partitions.{all_disjoint, all_whole}
 use Rattle.slab.specs.Slab.{Slab, slab_len}
 use Rattle.acc_dev.specs.declared.entries.Stored.{Stored}
 use Rattle.acc_dev.specs.declared.devices.Device.TheInside.{Inside}
-use Rattle.acc_dev.specs.Room.{HasRoom}
+use Rattle.acc_dev.specs.Room.{room_ready, HasRoom}
 use Rattle.acc_dev.specs.Device.{DeviceState, HasBlock, HasBlocksApart, IsLoanOn}
 use Rattle.acc_dev.specs.Marks.{pins_at, is_ended_at, IsSoundMark}
 use Rattle.acc_dev.specs.Kept.{stored_len, stored_bytes, stored_pins, stored_ended, stored_loan, block_from, mark_from, marks_in, loans_in, slot_of, blocks_in, memories_in, IsIndexRising, IsOut, IsInOrOut, IsBacked, AreSlotsKept, AreNumbersBorn, IsEntry, IsSlotOf, IsStoredOf}
@@ -127,8 +127,8 @@ slot_known : (P : Option Stored → Type 0) (s : List (Option Stored)) (xs : Lis
 slot_known P s xs n k slot known = subst (λ (j : ℕ). P (get_or s j None)) slot.is known
 
 -- a block that is there has an entry
-pub listed : (h : Space) (s : List (Option Stored)) (xs : List (ℕ × ℕ)) (births n : ℕ) (room : List ℕ) (d : DeviceState) → device_of h s xs births room ≡ d → HasBlock d n → AllByRecursion (λ e. e.0 ≡ n → ⊥) xs → ⊥
-listed h s xs births n room d is there none = false≢true (subst IsSome (block_at-none s xs n none) (subst (λ (x : DeviceState). HasBlock x n) (sym is) there))
+pub listed : (d : Inside) (now : DeviceState) (n : ℕ) → device_of d.holes d.slab.slots d.index.items d.births (room_ready d) ≡ now → HasBlock now n → AllByRecursion (λ e. e.0 ≡ n → ⊥) d.index.items → ⊥
+listed d now n is there none = false≢true (subst IsSome (block_at-none d.slab.slots d.index.items n none) (subst (λ (x : DeviceState). HasBlock x n) (sym is) there))
 
 -- the slot of a block is not empty
 pub filled_slot : (h : Space) (s : List (Option Stored)) (xs : List (ℕ × ℕ)) (n k : ℕ) → AreSlotsKept h s xs → IsSlotOf xs n k → IsSome (get_or s k None)
@@ -185,3 +185,17 @@ stored_of h s xs births n k room x kept slot is =
 -- a change of a slot leaves the room that was made
 pub room_kept : (d : Inside) (t : Slab Stored) → HasRoom d → slab_len t ≡ slab_len d.slab → t.capacity ≡ d.slab.capacity → HasRoom (record d { slab = t })
 room_kept d t r slots capacity = record { few = r.few; empty = r.empty; holes = r.holes; slots = omega (arith, r.slots, slots, capacity); entries = r.entries }
+
+-- a birth for which room was made leaves the room of those behind it
+pub room_used : (d e : Inside) (v : Vec ℕ Global) → HasRoom d → d.ready.items ≡ v ∷ e.ready.items → d.holes.spare ≤ e.holes.spare + 1 → slab_len e.slab ≡ slab_len d.slab + 1 → e.slab.capacity ≡ d.slab.capacity → vec_len e.index ≡ vec_len d.index + 1 → vec_capacity e.index ≡ vec_capacity d.index
+    → HasRoom e
+room_used d e v r items spare slots slab_capacity entries capacity =
+    let longer = ap length items in
+    let empty = subst (λ (vs : List (Vec ℕ Global)). AllByRecursion (λ u. u.items ≡ []) vs) items r.empty in
+    record {
+      few = omega (arith, r.few, longer);
+      empty = empty.1;
+      holes = omega (arith, r.holes, longer, spare);
+      slots = omega (arith, r.slots, longer, slots, slab_capacity);
+      entries = omega (arith, r.entries, longer, entries, capacity);
+    }

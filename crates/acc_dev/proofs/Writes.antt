@@ -1,5 +1,5 @@
 -- What a change of one slot leaves: of its bytes, of its mark, or of its loan.
-use Rattle.std.proofs.Common.{ℕ, ◌≡◌, ◌+◌, ◌<◌, ◌≤◌, refl, sym, ap, ◌∙◌, subst, Bool, true, false, List, [], ◌∷◌, length, get_or, Option, Some, None, arith, inl, inr, length-append, length-drop}
+use Rattle.std.proofs.Common.{ℕ, ◌≡◌, ◌+◌, ◌≤◌, refl, sym, ap, ◌∙◌, subst, Bool, true, false, List, [], ◌∷◌, length, get_or, Option, Some, None, arith, inl, inr, length-append, length-drop}
 use Rattle.std.specs.Prelude.{IsSome, is_some}
 use Rattle.std.specs.List.{AllByRecursion}
 use Rattle.std.proofs.lemmas.Bool.{false≢true, cases_eq}
@@ -12,7 +12,7 @@ use Rattle.slab.specs.Slab.{Slab}
 use Rattle.acc_dev.specs.declared.entries.Stored.{Stored}
 use Rattle.acc_dev.specs.Marks.{Mark, pins_at, is_ended_at, IsSoundMark}
 use Rattle.acc_dev.specs.Device.{DeviceState, IsBlockWritten, IsMarked, IsTakenOut, IsPutBack, overwritten}
-use Rattle.acc_dev.specs.Kept.{stored_place, stored_len, stored_bytes, stored_pins, stored_ended, stored_loan, mark_from, slot_of, blocks_in, memories_in, marks_in, loans_in, IsIndexRising, IsInOrOut, IsBacked, AreSlotsKept, IsEntry, IsSlotOf, IsRewritten, IsRemarked, IsRelent}
+use Rattle.acc_dev.specs.Kept.{stored_len, stored_bytes, stored_ended, stored_loan, mark_from, slot_of, blocks_in, marks_in, loans_in, IsIndexRising, IsInOrOut, IsBacked, AreSlotsKept, IsEntry, IsSlotOf, IsRewritten, IsRemarked, IsRelent}
 use Rattle.acc_dev.proofs.Rising.{start}
 use Rattle.acc_dev.proofs.Slots.{KeepsOthers, told_slot, all_filled, blocks_in-kept, memories_in-kept, marks_in-kept, memories_in-changed, marks_in-changed}
 use Rattle.acc_dev.proofs.Lent.{AreBacked, loan_of-entry, loans_in-kept, loans_in-lent, loans_in-restored, backed_changed, backed_kept, backed_like}

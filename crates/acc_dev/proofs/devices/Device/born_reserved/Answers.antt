@@ -1,11 +1,11 @@
-use Rattle.std.proofs.Common.{List, [], vec_capacity, Vec, Global, ◌≡◌, ◌+◌, ℕ, length, None, refl, sym, ap, ◌∙◌, subst, arith}
+use Rattle.std.proofs.Common.{vec_capacity, ◌≡◌, ◌+◌, length, None, refl, sym, ap, ◌∙◌, subst}
 use Rattle.std.specs.Prelude.{map}
-use Rattle.std.specs.List.{AllByRecursion}
 use Rattle.std.proofs.lemmas.List.{length-replicate}
 use Rattle.acc_base.specs.Bytes.{fill_byte}
 use Rattle.acc_dev.specs.Device.{DeviceState, IsBorn, birth_place}
+use Rattle.acc_dev.specs.declared.devices.Device.TheInside.{Inside}
 use Rattle.acc_dev.specs.Room.{room_ready}
-use Rattle.acc_dev.proofs.Keeping.{device_of}
+use Rattle.acc_dev.proofs.Keeping.{device_of, room_used}
 use Rattle.acc_dev.proofs.Births.{born_of, born_counted, above_all, fits_there}
 use Rattle.acc_dev.proofs.devices.Device.born_reserved.Goals as goal
 
@@ -21,21 +21,13 @@ put-requires-clause-fits c =
 
 pub invariant_of-self : goal.invariant_of-self
 invariant_of-self c =
-    let r = c.self.invariant.2 in
-    let items = c.in-Some.ensures.items in
-    let longer = ap length items in
-    let empty = subst (λ (vs : List (Vec ℕ Global)). AllByRecursion (λ v. v.items ≡ []) vs) items r.empty in
+    let s = c.self.inside in
     let births = rw (← c.self.view_is) at c.requires.births in
-    let put = c.put.ensures in (
+    let put = c.put.ensures in
+    let left : Inside = record { alloc = s.alloc; holes = c.put.new.holes; slab = c.put.new.slab; index = c.put.new.index; births = s.births + 1; ready = c.pop_front.new.self } in (
       put.kept,
-      born_counted c.self.inside.index.items c.put.new.index.items c.self.inside.births put.index.0 c.self.invariant.1 births put.index.1,
-      record {
-        few = omega (arith, r.few, longer);
-        empty = empty.1;
-        holes = omega (arith, r.holes, longer, put.spare);
-        slots = omega (arith, r.slots, longer, put.slots, put.slab_capacity);
-        entries = omega (arith, r.entries, longer, put.entries, put.capacity);
-      },
+      born_counted s.index.items c.put.new.index.items s.births put.index.0 c.self.invariant.1 births put.index.1,
+      room_used s left c.in-Some.bytes c.self.invariant.2 c.in-Some.ensures.items put.spare put.slots put.slab_capacity put.entries put.capacity,
     )
 
 pub returns-clause-born : goal.returns-clause-born

@@ -9,9 +9,7 @@ use Rattle.acc_dev.proofs.devices.Device.give_back.Goals as goal
 
 pub unreachable-requires : goal.unreachable-requires
 unreachable-requires c =
-    let s = c.self.inside in
-    let none = rw c.deref.ensures.value at c.in_default.ensures.none in
-    listed s.holes s.slab.slots s.index.items s.births c.args.block (room_ready s) c.args.self.now c.self.view_is c.requires.there none
+    listed c.self.inside c.args.self.now c.args.block c.self.view_is c.requires.there (rw c.deref.ensures.value at c.in_default.ensures.none)
 
 pub returns : goal.returns
 returns c =

@@ -7,9 +7,7 @@ use Rattle.acc_dev.proofs.Writes.{marked_kept, marked_of, lent_mapped}
 use Rattle.acc_dev.proofs.devices.Device.mark.Goals as goal
 
 pub slot_of_block-slot-requires-clause-there : goal.slot_of_block-slot-requires-clause-there
-slot_of_block-slot-requires-clause-there c =
-    let s = c.self.inside in
-    rw c.deref.ensures.value (listed s.holes s.slab.slots s.index.items s.births c.args.block (room_ready s) c.args.self.now c.self.view_is c.requires.there)
+slot_of_block-slot-requires-clause-there c = rw c.deref.ensures.value (listed c.self.inside c.args.self.now c.args.block c.self.view_is c.requires.there)
 
 pub set_mark-requires : goal.set_mark-requires
 set_mark-requires c =

@@ -12,9 +12,7 @@ use Rattle.acc_dev.proofs.Lends.{lent_at, none_here, section_within, capped_at}
 use Rattle.acc_dev.proofs.devices.Device.take_out.Goals as goal
 
 pub slot_of_block-slot-requires-clause-there : goal.slot_of_block-slot-requires-clause-there
-slot_of_block-slot-requires-clause-there c =
-    let s = c.self.inside in
-    rw c.deref.ensures.value (listed s.holes s.slab.slots s.index.items s.births c.args.block (room_ready s) c.args.self.now c.self.view_is c.requires.there)
+slot_of_block-slot-requires-clause-there c = rw c.deref.ensures.value (listed c.self.inside c.args.self.now c.args.block c.self.view_is c.requires.there)
 
 pub lend_at-requires-clause-filled : goal.lend_at-requires-clause-filled
 lend_at-requires-clause-filled c =

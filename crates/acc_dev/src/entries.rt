@@ -46,7 +46,7 @@ pub fn position_of(index: &[(u64, usize)], block: u64) -> Option<usize>
 }
 
 /// The slot of a block, if it has one.
-pub fn find_slot(index: &[(u64, usize)], block: u64) -> Option<usize>
+fn find_slot(index: &[(u64, usize)], block: u64) -> Option<usize>
     requires { IsIndexRising index.now }
     ensures found { IfSome result (IsSlotOf index.now block) }
     ensures none { IfNone result (AllByRecursion (λ e. e.0 ≡ block → ⊥) index.now) }

@@ -2,6 +2,7 @@
 use Rattle.std.proofs.Common.{ℕ, ◌≡◌, ◌+◌, ◌-◌, ◌<◌, ◌≤◌, refl, sym, subst, Bool, true, false, cond, List, [], ◌∷◌, Option, Some, None, arith, max, ⊎_elim}
 use Rattle.std.specs.Prelude.{◌↔◌, Contains, IfSome, ⊤}
 use Rattle.std.proofs.lemmas.List.Elements.{All-contains, All-from_recursion}
+use Rattle.acc_base.specs.Inside.{IsInsideOne}
 use Rattle.acc_base.specs.declared.mappings.Found.{Found}
 use Rattle.std.specs.List.{list_all, AllByRecursion}
 use Rattle.std.proofs.lemmas.Bool.{false≢true}
@@ -103,28 +104,24 @@ within_not_apart s r some within apart = let first : Covers s s.start = (omega a
 within_not_clear : (s : Section) (ranges : List Range) (r : Range) → 0 < s.len → Contains ranges r → IsWithin s r.section → IsClear s ranges → ⊥
 within_not_clear s ranges r some mapped within clear = within_not_apart s r some within (All-contains (λ (t : Range). IsApart s t.section) ranges r (All-from_recursion (λ (t : Range). IsApart s t.section) ranges clear) mapped)
 
--- one mapped range has each address of the section, which is not empty
-abbrev pub IsInOne : Section → List Range → Type 0
-IsInOne s ranges = (0 < s.len) × ((r : Range) × Contains ranges r × IsWithin s r.section)
-
 abbrev pub IsInside : Found → Type 0
 IsInside (Inside block offset) = ⊤
 IsInside _ = ⊥
 
-inside_when : (s : Section) (ranges : List Range) (found : Found) → IsPlacedAt s ranges found → IsInOne s ranges → IsInside found
+inside_when : (s : Section) (ranges : List Range) (found : Found) → IsPlacedAt s ranges found → IsInsideOne s ranges → IsInside found
 inside_when s ranges Empty placed h = let some : 0 < s.len = h.0 in absurd (omega arith)
 inside_when s ranges (Inside block offset) placed h = tt
 inside_when s ranges Absent placed h = absurd (within_not_clear s ranges h.1.0 h.0 h.1.1 h.1.2 placed.1)
 inside_when s ranges Partly placed h = absurd (All-contains (λ (r : Range). ¬ IsWithin s r.section) ranges h.1.0 (All-from_recursion (λ (r : Range). ¬ IsWithin s r.section) ranges placed.1) h.1.1 h.1.2)
 
-in_one : (s : Section) (ranges : List Range) (found : Found) → IsPlacedAt s ranges found → IsInside found → IsInOne s ranges
+in_one : (s : Section) (ranges : List Range) (found : Found) → IsPlacedAt s ranges found → IsInside found → IsInsideOne s ranges
 in_one s ranges Empty placed h = absurd h
 in_one s ranges (Inside block offset) placed h = (placed.0, (placed.1.0, placed.1.1.mapped, placed.1.1.within))
 in_one s ranges Absent placed h = absurd h
 in_one s ranges Partly placed h = absurd h
 
 -- a section is inside a range exactly where each of its addresses is in that one range
-pub inside_exactly : (s : Section) (ranges : List Range) → AllByRecursion (λ (r : Range). 0 < r.section.len) ranges → IsInside (where_is s ranges) ↔ IsInOne s ranges
+pub inside_exactly : (s : Section) (ranges : List Range) → AllByRecursion (λ (r : Range). 0 < r.section.len) ranges → IsInside (where_is s ranges) ↔ IsInsideOne s ranges
 inside_exactly s ranges q = (in_one s ranges (where_is s ranges) (where_is-placed s ranges q), inside_when s ranges (where_is s ranges) (where_is-placed s ranges q))
 
 absent_when : (s : Section) (ranges : List Range) (found : Found) → IsPlacedAt s ranges found → (0 < s.len) × IsClear s ranges → found ≡ Absent

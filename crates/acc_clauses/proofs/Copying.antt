@@ -11,8 +11,8 @@ use Rattle.acc_base.specs.Attachments.{is_skipped}
 use Rattle.acc_base.specs.Records.{Memory}
 use Rattle.acc_base.specs.Bytes.{written_bytes, host_byte, memory_changed, is_moved, bytes_moved_in, bytes_moved_out, host_after_write}
 use Rattle.acc_base.proofs.Results.{equal, equal_self}
-use Rattle.acc_host.specs.Host.{bytes_in, with_bytes}
-use Rattle.acc_dev.specs.Device.{overwritten}
+use Rattle.acc_base.specs.Overwriting.{overwritten}
+use Rattle.acc_host.specs.Host.{bytes_in}
 
 -- ---- bytes written at the addresses of a section
 
@@ -107,17 +107,13 @@ moved_in s host start bytes in_host inside =
     (part-length host (s.start - host_base) s.len (omega (arith, from.at_is, from.fits)))
     (from_part s host_base host (omega (arith, from.at_is)) from.fits)
 
-with_bytes_by : (host bytes : List ℕ) (s : Section) → length bytes ≡ s.len → overwritten (s.start - host_base) bytes host ≡ with_bytes host s bytes
-with_bytes_by host bytes s h = ap (λ n. take (s.start - host_base) host ++ bytes ++ drop (s.start - host_base + n) host) h
-
 pub moved_out : (s : Section) (bytes : List ℕ) (start : ℕ) (host : List ℕ) → is_within s (host_memory (length host)) ≡ true → is_within s (record { start = start; len = length bytes }) ≡ true
-    → bytes_moved_out (covers s) bytes start host ≡ with_bytes host s (part bytes (s.start - start) s.len)
+    → bytes_moved_out (covers s) bytes start host ≡ overwritten (s.start - host_base) (part bytes (s.start - start) s.len) host
 moved_out s bytes start host in_host inside =
     let to : IsPartAt s host_base (length host) (s.start - host_base) = part_at s (host_memory (length host)) in_host in
     let from : IsPartAt s start (length bytes) (s.start - start) = part_at s (record { start = start; len = length bytes }) inside in
     let len : length (part bytes (s.start - start) s.len) ≡ s.len = part-length bytes (s.start - start) s.len (omega (arith, from.at_is, from.fits)) in
     written-overwritten s (λ a. slice_index bytes (a - start)) (s.start - host_base) host_base host (part bytes (s.start - start) s.len) to.at_is to.fits len (from_part s start bytes (omega (arith, from.at_is)) from.fits)
-    ∙ with_bytes_by host (part bytes (s.start - start) s.len) s len
 
 -- ---- a write of the host
 
@@ -131,19 +127,19 @@ written-none s source a (x ∷ xs) h = rw (covers_none s a h, written-none s sou
     covers_none : (s : Section) (a : ℕ) → s.len ≡ 0 → covers s a ≡ false
     covers_none s a h = grind (arith, nat_tests)
 
-replaced-none : (s : Section) (host bytes : List ℕ) → s.len ≡ 0 → length bytes ≡ 0 → with_bytes host s bytes ≡ host
-replaced-none s host [] h e = rw (h, append-nil (take (s.start - host_base) host)) (ap (λ n. take (s.start - host_base) host ++ drop n host) (let same : s.start - host_base + 0 ≡ s.start - host_base = omega arith in same) ∙ take-append-drop (s.start - host_base) host)
-replaced-none s host (x ∷ xs) h e = absurd (omega (arith, e))
+overwritten-none : (offset : ℕ) (host bytes : List ℕ) → length bytes ≡ 0 → overwritten offset bytes host ≡ host
+overwritten-none offset host [] e = rw (append-nil (take offset host)) (ap (λ n. take offset host ++ drop n host) (let same : offset + 0 ≡ offset = omega arith in same) ∙ take-append-drop offset host)
+overwritten-none offset host (x ∷ xs) e = absurd (omega (arith, e))
 
 pub host_written : (addr : ℕ) (bytes host : List ℕ) → (0 < length bytes → is_within (record { start = addr; len = length bytes }) (host_memory (length host)) ≡ true)
-    → host_after_write addr (length bytes) bytes host ≡ with_bytes host (record { start = addr; len = length bytes }) bytes
+    → host_after_write addr (length bytes) bytes host ≡ overwritten (addr - host_base) bytes host
 host_written addr bytes host inside = go bytes refl
   where
     s : Section
     s = record { start = addr; len = length bytes }
 
-    go : (xs : List ℕ) → bytes ≡ xs → host_after_write addr (length bytes) bytes host ≡ with_bytes host s bytes
-    go [] e = let none : length bytes ≡ 0 = ap length e in written-none s (λ a. slice_index bytes (a - addr)) host_base host none ∙ sym (replaced-none s host bytes none none)
+    go : (xs : List ℕ) → bytes ≡ xs → host_after_write addr (length bytes) bytes host ≡ overwritten (addr - host_base) bytes host
+    go [] e = let none : length bytes ≡ 0 = ap length e in written-none s (λ a. slice_index bytes (a - addr)) host_base host none ∙ sym (overwritten-none (addr - host_base) host bytes none)
     go (x ∷ xs) e =
         let to : IsPartAt s host_base (length host) (addr - host_base) = part_at s (host_memory (length host)) (inside (let len : length bytes ≡ length (x ∷ xs) = ap length e in omega (arith, len))) in
         written-overwritten s (λ a. slice_index bytes (a - addr)) (addr - host_base) host_base host bytes to.at_is to.fits refl (from_all addr bytes)

@@ -14,8 +14,9 @@ use Rattle.acc_base.specs.Accounts.{EachPair, IsClearOf, IsMemoryOf}
 use Rattle.acc_base.proofs.Results.{equal}
 use Rattle.acc_base.proofs.Elements.{AllByRecursion-weaker, EachPair-weaker}
 use Rattle.acc_base.proofs.Lookups.{at-own}
-use Rattle.acc_host.specs.Host.{bytes_in, with_bytes}
-use Rattle.acc_dev.specs.Device.{DeviceState, IsBlockWritten, HasBlocksApart, overwritten}
+use Rattle.acc_base.specs.Overwriting.{overwritten}
+use Rattle.acc_host.specs.Host.{bytes_in}
+use Rattle.acc_dev.specs.Device.{DeviceState, IsBlockWritten, HasBlocksApart}
 use Rattle.acc_clauses.proofs.Copying.{from_all, written-overwritten, part, part-length, IsPartAt, part_at, moved_in, moved_out, changed-same}
 
 -- ---- to host memory
@@ -28,7 +29,7 @@ slice_is : (s : Section) (start : ℕ) (bytes : List ℕ) → slice s start byte
 slice_is s start bytes = ap (λ n. take n (drop (s.start - start) bytes)) (let same : s.start - start + s.len - (s.start - start) ≡ s.len = omega arith in same)
 
 pub copied_out : (s : Section) (start : ℕ) (bytes host : List ℕ) → is_within s (host_memory (length host)) ≡ true → is_within s (record { start = start; len = length bytes }) ≡ true
-    → with_bytes host (record { start = s.start; len = length (slice s start bytes) }) (slice s start bytes) ≡ bytes_moved_out (covers s) bytes start host
+    → overwritten (s.start - host_base) (slice s start bytes) host ≡ bytes_moved_out (covers s) bytes start host
 copied_out s start bytes host in_host within =
     let fits : IsPartAt s start (length bytes) (s.start - start) = part_at s (record { start = start; len = length bytes }) within in
     let len : length (slice s start bytes) ≡ s.len = ap length (slice_is s start bytes) ∙ part-length bytes (s.start - start) s.len (omega (arith, fits.at_is, fits.fits)) in

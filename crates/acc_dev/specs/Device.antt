@@ -5,6 +5,7 @@ use Rattle.acc_base.specs.declared.mappings.Block.{Block}
 use Rattle.acc_base.specs.Records.{Memory}
 use Rattle.acc_base.specs.Blocks.{rounded, place_for, block_at, without_block}
 use Rattle.acc_base.specs.Bytes.{fill_byte, memory_changed, memories_kept}
+use Rattle.acc_base.specs.Overwriting.{overwritten}
 use Rattle.acc_base.specs.Loans.{Leased, len_of, with_loan, without_loan}
 use Rattle.acc_base.specs.Accounts.{EachPair, AreBlocksApart}
 use Rattle.acc_dev.specs.Marks.{Mark, new_mark, is_ended_at, mark_changed, with_pin, without_pin, with_end, without_mark}
@@ -75,10 +76,6 @@ planned_blocks number [] = []
 planned_blocks number (t ∷ ts) = record { number = number; place = t.0; len = t.1 } ∷ planned_blocks (suc number) ts
 
 -- ---- writes, pins and ends
-
--- the bytes with others in place of those from an offset on
-abbrev pub overwritten : ℕ → List ℕ → List ℕ → List ℕ
-overwritten offset bytes old = take offset old ++ bytes ++ drop (offset + length bytes) old
 
 -- the new device is the old one with bytes from an offset of a block on
 pub record IsBlockWritten (old new : DeviceState) (block offset : ℕ) (bytes : List ℕ) : Type 0 where

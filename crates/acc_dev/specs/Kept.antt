@@ -17,7 +17,8 @@ use Rattle.acc_placement.specs.Space.{Space, IsCanonical, IsPartition}
 use Rattle.slab.specs.Slab.{Slab, get}
 use Rattle.acc_dev.specs.declared.entries.Stored.{Stored}
 use Rattle.acc_dev.specs.Marks.{Mark, pins_at, is_ended_at, IsSoundMark}
-use Rattle.acc_dev.specs.Device.{DeviceState, overwritten}
+use Rattle.acc_base.specs.Overwriting.{overwritten}
+use Rattle.acc_dev.specs.Device.{DeviceState}
 
 -- the place that a slot has; no slot of a block is empty
 abbrev pub stored_place : Option Stored → ℕ

@@ -8,7 +8,7 @@ ghost use Rattle.acc_base.specs.Blocks.{rounded as rounded_of};
 ghost use Rattle.acc_base.specs.Loans.{is_loan_of, is_returnable};
 ghost use Rattle.acc_placement.specs.Ranges.{IsFit, IsLeastFit};
 ghost use Rattle.acc_placement.specs.Space.{IsSameSpace};
-ghost use Rattle.acc_dev.specs.Device.{overwritten};
+ghost use Rattle.acc_base.specs.Overwriting.{overwritten};
 ghost use Rattle.acc_dev.specs.Marks.{new_mark};
 ghost use Rattle.acc_dev.specs.Kept.{stored_place, stored_len, stored_bytes, stored_pins, stored_ended, stored_loan, slot_of, blocks_in, memories_in, marks_in, loans_in, lower_of as lower_one, lowest_told, told_of, IsIndexRising, IsEntry, IsSlotOf, IsBacked, AreSlotsKept, IsRewritten, IsRemarked, IsRelent};
 

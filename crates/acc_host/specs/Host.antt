@@ -34,7 +34,3 @@ pub record IsWritten (old new : List ℕ) (s : Section) (bytes : List ℕ) : Typ
 -- the part of the host's bytes that a section in host memory is
 abbrev pub bytes_in : List ℕ → Section → List ℕ
 bytes_in host s = take s.len (drop (s.start - host_base) host)
-
--- the host's bytes with the part that a section is replaced
-abbrev pub with_bytes : List ℕ → Section → List ℕ → List ℕ
-with_bytes host s bytes = take (s.start - host_base) host ++ bytes ++ drop (s.start - host_base + s.len) host

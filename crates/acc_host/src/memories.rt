@@ -3,7 +3,9 @@
 ghost use Rattle.std.specs.Prelude.{◌≡◌, ◌+◌, ◌<◌, ◌≤◌, ◌⊎◌, IfOk, IfErr, OnOk, OnErr, IfSome, IfNone, OnSome, length, replicate};
 ghost use Rattle.std.specs.Int.{w64, from_le_bytes};
 ghost use Rattle.acc_base.specs.Limits.{IsSize};
-ghost use Rattle.acc_host.specs.Host.{IsInHost, IsOutOfHost, IsRead, IsWritten, bytes_in, with_bytes};
+ghost use Rattle.acc_base.specs.Section.{host_base};
+ghost use Rattle.acc_base.specs.Overwriting.{overwritten};
+ghost use Rattle.acc_host.specs.Host.{IsInHost, IsOutOfHost, IsRead, IsWritten, bytes_in};
 
 use acc_base::{Fault, HOST_BASE, Section};
 use std::alloc::Global;
@@ -62,7 +64,7 @@ impl HostMem {
     /// is written.
     pub fn write(&mut self, addr: u64, bytes: &[u8]) -> Result<(), Fault>
         ensures each { OnOk result (IsWritten self.old self.new (record { start = addr; len = length bytes.now }) bytes.now) }
-        ensures whole { OnOk result (self.new ≡ with_bytes self.old (record { start = addr; len = length bytes.now }) bytes.now) }
+        ensures whole { OnOk result (self.new ≡ overwritten (addr - host_base) bytes.now self.old) }
         ensures refused { IfErr result (λ fault. fault ≡ Fault.OutOfHost 0) }
         ensures outside { OnErr result (IsOutOfHost self.old (record { start = addr; len = length bytes.now })) }
         ensures unchanged { OnErr result (self.new ≡ self.old) }

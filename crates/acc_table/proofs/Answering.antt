@@ -24,7 +24,8 @@ use Rattle.acc_base.proofs.Where.{IsInside, where_is-placed, inside_exactly, IsI
 use Rattle.acc_clauses.specs.Acts.{CanMove}
 use Rattle.acc_clauses.proofs.Legal.{can_move}
 use Rattle.acc_table.specs.declared.calls.Mapped.{Mapped}
-use Rattle.acc_table.specs.Queries.{is_inside, IsInsideOne, mapped_as, mapped_from, IsLeastFrom, device_read_of}
+use Rattle.acc_base.specs.Inside.{IsInsideOne}
+use Rattle.acc_table.specs.Queries.{is_inside, mapped_as, mapped_from, IsLeastFrom, device_read_of}
 
 -- ---- presence
 

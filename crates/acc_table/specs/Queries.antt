@@ -21,10 +21,6 @@ abbrev pub is_inside : Found → Bool
 is_inside (Inside block offset) = true
 is_inside _ = false
 
--- the section is not empty, and each of its addresses is in one mapped range
-abbrev pub IsInsideOne : Section → List Range → Type 0
-IsInsideOne s ranges = (0 < s.len) × ((r : Range) × Contains ranges r × IsWithin s r.section)
-
 -- the counters of the range that a section is inside
 abbrev pub counters_found : Found → List Range → Option Counters
 counters_found (Inside block offset) ranges = Some (record { structured = structured_of block ranges; dynamic = dynamic_of block ranges })

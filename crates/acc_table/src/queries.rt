@@ -8,7 +8,8 @@ ghost use Rattle.acc_base.specs.Ranges.{where_is, IsPlacedAt};
 ghost use Rattle.acc_base.specs.Pointers.{device_address_of, attachment_of};
 ghost use Rattle.acc_base.specs.Queues.{queue_at};
 ghost use Rattle.acc_base.specs.Waits.{ended_from};
-ghost use Rattle.acc_table.specs.Queries.{is_inside, IsInsideOne, counters_of_section, mapped_from, IsLeastFrom, host_read_of, device_read_of};
+ghost use Rattle.acc_base.specs.Inside.{IsInsideOne};
+ghost use Rattle.acc_table.specs.Queries.{is_inside, counters_of_section, mapped_from, IsLeastFrom, host_read_of, device_read_of};
 
 use crate::calls::Mapped;
 use crate::tables::Table;

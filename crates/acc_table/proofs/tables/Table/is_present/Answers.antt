@@ -3,7 +3,8 @@ use Rattle.std.specs.Prelude.{◌↔◌, IsTrue}
 use Rattle.acc_base.specs.Ranges.{where_is}
 use Rattle.acc_base.specs.Calls.{World}
 use Rattle.acc_table.specs.Kept.{world_of}
-use Rattle.acc_table.specs.Queries.{is_inside, IsInsideOne}
+use Rattle.acc_base.specs.Inside.{IsInsideOne}
+use Rattle.acc_table.specs.Queries.{is_inside}
 use Rattle.acc_table.proofs.Answering.{present}
 use Rattle.acc_table.proofs.tables.Table.is_present.Goals as goal
 

@@ -35,6 +35,7 @@ pub record IsPlain (e : Event) : Type 0 where
   pub memories : (ms : List Memory) → memories_after e [] ms ≡ ms
   pub brought : (w : Records) → AreBrought e [] w
 
+-- the event that is made is the one that is meant
 plain_same : (x e : Event) → Makes x ≡ Makes e → IsPlain x → IsPlain e
 plain_same x e h plain = let is : x ≡ e = cc in subst IsPlain is plain
 

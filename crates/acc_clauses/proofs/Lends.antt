@@ -97,6 +97,7 @@ without-later block (l ∷ ls) later =
     let other : (l.block == block) ≡ false = grind (arith, nat_tests, later.0) in
     rw other (ap (λ ms. l ∷ ms) (without-later block ls later.1))
 
+-- where a block is lent, there is a loan
 some_lent : (block : ℕ) (ls : List Loan) → is_lent block ls ≡ true → 0 < length ls
 some_lent block [] lent = cc
 some_lent block (l ∷ ls) lent = omega arith
@@ -116,11 +117,12 @@ length-without block (l ∷ ls) rising lent = go (l.block == block) refl (length
         let left : is_lent block ls ≡ true = sym step ∙ lent in
         rw e (omega (arith, rest left, some_lent block ls left))
 
--- the block of a lease that is returnable is lent
+-- what is a lease's is some loan
 loan_some : (lease : Leased) (o : Option Loan) → is_loan_of lease o ≡ true → is_some o ≡ true
 loan_some lease None e = cc
 loan_some lease (Some l) e = refl
 
+-- the block of a lease that is returnable is lent
 returnable_lent : (lease : Leased) (w : Records) → is_returnable lease w.blocks w.loans ≡ true → is_lent lease.block w.loans ≡ true
 returnable_lent lease w e = loan_some lease (loan_of lease.block w.loans) (and_true _ _ e).0
 

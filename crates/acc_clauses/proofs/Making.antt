@@ -57,6 +57,7 @@ step_sound : (l : Limits) (q : ℕ) (s : State) → AreRecordsSound l s.records 
 unfolding drained records_drained
 step_sound l q s h m = (subst (AreRecordsSound l) (sym (records-drained (q ∷ []) s)) (stepped_sound l q s.records h), drained_sized l (q ∷ []) s m)
 
+-- it lends nothing, and brings nothing back
 step_loans : (q : ℕ) (s : State) → (stepped q s).records.loans ≡ s.records.loans
 unfolding drained
 step_loans q s = same_loans (q ∷ []) s

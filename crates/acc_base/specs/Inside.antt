@@ -1,5 +1,5 @@
 -- Sections inside a mapped range.
-use Rattle.std.specs.Prelude.{ℕ, ◌<◌, List, Contains}
+use Rattle.std.specs.Prelude.{◌<◌, List, Contains}
 use Rattle.acc_base.specs.declared.items.Section.{Section}
 use Rattle.acc_base.specs.declared.mappings.Range.{Range}
 use Rattle.acc_base.specs.Section.{IsWithin}

@@ -1,5 +1,7 @@
+pub mod Inside
 pub mod Limits
 pub mod Faults
+pub mod Overwriting
 pub mod Results
 pub mod Splits
 pub mod Section

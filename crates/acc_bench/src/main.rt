@@ -1,7 +1,7 @@
 //! Measures the crates of the runtime: `acc_bench placement` prints how long the calls of the placement take,
-//! `acc_bench device` those of device memory, `acc_bench present` those of the present table, `acc_bench clauses` how long
-//! directives of many items take, `acc_bench table` how long the calls of the table, and `acc_bench script` how long
-//! scripts.
+//! `acc_bench device` those of device memory, `acc_bench present` those of the present table, `acc_bench clauses` how
+//! long directives of many items take, `acc_bench table` how long the calls of the table, and `acc_bench script` how
+//! long scripts.
 #![tactic(auto)]
 
 mod clauses;

@@ -19,8 +19,8 @@ const ROUNDS: u64 = 10_000;
 /// How many ranges are added, and then removed, in one measurement.
 const CHANGES: u64 = 100;
 
-/// How far apart the ranges begin among which is measured, in bytes. So between any two there is a place for all that are
-/// added in one measurement.
+/// How far apart the ranges begin among which is measured, in bytes. So between any two there is a place for all that
+/// are added in one measurement.
 const STRIDE: u64 = 4_096;
 
 /// How many bytes each range has.
@@ -29,9 +29,9 @@ const LEN: u64 = 16;
 /// How far apart the ranges begin that are added in one measurement, in bytes.
 const STEP: u64 = 32;
 
-/// Prints, for growing numbers of mapped ranges, how long a look-up of a section takes that is inside one of them and of
-/// one that is absent, beside them a plain search by halves over as many starts, and how long it takes to add a range and
-/// to remove one, behind all others and in the middle.
+/// Prints, for growing numbers of mapped ranges, how long a look-up of a section takes that is inside one of them and
+/// of one that is absent, beside them a plain search by halves over as many starts, and how long it takes to add a range
+/// and to remove one, behind all others and in the middle.
 pub fn run<R: Print + Clock + AllocGlobal>(rt: &R) -> Result<()> {
     for count in [100, 1_000, 10_000, 100_000] {
         measure(rt, count)?;

@@ -24,7 +24,7 @@ enum Kind {
     Mapped,
 }
 
-/// The scripts that are measured: what they are made of, and of how many of it.
+/// The scripts that are measured: what each is made of, and of how many.
 const SCRIPTS: [(Kind, u32); 7] = [
     (Kind::Comments, 262_144),
     (Kind::Directives, 100_000),
@@ -38,8 +38,8 @@ const SCRIPTS: [(Kind, u32); 7] = [
 /// A comment of 64 bytes with its line feed.
 const COMMENT: &str = "# nothing is asked for in this line, and nothing is to be done.\n";
 
-/// Prints how long a script of 16 MiB of comments takes, one of 100,000 directives on one array, growing ones that declare
-/// arrays and use each once, and growing ones that map arrays one after the other and report them all.
+/// Prints how long a script of 16 MiB of comments takes, one of 100,000 directives on one array, growing ones that
+/// declare arrays and use each once, and growing ones that map arrays one after the other and report them all.
 pub fn run<R: Print + Clock + Threads + Wait + Sync + AllocGlobal>(rt: &R) -> Result<()> {
     for (kind, count) in &SCRIPTS {
         measure(rt, *kind, *count)?;

@@ -75,10 +75,10 @@ const TRANSFER: [(&str, Work); 2] = [
 ];
 
 /// Prints how long an `update` of 64 KiB and one of 16 MiB take beside a plain copy of as many bytes, and one of 64 KiB
-/// that leaves 1,000 attached pointers out; and how long
-/// `enter data` with `exit data`, and a data region, take for 16 bytes beside growing numbers of other ranges: where they
-/// map the bytes, and where the bytes are present. And how long an `update` of 16 bytes takes beside other ranges: made at
-/// once, put into a queue and stepped, and made by a `wait` for many.
+/// that leaves 1,000 attached pointers out; and how long `enter data` with `exit data`, and a data region, take for 16
+/// bytes beside growing numbers of other ranges: where they map the bytes, and where the bytes are present. And how long
+/// an `update` of 16 bytes takes beside other ranges: made at once, put into a queue and stepped, and made by a `wait`
+/// for many.
 pub fn run<R: Print + Clock + AllocGlobal>(rt: &R) -> Result<()> {
     for subject in &SUBJECTS {
         measure(rt, *subject)?;

@@ -20,7 +20,7 @@ use Rattle.acc_table.specs.Calls.{reply_of, IsCarriedOut, IsDone, IsRefusal}
 use Rattle.acc_table.specs.Queries.{host_read_of}
 use Rattle.acc_script.specs.declared.print.effects.Effect.{Effect}
 use Rattle.acc_script.specs.Kernels.{source_of}
-use Rattle.acc_script.specs.Scripts.{State, state_after, back_from}
+use Rattle.acc_script.specs.Scripts.{SessionState, state_after, back_from}
 use Rattle.acc_script.specs.Sessions.{CallsFor, Performs, refusal_of}
 use Rattle.acc_script.proofs.Accepted.{accepted}
 use Rattle.acc_script.proofs.Refused.{refused_by}
@@ -38,7 +38,7 @@ pub found_bytes : {A : Type 0} (view : A → List ℕ) (found : Option A) (told 
 found_bytes view None told e some = absurd cc
 found_bytes view (Some x) told e some = (view x, sym e)
 
-module _ (old new : State) (region : ℕ) (kernel : ScriptKernel) (over : Section) (src : List ℕ) (read : host_read_of (source_of kernel) old.world.state.host ≡ Some src) where
+module _ (old new : SessionState) (region : ℕ) (kernel : ScriptKernel) (over : Section) (src : List ℕ) (read : host_read_of (source_of kernel) old.world.state.host ≡ Some src) where
   -- the loan was refused, or wants memory
   pub launch_refused : (fault : Fault) → IsRefusal old.world (Lend region over) fault → new ≡ old
       → Performs old (Kernel region kernel over) new (refusal_of fault)

@@ -17,7 +17,7 @@ use Rattle.acc_read.specs.Lines.{lines_of}
 use Rattle.acc_read.specs.Reading.{◌>>=◌, wants}
 use Rattle.acc_read.specs.Statements.{Meaning, takes_memory}
 use Rattle.acc_script.specs.Sessions.{MayWant}
-use Rattle.acc_script.specs.Scripts.{State, Turned, turned, is_refused, meaning_in, line_turned, needs_memory, line_wants, line_text, Transcript, Ended, Faulty, ended, noted, transcript_from}
+use Rattle.acc_script.specs.Scripts.{SessionState, Turned, turned, is_refused, meaning_in, line_turned, needs_memory, line_wants, line_text, Transcript, Ended, Faulty, ended, noted, transcript_from}
 use Rattle.acc_script.specs.Runs.{RanLine, LostLine, LineRuns, Played}
 use Rattle.acc_script.proofs.Fronts.{Took_then, Took-then_front}
 
@@ -28,13 +28,13 @@ abbrev some_turn : Turned → Result Turned ScriptFault
 some_turn turn = Ok turn
 
 -- a line that says a statement is run as the statement is
-turn_is : (s : State) (line : List ℕ) (meaning : Meaning) (turn : Turned) → meaning_in s line ≡ Ok meaning
+turn_is : (s : SessionState) (line : List ℕ) (meaning : Meaning) (turn : Turned) → meaning_in s line ≡ Ok meaning
     → turned s meaning ≡ turn → line_turned s line ≡ Ok turn
 unfolding line_turned
 turn_is s line meaning turn said is = rw said (ap some_turn is)
 
 -- a line that says something was run
-pub line_ran : (number : ℕ) (s after : State) (line : List ℕ) (old new : Option Taken) (meaning : Meaning)
+pub line_ran : (number : ℕ) (s after : SessionState) (line : List ℕ) (old new : Option Taken) (meaning : Meaning)
     (effect : Effect) (refused : Bool)
     → meaning_in s line ≡ Ok meaning → turned s meaning ≡ record { state = after; effect = effect }
     → refused ≡ is_refused effect → Took old new (line_text number (record { state = after; effect = effect }))
@@ -43,7 +43,7 @@ line_ran number s after line old new meaning effect refused said is refused_is w
     record { turn = record { state = after; effect = effect }; is = turn_is s line meaning _ said is; state = refl; refused_is = refused_is; wrote = wrote }
 
 -- a line that was run and whose text could not be written
-pub line_lost : (number : ℕ) (s after : State) (line : List ℕ) (old new : Option Taken) (meaning : Meaning)
+pub line_lost : (number : ℕ) (s after : SessionState) (line : List ℕ) (old new : Option Taken) (meaning : Meaning)
     (effect : Effect)
     → meaning_in s line ≡ Ok meaning → turned s meaning ≡ record { state = after; effect = effect }
     → TookFront old new (line_text number (record { state = after; effect = effect }))
@@ -52,7 +52,7 @@ line_lost number s after line old new meaning effect said is wrote =
     record { turn = record { state = after; effect = effect }; is = turn_is s line meaning _ said is; wrote = wrote }
 
 -- a line that was read and could not be run, since there was no memory for it
-pub line_wanted : (number : ℕ) (s after left : State) (line : List ℕ) (old : Option Taken) (meaning : Meaning)
+pub line_wanted : (number : ℕ) (s after left : SessionState) (line : List ℕ) (old : Option Taken) (meaning : Meaning)
     (fault : Fault) → meaning_in s line ≡ Ok meaning → (fault ≡ Memory) × MayWant s meaning left
     → LineRuns number s line old old after (Err fault)
 line_wanted number s after left line old meaning fault said h =
@@ -63,7 +63,7 @@ line_wanted number s after left line old meaning fault said h =
     either false k = k
 
 -- a line that could not be read, since there was no memory for it
-pub line_unread : (number : ℕ) (s after : State) (line : List ℕ) (old : Option Taken)
+pub line_unread : (number : ℕ) (s after : SessionState) (line : List ℕ) (old : Option Taken)
     → wants takes_memory (meaning_in s line) ≡ true → LineRuns number s line old old after (Err Memory)
 line_unread number s after line old h = (by (meaning_in s line) h, refl)
   where
@@ -72,7 +72,7 @@ line_unread number s after line old h = (by (meaning_in s line) h, refl)
     by (Err kind) k = absurd cc
 
 -- a line that takes memory is one that is run
-wanting_runs : (s : State) (line : List ℕ) → line_wants s line ≡ true → (turn : Turned) × (line_turned s line ≡ Ok turn)
+wanting_runs : (s : SessionState) (line : List ℕ) → line_wants s line ≡ true → (turn : Turned) × (line_turned s line ≡ Ok turn)
 unfolding line_turned
 wanting_runs s line h = by (meaning_in s line) h
   where
@@ -95,7 +95,7 @@ rest_of done all = record { texts = drop done all.texts; wanting = drop done all
 all_texts : (done : ℕ) (all : Transcript) → drop done all.texts ≡ [] → take done all.texts ≡ all.texts
 all_texts done all none = sym (append-nil (take done all.texts)) ∙ ap (λ (texts : List (List ℕ)). take done all.texts ++ texts) (sym none) ∙ take-append-drop done all.texts
 
-module _ (done : ℕ) (s : State) (refused : Bool) (lines : List (List ℕ)) (all : Transcript) (left : transcript_from (done + 1) s refused lines ≡ rest_of done all) where
+module _ (done : ℕ) (s : SessionState) (refused : Bool) (lines : List (List ℕ)) (all : Transcript) (left : transcript_from (done + 1) s refused lines ≡ rest_of done all) where
   -- no line is left
   none_left : (a b : Option Taken) → lines ≡ [] → Took a b (concat (take done all.texts))
       → (all.ending ≡ ended (done + 1) s refused) × Took a b (concat all.texts)
@@ -187,7 +187,7 @@ module _ (done : ℕ) (s : State) (refused : Bool) (lines : List (List ℕ)) (al
         ap (λ (n : ℕ). get_or all.wanting n false) here ∙ sym (get_or-drop done all.wanting 0 false) ∙ ap (λ (t : Transcript). get_or t.wanting 0 false) (sym (left_is (Ok turn) is)) ∙ wants
 
     -- a line that ends the run
-    pub line_fails : (a b c : Option Taken) (after : State) (e : Fault) → Took a b (concat (take done all.texts))
+    pub line_fails : (a b c : Option Taken) (after : SessionState) (e : Fault) → Took a b (concat (take done all.texts))
         → LineRuns (done + 1) s line b c after (Err e) → Played all a c (Err e)
     line_fails a b c after Memory p f =
         let ran = wanting_runs s line f.0 in

@@ -8,7 +8,7 @@ use Rattle.acc_base.specs.Loans.{Leased}
 use Rattle.acc_base.specs.Judge.{Verdict, Makes, Idle}
 use Rattle.acc_base.specs.Calls.{World, judge}
 use Rattle.acc_table.specs.Calls.{MayWantMemory, IsRefusal}
-use Rattle.acc_script.specs.Scripts.{State}
+use Rattle.acc_script.specs.Scripts.{SessionState}
 use Rattle.acc_script.specs.Sessions.{CallsFor, refusal_of}
 use Rattle.acc_script.proofs.Accepted.{accepted}
 
@@ -24,7 +24,7 @@ refused_by w call fault other refusal = by (judge w call) refusal
     by (Err first) h = rw h refl
 
 -- a call that was refused is printed, or wants memory
-pub refused_call : (old new : State) (call : Call Leased) (fault : Fault) → IsRefusal old.world call fault → new ≡ old
+pub refused_call : (old new : SessionState) (call : Call Leased) (fault : Fault) → IsRefusal old.world call fault → new ≡ old
     → CallsFor old call new (refusal_of fault)
 refused_call old new call fault refusal same = by fault refusal
   where

@@ -7,7 +7,7 @@ use Rattle.acc_base.specs.Limits.{Limits}
 use Rattle.acc_script.specs.declared.runs.Status.{Status}
 use Rattle.acc_script.specs.Told.{Given, Taken, GaveAll, FailedOrPassed, Took, TookFront}
 use Rattle.acc_script.specs.Ends.{input_limit, GaveSome}
-use Rattle.acc_script.specs.Scripts.{State, Turned, is_refused, line_turned, line_wants, line_text, Transcript, Ended, Faulty, transcript, status_of}
+use Rattle.acc_script.specs.Scripts.{SessionState, Turned, is_refused, line_turned, line_wants, line_text, Transcript, Ended, Faulty, transcript, status_of}
 
 -- a text was written, or the sink failed and took a front of it
 abbrev pub Printed : Option Taken → Option Taken → List ℕ → Result ⊤ Fault → Type 0
@@ -18,7 +18,7 @@ Printed old new text (Err _) = ⊥
 -- ---- a line
 
 -- a line was run, and what it printed was written
-pub record RanLine (number : ℕ) (s : State) (line : List ℕ) (old new : Option Taken) (after : State)
+pub record RanLine (number : ℕ) (s : SessionState) (line : List ℕ) (old new : Option Taken) (after : SessionState)
     (refused : Bool) : Type 0 where
   pub turn : Turned
   pub is : line_turned s line ≡ Ok turn
@@ -27,13 +27,13 @@ pub record RanLine (number : ℕ) (s : State) (line : List ℕ) (old new : Optio
   pub wrote : Took old new (line_text number turn)
 
 -- a line was run, and what it printed could not be written
-pub record LostLine (number : ℕ) (s : State) (line : List ℕ) (old new : Option Taken) : Type 0 where
+pub record LostLine (number : ℕ) (s : SessionState) (line : List ℕ) (old new : Option Taken) : Type 0 where
   pub turn : Turned
   pub is : line_turned s line ≡ Ok turn
   pub wrote : TookFront old new (line_text number turn)
 
 -- a line was run; or it is at fault, it takes memory and there was none, or its text could not be written
-abbrev pub LineRuns : ℕ → State → List ℕ → Option Taken → Option Taken → State → Result Bool Fault → Type 0
+abbrev pub LineRuns : ℕ → SessionState → List ℕ → Option Taken → Option Taken → SessionState → Result Bool Fault → Type 0
 LineRuns number s line old new after (Ok refused) = RanLine number s line old new after refused
 LineRuns number s line old new after (Err Memory) = (line_wants s line ≡ true) × (new ≡ old)
 LineRuns number s line old new after (Err (Script at kind)) =

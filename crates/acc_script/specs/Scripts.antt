@@ -34,32 +34,32 @@ use Rattle.acc_script.specs.Kernels.{source_of, image_of}
 use Rattle.acc_script.specs.Shown.{idle_text, read_text, presence_text, place_text}
 
 -- a table's world, and the arrays of the script
-pub record State : Type 0 where
+pub record SessionState : Type 0 where
   pub world : World
   pub layout : ArrayLayout
 
 -- a new table, and no array
-abbrev pub new_session : Limits → State
+abbrev pub new_session : Limits → SessionState
 new_session limits = record { world = new_world limits; layout = no_arrays limits.host }
 
 -- ---- a statement
 
 -- a state after a statement, and what there is to print
 pub record Turned : Type 0 where
-  pub state : State
+  pub state : SessionState
   pub effect : Effect
 
 -- what there is to print, in a state that stays
-abbrev pub answered : State → Effect → Turned
+abbrev pub answered : SessionState → Effect → Turned
 answered s effect = record { state = s; effect = effect }
 
 -- the state after an event of a call
-abbrev pub state_after : Call Leased → Event → State → State
+abbrev pub state_after : Call Leased → Event → SessionState → SessionState
 state_after call event s = record { world = world_after call event s.world; layout = s.layout }
 
 -- a call changes the world where the table accepts it and makes an event; what is accepted and makes none is the step
 -- of an empty queue
-abbrev pub called : State → Call Leased → Result Verdict Fault → Turned
+abbrev pub called : SessionState → Call Leased → Result Verdict Fault → Turned
 called s call (Ok (Makes event)) = record { state = state_after call event s; effect = Nothing }
 called s call (Ok Idle) = answered s EmptyQueue
 called s call (Err fault) = answered s (Refused fault)
@@ -70,27 +70,27 @@ back_from kernel src lease = Gather (with_section lease (image_of kernel (sectio
 
 -- a kernel with what the call for its loan replied, which is never but a lease: it is brought back, and its block stays
 -- lent where that is refused
-abbrev pub gathered : State → ScriptKernel → List ℕ → Reply → Turned
+abbrev pub gathered : SessionState → ScriptKernel → List ℕ → Reply → Turned
 gathered s kernel src (replies.Lease lease) =
     called s (back_from kernel src lease) (judge s.world (back_from kernel src lease))
 gathered s kernel src _ = answered s Nothing
 
 -- a kernel with what the call for its loan comes to, which is never that there is nothing to do
-abbrev pub on_loan : State → ScriptKernel → List ℕ → Call Leased → Result Verdict Fault → Turned
+abbrev pub on_loan : SessionState → ScriptKernel → List ℕ → Call Leased → Result Verdict Fault → Turned
 on_loan s kernel src call (Ok (Makes event)) =
     gathered (state_after call event s) kernel src (reply_of event s.world.state)
 on_loan s kernel src call (Ok Idle) = answered s Nothing
 on_loan s kernel src call (Err fault) = answered s (Refused fault)
 
 -- a state after another with the loan of a section in a region, which the table accepts, and nothing else
-abbrev pub IsLentFrom : State → ℕ → Section → State → Type 0
+abbrev pub IsLentFrom : SessionState → ℕ → Section → SessionState → Type 0
 IsLentFrom old region over new =
     (event : Event)
     × (judge old.world (Lend region over) ≡ Ok (Makes event))
     × (new ≡ state_after (Lend region over) event old)
 
 -- a kernel over a section, with the bytes of its source: where host memory does not have these, nothing is lent
-abbrev pub launched : State → ℕ → ScriptKernel → Section → Option (List ℕ) → Turned
+abbrev pub launched : SessionState → ℕ → ScriptKernel → Section → Option (List ℕ) → Turned
 launched s region kernel over None = answered s (Refused (OutOfHost 1))
 launched s region kernel over (Some src) = on_loan s kernel src (Lend region over) (judge s.world (Lend region over))
 
@@ -100,7 +100,7 @@ shown section None = Refused (OutOfHost 0)
 shown section (Some bytes) = HostBytes section
 
 -- a state and a statement, as the state after it and what there is to print
-abbrev pub turned : State → Meaning → Turned
+abbrev pub turned : SessionState → Meaning → Turned
 turned s Blank = answered s Nothing
 turned s (Declare name array) =
     record { state = record { world = s.world; layout = with_array name array s.layout }; effect = Nothing }
@@ -122,7 +122,7 @@ makes_event (Err fault) = false
 
 -- a statement takes memory to run: it declares, or the table accepts the call that it makes and an event comes of that;
 -- of a kernel this is the call for its loan, where host memory has the bytes of its source
-abbrev pub run_takes_memory : State → Meaning → Bool
+abbrev pub run_takes_memory : SessionState → Meaning → Bool
 run_takes_memory s (Declare name array) = true
 run_takes_memory s (Direct directive) = makes_event (judge s.world (Do directive))
 run_takes_memory s (Kernel region kernel over) =
@@ -149,21 +149,21 @@ is_refused _ = false
 -- ---- a line
 
 -- what a line asks for in a state, or its fault: the innermost open region is the one that was entered last
-abbrev pub meaning_in : State → List ℕ → Result Meaning ScriptFault
+abbrev pub meaning_in : SessionState → List ℕ → Result Meaning ScriptFault
 meaning_in s line = line_at s.layout (newest_region s.world.state.register.regions) line
 
 -- a line run in a state, or its fault
-unfoldable pub line_turned : State → List ℕ → Result Turned ScriptFault
+unfoldable pub line_turned : SessionState → List ℕ → Result Turned ScriptFault
 line_turned s line = do
   meaning ← meaning_in s line
   Ok (turned s meaning)
 
 -- a statement takes memory to read or to run
-abbrev pub needs_memory : State → Meaning → Bool
+abbrev pub needs_memory : SessionState → Meaning → Bool
 needs_memory s meaning = takes_memory meaning || run_takes_memory s meaning
 
 -- the line is not at fault, and what it asks for takes memory
-abbrev pub line_wants : State → List ℕ → Bool
+abbrev pub line_wants : SessionState → List ℕ → Bool
 line_wants s line = wants (needs_memory s) (meaning_in s line)
 
 -- what the line of a number prints, once it was run
@@ -194,11 +194,11 @@ noted number wanting (Ok turn) others = record {
 }
 
 -- the end of the input behind all lines: at fault where a region is open
-abbrev pub ended : ℕ → State → Bool → Ending
+abbrev pub ended : ℕ → SessionState → Bool → Ending
 ended number s refused = if open_regions s.world.state == 0 then Ended refused else Faulty number Unclosed
 
 -- the lines from that of a number on; refused says whether one before was
-abbrev pub transcript_from : ℕ → State → Bool → List (List ℕ) → Transcript
+abbrev pub transcript_from : ℕ → SessionState → Bool → List (List ℕ) → Transcript
 transcript_from number s refused [] = record { texts = []; wanting = []; ending = ended number s refused }
 transcript_from number s refused (line ∷ lines) =
     noted number (line_wants s line) (line_turned s line)

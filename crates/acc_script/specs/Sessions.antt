@@ -12,10 +12,10 @@ use Rattle.acc_script.specs.declared.print.effects.Effect.{Effect}
 use Rattle.acc_script.specs.declared.print.effects.Effect.TheVariants.{Nothing, EmptyQueue, Refused}
 use Rattle.acc_script.specs.declared.sessions.Session.{Session}
 use Rattle.acc_read.specs.Statements.{Meaning, Kernel}
-use Rattle.acc_script.specs.Scripts.{State, new_session, called, IsLentFrom, turned, makes_event, run_takes_memory}
+use Rattle.acc_script.specs.Scripts.{SessionState, new_session, called, IsLentFrom, turned, makes_event, run_takes_memory}
 
 -- a session as its table's world and its arrays
-abbrev pub session_state : Session → State
+abbrev pub session_state : Session → SessionState
 session_state session = record { world = session.table; layout = session.arrays }
 
 -- a new session, or no memory for it
@@ -24,16 +24,16 @@ Opens limits (Ok session) = session_state session ≡ new_session limits
 Opens limits (Err fault) = fault ≡ Memory
 
 -- nothing changed, but the block of a kernel may be lent
-abbrev pub IsLeft : State → Meaning → State → Type 0
+abbrev pub IsLeft : SessionState → Meaning → SessionState → Type 0
 IsLeft old (Kernel region kernel over) new = (new ≡ old) ⊎ IsLentFrom old region over new
 IsLeft old _ new = new ≡ old
 
 -- a statement that takes memory to run, and the state that it leaves where memory is wanting
-abbrev pub MayWant : State → Meaning → State → Type 0
+abbrev pub MayWant : SessionState → Meaning → SessionState → Type 0
 MayWant old meaning new = (run_takes_memory old meaning ≡ true) × IsLeft old meaning new
 
 -- a statement was run; or it takes memory and is refused for nothing else
-abbrev pub Performs : State → Meaning → State → Result Effect Fault → Type 0
+abbrev pub Performs : SessionState → Meaning → SessionState → Result Effect Fault → Type 0
 Performs old meaning new (Ok effect) = turned old meaning ≡ record { state = new; effect = effect }
 Performs old meaning new (Err fault) = (fault ≡ Memory) × MayWant old meaning new
 
@@ -48,6 +48,6 @@ refusal_of Memory = Err Memory
 refusal_of fault = Ok (Refused fault)
 
 -- a call was made; or it is one that makes an event, there was no memory for it, and nothing changed
-abbrev pub CallsFor : State → Call Leased → State → Result Effect Fault → Type 0
+abbrev pub CallsFor : SessionState → Call Leased → SessionState → Result Effect Fault → Type 0
 CallsFor old call new (Ok effect) = called old call (judge old.world call) ≡ record { state = new; effect = effect }
 CallsFor old call new (Err fault) = (fault ≡ Memory) × (makes_event (judge old.world call) ≡ true) × (new ≡ old)

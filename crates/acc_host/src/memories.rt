@@ -1,6 +1,6 @@
 //! Host memory as one value.
 
-ghost use Rattle.std.specs.Prelude.{◌≡◌, ◌+◌, ◌<◌, ◌≤◌, ◌⊎◌, IfOk, IfErr, OnOk, OnErr, IfSome, IfNone, OnSome, length, replicate};
+ghost use Rattle.std.specs.Prelude.{◌-◌, ◌≡◌, ◌+◌, ◌<◌, ◌≤◌, ◌⊎◌, IfOk, IfErr, OnOk, OnErr, IfSome, IfNone, OnSome, length, replicate};
 ghost use Rattle.std.specs.Int.{w64, from_le_bytes};
 ghost use Rattle.acc_base.specs.Limits.{IsSize};
 ghost use Rattle.acc_base.specs.Section.{host_base};

@@ -2,7 +2,6 @@
 use Rattle.std.specs.Prelude.{ℕ, ◌≡◌, ◌+◌, ◌≤◌, List, ◌++◌, length, take, drop}
 use Rattle.acc_base.specs.declared.addresses.TheConstants.{MEMORY_MAX}
 use Rattle.acc_base.specs.Loans.{Leased}
-use Rattle.acc_base.specs.Overwriting.{overwritten}
 
 -- the section lies in the block, and the block is no longer than a memory may be
 pub record IsLoan (l : Leased) : Type 0 where
@@ -15,7 +14,7 @@ section l = take l.len (drop l.offset l.bytes)
 
 -- bytes with others in place of those from an offset on, as many in all as before
 abbrev pub written_over : ℕ → List ℕ → List ℕ → List ℕ
-written_over offset bytes old = take (length old) (overwritten offset bytes old)
+written_over offset bytes old = take (length old) (take offset old ++ (bytes ++ drop (offset + length bytes) old))
 
 -- the loan with these bytes as its section
 abbrev pub with_section : Leased → List ℕ → Leased

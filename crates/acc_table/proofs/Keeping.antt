@@ -121,6 +121,7 @@ walk_serials (Gathered serial block) lay = omega arith
 
 -- ---- a call
 
+-- an accepted call keeps it whose event asks 64 tasks at most
 kept_after : (w : World) (call : Call Leased) (e : Event) (tasks : List Task) → IsKept w → judge w call ≡ Ok (Makes e) → asked_in e w.state.register ≡ tasks → length tasks ≤ 64 → IsKept (world_after call e w)
 unfolding world_after
 kept_after w call e tasks k h asked few =
@@ -137,10 +138,11 @@ kept_after w call e tasks k h asked few =
       serials = omega (arith, serials, more, k.serials);
     }
 
+-- so a directive does that was planned
 pub kept_directive : (w : World) (d : Directive) (p : Planned) (e : Event) → IsKept w → IsPlannedOn w.limits d (layout_of w.state) p → verdict_of d w.state p.dids ≡ Makes e → judge w (Do d) ≡ Ok (Makes e) → IsKept (world_after (Do d) e w)
 kept_directive w d p e k planned is h = kept_after w (Do d) e p.tasks k h (planned_asked w.limits d w.state p e planned is) planned.few
 
--- so does an event of no item: a write of the host, a loan, a lease that is back
+-- and a call whose event asks none: a write of the host, a loan, a lease that is back
 pub kept_alone : (w : World) (call : Call Leased) (e : Event) → IsKept w → judge w call ≡ Ok (Makes e) → asked_in e w.state.register ≡ [] → IsKept (world_after call e w)
 kept_alone w call e k h none = kept_after w call e [] k h none (omega arith)
 

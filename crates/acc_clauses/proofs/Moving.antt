@@ -6,7 +6,7 @@ use Rattle.acc_base.specs.declared.items.Section.{Section}
 use Rattle.acc_base.specs.declared.mappings.Block.{Block}
 use Rattle.acc_base.specs.declared.loans.Loan.{Loan}
 use Rattle.acc_base.specs.Loans.{is_lent}
-use Rattle.acc_base.specs.Section.{covers, is_within, host_memory}
+use Rattle.acc_base.specs.Section.{host_base, covers, is_within, host_memory}
 use Rattle.acc_base.specs.Records.{Memory}
 use Rattle.acc_base.specs.Blocks.{block_at}
 use Rattle.acc_base.specs.Bytes.{bytes_of, written_bytes, memory_changed, bytes_moved_in, bytes_moved_out}
@@ -17,7 +17,7 @@ use Rattle.acc_base.proofs.Lookups.{at-own}
 use Rattle.acc_base.specs.Overwriting.{overwritten}
 use Rattle.acc_host.specs.Host.{bytes_in}
 use Rattle.acc_dev.specs.Device.{DeviceState, IsBlockWritten, HasBlocksApart}
-use Rattle.acc_clauses.proofs.Copying.{from_all, written-overwritten, part, part-length, IsPartAt, part_at, moved_in, moved_out, changed-same}
+use Rattle.acc_clauses.proofs.Copying.{from_all, written-overwritten, part, IsPartAt, part_at, moved_in, moved_out, changed-same}
 
 -- ---- to host memory
 
@@ -30,10 +30,7 @@ slice_is s start bytes = ap (λ n. take n (drop (s.start - start) bytes)) (let s
 
 pub copied_out : (s : Section) (start : ℕ) (bytes host : List ℕ) → is_within s (host_memory (length host)) ≡ true → is_within s (record { start = start; len = length bytes }) ≡ true
     → overwritten (s.start - host_base) (slice s start bytes) host ≡ bytes_moved_out (covers s) bytes start host
-copied_out s start bytes host in_host within =
-    let fits : IsPartAt s start (length bytes) (s.start - start) = part_at s (record { start = start; len = length bytes }) within in
-    let len : length (slice s start bytes) ≡ s.len = ap length (slice_is s start bytes) ∙ part-length bytes (s.start - start) s.len (omega (arith, fits.at_is, fits.fits)) in
-    rw (len, slice_is s start bytes) (sym (moved_out s bytes start host in_host within))
+copied_out s start bytes host in_host within = rw (slice_is s start bytes) (sym (moved_out s bytes start host in_host within))
 
 -- ---- the memory of a block
 

@@ -12,8 +12,8 @@ use Rattle.acc_base.proofs.Results.{equal, equal_self}
 use Rattle.acc_base.proofs.Lookups.{at-without_same, at-without_other}
 use Rattle.acc_base.proofs.Elements.{AllByRecursion-weaker, AllByRecursion-both, AllByRecursion-filter, EachPair-filter, find_none}
 
-abbrev block_of : Loan → ℕ
-block_of l = l.block
+abbrev block_named : Loan → ℕ
+block_named l = l.block
 
 -- ---- one loan more
 
@@ -59,10 +59,10 @@ is_lent-with_free new ls b free = go (new.block == b) refl
 -- ---- one loan fewer
 
 pub is_lent-without_same : (k : ℕ) (ls : List Loan) → is_lent k (without_loan k ls) ≡ false
-is_lent-without_same k ls = ap is_some (at-without_same block_of k ls)
+is_lent-without_same k ls = ap is_some (at-without_same block_named k ls)
 
 pub is_lent-without_other : (b k : ℕ) (ls : List Loan) → (b == k) ≡ false → is_lent b (without_loan k ls) ≡ is_lent b ls
-is_lent-without_other b k ls e = ap is_some (at-without_other block_of k b ls e)
+is_lent-without_other b k ls e = ap is_some (at-without_other block_named k b ls e)
 
 -- ---- loans are sound
 

@@ -24,13 +24,13 @@ Opens limits (Ok session) = session_state session ≡ new_session limits
 Opens limits (Err fault) = fault ≡ Memory
 
 -- nothing changed, but the block of a kernel may be lent
-abbrev pub IsLeft : SessionState → Meaning → SessionState → Type 0
-IsLeft old (Kernel region kernel over) new = (new ≡ old) ⊎ IsLentFrom old region over new
-IsLeft old _ new = new ≡ old
+abbrev pub IsStateLeft : SessionState → Meaning → SessionState → Type 0
+IsStateLeft old (Kernel region kernel over) new = (new ≡ old) ⊎ IsLentFrom old region over new
+IsStateLeft old _ new = new ≡ old
 
 -- a statement that takes memory to run, and the state that it leaves where memory is wanting
 abbrev pub MayWant : SessionState → Meaning → SessionState → Type 0
-MayWant old meaning new = (run_takes_memory old meaning ≡ true) × IsLeft old meaning new
+MayWant old meaning new = (run_takes_memory old meaning ≡ true) × IsStateLeft old meaning new
 
 -- a statement was run; or it takes memory and is refused for nothing else
 abbrev pub Performs : SessionState → Meaning → SessionState → Result Effect Fault → Type 0

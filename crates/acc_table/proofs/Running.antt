@@ -69,8 +69,8 @@ write_lends_none w next addr bytes reply done = let none : lent_by reply ≡ [] 
 -- ---- one turn
 
 -- the answer to a turn whose call was carried out
-pub answered : (w next : World) (leases kept rest : List Leased) (turn : Turn) (reply : Reply) → IsTurnMade w leases turn reply next kept → rest ≡ kept ++ lent_by reply → MayAnswer w leases turn (asked_by turn leases) (answer_to reply) next rest
-answered w next leases kept rest turn reply made rest_is = subst (λ r. MayAnswer w leases turn r (answer_to reply) next rest) (sym made.asked) (go (judge w made.call) made.done)
+pub turn_answered : (w next : World) (leases kept rest : List Leased) (turn : Turn) (reply : Reply) → IsTurnMade w leases turn reply next kept → rest ≡ kept ++ lent_by reply → MayAnswer w leases turn (asked_by turn leases) (answer_to reply) next rest
+turn_answered w next leases kept rest turn reply made rest_is = subst (λ r. MayAnswer w leases turn r (answer_to reply) next rest) (sym made.asked) (go (judge w made.call) made.done)
   where
     go : (r : Result Verdict Fault) → MatchResult r (λ verdict. IsCarriedOut w made.call verdict reply next) (λ fault. ⊥) → MayCome w leases (kept_by turn leases) made.call r (answer_to reply) next rest
     go (Ok (Makes e)) h = inr (record { answer_is = ap answer_to h.0; next_is = h.1; rest_is = rest_is ∙ (ap (λ ls. ls ++ lent_by reply) made.kept_is ∙ ap (λ x. kept_by turn leases ++ lent_by x) h.0) })

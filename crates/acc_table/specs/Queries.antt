@@ -22,13 +22,13 @@ is_inside (Inside block offset) = true
 is_inside _ = false
 
 -- the counters of the range that a section is inside
-abbrev pub counters_found : Found → List Range → Option Counters
-counters_found (Inside block offset) ranges = Some (record { structured = structured_of block ranges; dynamic = dynamic_of block ranges })
-counters_found _ ranges = None
+abbrev pub counters_inside : Found → List Range → Option Counters
+counters_inside (Inside block offset) ranges = Some (record { structured = structured_of block ranges; dynamic = dynamic_of block ranges })
+counters_inside _ ranges = None
 
 -- the counters of the range that a section of these records is inside
 abbrev pub counters_of_section : Section → Records → Option Counters
-counters_of_section s w = counters_found (where_is s w.ranges) w.ranges
+counters_of_section s w = counters_inside (where_is s w.ranges) w.ranges
 
 -- a range as it is reported, with the device address of its block, and whether that is lent
 abbrev pub mapped_as : List Block → List Loan → Range → Mapped

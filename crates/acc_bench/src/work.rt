@@ -174,13 +174,13 @@ pub fn write(table: &mut Table, alloc: Global, addr: u64, bytes: &[u8]) -> Resul
     Ok(())
 }
 
-/// A list of one item.
+/// A list of one item, allocated at its length.
 fn one_item<C: Copy + Drop>(
     alloc: Global,
     clause: C,
     section: Section,
 ) -> Result<List<Item<C>>, AllocError> {
-    let mut items = Vec::new(alloc);
+    let mut items = Vec::with_capacity(alloc, 1)?;
     items.push(Item {
         clause,
         section,

@@ -35,29 +35,19 @@ use Rattle.acc_table.specs.declared.calls.Reply.{Reply}
 use Rattle.acc_table.specs.declared.calls.Reply.TheVariants.{Done}
 use Rattle.acc_table.specs.Calls.{reply_of, IsCarriedOut, IsDone, IsRefusal}
 use Rattle.acc_table.specs.Kept.{world_of}
-use Rattle.acc_table.specs.Making.{verdict_stored, is_idle, number_told, event_told, reply_told, is_loan, admitted, write_admitted, planned_verdict, MayBeToldOf, IsMadeInto, IsCommitted, IsAsBefore}
+use Rattle.acc_table.specs.Making.{is_idle, number_told, event_told, reply_told, is_loan, admitted, write_admitted, planned_verdict, MayBeToldOf, IsMadeInto, IsCommitted, IsAsBefore}
 
 -- ---- the event
 
--- the verdict of which the event is stored is that of the directive
-pub stored : (d : Directive) (s : State) (dids : List Did) → verdict_stored d s (in_written_order (head_planned d) dids) ≡ verdict_of d s dids
-stored (Enter items) s dids = refl
-stored (Exit number) s dids = refl
-stored (EnterData items queue) s dids = refl
-stored (ExitData items finalize queue) s dids = refl
-stored (Update items if_present queue) s dids = refl
-stored (Wait queue) s dids = refl
-stored (Step queue) s dids = refl
-
--- where there is something to do, it is the event that tells the number
-pub told : (d : Directive) (s : State) (did : List Did) → is_idle d s ≡ false → verdict_stored d s did ≡ Makes (event_told d (number_told d s) did)
-told (Enter items) s did e = refl
-told (Exit number) s did e = refl
-told (EnterData items queue) s did e = refl
-told (ExitData items finalize queue) s did e = refl
-told (Update items if_present queue) s did e = refl
-told (Wait queue) s did e = refl
-told (Step queue) s did e = go (head_of queue s.records.queues) e
+-- where there is something to do, a directive comes to the event that tells the number
+pub told : (d : Directive) (s : State) (dids : List Did) → is_idle d s ≡ false → verdict_of d s dids ≡ Makes (event_told d (number_told d s) (in_written_order (head_planned d) dids))
+told (Enter items) s dids e = refl
+told (Exit number) s dids e = refl
+told (EnterData items queue) s dids e = refl
+told (ExitData items finalize queue) s dids e = refl
+told (Update items if_present queue) s dids e = refl
+told (Wait queue) s dids e = refl
+told (Step queue) s dids e = go (head_of queue s.records.queues) e
   where
     go : (o : Option Transfer) → is_none (option_map (λ (t : Transfer). t.block) o) ≡ false → step_verdict queue o ≡ Makes (Stepped queue (unwrap_or (option_map (λ (t : Transfer). t.block) o) 0))
     go None x = cc
@@ -186,18 +176,21 @@ judge_rewritten w lease bytes = rw (gather_rewritten lease bytes w.state.records
 no_loan : (e f : Event) → ◌≡◌ {A = Verdict} (Makes f) (Makes e) → is_loan f ≡ false → is_loan e ≡ false
 no_loan e f h p = let same : f ≡ e = cc in subst (λ (x : Event). is_loan x ≡ false) same p
 
-pub stored_no_loan : (d : Directive) (s : State) (did : List Did) (e : Event) → verdict_stored d s did ≡ Makes e → is_loan e ≡ false
-stored_no_loan (Enter items) s did e h = no_loan e _ h refl
-stored_no_loan (Exit number) s did e h = no_loan e _ h refl
-stored_no_loan (EnterData items queue) s did e h = no_loan e _ h refl
-stored_no_loan (ExitData items finalize queue) s did e h = no_loan e _ h refl
-stored_no_loan (Update items if_present queue) s did e h = no_loan e _ h refl
-stored_no_loan (Wait queue) s did e h = no_loan e _ h refl
-stored_no_loan (Step queue) s did e h = go (head_of queue s.records.queues) h
+told_no_loan : (d : Directive) (n : ℕ) (did : List Did) → is_loan (event_told d n did) ≡ false
+told_no_loan (Enter items) n did = refl
+told_no_loan (Exit number) n did = refl
+told_no_loan (EnterData items queue) n did = refl
+told_no_loan (ExitData items finalize queue) n did = refl
+told_no_loan (Update items if_present queue) n did = refl
+told_no_loan (Wait queue) n did = refl
+told_no_loan (Step queue) n did = refl
+
+verdict_no_loan : (d : Directive) (s : State) (dids : List Did) (e : Event) → verdict_of d s dids ≡ Makes e → is_loan e ≡ false
+verdict_no_loan d s dids e h = go (is_idle d s) refl
   where
-    go : (o : Option Transfer) → step_verdict queue o ≡ Makes e → is_loan e ≡ false
-    go None x = cc
-    go (Some t) x = no_loan e _ x refl
+    go : (b : Bool) → is_idle d s ≡ b → is_loan e ≡ false
+    go true idle = let none : verdict_of d s dids ≡ Idle = told_idle d s dids idle in cc
+    go false busy = no_loan e _ (sym (told d s dids busy) ∙ h) (told_no_loan d (number_told d s) (in_written_order (head_planned d) dids))
 
 -- so is the event that a directive makes
 pub directive_no_loan : (w : World) (d : Directive) (e : Event) → judge w (Do d) ≡ Ok (Makes e) → is_loan e ≡ false
@@ -211,7 +204,7 @@ directive_no_loan w d e h =
     let acted = bind_ok (judge_all w.limits 0 asked.0 s) _ (Makes e) named.1 in
     let free = then_ok (none_lent (transfers_in d s.records.queues) s.records.loans) _ (Makes e) acted.2 in
     let is : verdict_of d s acted.0 ≡ Makes e = ok_same (verdict_of d s acted.0) (Makes e) free.1 in
-    stored_no_loan d s (in_written_order (head_planned d) acted.0) e (stored d s acted.0 ∙ is)
+    verdict_no_loan d s acted.0 e is
 
 -- and that of a write of the host
 pub write_no_loan : (w : World) (addr : ℕ) (bytes : List ℕ) (e : Event) → judge w (HostWrite addr bytes) ≡ Ok (Makes e) → is_loan e ≡ false

@@ -16,7 +16,7 @@ use Rattle.acc_base.specs.Queues.{head_of}
 use Rattle.acc_base.specs.Waits.{steps_of}
 use Rattle.acc_base.specs.Clauses.{in_host}
 use Rattle.acc_base.specs.Loans.{Leased}
-use Rattle.acc_base.specs.Judge.{Verdict, Makes, Idle, few_items, step_verdict, verdict_of, gather_event}
+use Rattle.acc_base.specs.Judge.{Verdict, Makes, Idle, few_items, verdict_of, gather_event}
 use Rattle.acc_base.specs.Calls.{World, judge, ticket, allowance, trace_room}
 use Rattle.acc_clauses.specs.Lending.{IsLoanPlanned}
 use Rattle.acc_clauses.specs.Contents.{Contents}
@@ -25,35 +25,17 @@ use Rattle.acc_table.specs.declared.calls.Reply.{Reply}
 use Rattle.acc_table.specs.declared.calls.Reply.TheVariants as replies
 use Rattle.acc_table.specs.Calls.{reply_of, MayWantMemory}
 
--- what a directive comes to whose items did this, in written order
-abbrev pub verdict_stored : Directive → State → List Did → Verdict
-verdict_stored (Enter items) s did = Makes (events.Entered s.register.next items did)
-verdict_stored (Exit number) s did = Makes (events.Left number did)
-verdict_stored (EnterData items queue) s did = Makes (events.EnteredData items queue did)
-verdict_stored (ExitData items finalize queue) s did = Makes (events.ExitedData items finalize queue did)
-verdict_stored (Update items if_present queue) s did = Makes (events.Updated items if_present queue did)
-verdict_stored (Wait queue) s did = Makes (events.Waited queue (length (steps_of queue s.records.queues)))
-verdict_stored (Step queue) s did = step_verdict queue (head_of queue s.records.queues)
-
 -- the directive is the step of an empty queue
 abbrev pub is_idle : Directive → State → Bool
-is_idle (Enter items) s = false
-is_idle (Exit number) s = false
-is_idle (EnterData items queue) s = false
-is_idle (ExitData items finalize queue) s = false
-is_idle (Update items if_present queue) s = false
-is_idle (Wait queue) s = false
 is_idle (Step queue) s = is_none (option_map (λ t. t.block) (head_of queue s.records.queues))
+is_idle d s = false
 
--- the number that the event of a directive tells of the state before it
+-- the number that the event of a directive tells of the state before it, and 0 where it tells none
 abbrev pub number_told : Directive → State → ℕ
 number_told (Enter items) s = s.register.next
-number_told (Exit number) s = 0
-number_told (EnterData items queue) s = 0
-number_told (ExitData items finalize queue) s = 0
-number_told (Update items if_present queue) s = 0
 number_told (Wait queue) s = length (steps_of queue s.records.queues)
 number_told (Step queue) s = unwrap_or (option_map (λ t. t.block) (head_of queue s.records.queues)) 0
+number_told d s = 0
 
 -- the event of a directive, not idle, that tells this number, and whose items did this, in written order
 abbrev pub event_told : Directive → ℕ → List Did → Event
@@ -68,12 +50,8 @@ event_told (Step queue) n did = events.Stepped queue n
 -- what a directive is answered whose event tells this number
 abbrev pub reply_told : Directive → ℕ → Reply
 reply_told (Enter items) n = replies.Entered n
-reply_told (Exit number) n = replies.Done
-reply_told (EnterData items queue) n = replies.Done
-reply_told (ExitData items finalize queue) n = replies.Done
-reply_told (Update items if_present queue) n = replies.Done
 reply_told (Wait queue) n = replies.Drained n
-reply_told (Step queue) n = replies.Done
+reply_told d n = replies.Done
 
 -- the refusals of a directive that come before those of its items
 unfoldable pub admitted : World → Directive → Result ⊤ Fault

@@ -21,12 +21,7 @@ fn is_idle(store: &Store, directive: &Directive) -> bool
 {
     match directive {
         Directive::Step { queue } => store.head_block(*queue).is_none(),
-        Directive::Enter { .. } => false,
-        Directive::Exit { .. } => false,
-        Directive::EnterData { .. } => false,
-        Directive::ExitData { .. } => false,
-        Directive::Update { .. } => false,
-        Directive::Wait { .. } => false,
+        _ => false,
     }
 }
 
@@ -39,10 +34,7 @@ fn number_told(store: &Store, directive: &Directive) -> u64
         Directive::Enter { .. } => store.next_region(),
         Directive::Wait { queue } => store.waiting(*queue),
         Directive::Step { queue } => store.head_block(*queue).unwrap_or(0),
-        Directive::Exit { .. } => 0,
-        Directive::EnterData { .. } => 0,
-        Directive::ExitData { .. } => 0,
-        Directive::Update { .. } => 0,
+        _ => 0,
     }
 }
 
@@ -92,11 +84,7 @@ fn reply_told(directive: &Directive, number: u64) -> Reply
     match directive {
         Directive::Enter { .. } => Reply::Entered { number },
         Directive::Wait { .. } => Reply::Drained { count: number },
-        Directive::Exit { .. } => Reply::Done,
-        Directive::EnterData { .. } => Reply::Done,
-        Directive::ExitData { .. } => Reply::Done,
-        Directive::Update { .. } => Reply::Done,
-        Directive::Step { .. } => Reply::Done,
+        _ => Reply::Done,
     }
 }
 

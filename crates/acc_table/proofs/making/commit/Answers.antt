@@ -4,8 +4,8 @@ use Rattle.acc_base.specs.declared.events.Event.{Event}
 use Rattle.acc_base.specs.Judge.{Verdict, Makes, verdict_of}
 use Rattle.acc_clauses.specs.declared.plans.Head.{Head}
 use Rattle.acc_clauses.specs.Planned.{head_planned, in_written_order}
-use Rattle.acc_table.specs.Making.{verdict_stored, number_told, event_told, reply_told, IsCommitted}
-use Rattle.acc_table.proofs.Verdicts.{stored, told, replied}
+use Rattle.acc_table.specs.Making.{number_told, event_told, reply_told, IsCommitted}
+use Rattle.acc_table.proofs.Verdicts.{told, replied}
 use Rattle.acc_table.proofs.making.commit.Goals as goal
 
 pub returns : goal.returns
@@ -15,7 +15,7 @@ returns c =
     let dids : List Did = c.args.plan.now.dids in
     let written : c.args.did ≡ in_written_order (head_planned d) dids = c.requires.did ∙ ap (λ (h : Head). in_written_order h dids) c.requires.planned.head in
     let event : Event = event_told d (number_told d s) c.args.did in
-    let made : verdict_of d s dids ≡ Makes event = sym (stored d s dids) ∙ (ap (verdict_stored d s) (sym written) ∙ told d s c.args.did c.requires.busy) in
+    let made : verdict_of d s dids ≡ Makes event = told d s dids c.requires.busy ∙ ap (λ did. Makes (event_told d (number_told d s) did)) (sym written) in
     record {
       done = subst (λ (v : Verdict). IsCommitted v c.reply_told-reply.result c.args.store.now c.commit.new.self c.args.trace.now.items c.push_reserved.new.self.items) (sym made) (record {
         reply = c.reply_told-reply.ensures ∙ (ap (reply_told d) c.number_told-number.ensures ∙ replied d (number_told d s) c.args.did s);

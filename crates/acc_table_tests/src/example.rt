@@ -6,12 +6,17 @@ use acc_base::{
 use acc_table::{Call, Table, abandon};
 use std::alloc::Global;
 use std::mem::size_of;
+use std::process::Abort;
 use std::test::Fail;
 
-/// Maps the first 20 bytes of host memory, and answers how many bytes of the device that takes: 32.
-fn used_by_one_array(alloc: Global) -> Result<u64, Fault> {
+/// A table of 65,536 bytes of host memory and as many of the device.
+fn new_table(alloc: Global) -> Result<Table, Fault> {
     let config = Config::new(65_536, 65_536, 64, 1_048_576, 4_294_967_295, 256, 262_144)?;
-    let mut table = Table::new(alloc, config)?;
+    Table::new(alloc, config)
+}
+
+/// Maps the first 20 bytes of host memory, and answers how many bytes of the device are in use then.
+fn map_one_array(table: &mut Table, alloc: Global) -> Result<u64, Fault> {
     let section = Section {
         start: HOST_BASE,
         len: 20,
@@ -37,10 +42,16 @@ fn used_by_one_array(alloc: Global) -> Result<u64, Fault> {
     }
 }
 
+/// Mapping the array takes so many bytes of the device.
+fn takes(rt: &(impl Abort + AllocGlobal), table: &mut Table, used: u64) -> Result<(), Fail> {
+    assert_eq!(rt; map_one_array(table, rt.alloc())?, used);
+    Ok(())
+}
+
 #[test]
 fn an_array_of_20_bytes_takes_32(rt: HostRuntime) -> Result<(), Fail> {
-    assert_eq!(rt; used_by_one_array(rt.alloc())?, 32);
-    Ok(())
+    let mut table = new_table(rt.alloc())?;
+    takes(&rt, &mut table, 32)
 }
 
 #[test]

@@ -301,13 +301,18 @@ fn run_turns(
     answers
 }
 
-/// Takes the turns of a row on a new table, and compares what the table answers and says.
+/// Takes the turns of a row, and compares what the table answers and says.
+fn run_on(rt: &(impl Abort + AllocGlobal), row: &Row, table: &mut Table) -> Result<(), Fault> {
+    let answers = run_turns(table, rt.alloc(), row.turns)?;
+    answered(rt, row, &answers);
+    check_all(rt, row, table);
+    Ok(())
+}
+
+/// Takes the turns of a row on a new table.
 fn run_row(rt: &(impl Abort + AllocGlobal), row: &Row) -> Result<(), Fault> {
     let mut table = table_of(rt.alloc(), row.limits)?;
-    let answers = run_turns(&mut table, rt.alloc(), row.turns)?;
-    answered(rt, row, &answers);
-    check_all(rt, row, &table);
-    Ok(())
+    run_on(rt, row, &mut table)
 }
 
 fn run_rows(rt: &(impl Abort + AllocGlobal), rows: &[Row]) -> Result<(), Fault> {

@@ -105,6 +105,14 @@ fn live(rt: &(impl Abort + AllocGlobal), table: &mut Table) -> Result<(), AllocE
     Ok(())
 }
 
+/// Lives the whole life, behind which the table has its events and no block.
+fn live_whole(rt: &(impl Abort + AllocGlobal), table: &mut Table) -> Result<(), Fail> {
+    live(rt, table)?;
+    same(rt, "a refused growth", table.events(), 18);
+    same(rt, "a refused growth", table.used(), 0);
+    Ok(())
+}
+
 /// To be run with each allocation failing in turn: what is made here is made a second time where the first failed.
 #[test]
 fn a_refused_growth_changes_nothing(rt: HostRuntime) -> Result<(), Fail> {
@@ -112,8 +120,5 @@ fn a_refused_growth_changes_nothing(rt: HostRuntime) -> Result<(), Fail> {
         Ok(table) => table,
         Err(_) => table_of(rt.alloc(), WIDE)?,
     };
-    live(&rt, &mut table)?;
-    same(&rt, "a refused growth", table.events(), 18);
-    same(&rt, "a refused growth", table.used(), 0);
-    Ok(())
+    live_whole(&rt, &mut table)
 }

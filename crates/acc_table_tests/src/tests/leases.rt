@@ -58,6 +58,7 @@ fn refuse(rt: &impl Abort, table: &mut Table, lease: Lease) {
     }
 }
 
+/// Each strange lease is refused.
 fn refuse_each(rt: &(impl Abort + AllocGlobal), table: &mut Table) -> Result<(), AllocError> {
     for &(serial, block, offset, len, count) in STRANGE {
         let bytes = vec![in rt.alloc(); 0; count]?;
@@ -68,17 +69,25 @@ fn refuse_each(rt: &(impl Abort + AllocGlobal), table: &mut Table) -> Result<(),
     Ok(())
 }
 
+/// The lease that the table is yet to lend is refused.
+fn refuse_early(rt: &(impl Abort + AllocGlobal), table: &mut Table) -> Result<(), AllocError> {
+    let bytes = vec![in rt.alloc(); 0; 16]?;
+    refuse(rt, table, Lease::of(1, 1, 0, 16, bytes));
+    Ok(())
+}
+
+/// A lease is refused before its block is lent, and each other lease while it is lent.
+fn refuse_all(rt: &(impl Abort + AllocGlobal), table: &mut Table) -> Result<(), Fail> {
+    refuse_early(rt, table)?;
+    let answers = run_turns(table, rt.alloc(), LENDING)?;
+    same(rt, "a strange lease", answers.len(), LENDING.len());
+    refuse_each(rt, table)?;
+    same(rt, "a strange lease", table.events(), 3);
+    Ok(())
+}
+
 #[test]
 fn a_lease_that_is_no_loan_comes_back(rt: HostRuntime) -> Result<(), Fail> {
     let mut table = table_of(rt.alloc(), WIDE)?;
-    refuse(
-        &rt,
-        &mut table,
-        Lease::of(1, 1, 0, 16, vec![in rt.alloc(); 0; 16]?),
-    );
-    let answers = run_turns(&mut table, rt.alloc(), LENDING)?;
-    same(&rt, "a strange lease", answers.len(), LENDING.len());
-    refuse_each(&rt, &mut table)?;
-    same(&rt, "a strange lease", table.events(), 3);
-    Ok(())
+    refuse_all(&rt, &mut table)
 }

@@ -26,6 +26,12 @@ type Limits = [u64; 7];
 /// How a script ends: its status, or the line at fault and why.
 type End = Result<Status, (u64, ScriptFault)>;
 
+/// A script within wide limits, what it prints, and how it ends.
+type Row = (&'static str, &'static str, End);
+
+/// Limits, a script, what it prints, and how it ends.
+type SmallRow = (Limits, &'static str, &'static str, End);
+
 /// No line was refused.
 const CLEAN: End = Ok(Status::Clean);
 
@@ -89,31 +95,61 @@ fn answer_of(end: End) -> Result<Status, Fault> {
     }
 }
 
-#[test]
-fn scripts_print_and_end(rt: HostRuntime) -> Result<(), Fail> {
-    for (script, printed, end) in SCRIPTS {
-        check(&rt, &WIDE, script.as_bytes(), printed, end)?;
+/// Runs the scripts of some rows.
+fn check_rows<R: Abort + Threads + Wait + Sync + AllocGlobal>(
+    rt: &R,
+    rows: &[Row],
+) -> Result<(), Fault> {
+    for (script, printed, end) in rows {
+        check(rt, &WIDE, script.as_bytes(), printed, *end)?;
     }
-    for (script, printed, end) in REGIONS {
-        check(&rt, &WIDE, script.as_bytes(), printed, end)?;
-    }
-    for (script, printed, end) in QUEUES {
-        check(&rt, &WIDE, script.as_bytes(), printed, end)?;
-    }
-    for (script, printed, end) in KERNELS {
-        check(&rt, &WIDE, script.as_bytes(), printed, end)?;
+    Ok(())
+}
+
+/// Runs the scripts of some rows, each within its limits.
+fn check_small_rows<R: Abort + Threads + Wait + Sync + AllocGlobal>(
+    rt: &R,
+    rows: &[SmallRow],
+) -> Result<(), Fault> {
+    for (limits, script, printed, end) in rows {
+        check(rt, limits, script.as_bytes(), printed, *end)?;
     }
     Ok(())
 }
 
 #[test]
+fn scripts_print_and_end(rt: HostRuntime) -> Result<(), Fail> {
+    check_rows(&rt, SCRIPTS)?;
+    Ok(())
+}
+
+#[test]
+fn regions_print_and_end(rt: HostRuntime) -> Result<(), Fail> {
+    check_rows(&rt, REGIONS)?;
+    Ok(())
+}
+
+#[test]
+fn queues_print_and_end(rt: HostRuntime) -> Result<(), Fail> {
+    check_rows(&rt, QUEUES)?;
+    Ok(())
+}
+
+#[test]
+fn kernels_print_and_end(rt: HostRuntime) -> Result<(), Fail> {
+    check_rows(&rt, KERNELS)?;
+    Ok(())
+}
+
+#[test]
 fn small_tables_refuse(rt: HostRuntime) -> Result<(), Fail> {
-    for (limits, script, printed, end) in SMALL {
-        check(&rt, &limits, script.as_bytes(), printed, end)?;
-    }
-    for (limits, script, printed, end) in SCARCE {
-        check(&rt, &limits, script.as_bytes(), printed, end)?;
-    }
+    check_small_rows(&rt, SMALL)?;
+    Ok(())
+}
+
+#[test]
+fn small_tables_refuse_kernels(rt: HostRuntime) -> Result<(), Fail> {
+    check_small_rows(&rt, SCARCE)?;
     Ok(())
 }
 

@@ -1,10 +1,10 @@
 //! Rows of scripts with kernels: the script, what it prints, how it ends.
 
-use super::{CLEAN, End, Limits, REFUSED};
+use super::{CLEAN, REFUSED, Row, SmallRow};
 use acc_base::ScriptFault;
 
 /// Scripts with kernels within wide limits.
-pub const KERNELS: [(&str, &str, End); 10] = [
+pub const KERNELS: &[Row] = &[
     // The kernel changes the device's bytes, and the region copies nothing out that it did not map.
     (
         "array a 4\nwrite a[0] 01020304\nenter data copyin(a)\ndata copy(a)\nkernel add 1 a\nend data\nshow a\n\
@@ -77,7 +77,7 @@ pub const KERNELS: [(&str, &str, End); 10] = [
 ];
 
 /// Kernels on small tables: the limits, a script, what it prints, how it ends.
-pub const SCARCE: [(Limits, &str, &str, End); 3] = [
+pub const SCARCE: &[SmallRow] = &[
     // No ticket for the loan: nothing is lent.
     (
         [64, 64, 1, 1, 8, 1, 8],

@@ -1,9 +1,9 @@
 //! Rows of scripts with queues: the script, what it prints, how it ends.
 
-use super::{CLEAN, End, REFUSED};
+use super::{CLEAN, REFUSED, Row};
 
 /// Scripts with queues within wide limits.
-pub const QUEUES: [(&str, &str, End); 6] = [
+pub const QUEUES: &[Row] = &[
     // A block whose mapping has ended stays until the queued copy out of it is made, with the bytes of that moment.
     (
         "array a 16\nwrite a[0] 07\nenter data copyin(a)\nwrite a[0] 09\nexit data copyout(a) async(1)\n\

@@ -1,13 +1,13 @@
 //! Rows of scripts: the script, what it prints, how it ends.
 
-use super::{CLEAN, End, Limits, REFUSED};
+use super::{CLEAN, Limits, REFUSED, Row, SmallRow};
 use acc_base::ScriptFault;
 
 /// Limits that no script of these tests reaches.
 pub const WIDE: Limits = [65_536, 65_536, 64, 1_048_576, 4_294_967_295, 256, 262_144];
 
 /// Scripts within wide limits.
-pub const SCRIPTS: [(&str, &str, End); 27] = [
+pub const SCRIPTS: &[Row] = &[
     // A script without lines, and a section far behind host memory.
     ("", "", CLEAN),
     (
@@ -156,7 +156,7 @@ pub const SCRIPTS: [(&str, &str, End); 27] = [
 ];
 
 /// Scripts with data regions within wide limits.
-pub const REGIONS: [(&str, &str, End); 12] = [
+pub const REGIONS: &[Row] = &[
     // A region with `copy`: bytes go in at its start and out at its end.
     (
         "array a 4\nwrite a[0] 01020304\ndata copy(a)\nreport\nwrite a[0] ffffffff\nupdate self(a[1:1])\nshow a\n\
@@ -240,7 +240,7 @@ pub const REGIONS: [(&str, &str, End); 12] = [
 const TWICE: &str = "array a 20\nenter data copyin(a)\nenter data copyin(a)\n";
 
 /// Small tables: their limits, a script, what it prints, how it ends.
-pub const SMALL: [(Limits, &str, &str, End); 8] = [
+pub const SMALL: &[SmallRow] = &[
     (
         [64, 64, 1, 1, 8, 1, 8],
         TWICE,

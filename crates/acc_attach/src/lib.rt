@@ -8,6 +8,3 @@ mod left;
 
 pub use attaching::Attached;
 pub use left::Left;
-
-#[cfg(test)]
-mod tests;

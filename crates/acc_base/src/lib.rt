@@ -34,6 +34,3 @@ pub use mappings::{Block, Counter, Counters, Ended, Found, Range};
 pub use regions::Holding;
 pub use tasks::Task;
 pub use transfers::{QUEUE_COUNT, Transfer};
-
-#[cfg(test)]
-mod tests;

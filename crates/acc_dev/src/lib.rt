@@ -5,8 +5,6 @@ mod devices;
 mod entries;
 mod filling;
 mod lending;
-#[cfg(test)]
-mod tests;
 
 pub use acc_base::DEVICE_BASE;
 pub use devices::Device;

@@ -2,8 +2,6 @@
 #![tactic(auto)]
 
 mod memories;
-#[cfg(test)]
-mod tests;
 
 pub use acc_base::HOST_BASE;
 pub use memories::HostMem;

@@ -97,7 +97,7 @@ impl Cuts {
     }
 
     /// The lengths of the parts in bytes, in order.
-    pub(crate) fn lengths(&self) -> &[usize]
+    pub fn lengths(&self) -> &[usize]
         ensures value { result.now ≡ self.now }
         ensures laws { AreCuts self.now }
     {

@@ -17,6 +17,3 @@ pub use leases::Lease;
 pub use running::run_one;
 pub use slices::split;
 pub use taking::Parts;
-
-#[cfg(test)]
-mod tests;

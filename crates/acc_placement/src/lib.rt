@@ -5,8 +5,6 @@ mod beside;
 mod lists;
 mod placement;
 mod rounding;
-#[cfg(test)]
-mod tests;
 
 pub use placement::Holes;
 pub use rounding::rounded;

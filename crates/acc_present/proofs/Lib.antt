@@ -4,4 +4,3 @@ pub mod Indexing
 pub mod Mapping
 pub mod Registering
 pub mod Limits
-pub mod Fresh

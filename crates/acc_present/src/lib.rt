@@ -8,6 +8,3 @@ mod ranges;
 mod register;
 
 pub use presence::Present;
-
-#[cfg(test)]
-mod tests;

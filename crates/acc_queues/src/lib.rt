@@ -4,8 +4,6 @@
 
 mod ring;
 mod rings;
-#[cfg(test)]
-mod tests;
 mod waiting;
 
 pub use waiting::Queues;

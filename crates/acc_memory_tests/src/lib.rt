@@ -1,0 +1,12 @@
+//! Tests of the crates that keep memories: `acc_host`, `acc_placement`, `acc_lend` and `acc_dev`: what no clause of them
+//! says. They stand in a crate of their own, so that each of those is proved once and not twice.
+#![tactic(auto)]
+
+#[cfg(test)]
+mod dev;
+#[cfg(test)]
+mod host;
+#[cfg(test)]
+mod lend;
+#[cfg(test)]
+mod placement;

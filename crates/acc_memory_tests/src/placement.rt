@@ -1,0 +1,120 @@
+//! Placement by example.
+
+ghost use Rattle.std.specs.Prelude.{ℕ, List, ◌<◌, length, OnOk};
+ghost use Rattle.acc_base.specs.Limits.{IsFromOne};
+ghost use Rattle.acc_placement.specs.Space.{IsPartition};
+
+use acc_base::{DEVICE_BASE, Fault, MEMORY_MAX};
+use acc_placement::{Holes, rounded};
+use std::process::Abort;
+use std::test::Fail;
+
+/// One call that changes a space, and its answer.
+#[derive(Clone, Copy)]
+enum Change {
+    /// The place of a take of this need.
+    Takes(u64, u64),
+    /// A need for which there is no hole, and its size.
+    Full(u64, u64),
+    /// The end of the taken range of this number, from 0 in the order of the takes that are left.
+    GivesBack(usize),
+}
+
+/// The calls on a space of 64 bytes, one after the other, with the holes and the used bytes after each.
+const TURNS: &[(Change, &[(u64, u64)], u64)] = &[
+    (Change::Takes(16, 0x1_0000_0000), &[(0x1_0000_0010, 48)], 16),
+    (Change::Takes(1, 0x1_0000_0010), &[(0x1_0000_0020, 32)], 32),
+    (Change::Takes(32, 0x1_0000_0020), &[], 64),
+    (Change::Full(1, 16), &[], 64),
+    (Change::GivesBack(0), &[(0x1_0000_0000, 16)], 48),
+    (Change::Full(17, 32), &[(0x1_0000_0000, 16)], 48),
+    (Change::GivesBack(0), &[(0x1_0000_0000, 32)], 32),
+    (Change::Takes(17, 0x1_0000_0000), &[], 64),
+];
+
+/// Takes a range, and keeps it in the list of those that are taken.
+fn take(holes: &mut Holes, taken: &mut Vec<(u64, u64)>, need: u64) -> Result<u64, Fault>
+    requires need { IsFromOne MEMORY_MAX need }
+    requires partition { IsPartition holes.old taken.old.items }
+    ensures { OnOk result (IsPartition holes.new taken.new.items) }
+{
+    let place = holes.take(need)?;
+    taken.push((place, rounded(need)))?;
+    Ok(place)
+}
+
+/// A take that is refused, for a size, where there is no hole.
+fn refuse(rt: &impl Abort, holes: &mut Holes, need: u64, size: u64)
+    requires { IsFromOne MEMORY_MAX need }
+    ensures { (ts : List (ℕ × ℕ)) → IsPartition holes.old ts → IsPartition holes.new ts }
+{
+    let Err(fault) = holes.take(need) else {
+        panic!(rt; "there was a hole");
+    };
+    assert_eq!(rt;
+        fault,
+        Fault::DeviceFull {
+            item: 0,
+            need: size
+        }
+    );
+}
+
+/// Gives a range back, and leaves it out of the list of those that are taken.
+fn give_back(rt: &impl Abort, holes: &mut Holes, taken: &mut Vec<(u64, u64)>, at: usize)
+    requires in_bounds { at < length taken.old.items }
+    requires partition { IsPartition holes.old taken.old.items }
+    ensures { IsPartition holes.new taken.new.items }
+{
+    let (place, size) = taken.remove(at);
+    assert!(rt; 0 < size && size <= MEMORY_MAX);
+    holes.give_back(place, size);
+}
+
+/// The space answers a call that changes it as the row says.
+fn perform(
+    rt: &impl Abort,
+    holes: &mut Holes,
+    taken: &mut Vec<(u64, u64)>,
+    turn: Change,
+) -> Result<(), Fault>
+    requires { IsPartition holes.old taken.old.items }
+    ensures { OnOk result (IsPartition holes.new taken.new.items) }
+{
+    match turn {
+        Change::Takes(need, wanted) => {
+            assert!(rt; 0 < need && need <= MEMORY_MAX);
+            let place = take(holes, taken, need)?;
+            assert_eq!(rt; place, wanted);
+        }
+        Change::Full(need, size) => {
+            assert!(rt; 0 < need && need <= MEMORY_MAX);
+            refuse(rt, holes, need, size);
+        }
+        Change::GivesBack(at) => {
+            assert!(rt; at < taken.len());
+            give_back(rt, holes, taken, at);
+        }
+    }
+    Ok(())
+}
+
+#[test]
+fn each_call_answers_its_row(rt: HostRuntime) -> Result<(), Fail> {
+    let mut holes = Holes::new(rt.alloc(), DEVICE_BASE, 64)?;
+    let mut taken = Vec::new(rt.alloc());
+    for (turn, left, used) in TURNS {
+        perform(&rt, &mut holes, &mut taken, *turn)?;
+        assert_eq!(rt; holes.holes(), *left);
+        assert_eq!(rt; holes.used(), *used);
+    }
+    Ok(())
+}
+
+#[test]
+fn planned_takes_are_in_the_way(rt: HostRuntime) -> Result<(), Fail> {
+    let holes = Holes::new(rt.alloc(), 0, 64)?;
+    assert_eq!(rt; holes.would_take(&[(0, 16), (16, 1)], 32), Some(32));
+    assert_eq!(rt; holes.would_take(&[(0, 16), (16, 1)], 33), None);
+    Ok(())
+}

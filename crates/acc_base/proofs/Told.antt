@@ -122,10 +122,10 @@ pub record IsTold (l : Limits) (lay : Layout) (entries exits dynamics : ℕ → 
   pub dynamic : (b : ℕ) → dynamic_of b lay.records.ranges ≡ dynamics b
 
 -- an event that is legal keeps it
-pub event_told : (l : Limits) (e : Event) (lay : Layout) (entries exits dynamics : ℕ → ℕ) → IsWithinBounds l → IsTold l lay entries exits dynamics → IsLegal l e lay
+pub walk_told : (l : Limits) (e : Event) (lay : Layout) (entries exits dynamics : ℕ → ℕ) → IsWithinBounds l → IsTold l lay entries exits dynamics → IsLegal l e lay
     → IsTold l (walk e lay) (λ b. entries b + entries_of b e) (λ b. exits b + exits_of b e) (λ b. dynamic_after b (dynamics b) e)
 unfolding walk
-event_told l e lay entries exits dynamics bounds h legal =
+walk_told l e lay entries exits dynamics bounds h legal =
     let tasks : List Task = asked_in e lay.register in
     let said : AreSaid l tasks (done_in e) = all_said l 0 tasks (done_in e) lay.records legal.judged in
     let left : AreLeft l tasks (done_in e) lay.records (act_all tasks (done_in e) lay.records) = all_left l 0 tasks (done_in e) lay.records bounds h.sound legal.judged in
@@ -150,20 +150,20 @@ event_told l e lay entries exits dynamics bounds h legal =
 
 -- ---- a list of events
 
-pub events_told : (l : Limits) (events : List Event) (lay : Layout) (entries exits dynamics : ℕ → ℕ) → IsWithinBounds l → IsTold l lay entries exits dynamics → AreLegal l events lay
+pub walks_told : (l : Limits) (events : List Event) (lay : Layout) (entries exits dynamics : ℕ → ℕ) → IsWithinBounds l → IsTold l lay entries exits dynamics → AreLegal l events lay
     → IsTold l (walk_all events lay) (λ b. entries b + sum_by (entries_of b) events) (λ b. exits b + sum_by (exits_of b) events) (λ b. fold (dynamic_after b) (dynamics b) events)
 unfolding walk_all
-events_told l [] lay entries exits dynamics bounds h legal = record {
+walks_told l [] lay entries exits dynamics bounds h legal = record {
   sound = h.sound;
   numbered = h.numbered;
   held = h.held;
   structured = λ b. omega (arith, h.structured b);
   dynamic = h.dynamic;
 }
-events_told l (e ∷ events) lay entries exits dynamics bounds h legal =
-    let first : IsTold l (walk e lay) (λ b. entries b + entries_of b e) (λ b. exits b + exits_of b e) (λ b. dynamic_after b (dynamics b) e) = event_told l e lay entries exits dynamics bounds h legal.0 in
+walks_told l (e ∷ events) lay entries exits dynamics bounds h legal =
+    let first : IsTold l (walk e lay) (λ b. entries b + entries_of b e) (λ b. exits b + exits_of b e) (λ b. dynamic_after b (dynamics b) e) = walk_told l e lay entries exits dynamics bounds h legal.0 in
     let later : IsTold l (walk_all events (walk e lay)) (λ b. entries b + entries_of b e + sum_by (entries_of b) events) (λ b. exits b + exits_of b e + sum_by (exits_of b) events) (λ b. fold (dynamic_after b) (dynamic_after b (dynamics b) e) events)
-    = events_told l events (walk e lay) (λ b. entries b + entries_of b e) (λ b. exits b + exits_of b e) (λ b. dynamic_after b (dynamics b) e) bounds first legal.1 in
+    = walks_told l events (walk e lay) (λ b. entries b + entries_of b e) (λ b. exits b + exits_of b e) (λ b. dynamic_after b (dynamics b) e) bounds first legal.1 in
     record {
       sound = later.sound;
       numbered = later.numbered;
@@ -187,7 +187,7 @@ pub record IsLedTo (l : Limits) (h : History) (lay : Layout) : Type 0 where
 pub legal_told : (l : Limits) (h : History) (lay : Layout) → IsWithinBounds l → IsHistoryLegal l h lay → IsLedTo l h lay
 legal_told l h lay bounds legal =
     let all_of : IsTold l (walk_all h.trace new_layout) (λ b. 0 + sum_by (entries_of b) h.trace) (λ b. 0 + sum_by (exits_of b) h.trace) (λ b. fold (dynamic_after b) 0 h.trace)
-    = events_told l h.trace new_layout (λ b. 0) (λ b. 0) (λ b. 0) bounds (new_told l) legal.legal in
+    = walks_told l h.trace new_layout (λ b. 0) (λ b. 0) (λ b. 0) bounds (new_told l) legal.legal in
     subst (IsLedTo l h) legal.leads (record {
       sound = all_of.sound;
       numbered = all_of.numbered;

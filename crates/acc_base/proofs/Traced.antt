@@ -223,18 +223,18 @@ loaned_told (HostWritten addr len) w pointers h = h
 loaned_told (Lent region section block serial) w pointers h = record { there = h.there; unborn = h.unborn }
 loaned_told (Gathered serial block) w pointers h = record { there = h.there; unborn = h.unborn }
 
-events_told : (l : Limits) (events : List Event) (lay : Layout) (pointers : ℕ → ℕ → ℕ) → IsWithinBounds l → AreRecordsSound l lay.records → AreLegal l events lay → AreTold pointers lay.records
+walks_told : (l : Limits) (events : List Event) (lay : Layout) (pointers : ℕ → ℕ → ℕ) → IsWithinBounds l → AreRecordsSound l lay.records → AreLegal l events lay → AreTold pointers lay.records
     → AreTold (λ block pointer. fold (attached_after block pointer) (pointers block pointer) events) (walk_all events lay).records
 unfolding walk_all walk
-events_told l [] lay pointers bounds sound legal h = h
-events_told l (e ∷ events) lay pointers bounds sound legal h =
+walks_told l [] lay pointers bounds sound legal h = h
+walks_told l (e ∷ events) lay pointers bounds sound legal h =
     let tasks : List Task = asked_in e lay.register in
     let qs : List ℕ = stepped_in e lay.records.queues in
     let v : Records = act_all tasks (done_in e) lay.records in
     let left : AreLeft l tasks (done_in e) lay.records v = all_left l 0 tasks (done_in e) lay.records bounds sound legal.0.judged in
     let told : AreTold (λ block pointer. attached_after block pointer (pointers block pointer) e) (records_drained qs v)
     = drained_told qs v (λ block pointer. attached_after block pointer (pointers block pointer) e) (tasks_told l 0 tasks (done_in e) lay.records pointers bounds sound legal.0.judged h) in
-    events_told l events (walk e lay) (λ block pointer. attached_after block pointer (pointers block pointer) e) bounds (loaned_sound l e lay legal.0.names (drained_sound l qs v left.sound)) legal.1
+    walks_told l events (walk e lay) (λ block pointer. attached_after block pointer (pointers block pointer) e) bounds (loaned_sound l e lay legal.0.names (drained_sound l qs v left.sound)) legal.1
     (loaned_told e (records_drained qs v) (λ block pointer. attached_after block pointer (pointers block pointer) e) told)
 
 nothing_told : AreTold (λ block pointer. 0) new_layout.records
@@ -243,5 +243,5 @@ nothing_told = record { there = λ block pointer there. refl; unborn = λ block 
 -- a legal history tells the attachment counters of every block that it leads to
 pub attachments_traced : (l : Limits) (h : History) (lay : Layout) → IsWithinBounds l → IsHistoryLegal l h lay → AreAttachmentsTraced h lay.records
 attachments_traced l h lay bounds history =
-    let told = events_told l h.trace new_layout (λ block pointer. 0) bounds (new_sound l) history.legal nothing_told in
+    let told = walks_told l h.trace new_layout (λ block pointer. 0) bounds (new_sound l) history.legal nothing_told in
     subst (λ (x : Layout). AreAttachmentsTraced h x.records) history.leads told.there

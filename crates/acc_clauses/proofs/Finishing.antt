@@ -21,7 +21,7 @@ use Rattle.acc_base.specs.Accounts.{IsLayoutSound, IsSound}
 use Rattle.acc_base.proofs.Memories.{AreBrought, event_sized}
 use Rattle.acc_base.proofs.Walked.{layout-after, register-act_all_state}
 use Rattle.acc_base.proofs.Registers.{AreFew, register_sound}
-use Rattle.acc_base.proofs.Told.{IsTold, event_told}
+use Rattle.acc_base.proofs.Told.{IsTold, walk_told}
 use Rattle.acc_clauses.specs.Planned.{Planned, register_planned, steps_by, finished}
 use Rattle.acc_clauses.specs.Contents.{Contents}
 use Rattle.acc_clauses.specs.Stored.{IsStoreSound, AreHoldingsWithin}
@@ -91,7 +91,7 @@ told l lay h = record {
 pub layout_kept : (l : Limits) (e : Event) (lay : Layout) → IsWithinBounds l → IsLayoutSound l lay → IsLegal l e lay → AreFew (register_after e lay.register) → IsLayoutSound l (walk e lay)
 unfolding walk
 layout_kept l e lay bounds h legal few =
-    let kept : IsTold l (walk e lay) _ _ _ = event_told l e lay (λ b. structured_of b lay.records.ranges) (λ b. 0) (λ b. dynamic_of b lay.records.ranges) bounds (told l lay h) legal in
+    let kept : IsTold l (walk e lay) _ _ _ = walk_told l e lay (λ b. structured_of b lay.records.ranges) (λ b. 0) (λ b. dynamic_of b lay.records.ranges) bounds (told l lay h) legal in
     record { records = kept.sound; register = register_sound (register_after e lay.register) kept.numbered few; held = kept.held }
 
 -- a store is sound after a legal event

@@ -388,8 +388,17 @@ fn store_of(alloc: Global, counter_max: u64) -> Result<Store, Fault> {
 /// The first turn that the store does not answer as the row says.
 fn first_difference(alloc: Global, row: &Row) -> Result<Option<usize>, Fault> {
     let mut store = store_of(alloc, row.counter_max)?;
+    first_difference_on(alloc, &mut store, row.turns)
+}
+
+/// The first turn that the store does not answer as it says. A lease that is left is given up.
+fn first_difference_on(
+    alloc: Global,
+    store: &mut Store,
+    turns: &[Turn],
+) -> Result<Option<usize>, Fault> {
     let mut kept = None;
-    let answer = first_wrong(alloc, &mut store, &mut kept, row.turns);
+    let answer = first_wrong(alloc, store, &mut kept, turns);
     if let Some(lease) = kept {
         lease.abandon();
     }
@@ -420,11 +429,23 @@ fn rows_hold(rt: &impl Abort, alloc: Global, rows: &[Row]) -> Result<(), Fail> {
 }
 
 #[test]
-fn stores_answer_as_the_rows_say(rt: HostRuntime) -> Result<(), Fail> {
-    for rows in [LIVES, POINTERS, QUEUES, LOANS] {
-        rows_hold(&rt, rt.alloc(), rows)?;
-    }
-    Ok(())
+fn mappings_live_as_the_rows_say(rt: HostRuntime) -> Result<(), Fail> {
+    rows_hold(&rt, rt.alloc(), LIVES)
+}
+
+#[test]
+fn pointers_are_attached_as_the_rows_say(rt: HostRuntime) -> Result<(), Fail> {
+    rows_hold(&rt, rt.alloc(), POINTERS)
+}
+
+#[test]
+fn queues_wait_as_the_rows_say(rt: HostRuntime) -> Result<(), Fail> {
+    rows_hold(&rt, rt.alloc(), QUEUES)
+}
+
+#[test]
+fn blocks_are_lent_as_the_rows_say(rt: HostRuntime) -> Result<(), Fail> {
+    rows_hold(&rt, rt.alloc(), LOANS)
 }
 
 /// What a refused growth may not change.
@@ -479,6 +500,17 @@ fn grow(rt: &(impl Abort + AllocGlobal), store: &mut Store, ask: Ask) -> Result<
     Ok(())
 }
 
+/// Carries out the directives of the growing rows, and compares what they leave.
+fn grow_all(rt: &(impl Abort + AllocGlobal), store: &mut Store) -> Result<(), Fail> {
+    assert!(rt; writes(store, P, TO_B));
+    for ask in GROWING {
+        grow(rt, store, *ask)?;
+    }
+    assert_eq!(rt; store.attachment(P), 1);
+    assert_eq!(rt; told(store), (3, 48, 2, 3));
+    Ok(())
+}
+
 /// To be run with each allocation failing in turn: what is made here is made a second time where the first failed.
 #[test]
 fn a_refused_growth_changes_nothing(rt: HostRuntime) -> Result<(), Fail> {
@@ -486,11 +518,5 @@ fn a_refused_growth_changes_nothing(rt: HostRuntime) -> Result<(), Fail> {
         Ok(store) => store,
         Err(_) => store_of(rt.alloc(), 100)?,
     };
-    assert!(&rt; writes(&mut store, P, TO_B));
-    for ask in GROWING {
-        grow(&rt, &mut store, *ask)?;
-    }
-    assert_eq!(&rt; store.attachment(P), 1);
-    assert_eq!(rt; told(&store), (3, 48, 2, 3));
-    Ok(())
+    grow_all(&rt, &mut store)
 }

@@ -35,13 +35,10 @@ pub data Meaning : Type 0 where
 
 -- a directive with clauses, whose items are a list
 abbrev pub has_items : Directive → Bool
-has_items (Enter items) = true
 has_items (Exit number) = false
-has_items (EnterData items queue) = true
-has_items (ExitData items finalize queue) = true
-has_items (Update items if_present queue) = true
 has_items (Wait queue) = false
 has_items (Step queue) = false
+has_items d = true
 
 -- a statement that takes memory to read: a directive with clauses, and a write, whose bytes are a list
 abbrev pub takes_memory : Meaning → Bool

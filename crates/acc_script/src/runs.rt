@@ -1,7 +1,8 @@
 //! Runs a script.
 
-ghost use Rattle.std.specs.Prelude.{◌≡◌, ◌≤◌};
-ghost use Rattle.acc_script.specs.Scripts.{transcript, status_of};
+ghost use Rattle.std.specs.Prelude.{◌≡◌, ◌≤◌, false};
+ghost use Rattle.acc_read.specs.Lines.{lines_of};
+ghost use Rattle.acc_script.specs.Scripts.{transcript, transcript_from, status_of};
 ghost use Rattle.acc_script.specs.Runs.{LineRuns, Played, Ran};
 ghost use Rattle.acc_script.specs.Sessions.{session_state};
 
@@ -57,7 +58,7 @@ pub fn run<R: Threads + Wait + Sync + AllocGlobal, S: Source, W: Sink>(
     play(rt.alloc(), config, &input, writer)
 }
 
-/// Runs all lines of an input.
+/// Runs all lines of an input on a new table.
 #[tactic(auto, unfolding(crate::specs::Scripts::transcript))]
 fn play<W: Sink>(
     alloc: Global,
@@ -68,12 +69,24 @@ fn play<W: Sink>(
     ensures { Played (transcript config input.now) (W.told writer.old) (W.told writer.new) result }
 {
     let mut session = Session::new(alloc, config)?;
+    play_lines(alloc, &mut session, input, writer)
+}
+
+/// Runs all lines of an input.
+fn play_lines<W: Sink>(
+    alloc: Global,
+    session: &mut Session,
+    input: &[u8],
+    writer: &mut W,
+) -> Result<Status, Fault>
+    ensures { Played (transcript_from 1 (session_state session.old) false (lines_of input.now)) (W.told writer.old) (W.told writer.new) result }
+{
     let mut rest = input;
     let mut done = 0u64;
     let mut refused = false;
     'lines: while !rest.is_empty() {
         let (line, after) = next_line(rest);
-        let is_refused = run_line(alloc, done + 1, &mut session, line, writer)?;
+        let is_refused = run_line(alloc, done + 1, session, line, writer)?;
         refused |= is_refused;
         rest = after;
         done += 1;

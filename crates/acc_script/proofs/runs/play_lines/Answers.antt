@@ -1,26 +1,26 @@
-use Rattle.std.proofs.Common.{◌≡◌, ◌<◌, sym, ◌∙◌, arith}
+use Rattle.std.proofs.Common.{◌≡◌, ◌<◌, false, sym, ◌∙◌, arith}
 use Rattle.std.proofs.lemmas.Result.{err_from_is_err_and}
 use Rattle.std.proofs.lemmas.Bool.{eqb-true}
 use Rattle.acc_base.specs.Calls.{open_regions}
 use Rattle.acc_read.specs.Lines.{lines_of}
 use Rattle.acc_script.specs.Sessions.{session_state}
-use Rattle.acc_script.specs.Scripts.{transcript}
+use Rattle.acc_script.specs.Scripts.{transcript_from}
 use Rattle.acc_script.proofs.LineByLine.{line_fails, left_more, took_line, ends_well, ends_unclosed, lines_none}
-use Rattle.acc_script.proofs.runs.play.Goals as goal
+use Rattle.acc_script.proofs.runs.play_lines.Goals as goal
 
 pub returns-in_err-is_refused : goal.returns-in_err-is_refused
 returns-in_err-is_refused g c =
     let told = g.W.Sink.told in
-    let p = err_from_is_err_and c.from_residual-in_err-is_refused.result c.from_residual-in_err-is_refused.ensures.1 in
+    let p = err_from_is_err_and c.from_residual.result c.from_residual.ensures.1 in
     rw (p.1, p.2)
-    (line_fails c.lines.done (session_state c.lines.session) c.lines.refused (lines_of c.lines.rest.now) (transcript c.args.config c.args.input.now) c.lines.invariant.left c.next_line.result.0.now (lines_of c.next_line.result.1.now) c.next_line.ensures.line
+    (line_fails c.lines.done (session_state c.lines.session) c.lines.refused (lines_of c.lines.rest.now) (transcript_from 1 (session_state c.args.session.now) false (lines_of c.args.input.now)) c.lines.invariant.left c.next_line.result.0.now (lines_of c.next_line.result.1.now) c.next_line.ensures.line
     (told c.args.writer.now) (told c.lines.writer) (told c.run_line.new.writer) (session_state c.run_line.new.session) c.in_err-is_refused.field-0.0 c.lines.invariant.wrote c.in_err-is_refused.ensures)
 
 pub lines-preserved : goal.lines-preserved
 lines-preserved g c =
     let told = g.W.Sink.told in
     let ran = c.in_ok-is_refused.ensures in
-    let all = transcript c.args.config c.args.input.now in
+    let all = transcript_from 1 (session_state c.args.session.now) false (lines_of c.args.input.now) in
     let s = session_state c.lines.session in
     let lines = lines_of c.lines.rest.now in
     let line = c.next_line.result.0.now in
@@ -39,7 +39,7 @@ returns-then-regions-gt0 g c =
     let s = session_state c.lines.session in
     let empty = lines_none c.lines.rest.now (eqb-true _ _ (sym c.is_empty.ensures ∙ c.lines-test.false)) in
     let some_region : 0 < open_regions s.world.state = omega (arith, c.regions.ensures, c.if-regions-gt0.true) in
-    ends_unclosed c.lines.done s c.lines.refused (lines_of c.lines.rest.now) (transcript c.args.config c.args.input.now) c.lines.invariant.left (told c.args.writer.now) (told c.lines.writer) empty some_region c.lines.invariant.wrote
+    ends_unclosed c.lines.done s c.lines.refused (lines_of c.lines.rest.now) (transcript_from 1 (session_state c.args.session.now) false (lines_of c.args.input.now)) c.lines.invariant.left (told c.args.writer.now) (told c.lines.writer) empty some_region c.lines.invariant.wrote
 
 pub returns : goal.returns
 returns g c =
@@ -47,5 +47,5 @@ returns g c =
     let s = session_state c.lines.session in
     let empty = lines_none c.lines.rest.now (eqb-true _ _ (sym c.is_empty.ensures ∙ c.lines-test.false)) in
     let no_region : open_regions s.world.state ≡ 0 = omega (arith, c.regions.ensures, c.if-regions-gt0.false) in
-    let ended = ends_well c.lines.done s c.lines.refused (lines_of c.lines.rest.now) (transcript c.args.config c.args.input.now) c.lines.invariant.left (told c.args.writer.now) (told c.lines.writer) empty no_region c.lines.invariant.wrote in
+    let ended = ends_well c.lines.done s c.lines.refused (lines_of c.lines.rest.now) (transcript_from 1 (session_state c.args.session.now) false (lines_of c.args.input.now)) c.lines.invariant.left (told c.args.writer.now) (told c.lines.writer) empty no_region c.lines.invariant.wrote in
     (c.lines.refused, ended.0, c.status_of.ensures, ended.1)

@@ -397,6 +397,17 @@ fn born_twice(rt: &impl Abort, device: &mut Device, len: u64)
     assert!(rt; device.has(number));
 }
 
+/// Makes blocks of some lengths, each twice where memory is refused, and compares what they leave.
+fn grow(rt: &impl Abort, device: &mut Device) {
+    for len in [1, 16, 17, 2, 3] {
+        born_twice(rt, device, len);
+    }
+    assert_eq!(rt; place(device, 1), Some((DEVICE_BASE, 16)));
+    assert_eq!(rt; place(device, 5), Some((DEVICE_BASE + 80, 16)));
+    assert!(rt; holds(device, 1, Some(&[0])));
+    assert_eq!(rt; device.used(), 96);
+}
+
 /// To be run with each allocation failing in turn: what is made here is made a second time where the first failed.
 #[test]
 fn a_refused_growth_changes_nothing(rt: HostRuntime) -> Result<(), Fail> {
@@ -407,13 +418,7 @@ fn a_refused_growth_changes_nothing(rt: HostRuntime) -> Result<(), Fail> {
             Device::new(rt.alloc(), 256)?
         }
     };
-    for len in [1, 16, 17, 2, 3] {
-        born_twice(&rt, &mut device, len);
-    }
-    assert_eq!(rt; place(&device, 1), Some((DEVICE_BASE, 16)));
-    assert_eq!(rt; place(&device, 5), Some((DEVICE_BASE + 80, 16)));
-    assert!(rt; holds(&device, 1, Some(&[0])));
-    assert_eq!(rt; device.used(), 96);
+    grow(&rt, &mut device);
     Ok(())
 }
 

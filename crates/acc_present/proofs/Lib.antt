@@ -4,3 +4,4 @@ pub mod Indexing
 pub mod Mapping
 pub mod Registering
 pub mod Limits
+pub mod Fresh

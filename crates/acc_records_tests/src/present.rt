@@ -79,7 +79,7 @@ fn section(start_and_len: (u64, u64)) -> Section {
 
 /// Maps a section to a block if it is absent, and answers whether it was. No range is mapped to the block or a later
 /// one.
-#[tactic(auto, using(crate::proofs::Fresh::fresh_none, crate::proofs::Fresh::fresh_later))]
+#[tactic(auto, using(acc_present::proofs::Fresh::fresh_none, acc_present::proofs::Fresh::fresh_later))]
 fn map(present: &mut Present, asked: Section, block: u64) -> Result<bool, Fault>
     requires { AllByRecursion (λ r. r.block < block) present.old.table.ranges }
     ensures before { AllByRecursion (λ r. r.block < block + 1) present.new.table.ranges }
@@ -139,7 +139,7 @@ const TURNS: [Counted; 11] = [
 ];
 
 /// The block of the range around an address, if it is mapped.
-#[tactic(auto, using(crate::proofs::Fresh::inside_there))]
+#[tactic(auto, using(acc_present::proofs::Fresh::inside_there))]
 fn block_at(present: &Present, address: u64) -> Option<u64>
     ensures { IfSome result (λ block. HasRange present.now.table block) }
 {

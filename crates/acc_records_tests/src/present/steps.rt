@@ -39,7 +39,7 @@ fn lies(ranges: &[Range], asked: Section) -> Found {
 }
 
 /// Ends the mapping to a block, in the table and in the list.
-#[tactic(auto, using(crate::proofs::Fresh::fresh_without))]
+#[tactic(auto, using(acc_present::proofs::Fresh::fresh_without))]
 fn end(present: &mut Present, list: &mut Vec<Range>, block: u64)
     requires { HasRange present.old.table block }
     ensures { (most : ℕ) → AllByRecursion (λ r. r.block < most) present.old.table.ranges → AllByRecursion (λ r. r.block < most) present.new.table.ranges }
@@ -76,7 +76,7 @@ fn begin(
 
 /// Maps a section to the block if it is absent, ends the mapping that it is inside, and answers whether the table and
 /// the list agreed before. No range is mapped to the block or a later one.
-#[tactic(auto, using(crate::proofs::Fresh::fresh_later, crate::proofs::Fresh::inside_there))]
+#[tactic(auto, using(acc_present::proofs::Fresh::fresh_later, acc_present::proofs::Fresh::inside_there))]
 fn step(
     present: &mut Present,
     list: &mut Vec<Range>,

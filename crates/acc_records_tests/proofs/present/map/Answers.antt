@@ -1,4 +1,4 @@
-use Rattle.acc_records_tests.proofs.Fresh.{fresh_added}
+use Rattle.acc_present.proofs.Fresh.{fresh_added}
 use Rattle.acc_records_tests.proofs.present.map.Goals as goal
 
 pub returns-clause-before : goal.returns-clause-before

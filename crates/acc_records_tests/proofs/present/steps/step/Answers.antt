@@ -1,5 +1,5 @@
 use Rattle.std.proofs.Common.{◌+◌}
-use Rattle.acc_records_tests.proofs.Fresh.{fresh_later}
+use Rattle.acc_present.proofs.Fresh.{fresh_later}
 use Rattle.acc_records_tests.proofs.present.steps.step.Goals as goal
 
 pub returns-in-Inside : goal.returns-in-Inside

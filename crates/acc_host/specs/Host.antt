@@ -1,5 +1,5 @@
 -- Host memory: bytes at the addresses from HOST_BASE on. Addresses are whole numbers without an upper bound.
-use Rattle.std.specs.Prelude.{ℕ, ◌≡◌, ◌+◌, ◌-◌, ◌<◌, ◌≤◌, List, ◌++◌, length, take, drop, slice_index}
+use Rattle.std.specs.Prelude.{ℕ, ◌≡◌, ◌+◌, ◌-◌, ◌<◌, ◌≤◌, List, length, take, drop, slice_index}
 use Rattle.acc_base.specs.declared.items.Section.{Section}
 use Rattle.acc_base.specs.Section.{Covers, host_base}
 use Rattle.acc_base.specs.Bytes.{host_byte}

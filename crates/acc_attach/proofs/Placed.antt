@@ -127,8 +127,8 @@ find_of : (block pointer : ℕ) (xs : List Attachment) → EachPair IsBefore xs 
 find_of block pointer xs h = find_first block pointer (is_of block pointer) (not_of_below block pointer) (not_of_behind block pointer) xs h
 
 -- the first counter from a pointer on is the pointer's
-pub counted : (block pointer : ℕ) (xs : List Attachment) (a : Attachment) → EachPair IsBefore xs → Some a ≡ find (is_from block pointer) xs → is_of block pointer a ≡ true → a.count ≡ count_at block pointer xs
-counted block pointer xs a h e is =
+pub count_there : (block pointer : ℕ) (xs : List Attachment) (a : Attachment) → EachPair IsBefore xs → Some a ≡ find (is_from block pointer) xs → is_of block pointer a ≡ true → a.count ≡ count_at block pointer xs
+count_there block pointer xs a h e is =
     let f : find (is_of block pointer) xs ≡ Some a = find_of block pointer xs h ∙ ap (passed (is_of block pointer)) (sym e) ∙ rw is in
     sym (ap (λ o. unwrap_or (option_map (λ (x : Attachment). x.count) o) 0) f)
 

@@ -50,12 +50,12 @@ history_after l h e lay new legal now is = record {
 
 -- ---- the world after it
 
-numbered : (g : Register) → IsRegisterSound g → IsNumbered g
-numbered g h = record { first = h.first; rising = h.rising; known = h.known }
+is_numbered : (g : Register) → IsRegisterSound g → IsNumbered g
+is_numbered g h = record { first = h.first; rising = h.rising; known = h.known }
 
 -- each region holds few items
 few_after : (most regions : ℕ) (e : Event) (g : Register) → IsRegisterSound g → IsEntryAllowed most regions e → AreFew (register_after e g)
-few_after most regions (Entered number items did) g h room = opened_few (holdings_of items did) g (numbered g h) h.few (omega (arith, holdings_short items did, room.0))
+few_after most regions (Entered number items did) g h room = opened_few (holdings_of items did) g (is_numbered g h) h.few (omega (arith, holdings_short items did, room.0))
 few_after most regions (Left number did) g h room = closed_few number g h.few
 few_after most regions (EnteredData items queue did) g h room = h.few
 few_after most regions (ExitedData items finalize queue did) g h room = h.few
@@ -68,7 +68,7 @@ few_after most regions (Gathered serial block) g h room = h.few
 
 -- and there are no more regions than the limit says
 regions_after : (most : ℕ) (e : Event) (g : Register) → IsRegisterSound g → IsEntryAllowed most (length g.regions) e → length g.regions ≤ most → length (register_after e g).regions ≤ most
-regions_after most (Entered number items did) g h room le = omega (arith, opened_count (holdings_of items did) g (numbered g h), room.1)
+regions_after most (Entered number items did) g h room le = omega (arith, opened_count (holdings_of items did) g (is_numbered g h), room.1)
 regions_after most (Left number did) g h room le = omega (arith, closed_count number g)
 regions_after most (EnteredData items queue did) g h room le = le
 regions_after most (ExitedData items finalize queue did) g h room le = le

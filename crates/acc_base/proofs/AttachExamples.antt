@@ -27,8 +27,8 @@ abbrev did : Step → Aim → Did
 did step aim = record { step = step; aim = aim }
 
 -- the counter of that pointer in a block
-abbrev counts : ℕ → ℕ → Attachment
-counts block count = record { block = block; pointer = 0x1008; count = count }
+abbrev attached : ℕ → ℕ → Attachment
+attached block count = record { block = block; pointer = 0x1008; count = count }
 
 -- ---- `attach` twice at one target, then at another, then `detach` twice
 
@@ -38,7 +38,7 @@ mapped = point_to 0x10 ∷ enter_data_of (item enter.Copyin a ∷ item enter.Cop
 abbrev attached_twice : List (Call Leased)
 attached_twice = mapped ++ enter_data_of (alone enter.Attach ∷ []) ∷ enter_data_of (alone enter.Attach ∷ []) ∷ []
 
-attached_twice_counts : (ran_with limits attached_twice).world.state.records.attached ≡ counts 1 2 ∷ []
+attached_twice_counts : (ran_with limits attached_twice).world.state.records.attached ≡ attached 1 2 ∷ []
 unfolding ran_with
 attached_twice_counts = refl
 
@@ -54,7 +54,7 @@ attached_full = refl
 abbrev aimed_elsewhere : List (Call Leased)
 aimed_elsewhere = attached_twice ++ point_to 0x20 ∷ enter_data_of (alone enter.Attach ∷ []) ∷ []
 
-aimed_elsewhere_counts : (ran_with limits aimed_elsewhere).world.state.records.attached ≡ counts 1 1 ∷ []
+aimed_elsewhere_counts : (ran_with limits aimed_elsewhere).world.state.records.attached ≡ attached 1 1 ∷ []
 unfolding ran_with
 aimed_elsewhere_counts = refl
 
@@ -82,7 +82,7 @@ detached_bytes = refl
 abbrev entered_with : List (Call Leased)
 entered_with = point_to 0x10 ∷ enter_data_of (item enter.Copyin a ∷ via enter.Copyin b ∷ []) ∷ []
 
-entered_with_counts : (ran_with limits entered_with).world.state.records.attached ≡ counts 1 1 ∷ []
+entered_with_counts : (ran_with limits entered_with).world.state.records.attached ≡ attached 1 1 ∷ []
 unfolding ran_with
 entered_with_counts = refl
 
@@ -104,7 +104,7 @@ entered_again = refl
 abbrev exited_with : List (Call Leased)
 exited_with = entered_with ++ enter_data_of (via enter.Copyin b ∷ []) ∷ exit_data_of (via exit.Copyout b ∷ []) ∷ []
 
-exited_with_counts : (ran_with limits exited_with).world.state.records.attached ≡ counts 1 1 ∷ []
+exited_with_counts : (ran_with limits exited_with).world.state.records.attached ≡ attached 1 1 ∷ []
 unfolding ran_with
 exited_with_counts = refl
 
@@ -130,7 +130,7 @@ unfolding ran_with
 exited_own = refl
 
 -- where the exit is no action, its pointer is not detached
-exited_idle : (ran_with limits (entered_with ++ exit_data_of (via exit.Delete c ∷ []) ∷ [])).world.state.records.attached ≡ counts 1 1 ∷ []
+exited_idle : (ran_with limits (entered_with ++ exit_data_of (via exit.Delete c ∷ []) ∷ [])).world.state.records.attached ≡ attached 1 1 ∷ []
 unfolding ran_with
 exited_idle = refl
 
@@ -151,7 +151,7 @@ in_region_told = refl
 abbrev born_since : List (Call Leased)
 born_since = mapped ++ enter_of (alone region.Attach ∷ []) ∷ exit_data_of (item exit.Delete a ∷ []) ∷ enter_data_of (item enter.Copyin a ∷ alone enter.Attach ∷ []) ∷ exit_of 1 ∷ []
 
-born_since_counts : (ran_with limits born_since).world.state.records.attached ≡ counts 4 1 ∷ []
+born_since_counts : (ran_with limits born_since).world.state.records.attached ≡ attached 4 1 ∷ []
 unfolding ran_with
 born_since_counts = refl
 

@@ -321,16 +321,16 @@ three_entered_left = refl
 
 -- ---- numbers of regions rise, and refused entries use none
 
-abbrev numbered : List (Call Leased)
-numbered = enter_of [] ∷ enter_one Present a ∷ exit_of 1 ∷ enter_of [] ∷ enter_of [] ∷ exit_of 2 ∷ []
+abbrev entered_and_left : List (Call Leased)
+entered_and_left = enter_of [] ∷ enter_one Present a ∷ exit_of 1 ∷ enter_of [] ∷ enter_of [] ∷ exit_of 2 ∷ []
 
-numbered_told : (ran_with limits numbered).world.history.trace ≡ Entered 1 [] [] ∷ Left 1 [] ∷ Entered 2 [] [] ∷ Entered 3 [] [] ∷ Left 2 [] ∷ []
+entered_and_left_told : (ran_with limits entered_and_left).world.history.trace ≡ Entered 1 [] [] ∷ Left 1 [] ∷ Entered 2 [] [] ∷ Entered 3 [] [] ∷ Left 2 [] ∷ []
 unfolding ran_with
-numbered_told = refl
+entered_and_left_told = refl
 
-numbered_register : (ran_with limits numbered).world.state.register ≡ record { regions = region 3 [] ∷ []; next = 4; serial = 1 }
+entered_and_left_register : (ran_with limits entered_and_left).world.state.register ≡ record { regions = region 3 [] ∷ []; next = 4; serial = 1 }
 unfolding ran_with
-numbered_register = refl
+entered_and_left_register = refl
 
 -- two open regions are two
 both_open : (ran_with limits (enter_one Copyin a ∷ enter_one Present a ∷ [])).world.state.register ≡ record { regions = region 1 (holding Copyin a (Some 1) ∷ []) ∷ region 2 (holding Present a (Some 1) ∷ []) ∷ []; next = 3; serial = 1 }

@@ -39,8 +39,8 @@ use Rattle.acc_base.proofs.Puts.{acted_sound}
 use Rattle.acc_base.proofs.Loaned.{loaned_sound}
 use Rattle.acc_base.proofs.AllTasks.{AreLeft, all_left}
 
-number_of : Block → ℕ
-number_of b = b.number
+number_in : Block → ℕ
+number_in b = b.number
 
 -- a block that is there was born
 born_before : (l : Limits) (w : Records) (k : ℕ) → AreRecordsSound l w → IsSome (block_at k w.blocks) → k ≤ w.births
@@ -79,7 +79,7 @@ at-push_other block (x ∷ bs) b e = step (x.number == block) (at-push_other blo
     step false rest = rest
 
 born_told : (l : Limits) (task : Task) (k p : ℕ) (w : Records) (pointers : ℕ → ℕ → ℕ) → k ≡ w.births + 1 → AreRecordsSound l w → AreTold pointers w → AreTold pointers (records_after_birth (recounted task (bare_range (section_of task) k)) p w)
-unfolding records_after_birth number_of
+unfolding records_after_birth number_in
 born_told l task k p w pointers number sound h = record {
   there = λ block pointer there. go block pointer there (k == block) refl (block_at block w.blocks) refl;
   unborn = λ block pointer later. h.unborn block pointer (omega arith);
@@ -101,15 +101,15 @@ born_told l task k p w pointers number sound h = record {
 
 -- a block that is given back has no counter
 released_told : (k : ℕ) (w : Records) (pointers : ℕ → ℕ → ℕ) → AreTold pointers w → AreTold pointers (released k w)
-unfolding released number_of
+unfolding released number_in
 released_told k w pointers h = go (is_in_use k w)
   where
     gone : (block pointer : ℕ) → IsSome (block_at block (without_block k w.blocks)) → (b : Bool) → (block == k) ≡ b → count_at block pointer (without_attachments k w.attached) ≡ pointers block pointer
     gone block pointer there true same =
         let is : block ≡ k = equal _ _ same in
-        let none : block_at block (without_block k w.blocks) ≡ None = ap (λ n. block_at n (without_block k w.blocks)) is ∙ at-without_same number_of k w.blocks in
+        let none : block_at block (without_block k w.blocks) ≡ None = ap (λ n. block_at n (without_block k w.blocks)) is ∙ at-without_same number_in k w.blocks in
         cc
-    gone block pointer there false same = count_at-without_other block pointer k w.attached same ∙ h.there block pointer (rw (← at-without_other number_of k block w.blocks same) there)
+    gone block pointer there false same = count_at-without_other block pointer k w.attached same ∙ h.there block pointer (rw (← at-without_other number_in k block w.blocks same) there)
 
     go : (t : Bool) → AreTold pointers (record w { blocks = cond t w.blocks (without_block k w.blocks); attached = cond t w.attached (without_attachments k w.attached) })
     go true = record { there = h.there; unborn = h.unborn }

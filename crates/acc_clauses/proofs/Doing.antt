@@ -34,8 +34,8 @@ enter_whole (Leave holding) did s entry = absurd entry
 enter_whole (Exit finalize item queue) did s entry = absurd entry
 enter_whole (Move if_present item queue) did s entry = absurd entry
 
-pub enters : (task : Task) (did : Did) (x y z : Environment) → IsEnter task → IsActedBy task did.step x y → IsAimedBy did.aim y z → IsDoneBy task did x z
-enters task did x y z entry acted aims = both (step_state task did.step) (aimed did.aim) (act_state task did) (birth_of task did.step) [] (birth_of task did.step) 0 (pointers_of did.aim) (pointers_of did.aim) (λ q. puts_by q task did.step) (λ q. 0) (λ q. puts_by q task did.step) x y z
+pub entry_done : (task : Task) (did : Did) (x y z : Environment) → IsEnter task → IsActedBy task did.step x y → IsAimedBy did.aim y z → IsDoneBy task did x z
+entry_done task did x y z entry acted aims = both (step_state task did.step) (aimed did.aim) (act_state task did) (birth_of task did.step) [] (birth_of task did.step) 0 (pointers_of did.aim) (pointers_of did.aim) (λ q. puts_by q task did.step) (λ q. 0) (λ q. puts_by q task did.step) x y z
     (λ next. enter_whole task did (state_of x next) entry) (append-nil (birth_of task did.step)) (omega arith) (λ q. omega arith) acted aims
 
 -- and exit detaches before it

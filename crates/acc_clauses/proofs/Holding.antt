@@ -24,6 +24,7 @@ use Rattle.acc_base.specs.History.{AreJudged}
 use Rattle.acc_base.specs.Accounts.{AreRecordsSound}
 use Rattle.acc_base.proofs.Results.{equal}
 use Rattle.acc_base.proofs.Elements.{AllByRecursion-weaker}
+use Rattle.acc_base.proofs.RangeChanges.{block_of}
 use Rattle.acc_base.proofs.Lookups.{at-changed, at-without_same, at-without_other}
 use Rattle.acc_base.proofs.Judged.{IsJudgedTo, task_says, step_judged}
 use Rattle.acc_base.proofs.Recounted.{names}
@@ -34,9 +35,6 @@ use Rattle.acc_clauses.specs.Stored.{IsHeldWithin, IsHoldingWithin}
 use Rattle.acc_base.proofs.SameMapping.{mapping-act}
 
 -- ---- the range of a block after a step
-
-abbrev block_of : Range → ℕ
-block_of r = r.block
 
 -- a range more leaves those of other blocks
 range-with_other : (new : Range) (b : ℕ) (rs : List Range) → (new.block == b) ≡ false → range_of b (with_range new rs) ≡ range_of b rs

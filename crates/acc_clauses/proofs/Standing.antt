@@ -25,8 +25,8 @@ use Rattle.acc_clauses.proofs.Steps.{is_some}
 
 -- ---- the mark of a block
 
-abbrev number_of : Block → ℕ
-number_of b = b.number
+abbrev number_in : Block → ℕ
+number_in b = b.number
 
 -- the block has a mark, which is right
 record HasMark (k : ℕ) (ranges : List Range) (queues : List (List Transfer)) (ms : List Mark) : Type 0 where
@@ -122,7 +122,7 @@ ended_is l x next from sound zip =
     EachPair-weaker IsClearOf (λ (b : Block) (c : Block). b.number ≡ c.number → ⊥) x.device.blocks (λ b c clear same. let less : b.number < c.number = clear.numbers in omega arith) sound.sound.records.blocks_apart.apart in
     lowest_same from x.present.table.ranges x.queues.queues x.device.marks x.device.blocks
     (AllByRecursion-weaker (λ (b : Block). block_at b.number x.device.blocks ≡ Some b) (λ (b : Block). IsMarkTold x.present.table.ranges x.queues.queues x.device.marks b.number) x.device.blocks
-    (λ b own. told l x next b.number sound zip (is_some (block_at b.number x.device.blocks) b own)) (at-own number_of x.device.blocks distinct))
+    (λ b own. told l x next b.number sound zip (is_some (block_at b.number x.device.blocks) b own)) (at-own number_in x.device.blocks distinct))
 
 -- ---- loans
 

@@ -119,9 +119,9 @@ pub counted_marked : (task : Task) (k : ℕ) (x : Environment) (r : PresentState
 counted_marked task k x r e marked = rw e (marks_counted x.present.table.ranges k (recounted task) x.queues.queues x.device.marks (recounted-block task) marked)
 
 -- the counters of a range change, and nothing else
-counts : (change : State → State) (puts : ℕ → ℕ) (task : Task) (k : ℕ) (x : Environment) (r : PresentState) → r.table ≡ with_ranges x.present.table (changed_at k (recounted task) x.present.table.ranges) → present.IsRoomKept x.present.room r.room → AreMarked x
+counter_acts : (change : State → State) (puts : ℕ → ℕ) (task : Task) (k : ℕ) (x : Environment) (r : PresentState) → r.table ≡ with_ranges x.present.table (changed_at k (recounted task) x.present.table.ranges) → present.IsRoomKept x.present.room r.room → AreMarked x
     → ((next : Numbers) → state_of (record x { present = r }) next ≡ change (state_of x next)) → IsChangedBy change [] 0 puts x (record x { present = r })
-counts change puts task k x r e room marked same = record {
+counter_acts change puts task k x r e room marked same = record {
   state = same;
   counter_max = ap (λ t. t.counter_max) e;
   size = refl;
@@ -134,14 +134,14 @@ counts change puts task k x r e room marked same = record {
 pub counted_acts : (task : Task) (k : ℕ) (x : Environment) (r : PresentState) → r.table ≡ with_ranges x.present.table (changed_at k (recounted task) x.present.table.ranges) → present.IsRoomKept x.present.room r.room → AreMarked x
     → IsActedBy task (Counted k) x (record x { present = r })
 unfolding step_state act_step act_row with_range_changed
-counted_acts task k x r e room marked = counts (step_state task (Counted k)) (λ q. puts_by q task (Counted k)) task k x r e room marked
+counted_acts task k x r e room marked = counter_acts (step_state task (Counted k)) (λ q. puts_by q task (Counted k)) task k x r e room marked
     (λ next. state_by (record x { present = r }) next (step_state task (Counted k) (state_of x next)) (ap (λ t. t.ranges) e) refl refl refl (sym (none_put (queue_of task) x.queues.queues)) refl (ap (λ t. t.regions) e) refl refl
     (rw (none_made (queue_of task)) refl) (rw (none_made (queue_of task)) refl))
 
 pub dropped_acts : (task : Task) (k : ℕ) (x : Environment) (r : PresentState) → r.table ≡ with_ranges x.present.table (changed_at k (recounted task) x.present.table.ranges) → present.IsRoomKept x.present.room r.room → AreMarked x
     → IsActedBy task (Dropped k false) x (record x { present = r })
 unfolding step_state act_step act_row with_range_changed
-dropped_acts task k x r e room marked = counts (step_state task (Dropped k false)) (λ q. puts_by q task (Dropped k false)) task k x r e room marked
+dropped_acts task k x r e room marked = counter_acts (step_state task (Dropped k false)) (λ q. puts_by q task (Dropped k false)) task k x r e room marked
     (λ next. state_by (record x { present = r }) next (step_state task (Dropped k false) (state_of x next)) (ap (λ t. t.ranges) e) refl refl refl (sym (none_put (queue_of task) x.queues.queues)) refl (ap (λ t. t.regions) e) refl refl
     (rw (none_made (queue_of task)) refl) (rw (none_made (queue_of task)) refl))
 

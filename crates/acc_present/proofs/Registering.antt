@@ -23,9 +23,9 @@ numbers_above n [] h = tt
 numbers_above n (x ∷ xs) h = (h.0, numbers_above n xs h.1)
 
 -- and so they do in the register that they stand for
-pub numbered : (xs : List OpenRegion) → AreNumbersRising xs → AreNumbered (map region_of xs)
-numbered [] h = tt
-numbered (x ∷ xs) h = (numbers_above x.number xs h.0, numbered xs h.1)
+pub are_numbered : (xs : List OpenRegion) → AreNumbersRising xs → AreNumbered (map region_of xs)
+are_numbered [] h = tt
+are_numbered (x ∷ xs) h = (numbers_above x.number xs h.0, are_numbered xs h.1)
 
 -- the region of a number
 pub region_at-map : (number : ℕ) (xs : List OpenRegion) → region_at number (map region_of xs) ≡ option_map region_of (at number_key number xs)

@@ -28,14 +28,14 @@ abbrev pub sizes_of : World → List ℕ
 sizes_of w = sizes_text w.limits.host w.limits.device (used_bytes w.state.records.blocks)
 
 -- the lines of a world's device
-abbrev pub device_of : World → List ℕ
-device_of w = device_text w.state.records
+abbrev pub device_lines_of : World → List ℕ
+device_lines_of w = device_text w.state.records
 
 -- the line of totals of a world
 abbrev pub totals_of : World → List ℕ
 totals_of w = totals_text (open_regions w.state) (event_count w.history)
 
 -- a report as its lines of sizes, of the device and of totals
-pub report_parts : (w : World) → report_text w ≡ (sizes_of w ++ device_of w) ++ totals_of w
+pub report_parts : (w : World) → report_text w ≡ (sizes_of w ++ device_lines_of w) ++ totals_of w
 unfolding report_text
 report_parts w = refl

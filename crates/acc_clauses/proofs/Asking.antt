@@ -1,10 +1,11 @@
 -- What a directive asks, and the verdict that it comes to.
-use Rattle.std.proofs.Common.{ℕ, zero, suc, ◌≡◌, ◌<◌, ◌≤◌, refl, ap, ◌∙◌, Bool, true, false, List, [], ◌∷◌, ◌++◌, length, get_or, arith, Option, Some, None, Result, Ok, Err, inl, inr}
-use Rattle.std.specs.Prelude.{◌==◌, map, reverse, option_map, ⊤, MatchResult}
-use Rattle.std.proofs.lemmas.List.{map-append}
-use mathlib.Core.List.{reverse-cons}
+use Rattle.std.proofs.Common.{ℕ, zero, suc, ◌≡◌, ◌-◌, ◌<◌, ◌≤◌, refl, sym, ap, ◌∙◌, Bool, true, false, List, [], ◌∷◌, length, get_or, arith, Option, Some, None, Result, Ok, Err, inl, inr}
+use Rattle.std.specs.Prelude.{◌==◌, nat_lt, map, reverse, option_map, ⊤, MatchResult}
+use Rattle.std.proofs.lemmas.Bool.Decides.{nat_tests}
+use Rattle.std.proofs.lemmas.List.{length-map, length-reverse, get_or-map, get_or-reverse}
 use Rattle.std.specs.List.{list_all, list_any, AllByRecursion}
 use Rattle.acc_base.specs.declared.directives.Directive.{Directive}
+use Rattle.acc_base.specs.declared.directives.Directive.TheVariants.{Enter, Exit, EnterData, ExitData, Update, Wait, Step}
 use Rattle.acc_base.specs.declared.items.Item.{Item}
 use Rattle.acc_base.specs.declared.items.RegionClause.{RegionClause}
 use Rattle.acc_base.specs.declared.items.EnterClause.{EnterClause}
@@ -24,7 +25,8 @@ use Rattle.acc_base.specs.Walk.{enter_task, enter_data_task, exit_task, move_tas
 use Rattle.acc_base.specs.Queues.{queue_named}
 use Rattle.acc_base.specs.Tasks.{queue_of}
 use Rattle.acc_base.specs.Loans.{none_lent}
-use Rattle.acc_base.specs.Judge.{Verdict, few_items, tasks_of, queue_in, transfers_in, verdict_of, directive_verdict, plan_of}
+use Rattle.acc_base.specs.Judge.{Verdict, item_limit, item_count, few_items, tasks_of_region, tasks_of, queue_in, transfers_in, verdict_of, directive_verdict, plan_of}
+use Rattle.acc_base.proofs.Results.{refused_not, then_ok, ok_same}
 use Rattle.acc_base.proofs.Elements.{found_has}
 use Rattle.acc_clauses.specs.Overlays.{AreUnmixed, AreQueuesNamed, enters}
 use Rattle.acc_clauses.specs.Planned.{HasFewHoldings, asked_of}
@@ -54,14 +56,16 @@ unmixed_move if_present queue items = inr (none_map (move_task if_present queue)
 pub unmixed_leave : (holdings : List Holding) → AreUnmixed (leave_tasks holdings)
 unmixed_leave holdings = inr (none_map Leave (reverse holdings) (λ x. refl))
 
--- a reversed list of tasks is that of the reversed list
-pub map-reversed : {X Y : Type 0} (f : X → Y) (xs : List X) → map f (reverse xs) ≡ reverse (map f xs)
-map-reversed f [] = refl
-map-reversed f (x ∷ xs) = rw (reverse-cons, reverse-cons, map-append) (ap (λ ys. ys ++ f x ∷ []) (map-reversed f xs))
+-- the exit from a region asks as much as it holds
+pub length-leave : (holdings : List Holding) → length (leave_tasks holdings) ≡ length holdings
+length-leave holdings = length-map (reverse holdings) Leave ∙ length-reverse holdings
 
--- the exit from a region is the reverse of the undoing of its holdings
-pub leave-reversed : (holdings : List Holding) → leave_tasks holdings ≡ reverse (map Leave holdings)
-leave-reversed holdings = map-reversed Leave holdings
+-- the exit from a region undoes the last of its holdings first
+pub leave_at : (holdings : List Holding) (n : ℕ) (e : Holding) (d : Task) → n < length (leave_tasks holdings) → Leave (get_or holdings (length holdings - 1 - n) e) ≡ get_or (leave_tasks holdings) n d
+leave_at holdings n e d there =
+    let mapped : n < length (reverse holdings) = omega (arith, there, length-map (reverse holdings) Leave) in
+    let within : n < length holdings = omega (arith, there, length-leave holdings) in
+    sym (get_or-map Leave (reverse holdings) n e d mapped ∙ ap Leave (get_or-reverse holdings n e within))
 
 -- an open region that is found holds few
 few_found : (number : ℕ) (regions : List Region) (o : Option Region) (holdings : List Holding) → AllByRecursion HasFewHoldings regions → region_at number regions ≡ o → option_map (λ (r : Region). r.holdings) o ≡ Some holdings → length holdings ≤ 64
@@ -73,6 +77,10 @@ few_found number regions (Some r) holdings all is e =
 
 pub few_holdings : (number : ℕ) (regions : List Region) (holdings : List Holding) → AllByRecursion HasFewHoldings regions → holdings_at number regions ≡ Some holdings → length holdings ≤ 64
 few_holdings number regions holdings all e = few_found number regions (region_at number regions) holdings all refl e
+
+-- a directive that does not name too many items names few
+pub few_checked : (d : Directive) → few_items d ≡ Ok tt → item_count d ≤ 64
+few_checked d e = let few : nat_lt item_limit (item_count d) ≡ false = refused_not _ _ e in grind (arith, nat_tests)
 
 -- ---- queues
 
@@ -96,7 +104,31 @@ queue_of_move if_present queue items = same_queue-map (move_task if_present queu
 pub queue_none_leave : (holdings : List Holding) → AllByRecursion (λ (t : Task). queue_of t ≡ None) (leave_tasks holdings)
 queue_none_leave holdings = same_queue-map Leave None (reverse holdings) (λ x. refl)
 
-pub ruleset asking_laws = (few_holdings, unmixed_enter, unmixed_enter_data, unmixed_exit, unmixed_move, unmixed_leave, queue_none_enter, queue_of_enter, queue_of_exit, queue_of_move, queue_none_leave)
+-- ---- what holds of the tasks of a directive
+
+-- at most 64 tasks, all of one kind, which name the directive's queue
+pub record AreTasksOf (d : Directive) (tasks : List Task) : Type 0 where
+  pub few : length tasks ≤ 64
+  pub unmixed : AreUnmixed tasks
+  pub queues : AllByRecursion (λ (t : Task). queue_of t ≡ queue_in d) tasks
+
+-- so are the tasks of each directive that names few items, where each open region holds few
+tasks_fit : (d : Directive) (g : Register) (tasks : List Task) → AllByRecursion HasFewHoldings g.regions → item_count d ≤ 64 → tasks_of d g ≡ Ok tasks → AreTasksOf d tasks
+tasks_fit (Enter items) g tasks all few e = rw (← ok_same (map enter_task items) tasks e) (record { few = omega (arith, few, length-map items enter_task); unmixed = unmixed_enter items; queues = queue_none_enter items })
+tasks_fit (Exit number) g tasks all few e = go (holdings_at number g.regions) refl e
+  where
+    go : (o : Option (List Holding)) → holdings_at number g.regions ≡ o → tasks_of_region number o ≡ Ok tasks → AreTasksOf (Exit number) tasks
+    go None is h = absurd cc
+    go (Some holdings) is h = rw (← ok_same (leave_tasks holdings) tasks h) (record { few = omega (arith, few_holdings number g.regions holdings all is, length-leave holdings); unmixed = unmixed_leave holdings; queues = queue_none_leave holdings })
+tasks_fit (EnterData items queue) g tasks all few e = rw (← ok_same (map (enter_data_task queue) items) tasks e) (record { few = omega (arith, few, length-map items (enter_data_task queue)); unmixed = unmixed_enter_data queue items; queues = queue_of_enter queue items })
+tasks_fit (ExitData items finalize queue) g tasks all few e = rw (← ok_same (map (exit_task finalize queue) items) tasks e) (record { few = omega (arith, few, length-map items (exit_task finalize queue)); unmixed = unmixed_exit finalize queue items; queues = queue_of_exit finalize queue items })
+tasks_fit (Update items if_present queue) g tasks all few e = rw (← ok_same (map (move_task if_present queue) items) tasks e) (record { few = omega (arith, few, length-map items (move_task if_present queue)); unmixed = unmixed_move if_present queue items; queues = queue_of_move if_present queue items })
+tasks_fit (Wait queue) g tasks all few e = rw (← ok_same [] tasks e) (record { few = omega arith; unmixed = inl refl; queues = tt })
+tasks_fit (Step queue) g tasks all few e = rw (← ok_same [] tasks e) (record { few = omega arith; unmixed = inl refl; queues = tt })
+
+-- so are those that a directive asks
+pub asked_fit : (d : Directive) (g : Register) (tasks : List Task) → AllByRecursion HasFewHoldings g.regions → asked_of d g ≡ Ok tasks → AreTasksOf d tasks
+asked_fit d g tasks all e = let both = then_ok (few_items d) (tasks_of d g) tasks e in tasks_fit d g tasks all (few_checked d both.0) both.1
 
 -- where a directive's queue is there, so are those of its tasks
 pub queues_there : (queue : Option ℕ) (tasks : List Task) → queue_named queue ≡ Ok tt → AllByRecursion (λ (t : Task). queue_of t ≡ queue) tasks → AreQueuesNamed tasks

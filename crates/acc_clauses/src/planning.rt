@@ -5,8 +5,8 @@ ghost use Rattle.std.specs.List.{AllByRecursion};
 ghost use Rattle.acc_base.specs.Records.{layout_of};
 ghost use Rattle.acc_base.specs.Acting.{judge_all};
 ghost use Rattle.acc_base.specs.Queues.{queue_named};
-ghost use Rattle.acc_base.specs.Tasks.{queue_of};
 ghost use Rattle.acc_base.specs.Judge.{few_items, queue_in, verdict_of, plan_of};
+ghost use Rattle.acc_clauses.specs.Asked.{asked_tasks};
 ghost use Rattle.acc_clauses.specs.Overlays.{IsPlanned, AreUnmixed, AreQueuesNamed, tasks_in, dids_in};
 ghost use Rattle.acc_clauses.specs.Planned.{HasFewHoldings, asked_of, head_planned, IsPlannedOn};
 
@@ -16,26 +16,23 @@ use crate::lending::transfers_free;
 use crate::notes::{note_births, note_held};
 use crate::parts::Parts;
 use crate::plans::{Head, Plan};
-use crate::tasks::{enter_data_tasks, enter_tasks, exit_tasks, leaving_tasks, move_tasks};
-use acc_base::{Directive, Fault, QUEUE_COUNT, Task};
-use arrayvec::ArrayVec;
+use crate::tasks::Asked;
+use acc_base::{Directive, Fault, QUEUE_COUNT};
 
 /// Judges each task as if those before it had acted.
-fn judge_all(parts: &Parts, tasks: &[Task], draft: &mut Draft) -> Result<(), Fault>
-    requires few { length tasks.now ≤ 64 }
-    requires unmixed { AreUnmixed tasks.now }
-    requires queues { AreQueuesNamed tasks.now }
+fn judge_all(parts: &Parts, asked: &Asked<'_>, draft: &mut Draft) -> Result<(), Fault>
+    requires few { length (asked_tasks asked.now) ≤ 64 }
+    requires unmixed { AreUnmixed (asked_tasks asked.now) }
+    requires queues { AreQueuesNamed (asked_tasks asked.now) }
     requires births { parts.now.state.records.births < 2 ^ 48 }
-    ensures judged { MatchResult result (λ _. judge_all parts.now.limits 0 tasks.now parts.now.state ≡ Ok (dids_in draft.new)) (λ fault. judge_all parts.now.limits 0 tasks.now parts.now.state ≡ Err fault) }
-    ensures asked { OnOk result (tasks_in draft.new ≡ tasks.now) }
+    ensures judged { MatchResult result (λ _. judge_all parts.now.limits 0 (asked_tasks asked.now) parts.now.state ≡ Ok (dids_in draft.new)) (λ fault. judge_all parts.now.limits 0 (asked_tasks asked.now) parts.now.state ≡ Err fault) }
+    ensures asked { OnOk result (tasks_in draft.new ≡ asked_tasks asked.now) }
     ensures planned { OnOk result (IsPlanned parts.now.limits draft.new parts.now.state.records) }
 {
     parts.laws();
     draft.clear();
-    let mut n = 0;
-    for task in tasks {
-        judge(parts, draft, n, *task)?;
-        n += 1;
+    for n in 0..asked.count() {
+        judge(parts, draft, n as u64, asked.task(n))?;
     }
     Ok(())
 }
@@ -59,43 +56,44 @@ pub fn check_items(directive: &Directive) -> Result<(), Fault>
 }
 
 // What a directive asks, in the order in which it acts.
-#[tactic(auto, using(crate::proofs::Asking::asking_laws))]
-fn tasks_of(
-    parts: &Parts,
-    directive: &Directive,
-    tasks: &mut ArrayVec<Task, 64>,
-) -> Result<(), Fault>
-    requires { AllByRecursion HasFewHoldings parts.now.state.register.regions }
-    ensures asked { let asked = asked_of directive.now parts.now.state.register in MatchResult result (λ _. asked ≡ Ok tasks.new.items) (λ fault. asked ≡ Err fault) }
-    ensures unmixed { OnOk result (AreUnmixed tasks.new.items) }
-    ensures queues { OnOk result (AllByRecursion (λ t. queue_of t ≡ queue_in directive.now) tasks.new.items) }
-    ensures few { OnOk result (length tasks.new.items ≤ 64) }
+fn asked_by<'a>(parts: &'a Parts, directive: &'a Directive) -> Result<Asked<'a>, Fault>
+    ensures { let asked = asked_of directive.now parts.now.state.register in MatchResult result (λ a. asked ≡ Ok (asked_tasks a)) (λ fault. asked ≡ Err fault) }
 {
     check_items(directive)?;
-    tasks.clear();
-    match directive {
-        Directive::Enter { items } => enter_tasks(tasks, items.as_slice()),
+    let asked = match directive {
+        Directive::Enter { items } => Asked::Enter {
+            items: items.as_slice(),
+        },
         Directive::Exit { number } => match parts.holdings(*number) {
-            Some(holdings) => leaving_tasks(tasks, holdings),
+            Some(holdings) => Asked::Leave { holdings },
             None => return Err(Fault::NoRegion { number: *number }),
         },
-        Directive::EnterData { items, queue } => {
-            enter_data_tasks(tasks, items.as_slice(), *queue);
-        }
+        Directive::EnterData { items, queue } => Asked::EnterData {
+            items: items.as_slice(),
+            queue: *queue,
+        },
         Directive::ExitData {
             items,
             finalize,
             queue,
-        } => exit_tasks(tasks, items.as_slice(), *finalize, *queue),
+        } => Asked::ExitData {
+            items: items.as_slice(),
+            finalize: *finalize,
+            queue: *queue,
+        },
         Directive::Update {
             items,
             if_present,
             queue,
-        } => move_tasks(tasks, items.as_slice(), *if_present, *queue),
-        Directive::Wait { .. } => {}
-        Directive::Step { .. } => {}
-    }
-    Ok(())
+        } => Asked::Update {
+            items: items.as_slice(),
+            if_present: *if_present,
+            queue: *queue,
+        },
+        Directive::Wait { .. } => Asked::Nothing,
+        Directive::Step { .. } => Asked::Nothing,
+    };
+    Ok(asked)
 }
 
 // The queue that a directive names.
@@ -155,10 +153,10 @@ pub(crate) fn plan(parts: &Parts, directive: &Directive, plan: &mut Plan) -> Res
     ensures judged { let s = parts.now.state in MatchResult result (λ _. plan_of parts.now.limits directive.now s ≡ Ok (verdict_of directive.now s plan.new.dids)) (λ fault. plan_of parts.now.limits directive.now s ≡ Err fault) }
     ensures planned { OnOk result (IsPlannedOn parts.now.limits directive.now (layout_of parts.now.state) plan.new) }
 {
-    tasks_of(parts, directive, &mut plan.asked)?;
+    let asked = asked_by(parts, directive)?;
     plan.queue = queue_in(directive);
     check_queue(plan.queue)?;
-    let judged = judge_all(parts, &plan.asked, &mut plan.draft);
+    let judged = judge_all(parts, &asked, &mut plan.draft);
     plan.head = head_planned(directive);
     let acts = plan.draft.acts();
     note_births(&mut plan.lens, acts);

@@ -10,7 +10,7 @@ ghost use Rattle.acc_clauses.specs.declared.plans.Head.TheVariants.{Plain};
 use crate::acted::Acted;
 use crate::drafts::Draft;
 use crate::notes::tell_written;
-use acc_base::{Did, Fault, Holding, Task};
+use acc_base::{Did, Fault, Holding};
 use arrayvec::ArrayVec;
 use std::alloc::Global;
 use std::marker::Model;
@@ -38,8 +38,6 @@ pub struct Plan {
     pub(crate) head: Head,
     // The queue that the directive names.
     pub(crate) queue: Option<u64>,
-    // What the items ask, in the order in which they act.
-    pub(crate) asked: ArrayVec<Task, 64>,
     pub(crate) draft: Draft,
     // What was noted of its tasks: the lengths of the blocks that they bear, and what a region that they enter holds.
     pub(crate) lens: ArrayVec<u64, 64>,
@@ -66,7 +64,6 @@ impl Plan {
         Plan {
             head: Head::Plain,
             queue: None,
-            asked: ArrayVec::new(),
             draft: Draft::new(),
             lens: ArrayVec::new(),
             holdings: ArrayVec::new(),

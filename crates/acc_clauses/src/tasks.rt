@@ -1,26 +1,54 @@
-//! What the items of a directive ask, in the order in which they act. Each list is put into one that is there and empty.
+//! What the items of a directive ask, in the order in which they act.
 
-ghost use Rattle.std.specs.Prelude.{◌≡◌, ◌≤◌, [], length, map};
-ghost use Rattle.acc_base.specs.declared.tasks.Task.TheVariants.{Leave};
+ghost use Rattle.std.specs.Prelude.{ℕ, ◌≡◌, ◌<◌, ◌≤◌, length, get_or};
+ghost use Rattle.acc_base.specs.declared.tasks.Task.{Task};
 ghost use Rattle.acc_base.specs.Clauses.{as_region};
-ghost use Rattle.acc_base.specs.Walk.{enter_task, enter_data_task, leave_tasks, exit_task, move_task};
+ghost use Rattle.acc_base.specs.Walk.{enter_data_task};
+ghost use Rattle.acc_clauses.specs.Asked.{asked_tasks};
 
 use acc_base::{Counter, EnterClause, ExitClause, Holding, Item, RegionClause, Task, UpdateClause};
-use arrayvec::ArrayVec;
 
-/// The entry of a region's items.
-pub fn enter_tasks(tasks: &mut ArrayVec<Task, 64>, items: &[Item<RegionClause>])
-    requires none { tasks.old.items ≡ [] }
-    requires few { length items.now ≤ 64 }
-    ensures { tasks.new.items ≡ map enter_task items.now }
-{
-    for x in items {
-        tasks.push(Task::Enter {
-            counter: Counter::Structured,
-            item: *x,
-            queue: None,
-        });
-    }
+/// What a directive asks of its items, over the list in which they lie: its own, or that of the region that it leaves.
+/// The task of an item is made when it is judged.
+#[derive(Clone, Copy)]
+pub(crate) enum Asked<'a> {
+    /// The entry of a region's items.
+    Enter {
+        /// The items.
+        items: &'a [Item<RegionClause>],
+    },
+    /// The undoing of what a region holds, from the last item to the first.
+    Leave {
+        /// What it holds.
+        holdings: &'a [Holding],
+    },
+    /// The items of `enter data`.
+    EnterData {
+        /// The items.
+        items: &'a [Item<EnterClause>],
+        /// The queue of their transfers.
+        queue: Option<u64>,
+    },
+    /// The items of `exit data`.
+    ExitData {
+        /// The items.
+        items: &'a [Item<ExitClause>],
+        /// Whether the dynamic counters are cleared.
+        finalize: bool,
+        /// The queue of their transfers.
+        queue: Option<u64>,
+    },
+    /// The items of `update`.
+    Update {
+        /// The items.
+        items: &'a [Item<UpdateClause>],
+        /// Whether an absent section is passed over.
+        if_present: bool,
+        /// The queue of their transfers.
+        queue: Option<u64>,
+    },
+    /// No item.
+    Nothing,
 }
 
 // A clause of `enter data` is the row of this clause of a region.
@@ -34,89 +62,72 @@ fn as_region(clause: EnterClause) -> RegionClause
     }
 }
 
-/// The items of `enter data`.
-pub fn enter_data_tasks(
-    tasks: &mut ArrayVec<Task, 64>,
-    items: &[Item<EnterClause>],
-    queue: Option<u64>,
-)
-    requires none { tasks.old.items ≡ [] }
-    requires few { length items.now ≤ 64 }
-    ensures { tasks.new.items ≡ map (enter_data_task queue) items.now }
+// The task of an item of `enter data`.
+fn enter_data_task(item: Item<EnterClause>, queue: Option<u64>) -> Task
+    ensures { result ≡ enter_data_task queue item }
 {
-    for x in items {
-        let item = Item {
-            clause: as_region(x.clause),
-            section: x.section,
-            pointer: x.pointer,
-        };
-        tasks.push(Task::Enter {
-            counter: Counter::Dynamic,
-            item,
-            queue,
-        });
+    let item = Item {
+        clause: as_region(item.clause),
+        section: item.section,
+        pointer: item.pointer,
+    };
+    Task::Enter {
+        counter: Counter::Dynamic,
+        item,
+        queue,
     }
 }
 
-/// The items of `exit data`.
-pub fn exit_tasks(
-    tasks: &mut ArrayVec<Task, 64>,
-    items: &[Item<ExitClause>],
-    finalize: bool,
-    queue: Option<u64>,
-)
-    requires none { tasks.old.items ≡ [] }
-    requires few { length items.now ≤ 64 }
-    ensures { tasks.new.items ≡ map (exit_task finalize queue) items.now }
-{
-    for x in items {
-        tasks.push(Task::Exit {
-            finalize,
-            item: *x,
-            queue,
-        });
+impl Asked<'_> {
+    /// How many tasks there are.
+    pub(crate) fn count(&self) -> usize
+        ensures { result ≡ length (asked_tasks self.now) }
+    {
+        match self {
+            Asked::Enter { items } => items.len(),
+            Asked::Leave { holdings } => holdings.len(),
+            Asked::EnterData { items, .. } => items.len(),
+            Asked::ExitData { items, .. } => items.len(),
+            Asked::Update { items, .. } => items.len(),
+            Asked::Nothing => 0,
+        }
     }
-}
 
-/// The items of `update`.
-pub fn move_tasks(
-    tasks: &mut ArrayVec<Task, 64>,
-    items: &[Item<UpdateClause>],
-    if_present: bool,
-    queue: Option<u64>,
-)
-    requires none { tasks.old.items ≡ [] }
-    requires few { length items.now ≤ 64 }
-    ensures { tasks.new.items ≡ map (move_task if_present queue) items.now }
-{
-    for x in items {
-        tasks.push(Task::Move {
-            if_present,
-            item: *x,
-            queue,
-        });
+    /// The task that acts at place `n`, counted from 0. There are more than `n`, and at most 64.
+    pub(crate) fn task(&self, n: usize) -> Task
+        requires there { n < length (asked_tasks self.now) }
+        requires few { length (asked_tasks self.now) ≤ 64 }
+        ensures { (d : Task) → result ≡ get_or (asked_tasks self.now) n d }
+    {
+        match self {
+            Asked::Enter { items } => Task::Enter {
+                counter: Counter::Structured,
+                item: items[n],
+                queue: None,
+            },
+            Asked::Leave { holdings } => Task::Leave {
+                holding: holdings[holdings.len() - 1 - n],
+            },
+            Asked::EnterData { items, queue } => enter_data_task(items[n], *queue),
+            Asked::ExitData {
+                items,
+                finalize,
+                queue,
+            } => Task::Exit {
+                finalize: *finalize,
+                item: items[n],
+                queue: *queue,
+            },
+            Asked::Update {
+                items,
+                if_present,
+                queue,
+            } => Task::Move {
+                if_present: *if_present,
+                item: items[n],
+                queue: *queue,
+            },
+            Asked::Nothing => unreachable!(),
+        }
     }
-}
-
-// The undoing of holdings, in the order in which they were written.
-fn holding_tasks(tasks: &mut ArrayVec<Task, 64>, holdings: &[Holding])
-    requires none { tasks.old.items ≡ [] }
-    requires few { length holdings.now ≤ 64 }
-    ensures { tasks.new.items ≡ map Leave holdings.now }
-{
-    for x in holdings {
-        tasks.push(Task::Leave { holding: *x });
-    }
-}
-
-/// The exit from a region that holds these: its items are undone from the last to the first.
-#[tactic(auto, using(crate::proofs::Asking::asking_laws))]
-pub fn leaving_tasks(tasks: &mut ArrayVec<Task, 64>, holdings: &[Holding])
-    requires none { tasks.old.items ≡ [] }
-    requires few { length holdings.now ≤ 64 }
-    ensures tasks { tasks.new.items ≡ leave_tasks holdings.now }
-    ensures few { length tasks.new.items ≤ 64 }
-{
-    holding_tasks(tasks, holdings);
-    tasks.as_mut_slice().reverse();
 }

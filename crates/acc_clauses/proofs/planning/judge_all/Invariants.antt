@@ -1,15 +1,15 @@
 use Rattle.std.proofs.Common.{◌≡◌, ◌++◌, length, drop}
 use Rattle.acc_base.specs.Acting.{judge_all}
+use Rattle.acc_clauses.specs.Asked.{asked_tasks}
 use Rattle.acc_clauses.specs.Overlays.{IsPlanned, tasks_in, dids_in, state_after}
 use Rattle.acc_clauses.proofs.Turns.{prefixed}
 use Rattle.acc_clauses.proofs.planning.judge_all.Given as goal
 
 -- what was done before what is still judged is what all tasks do
-abbrev pub invariant-loop-task : goal.invariant-loop-task
-invariant-loop-task l = record {
-  at : l.n ≡ l.task-index;
-  few : length l.draft ≡ l.task-index;
-  asked : tasks_in l.draft ++ drop l.task-index l.tasks ≡ l.tasks;
+abbrev pub invariant-loop-n : goal.invariant-loop-n
+invariant-loop-n l = let tasks = asked_tasks l.asked in record {
+  few : length l.draft ≡ l.n;
+  asked : tasks_in l.draft ++ drop l.n tasks ≡ tasks;
   planned : IsPlanned l.parts.limits l.draft l.parts.state.records;
-  judged : prefixed (dids_in l.draft) (judge_all l.parts.limits l.n (drop l.task-index l.tasks) (state_after l.draft l.parts.state)) ≡ judge_all l.parts.limits 0 l.tasks l.parts.state;
+  judged : prefixed (dids_in l.draft) (judge_all l.parts.limits l.n (drop l.n tasks) (state_after l.draft l.parts.state)) ≡ judge_all l.parts.limits 0 tasks l.parts.state;
 }

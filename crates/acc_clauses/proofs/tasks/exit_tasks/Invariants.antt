@@ -1,9 +1,0 @@
-use Rattle.std.proofs.Common.{◌≡◌, ◌++◌, map, drop, length}
-use Rattle.acc_base.specs.Walk.{exit_task}
-use Rattle.acc_clauses.proofs.tasks.exit_tasks.Given as goal
-
-abbrev pub invariant-loop-x : goal.invariant-loop-x
-invariant-loop-x l = record {
-  len : length l.tasks.items ≡ l.x-index;
-  so_far : l.tasks.items ++ map (exit_task l.finalize l.queue) (drop l.x-index l.items) ≡ map (exit_task l.finalize l.queue) l.items;
-}

@@ -1,9 +1,0 @@
-use Rattle.std.proofs.Common.{◌≡◌, ◌++◌, map, drop, length}
-use Rattle.acc_base.specs.declared.tasks.Task.TheVariants.{Leave}
-use Rattle.acc_clauses.proofs.tasks.holding_tasks.Given as goal
-
-abbrev pub invariant-loop-x : goal.invariant-loop-x
-invariant-loop-x l = record {
-  len : length l.tasks.items ≡ l.x-index;
-  so_far : l.tasks.items ++ map Leave (drop l.x-index l.holdings) ≡ map Leave l.holdings;
-}

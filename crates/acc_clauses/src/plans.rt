@@ -32,7 +32,7 @@ pub enum Head {
 
 /// A directive that was judged whole: what each of its items will do.
 ///
-/// All of it lies in the value, some 22 KiB for 64 items, so a plan that is used again and again costs nothing to make.
+/// All of it lies in the value, some 16 KiB for 64 items, so a plan that is used again and again costs nothing to make.
 #[derive(Drop)]
 pub struct Plan {
     pub(crate) head: Head,

@@ -4,7 +4,8 @@ ghost use Rattle.std.specs.Prelude.{ℕ, ◌≡◌, ◌<◌, ◌^◌, ◌↔◌,
 ghost use Rattle.acc_base.specs.declared.faults.Fault.TheVariants.{Memory};
 ghost use Rattle.acc_base.specs.Limits.{IsWithinBounds};
 ghost use Rattle.acc_base.specs.Clauses.{in_host};
-ghost use Rattle.acc_base.specs.Holes.{IsDevice};
+ghost use Rattle.acc_base.specs.Section.{device_memory};
+ghost use Rattle.acc_base.specs.Holes.{IsDevice, IsNextHole};
 ghost use Rattle.acc_base.specs.Ranges.{where_is, range_from, structured_of, dynamic_of};
 ghost use Rattle.acc_base.specs.Loans.{is_lent};
 ghost use Rattle.acc_base.specs.Blocks.{block_at, place_of, used_bytes};
@@ -38,7 +39,7 @@ use crate::planning;
 use crate::plans::Plan;
 use crate::pointers::pointers_in;
 use crate::running::act_all;
-use acc_base::{Config, Counters, Directive, Ended, Fault, Found, Loan, Range, Section};
+use acc_base::{Config, Counters, Directive, Ended, Fault, Found, Hole, Loan, Range, Section};
 use acc_lend::Lease;
 use std::alloc::Global;
 use std::marker::Model;
@@ -82,7 +83,7 @@ impl Store {
     pub fn laws(&self)
         ensures sound { IsSound self.now.limits self.now.state }
         ensures limits { IsWithinBounds self.now.limits }
-        ensures holes { IsDevice self.now.limits.device self.now.state.records.blocks }
+        ensures holes { IsDevice (device_memory self.now.limits.device) self.now.state.records.blocks }
     {
         self.parts.laws();
     }
@@ -286,6 +287,13 @@ impl Store {
         ensures { result ≡ ended_from from self.now.state.records }
     {
         self.parts.ended(from)
+    }
+
+    /// The hole of least place at or above a device address: free addresses that lie side by side, as many as there are.
+    pub fn hole(&self, from: u64) -> Option<Hole>
+        ensures { IsNextHole from (device_memory self.now.limits.device) self.now.state.records.blocks result }
+    {
+        self.parts.hole(from)
     }
 
     /// How many transfers wait in a queue; 0 where there is no such queue (OpenACC 3.3, section 2.16).

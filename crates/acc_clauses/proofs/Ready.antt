@@ -125,7 +125,7 @@ sized_queue : (l : Limits) (x : Environment) (task : Task) (did : Did) → AreSi
 sized_queue l x task did sized h = subst (λ n. room_for n (queue_of task) (transfer_of task did.step x.present.table.ranges) x.queues.queues ≡ Ok tt) (sym sized.queues) (has_free l (bare_state x) task did h).room
 
 sized_step : (l : Limits) (x : Environment) (s : State) (task : Task) (step : Step) → AreSizedBy l x → CanAct l.counter_max (device_memory l.device) task step s → CanAct x.present.table.counter_max x.device.memory task step s
-sized_step l x s task step sized can = subst (λ n. CanAct x.present.table.counter_max n task step s) (sym sized.device) (subst (λ n. CanAct n l.device task step s) (sym sized.counters) can)
+sized_step l x s task step sized can = subst (λ n. CanAct x.present.table.counter_max n task step s) (sym sized.device) (subst (λ n. CanAct n (device_memory l.device) task step s) (sym sized.counters) can)
 
 sized_aim : (l : Limits) (x : Environment) (s : State) (aim : Aim) → AreSizedBy l x → CanAim l.counter_max aim s → CanAim x.attached.counter_max aim s
 sized_aim l x s aim sized can = subst (λ n. CanAim n aim s) (sym sized.pointers) can

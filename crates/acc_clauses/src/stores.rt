@@ -1,6 +1,6 @@
 //! Everything that a table keeps beside its trace, as one value.
 
-ghost use Rattle.std.specs.Prelude.{ℕ, ◌≡◌, ◌<◌, ◌^◌, ◌↔◌, [], IfOk, IfErr, OnOk, MatchResult, Ok, Err, IfSome, IfNone, IsSome, length, option_map, false};
+ghost use Rattle.std.specs.Prelude.{ℕ, ◌≡◌, ◌+◌, ◌<◌, ◌≤◌, ◌^◌, ◌↔◌, [], IfOk, IfErr, OnOk, MatchResult, Ok, Err, IfSome, IfNone, IsSome, length, option_map, false};
 ghost use Rattle.acc_base.specs.declared.faults.Fault.TheVariants.{Memory};
 ghost use Rattle.acc_base.specs.Limits.{IsWithinBounds};
 ghost use Rattle.acc_base.specs.Clauses.{in_host};
@@ -130,10 +130,11 @@ impl Store {
         }
     }
 
-    /// Does a plan of this store, for which room was made. It takes no memory and is never refused.
+    /// Does a plan that was made on this state of the store, and for which room was made. It takes no memory and is never
+    /// refused. Each of the plan's births, at most 64, has fewer than 2^48 before it, and so has the region that it enters.
     pub fn commit(&mut self, plan: &Plan)
         requires planned { IsPlan self.old plan.now }
-        requires births { self.old.state.records.births < 2 ^ 47 }
+        requires births { self.old.state.records.births + 64 ≤ 2 ^ 48 }
         requires next { self.old.state.register.next < 2 ^ 48 }
         requires room { HasPlanRoom plan.now self.old.room }
         ensures limits { self.new.limits ≡ self.old.limits }
@@ -164,6 +165,7 @@ impl Store {
     pub fn host_write(&mut self, addr: u64, bytes: &[u8])
         requires { CanWrite (record { start = addr; len = length bytes.now }) self.old.state.host }
         ensures limits { self.new.limits ≡ self.old.limits }
+        ensures room { self.new.room ≡ self.old.room }
         ensures state { self.new.state ≡ record self.old.state { host = host_after_write addr (length bytes.now) bytes.now self.old.state.host } }
     {
         self.parts.host_write(addr, bytes);
@@ -190,6 +192,7 @@ impl Store {
         requires serial { self.old.state.register.serial < 2 ^ 48 }
         ensures lease { result ≡ leased loan self.old.state }
         ensures limits { self.new.limits ≡ self.old.limits }
+        ensures room { self.new.room ≡ self.old.room }
         ensures state { (region : ℕ) (section : Section) → IsLoanPlanned self.old.limits region section self.old.state loan → self.new.state ≡ after (Lent region section loan.block loan.serial) [] self.old.state }
     {
         self.parts.laws();
@@ -214,6 +217,7 @@ impl Store {
     pub fn gather(&mut self, lease: Lease)
         requires { gather_event lease self.old.state.records ≡ Ok (Gathered lease.serial lease.block) }
         ensures limits { self.new.limits ≡ self.old.limits }
+        ensures room { self.new.room ≡ self.old.room }
         ensures state { self.new.state ≡ after (Gathered lease.serial lease.block) lease.bytes self.old.state }
     {
         self.parts.laws();
@@ -317,11 +321,18 @@ impl Store {
         self.parts.head_block(q)
     }
 
-    /// The number that the next data region gets.
+    /// The number that the next data region gets, of which [`Store::commit`] says how great it may be.
     pub fn next_region(&self) -> u64
         ensures { result ≡ self.now.state.register.next }
     {
         self.parts.next_region()
+    }
+
+    /// The serial number that the next loan gets, of which [`Store::lend`] says how great it may be.
+    pub fn next_serial(&self) -> u64
+        ensures { result ≡ self.now.state.register.serial }
+    {
+        self.parts.next_serial()
     }
 
     /// How many data regions are open.

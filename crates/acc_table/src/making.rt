@@ -113,7 +113,7 @@ fn commit(
     did: List<Did>,
 ) -> Reply
     requires planned { IsPlannedOn store.old.limits directive (layout_of store.old.state) plan.now }
-    requires births { store.old.state.records.births < 2 ^ 47 }
+    requires births { store.old.state.records.births + 64 ≤ 2 ^ 48 }
     requires regions { store.old.state.register.next < 2 ^ 48 }
     requires did { did ≡ in_written_order plan.now.head plan.now.dids }
     requires busy { is_idle directive store.old.state ≡ false }
@@ -140,7 +140,7 @@ fn prepare(
     plan: &mut Plan,
     directive: &Directive,
 ) -> Result<Option<List<Did>>, Fault>
-    requires births { store.old.state.records.births < 2 ^ 47 }
+    requires births { store.old.state.records.births + 64 ≤ 2 ^ 48 }
     ensures same { IsAsBefore store.old store.new trace.old.items trace.new.items }
     ensures judged { OnOk result (plan_of store.old.limits directive.now store.old.state ≡ Ok (planned_verdict directive.now plan.new store.old)) }
     ensures planned { OnOk result (IsPlannedOn store.old.limits directive.now (layout_of store.old.state) plan.new) }
@@ -169,7 +169,7 @@ pub fn carry_out(
     plan: &mut Plan,
     directive: Directive,
 ) -> Result<Reply, (Directive, Fault)>
-    requires births { store.old.state.records.births < 2 ^ 47 }
+    requires births { store.old.state.records.births + 64 ≤ 2 ^ 48 }
     requires regions { store.old.state.register.next < 2 ^ 48 }
     ensures judged { OnOk result (plan_of store.old.limits directive store.old.state ≡ Ok (planned_verdict directive plan.new store.old)) }
     ensures planned { OnOk result (IsPlannedOn store.old.limits directive (layout_of store.old.state) plan.new) }

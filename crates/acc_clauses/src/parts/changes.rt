@@ -129,6 +129,7 @@ impl Parts {
     pub(crate) fn host_write(&mut self, addr: u64, bytes: &[u8])
         requires { CanWrite (record { start = addr; len = length bytes.now }) self.old.state.host }
         ensures limits { self.new.limits ≡ self.old.limits }
+        ensures room { self.new.room ≡ self.old.room }
         ensures state { self.new.state ≡ record self.old.state { host = host_after_write addr (length bytes.now) bytes.now self.old.state.host } }
     {
         let Ok(()) = self.environment.host.write(addr, bytes) else {
@@ -144,6 +145,7 @@ impl Parts {
         requires few { self.old.state.register.serial < 2 ^ 48 }
         ensures lease { result ≡ leased loan self.old.state }
         ensures limits { self.new.limits ≡ self.old.limits }
+        ensures room { self.new.room ≡ self.old.room }
         ensures state { self.new.state ≡ lent_state loan self.old.state }
     {
         self.environment.device.laws();
@@ -161,6 +163,7 @@ impl Parts {
     pub(crate) fn gather(&mut self, lease: Lease)
         requires { is_returnable lease self.old.state.records.blocks self.old.state.records.loans ≡ true }
         ensures limits { self.new.limits ≡ self.old.limits }
+        ensures room { self.new.room ≡ self.old.room }
         ensures state { self.new.state ≡ gathered_state lease self.old.state }
     {
         self.numbers.lent = self.numbers.lent.saturating_sub(1);

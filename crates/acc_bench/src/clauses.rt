@@ -1,6 +1,6 @@
 //! How long the calls of `acc_clauses` take.
 
-ghost use Rattle.std.specs.Prelude.{◌<◌, ◌^◌};
+ghost use Rattle.std.specs.Prelude.{◌+◌, ◌<◌, ◌≤◌, ◌^◌};
 
 use crate::limits::largest;
 use crate::rows::tell;

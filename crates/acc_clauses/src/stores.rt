@@ -78,8 +78,8 @@ impl Store {
         Ok(Store { parts })
     }
 
-    /// The state is sound, the limits lie within their bounds, and blocks and holes are the device, with no address in two
-    /// of them. Nothing is done.
+    /// The state is sound, the limits lie within their bounds, and the blocks and the holes that [`Store::hole`] answers are
+    /// the device, with no address in two of them. Nothing is done.
     pub fn laws(&self)
         ensures sound { IsSound self.now.limits self.now.state }
         ensures limits { IsWithinBounds self.now.limits }

@@ -1,7 +1,7 @@
 //! What no clause says: that directives succeed, that the definitions say what is meant, and that a refused growth leaves
 //! the store as it was.
 
-ghost use Rattle.std.specs.Prelude.{◌≡◌, ◌<◌, ◌^◌};
+ghost use Rattle.std.specs.Prelude.{◌≡◌, ◌+◌, ◌<◌, ◌≤◌, ◌^◌};
 ghost use Rattle.acc_clauses.specs.Acts.{HasPlanRoom};
 ghost use Rattle.acc_clauses.specs.Stored.{IsPlan};
 

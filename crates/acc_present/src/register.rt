@@ -166,8 +166,7 @@ impl Register {
         ensures only { IfErr result (λ fault. fault ≡ Fault.Memory) }
         ensures needed { OnErr result (self.old.room ≡ 0) }
         ensures unchanged { OnErr result (self.new.regions ≡ self.old.regions) }
-        ensures taken { OnOk result (self.old.room ≤ self.new.room + 1) }
-        ensures kept { OnErr result (self.old.room ≤ self.new.room) }
+        ensures room { self.old.room ≤ self.new.room + 1 }
         ensures room_holdings { self.old.holdings ≤ self.new.holdings }
     {
         self.regions.reserve(1)?;

@@ -1,40 +1,141 @@
 //! Faults, configurations and lists by example.
 
 use acc_base::{Config, Fault, List, ScriptFault};
+use std::alloc::AllocError;
+use std::fmt::Display;
+use std::process::Abort;
 use std::test::Fail;
+
+/// Faults, and what they print: the number, the name, and each field with its value.
+const FAULTS: [(Fault, &str); 29] = [
+    (Fault::Memory, "1 Memory"),
+    (Fault::BadConfig, "2 BadConfig"),
+    (Fault::NoTickets { left: 0 }, "3 NoTickets left 0"),
+    (Fault::NoAllowance { left: 0 }, "4 NoAllowance left 0"),
+    (Fault::TooManyItems { n: 65 }, "5 TooManyItems n 65"),
+    (Fault::TraceFull { len: 262_144 }, "6 TraceFull len 262144"),
+    (Fault::OutOfHost { item: 1 }, "7 OutOfHost item 1"),
+    (Fault::Misaligned { item: 2 }, "8 Misaligned item 2"),
+    (Fault::NoQueue { q: 16 }, "9 NoQueue q 16"),
+    (Fault::PartlyPresent { item: 3 }, "10 PartlyPresent item 3"),
+    (Fault::NotPresent { item: 63 }, "11 NotPresent item 63"),
+    (Fault::CounterFull { item: 9 }, "12 CounterFull item 9"),
+    (Fault::Lent { block: 10 }, "13 Lent block 10"),
+    (
+        Fault::DeviceFull { item: 0, need: 32 },
+        "14 DeviceFull item 0 need 32",
+    ),
+    (Fault::QueueFull { q: 15 }, "15 QueueFull q 15"),
+    (Fault::NoRegion { number: 7 }, "16 NoRegion number 7"),
+    (
+        Fault::NoLease { serial: u64::MAX },
+        "17 NoLease serial 18446744073709551615",
+    ),
+    (Fault::BadCuts, "18 BadCuts"),
+    (
+        Fault::Script {
+            line: 1,
+            kind: ScriptFault::TooLong,
+        },
+        "19 Script line 1 kind TooLong",
+    ),
+    (
+        Fault::Script {
+            line: 2,
+            kind: ScriptFault::NotText,
+        },
+        "19 Script line 2 kind NotText",
+    ),
+    (
+        Fault::Script {
+            line: 3,
+            kind: ScriptFault::Syntax,
+        },
+        "19 Script line 3 kind Syntax",
+    ),
+    (
+        Fault::Script {
+            line: 40,
+            kind: ScriptFault::Number,
+        },
+        "19 Script line 40 kind Number",
+    ),
+    (
+        Fault::Script {
+            line: 5,
+            kind: ScriptFault::UnknownName,
+        },
+        "19 Script line 5 kind UnknownName",
+    ),
+    (
+        Fault::Script {
+            line: 16_777_217,
+            kind: ScriptFault::NameTaken,
+        },
+        "19 Script line 16777217 kind NameTaken",
+    ),
+    (
+        Fault::Script {
+            line: 7,
+            kind: ScriptFault::HostFull,
+        },
+        "19 Script line 7 kind HostFull",
+    ),
+    (
+        Fault::Script {
+            line: 8,
+            kind: ScriptFault::NoOpenRegion,
+        },
+        "19 Script line 8 kind NoOpenRegion",
+    ),
+    (
+        Fault::Script {
+            line: 9,
+            kind: ScriptFault::Unclosed,
+        },
+        "19 Script line 9 kind Unclosed",
+    ),
+    (Fault::Read, "20 Read"),
+    (Fault::Write, "21 Write"),
+];
+
+/// What may be wrong with a line of a script, and what that prints.
+const KINDS: [(ScriptFault, &str); 9] = [
+    (ScriptFault::TooLong, "TooLong"),
+    (ScriptFault::NotText, "NotText"),
+    (ScriptFault::Syntax, "Syntax"),
+    (ScriptFault::Number, "Number"),
+    (ScriptFault::UnknownName, "UnknownName"),
+    (ScriptFault::NameTaken, "NameTaken"),
+    (ScriptFault::HostFull, "HostFull"),
+    (ScriptFault::NoOpenRegion, "NoOpenRegion"),
+    (ScriptFault::Unclosed, "Unclosed"),
+];
+
+/// Compares what a fault prints with what is wanted.
+fn check_text<R: Abort + AllocGlobal, T: Display>(
+    rt: &R,
+    fault: &T,
+    text: &str,
+) -> Result<(), AllocError> {
+    let printed = fault.to_string(rt.alloc())?;
+    assert_eq!(rt; printed.as_str(), text);
+    Ok(())
+}
 
 #[test]
 fn a_fault_prints_its_number_its_name_and_its_fields(rt: HostRuntime) -> Result<(), Fail> {
-    let faults = [
-        (Fault::Memory, "1 Memory"),
-        (Fault::BadConfig, "2 BadConfig"),
-        (Fault::NoTickets { left: 0 }, "3 NoTickets left 0"),
-        (Fault::TooManyItems { n: 2 }, "5 TooManyItems n 2"),
-        (Fault::OutOfHost { item: 0 }, "7 OutOfHost item 0"),
-        (Fault::NoQueue { q: 16 }, "9 NoQueue q 16"),
-        (Fault::PartlyPresent { item: 0 }, "10 PartlyPresent item 0"),
-        (
-            Fault::DeviceFull { item: 0, need: 32 },
-            "14 DeviceFull item 0 need 32",
-        ),
-        (Fault::Read, "20 Read"),
-        (Fault::Write, "21 Write"),
-    ];
-    for (fault, text) in faults {
-        let printed = fault.to_string(rt.alloc())?;
-        assert_eq!(rt; printed.as_str(), text);
+    for (fault, text) in &FAULTS {
+        check_text(&rt, fault, text)?;
     }
     Ok(())
 }
 
 #[test]
-fn a_script_fault_prints_its_line_and_its_kind(rt: HostRuntime) -> Result<(), Fail> {
-    let fault = Fault::Script {
-        line: 3,
-        kind: ScriptFault::NoOpenRegion,
-    };
-    let printed = fault.to_string(rt.alloc())?;
-    assert_eq!(rt; printed.as_str(), "19 Script line 3 kind NoOpenRegion");
+fn what_is_wrong_with_a_line_prints_its_name(rt: HostRuntime) -> Result<(), Fail> {
+    for (kind, text) in &KINDS {
+        check_text(&rt, kind, text)?;
+    }
     Ok(())
 }
 
@@ -47,13 +148,16 @@ fn host_memory_is_a_multiple_of_sixteen_bytes(rt: HostRuntime) {
 #[test]
 fn a_config_holds_its_limits(rt: HostRuntime) -> Result<(), Fail> {
     let config = Config::new(65_536, 64, 1, 2, 3, 4, 5)?;
-    assert_eq!(rt; config.host(), 65_536);
-    assert_eq!(rt; config.device(), 64);
-    assert_eq!(rt; config.regions(), 1);
-    assert_eq!(rt; config.tickets(), 2);
-    assert_eq!(rt; config.counter_max(), 3);
-    assert_eq!(rt; config.queue_cap(), 4);
-    assert_eq!(rt; config.trace_cap(), 5);
+    let limits = [
+        config.host(),
+        config.device(),
+        config.regions(),
+        config.tickets(),
+        config.counter_max(),
+        config.queue_cap(),
+        config.trace_cap(),
+    ];
+    assert_eq!(rt; limits, [65_536, 64, 1, 2, 3, 4, 5]);
     Ok(())
 }
 

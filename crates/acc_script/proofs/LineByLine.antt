@@ -1,5 +1,5 @@
 -- One more line of a script.
-use Rattle.std.proofs.Common.{◌≡◌, ℕ, ◌+◌, ◌<◌, Bool, true, false, cond, List, [], ◌∷◌, ◌++◌, length, get_or, take, drop, Option, Result, Ok, Err, refl, sym, ap, subst, ◌∙◌, inr, arith}
+use Rattle.std.proofs.Common.{◌≡◌, ℕ, ◌+◌, ◌<◌, Bool, true, false, cond, List, [], ◌∷◌, ◌++◌, length, get_or, take, drop, Option, Result, Ok, Err, refl, sym, ap, subst, ◌∙◌, arith}
 use Rattle.std.specs.Prelude.{◌||◌, ◌==◌}
 use Rattle.std.specs.List.{concat}
 use Rattle.std.proofs.lemmas.Bool.Decides.{nat_tests}
@@ -18,7 +18,7 @@ use Rattle.acc_read.specs.Reading.{◌>>=◌, wants}
 use Rattle.acc_read.specs.Statements.{Meaning, takes_memory}
 use Rattle.acc_script.specs.Sessions.{MayWant}
 use Rattle.acc_script.specs.Scripts.{SessionState, Turned, turned, is_refused, meaning_in, line_turned, needs_memory, line_wants, line_text, Transcript, Ended, Faulty, ended, noted, transcript_from}
-use Rattle.acc_script.specs.Runs.{RanLine, LostLine, LineRuns, Played}
+use Rattle.acc_script.specs.Runs.{RanLine, LostLine, LineRuns, LinesPlayed}
 use Rattle.acc_script.proofs.Fronts.{Took_then, Took-then_front}
 
 -- ---- a line
@@ -188,10 +188,10 @@ module _ (done : ℕ) (s : SessionState) (refused : Bool) (lines : List (List �
 
     -- a line that ends the run
     pub line_fails : (a b c : Option Taken) (after : SessionState) (e : Fault) → Took a b (concat (take done all.texts))
-        → LineRuns (done + 1) s line b c after (Err e) → Played all a c (Err e)
+        → LineRuns (done + 1) s line b c after (Err e) → LinesPlayed all a c (Err e)
     line_fails a b c after Memory p f =
         let ran = wanting_runs s line f.0 in
-        inr (done, tells_wanting ran.0 ran.1 f.0, subst (λ (x : Option Taken). Took a x (concat (take done all.texts))) (sym f.1) p)
+        (done, tells_wanting ran.0 ran.1 f.0, subst (λ (x : Option Taken). Took a x (concat (take done all.texts))) (sym f.1) p)
     line_fails a b c after (Script at kind) p f =
         let ended = ends_faulty a b kind f.1 p in
         (rw f.0 ended.0, subst (λ (x : Option Taken). Took a x (concat all.texts)) (sym f.2) ended.1)

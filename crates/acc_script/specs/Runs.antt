@@ -43,18 +43,27 @@ LineRuns number s line old new after (Err _) = ⊥
 
 -- ---- a script
 
+-- what the lines before one that takes memory print was written, and there was no memory for that line
+abbrev pub WantedMemory : Transcript → Option Taken → Option Taken → Type 0
+WantedMemory t old new =
+    (lines : ℕ) × (slice_index_or t.wanting lines false ≡ true) × Took old new (concat (take lines t.texts))
+
 -- what was written is what the transcript says: all of it; the lines before one at fault, which are all where the end
--- of the input is at fault; nothing where there was no memory for a table, and the lines before one that takes memory
--- where there was none for it; or a front of it where the sink failed
-abbrev pub Played : Transcript → Option Taken → Option Taken → Result Status Fault → Type 0
-Played t old new (Ok status) =
+-- of the input is at fault; the lines before one that takes memory, where there was none for it; or a front of it where
+-- the sink failed
+abbrev pub LinesPlayed : Transcript → Option Taken → Option Taken → Result Status Fault → Type 0
+LinesPlayed t old new (Ok status) =
     (refused : Bool) × (t.ending ≡ Ended refused) × (status ≡ status_of refused) × Took old new (concat t.texts)
-Played t old new (Err (Script number kind)) = (t.ending ≡ Faulty number kind) × Took old new (concat t.texts)
-Played t old new (Err Memory) =
-    (new ≡ old)
-    ⊎ ((lines : ℕ) × (slice_index_or t.wanting lines false ≡ true) × Took old new (concat (take lines t.texts)))
-Played t old new (Err Write) = TookFront old new (concat t.texts)
-Played t old new (Err _) = ⊥
+LinesPlayed t old new (Err (Script number kind)) = (t.ending ≡ Faulty number kind) × Took old new (concat t.texts)
+LinesPlayed t old new (Err Memory) = WantedMemory t old new
+LinesPlayed t old new (Err Write) = TookFront old new (concat t.texts)
+LinesPlayed t old new (Err _) = ⊥
+
+-- the same; or there was no memory for a table, and nothing was written
+abbrev pub Played : Transcript → Option Taken → Option Taken → Result Status Fault → Type 0
+Played t old new (Ok status) = LinesPlayed t old new (Ok status)
+Played t old new (Err Memory) = (new ≡ old) ⊎ WantedMemory t old new
+Played t old new (Err fault) = LinesPlayed t old new (Err fault)
 
 -- ---- a run
 

@@ -3,7 +3,7 @@
 ghost use Rattle.std.specs.Prelude.{◌≡◌, ◌≤◌, false};
 ghost use Rattle.acc_read.specs.Lines.{lines_of};
 ghost use Rattle.acc_script.specs.Scripts.{transcript, transcript_from, status_of};
-ghost use Rattle.acc_script.specs.Runs.{LineRuns, Played, Ran};
+ghost use Rattle.acc_script.specs.Runs.{LineRuns, LinesPlayed, Played, Ran};
 ghost use Rattle.acc_script.specs.Sessions.{session_state};
 
 use crate::ends::whole::read_all;
@@ -79,7 +79,7 @@ fn play_lines<W: Sink>(
     input: &[u8],
     writer: &mut W,
 ) -> Result<Status, Fault>
-    ensures { Played (transcript_from 1 (session_state session.old) false (lines_of input.now)) (W.told writer.old) (W.told writer.new) result }
+    ensures { LinesPlayed (transcript_from 1 (session_state session.old) false (lines_of input.now)) (W.told writer.old) (W.told writer.new) result }
 {
     let mut rest = input;
     let mut done = 0u64;

@@ -1,5 +1,5 @@
 -- What is known of a task before its step is done, and what the step takes of the room.
-use Rattle.std.specs.Prelude.{ℕ, ◌≡◌, ◌+◌, ◌<◌, ◌≤◌, ◌^◌, Bool, true, false, ◌&&◌, List, [], ◌∷◌, ◌++◌, length, take, replicate, if◌then◌else◌, Option, Some, None, is_some, is_none, IsSome, Ok, ⊤}
+use Rattle.std.specs.Prelude.{ℕ, ◌≡◌, ◌+◌, ◌<◌, ◌≤◌, ◌⊎◌, ◌^◌, Bool, true, false, ◌&&◌, List, [], ◌∷◌, ◌++◌, length, take, replicate, if◌then◌else◌, Option, Some, None, is_some, is_none, IsSome, Ok, ⊤}
 use Rattle.std.specs.List.{AllByRecursion}
 use Rattle.acc_base.specs.declared.addresses.TheConstants.{MEMORY_MAX}
 use Rattle.acc_base.specs.declared.items.Section.{Section}
@@ -374,6 +374,14 @@ pub record HasPlanRoom (p : Planned) (room : Room) : Type 0 where
   pub region : HasRegionRoom (length p.tasks) room
   pub pointers : pointers_in p.dids ≤ room.attachments
   pub puts : HasPutRoom (λ q. puts_in q p.tasks p.dids) room
+
+-- a birth always takes memory, for its bytes; else room is missing for one region with so many holdings, or for so many attachment counters
+abbrev pub IsRoomMissing : List ℕ → ℕ → ℕ → Room → Type 0
+IsRoomMissing lens holdings pointers room = (0 < length lens) ⊎ (room.regions ≡ 0) ⊎ (room.holdings < holdings) ⊎ (room.attachments < pointers)
+
+-- for a plan, also for its transfers in some queue
+abbrev pub IsPlanRoomMissing : Planned → Room → Type 0
+IsPlanRoomMissing p room = IsRoomMissing (lens_born p.tasks p.dids) (length p.tasks) (pointers_in p.dids) room ⊎ ((q : ℕ) × (spare_at q room.puts < puts_in q p.tasks p.dids))
 
 -- ---- what a plan notes
 

@@ -1,6 +1,6 @@
 //! Everything that a table keeps beside its trace, as one value.
 
-ghost use Rattle.std.specs.Prelude.{ℕ, ◌≡◌, ◌+◌, ◌<◌, ◌≤◌, ◌^◌, ◌↔◌, [], IfOk, IfErr, OnOk, MatchResult, Ok, Err, IfSome, IfNone, IsSome, length, option_map, false};
+ghost use Rattle.std.specs.Prelude.{ℕ, ◌≡◌, ◌+◌, ◌<◌, ◌≤◌, ◌^◌, ◌↔◌, [], IfOk, IfErr, OnOk, OnErr, MatchResult, Ok, Err, IfSome, IfNone, IsSome, length, option_map, false};
 ghost use Rattle.acc_base.specs.declared.faults.Fault.TheVariants.{Memory};
 ghost use Rattle.acc_base.specs.Limits.{IsWithinBounds};
 ghost use Rattle.acc_base.specs.Clauses.{in_host};
@@ -27,7 +27,7 @@ ghost use Rattle.acc_host.specs.Host.{bytes_in, IsRead, IsOutOfHost};
 ghost use Rattle.acc_clauses.specs.Contents.{AreNew};
 ghost use Rattle.acc_clauses.specs.Stored.{IsPlan};
 ghost use Rattle.acc_clauses.specs.Planned.{IsPlannedOn};
-ghost use Rattle.acc_clauses.specs.Acts.{CanWrite, HasPlanRoom};
+ghost use Rattle.acc_clauses.specs.Acts.{CanWrite, HasPlanRoom, IsPlanRoomMissing};
 
 use crate::draining::waiting;
 use crate::effects::puts_in;
@@ -108,17 +108,20 @@ impl Store {
         planning::plan(&self.parts, directive, plan)
     }
 
-    /// Makes all room that a plan of this store needs. Nothing else changes, also where it is refused.
+    /// Makes all room that a plan needs which was made on this state of the store. Nothing else changes, also where it is
+    /// refused.
     ///
     /// # Errors
     ///
-    /// [`Fault::Memory`] alone.
+    /// [`Fault::Memory`] alone, and only where some of that room was missing. A plan that bears a block always takes memory
+    /// for its bytes; room for one region more is made for every plan.
     pub fn reserve(&mut self, plan: &Plan) -> Result<(), Fault>
         requires planned { IsPlan self.old plan.now }
         ensures limits { self.new.limits ≡ self.old.limits }
         ensures state { self.new.state ≡ self.old.state }
         ensures room { OnOk result (HasPlanRoom plan.now self.new.room) }
         ensures only { IfErr result (λ fault. fault ≡ Memory) }
+        ensures needed { OnErr result (IsPlanRoomMissing plan.now self.old.room) }
     {
         self.parts.laws();
         let acts = plan.acts();

@@ -1,6 +1,6 @@
 -- What look-ups before the tasks of a plan say of the records after them.
 use Rattle.std.proofs.Common.{ℕ, ◌≡◌, ◌+◌, ◌<◌, ◌≤◌, refl, sym, ap, ◌∙◌, Bool, true, false, ◌&&◌, List, [], ◌∷◌, ◌++◌, length, suc, Option, Some, None, Ok, arith, ⊎_elim, inl, inr}
-use Rattle.std.specs.Prelude.{◌==◌, not, nat_le, unwrap_or, option_map, All, IfSome}
+use Rattle.std.specs.Prelude.{◌==◌, not, unwrap_or, option_map, All, IfSome}
 use Rattle.std.specs.List.{list_all, list_any, AllByRecursion}
 use Rattle.std.proofs.lemmas.List.Folds.{list_all-append, list_any-append}
 use Rattle.std.proofs.lemmas.List.Elements.{All-from_recursion}

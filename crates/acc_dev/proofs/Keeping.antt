@@ -1,5 +1,5 @@
 -- What a device keeps, and what a look-up in it finds.
-use Rattle.std.proofs.Common.{ℕ, ◌≡◌, ◌+◌, ◌^◌, ◌<◌, ◌≤◌, refl, sym, ap, ◌∙◌, subst, List, [], ◌∷◌, ◌++◌, false, length, get_or, Option, Some, None, Vec, Global, vec_len, vec_capacity, arith, ◌↔◌}
+use Rattle.std.proofs.Common.{ℕ, ◌≡◌, ◌+◌, ◌^◌, ◌<◌, ◌≤◌, refl, sym, ap, ◌∙◌, subst, List, [], ◌∷◌, false, length, get_or, Option, Some, None, Vec, Global, vec_len, vec_capacity, arith, ◌↔◌}
 use Rattle.std.specs.Prelude.{map, find, nat_le, option_map, IsSome, IfSome, IfNone, IsTrue, is_some}
 use Rattle.std.specs.List.{AllByRecursion}
 use Rattle.std.proofs.lemmas.Bool.{false≢true}

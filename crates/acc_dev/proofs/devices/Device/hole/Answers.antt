@@ -1,4 +1,4 @@
-use Rattle.std.proofs.Common.{◌≡◌, None, Some, refl, sym, ◌∙◌, subst}
+use Rattle.std.proofs.Common.{None, Some, sym, ◌∙◌, subst}
 use Rattle.acc_base.specs.Holes.{IsNextHole}
 use Rattle.acc_dev.specs.Device.{DeviceState}
 use Rattle.acc_dev.proofs.Keeping.{next_found}

@@ -3,7 +3,7 @@
 
 use acc_base::{Config, Fault, ScriptFault};
 use acc_script::{MemorySink, MemorySource, Status, run};
-use faults::{FAULTS, LONG};
+use faults::{FAULTS, LONG, Long, PIECES, TEXTS};
 use kernels::{KERNELS, SCARCE};
 use queues::QUEUES;
 use rows::{REGIONS, SCRIPTS, SMALL, WIDE};
@@ -19,6 +19,7 @@ mod faults;
 mod kernels;
 mod queues;
 mod rows;
+mod streams;
 
 /// The sizes of host and device, and the limits of regions, tickets, counters, queues and trace.
 type Limits = [u64; 7];
@@ -183,6 +184,35 @@ fn check_joined<R: Abort + Threads + Wait + Sync + AllocGlobal>(
     check(rt, &WIDE, &script, printed, end)
 }
 
+/// Runs a script that is clean, and compares what it prints with the text of some parts.
+fn check_text<R: Abort + Threads + Wait + Sync + AllocGlobal>(
+    rt: &R,
+    script: &str,
+    parts: Parts<'_>,
+) -> Result<(), Fail> {
+    let mut printed = Vec::new(rt.alloc());
+    join(&mut printed, parts)?;
+    check(
+        rt,
+        &WIDE,
+        script.as_bytes(),
+        str::from_utf8(&printed)?,
+        CLEAN,
+    )?;
+    Ok(())
+}
+
+/// Runs the scripts of some parts.
+fn check_long_rows<R: Abort + Threads + Wait + Sync + AllocGlobal>(
+    rt: &R,
+    rows: &[Long],
+) -> Result<(), Fault> {
+    for &(parts, printed, end) in rows {
+        check_joined(rt, parts, printed, end)?;
+    }
+    Ok(())
+}
+
 /// Runs a line at fault behind the declaration of an array.
 fn check_fault<R: Abort + Threads + Wait + Sync + AllocGlobal>(
     rt: &R,
@@ -210,8 +240,20 @@ fn lines_at_fault_are_told(rt: HostRuntime) -> Result<(), Fail> {
 
 #[test]
 fn long_lines_are_read(rt: HostRuntime) -> Result<(), Fail> {
-    for &(parts, printed, end) in &LONG {
-        check_joined(&rt, parts, printed, end)?;
+    check_long_rows(&rt, LONG)?;
+    Ok(())
+}
+
+#[test]
+fn scripts_of_many_pieces_are_read(rt: HostRuntime) -> Result<(), Fail> {
+    check_long_rows(&rt, PIECES)?;
+    Ok(())
+}
+
+#[test]
+fn long_texts_are_printed(rt: HostRuntime) -> Result<(), Fail> {
+    for &(script, parts) in &TEXTS {
+        check_text(&rt, script, parts)?;
     }
     Ok(())
 }

@@ -15,7 +15,7 @@ use std::thread::Threads;
 const SMALL_REPORT: &[u8; 44] = b"host 64 device 32 used 0\nregions 0 events 0\n";
 
 /// The limits of such a table.
-const SMALL_LIMITS: Limits = [64, 32, 1, 1, 1, 1, 1];
+pub const SMALL_LIMITS: Limits = [64, 32, 1, 1, 1, 1, 1];
 
 /// Reports a table, and compares.
 fn check_report<R: Abort + AllocGlobal>(rt: &R, table: &Table) {

@@ -207,8 +207,11 @@ pub const FAULTS: [(ScriptFault, &[&str]); 6] = [
     ),
 ];
 
-/// Long lines: the parts of a script, what it prints, and how it ends.
-pub const LONG: [(Parts<'static>, &str, End); 9] = [
+/// The parts of a script, what it prints, and how it ends.
+pub type Long = (Parts<'static>, &'static str, End);
+
+/// Long lines.
+pub const LONG: &[Long] = &[
     (
         Parts {
             first: "array a 64\nwrite a[0]",
@@ -304,5 +307,77 @@ pub const LONG: [(Parts<'static>, &str, End); 9] = [
         },
         "",
         Err((1, ScriptFault::TooLong)),
+    ),
+];
+
+/// Scripts around the ends of the pieces of 4,096 bytes in which they are read.
+pub const PIECES: &[Long] = &[
+    // One piece is all.
+    (
+        Parts {
+            first: "array a 2\n",
+            piece: "#",
+            count: 4079,
+            last: "\nreport",
+        },
+        "host 65536 device 65536 used 0\nregions 0 events 0\n",
+        CLEAN,
+    ),
+    // The first piece ends within the last word.
+    (
+        Parts {
+            first: "array a 2\n",
+            piece: "#",
+            count: 4082,
+            last: "\nreport",
+        },
+        "host 65536 device 65536 used 0\nregions 0 events 0\n",
+        CLEAN,
+    ),
+    // Two pieces are all, and then one byte more.
+    (
+        Parts {
+            first: "array a 2\n",
+            piece: "write a[0] 0102\n",
+            count: 511,
+            last: "show a",
+        },
+        "0102\n",
+        CLEAN,
+    ),
+    (
+        Parts {
+            first: "array a 2\n",
+            piece: "write a[0] 0102\n",
+            count: 511,
+            last: "show a!",
+        },
+        "",
+        Err((513, ScriptFault::Syntax)),
+    ),
+];
+
+/// Scripts that print more than 4,096 bytes, and the parts of what they print.
+pub const TEXTS: [(&str, Parts<'static>); 2] = [
+    // One line of 8,200 digits.
+    (
+        "array a 4100\nwrite a[4099] 7f\nshow a\n",
+        Parts {
+            first: "",
+            piece: "00",
+            count: 4099,
+            last: "7f\n",
+        },
+    ),
+    // Half of these, in three lines.
+    (
+        "array a 2050\nenter data create(a)\nshow a\nreport\n",
+        Parts {
+            first: "",
+            piece: "00",
+            count: 2050,
+            last: "\nhost 65536 device 65536 used 2064\nmap 0x1000 2050 at 0x100000000 structured 0 dynamic 1\n\
+                regions 0 events 1\n",
+        },
     ),
 ];

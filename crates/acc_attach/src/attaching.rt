@@ -75,13 +75,13 @@ impl Attached {
     /// already, its counter rises by one, and else its counter becomes one.
     ///
     /// `pointer` is its host address, `target` is the device address to aim it at, and `now` is the device address that
-    /// its eight bytes on the device hold. Whoever calls this writes those bytes.
+    /// its eight bytes on the device hold. Whoever calls this writes those bytes. It takes at most one from the room.
     ///
     /// # Errors
     ///
     /// [`Fault::CounterFull`] with item 0, exactly where the counter would rise above its limit. Else
     /// [`Fault::Memory`], only where the pointer's counter is zero and there is no room for one more. The counters are
-    /// then as before.
+    /// then as before, and the room has not shrunk.
     pub fn attach(&mut self, block: u64, pointer: u64, target: u64, now: u64) -> Result<Aim, Fault>
         ensures aim { IfOk result (λ aim. attach self.old.counter_max 0 block pointer target now self.old.attached ≡ Ok aim) }
         ensures attached { IfOk result (λ aim. self.new.attached ≡ attached_by aim self.old.attached) }
@@ -90,6 +90,8 @@ impl Attached {
         ensures only { IfErr result (λ fault. (fault ≡ Fault.CounterFull 0) ⊎ (fault ≡ Fault.Memory)) }
         ensures unchanged { OnErr result (self.new.attached ≡ self.old.attached) }
         ensures counter_max { self.new.counter_max ≡ self.old.counter_max }
+        ensures taken { OnOk result (self.old.spare ≤ self.new.spare + 1) }
+        ensures kept { OnErr result (self.old.spare ≤ self.new.spare) }
     {
         let count = count_of(&self.attached, block, pointer);
         if count == 0 {

@@ -13,9 +13,9 @@ use Rattle.acc_base.specs.Ranges.{range_of}
 use Rattle.acc_base.specs.Loans.{Leased}
 use Rattle.acc_base.specs.Acting.{after}
 use Rattle.acc_base.specs.Walk.{walk, walk_all, register_after, holdings_of}
-use Rattle.acc_base.specs.Calls.{History, World, judge, world_after, new_world, bytes_brought, open_regions}
+use Rattle.acc_base.specs.Calls.{History, World, new_history, with_event, judge, world_after, new_world, bytes_brought, open_regions}
 use Rattle.acc_base.specs.Judge.{Makes}
-use Rattle.acc_base.specs.History.{IsLegal, AreLegal}
+use Rattle.acc_base.specs.History.{entries_in, exits_in, IsLegal, AreLegal}
 use Rattle.acc_base.specs.Accounts.{IsRegisterSound, IsTraced, IsHistoryLegal, IsAccounted}
 use Rattle.acc_base.proofs.Elements.{AllByRecursion-weaker}
 use Rattle.acc_base.proofs.Lookups.{at-own}
@@ -42,7 +42,7 @@ legal-push l [] e lay h k = (k, tt)
 legal-push l (x ∷ events) e lay h k = (h.0, legal-push l events e (walk x lay) h.1 k)
 
 -- a history that is legal and leads to a layout, with one event more that is legal there
-pub history_after : (l : Limits) (h : History) (e : Event) (lay new : Layout) → IsHistoryLegal l h lay → IsLegal l e lay → new ≡ walk e lay → IsHistoryLegal l (record { trace = h.trace ++ e ∷ [] }) new
+pub history_after : (l : Limits) (h : History) (e : Event) (lay new : Layout) → IsHistoryLegal l h lay → IsLegal l e lay → new ≡ walk e lay → IsHistoryLegal l (with_event e h) new
 history_after l h e lay new legal now is = record {
   legal = legal-push l h.trace e new_layout legal.legal (subst (IsLegal l e) (sym legal.leads) now);
   leads = walk_all-push h.trace e new_layout ∙ (ap (walk e) legal.leads ∙ sym is);
@@ -88,7 +88,7 @@ register-after e brought s = refl
 traced : (l : Limits) (h : History) (lay : Layout) → IsLedTo l h lay → AllByRecursion (IsTraced h) lay.records.ranges
 traced l h lay told = AllByRecursion-weaker (λ r. range_of r.block lay.records.ranges ≡ Some r) (IsTraced h) lay.records.ranges
     (λ r own. record {
-      structured = sym (ap (λ (o : Option Range). unwrap_or (option_map (λ (t : Range). t.structured) o) 0) own) ∙ told.structured r.block;
+      structured = subst (λ n. n + exits_in r.block h ≡ entries_in r.block h) (ap (λ (o : Option Range). unwrap_or (option_map (λ (t : Range). t.structured) o) 0) own) (told.structured r.block);
       dynamic = sym (ap (λ (o : Option Range). unwrap_or (option_map (λ (t : Range). t.dynamic) o) 0) own) ∙ told.dynamic r.block;
     })
     (at-own (λ (r : Range). r.block) lay.records.ranges told.sound.one_block_each.distinct)
@@ -98,7 +98,7 @@ pub accounted_after : (w : World) (call : Call Leased) (e : Event) → IsWithinB
 unfolding world_after
 accounted_after w call e bounds ok h =
     let next : State = after e (bytes_brought call) w.state in
-    let longer : History = record { trace = w.history.trace ++ e ∷ [] } in
+    let longer : History = with_event e w.history in
     let history : IsHistoryLegal w.limits longer (layout_of next) = history_after w.limits w.history e (layout_of w.state) (layout_of next) h.history_legal ok.legal (layout-after e (bytes_brought call) w.state) in
     let now : IsLedTo w.limits longer (layout_of next) = legal_told w.limits longer (layout_of next) bounds history in
     let register_is : next.register ≡ register_after e w.state.register = register-after e (bytes_brought call) w.state in
@@ -125,8 +125,8 @@ accepted_accounted w call e bounds h accounted = accounted_after w call e bounds
 pub new_accounted : (l : Limits) → IsWithinBounds l → IsAccounted (new_world l)
 unfolding walk_all
 new_accounted l bounds =
-    let history : IsHistoryLegal l (record { trace = [] }) new_layout = record { legal = tt; leads = refl } in
-    let now : IsLedTo l (record { trace = [] }) new_layout = legal_told l (record { trace = [] }) new_layout bounds history in
+    let history : IsHistoryLegal l new_history new_layout = record { legal = tt; leads = refl } in
+    let now : IsLedTo l new_history new_layout = legal_told l new_history new_layout bounds history in
     record {
       sound = record {
         layout = record { records = now.sound; register = register_sound new_layout.register now.numbered tt; held = now.held };
@@ -134,7 +134,7 @@ new_accounted l bounds =
         memories_sized = new_sized l;
       };
       counters_traced = tt;
-      attachments_traced = attachments_traced l (record { trace = [] }) new_layout bounds history;
+      attachments_traced = attachments_traced l new_history new_layout bounds history;
       history_legal = history;
       books_counted = record { tickets = omega arith; trace = omega arith; regions = omega arith };
     }

@@ -68,7 +68,7 @@ pub IfSome-weaker : {X : Type 0} (P Q : X → Type 0) (o : Option X) → ((x : X
 IfSome-weaker P Q None f h = tt
 IfSome-weaker P Q (Some x) f h = f x h
 
-Contains-later : {X : Type 0} (x y : X) (xs : List X) → Contains xs y → Contains (x ∷ xs) y
+pub Contains-later : {X : Type 0} (x y : X) (xs : List X) → Contains xs y → Contains (x ∷ xs) y
 Contains-later x y xs c = (suc c.0, omega (arith, c.1), c.2)
 
 Contains-first : {X : Type 0} (x : X) (xs : List X) → Contains (x ∷ xs) x

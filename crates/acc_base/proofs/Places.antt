@@ -1,11 +1,12 @@
 -- The search for a place is right: it gives the least of all device addresses at which the size fits.
-use Rattle.std.proofs.Common.{ℕ, ◌≡◌, ◌+◌, ◌-◌, ◌*◌, ◌/◌, ◌%◌, ◌<◌, ◌≤◌, refl, Bool, true, false, cond, List, [], ◌∷◌, Option, Some, None, ◌&&◌, arith, max, ⊎_elim}
+use Rattle.std.proofs.Common.{ℕ, ◌≡◌, ◌+◌, ◌-◌, ◌*◌, ◌/◌, ◌%◌, ◌<◌, ◌≤◌, refl, Bool, true, false, cond, List, [], ◌∷◌, Option, Some, None, arith, max, ⊎_elim}
 use Rattle.std.specs.Prelude.{◌⊎◌, map, filter, nat_le, IfSome}
 use Rattle.std.specs.List.{list_all, AllByRecursion}
 use Rattle.std.proofs.lemmas.Bool.{cases_lt}
 use Rattle.std.proofs.lemmas.Bool.Decides.{nat_tests}
 use Rattle.acc_base.specs.declared.mappings.Block.{Block}
-use Rattle.acc_base.specs.Section.{device_base}
+use Rattle.acc_base.specs.declared.items.Section.{Section}
+use Rattle.acc_base.specs.Section.{end_of, is_within}
 use Rattle.acc_base.specs.Blocks.{place_for, fits_at, is_clear_of, least, least_of, block_end, size_of, rounded, Fits, IsFree, IsPlaceFor}
 use Rattle.acc_base.proofs.Results.{and_true, tested}
 use Rattle.acc_base.proofs.Elements.{AllByRecursion-both, AllByRecursion-filter, AllByRecursion-weaker, list_all-from, list_all-to}
@@ -15,11 +16,11 @@ use Rattle.acc_base.proofs.Elements.{AllByRecursion-both, AllByRecursion-filter,
 clear_free : (p size a : ℕ) (b : Block) → p ≤ a → a < p + size → is_clear_of p size b ≡ true → b.place ≤ a → a < block_end b → ⊥
 clear_free p size a b low high c above below = grind (arith, nat_tests)
 
-pub fits_says : (device : ℕ) (blocks : List Block) (size p : ℕ) → fits_at device blocks size p ≡ true → Fits device blocks size p
-fits_says device blocks size p e a low high =
-    let parts : ((nat_le device_base p && nat_le (p + size) (device_base + device)) ≡ true) × (list_all (is_clear_of p size) blocks ≡ true) = and_true _ _ e in
-    let bounds : (device_base ≤ p) × (p + size ≤ device_base + device) = grind (arith, nat_tests) in
-    (omega arith, omega arith, AllByRecursion-weaker (λ b. is_clear_of p size b ≡ true) (λ b. b.place ≤ a → a < block_end b → ⊥) blocks (λ b c. clear_free p size a b low high c) (list_all-from (is_clear_of p size) blocks parts.1))
+pub fits_says : (memory : Section) (blocks : List Block) (size p : ℕ) → fits_at memory blocks size p ≡ true → Fits memory blocks size p
+fits_says memory blocks size p e a low high =
+    let parts : (is_within (record { start = p; len = size }) memory ≡ true) × (list_all (is_clear_of p size) blocks ≡ true) = and_true _ _ e in
+    let bounds : (memory.start ≤ p) × (p + size ≤ end_of memory) = grind (arith, nat_tests) in
+    ((omega arith, omega arith), AllByRecursion-weaker (λ b. is_clear_of p size b ≡ true) (λ b. b.place ≤ a → a < block_end b → ⊥) blocks (λ b c. clear_free p size a b low high c) (list_all-from (is_clear_of p size) blocks parts.1))
 
 -- a block that takes no byte would be clear of every address, and still in the way of the test
 abbrev AreNotEmpty : List Block → Type 0
@@ -35,12 +36,12 @@ free_all : (p size : ℕ) (blocks : List Block) → 0 < size → AreNotEmpty blo
 free_all p size [] some filled free = tt
 free_all p size (b ∷ bs) some filled free = (free_clear p size b some filled.0 (λ a low high. (free a low high).0), free_all p size bs some filled.1 (λ a low high. (free a low high).1))
 
-fits_to : (device : ℕ) (blocks : List Block) (size p : ℕ) → 0 < size → AreNotEmpty blocks → Fits device blocks size p → fits_at device blocks size p ≡ true
-fits_to device blocks size p some filled fits =
-    let first : device_base ≤ p = (fits p (omega arith) (omega arith)).0 in
-    let last : p + size - 1 < device_base + device = (fits (p + size - 1) (omega arith) (omega arith)).1 in
-    let bounds : (nat_le device_base p && nat_le (p + size) (device_base + device)) ≡ true = grind (arith, nat_tests) in
-    let clear : list_all (is_clear_of p size) blocks ≡ true = list_all-to (is_clear_of p size) blocks (free_all p size blocks some filled (λ a low high. (fits a low high).2)) in
+fits_to : (memory : Section) (blocks : List Block) (size p : ℕ) → 0 < size → AreNotEmpty blocks → Fits memory blocks size p → fits_at memory blocks size p ≡ true
+fits_to memory blocks size p some filled fits =
+    let first : memory.start ≤ p = (fits p (omega arith) (omega arith)).0.0 in
+    let last : p + size - 1 < end_of memory = (fits (p + size - 1) (omega arith) (omega arith)).0.1 in
+    let bounds : is_within (record { start = p; len = size }) memory ≡ true = grind (arith, nat_tests) in
+    let clear : list_all (is_clear_of p size) blocks ≡ true = list_all-to (is_clear_of p size) blocks (free_all p size blocks some filled (λ a low high. (fits a low high).1)) in
     rw (bounds, clear)
 
 -- ---- the least of some places
@@ -93,18 +94,18 @@ all_filtered f (x ∷ xs) = go (all_filtered f xs) (f x) refl
 le_or_lt : (m n : ℕ) → (m ≤ n) ⊎ (n < m)
 le_or_lt m n = grind arith
 
--- an address at or below q, of which P holds and behind which no block ends up to q
-record IsStart (P : ℕ → Type 0) (q : ℕ) (blocks : List Block) (c : ℕ) : Type 0 where
+-- an address from the base to q, of which P holds and behind which no block ends up to q
+record IsStart (P : ℕ → Type 0) (base q : ℕ) (blocks : List Block) (c : ℕ) : Type 0 where
   holds : P c
   below : c ≤ q
-  on_device : device_base ≤ c
+  on_device : base ≤ c
   above : AllByRecursion (λ b. block_end b ≤ q → block_end b ≤ c) blocks
 
-start_below : (P : ℕ → Type 0) (q : ℕ) (blocks : List Block) → device_base ≤ q → P device_base → AllByRecursion P (map block_end blocks) → (c : ℕ) × IsStart P q blocks c
-start_below P q [] h p all = (device_base, record { holds = p; below = h; on_device = omega arith; above = tt })
-start_below P q (b ∷ bs) h p all = go (start_below P q bs h p all.1)
+start_below : (P : ℕ → Type 0) (base q : ℕ) (blocks : List Block) → base ≤ q → P base → AllByRecursion P (map block_end blocks) → (c : ℕ) × IsStart P base q blocks c
+start_below P base q [] h p all = (base, record { holds = p; below = h; on_device = omega arith; above = tt })
+start_below P base q (b ∷ bs) h p all = go (start_below P base q bs h p all.1)
   where
-    go : (r : (c : ℕ) × IsStart P q bs c) → (c : ℕ) × IsStart P q (b ∷ bs) c
+    go : (r : (c : ℕ) × IsStart P base q bs c) → (c : ℕ) × IsStart P base q (b ∷ bs) c
     go (c, r) = ⊎_elim
         (λ low. ⊎_elim
         (λ higher. (block_end b, record { holds = all.0; below = low; on_device = omega (arith, r.on_device); above = ((λ k. omega arith), AllByRecursion-weaker (λ d. block_end d ≤ q → block_end d ≤ c) (λ d. block_end d ≤ q → block_end d ≤ block_end b) bs (λ d k e. omega (arith, k e)) r.above) }))
@@ -119,14 +120,14 @@ clear_below size q c b h k a = ⊎_elim
     (λ high. let e : q + size ≤ b.place = grind (arith, nat_tests) in grind (arith, nat_tests))
     (le_or_lt (block_end b) q)
 
-fits_below : (device : ℕ) (blocks : List Block) (size q c : ℕ) → c ≤ q → device_base ≤ c → AllByRecursion (λ b. block_end b ≤ q → block_end b ≤ c) blocks → fits_at device blocks size q ≡ true → fits_at device blocks size c ≡ true
-fits_below device blocks size q c h base above fits =
-    let parts : ((nat_le device_base q && nat_le (q + size) (device_base + device)) ≡ true) × (list_all (is_clear_of q size) blocks ≡ true) = and_true _ _ fits in
+fits_below : (memory : Section) (blocks : List Block) (size q c : ℕ) → c ≤ q → memory.start ≤ c → AllByRecursion (λ b. block_end b ≤ q → block_end b ≤ c) blocks → fits_at memory blocks size q ≡ true → fits_at memory blocks size c ≡ true
+fits_below memory blocks size q c h base above fits =
+    let parts : (is_within (record { start = q; len = size }) memory ≡ true) × (list_all (is_clear_of q size) blocks ≡ true) = and_true _ _ fits in
     let clear : list_all (is_clear_of c size) blocks ≡ true = list_all-to (is_clear_of c size) blocks (
     AllByRecursion-both (λ b. is_clear_of q size b ≡ true) (λ b. block_end b ≤ q → block_end b ≤ c) (λ b. is_clear_of c size b ≡ true) blocks
     (λ b k a. clear_below size q c b h k a)
     (list_all-from (is_clear_of q size) blocks parts.1) above) in
-    let on_device : (nat_le device_base c && nat_le (c + size) (device_base + device)) ≡ true = grind (arith, nat_tests) in
+    let on_device : is_within (record { start = c; len = size }) memory ≡ true = grind (arith, nat_tests) in
     rw (on_device, clear)
 
 -- ---- the search
@@ -136,32 +137,32 @@ abbrev pub IsFoundPlace : (ℕ → Bool) → Option ℕ → Type 0
 IsFoundPlace f None = (q : ℕ) → f q ≡ true → ⊥
 IsFoundPlace f (Some p) = (f p ≡ true) × ((q : ℕ) → f q ≡ true → p ≤ q)
 
-pub place_for-found : (device : ℕ) (blocks : List Block) (size : ℕ) → IsFoundPlace (fits_at device blocks size) (place_for device blocks size)
-place_for-found device blocks size = go (place_for device blocks size) (least_of-least (filter f candidates)) (least_of-in (λ p. f p ≡ true) (filter f candidates) (all_filtered f candidates))
+pub place_for-found : (memory : Section) (blocks : List Block) (size : ℕ) → IsFoundPlace (fits_at memory blocks size) (place_for memory blocks size)
+place_for-found memory blocks size = go (place_for memory blocks size) (least_of-least (filter f candidates)) (least_of-in (λ p. f p ≡ true) (filter f candidates) (all_filtered f candidates))
   where
     f : ℕ → Bool
-    f = fits_at device blocks size
+    f = fits_at memory blocks size
 
     candidates : List ℕ
-    candidates = device_base ∷ map block_end blocks
+    candidates = memory.start ∷ map block_end blocks
 
     at_start : (P : ℕ → Type 0) → AllByRecursion (λ x. f x ≡ true → P x) candidates → (q : ℕ) → f q ≡ true → (c : ℕ) × (c ≤ q) × P c
     at_start P all q fits =
-        let base : device_base ≤ q = grind (arith, nat_tests) in
-        let found : (c : ℕ) × IsStart (λ x. f x ≡ true → P x) q blocks c = start_below (λ x. f x ≡ true → P x) q blocks base all.0 all.1 in
-        (found.0, found.1.below, found.1.holds (fits_below device blocks size q found.0 found.1.below found.1.on_device found.1.above fits))
+        let base : memory.start ≤ q = grind (arith, nat_tests) in
+        let found : (c : ℕ) × IsStart (λ x. f x ≡ true → P x) memory.start q blocks c = start_below (λ x. f x ≡ true → P x) memory.start q blocks base all.0 all.1 in
+        (found.0, found.1.below, found.1.holds (fits_below memory blocks size q found.0 found.1.below found.1.on_device found.1.above fits))
 
     go : (o : Option ℕ) → IsLeastOf o (filter f candidates) → IfSome o (λ p. f p ≡ true) → IsFoundPlace f o
     go None none h = λ q fits. (at_start (λ x. ⊥) (filtered (λ x. ⊥) f candidates (rw none tt)) q fits).2
     go (Some p) all h = (h, λ q fits. let low : (c : ℕ) × (c ≤ q) × (p ≤ c) = at_start (λ x. p ≤ x) (filtered (λ x. p ≤ x) f candidates all) q fits in omega (arith, low.1, low.2))
 
 -- the search gives the least address of all at which the size fits, and finds none only where there is none
-pub place_for-least : (device : ℕ) (blocks : List Block) (size : ℕ) → 0 < size → AreNotEmpty blocks → IsPlaceFor device blocks size (place_for device blocks size)
-place_for-least device blocks size some filled = go (place_for device blocks size) (place_for-found device blocks size)
+pub place_for-least : (memory : Section) (blocks : List Block) (size : ℕ) → 0 < size → AreNotEmpty blocks → IsPlaceFor memory blocks size (place_for memory blocks size)
+place_for-least memory blocks size some filled = go (place_for memory blocks size) (place_for-found memory blocks size)
   where
-    go : (o : Option ℕ) → IsFoundPlace (fits_at device blocks size) o → IsPlaceFor device blocks size o
-    go None none = λ q fits. none q (fits_to device blocks size q some filled fits)
-    go (Some p) found = (fits_says device blocks size p found.0, λ q fits. found.1 q (fits_to device blocks size q some filled fits))
+    go : (o : Option ℕ) → IsFoundPlace (fits_at memory blocks size) o → IsPlaceFor memory blocks size o
+    go None none = λ q fits. none q (fits_to memory blocks size q some filled fits)
+    go (Some p) found = (fits_says memory blocks size p found.0, λ q fits. found.1 q (fits_to memory blocks size q some filled fits))
 
 -- a block that is not empty takes some bytes
 pub size-some : (n : ℕ) → 0 < n → 0 < rounded n
@@ -176,7 +177,7 @@ ends_even : (blocks : List Block) → AllByRecursion (λ b. b.place % 16 ≡ 0) 
 ends_even [] h = tt
 ends_even (b ∷ bs) h = (end_even b.place ((b.len + 15) / 16) h.0, ends_even bs h.1)
 
-pub place_for-even : (device : ℕ) (blocks : List Block) (size : ℕ) → AllByRecursion (λ b. b.place % 16 ≡ 0) blocks → IfSome (place_for device blocks size) (λ p. p % 16 ≡ 0)
-place_for-even device blocks size h =
-    least_of-in (λ p. p % 16 ≡ 0) (filter (fits_at device blocks size) (device_base ∷ map block_end blocks))
-    (AllByRecursion-filter (λ p. p % 16 ≡ 0) (fits_at device blocks size) (device_base ∷ map block_end blocks) (refl, ends_even blocks h))
+pub place_for-even : (memory : Section) (blocks : List Block) (size : ℕ) → memory.start % 16 ≡ 0 → AllByRecursion (λ b. b.place % 16 ≡ 0) blocks → IfSome (place_for memory blocks size) (λ p. p % 16 ≡ 0)
+place_for-even memory blocks size base h =
+    least_of-in (λ p. p % 16 ≡ 0) (filter (fits_at memory blocks size) (memory.start ∷ map block_end blocks))
+    (AllByRecursion-filter (λ p. p % 16 ≡ 0) (fits_at memory blocks size) (memory.start ∷ map block_end blocks) (base, ends_even blocks h))

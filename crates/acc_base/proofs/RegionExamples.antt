@@ -15,7 +15,7 @@ use Rattle.acc_base.specs.Loans.{Leased}
 use Rattle.acc_base.specs.Queues.{new_queues}
 use Rattle.acc_base.specs.Records.{new_state}
 use Rattle.acc_base.specs.Steps.{did_of}
-use Rattle.acc_base.specs.History.{structured_in, dynamic_in}
+use Rattle.acc_base.specs.History.{entries_in, exits_in, dynamic_in}
 use Rattle.acc_base.proofs.Runs.{ran_with}
 use Rattle.acc_base.proofs.ExampleItems.{limits, twice_at_most, at, a, b, four, item, host_of, enter_of, exit_of, enter_data_of, exit_data_of, finalize_of, update_of, range, block, memory, holding, region}
 
@@ -41,9 +41,9 @@ mapped_later_register : (ran_with limits mapped_later).world.state.register ≡ 
 unfolding ran_with
 mapped_later_register = refl
 
-mapped_later_in : structured_in 1 (ran_with limits mapped_later).world.history ≡ 1
+mapped_later_in : (entries_in 1 (ran_with limits mapped_later).world.history ≡ 1) × (exits_in 1 (ran_with limits mapped_later).world.history ≡ 0)
 unfolding ran_with
-mapped_later_in = refl
+mapped_later_in = (refl, refl)
 
 -- the region that counted it ends the mapping, and is open no longer
 abbrev mapped_later_left : List (Call Leased)
@@ -66,9 +66,9 @@ mapped_later_left_register : (ran_with limits mapped_later_left).world.state.reg
 unfolding ran_with
 mapped_later_left_register = refl
 
-mapped_later_left_in : structured_in 1 (ran_with limits mapped_later_left).world.history ≡ 0
+mapped_later_left_in : (entries_in 1 (ran_with limits mapped_later_left).world.history ≡ 1) × (exits_in 1 (ran_with limits mapped_later_left).world.history ≡ 1)
 unfolding ran_with
-mapped_later_left_in = refl
+mapped_later_left_in = (refl, refl)
 
 -- a `no_create` of a mapped section counts, and where it falls last the mapping ends
 abbrev counted_without_create : List (Call Leased)
@@ -117,9 +117,9 @@ entered_present_memories : (ran_with limits entered_present).world.state.memorie
 unfolding ran_with
 entered_present_memories = refl
 
-entered_present_in : structured_in 1 (ran_with limits entered_present).world.history ≡ 6
+entered_present_in : (entries_in 1 (ran_with limits entered_present).world.history ≡ 6) × (exits_in 1 (ran_with limits entered_present).world.history ≡ 0)
 unfolding ran_with
-entered_present_in = refl
+entered_present_in = (refl, refl)
 
 entered_present_dynamic_in : dynamic_in 1 (ran_with limits entered_present).world.history ≡ 1
 unfolding ran_with
@@ -253,9 +253,9 @@ finalized_inside_told : (ran_with limits (enter_one Copyin four ∷ enter_data_o
 unfolding ran_with
 finalized_inside_told = refl
 
-finalized_inside_in : structured_in 1 (ran_with limits finalized_inside).world.history ≡ 1
+finalized_inside_in : (entries_in 1 (ran_with limits finalized_inside).world.history ≡ 1) × (exits_in 1 (ran_with limits finalized_inside).world.history ≡ 0)
 unfolding ran_with
-finalized_inside_in = refl
+finalized_inside_in = (refl, refl)
 
 finalized_inside_dynamic_in : dynamic_in 1 (ran_with limits finalized_inside).world.history ≡ 0
 unfolding ran_with

@@ -22,7 +22,7 @@ use Rattle.acc_base.specs.Clauses.{as_region}
 use Rattle.acc_base.specs.Steps.{act_all}
 use Rattle.acc_base.specs.Waits.{records_drained}
 use Rattle.acc_base.specs.Walk.{enter_task, enter_data_task, exit_task, move_task, asked_in, done_in, stepped_in, register_after, holdings_of, walk, walk_all, loaned}
-use Rattle.acc_base.specs.History.{NamesRight, drops, count_counted, count_dropped, entries_of, exits_of, structured_in, dynamic_in, dynamic_after, IsLegal, AreLegal}
+use Rattle.acc_base.specs.History.{NamesRight, drops, count_counted, count_dropped, entries_of, exits_of, entries_in, exits_in, dynamic_in, dynamic_after, IsLegal, AreLegal}
 use Rattle.acc_base.specs.Calls.{History}
 use Rattle.acc_base.specs.Accounts.{EachPair, AreRecordsSound, AreHeld, IsHistoryLegal}
 use Rattle.acc_base.proofs.Results.{equal_self}
@@ -180,7 +180,7 @@ pub record IsLedTo (l : Limits) (h : History) (lay : Layout) : Type 0 where
   pub sound : AreRecordsSound l lay.records
   pub numbered : IsNumbered lay.register
   pub held : AreHeld lay
-  pub structured : (b : ℕ) → structured_of b lay.records.ranges ≡ structured_in b h
+  pub structured : (b : ℕ) → structured_of b lay.records.ranges + exits_in b h ≡ entries_in b h
   pub dynamic : (b : ℕ) → dynamic_of b lay.records.ranges ≡ dynamic_in b h
 
 -- a legal history leads to sound records, and tells both counters of every block

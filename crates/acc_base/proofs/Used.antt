@@ -7,7 +7,8 @@ use Rattle.std.proofs.lemmas.List.Sums.{sum_by-cons}
 use Rattle.std.proofs.lemmas.List.Filters.{sum_by-filter_both, length-filter_both}
 use Rattle.acc_base.specs.declared.mappings.Block.{Block}
 use Rattle.acc_base.specs.Limits.{Limits}
-use Rattle.acc_base.specs.Section.{device_base}
+use Rattle.acc_base.specs.declared.items.Section.{Section}
+use Rattle.acc_base.specs.Section.{device_memory, end_of}
 use Rattle.acc_base.specs.Records.{Records}
 use Rattle.acc_base.specs.Blocks.{block_end, size_of, used_bytes}
 use Rattle.acc_base.specs.Accounts.{EachPair, IsOnDevice, IsClearOf, AreBlocksApart}
@@ -52,9 +53,10 @@ used_within (suc fuel) low high (b ∷ bs) few order all apart =
     let last : block_end b ≤ high = all.0.last in
     omega arith
 
-pub used_le : (l : Limits) (w : Records) → AreBlocksApart l.device w.blocks w.births → used_bytes w.blocks ≤ l.device
+pub used_le : (l : Limits) (w : Records) → AreBlocksApart (device_memory l.device) w.blocks w.births → used_bytes w.blocks ≤ l.device
 used_le l w h =
-    let within : used_bytes w.blocks ≤ device_base + l.device - device_base = used_within (length w.blocks) device_base (device_base + l.device) w.blocks (omega arith) (omega arith)
-    (AllByRecursion-weaker (IsOnDevice l.device) (IsBetween device_base (device_base + l.device)) w.blocks (λ b o. record { first = o.first; last = o.last }) h.on_device)
+    let memory : Section = device_memory l.device in
+    let within : used_bytes w.blocks ≤ end_of memory - memory.start = used_within (length w.blocks) memory.start (end_of memory) w.blocks (omega arith) (omega arith)
+    (AllByRecursion-weaker (IsOnDevice memory) (IsBetween memory.start (end_of memory)) w.blocks (λ b o. record { first = o.first; last = o.last }) h.on_device)
     (EachPair-weaker IsClearOf IsBesideBlock w.blocks (λ b c k. k.addresses) h.apart) in
     omega arith

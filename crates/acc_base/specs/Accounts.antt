@@ -9,7 +9,7 @@ use Rattle.acc_base.specs.declared.transfers.Transfer.{Transfer}
 use Rattle.acc_base.specs.declared.loans.Loan.{Loan}
 use Rattle.acc_base.specs.declared.transfers.TheConstants.{QUEUE_COUNT}
 use Rattle.acc_base.specs.Limits.{Limits}
-use Rattle.acc_base.specs.Section.{end_of, is_within, host_memory, device_base}
+use Rattle.acc_base.specs.Section.{end_of, is_within, host_memory, device_memory}
 use Rattle.acc_base.specs.Ranges.{range_of, structured_of}
 use Rattle.acc_base.specs.Blocks.{block_at, block_end, used_bytes}
 use Rattle.acc_base.specs.Attachments.{IsBefore, IsCountWithin, count_at}
@@ -19,7 +19,7 @@ use Rattle.acc_base.specs.Records.{Records, Memory, Layout, State, new_layout, l
 use Rattle.acc_base.specs.Steps.{is_in_use}
 use Rattle.acc_base.specs.Walk.{walk_all}
 use Rattle.acc_base.specs.Calls.{History, World, event_count, open_regions}
-use Rattle.acc_base.specs.History.{structured_in, dynamic_in, attached_in, AreLegal}
+use Rattle.acc_base.specs.History.{entries_in, exits_in, dynamic_in, attached_in, AreLegal}
 
 -- each one is related to each later one
 abbrev pub EachPair : {X : Type 0} → (X → X → Type 0) → List X → Type 0
@@ -44,11 +44,11 @@ pub record AreRangesApart (l : Limits) (ranges : List Range) : Type 0 where
 
 -- ---- device blocks
 
--- the block lies on a device of this size, and begins at a multiple of 16
-pub record IsOnDevice (device : ℕ) (b : Block) : Type 0 where
+-- the block lies in device memory, and begins at a multiple of 16
+pub record IsOnDevice (memory : Section) (b : Block) : Type 0 where
   pub some : 0 < b.len
-  pub first : device_base ≤ b.place
-  pub last : block_end b ≤ device_base + device
+  pub first : memory.start ≤ b.place
+  pub last : block_end b ≤ end_of memory
   pub aligned : b.place % 16 ≡ 0
 
 -- no address is in both, and the one was born before the other
@@ -56,9 +56,9 @@ pub record IsClearOf (b c : Block) : Type 0 where
   pub addresses : (block_end b ≤ c.place) ⊎ (block_end c ≤ b.place)
   pub numbers : b.number < c.number
 
--- blocks lie on a device of this size, do not overlap, and stand in the order of their births
-pub record AreBlocksApart (device : ℕ) (blocks : List Block) (births : ℕ) : Type 0 where
-  pub on_device : AllByRecursion (IsOnDevice device) blocks
+-- blocks lie in device memory, do not overlap, and stand in the order of their births
+pub record AreBlocksApart (memory : Section) (blocks : List Block) (births : ℕ) : Type 0 where
+  pub on_device : AllByRecursion (IsOnDevice memory) blocks
   pub apart : EachPair IsClearOf blocks
   pub born : AllByRecursion (λ b. b.number ≤ births) blocks
 
@@ -148,7 +148,7 @@ pub record AreMemoriesSized (l : Limits) (s : State) : Type 0 where
 -- the records alone, which a directive keeps from item to item
 pub record AreRecordsSound (l : Limits) (w : Records) : Type 0 where
   pub ranges_apart : AreRangesApart l w.ranges
-  pub blocks_apart : AreBlocksApart l.device w.blocks w.births
+  pub blocks_apart : AreBlocksApart (device_memory l.device) w.blocks w.births
   pub one_block_each : HasOneBlockEach w
   pub counted : AllByRecursion (IsCounted l) w.ranges
   pub attached : AreAttachmentsSound l w.blocks w.attached
@@ -168,9 +168,9 @@ pub record IsSound (l : Limits) (s : State) : Type 0 where
 
 -- ---- the history
 
--- both counters of a range are those of the history
+-- both counters of a range are those of the history: the structured one with the exits makes up the entries
 pub record IsTraced (h : History) (r : Range) : Type 0 where
-  pub structured : r.structured ≡ structured_in r.block h
+  pub structured : r.structured + exits_in r.block h ≡ entries_in r.block h
   pub dynamic : r.dynamic ≡ dynamic_in r.block h
 
 -- the attachment counters of the blocks are those of the history

@@ -7,7 +7,7 @@ use Rattle.acc_base.specs.declared.tasks.Task.TheVariants.{Enter, Leave, Exit, M
 use Rattle.acc_base.specs.declared.events.Step.{Step}
 use Rattle.acc_base.specs.declared.events.Did.{Did}
 use Rattle.acc_base.specs.declared.events.Event.{Event}
-use Rattle.acc_base.specs.declared.events.Event.TheVariants.{Entered, Left, EnteredData, ExitedData, Updated, Waited, Stepped, HostWritten, Lent, Gathered}
+use Rattle.acc_base.specs.declared.events.Event.TheVariants.{HostWritten, Lent, Gathered}
 use Rattle.acc_base.specs.declared.faults.Fault.{Fault}
 use Rattle.acc_base.specs.Results.{◌>>=◌}
 use Rattle.acc_base.specs.Limits.{Limits}
@@ -65,29 +65,14 @@ act_all_state _ _ s = s
 
 -- what an event writes into host memory beside the transfers that it makes, from the bytes that its call brought
 abbrev pub host_after : Event → List ℕ → List ℕ → List ℕ
-host_after (Entered number items did) brought host = host
-host_after (Left number did) brought host = host
-host_after (EnteredData items queue did) brought host = host
-host_after (ExitedData items finalize queue did) brought host = host
-host_after (Updated items if_present queue did) brought host = host
-host_after (Waited queue count) brought host = host
-host_after (Stepped queue block) brought host = host
 host_after (HostWritten addr len) brought host = host_after_write addr len brought host
-host_after (Lent region section block serial) brought host = host
-host_after (Gathered serial block) brought host = host
+host_after _ brought host = host
 
 -- what an event leaves of the blocks' bytes beside the transfers that it makes: those of a lent block are in its lease, until its call brings them back
 abbrev pub memories_after : Event → List ℕ → List Memory → List Memory
-memories_after (Entered number items did) brought memories = memories
-memories_after (Left number did) brought memories = memories
-memories_after (EnteredData items queue did) brought memories = memories
-memories_after (ExitedData items finalize queue did) brought memories = memories
-memories_after (Updated items if_present queue did) brought memories = memories
-memories_after (Waited queue count) brought memories = memories
-memories_after (Stepped queue block) brought memories = memories
-memories_after (HostWritten addr len) brought memories = memories
 memories_after (Lent region section block serial) brought memories = map (memory_changed block (λ _. [])) memories
 memories_after (Gathered serial block) brought memories = map (memory_changed block (λ _. brought)) memories
+memories_after _ brought memories = memories
 
 -- the state after an event, and with the bytes that its call brought
 unfoldable pub after : Event → List ℕ → State → State

@@ -2,7 +2,8 @@
 use Rattle.std.specs.Prelude.{ℕ, ◌+◌, ◌*◌, ◌/◌, ◌<◌, ◌≤◌, Bool, not, ◌&&◌, ◌||◌, if◌then◌else◌, nat_le, ◌==◌, List, [], ◌∷◌, map, Option, Some, None, filter, find, unwrap_or, option_map, sum_by}
 use Rattle.std.specs.List.{list_all, AllByRecursion}
 use Rattle.acc_base.specs.declared.mappings.Block.{Block}
-use Rattle.acc_base.specs.Section.{device_base}
+use Rattle.acc_base.specs.declared.items.Section.{Section}
+use Rattle.acc_base.specs.Section.{Covers, is_within}
 
 -- the least multiple of 16 that is at least n
 abbrev pub rounded : ℕ → ℕ
@@ -22,18 +23,22 @@ used_bytes blocks = sum_by size_of blocks
 
 -- ---- the place of a new block, by addresses
 
--- the device address is in no block
+-- the address is in no block
 abbrev pub IsFree : List Block → ℕ → Type 0
 IsFree blocks a = AllByRecursion (λ b. b.place ≤ a → a < block_end b → ⊥) blocks
 
--- so many addresses from p on are on the device and in no block
-abbrev pub Fits : ℕ → List Block → ℕ → ℕ → Type 0
-Fits device blocks size p = (a : ℕ) → p ≤ a → a < p + size → (device_base ≤ a) × (a < device_base + device) × IsFree blocks a
+-- the address is the device memory's, and in no block
+abbrev pub IsVacant : Section → List Block → ℕ → Type 0
+IsVacant memory blocks a = Covers memory a × IsFree blocks a
+
+-- so many addresses from p on are vacant
+abbrev pub Fits : Section → List Block → ℕ → ℕ → Type 0
+Fits memory blocks size p = (a : ℕ) → p ≤ a → a < p + size → IsVacant memory blocks a
 
 -- the least place of all, where there is one
-abbrev pub IsPlaceFor : ℕ → List Block → ℕ → Option ℕ → Type 0
-IsPlaceFor device blocks size None = (q : ℕ) → ¬ Fits device blocks size q
-IsPlaceFor device blocks size (Some p) = Fits device blocks size p × ((q : ℕ) → Fits device blocks size q → p ≤ q)
+abbrev pub IsPlaceFor : Section → List Block → ℕ → Option ℕ → Type 0
+IsPlaceFor memory blocks size None = (q : ℕ) → ¬ Fits memory blocks size q
+IsPlaceFor memory blocks size (Some p) = Fits memory blocks size p × ((q : ℕ) → Fits memory blocks size q → p ≤ q)
 
 -- ---- the same, as a search
 
@@ -41,8 +46,8 @@ IsPlaceFor device blocks size (Some p) = Fits device blocks size p × ((q : ℕ)
 abbrev pub is_clear_of : ℕ → ℕ → Block → Bool
 is_clear_of p size b = nat_le (p + size) b.place || nat_le (block_end b) p
 
-abbrev pub fits_at : ℕ → List Block → ℕ → ℕ → Bool
-fits_at device blocks size p = nat_le device_base p && nat_le (p + size) (device_base + device) && list_all (is_clear_of p size) blocks
+abbrev pub fits_at : Section → List Block → ℕ → ℕ → Bool
+fits_at memory blocks size p = is_within (record { start = p; len = size }) memory && list_all (is_clear_of p size) blocks
 
 -- the lesser of two places, of which the second may be missing
 abbrev pub least : ℕ → Option ℕ → ℕ
@@ -53,9 +58,9 @@ abbrev pub least_of : List ℕ → Option ℕ
 least_of [] = None
 least_of (p ∷ ps) = Some (least p (least_of ps))
 
--- the least place at which the size fits: it is the first of the device, or lies just behind a block
-abbrev pub place_for : ℕ → List Block → ℕ → Option ℕ
-place_for device blocks size = least_of (filter (fits_at device blocks size) (device_base ∷ map block_end blocks))
+-- the least place at which the size fits: it is the first of the device memory, or lies just behind a block
+abbrev pub place_for : Section → List Block → ℕ → Option ℕ
+place_for memory blocks size = least_of (filter (fits_at memory blocks size) (memory.start ∷ map block_end blocks))
 
 -- ---- look-ups and changes
 

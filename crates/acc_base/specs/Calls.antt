@@ -1,7 +1,7 @@
 -- A call on a table: its refusal, or its event with the world after it. A world is a history and the state that it led to.
 use Rattle.std.specs.Prelude.{ℕ, nat_le, List, [], ◌∷◌, ◌++◌, length, Result, Ok, ⊤}
 use Rattle.acc_base.specs.declared.directives.Directive.{Directive}
-use Rattle.acc_base.specs.declared.directives.Directive.TheVariants.{Enter, Exit, EnterData, ExitData, Update, Wait, Step}
+use Rattle.acc_base.specs.declared.directives.Directive.TheVariants.{Enter}
 use Rattle.acc_base.specs.declared.calls.Call.{Call}
 use Rattle.acc_base.specs.declared.calls.Call.TheVariants.{Do, HostWrite, Lend, Gather}
 use Rattle.acc_base.specs.declared.events.Event.{Event}
@@ -24,12 +24,20 @@ pub record World : Type 0 where
   pub history : History
   pub state : State
 
-abbrev pub new_world : Limits → World
-new_world l = record { limits = l; history = record { trace = [] }; state = new_state l.host }
+-- no event
+abbrev pub new_history : History
+new_history = record { trace = [] }
+
+-- one event more
+abbrev pub with_event : Event → History → History
+with_event e h = record { trace = h.trace ++ e ∷ [] }
 
 -- the number of all events
 abbrev pub event_count : History → ℕ
 event_count h = length h.trace
+
+abbrev pub new_world : Limits → World
+new_world l = record { limits = l; history = new_history; state = new_state l.host }
 
 -- how many data regions are open
 abbrev pub open_regions : State → ℕ
@@ -42,12 +50,7 @@ ticket w = refuse_if (nat_le w.limits.tickets (event_count w.history)) (NoTicket
 -- entry to a region: there are fewer open regions than the limit says
 abbrev pub allowance : World → Directive → Result ⊤ Fault
 allowance w (Enter items) = refuse_if (nat_le w.limits.regions (open_regions w.state)) (NoAllowance 0)
-allowance w (Exit number) = Ok tt
-allowance w (EnterData items queue) = Ok tt
-allowance w (ExitData items finalize queue) = Ok tt
-allowance w (Update items if_present queue) = Ok tt
-allowance w (Wait queue) = Ok tt
-allowance w (Step queue) = Ok tt
+allowance w _ = Ok tt
 
 -- there is room in the trace for one more event
 abbrev pub trace_room : World → Result ⊤ Fault
@@ -88,6 +91,6 @@ bytes_brought (Gather lease) = lease.bytes
 unfoldable pub world_after : Call Leased → Event → World → World
 world_after call e w = record {
   limits = w.limits;
-  history = record { trace = w.history.trace ++ e ∷ [] };
+  history = with_event e w.history;
   state = after e (bytes_brought call) w.state;
 }

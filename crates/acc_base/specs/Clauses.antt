@@ -19,7 +19,7 @@ use Rattle.acc_base.specs.declared.faults.Fault.{Fault}
 use Rattle.acc_base.specs.declared.faults.Fault.TheVariants.{OutOfHost, Misaligned, PartlyPresent, NotPresent, CounterFull, DeviceFull}
 use Rattle.acc_base.specs.Results.{◌>>◌, refuse_if}
 use Rattle.acc_base.specs.Limits.{Limits}
-use Rattle.acc_base.specs.Section.{is_empty, is_within, host_memory}
+use Rattle.acc_base.specs.Section.{is_empty, is_within, host_memory, device_memory}
 use Rattle.acc_base.specs.Ranges.{counter_of, dynamic_of, ends_by}
 use Rattle.acc_base.specs.Blocks.{rounded, place_for}
 use Rattle.acc_base.specs.Attachments.{pointer_at}
@@ -118,7 +118,7 @@ born_at (Some place) n section w = Ok (Born (w.births + 1) place)
 
 -- a birth at the least place that fits
 abbrev pub born : Limits → ℕ → Section → Records → Result Step Fault
-born l n section w = born_at (place_for l.device w.blocks (rounded section.len)) n section w
+born l n section w = born_at (place_for (device_memory l.device) w.blocks (rounded section.len)) n section w
 
 -- the row of an absent section
 abbrev pub enter_absent : RegionClause → Limits → ℕ → Section → Records → Result Step Fault

@@ -1,7 +1,7 @@
 -- The counters as counts over the events, and which lists of events are legal.
 use Rattle.std.specs.Prelude.{ℕ, suc, ◌+◌, ◌-◌, ◌≡◌, ◌<◌, Bool, false, if◌then◌else◌, ◌==◌, List, [], ◌∷◌, length, Option, option_map, Some, Ok, count_by, sum_by, fold, IsSome, ⊤}
 use Rattle.acc_base.specs.declared.events.Step.{Step}
-use Rattle.acc_base.specs.declared.events.Step.TheVariants.{Nothing, Counted, Born, Dropped, Moved}
+use Rattle.acc_base.specs.declared.events.Step.TheVariants.{Counted, Born, Dropped}
 use Rattle.acc_base.specs.declared.events.Did.{Did}
 use Rattle.acc_base.specs.declared.events.Event.{Event}
 use Rattle.acc_base.specs.declared.events.Event.TheVariants.{Entered, Left, EnteredData, ExitedData, Updated, Waited, Stepped, HostWritten, Lent, Gathered}
@@ -26,19 +26,14 @@ use Rattle.acc_base.specs.Calls.{History}
 
 -- a step counted the block
 abbrev pub counts : ℕ → Step → Bool
-counts block Nothing = false
 counts block (Counted b) = b == block
 counts block (Born b place) = b == block
-counts block (Dropped b ended) = false
-counts block (Moved b) = false
+counts block _ = false
 
 -- a step took from a counter of the block
 abbrev pub drops : ℕ → Step → Bool
-drops block Nothing = false
-drops block (Counted b) = false
-drops block (Born b place) = false
 drops block (Dropped b ended) = b == block
-drops block (Moved b) = false
+drops block _ = false
 
 -- how many of these items counted the block
 abbrev pub count_counted : ℕ → List Did → ℕ
@@ -53,31 +48,20 @@ count_dropped block did = count_by (λ d. drops block d.step) did
 -- how often an event's entry to a region counted the block
 abbrev pub entries_of : ℕ → Event → ℕ
 entries_of block (Entered number items did) = count_counted block did
-entries_of block (Left number did) = 0
-entries_of block (EnteredData items queue did) = 0
-entries_of block (ExitedData items finalize queue did) = 0
-entries_of block (Updated items if_present queue did) = 0
-entries_of block (Waited queue count) = 0
-entries_of block (Stepped queue b) = 0
-entries_of block (HostWritten addr len) = 0
-entries_of block (Lent region section b serial) = 0
-entries_of block (Gathered serial b) = 0
+entries_of block _ = 0
 
 -- how often an event's exit from a region dropped it
 abbrev pub exits_of : ℕ → Event → ℕ
-exits_of block (Entered number items did) = 0
 exits_of block (Left number did) = count_dropped block did
-exits_of block (EnteredData items queue did) = 0
-exits_of block (ExitedData items finalize queue did) = 0
-exits_of block (Updated items if_present queue did) = 0
-exits_of block (Waited queue count) = 0
-exits_of block (Stepped queue b) = 0
-exits_of block (HostWritten addr len) = 0
-exits_of block (Lent region section b serial) = 0
-exits_of block (Gathered serial b) = 0
+exits_of block _ = 0
 
-abbrev pub structured_in : ℕ → History → ℕ
-structured_in block h = sum_by (entries_of block) h.trace - sum_by (exits_of block) h.trace
+-- how often all entries counted the block
+abbrev pub entries_in : ℕ → History → ℕ
+entries_in block h = sum_by (entries_of block) h.trace
+
+-- how often all exits dropped it
+abbrev pub exits_in : ℕ → History → ℕ
+exits_in block h = sum_by (exits_of block) h.trace
 
 -- ---- the dynamic counter (OpenACC 3.3, section 2.6.7): `enter data` adds, `exit data` takes away, `finalize` gives zero
 
@@ -87,16 +71,9 @@ dynamic_dropped finalize block n did = if drops block did.step then (if finalize
 
 -- after an event
 abbrev pub dynamic_after : ℕ → ℕ → Event → ℕ
-dynamic_after block n (Entered number items did) = n
-dynamic_after block n (Left number did) = n
 dynamic_after block n (EnteredData items queue did) = n + count_counted block did
 dynamic_after block n (ExitedData items finalize queue did) = fold (dynamic_dropped finalize block) n did
-dynamic_after block n (Updated items if_present queue did) = n
-dynamic_after block n (Waited queue count) = n
-dynamic_after block n (Stepped queue b) = n
-dynamic_after block n (HostWritten addr len) = n
-dynamic_after block n (Lent region section b serial) = n
-dynamic_after block n (Gathered serial b) = n
+dynamic_after block n _ = n
 
 abbrev pub dynamic_in : ℕ → History → ℕ
 dynamic_in block h = fold (dynamic_after block) 0 h.trace

@@ -1,8 +1,10 @@
 -- The holes of a device: blocks and holes are the device, with no address in two of them.
-use Rattle.std.specs.Prelude.{ℕ, ◌≡◌, ◌+◌, ◌<◌, ◌≤◌, ◌⊎◌, ◌↔◌, List, [], ◌∷◌, ◌++◌, map}
+use Rattle.std.specs.Prelude.{ℕ, suc, ◌≡◌, ◌+◌, ◌<◌, ◌≤◌, ◌⊎◌, ◌↔◌, List, [], ◌∷◌, ◌++◌, map, Contains, Option, None, Some}
+use Rattle.acc_base.specs.declared.items.Section.{Section}
 use Rattle.acc_base.specs.declared.mappings.Block.{Block}
-use Rattle.acc_base.specs.Section.{Spans, device_base}
-use Rattle.acc_base.specs.Blocks.{size_of, used_bytes}
+use Rattle.acc_base.specs.declared.mappings.Hole.{Hole}
+use Rattle.acc_base.specs.Section.{Spans, Covers, end_of}
+use Rattle.acc_base.specs.Blocks.{size_of, used_bytes, IsVacant, Fits}
 
 -- ---- lists of ranges, each its place and its size in bytes
 
@@ -26,23 +28,39 @@ abbrev pub total : List (ℕ × ℕ) → ℕ
 total [] = 0
 total (h ∷ t) = h.1 + total t
 
+-- ---- one hole, by addresses
+
+-- all of its addresses are vacant, and those beside it are not
+pub record IsHole (memory : Section) (blocks : List Block) (h : Hole) : Type 0 where
+  pub some : 0 < h.size
+  pub vacant : Fits memory blocks h.size h.place
+  pub before : (a : ℕ) → suc a ≡ h.place → ¬ IsVacant memory blocks a
+  pub behind : ¬ IsVacant memory blocks (h.place + h.size)
+
+-- the hole of least place at or above an address, where there is one
+abbrev pub IsNextHole : ℕ → Section → List Block → Option Hole → Type 0
+IsNextHole from memory blocks None = (h : Hole) → IsHole memory blocks h → ¬ (from ≤ h.place)
+IsNextHole from memory blocks (Some h) = IsHole memory blocks h × (from ≤ h.place) × ((g : Hole) → IsHole memory blocks g → from ≤ g.place → h.place ≤ g.place)
+
 -- ---- blocks and holes
 
 -- the addresses that a block takes
 abbrev pub taken_range : Block → ℕ × ℕ
 taken_range b = (b.place, size_of b)
 
--- the holes are what the blocks leave of a device of this size
-pub record AreHoles (device : ℕ) (blocks : List Block) (holes : List (ℕ × ℕ)) : Type 0 where
-  -- holes rise, and no two of them touch
-  pub rising : IsRising device_base holes (device_base + device)
+-- these are the holes that the blocks leave of device memory
+pub record AreHoles (memory : Section) (blocks : List Block) (holes : List (ℕ × ℕ)) : Type 0 where
+  -- each of them is a hole, and each hole is one of them
+  pub listed : (h : Hole) → IsHole memory blocks h ↔ Contains holes (h.place, h.size)
+  -- they rise, and no two of them touch
+  pub rising : IsRising memory.start holes (end_of memory)
   -- no address is in two of the blocks and holes
   pub disjoint : IsDisjoint (map taken_range blocks ++ holes)
   -- an address is in one of them exactly where it is the device's
-  pub whole : (a : ℕ) → IsIn (map taken_range blocks ++ holes) a ↔ Spans device_base device a
+  pub whole : (a : ℕ) → IsIn (map taken_range blocks ++ holes) a ↔ Covers memory a
   -- their bytes are those of the device
-  pub bytes : used_bytes blocks + total holes ≡ device
+  pub bytes : used_bytes blocks + total holes ≡ memory.len
 
--- the blocks and some holes are a device of this size, with no address in two of them
-abbrev pub IsDevice : ℕ → List Block → Type 0
-IsDevice device blocks = (holes : List (ℕ × ℕ)) × AreHoles device blocks holes
+-- the blocks and their holes are the device memory, with no address in two of them
+abbrev pub IsDevice : Section → List Block → Type 0
+IsDevice memory blocks = (holes : List (ℕ × ℕ)) × AreHoles memory blocks holes

@@ -34,12 +34,10 @@ item_limit = 64
 -- how many items a directive names
 abbrev pub item_count : Directive → ℕ
 item_count (Enter items) = length items
-item_count (Exit number) = 0
 item_count (EnterData items queue) = length items
 item_count (ExitData items finalize queue) = length items
 item_count (Update items if_present queue) = length items
-item_count (Wait queue) = 0
-item_count (Step queue) = 0
+item_count _ = 0
 
 abbrev pub few_items : Directive → Result ⊤ Fault
 few_items d = refuse_if (nat_lt item_limit (item_count d)) (TooManyItems (item_count d))
@@ -56,28 +54,22 @@ tasks_of (Exit number) g = tasks_of_region number (holdings_at number g.regions)
 tasks_of (EnterData items queue) g = Ok (map (enter_data_task queue) items)
 tasks_of (ExitData items finalize queue) g = Ok (map (exit_task finalize queue) items)
 tasks_of (Update items if_present queue) g = Ok (map (move_task if_present queue) items)
-tasks_of (Wait queue) g = Ok []
-tasks_of (Step queue) g = Ok []
+tasks_of _ g = Ok []
 
 -- the queue that a directive names
 abbrev pub queue_in : Directive → Option ℕ
-queue_in (Enter items) = None
-queue_in (Exit number) = None
 queue_in (EnterData items queue) = queue
 queue_in (ExitData items finalize queue) = queue
 queue_in (Update items if_present queue) = queue
 queue_in (Wait queue) = queue
 queue_in (Step queue) = Some queue
+queue_in _ = None
 
 -- the queued transfers that a directive makes
 abbrev pub transfers_in : Directive → List (List Transfer) → List Transfer
-transfers_in (Enter items) queues = []
-transfers_in (Exit number) queues = []
-transfers_in (EnterData items queue) queues = []
-transfers_in (ExitData items finalize queue) queues = []
-transfers_in (Update items if_present queue) queues = []
 transfers_in (Wait queue) queues = transfers_of queue queues
 transfers_in (Step queue) queues = take 1 (queue_at queue queues)
+transfers_in _ queues = []
 
 -- what an accepted call comes to: an event, or nothing to do
 pub data Verdict : Type 0 where

@@ -52,6 +52,10 @@ device_base = DEVICE_BASE
 abbrev pub host_memory : ℕ → Section
 host_memory size = record { start = host_base; len = size }
 
+-- the device memory of a size in bytes
+abbrev pub device_memory : ℕ → Section
+device_memory size = record { start = device_base; len = size }
+
 -- one address
 abbrev pub only : ℕ → Section
 only address = record { start = address; len = 1 }

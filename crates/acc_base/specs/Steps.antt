@@ -27,10 +27,7 @@ use Rattle.acc_base.specs.Transfers.{transfer_of, room_for, queues_after}
 -- the step did something
 abbrev pub is_action : Step → Bool
 is_action Nothing = false
-is_action (Counted block) = true
-is_action (Born block place) = true
-is_action (Dropped block ended) = true
-is_action (Moved block) = true
+is_action _ = true
 
 -- the pointer that an item attaches or detaches beside its step: the one that it names, where the step did something or the clause names a pointer alone
 abbrev pub pointer_aimed : Task → Step → Option ℕ
@@ -50,11 +47,9 @@ block_detached (Move if_present item queue) step w = None
 
 -- the block that the step takes a counter from, or whose bytes it copies at once
 abbrev pub block_needed : Task → Step → Option ℕ
-block_needed task Nothing = None
-block_needed task (Counted block) = None
-block_needed task (Born block place) = None
 block_needed task (Dropped block ended) = Some block
 block_needed task (Moved block) = if is_none (queue_of task) then Some block else None
+block_needed task _ = None
 
 -- ---- its refusal, or its step
 

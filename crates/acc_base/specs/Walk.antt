@@ -16,10 +16,10 @@ use Rattle.acc_base.specs.declared.tasks.Task.TheVariants.{Enter, Leave, Exit, M
 use Rattle.acc_base.specs.declared.attachments.Aim.{Aim}
 use Rattle.acc_base.specs.declared.attachments.Aim.TheVariants as aims
 use Rattle.acc_base.specs.declared.events.Step.{Step}
-use Rattle.acc_base.specs.declared.events.Step.TheVariants.{Nothing, Counted, Born, Dropped, Moved}
+use Rattle.acc_base.specs.declared.events.Step.TheVariants.{Counted, Born}
 use Rattle.acc_base.specs.declared.events.Did.{Did}
 use Rattle.acc_base.specs.declared.events.Event.{Event}
-use Rattle.acc_base.specs.declared.events.Event.TheVariants.{Entered, Left, EnteredData, ExitedData, Updated, Waited, Stepped, HostWritten, Lent, Gathered}
+use Rattle.acc_base.specs.declared.events.Event.TheVariants.{Entered, Left, EnteredData, ExitedData, Updated, Waited, Stepped, Lent, Gathered}
 use Rattle.acc_base.specs.Records.{Records, Layout}
 use Rattle.acc_base.specs.Register.{Register, holdings_at, opened, closed, numbered}
 use Rattle.acc_base.specs.Ranges.{start_of}
@@ -56,11 +56,7 @@ asked_in (Left number did) g = leave_tasks (unwrap_or (holdings_at number g.regi
 asked_in (EnteredData items queue did) g = map (enter_data_task queue) items
 asked_in (ExitedData items finalize queue did) g = map (exit_task finalize queue) items
 asked_in (Updated items if_present queue did) g = map (move_task if_present queue) items
-asked_in (Waited queue count) g = []
-asked_in (Stepped queue block) g = []
-asked_in (HostWritten addr len) g = []
-asked_in (Lent region section block serial) g = []
-asked_in (Gathered serial block) g = []
+asked_in _ g = []
 
 -- what was done, in the same order
 abbrev pub done_in : Event → List Did
@@ -69,42 +65,27 @@ done_in (Left number did) = reverse did
 done_in (EnteredData items queue did) = did
 done_in (ExitedData items finalize queue did) = did
 done_in (Updated items if_present queue did) = did
-done_in (Waited queue count) = []
-done_in (Stepped queue block) = []
-done_in (HostWritten addr len) = []
-done_in (Lent region section block serial) = []
-done_in (Gathered serial block) = []
+done_in _ = []
 
 -- the queues whose first transfers it made, in that order
 abbrev pub stepped_in : Event → List (List Transfer) → List ℕ
-stepped_in (Entered number items did) queues = []
-stepped_in (Left number did) queues = []
-stepped_in (EnteredData items queue did) queues = []
-stepped_in (ExitedData items finalize queue did) queues = []
-stepped_in (Updated items if_present queue did) queues = []
 stepped_in (Waited queue count) queues = steps_of queue queues
 stepped_in (Stepped queue block) queues = queue ∷ []
-stepped_in (HostWritten addr len) queues = []
-stepped_in (Lent region section block serial) queues = []
-stepped_in (Gathered serial block) queues = []
+stepped_in _ queues = []
 
 -- ---- what it leaves of the register
 
 -- the block that a step counted
 abbrev pub block_counted : Step → Option ℕ
-block_counted Nothing = None
 block_counted (Counted block) = Some block
 block_counted (Born block place) = Some block
-block_counted (Dropped block ended) = None
-block_counted (Moved block) = None
+block_counted _ = None
 
 -- the pointer that was attached, and the block that holds it
 abbrev pub pointer_attached : Aim → Option (ℕ × ℕ)
-pointer_attached aims.None = None
 pointer_attached (aims.New pointer block target) = Some (pointer, block)
 pointer_attached (aims.Again pointer block) = Some (pointer, block)
-pointer_attached (aims.Less pointer block) = None
-pointer_attached (aims.Cleared pointer block) = None
+pointer_attached _ = None
 
 -- what each item of an entry holds
 abbrev pub holdings_of : List (Item RegionClause) → List Did → List Holding
@@ -115,14 +96,8 @@ holdings_of _ _ = []
 abbrev pub register_after : Event → Register → Register
 register_after (Entered number items did) g = opened (holdings_of items did) g
 register_after (Left number did) g = closed number g
-register_after (EnteredData items queue did) g = g
-register_after (ExitedData items finalize queue did) g = g
-register_after (Updated items if_present queue did) g = g
-register_after (Waited queue count) g = g
-register_after (Stepped queue block) g = g
-register_after (HostWritten addr len) g = g
 register_after (Lent region section block serial) g = numbered g
-register_after (Gathered serial block) g = g
+register_after _ g = g
 
 -- ---- what it leaves of the loans
 
@@ -131,16 +106,9 @@ abbrev pub loan_at : ℕ → ℕ → Section → List Range → Loan
 loan_at serial block section ranges = record { serial = serial; block = block; offset = section.start - start_of block ranges; len = section.len }
 
 unfoldable pub loaned : Event → Records → Records
-loaned (Entered number items did) w = w
-loaned (Left number did) w = w
-loaned (EnteredData items queue did) w = w
-loaned (ExitedData items finalize queue did) w = w
-loaned (Updated items if_present queue did) w = w
-loaned (Waited queue count) w = w
-loaned (Stepped queue block) w = w
-loaned (HostWritten addr len) w = w
 loaned (Lent region section block serial) w = record w { loans = with_loan (loan_at serial block section w.ranges) w.loans }
 loaned (Gathered serial block) w = record w { loans = without_loan block w.loans }
+loaned _ w = w
 
 -- ---- the layout after an event
 

@@ -38,6 +38,16 @@ pub struct Ended {
     pub pins: u64,
 }
 
+/// Free addresses of device memory that lie side by side, as many as there are: what lies beside them is taken by blocks
+/// or not on the device.
+#[derive(Clone, Copy, Debug, PartialEq, Eq)]
+pub struct Hole {
+    /// The device address of its first byte.
+    pub place: u64,
+    /// Its size in bytes.
+    pub size: u64,
+}
+
 /// One of the two reference counters of a mapped range (OpenACC 3.3, section 2.6.7).
 #[derive(Clone, Copy, Debug, PartialEq, Eq)]
 pub enum Counter {

@@ -1,6 +1,6 @@
 //! How long the calls of `acc_clauses` take.
 
-ghost use Rattle.std.specs.Prelude.{◌<◌, ◌^◌};
+ghost use Rattle.std.specs.Prelude.{◌+◌, ◌<◌, ◌≤◌, ◌^◌};
 
 use crate::limits::largest;
 use crate::rows::tell;
@@ -125,7 +125,7 @@ fn carry_out(worker: &mut Worker, directive: &Directive) -> Result<(), Fault> {
 
 /// Judges a directive, makes room for it and does it.
 fn take(store: &mut Store, plan: &mut Plan, directive: &Directive) -> Result<(), Fault>
-    requires births { store.old.state.records.births < 2 ^ 47 }
+    requires births { store.old.state.records.births + 64 ≤ 2 ^ 48 }
     requires next { store.old.state.register.next < 2 ^ 48 }
 {
     store.plan(directive, plan)?;

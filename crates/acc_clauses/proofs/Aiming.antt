@@ -46,7 +46,7 @@ unfolding aimed
 aims_by aim x ms b memories attached limit spare marked = record {
   state = λ next. state_by (with_pointers x ms b) next (aimed aim (state_of x next)) refl refl attached refl refl refl refl refl refl refl (memories next);
   counter_max = refl;
-  size = refl;
+  memory = refl;
   pointer_max = limit;
   queue_cap = refl;
   room = record { births_are = refl; ranges = omega arith; regions = omega arith; holdings = omega arith; attachments = spare; puts = λ q. omega arith };

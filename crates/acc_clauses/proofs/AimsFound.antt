@@ -18,7 +18,7 @@ use Rattle.acc_base.specs.declared.events.Step.{Step}
 use Rattle.acc_base.specs.declared.events.Step.TheVariants.{Nothing, Counted, Born, Dropped, Moved}
 use Rattle.acc_base.specs.declared.events.Did.{Did}
 use Rattle.acc_base.specs.Limits.{Limits, IsWithinBounds}
-use Rattle.acc_base.specs.Section.{is_within, is_apart, only, device_base}
+use Rattle.acc_base.specs.Section.{is_within, is_apart, end_of, only, device_memory}
 use Rattle.acc_base.specs.Records.{Records}
 use Rattle.acc_base.specs.Ranges.{where_is, range_of, start_of, bare_range}
 use Rattle.acc_base.specs.Blocks.{rounded, block_at, place_of}
@@ -153,8 +153,8 @@ before-after l n (x ∷ xs) w pointer block bounds h judged entries there e =
 -- a block ends on the device, far below the last 64-bit address
 place_bound : (l : Limits) (w : Records) (block : ℕ) (b : Block) → IsWithinBounds l → AreRecordsSound l w → block_at block w.blocks ≡ Some b → (b.place + b.len < 2 ^ 41) × (place_of block w.blocks ≡ b.place)
 place_bound l w block b bounds h e =
-    let on : IsOnDevice l.device b = (found_has (IsOnDevice l.device) (λ x. x.number == block) w.blocks b h.blocks_apart.on_device e).0 in
-    let last : b.place + rounded b.len ≤ device_base + l.device = on.last in
+    let on : IsOnDevice (device_memory l.device) b = (found_has (IsOnDevice (device_memory l.device)) (λ x. x.number == block) w.blocks b h.blocks_apart.on_device e).0 in
+    let last : b.place + rounded b.len ≤ end_of (device_memory l.device) = on.last in
     let most = bounds.device.1 in
     (omega (arith, last, most), ap (λ o. unwrap_or (option_map (λ (x : Block). x.place) o) 0) e)
 

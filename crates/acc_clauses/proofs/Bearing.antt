@@ -82,7 +82,7 @@ born_marked counter item queue k births x number unpinned zip born marked =
     (ap (λ n. pins_of n x.queues.queues) own ∙ unpinned) marked)
 
 pub born_changes : (counter : Counter) (item : Item RegionClause) (queue : Option ℕ) (copied : Bool) (k place : ℕ) (x : Environment) (q r : PresentState) (e : DeviceState)
-    → CanBear x.present.table.counter_max x.device.size (section_of (Enter counter item queue)) k place (bare_state x) → IsMade x.device e copied (section_of (Enter counter item queue)) item.clause x.host
+    → CanBear x.present.table.counter_max x.device.memory (section_of (Enter counter item queue)) k place (bare_state x) → IsMade x.device e copied (section_of (Enter counter item queue)) item.clause x.host
     → q.table ≡ with_ranges x.present.table (with_range (bare_range (section_of (Enter counter item queue)) k) x.present.table.ranges) → x.present.room.ranges ≤ q.room.ranges + 1 → x.present.room.regions ≤ q.room.regions → x.present.room.holdings ≤ q.room.holdings
     → r.table ≡ with_ranges q.table (changed_at k (risen counter) q.table.ranges) → present.IsRoomKept q.room r.room
     → AllZip IsMarkOf x.device.marks x.device.blocks → AllByRecursion (λ b. b.number ≤ x.device.births) x.device.blocks → AreMarked x
@@ -98,7 +98,7 @@ born_changes counter item queue copied k place x q r e can made put ranges regio
     record {
       state = λ next. state_by new next (born_state counter item queue copied k place (state_of x next)) all blocks refl made.births refl made.loans (ap (λ t. t.regions) raised ∙ ap (λ t. t.regions) put) refl refl refl memories;
       counter_max = ap (λ t. t.counter_max) raised ∙ ap (λ t. t.counter_max) put;
-      size = made.size;
+      memory = made.memory;
       pointer_max = refl;
       queue_cap = refl;
       room = record { births_are = made.room; ranges = omega (arith, ranges, room.ranges); regions = omega (arith, regions, room.regions); holdings = omega (arith, holdings, room.holdings); attachments = omega arith; puts = λ n. omega arith };
@@ -179,7 +179,7 @@ born_whole counter item queue k place s in_host no_memory no_pointer =
 born_puts : (a b : Bool) → 0 + cond (a && b) 1 0 ≤ cond (a && b) 1 0
 born_puts a b = omega arith
 
-pub born_acts : (counter : Counter) (item : Item RegionClause) (queue : Option ℕ) (copied : Bool) (k place : ℕ) (x y z : Environment) → CanBear x.present.table.counter_max x.device.size (section_of (Enter counter item queue)) k place (bare_state x)
+pub born_acts : (counter : Counter) (item : Item RegionClause) (queue : Option ℕ) (copied : Bool) (k place : ℕ) (x y z : Environment) → CanBear x.present.table.counter_max x.device.memory (section_of (Enter counter item queue)) k place (bare_state x)
     → copied ≡ (copies_in item.clause && is_none queue) → IsChangedBy (born_state counter item queue copied k place) ((section_of (Enter counter item queue)).len ∷ []) 0 (λ q. 0) x y → IsFilledLater queue item k y z → IsActedBy (Enter counter item queue) (Born k place) x z
 born_acts counter item queue copied k place x y z can so born filled =
     both (born_state counter item queue (copies_in item.clause && is_none queue) k place) (filled_later queue item k) (step_state (Enter counter item queue) (Born k place))

@@ -31,7 +31,7 @@ pub changed_to : (f g : State → State) (bs : List ℕ) (m : ℕ) (u v : ℕ �
 changed_to f g bs m u v x y same less a = record {
   state = λ next. a.state next ∙ same next;
   counter_max = a.counter_max;
-  size = a.size;
+  memory = a.memory;
   pointer_max = a.pointer_max;
   queue_cap = a.queue_cap;
   room = record { births_are = a.room.births_are; ranges = a.room.ranges; regions = a.room.regions; holdings = a.room.holdings; attachments = a.room.attachments; puts = λ q. omega (arith, a.room.puts q, less q) };
@@ -48,7 +48,7 @@ pub both : (f g h : State → State) (bs cs ds : List ℕ) (m n k : ℕ) (u v w 
 both f g h bs cs ds m n k u v w x y z whole births pointers puts a b = record {
   state = λ next. b.state next ∙ (ap g (a.state next) ∙ whole next);
   counter_max = b.counter_max ∙ a.counter_max;
-  size = b.size ∙ a.size;
+  memory = b.memory ∙ a.memory;
   pointer_max = b.pointer_max ∙ a.pointer_max;
   queue_cap = b.queue_cap ∙ a.queue_cap;
   room = record {

@@ -58,12 +58,12 @@ aim_after (Leave holding) did x y entry can acted = absurd entry
 aim_after (Exit finalize item queue) did x y entry can acted = absurd entry
 aim_after (Move if_present item queue) did x y entry can acted = absurd entry
 
-pub step_after : (task : Task) (did : Did) (x y : Environment) → (IsEnter task → ⊥) → CanDo x task did → IsAimedBy did.aim x y → CanAct y.present.table.counter_max y.device.size task did.step (bare_state y)
+pub step_after : (task : Task) (did : Did) (x y : Environment) → (IsEnter task → ⊥) → CanDo x task did → IsAimedBy did.aim x y → CanAct y.present.table.counter_max y.device.memory task did.step (bare_state y)
 step_after task did x y other can aims =
-    subst (λ n. CanAct n y.device.size task did.step (bare_state y)) (sym aims.counter_max) (subst (λ n. CanAct x.present.table.counter_max n task did.step (bare_state y)) (sym aims.size)
-    (subst (CanAct x.present.table.counter_max x.device.size task did.step) (sym (aims.state bare_numbers)) (go task other can)))
+    subst (λ n. CanAct n y.device.memory task did.step (bare_state y)) (sym aims.counter_max) (subst (λ n. CanAct x.present.table.counter_max n task did.step (bare_state y)) (sym aims.memory)
+    (subst (CanAct x.present.table.counter_max x.device.memory task did.step) (sym (aims.state bare_numbers)) (go task other can)))
   where
-    go : (t : Task) → (IsEnter t → ⊥) → CanDo x t did → CanAct x.present.table.counter_max x.device.size t did.step (aimed did.aim (bare_state x))
+    go : (t : Task) → (IsEnter t → ⊥) → CanDo x t did → CanAct x.present.table.counter_max x.device.memory t did.step (aimed did.aim (bare_state x))
     go (Enter counter item queue) enters can = absurd (enters tt)
     go (Leave holding) enters can = can.step
     go (Exit finalize item queue) enters can = can.step

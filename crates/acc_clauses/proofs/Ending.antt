@@ -126,7 +126,7 @@ gone_changes task k y q r e b marked sized mark counted room1 removed room2 free
     record {
       state = λ next. state_by new next (ended_state k (state_of y next)) ranges (rw idle retired.blocks) (rw idle forgot) retired.births refl retired.loans (ap (λ t. t.regions) table) refl refl refl (rw idle memories);
       counter_max = ap (λ t. t.counter_max) table;
-      size = retired.size;
+      memory = retired.memory;
       pointer_max = limit;
       queue_cap = refl;
       room = room_same (λ n. 0) y new (kept_twice y.present.room q.room r.room room1 room2) retired.room spare (λ n. omega arith);
@@ -146,7 +146,7 @@ kept_changes task k y q r e marked mark counted room1 removed room2 some ended =
     record {
       state = λ next. state_by new next (ended_state k (state_of y next)) ranges (rw used ended.blocks) (rw used refl) ended.births refl ended.loans (ap (λ t. t.regions) table) refl refl refl (rw used ended.memories);
       counter_max = ap (λ t. t.counter_max) table;
-      size = ended.size;
+      memory = ended.memory;
       pointer_max = refl;
       queue_cap = refl;
       room = room_same (λ n. 0) y new (kept_twice y.present.room q.room r.room room1 room2) ended.room (omega arith) (λ n. omega arith);

@@ -20,7 +20,7 @@ use Rattle.acc_base.specs.declared.faults.Fault.{Fault}
 use Rattle.acc_base.specs.declared.faults.Fault.TheVariants.{CounterFull}
 use Rattle.acc_base.specs.Results.{refuse_if}
 use Rattle.acc_base.specs.Limits.{Limits, IsWithinBounds}
-use Rattle.acc_base.specs.Section.{is_within}
+use Rattle.acc_base.specs.Section.{is_within, device_memory}
 use Rattle.acc_base.specs.Records.{Records}
 use Rattle.acc_base.specs.Ranges.{where_is, range_of, counter_of, with_range, bare_range, risen}
 use Rattle.acc_base.specs.Blocks.{rounded, place_for}
@@ -67,10 +67,10 @@ born_not_counted None n k s w e = cc
 born_not_counted (Some p) n k s w e = cc
 
 absent_not_counted : (clause : RegionClause) (l : Limits) (n k : ℕ) (s : Section) (w : Records) → enter_absent clause l n s w ≡ Ok (Counted k) → ⊥
-absent_not_counted region.Copy l n k s w e = born_not_counted (place_for l.device w.blocks (rounded s.len)) n k s w e
-absent_not_counted region.Copyin l n k s w e = born_not_counted (place_for l.device w.blocks (rounded s.len)) n k s w e
-absent_not_counted (region.Copyout z) l n k s w e = born_not_counted (place_for l.device w.blocks (rounded s.len)) n k s w e
-absent_not_counted (region.Create z) l n k s w e = born_not_counted (place_for l.device w.blocks (rounded s.len)) n k s w e
+absent_not_counted region.Copy l n k s w e = born_not_counted (place_for (device_memory l.device) w.blocks (rounded s.len)) n k s w e
+absent_not_counted region.Copyin l n k s w e = born_not_counted (place_for (device_memory l.device) w.blocks (rounded s.len)) n k s w e
+absent_not_counted (region.Copyout z) l n k s w e = born_not_counted (place_for (device_memory l.device) w.blocks (rounded s.len)) n k s w e
+absent_not_counted (region.Create z) l n k s w e = born_not_counted (place_for (device_memory l.device) w.blocks (rounded s.len)) n k s w e
 absent_not_counted region.NoCreate l n k s w e = cc
 absent_not_counted region.Present l n k s w e = cc
 absent_not_counted region.Attach l n k s w e = cc

@@ -1,6 +1,6 @@
 -- What look-ups before the tasks of a plan say of the records after them.
 use Rattle.std.proofs.Common.{ℕ, ◌≡◌, ◌+◌, ◌<◌, ◌≤◌, refl, sym, ap, ◌∙◌, Bool, true, false, ◌&&◌, List, [], ◌∷◌, ◌++◌, length, suc, Option, Some, None, Ok, arith, ⊎_elim, inl, inr}
-use Rattle.std.specs.Prelude.{◌==◌, not, nat_le, unwrap_or, option_map, All, IfSome}
+use Rattle.std.specs.Prelude.{◌==◌, not, unwrap_or, option_map, All, IfSome}
 use Rattle.std.specs.List.{list_all, list_any, AllByRecursion}
 use Rattle.std.proofs.lemmas.List.Folds.{list_all-append, list_any-append}
 use Rattle.std.proofs.lemmas.List.Elements.{All-from_recursion}
@@ -18,7 +18,7 @@ use Rattle.acc_base.specs.declared.tasks.Task.TheVariants.{Enter, Leave, Exit, M
 use Rattle.acc_base.specs.declared.events.Step.{Step}
 use Rattle.acc_base.specs.declared.events.Step.TheVariants.{Nothing, Counted, Born, Dropped, Moved}
 use Rattle.acc_base.specs.Limits.{Limits, IsWithinBounds, IsFromOne}
-use Rattle.acc_base.specs.Section.{is_empty, is_within, host_memory, device_base}
+use Rattle.acc_base.specs.Section.{is_empty, is_within, end_of, host_memory, device_memory}
 use Rattle.acc_base.specs.Records.{Records}
 use Rattle.acc_base.specs.Ranges.{where_is, where_is_apart, range_of, counter_in, structured_of, dynamic_of, is_unused, ends_by}
 use Rattle.acc_base.specs.Blocks.{rounded, place_for, fits_at}
@@ -156,13 +156,13 @@ birth_len l s ranges bounds within absent =
     let most : l.host ≤ MEMORY_MAX = bounds.host.1 in
     grind (arith, nat_tests)
 
-place_below : (l : Limits) (w : Records) (size p : ℕ) → place_for l.device w.blocks size ≡ Some p → p + size ≤ device_base + l.device
+place_below : (l : Limits) (w : Records) (size p : ℕ) → place_for (device_memory l.device) w.blocks size ≡ Some p → p + size ≤ end_of (device_memory l.device)
 place_below l w size p e =
-    let fits : fits_at l.device w.blocks size p ≡ true = (rw e at (place_for-found l.device w.blocks size)).0 in
-    let bounds : (nat_le device_base p && nat_le (p + size) (device_base + l.device)) ≡ true = (and_true _ _ fits).0 in
+    let fits : fits_at (device_memory l.device) w.blocks size p ≡ true = (rw e at (place_for-found (device_memory l.device) w.blocks size)).0 in
+    let bounds : is_within (record { start = p; len = size }) (device_memory l.device) ≡ true = (and_true _ _ fits).0 in
     grind (arith, nat_tests)
 
-take_by : (l : Limits) (task : Task) (step : Step) (w : Records) → IsWithinBounds l → IsJudgedTo l task step w → AllByRecursion (IsTakeBelow (device_base + l.device)) (birth_by task step)
+take_by : (l : Limits) (task : Task) (step : Step) (w : Records) → IsWithinBounds l → IsJudgedTo l task step w → AllByRecursion (IsTakeBelow (end_of (device_memory l.device))) (birth_by task step)
 take_by l task Nothing w bounds says = tt
 take_by l task (Counted k) w bounds says = tt
 take_by l task (Born k p) w bounds says =
@@ -171,20 +171,20 @@ take_by l task (Born k p) w bounds says =
 take_by l task (Dropped k ended) w bounds says = tt
 take_by l task (Moved k) w bounds says = tt
 
-takes : (l : Limits) (n : ℕ) (xs : List Acted) (w : Records) → IsWithinBounds l → AreJudged l n (tasks_in xs) (dids_in xs) w → AllByRecursion (IsTakeBelow (device_base + l.device)) (births_of xs)
+takes : (l : Limits) (n : ℕ) (xs : List Acted) (w : Records) → IsWithinBounds l → AreJudged l n (tasks_in xs) (dids_in xs) w → AllByRecursion (IsTakeBelow (end_of (device_memory l.device))) (births_of xs)
 takes l n [] w bounds judged = tt
 takes l n (x ∷ xs) w bounds judged =
-    AllByRecursion-append (IsTakeBelow (device_base + l.device)) (birth_by x.task x.did.step) (births_of xs)
+    AllByRecursion-append (IsTakeBelow (end_of (device_memory l.device))) (birth_by x.task x.did.step) (births_of xs)
     (take_by l x.task x.did.step w bounds (task_says l n x.task w x.did.step judged.0))
     (takes l (suc n) xs (act x.task x.did w) bounds judged.2)
 
 -- each block that the tasks bear ends on the device
-pub takes-planned : (l : Limits) (xs : List Acted) (w : Records) → IsPlanned l xs w → All (IsTakeBelow (device_base + l.device)) (births_of xs)
-takes-planned l xs w p = All-from_recursion (IsTakeBelow (device_base + l.device)) (births_of xs) (takes l 0 xs w p.bounds p.judged)
+pub takes-planned : (l : Limits) (xs : List Acted) (w : Records) → IsPlanned l xs w → All (IsTakeBelow (end_of (device_memory l.device))) (births_of xs)
+takes-planned l xs w p = All-from_recursion (IsTakeBelow (end_of (device_memory l.device))) (births_of xs) (takes l 0 xs w p.bounds p.judged)
 
 pub place-planned : (l : Limits) (xs : List Acted) (w : Records) (size : ℕ) → IsPlanned l xs w → list_all enters (tasks_in xs) ≡ true
-    → place_for l.device (w.blocks ++ planned_blocks (w.births + 1) (births_of xs)) size ≡ place_for l.device (records_after xs w).blocks size
-place-planned l xs w size p none = ap (λ bs. place_for l.device bs size) (sym (blocks-after l 0 xs w p.judged none))
+    → place_for (device_memory l.device) (w.blocks ++ planned_blocks (w.births + 1) (births_of xs)) size ≡ place_for (device_memory l.device) (records_after xs w).blocks size
+place-planned l xs w size p none = ap (λ bs. place_for (device_memory l.device) bs size) (sym (blocks-after l 0 xs w p.judged none))
 
 pub births-planned : (l : Limits) (xs : List Acted) (w : Records) → IsPlanned l xs w → list_all enters (tasks_in xs) ≡ true → (records_after xs w).births ≡ w.births + length (births_of xs)
 births-planned l xs w p none = births-after l 0 xs w p.judged none

@@ -16,7 +16,7 @@ use Rattle.acc_base.specs.declared.tasks.Task.TheVariants.{Enter, Leave, Exit, M
 use Rattle.acc_base.specs.declared.events.Step.{Step}
 use Rattle.acc_base.specs.declared.events.Step.TheVariants.{Nothing, Counted, Born, Dropped, Moved}
 use Rattle.acc_base.specs.Limits.{Limits, IsWithinBounds, IsFromOne}
-use Rattle.acc_base.specs.Section.{end_of, is_within, is_empty, host_memory}
+use Rattle.acc_base.specs.Section.{end_of, is_within, is_empty, host_memory, device_memory}
 use Rattle.acc_base.specs.Queues.{pins_of}
 use Rattle.acc_base.specs.Records.{Records, Memory, State}
 use Rattle.acc_base.specs.Ranges.{where_is, range_of}
@@ -138,7 +138,7 @@ birth_len l section k place w bounds says =
     (some, most)
 
 can_bear : (l : Limits) (s : State) (section : Section) (k place : ℕ) → IsWithinBounds l → AreRecordsSound l s.records → AreMemoriesSized l s → s.records.births < 2 ^ 48 → IsBirth l section k place s.records
-    → CanBear l.counter_max l.device section k place s
+    → CanBear l.counter_max (device_memory l.device) section k place s
 can_bear l s section k place bounds h m few says =
     let filled : is_empty section ≡ false = (absent_says section s.records.ranges says.absent).1 in
     let some : 1 ≤ section.len = grind (arith, nat_tests) in
@@ -162,7 +162,7 @@ can_range : (l : Limits) (s : State) (section : Section) (k : ℕ) → IsWithinB
 can_range l s section k bounds h m says = can_move l s section k bounds h m (mapped_around l s.records section k says.offset h says.inside)
 
 pub can_by : (l : Limits) (s : State) (task : Task) (step : Step) → IsWithinBounds l → AreRecordsSound l s.records → AreMemoriesSized l s → s.records.births < 2 ^ 48 → IsKnown s.records task → IsJudgedTo l task step s.records
-    → CanAct l.counter_max l.device task step s
+    → CanAct l.counter_max (device_memory l.device) task step s
 can_by l s task Nothing bounds h m few known says = tt
 can_by l s (Enter counter item queue) (Counted k) bounds h m few known says = record { there = not_none (range_of k s.records.ranges) says.mapped; below = says.room }
 can_by l s (Enter counter item queue) (Born k p) bounds h m few known says = (tt, can_bear l s (section_of (Enter counter item queue)) k p bounds h m few says)

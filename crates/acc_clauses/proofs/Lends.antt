@@ -137,7 +137,7 @@ lent_parts l x n d loan parts free sound out =
     let memories : AreMemoriesSized l (lent_state loan s) = record { host = parts.sound.memories.host; blocks = lent_sized loan s.records.loans s.memories s.records.blocks parts.sound.memories.blocks } in
     let is : state_of (record x { device = d }) (numbered_on n) ≡ lent_state loan s = lent_is x n d loan out in
     record {
-      sized = record { counters = parts.sized.counters; device = out.size ∙ parts.sized.device; pointers = parts.sized.pointers; queues = parts.sized.queues };
+      sized = record { counters = parts.sized.counters; device = out.memory ∙ parts.sized.device; pointers = parts.sized.pointers; queues = parts.sized.queues };
       sound = record { records = subst (λ (t : State). AreRecordsSound l t.records) (sym is) records; memories = subst (AreMemoriesSized l) (sym is) memories };
       marked = rw out.marks parts.marked;
       lent = ap (λ k. k + 1) parts.lent ∙ (sym (length-with loan x.device.loans) ∙ ap length (sym out.loans));
@@ -164,7 +164,7 @@ gathered_parts l x n d lease parts fits back =
     let memories : AreMemoriesSized l (gathered_state lease s) = record { host = parts.sound.memories.host; blocks = gathered_sized lease.block lease.bytes s.records.loans s.memories s.records.blocks long.fits parts.sound.memories.blocks } in
     let is : state_of (record x { device = d }) (numbered_off n) ≡ gathered_state lease s = gathered_is x n d lease back in
     record {
-      sized = record { counters = parts.sized.counters; device = back.size ∙ parts.sized.device; pointers = parts.sized.pointers; queues = parts.sized.queues };
+      sized = record { counters = parts.sized.counters; device = back.memory ∙ parts.sized.device; pointers = parts.sized.pointers; queues = parts.sized.queues };
       sound = record { records = subst (λ (t : State). AreRecordsSound l t.records) (sym is) records; memories = subst (AreMemoriesSized l) (sym is) memories };
       marked = rw back.marks parts.marked;
       lent = ap (λ k. k - 1) parts.lent ∙ (sym (length-without lease.block x.device.loans parts.sound.records.loans.rising (returnable_lent lease s.records fits)) ∙ ap length (sym back.loans));

@@ -80,10 +80,10 @@ lens_by d block apart sized free there =
 
 -- a device after a write has other memories, and nothing else changed
 pub device_written : (old new : DeviceState) (block offset : ℕ) (bytes : List ℕ) (ms : List Memory) → IsBlockWritten old new block offset bytes → map (memory_changed block (overwritten offset bytes)) old.memories ≡ ms → new ≡ record old { memories = ms }
-device_written old new block offset bytes ms h e = remade new (record old { memories = ms }) h.size h.blocks (h.memories ∙ e) h.marks h.loans h.births h.room
+device_written old new block offset bytes ms h e = remade new (record old { memories = ms }) h.memory h.blocks (h.memories ∙ e) h.marks h.loans h.births h.room
   where
-    remade : (a b : DeviceState) → a.size ≡ b.size → a.blocks ≡ b.blocks → a.memories ≡ b.memories → a.marks ≡ b.marks → a.loans ≡ b.loans → a.births ≡ b.births → a.room ≡ b.room → a ≡ b
-    remade a b p q r m i s t = let e : record { size = a.size; blocks = a.blocks; memories = a.memories; marks = a.marks; loans = a.loans; births = a.births; room = a.room } ≡ b = rw (p, q, r, m, i, s, t) refl in e
+    remade : (a b : DeviceState) → a.memory ≡ b.memory → a.blocks ≡ b.blocks → a.memories ≡ b.memories → a.marks ≡ b.marks → a.loans ≡ b.loans → a.births ≡ b.births → a.room ≡ b.room → a ≡ b
+    remade a b p q r m i s t = let e : record { memory = a.memory; blocks = a.blocks; memories = a.memories; marks = a.marks; loans = a.loans; births = a.births; room = a.room } ≡ b = rw (p, q, r, m, i, s, t) refl in e
 
 pub copied_in : (s : Section) (start : ℕ) (host bytes : List ℕ) (d new : DeviceState) (block : ℕ) → HasBlocksApart d → AllZip (IsMemoryOf d.loans) d.memories d.blocks → is_lent block d.loans ≡ false → IsSome (block_at block d.blocks)
     → is_within s (host_memory (length host)) ≡ true → is_within s (record { start = start; len = length (bytes_of block d.memories) }) ≡ true → bytes ≡ bytes_in host s → IsBlockWritten d new block (s.start - start) bytes

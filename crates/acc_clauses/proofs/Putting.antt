@@ -56,7 +56,7 @@ put_moves q t x queues device known marked more limit room pinned =
     record {
       state = λ next. state_by new next (moved_state (Some q) t (state_of x next)) refl pinned.blocks refl pinned.births more pinned.loans refl refl refl refl pinned.memories;
       counter_max = refl;
-      size = pinned.size;
+      memory = pinned.memory;
       pointer_max = refl;
       queue_cap = limit;
       room = room_same (λ other. cond (is_queue other (Some q)) 1 0) x new (none_taken x.present.room) pinned.room (omega arith) (put_room q x.queues.spare queues.spare room);
@@ -76,7 +76,7 @@ pub make_moves : (t : Transfer) (x y : Environment) → AreMarked x → y ≡ ma
 make_moves t x y marked is = rw is (record {
   state = λ next. refl;
   counter_max = refl;
-  size = refl;
+  memory = refl;
   pointer_max = refl;
   queue_cap = refl;
   room = room_same (λ q. 0) x (made t x) (none_taken x.present.room) refl (omega arith) (λ q. omega arith);
@@ -93,7 +93,7 @@ none_steps q x queues empty same limit room marked =
     record {
       state = λ next. state_by new next (state_of x next) refl refl refl refl same refl refl refl refl refl refl ∙ ap (λ o. state_made q o (state_of x next)) (sym empty);
       counter_max = refl;
-      size = refl;
+      memory = refl;
       pointer_max = refl;
       queue_cap = limit;
       room = room_same (λ other. 0) x new (none_taken x.present.room) refl (omega arith) (λ other. let kept : spare_at other x.queues.spare ≤ spare_at other queues.spare = room other in omega (arith, kept));
@@ -184,7 +184,7 @@ last_steps q t x y queues e b first gone limit room marked is sized mark last re
     rw is (record {
       state = λ next. state_by new next (state_made q (Some t) (state_of x next)) refl (rw free end.blocks) (rw free forgot') end.births gone end.loans refl refl refl refl (rw free memories) ∙ ap (λ o. state_made q o (state_of x next)) (sym first);
       counter_max = refl;
-      size = end.size;
+      memory = end.memory;
       pointer_max = max;
       queue_cap = limit;
       room = room_same (λ other. 0) x new (none_taken x.present.room) end.room spare (λ other. let kept : spare_at other x.queues.spare ≤ spare_at other queues.spare = room other in omega (arith, kept));
@@ -203,7 +203,7 @@ more_steps q t x y queues e first gone limit room marked is mark more unpinned =
     rw is (record {
       state = λ next. state_by new next (state_made q (Some t) (state_of x next)) refl (rw used kept.blocks) (rw used refl) kept.births gone kept.loans refl refl refl refl (rw used kept.memories) ∙ ap (λ o. state_made q o (state_of x next)) (sym first);
       counter_max = refl;
-      size = kept.size;
+      memory = kept.memory;
       pointer_max = refl;
       queue_cap = limit;
       room = room_same (λ other. 0) x new (none_taken x.present.room) kept.room (omega arith) (λ other. let less : spare_at other x.queues.spare ≤ spare_at other queues.spare = room other in omega (arith, less));

@@ -2,6 +2,7 @@
 use Rattle.std.proofs.Common.{ℕ, ◌≡◌, ◌<◌, ◌^◌, refl, sym, ◌∙◌, ap, subst, Bool, true, false, cond, Option, Some, None, Ok, arith}
 use Rattle.std.specs.Prelude.{◌==◌, length}
 use Rattle.std.proofs.lemmas.Bool.Decides.{nat_tests}
+use Rattle.acc_base.specs.Section.{device_memory}
 use Rattle.acc_base.specs.Loans.{is_lent, not_lent}
 use Rattle.acc_base.specs.declared.mappings.Found.{Found}
 use Rattle.acc_base.specs.declared.mappings.Found.TheVariants.{Empty, Inside, Partly, Absent}
@@ -123,8 +124,8 @@ has_detached l s task did h = (step_judged l h.judged.item task s.records did.st
 sized_queue : (l : Limits) (x : Environment) (task : Task) (did : Did) → AreSizedBy l x → IsReady l (bare_state x) task did → CanQueue task did.step x
 sized_queue l x task did sized h = subst (λ n. room_for n (queue_of task) (transfer_of task did.step x.present.table.ranges) x.queues.queues ≡ Ok tt) (sym sized.queues) (has_free l (bare_state x) task did h).room
 
-sized_step : (l : Limits) (x : Environment) (s : State) (task : Task) (step : Step) → AreSizedBy l x → CanAct l.counter_max l.device task step s → CanAct x.present.table.counter_max x.device.size task step s
-sized_step l x s task step sized can = subst (λ n. CanAct x.present.table.counter_max n task step s) (sym sized.device) (subst (λ n. CanAct n l.device task step s) (sym sized.counters) can)
+sized_step : (l : Limits) (x : Environment) (s : State) (task : Task) (step : Step) → AreSizedBy l x → CanAct l.counter_max (device_memory l.device) task step s → CanAct x.present.table.counter_max x.device.memory task step s
+sized_step l x s task step sized can = subst (λ n. CanAct x.present.table.counter_max n task step s) (sym sized.device) (subst (λ n. CanAct n (device_memory l.device) task step s) (sym sized.counters) can)
 
 sized_aim : (l : Limits) (x : Environment) (s : State) (aim : Aim) → AreSizedBy l x → CanAim l.counter_max aim s → CanAim x.attached.counter_max aim s
 sized_aim l x s aim sized can = subst (λ n. CanAim n aim s) (sym sized.pointers) can
@@ -200,7 +201,7 @@ parts_sound l x y next task did bounds sound judged done =
     subst (λ (s : State). AreRecordsSound l s.records × AreMemoriesSized l s) (sym (done.state next)) after in
     let loans : y.device.loans ≡ x.device.loans = ap (λ (s : State). s.records.loans) (done.state next) ∙ (ap (λ (w : Records). w.loans) (records-act_state task did (state_of x next)) ∙ loans-act task did (state_of x next).records) in
     record {
-      sized = record { counters = done.counter_max ∙ sound.sized.counters; device = done.size ∙ sound.sized.device; pointers = done.pointer_max ∙ sound.sized.pointers; queues = done.queue_cap ∙ sound.sized.queues };
+      sized = record { counters = done.counter_max ∙ sound.sized.counters; device = done.memory ∙ sound.sized.device; pointers = done.pointer_max ∙ sound.sized.pointers; queues = done.queue_cap ∙ sound.sized.queues };
       sound = record { records = there.0; memories = there.1 };
       marked = done.marked;
       lent = sound.lent ∙ ap length (sym loans);

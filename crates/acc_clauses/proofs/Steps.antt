@@ -102,7 +102,7 @@ pub stays : (change : State → State) (puts : ℕ → ℕ) (x : Environment) �
 stays change puts x marked same = record {
   state = same;
   counter_max = refl;
-  size = refl;
+  memory = refl;
   pointer_max = refl;
   queue_cap = refl;
   room = room_same puts x x (none_taken x.present.room) refl (omega arith) (λ q. omega arith);
@@ -124,7 +124,7 @@ counter_acts : (change : State → State) (puts : ℕ → ℕ) (task : Task) (k 
 counter_acts change puts task k x r e room marked same = record {
   state = same;
   counter_max = ap (λ t. t.counter_max) e;
-  size = refl;
+  memory = refl;
   pointer_max = refl;
   queue_cap = refl;
   room = room_same puts x (record x { present = r }) room refl (omega arith) (λ q. omega arith);

@@ -1,5 +1,5 @@
 -- What is known of a task before its step is done, and what the step takes of the room.
-use Rattle.std.specs.Prelude.{ℕ, ◌≡◌, ◌+◌, ◌<◌, ◌≤◌, ◌^◌, Bool, true, false, ◌&&◌, List, [], ◌∷◌, ◌++◌, length, take, replicate, if◌then◌else◌, Option, Some, None, is_some, is_none, IsSome, Ok, ⊤}
+use Rattle.std.specs.Prelude.{ℕ, ◌≡◌, ◌+◌, ◌<◌, ◌≤◌, ◌⊎◌, ◌^◌, Bool, true, false, ◌&&◌, List, [], ◌∷◌, ◌++◌, length, take, replicate, if◌then◌else◌, Option, Some, None, is_some, is_none, IsSome, Ok, ⊤}
 use Rattle.std.specs.List.{AllByRecursion}
 use Rattle.acc_base.specs.declared.addresses.TheConstants.{MEMORY_MAX}
 use Rattle.acc_base.specs.declared.items.Section.{Section}
@@ -139,12 +139,12 @@ abbrev pub CanNeed : Task → Step → Environment → Type 0
 CanNeed task step x = not_lent (block_needed task step) x.device.loans ≡ Ok tt
 
 -- the section can be mapped to a new block of this number at this place
-pub record CanBear (counter_max device : ℕ) (section : Section) (block place : ℕ) (s : State) : Type 0 where
+pub record CanBear (counter_max : ℕ) (memory section : Section) (block place : ℕ) (s : State) : Type 0 where
   pub in_host : is_within section (host_memory (length s.host)) ≡ true
   pub absent : where_is section s.records.ranges ≡ Absent
   pub len : IsFromOne MEMORY_MAX section.len
   pub number : block ≡ s.records.births + 1
-  pub place_is : place_for device s.records.blocks (rounded section.len) ≡ Some place
+  pub place_is : place_for memory s.records.blocks (rounded section.len) ≡ Some place
   pub few : s.records.births < 2 ^ 48
   pub no_range : AllByRecursion (λ r. r.block ≡ block → ⊥) s.records.ranges
   pub no_memory : AllByRecursion (λ m. m.block ≡ block → ⊥) s.memories
@@ -183,24 +183,24 @@ CanAim pointer_max (aims.Again pointer block) s = CanAgain pointer_max pointer b
 CanAim pointer_max (aims.Less pointer block) s = CanDetach pointer block s
 CanAim pointer_max (aims.Cleared pointer block) s = CanDetach pointer block s
 
--- before a step, with the limit of the counters and the size of the device
-abbrev pub CanAct : ℕ → ℕ → Task → Step → State → Type 0
-CanAct counter_max device task Nothing s = ⊤
-CanAct counter_max device task (Counted block) s = CanCount counter_max task block s.records.ranges
-CanAct counter_max device task (Born block place) s = IsEnter task × CanBear counter_max device (section_of task) block place s
-CanAct counter_max device task (Dropped block ended) s = CanDrop task block ended s
-CanAct counter_max device task (Moved block) s = CanMove (section_of task) block s
+-- before a step, with the limit of the counters and the memory of the device
+abbrev pub CanAct : ℕ → Section → Task → Step → State → Type 0
+CanAct counter_max memory task Nothing s = ⊤
+CanAct counter_max memory task (Counted block) s = CanCount counter_max task block s.records.ranges
+CanAct counter_max memory task (Born block place) s = IsEnter task × CanBear counter_max memory (section_of task) block place s
+CanAct counter_max memory task (Dropped block ended) s = CanDrop task block ended s
+CanAct counter_max memory task (Moved block) s = CanMove (section_of task) block s
 
 -- before a task: entry attaches after its step, and exit detaches before its step
 pub record CanEnter (x : Environment) (task : Task) (did : Did) : Type 0 where
-  pub step : CanAct x.present.table.counter_max x.device.size task did.step (bare_state x)
+  pub step : CanAct x.present.table.counter_max x.device.memory task did.step (bare_state x)
   pub aim : CanAim x.attached.counter_max did.aim (step_state task did.step (bare_state x))
   pub needed : CanNeed task did.step x
   pub queue : CanQueue task did.step x
 
 pub record CanLeave (x : Environment) (task : Task) (did : Did) : Type 0 where
   pub aim : CanAim x.attached.counter_max did.aim (bare_state x)
-  pub step : CanAct x.present.table.counter_max x.device.size task did.step (aimed did.aim (bare_state x))
+  pub step : CanAct x.present.table.counter_max x.device.memory task did.step (aimed did.aim (bare_state x))
   pub needed : CanNeed task did.step x
   pub queue : CanQueue task did.step x
 
@@ -268,7 +268,7 @@ pub record IsRoomLeft (births : List ℕ) (pointers : ℕ) (put : ℕ → ℕ) (
 pub record IsChangedBy (change : State → State) (births : List ℕ) (pointers : ℕ) (put : ℕ → ℕ) (old new : Environment) : Type 0 where
   pub state : (next : Numbers) → state_of new next ≡ change (state_of old next)
   pub counter_max : new.present.table.counter_max ≡ old.present.table.counter_max
-  pub size : new.device.size ≡ old.device.size
+  pub memory : new.device.memory ≡ old.device.memory
   pub pointer_max : new.attached.counter_max ≡ old.attached.counter_max
   pub queue_cap : new.queues.cap ≡ old.queues.cap
   pub room : IsRoomLeft births pointers put (room_of old) (room_of new)
@@ -338,7 +338,7 @@ is_copied_now clause queue = copies_in clause && is_none queue
 pub record IsMade (old new : DeviceState) (copied : Bool) (section : Section) (clause : RegionClause) (host : List ℕ) : Type 0 where
   pub place : ℕ
   pub place_is : birth_place old section.len ≡ Some place
-  pub size : new.size ≡ old.size
+  pub memory : new.memory ≡ old.memory
   pub blocks : new.blocks ≡ old.blocks ++ record { number = old.births + 1; place = place; len = section.len } ∷ []
   pub memories : new.memories ≡ old.memories ++ record { block = old.births + 1; bytes = bytes_made copied section clause host } ∷ []
   pub marks : new.marks ≡ old.marks ++ new_mark (old.births + 1) ∷ []
@@ -374,6 +374,14 @@ pub record HasPlanRoom (p : Planned) (room : Room) : Type 0 where
   pub region : HasRegionRoom (length p.tasks) room
   pub pointers : pointers_in p.dids ≤ room.attachments
   pub puts : HasPutRoom (λ q. puts_in q p.tasks p.dids) room
+
+-- a birth always takes memory, for its bytes; else room is missing for one region with so many holdings, or for so many attachment counters
+abbrev pub IsRoomMissing : List ℕ → ℕ → ℕ → Room → Type 0
+IsRoomMissing lens holdings pointers room = (0 < length lens) ⊎ (room.regions ≡ 0) ⊎ (room.holdings < holdings) ⊎ (room.attachments < pointers)
+
+-- for a plan, also for its transfers in some queue
+abbrev pub IsPlanRoomMissing : Planned → Room → Type 0
+IsPlanRoomMissing p room = IsRoomMissing (lens_born p.tasks p.dids) (length p.tasks) (pointers_in p.dids) room ⊎ ((q : ℕ) × (spare_at q room.puts < puts_in q p.tasks p.dids))
 
 -- ---- what a plan notes
 

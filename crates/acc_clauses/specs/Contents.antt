@@ -4,6 +4,7 @@ use Rattle.std.specs.List.{AllByRecursion}
 use Rattle.acc_base.specs.declared.mappings.Range.{Range}
 use Rattle.acc_base.specs.declared.transfers.Transfer.{Transfer}
 use Rattle.acc_base.specs.Limits.{Limits}
+use Rattle.acc_base.specs.Section.{device_memory}
 use Rattle.acc_base.specs.Records.{State, new_state}
 use Rattle.acc_base.specs.Ranges.{range_of}
 use Rattle.acc_base.specs.Queues.{pins_of}
@@ -55,7 +56,7 @@ contents_of l x next = record { limits = l; state = state_of x next; room = room
 -- the parts have the sizes that the limits say
 pub record AreSizedBy (l : Limits) (x : Environment) : Type 0 where
   pub counters : x.present.table.counter_max ≡ l.counter_max
-  pub device : x.device.size ≡ l.device
+  pub device : x.device.memory ≡ device_memory l.device
   pub pointers : x.attached.counter_max ≡ l.counter_max
   pub queues : x.queues.cap ≡ l.queue_cap
 

@@ -117,7 +117,7 @@ fn bear(
     block: u64,
     place: u64,
 )
-    requires can { CanBear environment.old.present.table.counter_max environment.old.device.size (section_of (Enter counter item queue)) block place (bare_state environment.old) }
+    requires can { CanBear environment.old.present.table.counter_max environment.old.device.memory (section_of (Enter counter item queue)) block place (bare_state environment.old) }
     requires queue { CanQueue (Enter counter item queue) (Born block place) environment.old }
     requires room { HasRoomFor ((section_of (Enter counter item queue)).len ∷ []) (room_of environment.old) }
     requires puts { HasPutRoom (λ q. puts_by q (Enter counter item queue) (Born block place)) (room_of environment.old) }
@@ -207,7 +207,7 @@ fn update(environment: &mut Environment, task: Task, block: u64)
 
 /// Does the step of a task.
 fn step_on(environment: &mut Environment, task: Task, step: Step)
-    requires can { CanAct environment.old.present.table.counter_max environment.old.device.size task step (bare_state environment.old) }
+    requires can { CanAct environment.old.present.table.counter_max environment.old.device.memory task step (bare_state environment.old) }
     requires needed { CanNeed task step environment.old }
     requires queue { CanQueue task step environment.old }
     requires room { HasRoomFor (birth_of task step) (room_of environment.old) }

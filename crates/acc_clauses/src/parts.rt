@@ -3,6 +3,7 @@
 ghost use Rattle.std.specs.Prelude.{◌≡◌, ◌≤◌, IfOk, IfErr};
 ghost use Rattle.acc_base.specs.declared.faults.Fault.TheVariants.{Memory};
 ghost use Rattle.acc_base.specs.Limits.{IsWithinBounds};
+ghost use Rattle.acc_base.specs.Section.{device_memory};
 ghost use Rattle.acc_base.specs.Holes.{IsDevice};
 ghost use Rattle.acc_base.specs.Blocks.{used_bytes};
 ghost use Rattle.acc_clauses.specs.Contents.{AreNew, AreContentsSound};
@@ -80,7 +81,7 @@ impl Parts {
         ensures sound { AreContentsSound self.now }
         ensures limits { IsWithinBounds self.now.limits }
         ensures used { used_bytes self.now.state.records.blocks ≤ self.now.limits.device }
-        ensures holes { IsDevice self.now.limits.device self.now.state.records.blocks }
+        ensures holes { IsDevice (device_memory self.now.limits.device) self.now.state.records.blocks }
     {
         self.config.laws();
         self.environment.device.laws();

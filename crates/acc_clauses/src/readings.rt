@@ -2,6 +2,7 @@
 
 ghost use Rattle.std.specs.Prelude.{◌≡◌, ◌+◌, ◌<◌, ◌^◌, length, true};
 ghost use Rattle.std.specs.List.{list_all};
+ghost use Rattle.acc_base.specs.Section.{device_memory};
 ghost use Rattle.acc_base.specs.declared.addresses.TheConstants.{MEMORY_MAX};
 ghost use Rattle.acc_base.specs.declared.transfers.TheConstants.{QUEUE_COUNT};
 ghost use Rattle.acc_base.specs.Queues.{queue_at};
@@ -44,7 +45,7 @@ pub(crate) fn place_after(parts: &Parts, draft: &Draft, len: u64) -> Option<u64>
     requires planned { IsPlanned parts.now.limits draft.now parts.now.state.records }
     requires entering { list_all enters (tasks_in draft.now) ≡ true }
     requires len { IsFromOne MEMORY_MAX len }
-    ensures { result ≡ place_for parts.now.limits.device (records_after draft.now parts.now.state.records).blocks (rounded len) }
+    ensures { result ≡ place_for (device_memory parts.now.limits.device) (records_after draft.now parts.now.state.records).blocks (rounded len) }
 {
     parts.would_take(draft.births(), len)
 }

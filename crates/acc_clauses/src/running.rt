@@ -1,6 +1,6 @@
 //! The steps of a whole directive, one after the other.
 
-ghost use Rattle.std.specs.Prelude.{◌≡◌, ◌<◌, ◌≤◌, ◌^◌, length};
+ghost use Rattle.std.specs.Prelude.{◌≡◌, ◌+◌, ◌≤◌, ◌^◌, length};
 ghost use Rattle.acc_base.specs.Acting.{act_all_state};
 ghost use Rattle.acc_base.specs.History.{AreJudged};
 ghost use Rattle.acc_clauses.specs.Overlays.{tasks_in, dids_in, puts_in};
@@ -15,7 +15,7 @@ pub fn act_all(parts: &mut Parts, acts: &[Acted])
     requires judged { AreJudged parts.old.limits 0 (tasks_in acts.now) (dids_in acts.now) parts.old.state.records }
     requires known { AreKnown (tasks_in acts.now) (dids_in acts.now) parts.old.state.records }
     requires few { length acts.now ≤ 64 }
-    requires births { parts.old.state.records.births < 2 ^ 47 }
+    requires births { parts.old.state.records.births + 64 ≤ 2 ^ 48 }
     requires room { HasRoomFor (lens_born (tasks_in acts.now) (dids_in acts.now)) parts.old.room }
     requires pointers { pointers_in (dids_in acts.now) ≤ parts.old.room.attachments }
     requires puts { HasPutRoom (λ q. puts_in q (tasks_in acts.now) (dids_in acts.now)) parts.old.room }

@@ -1,10 +1,11 @@
 //! Everything that a table keeps beside its trace, as one value.
 
-ghost use Rattle.std.specs.Prelude.{ℕ, ◌≡◌, ◌<◌, ◌^◌, ◌↔◌, [], IfOk, IfErr, OnOk, MatchResult, Ok, Err, IfSome, IfNone, IsSome, length, option_map, false};
+ghost use Rattle.std.specs.Prelude.{ℕ, ◌≡◌, ◌+◌, ◌<◌, ◌≤◌, ◌^◌, ◌↔◌, [], IfOk, IfErr, OnOk, OnErr, MatchResult, Ok, Err, IfSome, IfNone, IsSome, length, option_map, false};
 ghost use Rattle.acc_base.specs.declared.faults.Fault.TheVariants.{Memory};
 ghost use Rattle.acc_base.specs.Limits.{IsWithinBounds};
 ghost use Rattle.acc_base.specs.Clauses.{in_host};
-ghost use Rattle.acc_base.specs.Holes.{IsDevice};
+ghost use Rattle.acc_base.specs.Section.{device_memory};
+ghost use Rattle.acc_base.specs.Holes.{IsDevice, IsNextHole};
 ghost use Rattle.acc_base.specs.Ranges.{where_is, range_from, structured_of, dynamic_of};
 ghost use Rattle.acc_base.specs.Loans.{is_lent};
 ghost use Rattle.acc_base.specs.Blocks.{block_at, place_of, used_bytes};
@@ -26,7 +27,7 @@ ghost use Rattle.acc_host.specs.Host.{bytes_in, IsRead, IsOutOfHost};
 ghost use Rattle.acc_clauses.specs.Contents.{AreNew};
 ghost use Rattle.acc_clauses.specs.Stored.{IsPlan};
 ghost use Rattle.acc_clauses.specs.Planned.{IsPlannedOn};
-ghost use Rattle.acc_clauses.specs.Acts.{CanWrite, HasPlanRoom};
+ghost use Rattle.acc_clauses.specs.Acts.{CanWrite, HasPlanRoom, IsPlanRoomMissing};
 
 use crate::draining::waiting;
 use crate::effects::puts_in;
@@ -38,7 +39,7 @@ use crate::planning;
 use crate::plans::Plan;
 use crate::pointers::pointers_in;
 use crate::running::act_all;
-use acc_base::{Config, Counters, Directive, Ended, Fault, Found, Loan, Range, Section};
+use acc_base::{Config, Counters, Directive, Ended, Fault, Found, Hole, Loan, Range, Section};
 use acc_lend::Lease;
 use std::alloc::Global;
 use std::marker::Model;
@@ -77,12 +78,12 @@ impl Store {
         Ok(Store { parts })
     }
 
-    /// The state is sound, the limits lie within their bounds, and blocks and holes are the device, with no address in two
-    /// of them. Nothing is done.
+    /// The state is sound, the limits lie within their bounds, and the blocks and the holes that [`Store::hole`] answers are
+    /// the device, with no address in two of them. Nothing is done.
     pub fn laws(&self)
         ensures sound { IsSound self.now.limits self.now.state }
         ensures limits { IsWithinBounds self.now.limits }
-        ensures holes { IsDevice self.now.limits.device self.now.state.records.blocks }
+        ensures holes { IsDevice (device_memory self.now.limits.device) self.now.state.records.blocks }
     {
         self.parts.laws();
     }
@@ -107,17 +108,20 @@ impl Store {
         planning::plan(&self.parts, directive, plan)
     }
 
-    /// Makes all room that a plan of this store needs. Nothing else changes, also where it is refused.
+    /// Makes all room that a plan needs which was made on this state of the store. Nothing else changes, also where it is
+    /// refused.
     ///
     /// # Errors
     ///
-    /// [`Fault::Memory`] alone.
+    /// [`Fault::Memory`] alone, and only where some of that room was missing. A plan that bears a block always takes memory
+    /// for its bytes; room for one region more is made for every plan.
     pub fn reserve(&mut self, plan: &Plan) -> Result<(), Fault>
         requires planned { IsPlan self.old plan.now }
         ensures limits { self.new.limits ≡ self.old.limits }
         ensures state { self.new.state ≡ self.old.state }
         ensures room { OnOk result (HasPlanRoom plan.now self.new.room) }
         ensures only { IfErr result (λ fault. fault ≡ Memory) }
+        ensures needed { OnErr result (IsPlanRoomMissing plan.now self.old.room) }
     {
         self.parts.laws();
         let acts = plan.acts();
@@ -129,10 +133,11 @@ impl Store {
         }
     }
 
-    /// Does a plan of this store, for which room was made. It takes no memory and is never refused.
+    /// Does a plan that was made on this state of the store, and for which room was made. It takes no memory and is never
+    /// refused. Each of the plan's births, at most 64, has fewer than 2^48 before it, and so has the region that it enters.
     pub fn commit(&mut self, plan: &Plan)
         requires planned { IsPlan self.old plan.now }
-        requires births { self.old.state.records.births < 2 ^ 47 }
+        requires births { self.old.state.records.births + 64 ≤ 2 ^ 48 }
         requires next { self.old.state.register.next < 2 ^ 48 }
         requires room { HasPlanRoom plan.now self.old.room }
         ensures limits { self.new.limits ≡ self.old.limits }
@@ -163,6 +168,7 @@ impl Store {
     pub fn host_write(&mut self, addr: u64, bytes: &[u8])
         requires { CanWrite (record { start = addr; len = length bytes.now }) self.old.state.host }
         ensures limits { self.new.limits ≡ self.old.limits }
+        ensures room { self.new.room ≡ self.old.room }
         ensures state { self.new.state ≡ record self.old.state { host = host_after_write addr (length bytes.now) bytes.now self.old.state.host } }
     {
         self.parts.host_write(addr, bytes);
@@ -189,6 +195,7 @@ impl Store {
         requires serial { self.old.state.register.serial < 2 ^ 48 }
         ensures lease { result ≡ leased loan self.old.state }
         ensures limits { self.new.limits ≡ self.old.limits }
+        ensures room { self.new.room ≡ self.old.room }
         ensures state { (region : ℕ) (section : Section) → IsLoanPlanned self.old.limits region section self.old.state loan → self.new.state ≡ after (Lent region section loan.block loan.serial) [] self.old.state }
     {
         self.parts.laws();
@@ -213,6 +220,7 @@ impl Store {
     pub fn gather(&mut self, lease: Lease)
         requires { gather_event lease self.old.state.records ≡ Ok (Gathered lease.serial lease.block) }
         ensures limits { self.new.limits ≡ self.old.limits }
+        ensures room { self.new.room ≡ self.old.room }
         ensures state { self.new.state ≡ after (Gathered lease.serial lease.block) lease.bytes self.old.state }
     {
         self.parts.laws();
@@ -288,6 +296,13 @@ impl Store {
         self.parts.ended(from)
     }
 
+    /// The hole of least place at or above a device address: free addresses that lie side by side, as many as there are.
+    pub fn hole(&self, from: u64) -> Option<Hole>
+        ensures { IsNextHole from (device_memory self.now.limits.device) self.now.state.records.blocks result }
+    {
+        self.parts.hole(from)
+    }
+
     /// How many transfers wait in a queue; 0 where there is no such queue (OpenACC 3.3, section 2.16).
     pub fn queue_len(&self, q: u64) -> u64
         ensures { result ≡ length (queue_at q self.now.state.records.queues) }
@@ -309,11 +324,18 @@ impl Store {
         self.parts.head_block(q)
     }
 
-    /// The number that the next data region gets.
+    /// The number that the next data region gets, of which [`Store::commit`] says how great it may be.
     pub fn next_region(&self) -> u64
         ensures { result ≡ self.now.state.register.next }
     {
         self.parts.next_region()
+    }
+
+    /// The serial number that the next loan gets, of which [`Store::lend`] says how great it may be.
+    pub fn next_serial(&self) -> u64
+        ensures { result ≡ self.now.state.register.serial }
+    {
+        self.parts.next_serial()
     }
 
     /// How many data regions are open.

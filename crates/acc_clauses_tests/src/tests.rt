@@ -1,7 +1,7 @@
 //! What no clause says: that directives succeed, that the definitions say what is meant, and that a refused growth leaves
 //! the store as it was.
 
-ghost use Rattle.std.specs.Prelude.{◌≡◌, ◌<◌, ◌^◌};
+ghost use Rattle.std.specs.Prelude.{◌≡◌, ◌+◌, ◌<◌, ◌≤◌, ◌^◌};
 ghost use Rattle.acc_clauses.specs.Acts.{HasPlanRoom};
 ghost use Rattle.acc_clauses.specs.Stored.{IsPlan};
 
@@ -186,7 +186,7 @@ fn directive_of(alloc: Global, ask: Ask) -> Result<Directive, AllocError> {
 
 /// Judges a directive, makes room for it and does it.
 fn carry_out(store: &mut Store, directive: &Directive) -> Result<Plan, Fault>
-    requires births { store.old.state.records.births < 2 ^ 47 }
+    requires births { store.old.state.records.births + 64 ≤ 2 ^ 48 }
     requires next { store.old.state.register.next < 2 ^ 48 }
 {
     let mut plan = Plan::new();
@@ -478,7 +478,7 @@ fn reserve_twice(rt: &impl Abort, store: &mut Store, plan: &Plan)
 
 /// Carries a directive out, where its room may be refused once.
 fn carry_out_twice(rt: &impl Abort, store: &mut Store, directive: &Directive) -> Result<Plan, Fault>
-    requires births { store.old.state.records.births < 2 ^ 47 }
+    requires births { store.old.state.records.births + 64 ≤ 2 ^ 48 }
     requires next { store.old.state.register.next < 2 ^ 48 }
 {
     let mut plan = Plan::new();

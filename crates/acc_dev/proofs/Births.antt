@@ -22,7 +22,7 @@ use Rattle.acc_dev.specs.declared.entries.Stored.{Stored}
 use Rattle.acc_dev.specs.Device.{DeviceState, HasBlock, IsBorn, IsBornWith, birth_place}
 use Rattle.acc_base.specs.Holes.{taken_range}
 use Rattle.acc_dev.specs.Marks.{new_mark, IsSoundMark}
-use Rattle.acc_dev.specs.Kept.{stored_loan, block_from, memory_from, mark_from, slot_of, blocks_in, memories_in, marks_in, loans_in, IsInOrOut, IsBacked, AreSlotsKept, AreNumbersBorn}
+use Rattle.acc_dev.specs.Kept.{memory_of, stored_loan, block_from, memory_from, mark_from, slot_of, blocks_in, memories_in, marks_in, loans_in, IsInOrOut, IsBacked, AreSlotsKept, AreNumbersBorn}
 use Rattle.acc_dev.proofs.Slots.{AreSame, KeepsOthers, same_from, vacant_off, made-born}
 use Rattle.acc_dev.proofs.Lent.{loans_in-same, loans_in-push}
 use Rattle.acc_dev.proofs.Placing.{some_bytes, planned_place, birth_at, fit_from}
@@ -61,14 +61,13 @@ off_parts (y ∷ ys) x j h = let rest = off_parts ys x j h.1 in ((h.0, rest.0), 
 
 -- a device keeps what it keeps
 pub born_kept : (old new : Space) (s t : List (Option Stored)) (xs : List (ℕ × ℕ)) (number k : ℕ) (x : Stored) → AreSlotsKept old s xs → AllByRecursion (λ e. e.0 < number) xs → get_or s k None ≡ None → get_or t k None ≡ Some x → KeepsOthers s t k
-    → IsFromOne MEMORY_MAX x.len → x.len ≡ length x.bytes.items → x.loan ≡ None → IsSoundMark (record { block = number; pins = x.pins; ended = x.ended }) → new.base ≡ old.base → IsCanonical new → ((ts : List (ℕ × ℕ)) → IsPartition old ts → IsPartition new ((x.place, rounded x.len) ∷ ts)) → AreSlotsKept new t (xs ++ (number, k) ∷ [])
-born_kept old new s t xs number k x kept above vacant is others len long free mark base canonical part =
+    → IsFromOne MEMORY_MAX x.len → x.len ≡ length x.bytes.items → x.loan ≡ None → IsSoundMark (record { block = number; pins = x.pins; ended = x.ended }) → IsCanonical new → ((ts : List (ℕ × ℕ)) → IsPartition old ts → IsPartition new ((x.place, rounded x.len) ∷ ts)) → AreSlotsKept new t (xs ++ (number, k) ∷ [])
+born_kept old new s t xs number k x kept above vacant is others len long free mark canonical part =
     let off = vacant_off s k xs kept.filled vacant in
     let same : AreSame s t xs = same_from s t k xs others off in
     let blocks : blocks_in t (xs ++ (number, k) ∷ []) ≡ blocks_in s xs ++ born_block number x ∷ [] = blocks-born s t xs number k x kept.filled vacant is others in
     let ranges : map taken_range (blocks_in s xs ++ born_block number x ∷ []) ≡ map taken_range (blocks_in s xs) ++ taken_range (born_block number x) ∷ [] = map-append taken_range (blocks_in s xs) (born_block number x ∷ []) in
     record {
-      base = base ∙ kept.base;
       canonical = canonical;
       rising = EachPair-push (λ (d : ℕ × ℕ) (e : ℕ × ℕ). d.0 < e.0) xs (number, k) above kept.rising;
       distinct = EachPair-push (λ (d : ℕ × ℕ) (e : ℕ × ℕ). d.1 ≡ e.1 → ⊥) xs (number, k) off kept.distinct;
@@ -89,7 +88,7 @@ pub birth_found : (h : Space) (s : List (Option Stored)) (xs : List (ℕ × ℕ)
     → IfSome o (IsLeastFitBeside h.holes [] (rounded len)) → IfNone o ((q : ℕ) → IsFitBeside h.holes [] (rounded len) q → ⊥) → o ≡ birth_place (device_of h s xs births room) len
 birth_found h s xs births len room o k some place none =
     planned_place h (blocks_in s xs) 0 0 [] (rounded len) o (omega arith) (λ i d lt. absurd (omega arith)) k.lens (shared h s xs k) place none
-    ∙ ap (λ bs. place_for h.size bs (rounded len)) (append-nil (blocks_in s xs))
+    ∙ ap (λ bs. place_for (memory_of h) bs (rounded len)) (append-nil (blocks_in s xs))
 
 -- a refusal for want of memory comes only where there is a place
 pub refused_full : (r : Result ℕ Fault) (o : Option ℕ) (p n : ℕ) → IsErrAnd r (λ fault. fault ≡ NoMemory) → o ≡ Some p → (r ≡ Err (DeviceFull 0 n) → o ≡ None) × (o ≡ None → r ≡ Err (DeviceFull 0 n))
@@ -97,24 +96,24 @@ refused_full (Ok x) o p n only place = absurd only
 refused_full (Err fault) o p n only place = (λ full. let bad : ⊥ = cc in absurd bad, λ none. let bad : ⊥ = cc in absurd bad)
 
 -- it is the least of all device addresses at which the length fits
-pub birth_least : (h : Space) (s : List (Option Stored)) (xs : List (ℕ × ℕ)) (births len : ℕ) (room : List ℕ) → AreSlotsKept h s xs → 1 ≤ len → IsPlaceFor h.size (blocks_in s xs) (rounded len) (birth_place (device_of h s xs births room) len)
-birth_least h s xs births len room k some = place_for-least h.size (blocks_in s xs) (rounded len) (omega arith) (some_bytes (blocks_in s xs) k.lens)
+pub birth_least : (h : Space) (s : List (Option Stored)) (xs : List (ℕ × ℕ)) (births len : ℕ) (room : List ℕ) → AreSlotsKept h s xs → 1 ≤ len → IsPlaceFor (memory_of h) (blocks_in s xs) (rounded len) (birth_place (device_of h s xs births room) len)
+birth_least h s xs births len room k some = place_for-least (memory_of h) (blocks_in s xs) (rounded len) (omega arith) (some_bytes (blocks_in s xs) k.lens)
 
 -- what a birth with these bytes leaves, as contracts see it
-pub born_with : (old new : Space) (s s' t : List (Option Stored)) (xs xs' ys : List (ℕ × ℕ)) (births len place : ℕ) (bytes room left : List ℕ) → AreSlotsKept old s xs → 1 ≤ len → s' ≡ s → xs' ≡ xs → new.size ≡ old.size → length bytes ≡ len
+pub born_with : (old new : Space) (s s' t : List (Option Stored)) (xs xs' ys : List (ℕ × ℕ)) (births len place : ℕ) (bytes room left : List ℕ) → AreSlotsKept old s xs → 1 ≤ len → s' ≡ s → xs' ≡ xs → memory_of new ≡ memory_of old → length bytes ≡ len
     → IsLeastFit old.holes (rounded (length bytes)) place
     → blocks_in t ys ≡ blocks_in s' xs' ++ record { number = births + 1; place = place; len = length bytes } ∷ []
     → memories_in t ys ≡ memories_in s' xs' ++ record { block = births + 1; bytes = bytes } ∷ []
     → marks_in t ys ≡ marks_in s' xs' ++ new_mark (births + 1) ∷ []
     → loans_in t ys ≡ loans_in s' xs'
     → IsBornWith (device_of old s xs births room) (device_of new t ys (births + 1) left) len bytes (births + 1)
-born_with old new s s' t xs xs' ys births len place bytes room left k some slots index size long least blocks memories marks loans =
+born_with old new s s' t xs xs' ys births len place bytes room left k some slots index memory long least blocks memories marks loans =
     let at : birth_place (device_of old s xs births room) len ≡ Some place = birth_at old (blocks_in s xs) (rounded len) place (omega arith) k.lens (shared old s xs k) (rw long at least) in
     record {
       place = place;
       place_is = at;
       block_is = refl;
-      size = size;
+      memory = memory;
       blocks = rw (long, slots, index) at blocks;
       memories = memories ∙ rw (slots, index) refl;
       marks = marks ∙ rw (slots, index) refl;
@@ -123,27 +122,27 @@ born_with old new s s' t xs xs' ys births len place bytes room left k some slots
     }
 
 -- what a birth leaves, as contracts see it
-pub born_of : (old new : Space) (s s' t : List (Option Stored)) (xs xs' ys : List (ℕ × ℕ)) (births len place : ℕ) (clear : Bool) (bytes room left : List ℕ) → AreSlotsKept old s xs → 1 ≤ len → s' ≡ s → xs' ≡ xs → new.size ≡ old.size → bytes ≡ replicate len (fill_byte clear)
+pub born_of : (old new : Space) (s s' t : List (Option Stored)) (xs xs' ys : List (ℕ × ℕ)) (births len place : ℕ) (clear : Bool) (bytes room left : List ℕ) → AreSlotsKept old s xs → 1 ≤ len → s' ≡ s → xs' ≡ xs → memory_of new ≡ memory_of old → bytes ≡ replicate len (fill_byte clear)
     → IsLeastFit old.holes (rounded (length bytes)) place
     → blocks_in t ys ≡ blocks_in s' xs' ++ record { number = births + 1; place = place; len = length bytes } ∷ []
     → memories_in t ys ≡ memories_in s' xs' ++ record { block = births + 1; bytes = bytes } ∷ []
     → marks_in t ys ≡ marks_in s' xs' ++ new_mark (births + 1) ∷ []
     → loans_in t ys ≡ loans_in s' xs'
     → IsBorn (device_of old s xs births room) (device_of new t ys (births + 1) left) len clear (births + 1)
-born_of old new s s' t xs xs' ys births len place clear bytes room left k some slots index size filled least blocks memories marks loans =
+born_of old new s s' t xs xs' ys births len place clear bytes room left k some slots index memory filled least blocks memories marks loans =
     let long : length bytes ≡ len = ap length filled ∙ length-replicate len (fill_byte clear) in
     subst (λ b. IsBornWith (device_of old s xs births room) (device_of new t ys (births + 1) left) len b (births + 1)) filled
-    (born_with old new s s' t xs xs' ys births len place bytes room left k some slots index size long least blocks memories marks loans)
+    (born_with old new s s' t xs xs' ys births len place bytes room left k some slots index memory long least blocks memories marks loans)
 
 -- a length for which there is a place fits in the holes
 pub fits_there : (h : Space) (s : List (Option Stored)) (xs : List (ℕ × ℕ)) (births len : ℕ) (room : List ℕ) → AreSlotsKept h s xs → (birth_place (device_of h s xs births room) len ≡ None → ⊥) → (q : ℕ) × IsFit h.holes (rounded len) q
-fits_there h s xs births len room k some = go (place_for h.size (blocks_in s xs) (rounded len)) (place_for-found h.size (blocks_in s xs) (rounded len)) some
+fits_there h s xs births len room k some = go (place_for (memory_of h) (blocks_in s xs) (rounded len)) (place_for-found (memory_of h) (blocks_in s xs) (rounded len)) some
   where
-    go : (o : Option ℕ) → IsFoundPlace (fits_at h.size (blocks_in s xs) (rounded len)) o → (o ≡ None → ⊥) → (q : ℕ) × IsFit h.holes (rounded len) q
+    go : (o : Option ℕ) → IsFoundPlace (fits_at (memory_of h) (blocks_in s xs) (rounded len)) o → (o ≡ None → ⊥) → (q : ℕ) × IsFit h.holes (rounded len) q
     go None found none = absurd (none refl)
     go (Some p) found none =
-        let fits : Fits h.size (blocks_in s xs) (rounded len) p = fits_says h.size (blocks_in s xs) (rounded len) p found.0 in
-        let beside : IsFitBeside h.holes [] (rounded len) p = fit_from h (blocks_in s xs) [] (rounded len) p (shared h s xs k) (subst (λ bs. Fits h.size bs (rounded len) p) (sym (append-nil (blocks_in s xs))) fits) in
+        let fits : Fits (memory_of h) (blocks_in s xs) (rounded len) p = fits_says (memory_of h) (blocks_in s xs) (rounded len) p found.0 in
+        let beside : IsFitBeside h.holes [] (rounded len) p = fit_from h (blocks_in s xs) [] (rounded len) p (shared h s xs k) (subst (λ bs. Fits (memory_of h) bs (rounded len) p) (sym (append-nil (blocks_in s xs))) fits) in
         (p, λ a w. (beside a w).0)
 
 -- a new block is there

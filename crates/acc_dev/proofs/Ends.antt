@@ -17,7 +17,7 @@ use Rattle.acc_dev.specs.declared.entries.Stored.{Stored}
 use Rattle.acc_dev.specs.Device.{IsRetired}
 use Rattle.acc_base.specs.Holes.{taken_range}
 use Rattle.acc_dev.specs.Marks.{without_mark, IsSoundMark}
-use Rattle.acc_dev.specs.Kept.{block_from, memory_from, mark_from, slot_of, blocks_in, memories_in, marks_in, loans_in, IsIndexRising, IsBacked, AreSlotsKept, AreNumbersBorn, IsEntry}
+use Rattle.acc_dev.specs.Kept.{memory_of, block_from, memory_from, mark_from, slot_of, blocks_in, memories_in, marks_in, loans_in, IsIndexRising, IsBacked, AreSlotsKept, AreNumbersBorn, IsEntry}
 use Rattle.acc_dev.proofs.Rising.{start, all-remove, apart-remove, map-remove, filter-map, remove-filter}
 use Rattle.acc_dev.proofs.Slots.{AreSame, KeepsOthers, same_from, others_off, made-removed}
 use Rattle.acc_dev.proofs.Lent.{AreBacked, in_step}
@@ -62,12 +62,11 @@ left_empty s t xs i j before others empty off = elim (cases_eq j (get_or xs i st
 
 -- without the entry and its slot the device keeps what it keeps
 pub left_kept : (old new : Space) (s t : List (Option Stored)) (xs : List (ℕ × ℕ)) (i : ℕ) (x : Stored) → AreSlotsKept old s xs → i < length xs → slot_of s (get_or xs i start) ≡ Some x → KeepsOthers s t (get_or xs i start).1 → get_or t (get_or xs i start).1 None ≡ None
-    → new.base ≡ old.base → IsCanonical new → ((before after : List (ℕ × ℕ)) → IsPartition old (before ++ range_stored x ∷ after) → IsPartition new (before ++ after)) → AreSlotsKept new t (remove xs i)
-left_kept old new s t xs i x kept lt is others empty base canonical part =
+    → IsCanonical new → ((before after : List (ℕ × ℕ)) → IsPartition old (before ++ range_stored x ∷ after) → IsPartition new (before ++ after)) → AreSlotsKept new t (remove xs i)
+left_kept old new s t xs i x kept lt is others empty canonical part =
     let same : AreSame s t (remove xs i) = same_left s t xs i kept.distinct lt others in
     let blocks : blocks_in t (remove xs i) ≡ remove (blocks_in s xs) i = made-removed block_from s t xs i same in
     record {
-      base = base ∙ kept.base;
       canonical = canonical;
       rising = apart-remove (λ (d : ℕ × ℕ) (e : ℕ × ℕ). d.0 < e.0) xs i kept.rising;
       distinct = apart-remove (λ (d : ℕ × ℕ) (e : ℕ × ℕ). d.1 ≡ e.1 → ⊥) xs i kept.distinct;
@@ -103,11 +102,11 @@ marks-removed s xs i n rise entry =
     ∙ map-remove (λ (e : ℕ × ℕ). mark_from e.0 (slot_of s e)) xs i
 
 -- what an end leaves, as contracts see it
-pub retired_of : (old new : Space) (s t : List (Option Stored)) (xs ys : List (ℕ × ℕ)) (births i n : ℕ) (room : List ℕ) → AreSlotsKept old s xs → IsEntry xs n i → new.size ≡ old.size → blocks_in t ys ≡ remove (blocks_in s xs) i → memories_in t ys ≡ remove (memories_in s xs) i → marks_in t ys ≡ remove (marks_in s xs) i → loans_in t ys ≡ loans_in s xs
+pub retired_of : (old new : Space) (s t : List (Option Stored)) (xs ys : List (ℕ × ℕ)) (births i n : ℕ) (room : List ℕ) → AreSlotsKept old s xs → IsEntry xs n i → memory_of new ≡ memory_of old → blocks_in t ys ≡ remove (blocks_in s xs) i → memories_in t ys ≡ remove (memories_in s xs) i → marks_in t ys ≡ remove (marks_in s xs) i → loans_in t ys ≡ loans_in s xs
     → IsRetired (device_of old s xs births room) (device_of new t ys births room) n
-retired_of old new s t xs ys births i n room k entry size blocks memories marks loans =
+retired_of old new s t xs ys births i n room k entry memory blocks memories marks loans =
     record {
-      size = size;
+      memory = memory;
       blocks = blocks ∙ sym (without-removed s xs i n k.rising entry);
       memories = memories ∙ sym (kept-removed s xs i n k.rising k.backed entry) ∙ ap (λ bs. memories_kept bs (memories_in s xs)) (sym blocks);
       marks = marks ∙ sym (marks-removed s xs i n k.rising entry);

@@ -1,14 +1,14 @@
 -- What a device keeps, and what a look-up in it finds.
-use Rattle.std.proofs.Common.{ℕ, ◌≡◌, ◌+◌, ◌^◌, ◌<◌, ◌≤◌, refl, sym, ap, ◌∙◌, subst, List, [], ◌∷◌, ◌++◌, false, length, get_or, Option, Some, None, Vec, Global, vec_len, vec_capacity, arith, ◌↔◌}
-use Rattle.std.specs.Prelude.{map, IsSome, IfSome, IfNone, IsTrue, is_some}
+use Rattle.std.proofs.Common.{ℕ, ◌≡◌, ◌+◌, ◌^◌, ◌<◌, ◌≤◌, refl, sym, ap, ◌∙◌, subst, List, [], ◌∷◌, false, length, get_or, Option, Some, None, Vec, Global, vec_len, vec_capacity, arith, ◌↔◌}
+use Rattle.std.specs.Prelude.{map, find, nat_le, option_map, IsSome, IfSome, IfNone, IsTrue, is_some}
 use Rattle.std.specs.List.{AllByRecursion}
 use Rattle.std.proofs.lemmas.Bool.{false≢true}
 use Rattle.acc_base.specs.declared.addresses.TheConstants.{MEMORY_MAX}
 use Rattle.acc_base.specs.declared.loans.Loan.{Loan}
+use Rattle.acc_base.specs.declared.items.Section.{Section}
 use Rattle.acc_base.specs.declared.mappings.Block.{Block}
 use Rattle.acc_base.specs.Limits.{IsFromOne}
-use Rattle.acc_base.specs.Section.{Spans}
-use Rattle.acc_base.specs.Holes.{IsIn, IsRising, taken_range, IsDevice}
+use Rattle.acc_base.specs.Holes.{taken_range, IsDevice, IsNextHole}
 use Rattle.acc_base.specs.Blocks.{block_at, used_bytes}
 use Rattle.acc_base.specs.Bytes.{bytes_of}
 use Rattle.acc_base.specs.Loans.{loan_of, is_lent, len_of}
@@ -22,16 +22,17 @@ use Rattle.acc_dev.specs.declared.devices.Device.TheInside.{Inside}
 use Rattle.acc_dev.specs.Room.{room_ready, HasRoom}
 use Rattle.acc_dev.specs.Device.{DeviceState, HasBlock, HasBlocksApart, IsLoanOn}
 use Rattle.acc_dev.specs.Marks.{pins_at, is_ended_at, IsSoundMark}
-use Rattle.acc_dev.specs.Kept.{stored_len, stored_bytes, stored_pins, stored_ended, stored_loan, block_from, mark_from, marks_in, loans_in, slot_of, blocks_in, memories_in, IsIndexRising, IsOut, IsInOrOut, IsBacked, AreSlotsKept, AreNumbersBorn, IsEntry, IsSlotOf, IsStoredOf}
+use Rattle.acc_dev.specs.Kept.{memory_of, stored_len, stored_bytes, stored_pins, stored_ended, stored_loan, block_from, mark_from, marks_in, loans_in, slot_of, blocks_in, memories_in, IsIndexRising, IsOut, IsInOrOut, IsBacked, AreSlotsKept, AreNumbersBorn, IsEntry, IsSlotOf, IsStoredOf}
 use Rattle.acc_base.proofs.Splitting.{all_at}
 use Rattle.acc_dev.proofs.Rising.{start, all_from, entry_read}
 use Rattle.acc_dev.proofs.Slots.{block_at-entry, bytes_of-entry, pins_at-entry, is_ended_at-entry, block_at-none}
 use Rattle.acc_dev.proofs.Lent.{AreBacked, loans_each, loan_of-entry, len_of-entry, long_entry, ended_free}
+use Rattle.acc_dev.proofs.Vacant.{hole_of, holes_listed, next_of}
 use Rattle.acc_dev.proofs.Placing.{IsShared, total-used, some_bytes, clear_of, on_device}
 
 -- what contracts see of a device
 abbrev pub device_of : Space → List (Option Stored) → List (ℕ × ℕ) → ℕ → List ℕ → DeviceState
-device_of h s xs births room = record { size = h.size; blocks = blocks_in s xs; memories = memories_in s xs; marks = marks_in s xs; loans = loans_in s xs; births = births; room = room }
+device_of h s xs births room = record { memory = memory_of h; blocks = blocks_in s xs; memories = memories_in s xs; marks = marks_in s xs; loans = loans_in s xs; births = births; room = room }
 
 -- ---- what holds of every device
 
@@ -40,30 +41,39 @@ rising_blocks : (s : List (Option Stored)) (xs : List (ℕ × ℕ)) → IsIndexR
 rising_blocks s [] h = tt
 rising_blocks s (x ∷ xs) h = (AllByRecursion-map (λ (b : Block). x.0 < b.number) (λ (e : ℕ × ℕ). block_from e.0 (slot_of s e)) xs h.0, rising_blocks s xs h.1)
 
+-- a space that begins where another does, and is as long, has the same addresses
+pub same_memory : (old new : Space) → new.base ≡ old.base → new.size ≡ old.size → memory_of new ≡ memory_of old
+same_memory old new base size = let section : ℕ → ℕ → Section = λ p n. record { start = p; len = n } in ap (λ (p : ℕ). section p new.size) base ∙ ap (λ (n : ℕ). section old.base n) size
+
 -- the holes and the blocks are the device
 pub shared : (h : Space) (s : List (Option Stored)) (xs : List (ℕ × ℕ)) → AreSlotsKept h s xs → IsShared h (blocks_in s xs)
-shared h s xs k = record { base = k.base; canonical = k.canonical; partition = k.partition }
+shared h s xs k = record { canonical = k.canonical; partition = k.partition }
 
 -- blocks lie on the device and apart
 pub apart_of : (h : Space) (s : List (Option Stored)) (xs : List (ℕ × ℕ)) (births : ℕ) (room : List ℕ) → AreSlotsKept h s xs → AreNumbersBorn xs births → HasBlocksApart (device_of h s xs births room)
 apart_of h s xs births room k c = record {
-  on_device = on_device h (blocks_in s xs) k.base k.lens k.partition.within k.partition.aligned;
+  on_device = on_device h (blocks_in s xs) k.lens k.partition.within k.partition.aligned;
   apart = clear_of (blocks_in s xs) (some_bytes (blocks_in s xs) k.lens) (rising_blocks s xs k.rising) k.partition.disjoint;
   born = AllByRecursion-map (λ (b : Block). b.number ≤ births) (λ (e : ℕ × ℕ). block_from e.0 (slot_of s e)) xs c.below;
 }
 
 -- with the holes they are the device
-pub divided : (h : Space) (s : List (Option Stored)) (xs : List (ℕ × ℕ)) → AreSlotsKept h s xs → IsDevice h.size (blocks_in s xs)
+pub divided : (h : Space) (s : List (Option Stored)) (xs : List (ℕ × ℕ)) → AreSlotsKept h s xs → IsDevice (memory_of h) (blocks_in s xs)
 divided h s xs k =
     let ts : List (ℕ × ℕ) = map taken_range (blocks_in s xs) in (
       h.holes,
       record {
-        rising = subst (λ (b : ℕ). IsRising b h.holes (b + h.size)) k.base k.canonical.rising;
+        listed = holes_listed h (blocks_in s xs) (shared h s xs k);
+        rising = k.canonical.rising;
         disjoint = all_disjoint h ts k.canonical k.partition;
-        whole = λ a. subst (λ (b : ℕ). IsIn (ts ++ h.holes) a ↔ Spans b h.size a) k.base (all_whole h ts k.canonical k.partition a);
+        whole = all_whole h ts k.canonical k.partition;
         bytes = omega (arith, total-used (blocks_in s xs), k.partition.sizes);
       },
     )
+
+-- the first listed hole from an address on is the next one
+pub next_found : (h : Space) (s : List (Option Stored)) (xs : List (ℕ × ℕ)) (from : ℕ) (o : Option (ℕ × ℕ)) → AreSlotsKept h s xs → o ≡ find (λ x. nat_le from x.0) h.holes → IsNextHole from (memory_of h) (blocks_in s xs) (option_map hole_of o)
+next_found h s xs from o k found = next_of h (blocks_in s xs) from o (shared h s xs k) found
 
 -- and take no more bytes than it has
 pub used_within : (h : Space) (s : List (Option Stored)) (xs : List (ℕ × ℕ)) → AreSlotsKept h s xs → used_bytes (blocks_in s xs) ≤ h.size

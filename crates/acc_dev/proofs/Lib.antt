@@ -3,6 +3,7 @@ pub mod Slots
 pub mod LoanLists
 pub mod Lent
 pub mod Placing
+pub mod Vacant
 pub mod Keeping
 pub mod Births
 pub mod Ends

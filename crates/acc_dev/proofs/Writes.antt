@@ -30,7 +30,6 @@ some_not_none some none = false≢true (subst IsSome none some)
 changed_kept : (h : Space) (s t : List (Option Stored)) (xs : List (ℕ × ℕ)) (k : ℕ) → AreSlotsKept h s xs → IsSome (get_or s k None) → IsSome (get_or t k None) → KeepsOthers s t k → blocks_in t xs ≡ blocks_in s xs → AllByRecursion IsSoundMark (marks_in t xs) → AreBacked t xs → AreSlotsKept h t xs
 changed_kept h s t xs k kept some filled others blocks marks backed =
     record {
-      base = kept.base;
       canonical = kept.canonical;
       rising = kept.rising;
       distinct = kept.distinct;
@@ -74,7 +73,7 @@ pub written_of : (h : Space) (s t : Slab Stored) (xs : List (ℕ × ℕ)) (birth
     → IsBlockWritten (device_of h s.slots xs births room) (device_of h t.slots xs births room) n offset bytes
 written_of h s t xs births n k offset room bytes kept slot w =
     record {
-      size = refl;
+      memory = refl;
       blocks = blocks_in-kept s.slots t.slots k xs w.others w.place w.len;
       memories = memories_in-changed s.slots t.slots xs n k (overwritten offset bytes) kept.rising kept.distinct slot w.others w.bytes_are;
       marks = marks_in-kept s.slots t.slots k xs w.others w.pins w.ended;
@@ -120,7 +119,7 @@ pub marked_of : (h : Space) (s t : Slab Stored) (xs : List (ℕ × ℕ)) (births
 marked_of h s t xs births n k pins ended room change kept slot m is =
     let was : mark_from n (get_or s.slots k None) ≡ record { block = n; pins = pins_at n (marks_in s.slots xs); ended = is_ended_at n (marks_in s.slots xs) } = rw (pins_at_slot s.slots xs n k kept.rising slot, ended_at s.slots xs n k kept.rising slot) in
     record {
-      size = refl;
+      memory = refl;
       blocks = blocks_in-kept s.slots t.slots k xs m.others m.place m.len;
       memories = memories_in-kept s.slots t.slots k xs m.others m.bytes;
       marks = marks_in-changed s.slots t.slots xs n k change kept.rising kept.distinct slot m.others (mark_given s t k pins n ended m ∙ sym is ∙ ap change (sym was));
@@ -163,7 +162,7 @@ pub taken_out_of : (h : Space) (s t : Slab Stored) (xs : List (ℕ × ℕ)) (bir
     → IsTakenOut (device_of h s.slots xs births room) (device_of h t.slots xs births room) loan
 taken_out_of h s t xs births k room loan kept slot free r =
     record {
-      size = refl;
+      memory = refl;
       blocks = blocks_in-kept s.slots t.slots k xs r.others r.place r.len;
       memories = memories_in-changed s.slots t.slots xs loan.block k (λ bytes. []) kept.rising kept.distinct slot r.others r.bytes_are;
       marks = marks_in-kept s.slots t.slots k xs r.others r.pins r.ended;
@@ -177,7 +176,7 @@ pub put_back_of : (h : Space) (s t : Slab Stored) (xs : List (ℕ × ℕ)) (birt
     → IsPutBack (device_of h s.slots xs births room) (device_of h t.slots xs births room) lease
 put_back_of h s t xs births k room lease kept slot r =
     record {
-      size = refl;
+      memory = refl;
       blocks = blocks_in-kept s.slots t.slots k xs r.others r.place r.len;
       memories = memories_in-changed s.slots t.slots xs lease.block k (λ bytes. lease.bytes) kept.rising kept.distinct slot r.others r.bytes_are;
       marks = marks_in-kept s.slots t.slots k xs r.others r.pins r.ended;

@@ -2,6 +2,8 @@
 use Rattle.std.specs.Prelude.{ℕ, suc, ◌≡◌, ◌+◌, ◌<◌, ◌≤◌, Bool, false, List, [], ◌∷◌, ◌++◌, replicate, map, Option, Some, IsSome}
 use Rattle.acc_base.specs.declared.loans.Loan.{Loan}
 use Rattle.acc_base.specs.declared.mappings.Block.{Block}
+use Rattle.acc_base.specs.declared.items.Section.{Section}
+use Rattle.acc_base.specs.Section.{device_memory}
 use Rattle.acc_base.specs.Records.{Memory}
 use Rattle.acc_base.specs.Blocks.{rounded, place_for, block_at, without_block}
 use Rattle.acc_base.specs.Bytes.{fill_byte, memory_changed, memories_kept}
@@ -10,11 +12,11 @@ use Rattle.acc_base.specs.Loans.{Leased, len_of, with_loan, without_loan}
 use Rattle.acc_base.specs.Accounts.{EachPair, AreBlocksApart}
 use Rattle.acc_dev.specs.Marks.{Mark, new_mark, is_ended_at, mark_changed, with_pin, without_pin, with_end, without_mark}
 
--- the size of device memory in bytes, the blocks by rising number, the bytes and the mark of each in step with them, the
+-- where device memory begins and how long it is, the blocks by rising number, the bytes and the mark of each in step with them, the
 -- loans by rising block, how many blocks were ever born, and the lengths of births for which room was made, in the order
 -- of its use
 pub record DeviceState : Type 0 where
-  pub size : ℕ
+  pub memory : Section
   pub blocks : List Block
   pub memories : List Memory
   pub marks : List Mark
@@ -28,7 +30,7 @@ HasBlock d block = IsSome (block_at block d.blocks)
 
 -- no block was born on the device
 pub record IsNew (size : ℕ) (d : DeviceState) : Type 0 where
-  pub size_is : d.size ≡ size
+  pub memory_is : d.memory ≡ device_memory size
   pub blocks_are : d.blocks ≡ []
   pub memories_are : d.memories ≡ []
   pub marks_are : d.marks ≡ []
@@ -37,7 +39,7 @@ pub record IsNew (size : ℕ) (d : DeviceState) : Type 0 where
 
 -- the same device, but for its spare room
 pub record IsUnchanged (old new : DeviceState) : Type 0 where
-  pub size : new.size ≡ old.size
+  pub memory : new.memory ≡ old.memory
   pub blocks : new.blocks ≡ old.blocks
   pub memories : new.memories ≡ old.memories
   pub marks : new.marks ≡ old.marks
@@ -48,14 +50,14 @@ pub record IsUnchanged (old new : DeviceState) : Type 0 where
 
 -- where a new block of this length lies: at the least device address at which its rounded length fits
 abbrev pub birth_place : DeviceState → ℕ → Option ℕ
-birth_place d len = place_for d.size d.blocks (rounded len)
+birth_place d len = place_for d.memory d.blocks (rounded len)
 
 -- the new device is the old one with a block more: it has the next number, lies at the least place, has these bytes, and no transfer names it
 pub record IsBornWith (old new : DeviceState) (len : ℕ) (bytes : List ℕ) (block : ℕ) : Type 0 where
   pub place : ℕ
   pub place_is : birth_place old len ≡ Some place
   pub block_is : block ≡ old.births + 1
-  pub size : new.size ≡ old.size
+  pub memory : new.memory ≡ old.memory
   pub blocks : new.blocks ≡ old.blocks ++ record { number = block; place = place; len = len } ∷ []
   pub memories : new.memories ≡ old.memories ++ record { block = block; bytes = bytes } ∷ []
   pub marks : new.marks ≡ old.marks ++ new_mark block ∷ []
@@ -79,7 +81,7 @@ planned_blocks number (t ∷ ts) = record { number = number; place = t.0; len = 
 
 -- the new device is the old one with bytes from an offset of a block on
 pub record IsBlockWritten (old new : DeviceState) (block offset : ℕ) (bytes : List ℕ) : Type 0 where
-  pub size : new.size ≡ old.size
+  pub memory : new.memory ≡ old.memory
   pub blocks : new.blocks ≡ old.blocks
   pub memories : new.memories ≡ map (memory_changed block (overwritten offset bytes)) old.memories
   pub marks : new.marks ≡ old.marks
@@ -89,7 +91,7 @@ pub record IsBlockWritten (old new : DeviceState) (block offset : ℕ) (bytes : 
 
 -- the new device is the old one with a change of the mark of a block
 pub record IsMarked (old new : DeviceState) (block : ℕ) (change : Mark → Mark) : Type 0 where
-  pub size : new.size ≡ old.size
+  pub memory : new.memory ≡ old.memory
   pub blocks : new.blocks ≡ old.blocks
   pub memories : new.memories ≡ old.memories
   pub marks : new.marks ≡ map (mark_changed block change) old.marks
@@ -111,7 +113,7 @@ IsEnded old new block = IsMarked old new block with_end
 
 -- the new device is the old one without a block, its bytes and its mark
 pub record IsRetired (old new : DeviceState) (block : ℕ) : Type 0 where
-  pub size : new.size ≡ old.size
+  pub memory : new.memory ≡ old.memory
   pub blocks : new.blocks ≡ without_block block old.blocks
   pub memories : new.memories ≡ memories_kept new.blocks old.memories
   pub marks : new.marks ≡ without_mark block old.marks
@@ -123,7 +125,7 @@ pub record IsRetired (old new : DeviceState) (block : ℕ) : Type 0 where
 
 -- the new device is the old one with a loan more: the bytes of its block are gone
 pub record IsTakenOut (old new : DeviceState) (loan : Loan) : Type 0 where
-  pub size : new.size ≡ old.size
+  pub memory : new.memory ≡ old.memory
   pub blocks : new.blocks ≡ old.blocks
   pub memories : new.memories ≡ map (memory_changed loan.block (λ bytes. [])) old.memories
   pub marks : new.marks ≡ old.marks
@@ -133,7 +135,7 @@ pub record IsTakenOut (old new : DeviceState) (loan : Loan) : Type 0 where
 
 -- the new device is the old one with the bytes of a lease for those of its block, which is no longer lent
 pub record IsPutBack (old new : DeviceState) (lease : Leased) : Type 0 where
-  pub size : new.size ≡ old.size
+  pub memory : new.memory ≡ old.memory
   pub blocks : new.blocks ≡ old.blocks
   pub memories : new.memories ≡ map (memory_changed lease.block (λ bytes. lease.bytes)) old.memories
   pub marks : new.marks ≡ old.marks
@@ -145,7 +147,7 @@ pub record IsPutBack (old new : DeviceState) (lease : Leased) : Type 0 where
 
 -- its blocks lie on it and apart, in the order of their births
 abbrev pub HasBlocksApart : DeviceState → Type 0
-HasBlocksApart d = AreBlocksApart d.size d.blocks d.births
+HasBlocksApart d = AreBlocksApart d.memory d.blocks d.births
 
 -- the block of the loan is there and mapped, and the section lies in it
 pub record IsLoanOn (d : DeviceState) (l : Loan) : Type 0 where

@@ -6,7 +6,7 @@ use Rattle.acc_base.specs.declared.loans.Loan.{Loan}
 use Rattle.acc_base.specs.declared.mappings.Block.{Block}
 use Rattle.acc_base.specs.declared.mappings.Ended.{Ended}
 use Rattle.acc_base.specs.Limits.{IsFromOne}
-use Rattle.acc_base.specs.Section.{device_base}
+use Rattle.acc_base.specs.declared.items.Section.{Section}
 use Rattle.acc_base.specs.Blocks.{rounded, block_at}
 use Rattle.acc_base.specs.Bytes.{bytes_of}
 use Rattle.acc_base.specs.Loans.{loan_of, is_lent}
@@ -19,6 +19,10 @@ use Rattle.acc_dev.specs.declared.entries.Stored.{Stored}
 use Rattle.acc_dev.specs.Marks.{Mark, pins_at, is_ended_at, IsSoundMark}
 use Rattle.acc_base.specs.Overwriting.{overwritten}
 use Rattle.acc_dev.specs.Device.{DeviceState}
+
+-- the addresses of a space
+abbrev pub memory_of : Space → Section
+memory_of holes = record { start = holes.base; len = holes.size }
 
 -- the place that a slot has; no slot of a block is empty
 abbrev pub stored_place : Option Stored → ℕ
@@ -110,7 +114,6 @@ IsBacked number slot = IsInOrOut number slot (stored_loan slot)
 
 -- each block has a slot of its own, every other slot is empty, and the blocks are what is taken of the device
 pub record AreSlotsKept (holes : Space) (slots : List (Option Stored)) (index : List (ℕ × ℕ)) : Type 0 where
-  pub base : holes.base ≡ device_base
   pub canonical : IsCanonical holes
   pub rising : IsIndexRising index
   pub distinct : EachPair (λ d e. d.1 ≡ e.1 → ⊥) index

@@ -4,9 +4,9 @@ ghost use Rattle.std.specs.Prelude.{◌≡◌, ◌+◌, ◌^◌, ◌<◌, ◌≤
 ghost use Rattle.std.specs.List.{AllZip, AllByRecursion};
 ghost use Rattle.std.specs.Bool.{OnTrue, OnFalse};
 ghost use Rattle.acc_base.specs.Limits.{IsSize, IsFromOne};
-ghost use Rattle.acc_base.specs.Section.{device_base};
+ghost use Rattle.acc_base.specs.Section.{end_of};
 ghost use Rattle.acc_base.specs.Blocks.{rounded as rounded_of, place_for, block_at, size_of, used_bytes, IsPlaceFor};
-ghost use Rattle.acc_base.specs.Holes.{IsDevice};
+ghost use Rattle.acc_base.specs.Holes.{IsDevice, IsNextHole};
 ghost use Rattle.acc_base.specs.Bytes.{bytes_of, fill_byte};
 ghost use Rattle.acc_base.specs.Accounts.{IsMemoryOf};
 ghost use Rattle.acc_base.specs.Loans.{loan_of, is_lent};
@@ -19,7 +19,7 @@ use crate::entries::{
     Stored, lowest_ended, make_room, position_of, put, remove_at, set_mark, slot_of_block, write_at,
 };
 use crate::filling::{fill, filled, make_vectors};
-use acc_base::{DEVICE_BASE, Ended, Fault, MEMORY_MAX};
+use acc_base::{DEVICE_BASE, Ended, Fault, Hole, MEMORY_MAX};
 use acc_placement::{Holes, rounded};
 use slab::Slab;
 use std::alloc::Global;
@@ -29,7 +29,7 @@ use std::marker::Model;
 /// Device memory: blocks, each with a number, a place and bytes (OpenACC 3.3, section 2.6, data environment).
 ///
 /// Blocks are numbered from 1 in the order of their births, and no number is used twice. Places are device addresses
-/// from [`DEVICE_BASE`] on. Contracts see the size of the memory in bytes, the blocks by rising number, the bytes of
+/// from [`DEVICE_BASE`] on. Contracts see the memory's addresses as a section, the blocks by rising number, the bytes of
 /// each, what keeps each, the loans by rising block, and how many blocks were ever born.
 ///
 /// A block is kept by its mapping, which [`Device::retire`] ends, and by each queued transfer that names it, which
@@ -59,13 +59,13 @@ pub struct Device {
 
 impl Model for Device {
     ghost use Rattle.acc_dev.specs.Device.{DeviceState};
-    ghost use Rattle.acc_dev.specs.Kept.{blocks_in, memories_in, marks_in, loans_in, AreSlotsKept, AreNumbersBorn};
+    ghost use Rattle.acc_dev.specs.Kept.{memory_of, blocks_in, memories_in, marks_in, loans_in, AreSlotsKept, AreNumbersBorn};
     ghost use Rattle.acc_dev.specs.Room.{room_ready, HasRoom};
 
     ghost Value = { DeviceState };
 
     ghost view = { λ d. record {
-      size = d.holes.size;
+      memory = memory_of d.holes;
       blocks = blocks_in d.slab.slots d.index.items;
       memories = memories_in d.slab.slots d.index.items;
       marks = marks_in d.slab.slots d.index.items;
@@ -108,7 +108,7 @@ impl Device {
     ///
     /// [`Fault::DeviceFull`] with item 0 and the rounded length, exactly where it fits nowhere. Else only
     /// [`Fault::Memory`], where there is no memory for its bytes, or room for one block more was missing and could not
-    /// be made. The device is then as before, but for its spare room.
+    /// be made. The device is then as before. The room that [`Device::reserve`] made stays, whatever the answer.
     pub fn born(&mut self, len: u64, zero: bool) -> Result<u64, Fault>
         requires len { IsFromOne MEMORY_MAX len }
         requires births { self.old.births < 2 ^ 48 }
@@ -117,12 +117,13 @@ impl Device {
         ensures filled { IfOk result (λ block. bytes_of block self.new.memories ≡ replicate len (fill_byte zero)) }
 
         // The place is the least of all device addresses at which the rounded length fits.
-        ensures least { IsPlaceFor self.old.size self.old.blocks (rounded_of len) (birth_place self.old len) }
+        ensures least { IsPlaceFor self.old.memory self.old.blocks (rounded_of len) (birth_place self.old len) }
 
         // Each error, and what it leaves.
         ensures full { (result ≡ Err (Fault.DeviceFull 0 (rounded_of len))) ↔ (birth_place self.old len ≡ None) }
         ensures only { IfErr result (λ fault. (fault ≡ Fault.Memory) ⊎ (fault ≡ Fault.DeviceFull 0 (rounded_of len))) }
         ensures unchanged { OnErr result (IsUnchanged self.old self.new) }
+        ensures room { self.new.room ≡ self.old.room }
     {
         let Some(_) = self.holes.would_take(&[], len) else {
             return Err(Fault::DeviceFull {
@@ -150,12 +151,13 @@ impl Device {
     ///
     /// # Errors
     ///
-    /// [`Fault::Memory`] alone. There is then no room, and the device is as before.
+    /// [`Fault::Memory`] alone, and never where no length is listed. There is then no room, and the device is as before.
     pub fn reserve(&mut self, lens: &[u64]) -> Result<(), Fault>
         requires few { length lens.now ≤ 2 ^ 16 }
         requires lens { All (IsFromOne MEMORY_MAX) lens.now }
         ensures room { OnOk result (self.new.room ≡ lens.now) }
         ensures none { OnErr result (self.new.room ≡ []) }
+        ensures needed { OnErr result (0 < length lens.now) }
         ensures only { IfErr result (λ fault. fault ≡ Fault.Memory) }
         ensures unchanged { IsUnchanged self.old self.new }
     {
@@ -230,8 +232,8 @@ impl Device {
     /// Each listed length is from 1 to 67,108,864, and each listed block ends on the device.
     pub fn would_take(&self, listed: &[(u64, u64)], len: u64) -> Option<u64>
         requires len { IsFromOne MEMORY_MAX len }
-        requires listed { All (IsTakeBelow (device_base + self.now.size)) listed.now }
-        ensures { result ≡ place_for self.now.size (self.now.blocks ++ planned_blocks (self.now.births + 1) listed.now) (rounded_of len) }
+        requires listed { All (IsTakeBelow (end_of self.now.memory)) listed.now }
+        ensures { result ≡ place_for self.now.memory (self.now.blocks ++ planned_blocks (self.now.births + 1) listed.now) (rounded_of len) }
     {
         self.holes.would_take(listed, len)
     }
@@ -362,6 +364,15 @@ impl Device {
         lowest_ended(&self.slab, &self.index, from)
     }
 
+    /// The hole of least place at or above the device address `from`; `None` where there is none. A hole is free addresses
+    /// that lie side by side, as many as there are. It needs no memory.
+    pub fn hole(&self, from: u64) -> Option<Hole>
+        ensures { IsNextHole from self.now.memory self.now.blocks result }
+    {
+        let (place, size) = self.holes.next_hole(from)?;
+        Some(Hole { place, size })
+    }
+
     /// How many bytes of device memory the blocks take: the sum of their lengths, each rounded up to a multiple of 16.
     pub fn used(&self) -> u64
         ensures { result ≡ used_bytes self.now.blocks }
@@ -375,7 +386,7 @@ impl Device {
     /// the blocks take no more bytes than there are; and with the holes between them they are the device, with no
     /// address in two of them. Nothing is done.
     pub fn laws(&self)
-        ensures size { IsSize self.now.size }
+        ensures size { IsSize self.now.memory.len }
         ensures blocks_apart { HasBlocksApart self.now }
         ensures memories { AllZip (IsMemoryOf self.now.loans) self.now.memories self.now.blocks }
         ensures marks { AllZip IsMarkOf self.now.marks self.now.blocks }
@@ -383,8 +394,8 @@ impl Device {
         ensures loans_rise { AreLoansRising self.now.loans }
         ensures loans { AllByRecursion (IsLoanOn self.now) self.now.loans }
         ensures lens { AllByRecursion (λ b. IsFromOne MEMORY_MAX b.len) self.now.blocks }
-        ensures bytes_accounted { used_bytes self.now.blocks ≤ self.now.size }
-        ensures holes { IsDevice self.now.size self.now.blocks }
+        ensures bytes_accounted { used_bytes self.now.blocks ≤ self.now.memory.len }
+        ensures holes { IsDevice self.now.memory self.now.blocks }
         ensures births { self.now.births ≤ 2 ^ 48 }
     {
         let _ = &self.births;

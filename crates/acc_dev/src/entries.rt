@@ -10,7 +10,7 @@ ghost use Rattle.acc_placement.specs.Ranges.{IsFit, IsLeastFit};
 ghost use Rattle.acc_placement.specs.Space.{IsSameSpace};
 ghost use Rattle.acc_base.specs.Overwriting.{overwritten};
 ghost use Rattle.acc_dev.specs.Marks.{new_mark};
-ghost use Rattle.acc_dev.specs.Kept.{stored_place, stored_len, stored_bytes, stored_pins, stored_ended, stored_loan, slot_of, blocks_in, memories_in, marks_in, loans_in, lower_of as lower_one, lowest_told, told_of, IsIndexRising, IsEntry, IsSlotOf, IsBacked, AreSlotsKept, IsRewritten, IsRemarked, IsRelent};
+ghost use Rattle.acc_dev.specs.Kept.{memory_of, stored_place, stored_len, stored_bytes, stored_pins, stored_ended, stored_loan, slot_of, blocks_in, memories_in, marks_in, loans_in, lower_of as lower_one, lowest_told, told_of, IsIndexRising, IsEntry, IsSlotOf, IsBacked, AreSlotsKept, IsRewritten, IsRemarked, IsRelent};
 
 use acc_base::{Ended, Fault, Loan, MEMORY_MAX};
 use acc_lend::Lease;
@@ -111,7 +111,7 @@ pub fn put(
     requires room_entry { vec_len index.old < vec_capacity index.old }
     requires fits { (q : ℕ) × IsFit holes.old.holes (rounded_of (length bytes.items)) q }
     ensures place { IsLeastFit holes.old.holes (rounded_of (length bytes.items)) result }
-    ensures size { holes.new.size ≡ holes.old.size }
+    ensures memory { memory_of holes.new ≡ memory_of holes.old }
     ensures kept { AreSlotsKept holes.new slab.new.slots index.new.items }
     ensures index { (slot : ℕ) × (index.new.items ≡ index.old.items ++ (number, slot) ∷ []) }
     ensures blocks { blocks_in slab.new.slots index.new.items ≡ blocks_in slab.old.slots index.old.items ++ record { number = number; place = result; len = length bytes.items } ∷ [] }
@@ -148,7 +148,7 @@ pub fn remove_at(
     requires kept { AreSlotsKept holes.old slab.old.slots index.old.items }
     requires in_bounds { at < length index.old.items }
     requires free { stored_loan (slot_of slab.old.slots (slice_index_or index.old.items at (0, 0))) ≡ None }
-    ensures size { holes.new.size ≡ holes.old.size }
+    ensures memory { memory_of holes.new ≡ memory_of holes.old }
     ensures kept { AreSlotsKept holes.new slab.new.slots index.new.items }
     ensures index { index.new.items ≡ remove index.old.items at }
     ensures blocks { blocks_in slab.new.slots index.new.items ≡ remove (blocks_in slab.old.slots index.old.items) at }

@@ -1,6 +1,6 @@
 //! The bytes of new blocks, and the vectors that are made for those to come.
 
-ghost use Rattle.std.specs.Prelude.{◌≡◌, ◌≤◌, map, [], replicate, vec_capacity, IfOk, IfErr, OnOk, OnErr};
+ghost use Rattle.std.specs.Prelude.{◌≡◌, ◌<◌, ◌≤◌, length, map, [], replicate, vec_capacity, IfOk, IfErr, OnOk, OnErr};
 ghost use Rattle.std.specs.List.{AllByRecursion};
 ghost use Rattle.acc_base.specs.Bytes.{fill_byte};
 
@@ -23,6 +23,7 @@ fn add_vectors(vectors: &mut VecDeque<Vec<u8>>, alloc: Global, lens: &[u64]) -> 
     requires { vectors.old.items ≡ [] }
     ensures room { OnOk result (map (λ v. vec_capacity v) vectors.new.items ≡ lens.now) }
     ensures empty { OnOk result (AllByRecursion (λ v. v.items ≡ []) vectors.new.items) }
+    ensures needed { OnErr result (0 < length lens.now) }
     ensures only { IfErr result (λ fault. fault ≡ Fault.Memory) }
 {
     for len in lens {
@@ -41,6 +42,7 @@ pub fn make_vectors(
     ensures room { OnOk result (map (λ v. vec_capacity v) vectors.new.items ≡ lens.now) }
     ensures empty { OnOk result (AllByRecursion (λ v. v.items ≡ []) vectors.new.items) }
     ensures none { OnErr result (vectors.new.items ≡ []) }
+    ensures needed { OnErr result (0 < length lens.now) }
     ensures only { IfErr result (λ fault. fault ≡ Fault.Memory) }
 {
     let made = add_vectors(vectors, alloc, lens);

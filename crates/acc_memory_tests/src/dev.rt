@@ -4,7 +4,7 @@ ghost use Rattle.std.specs.Prelude.{◌≡◌, ◌+◌, ◌^◌, ◌<◌, ◌≤
 ghost use Rattle.acc_base.specs.Limits.{IsFromOne};
 ghost use Rattle.acc_dev.specs.Device.{birth_place};
 
-use acc_base::{DEVICE_BASE, Ended, Fault, Loan, MEMORY_MAX};
+use acc_base::{DEVICE_BASE, Ended, Fault, Hole, Loan, MEMORY_MAX};
 use acc_dev::Device;
 use acc_lend::{Lease, Number, run_one};
 use std::alloc::{AllocError, Global};
@@ -37,6 +37,8 @@ enum Turn {
     Retires(u64, bool),
     /// The place, the size and the pins of the lowest block that has ended, from an address on.
     Ended(u64, Option<(u64, u64, u64)>),
+    /// The place and the size of the lowest hole, from an address on.
+    Hole(u64, Option<(u64, u64)>),
     /// The serial number, the place and the length of the loan of a block, or `None` where it is not lent.
     Loan(u64, Option<(u64, u64, u64)>),
     /// A block has no bytes here, and cannot be lent once more.
@@ -46,6 +48,8 @@ enum Turn {
 /// A device of 64 bytes: its blocks are filled, lie where they fit first, and come back.
 const BLOCKS: &[Turn] = &[
     Turn::Next(1),
+    Turn::Hole(0, Some((0x1_0000_0000, 64))),
+    Turn::Hole(0x1_0000_0001, None),
     Turn::Born(3, false, 1),
     Turn::Born(3, true, 2),
     Turn::Holds(1, Some(&[0xa5, 0xa5, 0xa5])),
@@ -56,8 +60,10 @@ const BLOCKS: &[Turn] = &[
     Turn::Born(32, false, 3),
     Turn::Lies(3, Some((0x1_0000_0020, 32))),
     Turn::Used(64),
+    Turn::Hole(0, None),
     Turn::WouldTake(1, None),
     Turn::Retires(1, true),
+    Turn::Hole(0x1_0000_0000, Some((0x1_0000_0000, 16))),
     Turn::Lies(1, None),
     Turn::Used(48),
     Turn::Full(17, false, 32),
@@ -91,6 +97,7 @@ const PINS: &[Turn] = &[
     Turn::Retires(1, false),
     Turn::Retires(2, false),
     Turn::Retires(3, true),
+    Turn::Hole(0, Some((0x1_0000_0030, 16))),
     Turn::Ended(0, Some((0x1_0000_0000, 16, 1))),
     Turn::Ended(0x1_0000_0001, Some((0x1_0000_0010, 32, 2))),
     Turn::Ended(0x1_0000_0011, None),
@@ -102,7 +109,9 @@ const PINS: &[Turn] = &[
     Turn::Unpins(2, true),
     Turn::Lies(2, None),
     Turn::Used(16),
+    Turn::Hole(0, Some((0x1_0000_0010, 48))),
     Turn::Unpins(1, true),
+    Turn::Hole(0, Some((0x1_0000_0000, 64))),
     Turn::Ended(0, None),
 ];
 
@@ -224,6 +233,12 @@ fn has_ended(device: &Device, from: u64, wanted: Option<(u64, u64, u64)>) -> boo
     device.ended(from) == wanted
 }
 
+/// The lowest hole from an address on is this one.
+fn has_hole(device: &Device, from: u64, wanted: Option<(u64, u64)>) -> bool {
+    let wanted = wanted.map(|(place, size)| Hole { place, size });
+    device.hole(from) == wanted
+}
+
 /// Writes bytes into a block, and answers whether it is there and has so many.
 fn write(device: &mut Device, block: u64, offset: u64, new: &[u8]) -> bool {
     if !device.has(block) {
@@ -322,6 +337,7 @@ fn agrees(device: &mut Device, turn: &Turn) -> bool {
         Turn::Unpins(block, wanted) => unpin(device, *block) == Some(*wanted),
         Turn::Retires(block, wanted) => retire(device, *block) == Some(*wanted),
         Turn::Ended(from, wanted) => has_ended(device, *from, *wanted),
+        Turn::Hole(from, wanted) => has_hole(device, *from, *wanted),
         Turn::Loan(block, wanted) => has_loan(device, *block, *wanted),
         Turn::Out(block) => is_out(device, *block),
     }

@@ -1,6 +1,6 @@
 //! The holes of a space of device addresses.
 
-ghost use Rattle.std.specs.Prelude.{◌≡◌, ℕ, List, ◌+◌, ◌%◌, ◌^◌, ◌<◌, ◌≤◌, ◌⊎◌, ◌↔◌, [], ◌∷◌, ◌++◌, All, IfOk, IfErr, IfSome, IfNone, Err, OnErr, OnOk};
+ghost use Rattle.std.specs.Prelude.{◌≡◌, ℕ, List, ◌+◌, ◌%◌, ◌^◌, ◌<◌, ◌≤◌, ◌⊎◌, ◌↔◌, [], ◌∷◌, ◌++◌, All, nat_le, find, IfOk, IfErr, IfSome, IfNone, Err, OnErr, OnOk};
 ghost use Rattle.acc_base.specs.Limits.{IsSize, IsFromOne};
 ghost use Rattle.acc_base.specs.Blocks.{rounded as rounded_of};
 ghost use Rattle.acc_base.specs.Holes.{total};
@@ -209,6 +209,14 @@ impl Holes {
         ensures canonical { IsCanonical self.now }
     {
         &self.holes
+    }
+
+    /// The hole of least place at or above the device address `from`, with its place and its size in bytes; `None` where
+    /// there is none. It needs no memory.
+    pub fn next_hole(&self, from: u64) -> Option<(u64, u64)>
+        ensures { result ≡ find (λ h. nat_le from h.0) self.now.holes }
+    {
+        self.holes.iter().copied().find(|hole| from <= hole.0)
     }
 
     /// The bounds of the space, and that its holes are multiples of 16, rise and do not touch. Nothing is done.

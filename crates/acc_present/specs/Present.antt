@@ -1,5 +1,5 @@
 -- What contracts see of the present table: the mapped ranges, the open data regions, and the room for more (OpenACC 3.3, sections 2.6.5 and 2.6.7).
-use Rattle.std.specs.Prelude.{ℕ, ◌≡◌, ◌^◌, ◌<◌, ◌≤◌, List, [], IsSome}
+use Rattle.std.specs.Prelude.{ℕ, ◌≡◌, ◌+◌, ◌^◌, ◌<◌, ◌≤◌, ◌⊎◌, List, [], IsSome}
 use Rattle.std.specs.List.{AllByRecursion}
 use Rattle.acc_base.specs.declared.mappings.Range.{Range}
 use Rattle.acc_base.specs.Ranges.{range_of}
@@ -50,6 +50,22 @@ pub record IsRoomKept (old new : Room) : Type 0 where
   pub ranges : old.ranges ≤ new.ranges
   pub regions : old.regions ≤ new.regions
   pub holdings : old.holdings ≤ new.holdings
+
+-- the room of ranges has shrunk by one at most, and no other
+pub record IsRangeRoomTaken (old new : Room) : Type 0 where
+  pub ranges : old.ranges ≤ new.ranges + 1
+  pub regions : old.regions ≤ new.regions
+  pub holdings : old.holdings ≤ new.holdings
+
+-- the room of regions has shrunk by one at most, and no other
+pub record IsRegionRoomTaken (old new : Room) : Type 0 where
+  pub ranges : old.ranges ≤ new.ranges
+  pub regions : old.regions ≤ new.regions + 1
+  pub holdings : old.holdings ≤ new.holdings
+
+-- there is less room than for so many more ranges, and one more region with so many holdings
+abbrev pub IsRoomMissing : ℕ → ℕ → Room → Type 0
+IsRoomMissing ranges holdings room = (room.ranges < ranges) ⊎ (room.regions ≡ 0) ⊎ (room.holdings < holdings)
 
 -- ---- what holds of every present table
 

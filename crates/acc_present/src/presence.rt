@@ -4,7 +4,7 @@ ghost use Rattle.std.specs.Prelude.{◌≡◌, ◌+◌, ◌^◌, ◌<◌, ◌≤
 ghost use Rattle.acc_base.specs.declared.mappings.Counter.TheVariants.{Structured, Dynamic};
 ghost use Rattle.acc_base.specs.Ranges.{where_is, where_is_apart, range_of, range_from, structured_of, dynamic_of, counter_of, with_range, without_range, changed_at, bare_range, risen, fallen, cleared};
 ghost use Rattle.acc_base.specs.Register.{region_at, newest_region, holdings_at, with_region, without_region};
-ghost use Rattle.acc_present.specs.Present.{new_table, with_ranges, with_regions, HasRange, HasRegion, IsRoomKept, IsLawful};
+ghost use Rattle.acc_present.specs.Present.{new_table, with_ranges, with_regions, HasRange, HasRegion, IsRoomKept, IsRangeRoomTaken, IsRegionRoomTaken, IsRoomMissing, IsLawful};
 
 use crate::ranges::Mappings;
 use crate::register::Register;
@@ -98,17 +98,21 @@ impl Present {
     }
 
     /// Maps a section to a block. The section is absent, and no range is mapped to the block. Both counters of the new
-    /// range are 0.
+    /// range are 0. It takes at most one from the room of ranges.
     ///
     /// # Errors
     ///
-    /// [`Fault::Memory`] alone. The table is then as before.
+    /// [`Fault::Memory`] alone, only where there was no room for one more range. The table is then as before, and no
+    /// room has shrunk.
     pub fn add(&mut self, section: Section, block: u64) -> Result<(), Fault>
         requires absent { where_is section self.old.table.ranges ≡ Found.Absent }
         requires new { range_of block self.old.table.ranges ≡ None }
         ensures ok { OnOk result (self.new.table ≡ with_ranges self.old.table (with_range (bare_range section block) self.old.table.ranges)) }
         ensures only { IfErr result (λ fault. fault ≡ Fault.Memory) }
+        ensures needed { OnErr result (self.old.room.ranges ≡ 0) }
         ensures unchanged { OnErr result (self.new.table ≡ self.old.table) }
+        ensures taken { OnOk result (IsRangeRoomTaken self.old.room self.new.room) }
+        ensures kept { OnErr result (IsRoomKept self.old.room self.new.room) }
     {
         self.mappings.reserve(1)?;
         self.mappings.map(section, block);
@@ -235,28 +239,34 @@ impl Present {
 
     // ---- open data regions
 
-    /// Opens a data region of a number that no open region has, with what the items of its entry counted.
+    /// Opens a data region of a number that no open region has, with what the items of its entry counted. It takes at
+    /// most one from the room of regions.
     ///
     /// # Errors
     ///
-    /// [`Fault::Memory`] alone. The table is then as before.
+    /// [`Fault::Memory`] alone, only where there was no room for one more region. The table is then as before, and no
+    /// room has shrunk.
     pub fn enter(&mut self, number: u64, holdings: Vec<Holding>) -> Result<(), Fault>
         requires { region_at number self.old.table.regions ≡ None }
         ensures ok { OnOk result (self.new.table ≡ with_regions self.old.table (with_region (record { number = number; holdings = holdings.items }) self.old.table.regions)) }
         ensures only { IfErr result (λ fault. fault ≡ Fault.Memory) }
+        ensures needed { OnErr result (self.old.room.regions ≡ 0) }
         ensures unchanged { OnErr result (self.new.table ≡ self.old.table) }
+        ensures taken { OnOk result (IsRegionRoomTaken self.old.room self.new.room) }
+        ensures kept { OnErr result (IsRoomKept self.old.room self.new.room) }
     {
         self.register.enter(number, holdings)
     }
 
     /// As [`Present::enter`], where there is room for one more region and for its holdings: it takes no memory and is
-    /// not refused. It leaves no room for holdings of a further region.
+    /// not refused. It takes at most one from the room of regions, and leaves no room for holdings of a further region.
     pub fn enter_reserved(&mut self, number: u64, holdings: &[Holding])
         requires room { 1 ≤ self.old.room.regions }
         requires room_holdings { length holdings.now ≤ self.old.room.holdings }
         requires new { region_at number self.old.table.regions ≡ None }
         ensures table { self.new.table ≡ with_regions self.old.table (with_region (record { number = number; holdings = holdings.now }) self.old.table.regions) }
         ensures room_ranges { self.old.room.ranges ≤ self.new.room.ranges }
+        ensures room_regions { self.old.room.regions ≤ self.new.room.regions + 1 }
     {
         self.register.enter_reserved(number, holdings);
     }
@@ -298,13 +308,14 @@ impl Present {
     ///
     /// # Errors
     ///
-    /// [`Fault::Memory`] alone. No room has shrunk then.
+    /// [`Fault::Memory`] alone, only where some of that room was missing. No room has shrunk then.
     pub fn reserve(&mut self, ranges: u64, holdings: u64) -> Result<(), Fault>
         ensures table { self.new.table ≡ self.old.table }
         ensures ranges { OnOk result (ranges ≤ self.new.room.ranges) }
         ensures regions { OnOk result (1 ≤ self.new.room.regions) }
         ensures holdings { OnOk result (holdings ≤ self.new.room.holdings) }
         ensures only { IfErr result (λ fault. fault ≡ Fault.Memory) }
+        ensures needed { OnErr result (IsRoomMissing ranges holdings self.old.room) }
         ensures room { IsRoomKept self.old.room self.new.room }
     {
         self.mappings.reserve(ranges as usize)?;

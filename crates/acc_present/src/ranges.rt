@@ -1,6 +1,6 @@
 //! The mapped ranges by rising start, with an index of their blocks.
 
-ghost use Rattle.std.specs.Prelude.{◌≡◌, List, ◌∷◌, IfSome, IfNone, ◌+◌, ◌-◌, ◌<◌, ◌≤◌, ◌==◌, ◌^◌, [], length, drop, find, nat_le, nat_lt, None, Some, IsSome, IsTrue, OnOk, IfErr, min, vec_len, vec_capacity};
+ghost use Rattle.std.specs.Prelude.{◌≡◌, List, ◌∷◌, IfSome, IfNone, ◌+◌, ◌-◌, ◌<◌, ◌≤◌, ◌==◌, ◌^◌, [], length, drop, find, nat_le, nat_lt, None, Some, IsSome, IsTrue, OnOk, OnErr, IfErr, min, vec_len, vec_capacity};
 ghost use Rattle.std.specs.Bool.{OnTrue, OnFalse};
 ghost use Rattle.std.specs.List.{list_any, AllByRecursion};
 ghost use Rattle.acc_base.specs.Section.{is_within, is_apart, end_of};
@@ -324,11 +324,12 @@ impl Mappings {
         next_from(&self.ranges, from)
     }
 
-    /// Makes room for so many more ranges.
+    /// Makes room for so many more ranges. It is refused only where that room was missing.
     pub fn reserve(&mut self, count: usize) -> Result<(), Fault>
         ensures ranges { self.new.ranges ≡ self.old.ranges }
         ensures ok { OnOk result (count ≤ self.new.room) }
         ensures only { IfErr result (λ fault. fault ≡ Fault.Memory) }
+        ensures needed { OnErr result (self.old.room < count) }
         ensures room { self.old.room ≤ self.new.room }
     {
         self.ranges.reserve(count)?;

@@ -1,6 +1,6 @@
 //! The register of open data regions.
 
-ghost use Rattle.std.specs.Prelude.{◌≡◌, ◌+◌, ◌<◌, ◌≤◌, [], ◌∷◌, ◌++◌, length, map, nat_lt, None, Some, IsSome, IfErr, OnOk, OnErr, MatchOption, vec_len, vec_capacity};
+ghost use Rattle.std.specs.Prelude.{◌≡◌, ◌+◌, ◌<◌, ◌≤◌, ◌⊎◌, [], ◌∷◌, ◌++◌, length, map, nat_lt, None, Some, IsSome, IfErr, OnOk, OnErr, MatchOption, vec_len, vec_capacity};
 ghost use Rattle.acc_base.specs.Register.{region_at, newest_region, holdings_at, with_region, without_region};
 ghost use Rattle.acc_base.specs.Splits.{IsSplitBy};
 ghost use Rattle.acc_present.specs.Present.{AreNumbered};
@@ -144,12 +144,13 @@ impl Register {
         holdings_of(&self.regions, number)
     }
 
-    /// Makes room for one more region with so many holdings.
+    /// Makes room for one more region with so many holdings. It is refused only where some of that room was missing.
     pub fn reserve(&mut self, holdings: usize) -> Result<(), Fault>
         ensures regions { self.new.regions ≡ self.old.regions }
         ensures ok { OnOk result (1 ≤ self.new.room) }
         ensures ok_holdings { OnOk result (holdings ≤ self.new.holdings) }
         ensures only { IfErr result (λ fault. fault ≡ Fault.Memory) }
+        ensures needed { OnErr result ((self.old.room ≡ 0) ⊎ (self.old.holdings < holdings)) }
         ensures room { self.old.room ≤ self.new.room }
         ensures room_holdings { self.old.holdings ≤ self.new.holdings }
     {
@@ -158,12 +159,15 @@ impl Register {
         Ok(())
     }
 
-    /// Opens a region.
+    /// Opens a region. It is refused only where there was no room for one.
     pub fn enter(&mut self, number: u64, holdings: Vec<Holding>) -> Result<(), Fault>
         requires { region_at number self.old.regions ≡ None }
         ensures ok { OnOk result (self.new.regions ≡ with_region (record { number = number; holdings = holdings.items }) self.old.regions) }
         ensures only { IfErr result (λ fault. fault ≡ Fault.Memory) }
+        ensures needed { OnErr result (self.old.room ≡ 0) }
         ensures unchanged { OnErr result (self.new.regions ≡ self.old.regions) }
+        ensures room { self.old.room ≤ self.new.room + 1 }
+        ensures room_holdings { self.old.holdings ≤ self.new.holdings }
     {
         self.regions.reserve(1)?;
         put(&mut self.regions, OpenRegion { number, holdings });
@@ -175,7 +179,8 @@ impl Register {
         requires room { 1 ≤ self.old.room }
         requires room_holdings { length holdings.now ≤ self.old.holdings }
         requires new { region_at number self.old.regions ≡ None }
-        ensures { self.new.regions ≡ with_region (record { number = number; holdings = holdings.now }) self.old.regions }
+        ensures regions { self.new.regions ≡ with_region (record { number = number; holdings = holdings.now }) self.old.regions }
+        ensures room { self.old.room ≤ self.new.room + 1 }
     {
         let mut own = mem::replace(&mut self.spare, Vec::new(self.alloc));
         let _ = own.extend_from_slice(holdings);

@@ -30,7 +30,7 @@ use Rattle.acc_base.specs.declared.tasks.Task.{Task}
 use Rattle.acc_base.specs.declared.tasks.Task.TheVariants as tasks
 use Rattle.acc_base.specs.Results.{◌>>=◌, ◌>>◌, refuse_if}
 use Rattle.acc_base.specs.Limits.{Limits}
-use Rattle.acc_base.specs.Section.{is_empty, is_within, host_memory}
+use Rattle.acc_base.specs.Section.{is_empty, is_within, host_memory, device_memory}
 use Rattle.acc_base.specs.Ranges.{where_is, counter_of, dynamic_of, ends_by}
 use Rattle.acc_base.specs.Blocks.{rounded, place_for}
 use Rattle.acc_base.specs.Records.{Records, State}
@@ -89,12 +89,12 @@ born_tells (Some place) n section w = tt
 -- the row of an absent section tells no want of memory
 absent_tells : (clause : RegionClause) (l : Limits) (n : ℕ) (section : Section) (w : Records)
     → Tells (enter_absent clause l n section w)
-absent_tells region.Copy l n section w = born_tells (place_for l.device w.blocks (rounded section.len)) n section w
-absent_tells region.Copyin l n section w = born_tells (place_for l.device w.blocks (rounded section.len)) n section w
+absent_tells region.Copy l n section w = born_tells (place_for (device_memory l.device) w.blocks (rounded section.len)) n section w
+absent_tells region.Copyin l n section w = born_tells (place_for (device_memory l.device) w.blocks (rounded section.len)) n section w
 absent_tells (region.Copyout filled) l n section w =
-    born_tells (place_for l.device w.blocks (rounded section.len)) n section w
+    born_tells (place_for (device_memory l.device) w.blocks (rounded section.len)) n section w
 absent_tells (region.Create filled) l n section w =
-    born_tells (place_for l.device w.blocks (rounded section.len)) n section w
+    born_tells (place_for (device_memory l.device) w.blocks (rounded section.len)) n section w
 absent_tells region.NoCreate l n section w = tt
 absent_tells region.Present l n section w = tt
 absent_tells region.Attach l n section w = tt

@@ -7,7 +7,8 @@ use Rattle.std.proofs.lemmas.List.Concat.{flat_map-cons}
 use Rattle.acc_base.proofs.Elements.{AllByRecursion-weaker, AllByRecursion-both, AllByRecursion-filter, EachPair-filter}
 use Rattle.acc_base.specs.declared.mappings.Block.{Block}
 use Rattle.acc_base.specs.declared.mappings.Ended.{Ended}
-use Rattle.acc_base.specs.declared.addresses.TheConstants.{MEMORY_MAX}
+use Rattle.acc_base.specs.declared.items.Section.{Section}
+use Rattle.acc_base.specs.Section.{end_of}
 use Rattle.acc_base.specs.Ranges.{range_of}
 use Rattle.acc_base.specs.Blocks.{block_end, lower, lowest}
 use Rattle.acc_base.specs.Records.{Records}
@@ -198,22 +199,22 @@ kept_ended : (from : ℕ) (w : Records) → by_place (ended_blocks from w) ≡ f
 kept_ended from w = ap by_place (filter_both (has_ended w) (lies_from from) w.blocks) ∙ sym (kept_by_place from (filter (has_ended w) w.blocks))
 
 -- blocks that do not overlap lie at different places
-elsewhere : (device : ℕ) (bs : List Block) → AllByRecursion (IsOnDevice device) bs → EachPair IsClearOf bs
+elsewhere : (memory : Section) (bs : List Block) → AllByRecursion (IsOnDevice memory) bs → EachPair IsClearOf bs
     → EachPair LiesElsewhere bs
-elsewhere device [] on_device apart = tt
-elsewhere device (b ∷ bs) on_device apart = (AllByRecursion-both (IsOnDevice device) (IsClearOf b) (LiesElsewhere b) bs other on_device.1 apart.0, elsewhere device bs on_device.1 apart.1)
+elsewhere memory [] on_device apart = tt
+elsewhere memory (b ∷ bs) on_device apart = (AllByRecursion-both (IsOnDevice memory) (IsClearOf b) (LiesElsewhere b) bs other on_device.1 apart.0, elsewhere memory bs on_device.1 apart.1)
   where
-    other : (c : Block) → IsOnDevice device c → IsClearOf b c → LiesElsewhere b c
+    other : (c : Block) → IsOnDevice memory c → IsClearOf b c → LiesElsewhere b c
     other c on clear same = by clear.addresses
       where
         by : (block_end b ≤ c.place) ⊎ (block_end c ≤ b.place) → ⊥
         by (inl p) = omega (arith, p, same, on_device.0.some)
         by (inr p) = omega (arith, p, same, on.some)
 
-module _ (device births from : ℕ) (w : Records) (apart : AreBlocksApart device w.blocks births) where
+module _ (memory : Section) (births from : ℕ) (w : Records) (apart : AreBlocksApart memory w.blocks births) where
   -- they rise
   rising : EachPair LiesUnder (ended_by_place w)
-  rising = rise_by_place (filter (has_ended w) w.blocks) (EachPair-filter LiesElsewhere (has_ended w) w.blocks (elsewhere device w.blocks apart.on_device apart.apart))
+  rising = rise_by_place (filter (has_ended w) w.blocks) (EachPair-filter LiesElsewhere (has_ended w) w.blocks (elsewhere memory w.blocks apart.on_device apart.apart))
 
   module _ (e : Ended) (found : Some e ≡ ended_from from w) where
     -- the block of which an answer tells, and that it is the first
@@ -224,10 +225,10 @@ module _ (device births from : ℕ) (w : Records) (apart : AreBlocksApart device
         (view.0, sym (lowest_first (ended_blocks from w) ∙ ap first (kept_ended from w)) ∙ view.1, view.2)
 
     -- it lies where the search began or above, and well below the last address
-    pub ended_place : device ≤ MEMORY_MAX → (from ≤ e.place) × (e.place < 2 ^ 34)
+    pub ended_place : end_of memory < 2 ^ 34 → (from ≤ e.place) × (e.place < 2 ^ 34)
     ended_place small =
-        let kept = first_has (IsOnDevice device) (filter (lies_from from) (ended_by_place w)) block_found.0
-        (AllByRecursion-filter (IsOnDevice device) (lies_from from) (ended_by_place w) (all_by_place (IsOnDevice device) (filter (has_ended w) w.blocks) (AllByRecursion-filter (IsOnDevice device) (has_ended w) w.blocks apart.on_device)))
+        let kept = first_has (IsOnDevice memory) (filter (lies_from from) (ended_by_place w)) block_found.0
+        (AllByRecursion-filter (IsOnDevice memory) (lies_from from) (ended_by_place w) (all_by_place (IsOnDevice memory) (filter (has_ended w) w.blocks) (AllByRecursion-filter (IsOnDevice memory) (has_ended w) w.blocks apart.on_device)))
         block_found.1 in
         let place : block_found.0.place ≡ e.place = ap (λ (x : Ended). x.place) block_found.2 in
         let above = first_from from (ended_by_place w) block_found.0 block_found.1 in

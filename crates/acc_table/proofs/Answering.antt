@@ -10,7 +10,7 @@ use Rattle.acc_base.specs.declared.loans.Loan.{Loan}
 use Rattle.acc_base.specs.declared.mappings.Found.{Found}
 use Rattle.acc_base.specs.declared.mappings.Found.TheVariants.{Empty, Inside, Partly, Absent}
 use Rattle.acc_base.specs.Limits.{IsWithinBounds}
-use Rattle.acc_base.specs.Section.{is_within, end_of, host_memory, host_base}
+use Rattle.acc_base.specs.Section.{is_within, end_of, host_memory, host_base, device_memory}
 use Rattle.acc_base.specs.Ranges.{where_is, range_of, range_from, IsPlacedAt}
 use Rattle.acc_base.specs.Loans.{is_lent}
 use Rattle.acc_base.specs.Records.{State}
@@ -89,7 +89,7 @@ place_low w number bounds a = go (block_at number w.state.records.blocks) refl
     go : (o : Option Block) → block_at number w.state.records.blocks ≡ o → unwrap_or (option_map (λ b. b.place) o) 0 < 2 ^ 41
     go None e = omega arith
     go (Some b) e =
-        let on : IsOnDevice w.limits.device b = (found_has (IsOnDevice w.limits.device) (λ b. b.number == number) w.state.records.blocks b a.sound.layout.records.blocks_apart.on_device e).0 in
+        let on : IsOnDevice (device_memory w.limits.device) b = (found_has (IsOnDevice (device_memory w.limits.device)) (λ b. b.number == number) w.state.records.blocks b a.sound.layout.records.blocks_apart.on_device e).0 in
         omega (arith, on.last, bounds.device.1)
 
 -- ---- the bytes of a block

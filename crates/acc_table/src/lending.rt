@@ -1,6 +1,6 @@
 //! How a block is lent, and how it comes back, each with its event. Room in the trace comes before the first change.
 
-ghost use Rattle.std.specs.Prelude.{◌≡◌, ◌<◌, ◌^◌, [], vec_len, vec_capacity, Ok, IfOk, IfErr, OnErr};
+ghost use Rattle.std.specs.Prelude.{◌≡◌, ◌<◌, ◌^◌, [], vec_len, vec_capacity, Ok, IsOk, IfOk, IfErr, OnErr};
 ghost use Rattle.acc_base.specs.declared.events.Event.TheVariants.{Lent, Gathered};
 ghost use Rattle.acc_base.specs.declared.faults.Fault.TheVariants.{Memory};
 ghost use Rattle.acc_base.specs.Judge.{gather_event};
@@ -16,7 +16,7 @@ use acc_lend::Lease;
 ///
 /// # Errors
 ///
-/// [`Fault::Memory`] alone, and nothing changed.
+/// [`Fault::Memory`] alone, where there was no room in the trace for one event more, and nothing changed.
 pub fn lend(
     store: &mut Store,
     trace: &mut Vec<Event>,
@@ -27,6 +27,7 @@ pub fn lend(
     requires planned { IsLoanPlanned store.old.limits region section store.old.state loan }
     requires serial { store.old.state.register.serial < 2 ^ 48 }
     ensures done { IfOk result (λ reply. IsMadeInto (Lent region section loan.block loan.serial) [] reply store.old store.new trace.old.items trace.new.items) }
+    ensures succeeds { vec_len trace.old < vec_capacity trace.old → IsOk result }
     ensures only { IfErr result (λ fault. fault ≡ Memory) }
     ensures same { OnErr result (IsAsBefore store.old store.new trace.old.items trace.new.items) }
 {
@@ -61,7 +62,7 @@ pub fn take_back(store: &mut Store, trace: &mut Vec<Event>, lease: Lease) -> Rep
 ///
 /// # Errors
 ///
-/// [`Fault::Memory`] alone, and nothing changed.
+/// [`Fault::Memory`] alone, where there was no room in the trace for one event more, and nothing changed.
 pub fn gather(
     store: &mut Store,
     trace: &mut Vec<Event>,
@@ -69,6 +70,7 @@ pub fn gather(
 ) -> Result<Reply, (Lease, Fault)>
     requires ready { gather_event lease store.old.state.records ≡ Ok (Gathered lease.serial lease.block) }
     ensures done { IfOk result (λ reply. IsMadeInto (Gathered lease.serial lease.block) lease.bytes reply store.old store.new trace.old.items trace.new.items) }
+    ensures succeeds { vec_len trace.old < vec_capacity trace.old → IsOk result }
     ensures back { IfErr result (λ back. (back.0 ≡ lease) × (back.1 ≡ Memory)) }
     ensures same { OnErr result (IsAsBefore store.old store.new trace.old.items trace.new.items) }
 {

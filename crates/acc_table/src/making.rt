@@ -1,6 +1,6 @@
 //! How a judged directive becomes an event. All growths come before the first change.
 
-ghost use Rattle.std.specs.Prelude.{◌≡◌, ◌<◌, ◌^◌, ◌++◌, ◌∷◌, [], false, length, Ok, vec_len, vec_capacity, is_none, IfOk, IfErr, OnOk, OnErr, IfSome};
+ghost use Rattle.std.specs.Prelude.{◌≡◌, ◌+◌, ◌<◌, ◌≤◌, ◌^◌, ◌++◌, ◌∷◌, [], false, length, Ok, vec_len, vec_capacity, is_none, IsOk, IfOk, IfErr, OnOk, OnErr, IfSome};
 ghost use Rattle.acc_base.specs.declared.faults.Fault.TheVariants.{Memory};
 ghost use Rattle.acc_base.specs.declared.events.Event.TheVariants.{HostWritten};
 ghost use Rattle.acc_base.specs.Bytes.{host_after_write};
@@ -8,7 +8,7 @@ ghost use Rattle.acc_base.specs.Judge.{plan_of};
 ghost use Rattle.acc_base.specs.Records.{layout_of, State};
 ghost use Rattle.acc_clauses.specs.Acts.{CanWrite, HasPlanRoom};
 ghost use Rattle.acc_clauses.specs.Planned.{in_written_order, IsPlannedOn};
-ghost use Rattle.acc_clauses.specs.Stored.{IsPlan};
+ghost use Rattle.acc_clauses.specs.Stored.{IsPlan, IsPlanOf};
 ghost use Rattle.acc_table.specs.Making.{is_idle, number_told, event_told, reply_told, planned_verdict, MayBeToldOf, IsCommitted, IsAsBefore};
 
 use crate::calls::Reply;
@@ -112,8 +112,8 @@ fn commit(
     directive: Directive,
     did: List<Did>,
 ) -> Reply
-    requires planned { IsPlannedOn store.old.limits directive (layout_of store.old.state) plan.now }
-    requires births { store.old.state.records.births < 2 ^ 47 }
+    requires planned { IsPlanOf directive store.old plan.now }
+    requires births { store.old.state.records.births + 64 ≤ 2 ^ 48 }
     requires regions { store.old.state.register.next < 2 ^ 48 }
     requires did { did ≡ in_written_order plan.now.head plan.now.dids }
     requires busy { is_idle directive store.old.state ≡ false }
@@ -140,10 +140,10 @@ fn prepare(
     plan: &mut Plan,
     directive: &Directive,
 ) -> Result<Option<List<Did>>, Fault>
-    requires births { store.old.state.records.births < 2 ^ 47 }
+    requires births { store.old.state.records.births + 64 ≤ 2 ^ 48 }
     ensures same { IsAsBefore store.old store.new trace.old.items trace.new.items }
     ensures judged { OnOk result (plan_of store.old.limits directive.now store.old.state ≡ Ok (planned_verdict directive.now plan.new store.old)) }
-    ensures planned { OnOk result (IsPlannedOn store.old.limits directive.now (layout_of store.old.state) plan.new) }
+    ensures planned { OnOk result (IsPlanOf directive.now store.new plan.new) }
     ensures idle { IfOk result (λ did. is_none did ≡ is_idle directive.now store.old.state) }
     ensures did { IfOk result (λ told. IfSome told (λ did. did ≡ in_written_order plan.new.head plan.new.dids)) }
     ensures room { IfOk result (λ told. IfSome told (λ _. HasPlanRoom plan.new store.new.room)) }
@@ -169,7 +169,7 @@ pub fn carry_out(
     plan: &mut Plan,
     directive: Directive,
 ) -> Result<Reply, (Directive, Fault)>
-    requires births { store.old.state.records.births < 2 ^ 47 }
+    requires births { store.old.state.records.births + 64 ≤ 2 ^ 48 }
     requires regions { store.old.state.register.next < 2 ^ 48 }
     ensures judged { OnOk result (plan_of store.old.limits directive store.old.state ≡ Ok (planned_verdict directive plan.new store.old)) }
     ensures planned { OnOk result (IsPlannedOn store.old.limits directive (layout_of store.old.state) plan.new) }
@@ -185,7 +185,11 @@ pub fn carry_out(
     }
 }
 
-/// Writes bytes into host memory and stores the event.
+/// Makes room in the trace for one event more, writes bytes into host memory and stores the event.
+///
+/// # Errors
+///
+/// [`Fault::Memory`] alone, where there was no such room, and nothing changed.
 pub fn write_host(
     store: &mut Store,
     trace: &mut Vec<Event>,
@@ -196,6 +200,7 @@ pub fn write_host(
     ensures limits { store.new.limits ≡ store.old.limits }
     ensures state { OnOk result (store.new.state ≡ record store.old.state { host = host_after_write addr (length bytes.now) bytes.now store.old.state.host }) }
     ensures trace { OnOk result (trace.new.items ≡ trace.old.items ++ HostWritten addr (length bytes.now) ∷ []) }
+    ensures succeeds { vec_len trace.old < vec_capacity trace.old → IsOk result }
     ensures only { IfErr result (λ fault. fault ≡ Memory) }
     ensures same { OnErr result (IsAsBefore store.old store.new trace.old.items trace.new.items) }
 {

@@ -7,13 +7,15 @@ ghost use Rattle.acc_base.specs.Register.{newest_region};
 ghost use Rattle.acc_base.specs.Ranges.{where_is, IsPlacedAt};
 ghost use Rattle.acc_base.specs.Pointers.{device_address_of, attachment_of};
 ghost use Rattle.acc_base.specs.Queues.{queue_at};
+ghost use Rattle.acc_base.specs.Section.{device_memory};
+ghost use Rattle.acc_base.specs.Holes.{IsNextHole};
 ghost use Rattle.acc_base.specs.Waits.{ended_from};
 ghost use Rattle.acc_base.specs.Inside.{IsInsideOne};
 ghost use Rattle.acc_table.specs.Queries.{is_inside, counters_of_section, mapped_from, IsLeastFrom, host_read_of, device_read_of};
 
 use crate::calls::Mapped;
 use crate::tables::Table;
-use acc_base::{Config, Counters, Ended, Event, Found, Section};
+use acc_base::{Config, Counters, Ended, Event, Found, Hole, Section};
 
 /// The section is inside one range.
 fn is_inside(found: Found) -> bool
@@ -121,6 +123,14 @@ impl Table {
         ensures { result ≡ ended_from from self.now.state.records }
     {
         self.store.ended(from)
+    }
+
+    /// The hole of least place at or above a device address: free addresses of the device that lie side by side, as many as
+    /// there are.
+    pub fn hole(&self, from: u64) -> Option<Hole>
+        ensures { IsNextHole from (device_memory self.now.limits.device) self.now.state.records.blocks result }
+    {
+        self.store.hole(from)
     }
 
     /// How many transfers wait in a queue; 0 where there is no such queue (OpenACC 3.3, section 2.16).

@@ -5,6 +5,7 @@ ghost use Rattle.acc_base.specs.declared.calls.Call.TheVariants.{Do, HostWrite, 
 ghost use Rattle.acc_base.specs.declared.events.Event.TheVariants.{Lent, Gathered};
 ghost use Rattle.acc_base.specs.declared.faults.Fault.TheVariants.{Memory};
 ghost use Rattle.acc_base.specs.Limits.{IsWithinBounds};
+ghost use Rattle.acc_base.specs.Section.{device_memory};
 ghost use Rattle.acc_base.specs.Holes.{IsDevice};
 ghost use Rattle.acc_base.specs.Judge.{Makes, gather_event};
 ghost use Rattle.acc_base.specs.Calls.{ticket, allowance, trace_room, new_world, judge};
@@ -69,11 +70,12 @@ impl Table {
     /// is what the history gives and within its limit, a structured counter is how often open regions hold its block,
     /// each queue is within its limit and each queued transfer within its block, each loan is of a section within a
     /// mapped block, each memory has its size where it is not lent, the history is legal, the limits are within their
-    /// bounds, and blocks and holes are the device, with no address in two of them. Nothing is done.
+    /// bounds, and the blocks and the holes that [`Table::hole`] answers are the device, with no address in two of them.
+    /// Nothing is done.
     pub fn laws(&self)
         ensures accounted { IsAccounted self.now }
         ensures bounds { IsWithinBounds self.now.limits }
-        ensures holes { IsDevice self.now.limits.device self.now.state.records.blocks }
+        ensures holes { IsDevice (device_memory self.now.limits.device) self.now.state.records.blocks }
     {
         self.store.laws();
     }

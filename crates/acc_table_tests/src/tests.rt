@@ -3,7 +3,7 @@
 
 use acc_base::{
     Aim, Config, Counters, Did, Directive, Ended, EnterClause, Event, ExitClause, Fault, Found,
-    Item, List, RegionClause, Section, Step, UpdateClause,
+    Hole, Item, List, RegionClause, Section, Step, UpdateClause,
 };
 use acc_table::{Answer, Mapped, Table, Turn, abandon_all};
 use rows::SUBJECTS;
@@ -72,6 +72,8 @@ enum Check {
     Queue(u64, u64),
     /// The block of least place at or above a device address whose mapping has ended.
     EndedFrom(u64, Option<Ended>),
+    /// The hole of least place at or above a device address.
+    HoleFrom(u64, Option<Hole>),
     Used(u64),
     Events(u64),
     TicketBook(u64),
@@ -273,6 +275,7 @@ fn check_one(rt: &impl Abort, row: &str, table: &Table, check: Check) {
         Check::Device(at, wanted) => same(rt, row, table.device_read(section(at)), wanted),
         Check::Queue(q, wanted) => same(rt, row, table.queue_len(q), wanted),
         Check::EndedFrom(from, wanted) => same(rt, row, table.ended(from), wanted),
+        Check::HoleFrom(from, wanted) => same(rt, row, table.hole(from), wanted),
         Check::Used(wanted) => same(rt, row, table.used(), wanted),
         Check::Events(wanted) => same(rt, row, table.events(), wanted),
         Check::TicketBook(wanted) => same(rt, row, table.ticket_book(), wanted),

@@ -1,6 +1,6 @@
 //! What changes the parts. Nothing is judged here; making room alone takes memory, and nothing else is refused.
 
-ghost use Rattle.std.specs.Prelude.{◌≡◌, ◌^◌, ◌<◌, ◌≤◌, All, IfErr, OnOk, IsSome, None, Ok, length, take, true, false};
+ghost use Rattle.std.specs.Prelude.{◌≡◌, ◌^◌, ◌<◌, ◌≤◌, All, IfErr, OnOk, OnErr, IsSome, None, Ok, length, take, true, false};
 ghost use Rattle.acc_base.specs.declared.faults.Fault.TheVariants.{Memory};
 ghost use Rattle.acc_base.specs.Limits.{IsFromOne};
 ghost use Rattle.acc_base.specs.declared.addresses.TheConstants.{MEMORY_MAX};
@@ -16,7 +16,7 @@ ghost use Rattle.acc_clauses.specs.Overlays.{puts_by};
 ghost use Rattle.acc_base.specs.Judge.{leased};
 ghost use Rattle.acc_base.specs.Accounts.{IsLoanSound};
 ghost use Rattle.acc_clauses.specs.Lending.{lent_state, gathered_state};
-ghost use Rattle.acc_clauses.specs.Acts.{IsJudged, IsKnown, HasRoomFor, HasPutRoom, HasRegionRoom, CanWrite, IsRoomLeft, birth_of, pointers_of};
+ghost use Rattle.acc_clauses.specs.Acts.{IsJudged, IsKnown, HasRoomFor, HasPutRoom, HasRegionRoom, IsRoomMissing, CanWrite, IsRoomLeft, birth_of, pointers_of};
 
 use crate::acting::act_on;
 use crate::parts::Parts;
@@ -56,7 +56,7 @@ impl Parts {
     ///
     /// # Errors
     ///
-    /// [`Fault::Memory`] alone.
+    /// [`Fault::Memory`] alone, where some of that room was missing; the bytes of a birth are always made anew.
     pub(crate) fn reserve(
         &mut self,
         lens: &[u64],
@@ -70,7 +70,9 @@ impl Parts {
         ensures room { OnOk result (HasRoomFor lens.now self.new.room) }
         ensures room_region { OnOk result (HasRegionRoom holdings self.new.room) }
         ensures room_pointers { OnOk result (pointers ≤ self.new.room.attachments) }
+        ensures puts { self.new.room.puts ≡ self.old.room.puts }
         ensures only { IfErr result (λ fault. fault ≡ Memory) }
+        ensures needed { OnErr result (IsRoomMissing lens.now holdings pointers self.old.room) }
     {
         self.environment.device.reserve(lens)?;
         self.environment
@@ -84,7 +86,7 @@ impl Parts {
     ///
     /// # Errors
     ///
-    /// [`Fault::Memory`] alone.
+    /// [`Fault::Memory`] alone, where that room was missing.
     pub(crate) fn reserve_puts(&mut self, q: u64, puts: u64) -> Result<(), Fault>
         requires known { q < QUEUE_COUNT }
         requires few { puts ≤ 64 }
@@ -97,6 +99,7 @@ impl Parts {
         ensures holdings { self.new.room.holdings ≡ self.old.room.holdings }
         ensures attachments { self.new.room.attachments ≡ self.old.room.attachments }
         ensures only { IfErr result (λ fault. fault ≡ Memory) }
+        ensures needed { OnErr result (spare_at q self.old.room.puts < puts) }
     {
         self.environment.queues.reserve(q, puts)
     }
@@ -129,6 +132,7 @@ impl Parts {
     pub(crate) fn host_write(&mut self, addr: u64, bytes: &[u8])
         requires { CanWrite (record { start = addr; len = length bytes.now }) self.old.state.host }
         ensures limits { self.new.limits ≡ self.old.limits }
+        ensures room { self.new.room ≡ self.old.room }
         ensures state { self.new.state ≡ record self.old.state { host = host_after_write addr (length bytes.now) bytes.now self.old.state.host } }
     {
         let Ok(()) = self.environment.host.write(addr, bytes) else {
@@ -144,6 +148,7 @@ impl Parts {
         requires few { self.old.state.register.serial < 2 ^ 48 }
         ensures lease { result ≡ leased loan self.old.state }
         ensures limits { self.new.limits ≡ self.old.limits }
+        ensures room { self.new.room ≡ self.old.room }
         ensures state { self.new.state ≡ lent_state loan self.old.state }
     {
         self.environment.device.laws();
@@ -161,6 +166,7 @@ impl Parts {
     pub(crate) fn gather(&mut self, lease: Lease)
         requires { is_returnable lease self.old.state.records.blocks self.old.state.records.loans ≡ true }
         ensures limits { self.new.limits ≡ self.old.limits }
+        ensures room { self.new.room ≡ self.old.room }
         ensures state { self.new.state ≡ gathered_state lease self.old.state }
     {
         self.numbers.lent = self.numbers.lent.saturating_sub(1);

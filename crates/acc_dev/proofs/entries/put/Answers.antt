@@ -8,7 +8,7 @@ returns-clause-kept c =
     let u = c.insert_reserved-slot.ensures in
     let len : c.len-len.result ≡ length c.args.bytes.items = search (rules, c.len-len.ensures) in
     rw c.push_reserved.ensures.items (born_kept c.args.holes.now c.take_reserved-place.new.self c.args.slab.now.slots c.insert_reserved-slot.new.self.slots c.args.index.now.items c.args.number c.insert_reserved-slot.result _
-    c.requires.kept c.requires.above u.was_vacant u.updates.changed u.updates.others (rw len c.requires.len) len refl (record { few = omega arith; held = λ ended. absurd (false≢true ended) }) c.take_reserved-place.ensures.taken.base c.take_reserved-place.ensures.canonical c.take_reserved-place.ensures.partition)
+    c.requires.kept c.requires.above u.was_vacant u.updates.changed u.updates.others (rw len c.requires.len) len refl (record { few = omega arith; held = λ ended. absurd (false≢true ended) }) c.take_reserved-place.ensures.canonical c.take_reserved-place.ensures.partition)
 
 pub returns-clause-blocks : goal.returns-clause-blocks
 returns-clause-blocks c =

@@ -37,7 +37,7 @@ returns-clause-kept c =
     let same = entry_read c.args.index.now.items c.args.at c.remove-slot.result c.remove-slot.ensures.value c.requires.in_bounds in
     let is : slot_of c.args.slab.now.slots (get_or c.args.index.now.items c.args.at start) ≡ Some c.remove-place.result = rw same c.remove-place.ensures.value in
     rw c.remove-slot.ensures.items (left_kept c.args.holes.now c.give_back.new.self c.args.slab.now.slots c.remove-place.new.self.slots c.args.index.now.items c.args.at c.remove-place.result
-    c.requires.kept c.requires.in_bounds is (others c.args.slab.now.slots c.remove-place.new.self.slots c.args.index.now.items c.args.at c.remove-slot.result c.remove-slot.ensures.value c.requires.in_bounds c.remove-place.ensures.updates.others) (rw same c.remove-place.ensures.updates.changed) c.give_back.ensures.given_back.base c.give_back.ensures.canonical c.give_back.ensures.partition)
+    c.requires.kept c.requires.in_bounds is (others c.args.slab.now.slots c.remove-place.new.self.slots c.args.index.now.items c.args.at c.remove-slot.result c.remove-slot.ensures.value c.requires.in_bounds c.remove-place.ensures.updates.others) (rw same c.remove-place.ensures.updates.changed) c.give_back.ensures.canonical c.give_back.ensures.partition)
 
 pub returns-clause-blocks : goal.returns-clause-blocks
 returns-clause-blocks c = rw c.remove-slot.ensures.items (made-removed block_from c.args.slab.now.slots c.remove-place.new.self.slots c.args.index.now.items c.args.at (same_slots c.args.slab.now.slots c.remove-place.new.self.slots c.args.index.now.items c.args.at c.remove-slot.result c.requires.kept.distinct c.remove-slot.ensures.value c.requires.in_bounds c.remove-place.ensures.updates.others))

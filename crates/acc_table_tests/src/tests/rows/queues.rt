@@ -1,13 +1,15 @@
 //! Queues: transfers that wait, and what makes them.
 
 use crate::tests::Ask::{EnterData, ExitDataLater, Step, UpdateLater, Wait, Write};
-use crate::tests::Check::{Address, Device, EndedFrom, Events, Host, Queue, TicketBook, Used};
+use crate::tests::Check::{
+    Address, Device, EndedFrom, Events, HoleFrom, Host, Queue, TicketBook, Used,
+};
 use crate::tests::rows::{A, DEVICE, DONE, WIDE};
 use crate::tests::{Limits, Row};
 use acc_base::EnterClause::{Copyin, Create};
 use acc_base::ExitClause::Copyout;
 use acc_base::UpdateClause::{ToDevice, ToSelf};
-use acc_base::{Ended, Fault};
+use acc_base::{Ended, Fault, Hole};
 use acc_table::Answer;
 use acc_table::Answer::Refused;
 
@@ -43,6 +45,14 @@ pub const ROWS: &[Row] = &[
                 }),
             ),
             EndedFrom(DEVICE + 1, None),
+            HoleFrom(
+                0,
+                Some(Hole {
+                    place: DEVICE + 32,
+                    size: 32,
+                }),
+            ),
+            HoleFrom(DEVICE + 33, None),
             Queue(1, 1),
             Used(32),
         ],

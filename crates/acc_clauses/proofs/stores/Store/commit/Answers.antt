@@ -22,7 +22,7 @@ act_all-requires-clause-judged c =
     let p = c.args.plan.now in
     let planned : IsPlan k p = subst (λ (x : Contents). IsPlan x p) (sym c.self.view_is) c.requires.planned in
     subst (λ (ts : List Task). AreJudged k.limits 0 ts (dids_in c.acts.result.now) k.state.records) (sym c.acts.ensures.tasks)
-    (subst (λ (ds : List Did). AreJudged k.limits 0 p.tasks ds k.state.records) (sym c.acts.ensures.dids) planned.1.judged)
+    (subst (λ (ds : List Did). AreJudged k.limits 0 p.tasks ds k.state.records) (sym c.acts.ensures.dids) planned.1.planned.judged)
 
 pub act_all-requires-clause-known : goal.act_all-requires-clause-known
 act_all-requires-clause-known c =
@@ -30,7 +30,7 @@ act_all-requires-clause-known c =
     let p = c.args.plan.now in
     let planned : IsPlan k p = subst (λ (x : Contents). IsPlan x p) (sym c.self.view_is) c.requires.planned in
     subst (λ (ts : List Task). AreKnown ts (dids_in c.acts.result.now) k.state.records) (sym c.acts.ensures.tasks)
-    (subst (λ (ds : List Did). AreKnown p.tasks ds k.state.records) (sym c.acts.ensures.dids) (plan_known planned.0 k p c.laws.ensures.limits c.self.invariant planned.1))
+    (subst (λ (ds : List Did). AreKnown p.tasks ds k.state.records) (sym c.acts.ensures.dids) (plan_known planned.0 k p c.laws.ensures.limits c.self.invariant planned.1.planned))
 
 pub act_all-requires-clause-room : goal.act_all-requires-clause-room
 act_all-requires-clause-room c =
@@ -65,7 +65,7 @@ finish-requires c =
     let room : HasPlanRoom p k.room = subst (λ (x : Contents). HasPlanRoom p x.room) (sym c.self.view_is) c.requires.room in
     let next : k.state.register.next < 2 ^ 48 = subst (λ (x : Contents). x.state.register.next < 2 ^ 48) (sym c.self.view_is) c.requires.next in
     let same : f.state.register ≡ k.state.register = ap (λ (s : State). s.register) c.act_all.ensures.state ∙ register-act_all_state (tasks_in acts) (dids_in acts) k.state in
-    plan_can planned.0 k f p c.self.invariant planned.1 next room.region (c.act_all.ensures.state ∙ ap (λ ts. act_all_state ts (dids_in acts) k.state) c.acts.ensures.tasks ∙ ap (λ ds. act_all_state p.tasks ds k.state) c.acts.ensures.dids) same c.act_all.ensures.room_regions c.act_all.ensures.room_holdings
+    plan_can planned.0 k f p c.self.invariant planned.1.planned next room.region (c.act_all.ensures.state ∙ ap (λ ts. act_all_state ts (dids_in acts) k.state) c.acts.ensures.tasks ∙ ap (λ ds. act_all_state p.tasks ds k.state) c.acts.ensures.dids) same c.act_all.ensures.room_regions c.act_all.ensures.room_holdings
 
 pub invariant_of-self : goal.invariant_of-self
 invariant_of-self c =
@@ -73,7 +73,7 @@ invariant_of-self c =
     let p = c.args.plan.now in
     let acts = c.acts.result.now in
     let planned : IsPlan k p = subst (λ (x : Contents). IsPlan x p) (sym c.self.view_is) c.requires.planned in
-    plan_sound planned.0 k c.finish.new.parts p c.laws.ensures.limits c.self.invariant planned.1 (c.finish.ensures.limits ∙ c.act_all.ensures.limits)
+    plan_sound planned.0 k c.finish.new.parts p c.laws.ensures.limits c.self.invariant planned.1.planned (c.finish.ensures.limits ∙ c.act_all.ensures.limits)
     (all_finished p (tasks_in acts) (dids_in acts) k.state c.act_all.new.parts.state c.finish.new.parts.state c.acts.ensures.tasks c.acts.ensures.dids c.act_all.ensures.state c.finish.ensures.state)
     c.laws-2.ensures.used
 

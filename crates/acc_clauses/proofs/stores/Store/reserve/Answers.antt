@@ -16,14 +16,14 @@ pub reserve-requires-clause-lens : goal.reserve-requires-clause-lens
 reserve-requires-clause-lens c =
     let p = c.args.plan.now in
     let planned : IsPlan c.self.inside.parts p = subst (λ (k : Contents). IsPlan k p) (sym c.self.view_is) c.requires.planned in
-    subst (λ ls. All (IsFromOne MEMORY_MAX) ls) (sym c.lens.ensures.lens) (lens_fit c.self.inside.parts.limits 0 p.tasks p.dids c.self.inside.parts.state.records c.laws.ensures.limits planned.1.judged)
+    subst (λ ls. All (IsFromOne MEMORY_MAX) ls) (sym c.lens.ensures.lens) (lens_fit c.self.inside.parts.limits 0 p.tasks p.dids c.self.inside.parts.state.records c.laws.ensures.limits planned.1.planned.judged)
 
 pub reserve_puts-requires-clause-known : goal.reserve_puts-requires-clause-known
 reserve_puts-requires-clause-known c =
     let k : Contents = c.self.inside.parts in
     let p = c.args.plan.now in
     let planned : IsPlan k p = subst (λ (x : Contents). IsPlan x p) (sym c.self.view_is) c.requires.planned in
-    queue_there k.limits planned.0 (layout_of k.state) p c.in-Some.q planned.1 (sym c.queue.ensures ∙ c.in-Some.is)
+    queue_there k.limits planned.0 (layout_of k.state) p c.in-Some.q planned.1.planned (sym c.queue.ensures ∙ c.in-Some.is)
 
 pub returns-in-Some-clause-room : goal.returns-in-Some-clause-room
 returns-in-Some-clause-room c =
@@ -44,7 +44,7 @@ returns-in-Some-clause-room c =
       region = c.in_ok-reserve.ensures.room_region;
       enough = c.in_ok-reserve.ensures.room_pointers;
     }) (record { births = kept.births; ranges = kept.ranges; regions = kept.regions; holdings = kept.holdings; attachments = kept.attachments })
-    (one_room k.limits planned.0 (layout_of k.state) p q c.reserve_puts.new.self.room planned.1 (sym c.queue.ensures ∙ c.in-Some.is)
+    (one_room k.limits planned.0 (layout_of k.state) p q c.reserve_puts.new.self.room planned.1.planned (sym c.queue.ensures ∙ c.in-Some.is)
     (subst (λ n. n ≤ spare_at q c.reserve_puts.new.self.room.puts) count enough))) c.reserve_puts.ensures.room
 
 pub returns-in-None-clause-room : goal.returns-in-None-clause-room
@@ -61,4 +61,4 @@ returns-in-None-clause-room c =
       region = c.in_ok-reserve.ensures.room_region;
       enough = c.in_ok-reserve.ensures.room_pointers;
     }) (record { births = refl; ranges = refl; regions = refl; holdings = refl; attachments = refl })
-    (none_room k.limits planned.0 (layout_of k.state) p c.reserve.new.self.room planned.1 (sym c.queue.ensures ∙ c.in-None.is))
+    (none_room k.limits planned.0 (layout_of k.state) p c.reserve.new.self.room planned.1.planned (sym c.queue.ensures ∙ c.in-None.is))

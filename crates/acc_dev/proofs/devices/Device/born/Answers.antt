@@ -7,13 +7,13 @@ use Rattle.acc_dev.specs.Room.{room_ready, HasRoom}
 use Rattle.acc_dev.specs.Device.{DeviceState, IsBorn, birth_place}
 use Rattle.acc_dev.specs.Kept.{AreSlotsKept}
 use Rattle.acc_dev.specs.declared.devices.Device.TheInside.{Inside}
-use Rattle.acc_dev.proofs.Keeping.{device_of}
+use Rattle.acc_dev.proofs.Keeping.{device_of, same_memory}
 use Rattle.acc_dev.proofs.Births.{birth_found, birth_least, refused_full, born_of, born_counted, above_all, there_after_birth, filled_after_birth}
 use Rattle.acc_dev.proofs.devices.Device.born.Goals as goal
 
 -- the place of a birth is the least, as contracts see the device
-least : (d : Inside) (now : DeviceState) (len : ℕ) → device_of d.holes d.slab.slots d.index.items d.births (room_ready d) ≡ now → AreSlotsKept d.holes d.slab.slots d.index.items → 1 ≤ len → IsPlaceFor now.size now.blocks (rounded len) (birth_place now len)
-least d now len is k some = subst (λ (x : DeviceState). IsPlaceFor x.size x.blocks (rounded len) (birth_place x len)) is (birth_least d.holes d.slab.slots d.index.items d.births len (room_ready d) k some)
+least : (d : Inside) (now : DeviceState) (len : ℕ) → device_of d.holes d.slab.slots d.index.items d.births (room_ready d) ≡ now → AreSlotsKept d.holes d.slab.slots d.index.items → 1 ≤ len → IsPlaceFor now.memory now.blocks (rounded len) (birth_place now len)
+least d now len is k some = subst (λ (x : DeviceState). IsPlaceFor x.memory x.blocks (rounded len) (birth_place x len)) is (birth_least d.holes d.slab.slots d.index.items d.births len (room_ready d) k some)
 
 -- the look-up finds the place of the birth, as contracts see the device
 found : (d : Inside) (now : DeviceState) (len : ℕ) (o : Option ℕ) → device_of d.holes d.slab.slots d.index.items d.births (room_ready d) ≡ now → AreSlotsKept d.holes d.slab.slots d.index.items → 1 ≤ len
@@ -76,7 +76,7 @@ born c =
     let room = c.in_ok-make_room.ensures in
     let fits = rw room.holes.holes at c.put.ensures.place in
     born_of d.holes c.put.new.holes d.slab.slots c.make_room.new.slab.slots c.put.new.slab.slots d.index.items c.make_room.new.index.items c.put.new.index.items d.births c.args.len c.put.result c.args.zero c.in_ok-bytes.bytes.items (room_ready d) (room_ready d)
-    c.self.invariant.0 c.requires.len.0 room.slots room.index (c.put.ensures.size ∙ room.holes.size) c.in_ok-bytes.ensures.ok fits c.put.ensures.blocks c.put.ensures.memories c.put.ensures.marks c.put.ensures.loans
+    c.self.invariant.0 c.requires.len.0 room.slots room.index (c.put.ensures.memory ∙ same_memory c.self.inside.holes c.make_room.new.holes room.holes.base room.holes.size) c.in_ok-bytes.ensures.ok fits c.put.ensures.blocks c.put.ensures.memories c.put.ensures.marks c.put.ensures.loans
 
 pub returns-clause-born : goal.returns-clause-born
 returns-clause-born c =

@@ -36,4 +36,4 @@ returns-clause-born c =
     let left = map (λ v. vec_capacity v) c.pop_front.new.self.items in
     subst (λ (x : DeviceState). IsBorn x (device_of c.put.new.holes c.put.new.slab.slots c.put.new.index.items (d.births + 1) left) c.args.len c.args.zero (d.births + 1)) c.self.view_is
     (born_of d.holes c.put.new.holes d.slab.slots d.slab.slots c.put.new.slab.slots d.index.items d.index.items c.put.new.index.items d.births c.args.len c.put.result c.args.zero c.fill.new.bytes.items (room_ready d) left
-    c.self.invariant.0 c.requires.len.0 refl refl c.put.ensures.size c.fill.ensures c.put.ensures.place c.put.ensures.blocks c.put.ensures.memories c.put.ensures.marks c.put.ensures.loans)
+    c.self.invariant.0 c.requires.len.0 refl refl c.put.ensures.memory c.fill.ensures c.put.ensures.place c.put.ensures.blocks c.put.ensures.memories c.put.ensures.marks c.put.ensures.loans)

@@ -41,6 +41,6 @@ returns-clause-born c =
     let left = map (λ v. vec_capacity v) c.pop_front.new.self.items in
     let is = given_is c.self.inside c.in-Some.bytes c.pop_front.new.self.items c.args.given.now c.extend_from_slice.new.self.items c.self.invariant.2 c.in-Some.ensures.items c.in-Ok.ensures.items in
     let born = born_with d.holes c.put.new.holes d.slab.slots d.slab.slots c.put.new.slab.slots d.index.items d.index.items c.put.new.index.items d.births (length c.args.given.now) c.put.result c.extend_from_slice.new.self.items (room_ready d) left
-    c.self.invariant.0 c.requires.len.0 refl refl c.put.ensures.size (ap length is) c.put.ensures.place c.put.ensures.blocks c.put.ensures.memories c.put.ensures.marks c.put.ensures.loans in
+    c.self.invariant.0 c.requires.len.0 refl refl c.put.ensures.memory (ap length is) c.put.ensures.place c.put.ensures.blocks c.put.ensures.memories c.put.ensures.marks c.put.ensures.loans in
     subst (λ (x : DeviceState). IsBornWith x (device_of c.put.new.holes c.put.new.slab.slots c.put.new.index.items (d.births + 1) left) (length c.args.given.now) c.args.given.now (d.births + 1)) c.self.view_is
     (subst (λ (b : List ℕ). IsBornWith (device_of d.holes d.slab.slots d.index.items d.births (room_ready d)) (device_of c.put.new.holes c.put.new.slab.slots c.put.new.index.items (d.births + 1) left) (length c.args.given.now) b (d.births + 1)) is born)

@@ -16,7 +16,7 @@ returns c =
     let s = c.self.inside in
     let found = rw c.deref.ensures.value at c.in-Some.ensures.found in
     subst (λ (d : DeviceState). IsRetired d (device_of c.remove_at.new.holes c.remove_at.new.slab.slots c.remove_at.new.index.items s.births (room_ready c.self.inside)) c.args.block) c.self.view_is
-    (retired_of s.holes c.remove_at.new.holes s.slab.slots c.remove_at.new.slab.slots s.index.items c.remove_at.new.index.items s.births c.in-Some.at c.args.block (room_ready c.self.inside) c.self.invariant.0 found c.remove_at.ensures.size c.remove_at.ensures.blocks c.remove_at.ensures.memories c.remove_at.ensures.marks c.remove_at.ensures.loans)
+    (retired_of s.holes c.remove_at.new.holes s.slab.slots c.remove_at.new.slab.slots s.index.items c.remove_at.new.index.items s.births c.in-Some.at c.args.block (room_ready c.self.inside) c.self.invariant.0 found c.remove_at.ensures.memory c.remove_at.ensures.blocks c.remove_at.ensures.memories c.remove_at.ensures.marks c.remove_at.ensures.loans)
 
 pub invariant_of-self : goal.invariant_of-self
 invariant_of-self c =

@@ -18,10 +18,10 @@ pub returns-clause-memories : goal.returns-clause-memories
 returns-clause-memories c = subst (λ (d : DeviceState). AllZip (IsMemoryOf d.loans) d.memories d.blocks) c.self.view_is (in_step c.self.inside.slab.slots c.self.inside.index.items c.self.invariant.0.rising c.self.invariant.0.backed)
 
 pub returns-clause-bytes_accounted : goal.returns-clause-bytes_accounted
-returns-clause-bytes_accounted c = subst (λ (d : DeviceState). used_bytes d.blocks ≤ d.size) c.self.view_is (used_within c.self.inside.holes c.self.inside.slab.slots c.self.inside.index.items c.self.invariant.0)
+returns-clause-bytes_accounted c = subst (λ (d : DeviceState). used_bytes d.blocks ≤ d.memory.len) c.self.view_is (used_within c.self.inside.holes c.self.inside.slab.slots c.self.inside.index.items c.self.invariant.0)
 
 pub returns-clause-holes : goal.returns-clause-holes
-returns-clause-holes c = subst (λ (d : DeviceState). IsDevice d.size d.blocks) c.self.view_is (divided c.self.inside.holes c.self.inside.slab.slots c.self.inside.index.items c.self.invariant.0)
+returns-clause-holes c = subst (λ (d : DeviceState). IsDevice d.memory d.blocks) c.self.view_is (divided c.self.inside.holes c.self.inside.slab.slots c.self.inside.index.items c.self.invariant.0)
 
 pub returns-clause-marks : goal.returns-clause-marks
 returns-clause-marks c = subst (λ (d : DeviceState). AllZip IsMarkOf d.marks d.blocks) c.self.view_is (marks_in_step c.self.inside.slab.slots c.self.inside.index.items)

@@ -1,4 +1,5 @@
-use Rattle.std.proofs.Common.{◌+◌, arith}
+use Rattle.std.proofs.Common.{◌+◌, ◌<◌, ◌^◌, arith}
+use Rattle.acc_base.specs.Section.{end_of, device_memory}
 use Rattle.acc_script.specs.Texts.{ended_text, ended_texts}
 use Rattle.acc_script.proofs.LeftToWrite.{leaves_all, leaves_less, leaves_lost, leaves_none}
 use Rattle.acc_script.proofs.RisingBlocks.{ended_place, ended_turn, ended_none}
@@ -12,19 +13,21 @@ returns-then-not-write_block g c =
     let told = g.W.Sink.told in
     let w = c.args.table.now.state.records in
     let e = c.in-Some.ended in
-    let turn = ended_turn c.args.table.now.limits.device w.births c.each.from w c.laws.ensures.accounted.sound.layout.records.blocks_apart e c.in-Some.ensures in
+    let turn = ended_turn (device_memory c.args.table.now.limits.device) w.births c.each.from w c.laws.ensures.accounted.sound.layout.records.blocks_apart e c.in-Some.ensures in
     leaves_lost (told c.args.writer.now) (told c.each.writer) (told c.write_block.new.writer) (ended_texts 0 w) (ended_texts c.each.from w) (ended_text e) (ended_texts (e.place + 1) w) turn c.each.invariant c.if-not-write_block.ensures
 
 pub overflow_add-from : goal.overflow_add-from
 overflow_add-from g c =
     let w = c.args.table.now.state.records in
-    let place = ended_place c.args.table.now.limits.device w.births c.each.from w c.laws.ensures.accounted.sound.layout.records.blocks_apart c.in-Some.ended c.in-Some.ensures c.laws.ensures.bounds.device.1 in
+    let bound : end_of (device_memory c.args.table.now.limits.device) < 2 ^ 34 = omega (arith, c.laws.ensures.bounds.device.1) in
+    let place = ended_place (device_memory c.args.table.now.limits.device) w.births c.each.from w c.laws.ensures.accounted.sound.layout.records.blocks_apart c.in-Some.ended c.in-Some.ensures bound in
     omega (arith, place.1)
 
 pub each-smaller : goal.each-smaller
 each-smaller g c =
     let w = c.args.table.now.state.records in
-    let place = ended_place c.args.table.now.limits.device w.births c.each.from w c.laws.ensures.accounted.sound.layout.records.blocks_apart c.in-Some.ended c.in-Some.ensures c.laws.ensures.bounds.device.1 in
+    let bound : end_of (device_memory c.args.table.now.limits.device) < 2 ^ 34 = omega (arith, c.laws.ensures.bounds.device.1) in
+    let place = ended_place (device_memory c.args.table.now.limits.device) w.births c.each.from w c.laws.ensures.accounted.sound.layout.records.blocks_apart c.in-Some.ended c.in-Some.ensures bound in
     omega (arith, place.0, place.1)
 
 pub each-preserved : goal.each-preserved
@@ -32,7 +35,7 @@ each-preserved g c =
     let told = g.W.Sink.told in
     let w = c.args.table.now.state.records in
     let e = c.in-Some.ended in
-    let turn = ended_turn c.args.table.now.limits.device w.births c.each.from w c.laws.ensures.accounted.sound.layout.records.blocks_apart e c.in-Some.ensures in
+    let turn = ended_turn (device_memory c.args.table.now.limits.device) w.births c.each.from w c.laws.ensures.accounted.sound.layout.records.blocks_apart e c.in-Some.ensures in
     leaves_less (told c.args.writer.now) (told c.each.writer) (told c.write_block.new.writer) (ended_texts 0 w) (ended_texts c.each.from w) (ended_text e) (ended_texts (e.place + 1) w) turn c.each.invariant c.if-not-write_block.ensures
 
 pub returns : goal.returns

@@ -369,7 +369,7 @@ pub const TEXTS: [(&str, Parts<'static>); 2] = [
             last: "7f\n",
         },
     ),
-    // Half of these, in three lines.
+    // Half as many digits, and a report.
     (
         "array a 2050\nenter data create(a)\nshow a\nreport\n",
         Parts {

@@ -1,32 +1,57 @@
 //! What the program tells where a source or a sink fails.
 
-use super::{check_status, words};
+use super::{check_status, same, words};
 use crate::outputs::Output;
 use crate::tools::tool;
-use acc_script::{MemorySink, MemorySource, Sink, Source};
+use acc_script::{MemorySink, MemorySource, Sink, Source, ToWrite};
 use std::alloc::AllocError;
+use std::cell::Cell;
+use std::io::{self, BufWriter, ErrorKind, Write};
 use std::process::Abort;
 use std::sync::Wait;
 use std::test::Fail;
 use std::thread::Threads;
 
-/// Takes so many writes and then fails, and fails to flush where it is told to.
+/// Takes so many bytes and then fails, and fails to flush where it is told to.
 #[derive(Drop)]
-struct FailingSink {
-    left: u32,
+struct LimitedWriter<'a> {
+    room: usize,
+    taken: &'a Cell<usize>,
     flushes: bool,
 }
 
-impl Sink for FailingSink {
-    fn write(&mut self, piece: &[u8]) -> Option<usize> {
-        self.left = self.left.checked_sub(1)?;
-        Some(piece.len())
+impl Write for LimitedWriter<'_> {
+    fn write(&mut self, piece: &[u8]) -> io::Result<usize> {
+        let taken = self.taken.get();
+        let count = piece.len().min(self.room.saturating_sub(taken));
+        if count == 0 {
+            return Err(ErrorKind::Other.into());
+        }
+        self.taken.set(taken.wrapping_add(count));
+        Ok(count)
+    }
+
+    fn flush(&mut self) -> io::Result<()> {
+        if self.flushes {
+            Ok(())
+        } else {
+            Err(ErrorKind::Other.into())
+        }
     }
 }
 
-impl Output for FailingSink {
-    fn flush(&mut self) -> bool {
-        self.flushes
+/// Keeps what it is told, and how many bytes of the output were taken by then.
+#[derive(Drop)]
+struct Witness<'a> {
+    text: MemorySink,
+    taken: &'a Cell<usize>,
+    seen: Option<usize>,
+}
+
+impl Sink for Witness<'_> {
+    fn write(&mut self, piece: &[u8]) -> Option<usize> {
+        self.seen = Some(self.taken.get());
+        self.text.write(piece)
     }
 }
 
@@ -72,18 +97,32 @@ fn a_failed_read_runs_nothing(rt: HostRuntime) -> Result<(), Fail> {
     Ok(())
 }
 
-/// How many writes standard output takes, whether its flush succeeds, a script, what is told, and the status.
-const FAILING_OUTPUTS: [(u32, bool, &str, &str, u8); 6] = [
-    (0, true, "report\n", "accrun: 21 Write\n", 2),
-    (2, true, "report\n", "accrun: 21 Write\n", 2),
-    (100, true, "report\n", "", 0),
-    (100, false, "report\n", "accrun: 21 Write\n", 2),
+/// How many bytes standard output takes, whether its flush succeeds, a script, what is told, the status, and how many
+/// bytes of the output were taken at the end and before anything was told.
+type OutputRow = (usize, bool, &'static str, &'static str, u8, usize);
+
+/// All that a buffer kept back is handed on, where that can be done, and else this is told.
+const OUTPUTS: &[OutputRow] = &[
+    (100, true, "report\n", "", 0, 50),
+    (100, true, "array a 1\nupdate self(a)\n", "", 1, 37),
+    (
+        100,
+        true,
+        "report\nshow a\n",
+        "accrun: line 2: UnknownName\n",
+        2,
+        50,
+    ),
+    (0, true, "report\n", "accrun: 21 Write\n", 2, 0),
+    (2, true, "report\n", "accrun: 21 Write\n", 2, 2),
+    (100, false, "report\n", "accrun: 21 Write\n", 2, 50),
     (
         100,
         false,
         "array a 1\nupdate self(a)\n",
         "accrun: 21 Write\n",
         2,
+        37,
     ),
     (
         100,
@@ -91,29 +130,64 @@ const FAILING_OUTPUTS: [(u32, bool, &str, &str, u8); 6] = [
         "report\nshow a\n",
         "accrun: line 2: UnknownName\n",
         2,
+        50,
+    ),
+    // What is printed is longer than the buffer, which is full before the line ends.
+    (10_000, true, "array a 4100\nshow a\n", "", 0, 8201),
+    (
+        5_000,
+        true,
+        "array a 4100\nshow a\n",
+        "accrun: 21 Write\n",
+        2,
+        5_000,
     ),
 ];
 
-/// Runs a script over standard output that fails; compares what is told and the status.
-fn check_failing_output<R: Threads + Wait + Sync + AllocGlobal + Abort>(
+/// Runs the script of a row over standard output; compares what is told, when, the status, and what was taken.
+fn check_output_over<R: Threads + Wait + Sync + AllocGlobal + Abort, O: Output>(
     rt: &R,
-    mut out: FailingSink,
-    script: &str,
-    told: &str,
-    status: u8,
+    out: &mut O,
+    taken: &Cell<usize>,
+    row: OutputRow,
 ) -> Result<(), AllocError> {
+    let (_, _, script, told, status, wanted) = row;
     let words = words(rt.alloc(), "")?;
     let mut reader = MemorySource::new(script.as_bytes());
-    let mut err = MemorySink::new(rt.alloc());
-    let found = tool(rt, words, &mut reader, &mut out, &mut err);
-    check_status(rt, &err, found, told, status, script);
+    let mut err = Witness {
+        text: MemorySink::new(rt.alloc()),
+        taken,
+        seen: None,
+    };
+    let found = tool(rt, words, &mut reader, out, &mut err);
+    check_status(rt, &err.text, found, told, status, script);
+    same(rt, taken.get(), wanted, script);
+    let is_told = !told.is_empty();
+    same(rt, err.seen, is_told.then_some(wanted), script);
+    Ok(())
+}
+
+/// Runs the script of a row over a buffer, as the program does, in front of a writer that fails.
+fn check_output<R: Threads + Wait + Sync + AllocGlobal + Abort>(
+    rt: &R,
+    row: OutputRow,
+) -> io::Result<()> {
+    let (room, flushes, ..) = row;
+    let taken = Cell::new(0);
+    let writer = LimitedWriter {
+        room,
+        taken: &taken,
+        flushes,
+    };
+    let buffer = BufWriter::new(rt.alloc(), writer)?;
+    check_output_over(rt, &mut ToWrite::new(buffer), &taken, row)?;
     Ok(())
 }
 
 #[test]
-fn failing_output_is_told(rt: HostRuntime) -> Result<(), Fail> {
-    for (left, flushes, script, told, status) in FAILING_OUTPUTS {
-        check_failing_output(&rt, FailingSink { left, flushes }, script, told, status)?;
+fn output_is_flushed_and_its_failure_told(rt: HostRuntime) -> Result<(), Fail> {
+    for row in OUTPUTS {
+        check_output(&rt, *row)?;
     }
     Ok(())
 }

@@ -146,6 +146,22 @@ const AFTER_THE_LOAN: &[Turn] = &[
     Turn::Lies(1, None),
 ];
 
+/// Blocks of 1, 16, 17, 2 and 3 bytes, filled with zeros.
+const GROWN: &[Turn] = &[
+    Turn::Lies(1, Some((0x1_0000_0000, 16))),
+    Turn::Lies(5, Some((0x1_0000_0050, 16))),
+    Turn::Holds(1, Some(&[0])),
+    Turn::Used(96),
+];
+
+/// Two blocks, the first filled and the second made of sixteen bytes.
+const TWO_BLOCKS: &[Turn] = &[
+    Turn::Next(3),
+    Turn::Holds(1, Some(&[0xa5; 3])),
+    Turn::Holds(2, Some(&[7; 16])),
+    Turn::Lies(2, Some((0x1_0000_0010, 16))),
+];
+
 /// Leases that bring no block back during that loan: the serial number, the block, the place and the length of the
 /// section, and how many bytes the block has.
 const WRONG_LEASES: &[(u64, u64, usize, usize, usize)] = &[
@@ -299,8 +315,8 @@ fn put_back(rt: &impl Abort, device: &mut Device, lease: Lease) -> Option<Fault>
     let Err((lease, fault)) = device.put_back(lease) else {
         return None;
     };
-    assert_eq!(rt; (lease.serial(), lease.block()), (serial, block));
-    assert_eq!(rt; (lease.offset(), lease.len()), (offset, len));
+    let found = (lease.serial(), lease.block(), lease.offset(), lease.len());
+    assert_eq!(rt; found, (serial, block, offset, len));
     lease.abandon();
     Some(fault)
 }
@@ -371,21 +387,26 @@ fn a_transfer_keeps_a_block_that_has_ended(rt: HostRuntime) -> Result<(), Fail> 
     Ok(())
 }
 
+/// Lends a block, tries wrong leases, and brings it back.
+fn check_loan(rt: &impl Abort, alloc: Global, device: &mut Device) -> Result<(), AllocError> {
+    let Some(mut lease) = take_out(device, 1, 7, 2, 5) else {
+        panic!(rt; "block 1 was not lent");
+    };
+    all_agree(rt, device, WHILE_LENT);
+    let refused = refuse_all(rt, alloc, device);
+    all_agree(rt, device, WHILE_LENT);
+    run_one(&mut lease, &Number(1), &[]);
+    let fault = put_back(rt, device, lease);
+    assert_eq!(rt; fault, None);
+    refused
+}
+
 #[test]
 fn a_block_is_lent_until_its_own_lease_comes_back(rt: HostRuntime) -> Result<(), Fail> {
     let mut device = Device::new(rt.alloc(), 64)?;
     all_agree(&rt, &mut device, BEFORE_THE_LOAN);
-    let Some(mut lease) = take_out(&mut device, 1, 7, 2, 5) else {
-        panic!(rt; "block 1 was not lent");
-    };
-    all_agree(&rt, &mut device, WHILE_LENT);
-    let refused = refuse_all(&rt, rt.alloc(), &mut device);
-    all_agree(&rt, &mut device, WHILE_LENT);
-    run_one(&mut lease, &Number(1), &[]);
-    let fault = put_back(&rt, &mut device, lease);
-    assert_eq!(rt; fault, None);
+    check_loan(&rt, rt.alloc(), &mut device)?;
     all_agree(&rt, &mut device, AFTER_THE_LOAN);
-    refused?;
     Ok(())
 }
 
@@ -405,9 +426,13 @@ fn born_twice(rt: &impl Abort, device: &mut Device, len: u64)
     let used = device.used();
     assert!(rt; number < 9);
     if let Err(fault) = device.born(len, true) {
-        assert_eq!(rt; fault, Fault::Memory);
-        assert_eq!(rt; (device.next_block(), device.used()), (number, used));
-        assert!(rt; !device.has(number));
+        let left = (
+            fault,
+            device.next_block(),
+            device.used(),
+            device.has(number),
+        );
+        assert_eq!(rt; left, (Fault::Memory, number, used, false));
         assert_eq!(rt; device.born(len, true), Ok(number));
     }
     assert!(rt; device.has(number));
@@ -418,10 +443,7 @@ fn grow(rt: &impl Abort, device: &mut Device) {
     for len in [1, 16, 17, 2, 3] {
         born_twice(rt, device, len);
     }
-    assert_eq!(rt; place(device, 1), Some((DEVICE_BASE, 16)));
-    assert_eq!(rt; place(device, 5), Some((DEVICE_BASE + 80, 16)));
-    assert!(rt; holds(device, 1, Some(&[0])));
-    assert_eq!(rt; device.used(), 96);
+    all_agree(rt, device, GROWN);
 }
 
 /// To be run with each allocation failing in turn: what is made here is made a second time where the first failed.
@@ -448,8 +470,8 @@ fn reserve_twice(rt: &impl Abort, device: &mut Device)
     let Err(fault) = device.reserve(&[3, 16]) else {
         return;
     };
-    assert_eq!(rt; fault, Fault::Memory);
-    assert_eq!(rt; (device.next_block(), device.used()), (number, used));
+    let left = (fault, device.next_block(), device.used());
+    assert_eq!(rt; left, (Fault::Memory, number, used));
     if device.reserve(&[3, 16]).is_err() {
         panic!(rt; "no memory twice");
     }
@@ -484,6 +506,17 @@ fn born_given(rt: &impl Abort, device: &mut Device, given: &[u8]) -> u64
     device.born_with_reserved(given)
 }
 
+/// Makes room for two births and uses it, and compares what they leave.
+fn check_two_births(rt: &impl Abort, device: &mut Device)
+    requires { device.old.births < 9 }
+{
+    reserve_twice(rt, device);
+    let first = born_filled(rt, device);
+    let second = born_given(rt, device, &[7; 16]);
+    assert_eq!(rt; (first, second), (1, 2));
+    all_agree(rt, device, TWO_BLOCKS);
+}
+
 /// To be run with each allocation failing in turn, too: the two births after the room was made want no memory.
 #[test]
 fn births_use_the_room_made_for_them_in_order(rt: HostRuntime) -> Result<(), Fail> {
@@ -491,12 +524,6 @@ fn births_use_the_room_made_for_them_in_order(rt: HostRuntime) -> Result<(), Fai
         Ok(device) => device,
         Err(_) => Device::new(rt.alloc(), 64)?,
     };
-    reserve_twice(&rt, &mut device);
-    let first = born_filled(&rt, &mut device);
-    let second = born_given(&rt, &mut device, &[7; 16]);
-    assert_eq!(rt; (first, second), (1, 2));
-    assert!(rt; holds(&device, 1, Some(&[0xa5; 3])));
-    assert!(rt; holds(&device, 2, Some(&[7; 16])));
-    assert_eq!(rt; place(&device, 2), Some((DEVICE_BASE + 16, 16)));
+    check_two_births(&rt, &mut device);
     Ok(())
 }

@@ -4,7 +4,7 @@ ghost use Rattle.std.specs.Prelude.{◌≡◌, sum};
 
 use acc_base::Fault;
 use acc_lend::{Add, Cuts, Kernel, Lease, Number, Plus, Xor, run_one, split};
-use std::alloc::Global;
+use std::alloc::{AllocError, Global};
 use std::process::Abort;
 use std::test::Fail;
 
@@ -49,15 +49,23 @@ const LENGTHS: &[(&[usize], Option<usize>)] = &[
     (&[1, usize::MAX], None),
 ];
 
+/// Cuts at some lengths, and compares how many parts there are and their sum.
+fn check_lengths(
+    rt: &impl Abort,
+    alloc: Global,
+    row: (&[usize], Option<usize>),
+) -> Result<(), AllocError> {
+    let (lengths, total) = row;
+    let cuts = Cuts::new(lengths.to_vec(alloc)?).ok();
+    let found = cuts.as_ref().map(|cuts| (cuts.count(), cuts.total()));
+    assert_eq!(rt; found, total.map(|total| (lengths.len(), total)));
+    Ok(())
+}
+
 #[test]
 fn lengths_are_taken_over_or_refused(rt: HostRuntime) -> Result<(), Fail> {
-    for (lengths, total) in LENGTHS {
-        let cuts = Cuts::new(lengths.to_vec(rt.alloc())?).ok();
-        assert_eq!(rt;
-            cuts.as_ref().map(|cuts| cuts.count()),
-            total.map(|_| lengths.len())
-        );
-        assert_eq!(rt; cuts.as_ref().map(|cuts| cuts.total()), *total);
+    for row in LENGTHS {
+        check_lengths(&rt, rt.alloc(), *row)?;
     }
     Ok(())
 }
@@ -115,16 +123,21 @@ fn write_two(rt: &impl Abort, lease: &mut Lease, cuts: &Cuts)
     }
 }
 
+/// Writes two parts of a loan, and compares what its lease has before and after.
+fn check_two(rt: &impl Abort, lease: &mut Lease, cuts: &Cuts) {
+    assert_eq!(rt; (lease.serial(), lease.block(), lease.offset()), (1, 3, 1));
+    if cuts.total() == lease.len() {
+        write_two(rt, lease, cuts);
+    }
+    assert_eq!(rt; lease.bytes(), [1, 1, 1, 3, 2, 2].as_slice());
+    assert_eq!(rt; lease.block_bytes(), [0, 1, 1, 1, 3, 2, 2, 4].as_slice());
+}
+
 #[test]
 fn two_parts_are_held_and_written(rt: HostRuntime) -> Result<(), Fail> {
     let cuts = Cuts::new([4, 2].to_vec(rt.alloc())?)?;
     let mut lease = loan(rt.alloc())?;
-    assert_eq!(rt; (lease.serial(), lease.block(), lease.offset()), (1, 3, 1));
-    if cuts.total() == lease.len() {
-        write_two(&rt, &mut lease, &cuts);
-    }
-    assert_eq!(rt; lease.bytes(), [1, 1, 1, 3, 2, 2].as_slice());
-    assert_eq!(rt; lease.block_bytes(), [0, 1, 1, 1, 3, 2, 2, 4].as_slice());
+    check_two(&rt, &mut lease, &cuts);
     lease.abandon();
     Ok(())
 }

@@ -376,12 +376,12 @@ pub record HasPlanRoom (p : Planned) (room : Room) : Type 0 where
   pub puts : HasPutRoom (λ q. puts_in q p.tasks p.dids) room
 
 -- a birth always takes memory, for its bytes; else room is missing for one region with so many holdings, or for so many attachment counters
-abbrev pub IsRoomMissing : List ℕ → ℕ → ℕ → Room → Type 0
-IsRoomMissing lens holdings pointers room = (0 < length lens) ⊎ (room.regions ≡ 0) ⊎ (room.holdings < holdings) ⊎ (room.attachments < pointers)
+abbrev pub LacksRoom : List ℕ → ℕ → ℕ → Room → Type 0
+LacksRoom lens holdings pointers room = (0 < length lens) ⊎ (room.regions ≡ 0) ⊎ (room.holdings < holdings) ⊎ (room.attachments < pointers)
 
 -- for a plan, also for its transfers in some queue
-abbrev pub IsPlanRoomMissing : Planned → Room → Type 0
-IsPlanRoomMissing p room = IsRoomMissing (lens_born p.tasks p.dids) (length p.tasks) (pointers_in p.dids) room ⊎ ((q : ℕ) × (spare_at q room.puts < puts_in q p.tasks p.dids))
+abbrev pub LacksPlanRoom : Planned → Room → Type 0
+LacksPlanRoom p room = LacksRoom (lens_born p.tasks p.dids) (length p.tasks) (pointers_in p.dids) room ⊎ ((q : ℕ) × (spare_at q room.puts < puts_in q p.tasks p.dids))
 
 -- ---- what a plan notes
 

@@ -27,7 +27,7 @@ ghost use Rattle.acc_host.specs.Host.{bytes_in, IsRead, IsOutOfHost};
 ghost use Rattle.acc_clauses.specs.Contents.{AreNew};
 ghost use Rattle.acc_clauses.specs.Stored.{IsPlan};
 ghost use Rattle.acc_clauses.specs.Planned.{IsPlannedOn};
-ghost use Rattle.acc_clauses.specs.Acts.{CanWrite, HasPlanRoom, IsPlanRoomMissing};
+ghost use Rattle.acc_clauses.specs.Acts.{CanWrite, HasPlanRoom, LacksPlanRoom};
 
 use crate::draining::waiting;
 use crate::effects::puts_in;
@@ -121,7 +121,7 @@ impl Store {
         ensures state { self.new.state ≡ self.old.state }
         ensures room { OnOk result (HasPlanRoom plan.now self.new.room) }
         ensures only { IfErr result (λ fault. fault ≡ Memory) }
-        ensures needed { OnErr result (IsPlanRoomMissing plan.now self.old.room) }
+        ensures needed { OnErr result (LacksPlanRoom plan.now self.old.room) }
     {
         self.parts.laws();
         let acts = plan.acts();

@@ -16,7 +16,7 @@ ghost use Rattle.acc_clauses.specs.Overlays.{puts_by};
 ghost use Rattle.acc_base.specs.Judge.{leased};
 ghost use Rattle.acc_base.specs.Accounts.{IsLoanSound};
 ghost use Rattle.acc_clauses.specs.Lending.{lent_state, gathered_state};
-ghost use Rattle.acc_clauses.specs.Acts.{IsJudged, IsKnown, HasRoomFor, HasPutRoom, HasRegionRoom, IsRoomMissing, CanWrite, IsRoomLeft, birth_of, pointers_of};
+ghost use Rattle.acc_clauses.specs.Acts.{IsJudged, IsKnown, HasRoomFor, HasPutRoom, HasRegionRoom, LacksRoom, CanWrite, IsRoomLeft, birth_of, pointers_of};
 
 use crate::acting::act_on;
 use crate::parts::Parts;
@@ -72,7 +72,7 @@ impl Parts {
         ensures room_pointers { OnOk result (pointers ≤ self.new.room.attachments) }
         ensures puts { self.new.room.puts ≡ self.old.room.puts }
         ensures only { IfErr result (λ fault. fault ≡ Memory) }
-        ensures needed { OnErr result (IsRoomMissing lens.now holdings pointers self.old.room) }
+        ensures needed { OnErr result (LacksRoom lens.now holdings pointers self.old.room) }
     {
         self.environment.device.reserve(lens)?;
         self.environment

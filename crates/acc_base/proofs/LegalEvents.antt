@@ -1,6 +1,6 @@
 -- A directive, a write of the host, a loan and a lease that are not refused make a legal event.
 use Rattle.std.proofs.Common.{ℕ, suc, ◌≡◌, refl, sym, ◌∙◌, ap, subst, true, false, List, [], ◌∷◌, length, Option, Some, None, Result, Ok, arith}
-use Rattle.std.specs.Prelude.{◌==◌, not, take, drop, unwrap_or, option_map, is_none, IsSome}
+use Rattle.std.specs.Prelude.{◌==◌, not, take, drop, unwrap_or, option_map, is_none, ok_or, IsSome}
 use Rattle.std.proofs.lemmas.List.{reverse-reverse}
 use Rattle.acc_base.specs.declared.items.Section.{Section}
 use Rattle.acc_base.specs.declared.mappings.Block.{Block}
@@ -17,7 +17,7 @@ use Rattle.acc_base.specs.declared.events.Did.{Did}
 use Rattle.acc_base.specs.declared.events.Event.{Event}
 use Rattle.acc_base.specs.declared.events.Event.TheVariants.{HostWritten, Lent, Gathered}
 use Rattle.acc_base.specs.declared.faults.Fault.{Fault}
-use Rattle.acc_base.specs.declared.faults.Fault.TheVariants.{NoLease}
+use Rattle.acc_base.specs.declared.faults.Fault.TheVariants.{NoLease, NoRegion}
 use Rattle.acc_base.specs.Results.{◌>>=◌, ◌>>◌, refuse_if}
 use Rattle.acc_base.specs.Limits.{Limits}
 use Rattle.acc_base.specs.Records.{Layout, State, layout_of}
@@ -30,8 +30,7 @@ use Rattle.acc_base.specs.Queues.{queue_at, head_of, queue_named}
 use Rattle.acc_base.specs.Steps.{act}
 use Rattle.acc_base.specs.Detaching.{block_in}
 use Rattle.acc_base.specs.Acting.{judge_task, judge_all, act_state}
-use Rattle.acc_base.specs.Walk.{leave_tasks}
-use Rattle.acc_base.specs.Judge.{tasks_of, tasks_of_region, queue_in, step_verdict, transfers_in, verdict_of, directive_verdict, host_write_event, region_open, lend_there, lend_event, gather_event}
+use Rattle.acc_base.specs.Judge.{tasks_with, holdings_left, tasks_of, queue_in, step_verdict, transfers_in, verdict_of, directive_verdict, host_write_event, region_open, lend_there, lend_event, gather_event}
 use Rattle.acc_base.specs.Judge.{Verdict, Makes}
 use Rattle.acc_base.specs.History.{AreJudged, IsLegal}
 use Rattle.acc_base.specs.Accounts.{IsClearOf, AreRecordsSound}
@@ -61,13 +60,10 @@ judged_all l n (task ∷ tasks) dids s e =
     let rest : AreJudged l (suc n) tasks others.0 (act task first.0 s.records) = subst (AreJudged l (suc n) tasks others.0) (records-act_state task first.0 s) (judged_all l (suc n) tasks others.0 (act_state task first.0 s) others.1) in
     subst (λ ds. AreJudged l n (task ∷ tasks) ds s.records) (ok_same _ _ others.2) (item.step, item.aim, rest)
 
-same_tasks : (xs ys : List Task) → ◌≡◌ {A = Result (List Task) Fault} (Ok xs) (Ok ys) → xs ≡ ys
-same_tasks xs ys e = ok_same _ _ e
-
--- the tasks of leaving a region are those of what it holds, and it is open
-region_tasks : (number : ℕ) (o : Option (List Holding)) (tasks : List Task) → tasks_of_region number o ≡ Ok tasks → IsSome o × (leave_tasks (unwrap_or o []) ≡ tasks)
-region_tasks number None tasks e = cc
-region_tasks number (Some holdings) tasks e = (refl, same_tasks _ _ e)
+-- a region that is left is open
+pub open_left : (number : ℕ) (o : Option (List Holding)) (holdings : List Holding) → ok_or o (NoRegion number) ≡ Ok holdings → o ≡ Some holdings
+open_left number None holdings e = cc
+open_left number (Some hs) holdings e = ap Some (ok_same _ _ e)
 
 -- the event that is made
 pub same_event : (x e : Event) → Makes x ≡ Makes e → x ≡ e
@@ -88,18 +84,17 @@ step_legal l queue s e free h = go (head_of queue s.records.queues) refl h
     go (Some t) is made = subst (λ x. IsLegal l x (layout_of s)) (same_event _ _ made) (record { names = (ap (option_map (λ (x : Transfer). x.block)) is, first_free t is); judged = tt })
 
 -- the event of a directive whose tasks were judged
-event_legal : (l : Limits) (d : Directive) (s : State) (tasks : List Task) (dids : List Did) (e : Event) → tasks_of d s.register ≡ Ok tasks → queue_named (queue_in d) ≡ Ok tt → AreJudged l 0 tasks dids s.records
+pub event_legal : (l : Limits) (d : Directive) (s : State) (holdings : List Holding) (dids : List Did) (e : Event) → holdings_left d s.register ≡ Ok holdings → queue_named (queue_in d) ≡ Ok tt → AreJudged l 0 (tasks_with d holdings) dids s.records
     → none_lent (transfers_in d s.records.queues) s.records.loans ≡ Ok tt → verdict_of d s dids ≡ Makes e → IsLegal l e (layout_of s)
-event_legal l (Enter items) s tasks dids e t q judged free h = subst (λ x. IsLegal l x (layout_of s)) (same_event _ _ h) (record { names = refl; judged = subst (λ ts. AreJudged l 0 ts dids s.records) (sym (same_tasks _ _ t)) judged })
-event_legal l (Exit number) s tasks dids e t q judged free h =
-    let found : IsSome (holdings_at number s.register.regions) × (leave_tasks (unwrap_or (holdings_at number s.register.regions) []) ≡ tasks) = region_tasks number (holdings_at number s.register.regions) tasks t in
-    subst (λ x. IsLegal l x (layout_of s)) (same_event _ _ h)
-    (record { names = found.0; judged = subst (λ ds. AreJudged l 0 (leave_tasks (unwrap_or (holdings_at number s.register.regions) [])) ds s.records) (sym (reverse-reverse dids)) (subst (λ ts. AreJudged l 0 ts dids s.records) (sym found.1) judged) })
-event_legal l (EnterData items queue) s tasks dids e t q judged free h = subst (λ x. IsLegal l x (layout_of s)) (same_event _ _ h) (record { names = q; judged = subst (λ ts. AreJudged l 0 ts dids s.records) (sym (same_tasks _ _ t)) judged })
-event_legal l (ExitData items finalize queue) s tasks dids e t q judged free h = subst (λ x. IsLegal l x (layout_of s)) (same_event _ _ h) (record { names = q; judged = subst (λ ts. AreJudged l 0 ts dids s.records) (sym (same_tasks _ _ t)) judged })
-event_legal l (Update items if_present queue) s tasks dids e t q judged free h = subst (λ x. IsLegal l x (layout_of s)) (same_event _ _ h) (record { names = q; judged = subst (λ ts. AreJudged l 0 ts dids s.records) (sym (same_tasks _ _ t)) judged })
-event_legal l (Wait queue) s tasks dids e t q judged free h = subst (λ x. IsLegal l x (layout_of s)) (same_event _ _ h) (record { names = (q, refl, free); judged = tt })
-event_legal l (directives.Step queue) s tasks dids e t q judged free h = step_legal l queue s e free h
+event_legal l (Enter items) s holdings dids e left q judged free h = subst (λ x. IsLegal l x (layout_of s)) (same_event _ _ h) (record { names = refl; judged = judged })
+event_legal l (Exit number) s holdings dids e left q judged free h =
+    let is : holdings_at number s.register.regions ≡ Some holdings = open_left number _ holdings left in
+    subst (λ x. IsLegal l x (layout_of s)) (same_event _ _ h) (record { names = rw is refl; judged = rw (is, reverse-reverse dids) judged })
+event_legal l (EnterData items queue) s holdings dids e left q judged free h = subst (λ x. IsLegal l x (layout_of s)) (same_event _ _ h) (record { names = q; judged = judged })
+event_legal l (ExitData items finalize queue) s holdings dids e left q judged free h = subst (λ x. IsLegal l x (layout_of s)) (same_event _ _ h) (record { names = q; judged = judged })
+event_legal l (Update items if_present queue) s holdings dids e left q judged free h = subst (λ x. IsLegal l x (layout_of s)) (same_event _ _ h) (record { names = q; judged = judged })
+event_legal l (Wait queue) s holdings dids e left q judged free h = subst (λ x. IsLegal l x (layout_of s)) (same_event _ _ h) (record { names = (q, refl, free); judged = tt })
+event_legal l (directives.Step queue) s holdings dids e left q judged free h = step_legal l queue s e free h
 
 -- the event of a directive, with what its tasks did
 pub record IsMadeBy (l : Limits) (d : Directive) (s : State) (e : Event) : Type 0 where
@@ -115,11 +110,13 @@ made_by l d s e h =
     let then : List Task → Result Verdict Fault = λ ts. judge_all l 0 ts s >>= last in
     let found : (ts : List Task) × (tasks_of d s.register ≡ Ok ts) × ((queue_named (queue_in d) >> then ts) ≡ Ok (Makes e))
     = bind_ok (tasks_of d s.register) (λ ts. queue_named (queue_in d) >> then ts) (Makes e) h in
+    let left : (hs : List Holding) × (holdings_left d s.register ≡ Ok hs) × (Ok (tasks_with d hs) ≡ Ok found.0) = bind_ok (holdings_left d s.register) (λ hs. Ok (tasks_with d hs)) found.0 found.1 in
     let known : (queue_named (queue_in d) ≡ Ok tt) × (then found.0 ≡ Ok (Makes e)) = then_ok (queue_named (queue_in d)) (then found.0) (Makes e) found.2 in
     let acted : (dids : List Did) × (judge_all l 0 found.0 s ≡ Ok dids) × (last dids ≡ Ok (Makes e)) = bind_ok (judge_all l 0 found.0 s) last (Makes e) known.1 in
+    let judged : AreJudged l 0 (tasks_with d left.0) acted.0 s.records = rw (ok_same _ _ left.2) (judged_all l 0 found.0 acted.0 s acted.1) in
     let free : (none_lent (transfers_in d s.records.queues) s.records.loans ≡ Ok tt) × (Ok (verdict_of d s acted.0) ≡ Ok (Makes e)) = then_ok (none_lent (transfers_in d s.records.queues) s.records.loans) (Ok (verdict_of d s acted.0)) (Makes e) acted.2 in
     let is : verdict_of d s acted.0 ≡ Makes e = ok_same _ _ free.1 in
-    record { dids = acted.0; verdict_is = is; legal = event_legal l d s found.0 acted.0 e found.1 known.0 (judged_all l 0 found.0 acted.0 s acted.1) free.0 is }
+    record { dids = acted.0; verdict_is = is; legal = event_legal l d s left.0 acted.0 e left.1 known.0 judged free.0 is }
 
 pub directive_legal : (l : Limits) (d : Directive) (s : State) (e : Event) → directive_verdict l d s ≡ Ok (Makes e) → IsLegal l e (layout_of s)
 directive_legal l d s e h = (made_by l d s e h).legal

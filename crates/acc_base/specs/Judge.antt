@@ -1,5 +1,5 @@
 -- What each directive, write and loan is refused for, in order, and else the event that it makes.
-use Rattle.std.specs.Prelude.{ℕ, not, nat_lt, List, [], map, take, length, reverse, Option, is_none, Some, None, Result, Ok, Err, ⊤}
+use Rattle.std.specs.Prelude.{ℕ, not, nat_lt, List, [], map, take, length, reverse, Option, is_none, ok_or, Some, None, Result, Ok, Err, ⊤}
 use Rattle.acc_base.specs.declared.directives.Directive.{Directive}
 use Rattle.acc_base.specs.declared.directives.Directive.TheVariants.{Enter, Exit, EnterData, ExitData, Update, Wait, Step}
 use Rattle.acc_base.specs.declared.items.Section.{Section}
@@ -42,19 +42,25 @@ item_count _ = 0
 abbrev pub few_items : Directive → Result ⊤ Fault
 few_items d = refuse_if (nat_lt item_limit (item_count d)) (TooManyItems (item_count d))
 
--- the tasks of leaving a region that holds these, if it is open
-abbrev pub tasks_of_region : ℕ → Option (List Holding) → Result (List Task) Fault
-tasks_of_region number None = Err (NoRegion number)
-tasks_of_region number (Some holdings) = Ok (leave_tasks holdings)
+-- what a directive asks, in the order in which it acts, where the region that it leaves holds these
+abbrev pub tasks_with : Directive → List Holding → List Task
+tasks_with (Enter items) holdings = map enter_task items
+tasks_with (Exit number) holdings = leave_tasks holdings
+tasks_with (EnterData items queue) holdings = map (enter_data_task queue) items
+tasks_with (ExitData items finalize queue) holdings = map (exit_task finalize queue) items
+tasks_with (Update items if_present queue) holdings = map (move_task if_present queue) items
+tasks_with _ holdings = []
+
+-- what the region holds that a directive leaves, if it is open
+abbrev pub holdings_left : Directive → Register → Result (List Holding) Fault
+holdings_left (Exit number) g = ok_or (holdings_at number g.regions) (NoRegion number)
+holdings_left _ g = Ok []
 
 -- what a directive asks, in the order in which it acts
 abbrev pub tasks_of : Directive → Register → Result (List Task) Fault
-tasks_of (Enter items) g = Ok (map enter_task items)
-tasks_of (Exit number) g = tasks_of_region number (holdings_at number g.regions)
-tasks_of (EnterData items queue) g = Ok (map (enter_data_task queue) items)
-tasks_of (ExitData items finalize queue) g = Ok (map (exit_task finalize queue) items)
-tasks_of (Update items if_present queue) g = Ok (map (move_task if_present queue) items)
-tasks_of _ g = Ok []
+tasks_of d g = do
+  holdings ← holdings_left d g
+  Ok (tasks_with d holdings)
 
 -- the queue that a directive names
 abbrev pub queue_in : Directive → Option ℕ

@@ -129,8 +129,8 @@ fn take(store: &mut Store, plan: &mut Plan, directive: &Directive) -> Result<(),
     requires next { store.old.state.register.next < 2 ^ 48 }
 {
     store.plan(directive, plan)?;
-    store.reserve(plan)?;
-    store.commit(plan);
+    store.reserve(directive, plan)?;
+    store.commit(directive, plan);
     Ok(())
 }
 

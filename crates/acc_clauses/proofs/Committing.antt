@@ -1,5 +1,5 @@
--- Before the tasks of a plan each that leaves a region finds what it held, and the register is ready for the plan's head; after them the store is sound.
-use Rattle.std.proofs.Common.{ℕ, ◌≡◌, ◌+◌, ◌<◌, ◌≤◌, ◌^◌, refl, sym, ◌∙◌, ap, subst, Bool, true, false, cond, List, [], ◌∷◌, ◌++◌, map, length, Option, Some, None, Result, Ok, arith}
+-- Before the tasks of a plan each that leaves a region finds what it held, and the register is ready for its directive; after them the store is sound.
+use Rattle.std.proofs.Common.{ℕ, ◌≡◌, ◌+◌, ◌<◌, ◌≤◌, ◌^◌, refl, sym, ◌∙◌, ap, subst, Bool, true, false, cond, List, [], ◌∷◌, ◌++◌, map, length, Option, Some, None, Ok, arith}
 use Rattle.std.specs.Prelude.{◌==◌, reverse, option_map, IsSome, not}
 use Rattle.std.specs.List.{AllByRecursion}
 use Rattle.std.proofs.lemmas.Bool.Decides.{nat_tests}
@@ -11,13 +11,13 @@ use Rattle.acc_base.specs.declared.items.RegionClause.{RegionClause}
 use Rattle.acc_base.specs.declared.directives.Directive.{Directive}
 use Rattle.acc_base.specs.declared.directives.Directive.TheVariants as directives
 use Rattle.acc_base.specs.declared.regions.Holding.{Holding}
+use Rattle.acc_base.specs.declared.mappings.Counter.TheVariants.{Structured, Dynamic}
 use Rattle.acc_base.specs.declared.tasks.Task.{Task}
 use Rattle.acc_base.specs.declared.tasks.Task.TheVariants.{Enter, Leave, Exit, Move}
 use Rattle.acc_base.specs.declared.events.Did.{Did}
-use Rattle.acc_base.specs.declared.faults.Fault.{Fault}
 use Rattle.acc_base.specs.Limits.{Limits, IsWithinBounds}
-use Rattle.acc_base.specs.Records.{Records, State, layout_of}
-use Rattle.acc_base.specs.Register.{Region, Register, holdings_at, region_at, count_held, is_counted_block}
+use Rattle.acc_base.specs.Records.{Records, State}
+use Rattle.acc_base.specs.Register.{Region, Register, holdings_at, region_at, opened, closed, count_held, is_counted_block}
 use Rattle.acc_base.specs.Ranges.{range_of}
 use Rattle.acc_base.specs.Blocks.{used_bytes}
 use Rattle.acc_base.specs.Steps.{act, act_all, released}
@@ -25,25 +25,25 @@ use Rattle.acc_base.specs.Waits.{records_made, records_stepped, records_drained}
 use Rattle.acc_base.specs.Queues.{head_of}
 use Rattle.acc_base.specs.declared.transfers.Transfer.{Transfer}
 use Rattle.acc_base.specs.declared.events.Event.{Event}
-use Rattle.acc_base.specs.Walk.{enter_task, enter_data_task, exit_task, move_task, leave_tasks, holdings_of, block_counted, pointer_attached}
+use Rattle.acc_base.specs.Walk.{enter_task, enter_data_task, exit_task, move_task}
 use Rattle.acc_base.specs.Acting.{act_all_state}
-use Rattle.acc_base.specs.Judge.{tasks_of, tasks_of_region, Verdict, Makes, Idle, verdict_of}
+use Rattle.acc_base.specs.Judge.{tasks_with, holdings_left, transfers_in, Verdict, Makes, Idle, verdict_of}
 use Rattle.acc_base.specs.History.{AreJudged}
 use Rattle.acc_base.proofs.Elements.{AllByRecursion-append, AllByRecursion-filter, AllByRecursion-weaker, find-none}
 use Rattle.acc_base.proofs.Walked.{records-act_all_state, register-act_all_state, records-drained}
 use Rattle.acc_base.proofs.Sound.{ranges-drained}
 use Rattle.acc_base.proofs.AllTasks.{sum_by-reverse}
+use Rattle.acc_base.proofs.LegalEvents.{open_left}
 use Rattle.acc_base.proofs.Registers.{IsNumbered, AreFew, next_region, opened_regions, opened_few, closed_few, closed_held}
-use Rattle.acc_clauses.specs.declared.plans.Head.{Head}
-use Rattle.acc_clauses.specs.declared.plans.Head.TheVariants.{Plain, Entry, Leaving, Waiting, Stepping}
-use Rattle.acc_clauses.specs.Planned.{Planned, IsPlannedOn, head_planned, holding_by, holdings_by, held_by, register_by, register_planned, steps_by, finished, transfers_by}
+use Rattle.acc_clauses.specs.Planned.{Planned, IsPlanOf, holding_by, holdings_by, register_by, steps_by, finished}
 use Rattle.acc_clauses.specs.Contents.{Contents}
 use Rattle.acc_clauses.specs.Acts.{IsKnown, AreKnown, HasRegionRoom, CanFinish}
 use Rattle.acc_clauses.specs.Stored.{IsHeldWithin, IsHoldingWithin, AreHoldingsWithin, IsStoreSound}
 use Rattle.acc_clauses.proofs.Holding.{leaves_known}
 use Rattle.acc_clauses.proofs.Entering.{regions_within, entered_within}
-use Rattle.acc_clauses.proofs.Events.{IsEventOf, event_of_plan, planned_legal, idle_plan}
-use Rattle.acc_clauses.proofs.Finishing.{IsPlain, plain_verdict, after_plan, event_sound}
+use Rattle.acc_clauses.proofs.Asking.{IsAskedWith, asked_with}
+use Rattle.acc_clauses.proofs.Events.{IsEventOf, held_asked, still, event_of_plan, planned_judged, planned_legal, idle_plan}
+use Rattle.acc_clauses.proofs.AfterPlan.{after_plan, event_sound}
 
 -- ---- the tasks of a directive
 
@@ -53,22 +53,6 @@ known_map f [] [] w h = tt
 known_map f [] (d ∷ ds) w h = tt
 known_map f (x ∷ xs) [] w h = tt
 known_map f (x ∷ xs) (d ∷ ds) w h = (h x w, known_map f xs ds (act (f x) d w) h)
-
-tasks_same : (xs ys : List Task) → ◌≡◌ {A = Result (List Task) Fault} (Ok xs) (Ok ys) → xs ≡ ys
-tasks_same xs ys e = cc
-
--- the region that is left is open, and its holdings give the tasks
-record IsOpen (number : ℕ) (g : Register) (tasks : List Task) : Type 0 where
-  holdings : List Holding
-  open_is : holdings_at number g.regions ≡ Some holdings
-  tasks_are : leave_tasks holdings ≡ tasks
-
-open_region : (number : ℕ) (g : Register) (tasks : List Task) → tasks_of_region number (holdings_at number g.regions) ≡ Ok tasks → IsOpen number g tasks
-open_region number g tasks e = go (holdings_at number g.regions) refl e
-  where
-    go : (o : Option (List Holding)) → holdings_at number g.regions ≡ o → tasks_of_region number o ≡ Ok tasks → IsOpen number g tasks
-    go None p q = cc
-    go (Some hs) p q = record { holdings = hs; open_is = p; tasks_are = tasks_same (leave_tasks hs) tasks q }
 
 -- ---- what a region holds
 
@@ -85,23 +69,32 @@ all_reverse : {X : Type 0} (P : X → Type 0) (xs : List X) → AllByRecursion P
 all_reverse P [] h = tt
 all_reverse P (x ∷ xs) h = subst (AllByRecursion P) (sym (reverse_onto xs x [])) (AllByRecursion-append P (reverse xs) (x ∷ []) (all_reverse P xs h.1) (h.0, tt))
 
--- each task of a plan finds what it undoes
-pub plan_known : (d : Directive) (c : Contents) (p : Planned) → IsWithinBounds c.limits → IsStoreSound c → IsPlannedOn c.limits d (layout_of c.state) p → AreKnown p.tasks p.dids c.state.records
-plan_known (directives.Enter items) c p bounds h planned = subst (λ ts. AreKnown ts p.dids c.state.records) (tasks_same (map enter_task items) p.tasks planned.tasks) (known_map enter_task items p.dids c.state.records (λ x v. tt))
-plan_known (directives.Exit number) c p bounds h planned =
+numbered_of : (c : Contents) → IsStoreSound c → IsNumbered c.state.register
+numbered_of c h = record { first = h.sound.layout.register.first; rising = h.sound.layout.register.rising; known = h.sound.layout.register.known }
+
+-- each task finds what it undoes that a directive asks
+known_with : (d : Directive) (holdings : List Holding) (dids : List Did) (c : Contents) → IsWithinBounds c.limits → IsStoreSound c → holdings_left d c.state.register ≡ Ok holdings → AreJudged c.limits 0 (tasks_with d holdings) dids c.state.records
+    → AreKnown (tasks_with d holdings) dids c.state.records
+known_with (directives.Enter items) holdings dids c bounds h left judged = known_map enter_task items dids c.state.records (λ x v. tt)
+known_with (directives.Exit number) holdings dids c bounds h left judged =
     let g : Register = c.state.register in
-    let o : IsOpen number g p.tasks = open_region number g p.tasks planned.tasks in
-    let judged : AreJudged c.limits 0 (map Leave (reverse o.holdings)) p.dids c.state.records = subst (λ ts. AreJudged c.limits 0 ts p.dids c.state.records) (sym o.tasks_are) planned.judged in
-    let within : AllByRecursion (IsHoldingWithin c.state.records) (reverse o.holdings) = all_reverse (IsHoldingWithin c.state.records) o.holdings (region_within c.state.records number g.regions o.holdings o.open_is h.holdings) in
-    let numbered : IsNumbered g = record { first = h.sound.layout.register.first; rising = h.sound.layout.register.rising; known = h.sound.layout.register.known } in
-    subst (λ ts. AreKnown ts p.dids c.state.records) o.tasks_are (leaves_known c.limits 0 (reverse o.holdings) p.dids c.state.records bounds h.sound.layout.records judged within (λ b.
-    let turned : count_held b (reverse o.holdings) ≡ count_held b o.holdings = sum_by-reverse (λ (x : Holding). cond (is_counted_block b x.block) 1 0) o.holdings in
-    omega (arith, turned, closed_held b number o.holdings g numbered o.open_is, h.sound.layout.held b)))
-plan_known (directives.EnterData items queue) c p bounds h planned = subst (λ ts. AreKnown ts p.dids c.state.records) (tasks_same (map (enter_data_task queue) items) p.tasks planned.tasks) (known_map (enter_data_task queue) items p.dids c.state.records (λ x v. tt))
-plan_known (directives.ExitData items finalize queue) c p bounds h planned = subst (λ ts. AreKnown ts p.dids c.state.records) (tasks_same (map (exit_task finalize queue) items) p.tasks planned.tasks) (known_map (exit_task finalize queue) items p.dids c.state.records (λ x v. tt))
-plan_known (directives.Update items if_present queue) c p bounds h planned = subst (λ ts. AreKnown ts p.dids c.state.records) (tasks_same (map (move_task if_present queue) items) p.tasks planned.tasks) (known_map (move_task if_present queue) items p.dids c.state.records (λ x v. tt))
-plan_known (directives.Wait queue) c p bounds h planned = subst (λ ts. AreKnown ts p.dids c.state.records) (tasks_same [] p.tasks planned.tasks) (known_map enter_task [] p.dids c.state.records (λ x v. tt))
-plan_known (directives.Step queue) c p bounds h planned = subst (λ ts. AreKnown ts p.dids c.state.records) (tasks_same [] p.tasks planned.tasks) (known_map enter_task [] p.dids c.state.records (λ x v. tt))
+    let is : holdings_at number g.regions ≡ Some holdings = open_left number _ holdings left in
+    let within : AllByRecursion (IsHoldingWithin c.state.records) (reverse holdings) = all_reverse (IsHoldingWithin c.state.records) holdings (region_within c.state.records number g.regions holdings is h.holdings) in
+    leaves_known c.limits 0 (reverse holdings) dids c.state.records bounds h.sound.layout.records judged within (λ b.
+    let turned : count_held b (reverse holdings) ≡ count_held b holdings = sum_by-reverse (λ (x : Holding). cond (is_counted_block b x.block) 1 0) holdings in
+    omega (arith, turned, closed_held b number holdings g (numbered_of c h) is, h.sound.layout.held b))
+known_with (directives.EnterData items queue) holdings dids c bounds h left judged = known_map (enter_data_task queue) items dids c.state.records (λ x v. tt)
+known_with (directives.ExitData items finalize queue) holdings dids c bounds h left judged = known_map (exit_task finalize queue) items dids c.state.records (λ x v. tt)
+known_with (directives.Update items if_present queue) holdings dids c bounds h left judged = known_map (move_task if_present queue) items dids c.state.records (λ x v. tt)
+known_with (directives.Wait queue) holdings dids c bounds h left judged = known_map enter_task [] dids c.state.records (λ x v. tt)
+known_with (directives.Step queue) holdings dids c bounds h left judged = known_map enter_task [] dids c.state.records (λ x v. tt)
+
+-- so does each task of a plan
+pub plan_known : (d : Directive) (c : Contents) (p : Planned) → IsWithinBounds c.limits → IsStoreSound c → IsPlanOf c.limits d c.state p → AreKnown p.tasks p.dids c.state.records
+plan_known d c p bounds h planned =
+    let is : IsAskedWith d c.state.register p.tasks = asked_with d c.state.register p.tasks planned.asked in
+    let judged : AreJudged c.limits 0 (tasks_with d is.holdings) p.dids c.state.records = subst (λ ts. AreJudged c.limits 0 ts p.dids c.state.records) (sym is.are) (planned_judged c.limits d c.state p planned) in
+    subst (λ ts. AreKnown ts p.dids c.state.records) is.are (known_with d is.holdings p.dids c bounds h is.left judged)
 
 -- ---- the register
 
@@ -112,54 +105,37 @@ some_region : (o : Option Region) (hs : List Holding) → option_map (λ (r : Re
 some_region None hs e = cc
 some_region (Some r) hs e = refl
 
--- without tasks nothing is done
-no_tasks : (tasks : List Task) (dids : List Did) (s : State) → [] ≡ tasks → act_all_state tasks dids s ≡ s
-unfolding act_all_state
-no_tasks tasks dids s none = ap (λ ts. act_all_state ts dids s) (sym none) ∙ go dids
-  where
-    go : (ds : List Did) → act_all_state [] ds s ≡ s
-    go [] = refl
-    go (d ∷ ds) = refl
-
 -- the transfers that a plan without tasks makes are of no block that is lent
-free_then : (head : Head) (c f : Contents) (p : Planned) → p.head ≡ head → [] ≡ p.tasks → f.state ≡ act_all_state p.tasks p.dids c.state → none_lent (transfers_by p.head c.state.records.queues) c.state.records.loans ≡ Ok tt
-    → none_lent (transfers_by head f.state.records.queues) f.state.records.loans ≡ Ok tt
-free_then head c f p at none acted free =
-    let same : f.state ≡ c.state = acted ∙ no_tasks p.tasks p.dids c.state none in
-    subst (λ (x : State). none_lent (transfers_by head x.records.queues) x.records.loans ≡ Ok tt) (sym same) (subst (λ (x : Head). none_lent (transfers_by x c.state.records.queues) c.state.records.loans ≡ Ok tt) at free)
+free_then : (d : Directive) (c f : Contents) (p : Planned) → IsPlanOf c.limits d c.state p → [] ≡ p.tasks → f.state ≡ act_all_state p.tasks p.dids c.state → none_lent (transfers_in d f.state.records.queues) f.state.records.loans ≡ Ok tt
+free_then d c f p planned none acted = subst (λ (x : State). none_lent (transfers_in d x.records.queues) x.records.loans ≡ Ok tt) (sym (acted ∙ still c.limits d c.state p planned none)) planned.free
 
--- the head of a plan can be done
-pub plan_can : (d : Directive) (c f : Contents) (p : Planned) → IsStoreSound c → IsPlannedOn c.limits d (layout_of c.state) p → c.state.register.next < 2 ^ 48 → HasRegionRoom (length p.tasks) c.room
-    → f.state ≡ act_all_state p.tasks p.dids c.state → f.state.register ≡ c.state.register → c.room.regions ≤ f.room.regions → c.room.holdings ≤ f.room.holdings → CanFinish p.head (length p.tasks) f
-plan_can (directives.Enter items) c f p h planned next room acted same regions holdings = subst (λ (x : Head). CanFinish x (length p.tasks) f) (sym planned.head) (record {
+-- the register is ready for a directive, and so are the transfers that it makes
+pub plan_can : (d : Directive) (c f : Contents) (p : Planned) → IsStoreSound c → IsPlanOf c.limits d c.state p → c.state.register.next < 2 ^ 48 → HasRegionRoom (length p.tasks) c.room
+    → f.state ≡ act_all_state p.tasks p.dids c.state → f.state.register ≡ c.state.register → c.room.regions ≤ f.room.regions → c.room.holdings ≤ f.room.holdings → CanFinish d (length p.tasks) f
+plan_can (directives.Enter items) c f p h planned next room acted same regions holdings = record {
   next = rw same next;
   new = rw same (find-none (λ (r : Region). r.number == c.state.register.next) c.state.register.regions
       (AllByRecursion-weaker (λ (r : Region). r.number < c.state.register.next) (λ (r : Region). (r.number == c.state.register.next) ≡ false) c.state.register.regions (λ r low. below_differs r.number c.state.register.next low) h.sound.layout.register.known));
   room = record { regions = omega (arith, room.regions, regions); enough = omega (arith, room.enough, holdings) };
-})
+}
 plan_can (directives.Exit number) c f p h planned next room acted same regions holdings =
-    let o : IsOpen number c.state.register p.tasks = open_region number c.state.register p.tasks planned.tasks in
-    subst (λ (x : Head). CanFinish x (length p.tasks) f) (sym planned.head) (rw same (some_region (region_at number c.state.register.regions) o.holdings o.open_is))
-plan_can (directives.EnterData items queue) c f p h planned next room acted same regions holdings = subst (λ (x : Head). CanFinish x (length p.tasks) f) (sym planned.head) tt
-plan_can (directives.ExitData items finalize queue) c f p h planned next room acted same regions holdings = subst (λ (x : Head). CanFinish x (length p.tasks) f) (sym planned.head) tt
-plan_can (directives.Update items if_present queue) c f p h planned next room acted same regions holdings = subst (λ (x : Head). CanFinish x (length p.tasks) f) (sym planned.head) tt
-plan_can (directives.Wait queue) c f p h planned next room acted same regions holdings = subst (λ (x : Head). CanFinish x (length p.tasks) f) (sym planned.head) (free_then (Waiting queue) c f p planned.head (tasks_same [] p.tasks planned.tasks) acted planned.free)
-plan_can (directives.Step queue) c f p h planned next room acted same regions holdings = subst (λ (x : Head). CanFinish x (length p.tasks) f) (sym planned.head) (free_then (Stepping queue) c f p planned.head (tasks_same [] p.tasks planned.tasks) acted planned.free)
-
--- what an entry holds is read of its tasks
-held_asked : (items : List (Item RegionClause)) (dids : List Did) → holdings_of items dids ≡ holdings_by (map enter_task items) dids
-held_asked [] dids = refl
-held_asked (item ∷ items) [] = refl
-held_asked (item ∷ items) (did ∷ dids) = ap (λ (hs : List Holding). record { item = item; block = block_counted did.step; aim = pointer_attached did.aim } ∷ hs) (held_asked items dids)
+    let is : IsAskedWith (directives.Exit number) c.state.register p.tasks = asked_with (directives.Exit number) c.state.register p.tasks planned.asked in
+    rw same (some_region (region_at number c.state.register.regions) is.holdings (open_left number _ is.holdings is.left))
+plan_can (directives.EnterData items queue) c f p h planned next room acted same regions holdings = refl
+plan_can (directives.ExitData items finalize queue) c f p h planned next room acted same regions holdings = refl
+plan_can (directives.Update items if_present queue) c f p h planned next room acted same regions holdings = refl
+plan_can (directives.Wait queue) c f p h planned next room acted same regions holdings = free_then (directives.Wait queue) c f p planned (asked_with (directives.Wait queue) c.state.register p.tasks planned.asked).are acted
+plan_can (directives.Step queue) c f p h planned next room acted same regions holdings = free_then (directives.Step queue) c f p planned (asked_with (directives.Step queue) c.state.register p.tasks planned.asked).are acted
 
 one_holding : (task : Task) (did : Did) → length (holding_by task did) ≤ 1
-one_holding (Enter counter item queue) did = omega arith
+one_holding (Enter Structured item queue) did = omega arith
+one_holding (Enter Dynamic item queue) did = omega arith
 one_holding (Leave holding) did = omega arith
 one_holding (Exit finalize item queue) did = omega arith
 one_holding (Move if_present item queue) did = omega arith
 
 -- no more is held than there are tasks
-holdings_few : (tasks : List Task) (dids : List Did) → length (holdings_by tasks dids) ≤ length tasks
+pub holdings_few : (tasks : List Task) (dids : List Did) → length (holdings_by tasks dids) ≤ length tasks
 holdings_few [] [] = omega arith
 holdings_few [] (d ∷ ds) = omega arith
 holdings_few (t ∷ ts) [] = omega arith
@@ -168,36 +144,30 @@ holdings_few (t ∷ ts) (d ∷ ds) =
     let both : length (holding_by t d ++ holdings_by ts ds) ≡ length (holding_by t d) + length (holdings_by ts ds) = length-append (holding_by t d) (holdings_by ts ds) in
     omega (arith, later, both, one_holding t d)
 
-pub held_few : (head : Head) (tasks : List Task) (dids : List Did) → length (held_by head tasks dids) ≤ length tasks
-held_few Plain tasks dids = omega arith
-held_few Entry tasks dids = holdings_few tasks dids
-held_few (Leaving number) tasks dids = omega arith
-held_few (Waiting queue) tasks dids = omega arith
-held_few (Stepping queue) tasks dids = omega arith
-
-numbered_of : (c : Contents) → IsStoreSound c → IsNumbered c.state.register
-numbered_of c h = record { first = h.sound.layout.register.first; rising = h.sound.layout.register.rising; known = h.sound.layout.register.known }
+-- what holds of a register holds after a directive, where it holds after a region's entry and after an exit
+by_register : (P : Register → Type 0) (d : Directive) (holdings : List Holding) (g : Register) → P g → ((items : List (Item RegionClause)) → d ≡ directives.Enter items → P (opened holdings g)) → ((number : ℕ) → P (closed number g)) → P (register_by d holdings g)
+by_register P (directives.Enter items) holdings g same enter exit = enter items refl
+by_register P (directives.Exit number) holdings g same enter exit = exit number
+by_register P (directives.EnterData items queue) holdings g same enter exit = same
+by_register P (directives.ExitData items finalize queue) holdings g same enter exit = same
+by_register P (directives.Update items if_present queue) holdings g same enter exit = same
+by_register P (directives.Wait queue) holdings g same enter exit = same
+by_register P (directives.Step queue) holdings g same enter exit = same
 
 -- no region holds too much after a plan
-few_after : (d : Directive) (c : Contents) (p : Planned) → IsStoreSound c → IsPlannedOn c.limits d (layout_of c.state) p → AreFew (register_planned p c.state.register)
-few_after (directives.Enter items) c p h planned =
+few_after : (d : Directive) (c : Contents) (p : Planned) → IsStoreSound c → IsPlanOf c.limits d c.state p → AreFew (register_by d (holdings_by p.tasks p.dids) c.state.register)
+few_after d c p h planned =
+    let few : AreFew c.state.register = h.sound.layout.register.few in
     let short : length (holdings_by p.tasks p.dids) ≤ 64 = omega (arith, holdings_few p.tasks p.dids, planned.few) in
-    subst (λ (x : Head). AreFew (register_by x (holdings_by p.tasks p.dids) c.state.register)) (sym planned.head) (opened_few (holdings_by p.tasks p.dids) c.state.register (numbered_of c h) h.sound.layout.register.few short)
-few_after (directives.Exit number) c p h planned = subst (λ (x : Head). AreFew (register_by x (holdings_by p.tasks p.dids) c.state.register)) (sym planned.head) (closed_few number c.state.register h.sound.layout.register.few)
-few_after (directives.EnterData items queue) c p h planned = subst (λ (x : Head). AreFew (register_by x (holdings_by p.tasks p.dids) c.state.register)) (sym planned.head) h.sound.layout.register.few
-few_after (directives.ExitData items finalize queue) c p h planned = subst (λ (x : Head). AreFew (register_by x (holdings_by p.tasks p.dids) c.state.register)) (sym planned.head) h.sound.layout.register.few
-few_after (directives.Update items if_present queue) c p h planned = subst (λ (x : Head). AreFew (register_by x (holdings_by p.tasks p.dids) c.state.register)) (sym planned.head) h.sound.layout.register.few
-few_after (directives.Wait queue) c p h planned = subst (λ (x : Head). AreFew (register_by x (holdings_by p.tasks p.dids) c.state.register)) (sym planned.head) h.sound.layout.register.few
-few_after (directives.Step queue) c p h planned = subst (λ (x : Head). AreFew (register_by x (holdings_by p.tasks p.dids) c.state.register)) (sym planned.head) h.sound.layout.register.few
-
--- what open regions hold lies within, with the register of a head
-abbrev IsWithinBy : Records → Planned → Register → Head → Type 0
-IsWithinBy v p g head = AreHoldingsWithin v (register_by head (holdings_by p.tasks p.dids) g).regions
+    by_register AreFew d (holdings_by p.tasks p.dids) c.state.register few (λ items is. opened_few (holdings_by p.tasks p.dids) c.state.register (numbered_of c h) few short) (λ number. closed_few number c.state.register few)
 
 -- what open regions hold lies within after a plan
-within_after : (d : Directive) (c : Contents) (p : Planned) → IsWithinBounds c.limits → IsStoreSound c → IsPlannedOn c.limits d (layout_of c.state) p
-    → AreHoldingsWithin (act_all p.tasks p.dids c.state.records) (register_planned p c.state.register).regions
-within_after d c p bounds h planned = go d planned.head planned.tasks
+within_after : (d : Directive) (c : Contents) (p : Planned) → IsWithinBounds c.limits → IsStoreSound c → IsPlanOf c.limits d c.state p
+    → AreHoldingsWithin (act_all p.tasks p.dids c.state.records) (register_by d (holdings_by p.tasks p.dids) c.state.register).regions
+within_after d c p bounds h planned = by_register (λ x. AreHoldingsWithin v x.regions) d (holdings_by p.tasks p.dids) g kept
+    (λ items is. subst (λ rs. AreHoldingsWithin v rs) (sym (opened_regions (holdings_by p.tasks p.dids) g (numbered_of c h)))
+    (AllByRecursion-append (λ (r : Region). AllByRecursion (IsHoldingWithin v) r.holdings) g.regions (next_region (holdings_by p.tasks p.dids) g ∷ []) kept (entered items is, tt)))
+    (λ number. AllByRecursion-filter (λ (r : Region). AllByRecursion (IsHoldingWithin v) r.holdings) (λ r. not (r.number == number)) g.regions kept)
   where
     w : Records
     w = c.state.records
@@ -208,28 +178,24 @@ within_after d c p bounds h planned = go d planned.head planned.tasks
     g : Register
     g = c.state.register
 
+    judged : AreJudged c.limits 0 p.tasks p.dids w
+    judged = planned_judged c.limits d c.state p planned
+
     kept : AreHoldingsWithin v g.regions
-    kept = regions_within c.limits 0 p.tasks p.dids w g.regions planned.judged h.holdings
+    kept = regions_within c.limits 0 p.tasks p.dids w g.regions judged h.holdings
 
-    entered : (items : List (Item RegionClause)) → map enter_task items ≡ p.tasks → AllByRecursion (IsHoldingWithin v) (holdings_by p.tasks p.dids)
-    entered items same =
-        let judged : AreJudged c.limits 0 (map enter_task items) p.dids w = subst (λ ts. AreJudged c.limits 0 ts p.dids w) (sym same) planned.judged in
-        subst (λ ts. AllByRecursion (IsHoldingWithin (act_all ts p.dids w)) (holdings_by ts p.dids)) same
-        (subst (AllByRecursion (IsHoldingWithin (act_all (map enter_task items) p.dids w))) (held_asked items p.dids) (entered_within c.limits 0 items p.dids w bounds h.sound.layout.records judged))
+    asked : (items : List (Item RegionClause)) → d ≡ directives.Enter items → map enter_task items ≡ p.tasks
+    asked items is = let asked = asked_with d g p.tasks planned.asked in ap (λ (x : Directive). tasks_with x asked.holdings) (sym is) ∙ asked.are
 
-    go : (d : Directive) → p.head ≡ head_planned d → tasks_of d g ≡ Ok p.tasks → AreHoldingsWithin v (register_planned p g).regions
-    go (directives.Enter items) x e = subst (IsWithinBy v p g) (sym x) (subst (λ rs. AreHoldingsWithin v rs) (sym (opened_regions (holdings_by p.tasks p.dids) g (numbered_of c h)))
-        (AllByRecursion-append (λ (r : Region). AllByRecursion (IsHoldingWithin v) r.holdings) g.regions (next_region (holdings_by p.tasks p.dids) g ∷ []) kept (entered items (tasks_same (map enter_task items) p.tasks e), tt)))
-    go (directives.Exit number) x e = subst (IsWithinBy v p g) (sym x) (AllByRecursion-filter (λ (r : Region). AllByRecursion (IsHoldingWithin v) r.holdings) (λ r. not (r.number == number)) g.regions kept)
-    go (directives.EnterData items queue) x e = subst (IsWithinBy v p g) (sym x) kept
-    go (directives.ExitData items finalize queue) x e = subst (IsWithinBy v p g) (sym x) kept
-    go (directives.Update items if_present queue) x e = subst (IsWithinBy v p g) (sym x) kept
-    go (directives.Wait queue) x e = subst (IsWithinBy v p g) (sym x) kept
-    go (directives.Step queue) x e = subst (IsWithinBy v p g) (sym x) kept
+    entered : (items : List (Item RegionClause)) → d ≡ directives.Enter items → AllByRecursion (IsHoldingWithin v) (holdings_by p.tasks p.dids)
+    entered items is =
+        let these : AreJudged c.limits 0 (map enter_task items) p.dids w = subst (λ ts. AreJudged c.limits 0 ts p.dids w) (sym (asked items is)) judged in
+        subst (λ ts. AllByRecursion (IsHoldingWithin (act_all ts p.dids w)) (holdings_by ts p.dids)) (asked items is)
+        (subst (AllByRecursion (IsHoldingWithin (act_all (map enter_task items) p.dids w))) (held_asked items p.dids) (entered_within c.limits 0 items p.dids w bounds h.sound.layout.records these))
 
 -- what is done to the parts is what the plan says
-pub all_finished : (p : Planned) (ts : List Task) (ds : List Did) (s t u : State) → ts ≡ p.tasks → ds ≡ p.dids → t ≡ act_all_state ts ds s → u ≡ finished p t → u ≡ finished p (act_all_state p.tasks p.dids s)
-all_finished p ts ds s t u a b e f = f ∙ ap (finished p) (e ∙ ap (λ x. act_all_state x ds s) a ∙ ap (λ x. act_all_state p.tasks x s) b)
+pub all_finished : (d : Directive) (p : Planned) (ts : List Task) (ds : List Did) (s t u : State) → ts ≡ p.tasks → ds ≡ p.dids → t ≡ act_all_state ts ds s → u ≡ finished d p t → u ≡ finished d p (act_all_state p.tasks p.dids s)
+all_finished d p ts ds s t u a b e f = f ∙ ap (finished d p) (e ∙ ap (λ x. act_all_state x ds s) a ∙ ap (λ x. act_all_state p.tasks x s) b)
 
 -- ---- queued transfers leave what is held
 
@@ -255,14 +221,15 @@ within_drained qs w regions h =
     one x k p = record { born = subst (λ n. k ≤ n) (sym (births-drained qs w)) p.born; within = λ r e. p.within r (ap (range_of k) (sym (ranges-drained qs w)) ∙ e) }
 
 -- what open regions hold lies within once a plan is finished
-within_finished : (d : Directive) (c : Contents) (p : Planned) → IsWithinBounds c.limits → IsStoreSound c → IsPlannedOn c.limits d (layout_of c.state) p
-    → AreHoldingsWithin (finished p (act_all_state p.tasks p.dids c.state)).records (finished p (act_all_state p.tasks p.dids c.state)).register.regions
+within_finished : (d : Directive) (c : Contents) (p : Planned) → IsWithinBounds c.limits → IsStoreSound c → IsPlanOf c.limits d c.state p
+    → AreHoldingsWithin (finished d p (act_all_state p.tasks p.dids c.state)).records (finished d p (act_all_state p.tasks p.dids c.state)).register.regions
 within_finished d c p bounds h planned =
     let t : State = act_all_state p.tasks p.dids c.state in
-    let qs : List ℕ = steps_by p.head t.records.queues in
-    let kept : AreHoldingsWithin t.records (register_planned p t.register).regions = subst (λ (g : Register). AreHoldingsWithin t.records (register_planned p g).regions) (sym (register-act_all_state p.tasks p.dids c.state))
-    (subst (λ w. AreHoldingsWithin w (register_planned p c.state.register).regions) (sym (records-act_all_state p.tasks p.dids c.state)) (within_after d c p bounds h planned)) in
-    subst (λ w. AreHoldingsWithin w (register_planned p t.register).regions) (sym (records-drained qs t)) (within_drained qs t.records (register_planned p t.register).regions kept)
+    let qs : List ℕ = steps_by d t.records.queues in
+    let after_it : Register → Register = register_by d (holdings_by p.tasks p.dids) in
+    let kept : AreHoldingsWithin t.records (after_it t.register).regions = subst (λ (g : Register). AreHoldingsWithin t.records (after_it g).regions) (sym (register-act_all_state p.tasks p.dids c.state))
+    (subst (λ w. AreHoldingsWithin w (after_it c.state.register).regions) (sym (records-act_all_state p.tasks p.dids c.state)) (within_after d c p bounds h planned)) in
+    subst (λ w. AreHoldingsWithin w (after_it t.register).regions) (sym (records-drained qs t)) (within_drained qs t.records (after_it t.register).regions kept)
 
 -- ---- a store is sound after a plan
 
@@ -273,20 +240,21 @@ same_sound c f limits state h =
     record { sound = rw (limits, state) h.sound; holdings = subst P (sym state) h.holdings }
 
 -- and so is one after the event of the plan
-made_sound : (d : Directive) (c f : Contents) (p : Planned) (e : Event) → IsWithinBounds c.limits → IsStoreSound c → IsPlannedOn c.limits d (layout_of c.state) p → f.limits ≡ c.limits
-    → f.state ≡ finished p (act_all_state p.tasks p.dids c.state) → used_bytes f.state.records.blocks ≤ f.limits.device → IsEventOf c.limits p c.state e → IsPlain e → IsStoreSound f
-made_sound d c f p e bounds h planned limits state used is plain =
+made_sound : (d : Directive) (c f : Contents) (p : Planned) (e : Event) → IsWithinBounds c.limits → IsStoreSound c → IsPlanOf c.limits d c.state p → f.limits ≡ c.limits
+    → f.state ≡ finished d p (act_all_state p.tasks p.dids c.state) → used_bytes f.state.records.blocks ≤ f.limits.device → verdict_of d c.state p.dids ≡ Makes e → IsStoreSound f
+made_sound d c f p e bounds h planned limits state used made =
     let l : Limits = c.limits in
+    let is : IsEventOf d p c.state e = event_of_plan l d c.state p e planned made in
     let P : State → Type 0 = λ s. AreHoldingsWithin s.records s.register.regions in
-    event_sound l e [] c f bounds refl limits h (planned_legal l d c.state p e planned is) (plain.brought c.state.records) (state ∙ sym (after_plan l p c.state e is plain))
+    event_sound l e [] c f bounds refl limits h (planned_legal l d c.state p e planned made) (is.brought c.state.records) (state ∙ sym (after_plan d p c.state e is))
     (subst AreFew (sym is.register) (few_after d c p h planned))
     (subst (λ (m : Limits). used_bytes f.state.records.blocks ≤ m.device) limits used)
     (subst P (sym state) (within_finished d c p bounds h planned))
 
-pub plan_sound : (d : Directive) (c f : Contents) (p : Planned) → IsWithinBounds c.limits → IsStoreSound c → IsPlannedOn c.limits d (layout_of c.state) p → f.limits ≡ c.limits
-    → f.state ≡ finished p (act_all_state p.tasks p.dids c.state) → used_bytes f.state.records.blocks ≤ f.limits.device → IsStoreSound f
+pub plan_sound : (d : Directive) (c f : Contents) (p : Planned) → IsWithinBounds c.limits → IsStoreSound c → IsPlanOf c.limits d c.state p → f.limits ≡ c.limits
+    → f.state ≡ finished d p (act_all_state p.tasks p.dids c.state) → used_bytes f.state.records.blocks ≤ f.limits.device → IsStoreSound f
 plan_sound d c f p bounds h planned limits state used = go (verdict_of d c.state p.dids) refl
   where
     go : (v : Verdict) → verdict_of d c.state p.dids ≡ v → IsStoreSound f
-    go (Makes e) made = made_sound d c f p e bounds h planned limits state used (event_of_plan c.limits d c.state p e planned made) (plain_verdict d c.state p.dids e made)
+    go (Makes e) made = made_sound d c f p e bounds h planned limits state used made
     go Idle idle = same_sound c f limits (state ∙ idle_plan c.limits d c.state p planned idle) h

@@ -39,7 +39,7 @@ use Rattle.acc_clauses.specs.Stored.{IsStoreSound, AreHoldingsWithin, IsHeldWith
 use Rattle.acc_clauses.specs.Lending.{IsLoanPlanned, lent_state, gathered_state}
 use Rattle.acc_clauses.proofs.Changes.{state_by}
 use Rattle.acc_clauses.proofs.Standing.{told}
-use Rattle.acc_clauses.proofs.Finishing.{event_sound}
+use Rattle.acc_clauses.proofs.AfterPlan.{event_sound}
 
 -- ---- what the device needs
 

@@ -33,7 +33,7 @@ mod Remaining
 mod Holding
 mod Entering
 mod Storing
-mod Finishing
+mod AfterPlan
 mod Committing
 pub mod AimsCounted
 pub mod AimsPlaced

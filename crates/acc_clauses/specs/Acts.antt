@@ -1,7 +1,9 @@
 -- What is known of a task before its step is done, and what the step takes of the room.
-use Rattle.std.specs.Prelude.{ℕ, ◌≡◌, ◌+◌, ◌<◌, ◌≤◌, ◌⊎◌, ◌^◌, Bool, true, false, ◌&&◌, List, [], ◌∷◌, ◌++◌, length, take, replicate, if◌then◌else◌, Option, Some, None, is_some, is_none, IsSome, Ok, ⊤}
+use Rattle.std.specs.Prelude.{ℕ, ◌≡◌, ◌+◌, ◌<◌, ◌≤◌, ◌⊎◌, ◌^◌, Bool, true, false, ◌&&◌, List, [], ◌∷◌, ◌++◌, length, replicate, if◌then◌else◌, Option, Some, None, is_some, is_none, IsSome, Ok, ⊤}
 use Rattle.std.specs.List.{AllByRecursion}
 use Rattle.acc_base.specs.declared.addresses.TheConstants.{MEMORY_MAX}
+use Rattle.acc_base.specs.declared.directives.Directive.{Directive}
+use Rattle.acc_base.specs.declared.directives.Directive.TheVariants as directives
 use Rattle.acc_base.specs.declared.items.Section.{Section}
 use Rattle.acc_base.specs.declared.items.Item.{Item}
 use Rattle.acc_base.specs.declared.items.RegionClause.{RegionClause}
@@ -24,9 +26,10 @@ use Rattle.acc_base.specs.Loans.{is_lent, not_lent, none_lent}
 use Rattle.acc_base.specs.Records.{Records, State}
 use Rattle.acc_base.specs.declared.transfers.Transfer.{Transfer}
 use Rattle.acc_base.specs.Queues.{queue_at, head_of, pins_of}
+use Rattle.acc_base.specs.Judge.{transfers_in}
 use Rattle.acc_base.specs.Tasks.{section_of, queue_of, recounted}
 use Rattle.acc_base.specs.Transfers.{first_address, gives_bytes, transfer_at, transfer_of, at_once, room_for, queues_after}
-use Rattle.acc_base.specs.Waits.{transfers_of, stepped}
+use Rattle.acc_base.specs.Waits.{stepped}
 use Rattle.acc_base.specs.Steps.{block_needed, judge_step, act}
 use Rattle.acc_base.specs.Clauses.{is_attach, section_named, copies_in, is_zeroed}
 use Rattle.acc_base.specs.Register.{region_at}
@@ -40,9 +43,7 @@ use Rattle.acc_dev.specs.Marks.{new_mark}
 use Rattle.acc_queues.specs.Queued.{spare_at}
 use Rattle.acc_clauses.specs.declared.environments.Environment.{Environment}
 use Rattle.acc_clauses.specs.declared.numbers.Numbers.{Numbers}
-use Rattle.acc_clauses.specs.declared.plans.Head.{Head}
-use Rattle.acc_clauses.specs.declared.plans.Head.TheVariants.{Plain, Entry, Leaving, Waiting, Stepping}
-use Rattle.acc_clauses.specs.Planned.{Planned, held_by}
+use Rattle.acc_clauses.specs.Planned.{Planned, holdings_by}
 use Rattle.acc_clauses.specs.Contents.{Room, Contents, state_of, room_of, AreMarked, bare_state}
 use Rattle.acc_clauses.specs.Overlays.{is_queue, puts_by, puts_in}
 
@@ -360,13 +361,11 @@ pub record CanOpen (holdings : ℕ) (c : Contents) : Type 0 where
   pub new : region_at c.state.register.next c.state.register.regions ≡ None
   pub room : HasRegionRoom holdings c.room
 
--- what the head of a plan of so many tasks needs of the register and its room
-abbrev pub CanFinish : Head → ℕ → Contents → Type 0
-CanFinish Plain tasks c = ⊤
-CanFinish Entry tasks c = CanOpen tasks c
-CanFinish (Leaving number) tasks c = IsSome (region_at number c.state.register.regions)
-CanFinish (Waiting queue) tasks c = none_lent (transfers_of queue c.state.records.queues) c.state.records.loans ≡ Ok tt
-CanFinish (Stepping queue) tasks c = none_lent (take 1 (queue_at queue c.state.records.queues)) c.state.records.loans ≡ Ok tt
+-- what a directive of so many tasks needs of the register and its room, and of the transfers that it makes
+abbrev pub CanFinish : Directive → ℕ → Contents → Type 0
+CanFinish (directives.Enter items) tasks c = CanOpen tasks c
+CanFinish (directives.Exit number) tasks c = IsSome (region_at number c.state.register.regions)
+CanFinish d tasks c = none_lent (transfers_in d c.state.records.queues) c.state.records.loans ≡ Ok tt
 
 -- there is room for all that a plan takes in
 pub record HasPlanRoom (p : Planned) (room : Room) : Type 0 where
@@ -385,7 +384,7 @@ LacksPlanRoom p room = LacksRoom (lens_born p.tasks p.dids) (length p.tasks) (po
 
 -- ---- what a plan notes
 
--- beside the tasks of a plan with this head stand the lengths of the blocks that they bear, and what a region holds that they enter
-pub record IsNoted (head : Head) (tasks : List Task) (dids : List Did) (lens : List ℕ) (holdings : List Holding) : Type 0 where
+-- beside the tasks of a plan stand the lengths of the blocks that they bear, and what a region holds that they enter
+pub record IsNoted (tasks : List Task) (dids : List Did) (lens : List ℕ) (holdings : List Holding) : Type 0 where
   pub lens_are : lens ≡ lens_born tasks dids
-  pub holdings_are : holdings ≡ held_by head tasks dids
+  pub holdings_are : holdings ≡ holdings_by tasks dids

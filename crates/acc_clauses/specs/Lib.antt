@@ -1,4 +1,3 @@
-pub mod Asked
 pub mod Contents
 pub mod Overlays
 pub mod Planned

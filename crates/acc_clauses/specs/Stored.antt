@@ -1,5 +1,5 @@
 -- What holds of every store.
-use Rattle.std.specs.Prelude.{ℕ, ◌≡◌, ◌≤◌, true, List, Some, Ok}
+use Rattle.std.specs.Prelude.{ℕ, ◌≡◌, ◌≤◌, true, List, Some}
 use Rattle.std.specs.List.{AllByRecursion}
 use Rattle.acc_base.specs.declared.items.Section.{Section}
 use Rattle.acc_base.specs.declared.mappings.Range.{Range}
@@ -7,11 +7,8 @@ use Rattle.acc_base.specs.declared.regions.Holding.{Holding}
 use Rattle.acc_base.specs.Section.{is_within}
 use Rattle.acc_base.specs.Ranges.{range_of}
 use Rattle.acc_base.specs.Register.{Region}
-use Rattle.acc_base.specs.declared.directives.Directive.{Directive}
-use Rattle.acc_base.specs.Records.{Records, layout_of}
-use Rattle.acc_base.specs.Judge.{plan_of, verdict_of}
+use Rattle.acc_base.specs.Records.{Records}
 use Rattle.acc_base.specs.Accounts.{IsSound}
-use Rattle.acc_clauses.specs.Planned.{Planned, IsPlannedOn}
 use Rattle.acc_clauses.specs.Contents.{Contents}
 
 -- the block was born, and the range that is mapped to it, if one is, has each address of the section
@@ -31,12 +28,3 @@ AreHoldingsWithin w regions = AllByRecursion (λ (r : Region). AllByRecursion (I
 pub record IsStoreSound (c : Contents) : Type 0 where
   pub sound : IsSound c.limits c.state
   pub holdings : AreHoldingsWithin c.state.records c.state.register.regions
-
--- the plan is of the directive, judged on this state, bytes included
-pub record IsPlanOf (d : Directive) (c : Contents) (p : Planned) : Type 0 where
-  pub planned : IsPlannedOn c.limits d (layout_of c.state) p
-  pub judged : plan_of c.limits d c.state ≡ Ok (verdict_of d c.state p.dids)
-
--- the plan is of some directive, judged on this state
-abbrev pub IsPlan : Contents → Planned → Type 0
-IsPlan c p = (d : Directive) × IsPlanOf d c p

@@ -13,7 +13,7 @@ mod drafts;
 mod draining;
 mod effects;
 mod environments;
-mod heads;
+mod finishing;
 mod items;
 mod judging;
 mod lending;
@@ -34,5 +34,5 @@ mod transfers;
 
 pub use acted::Acted;
 pub use planning::check_items;
-pub use plans::{Head, Plan};
+pub use plans::Plan;
 pub use stores::Store;

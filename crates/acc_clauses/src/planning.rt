@@ -2,37 +2,40 @@
 
 ghost use Rattle.std.specs.Prelude.{◌≡◌, ◌<◌, ◌≤◌, ◌^◌, MatchResult, OnOk, length, Ok, Err};
 ghost use Rattle.std.specs.List.{AllByRecursion};
-ghost use Rattle.acc_base.specs.Records.{layout_of};
 ghost use Rattle.acc_base.specs.Acting.{judge_all};
 ghost use Rattle.acc_base.specs.Queues.{queue_named};
-ghost use Rattle.acc_base.specs.Judge.{few_items, queue_in, verdict_of, plan_of};
-ghost use Rattle.acc_clauses.specs.Asked.{asked_tasks};
+ghost use Rattle.acc_base.specs.Judge.{few_items, tasks_with, holdings_left, queue_in, verdict_of, plan_of};
 ghost use Rattle.acc_clauses.specs.Overlays.{IsPlanned, AreUnmixed, AreQueuesNamed, tasks_in, dids_in};
-ghost use Rattle.acc_clauses.specs.Planned.{HasFewHoldings, asked_of, head_planned, IsPlannedOn};
+ghost use Rattle.acc_clauses.specs.Planned.{HasFewHoldings, IsPlanOf};
 
 use crate::drafts::Draft;
 use crate::items::judge;
 use crate::lending::transfers_free;
-use crate::notes::{note_births, note_held};
+use crate::notes::{note_births, note_holdings, note_written};
 use crate::parts::Parts;
-use crate::plans::{Head, Plan};
-use crate::tasks::Asked;
-use acc_base::{Directive, Fault, QUEUE_COUNT};
+use crate::plans::Plan;
+use crate::tasks::{task_at, task_count};
+use acc_base::{Directive, Fault, Holding, QUEUE_COUNT};
 
-/// Judges each task as if those before it had acted.
-fn judge_all(parts: &Parts, asked: &Asked<'_>, draft: &mut Draft) -> Result<(), Fault>
-    requires few { length (asked_tasks asked.now) ≤ 64 }
-    requires unmixed { AreUnmixed (asked_tasks asked.now) }
-    requires queues { AreQueuesNamed (asked_tasks asked.now) }
+/// Judges each task of a directive as if those before it had acted, where the region that it leaves holds these.
+fn judge_all(
+    parts: &Parts,
+    directive: &Directive,
+    holdings: &[Holding],
+    draft: &mut Draft,
+) -> Result<(), Fault>
+    requires few { length (tasks_with directive.now holdings.now) ≤ 64 }
+    requires unmixed { AreUnmixed (tasks_with directive.now holdings.now) }
+    requires queues { AreQueuesNamed (tasks_with directive.now holdings.now) }
     requires births { parts.now.state.records.births < 2 ^ 48 }
-    ensures judged { MatchResult result (λ _. judge_all parts.now.limits 0 (asked_tasks asked.now) parts.now.state ≡ Ok (dids_in draft.new)) (λ fault. judge_all parts.now.limits 0 (asked_tasks asked.now) parts.now.state ≡ Err fault) }
-    ensures asked { OnOk result (tasks_in draft.new ≡ asked_tasks asked.now) }
+    ensures judged { MatchResult result (λ _. judge_all parts.now.limits 0 (tasks_with directive.now holdings.now) parts.now.state ≡ Ok (dids_in draft.new)) (λ fault. judge_all parts.now.limits 0 (tasks_with directive.now holdings.now) parts.now.state ≡ Err fault) }
+    ensures asked { OnOk result (tasks_in draft.new ≡ tasks_with directive.now holdings.now) }
     ensures planned { OnOk result (IsPlanned parts.now.limits draft.new parts.now.state.records) }
 {
     parts.laws();
     draft.clear();
-    for n in 0..asked.count() {
-        judge(parts, draft, n as u64, asked.task(n))?;
+    for n in 0..task_count(directive, holdings) {
+        judge(parts, draft, n as u64, task_at(directive, holdings, n))?;
     }
     Ok(())
 }
@@ -55,59 +58,30 @@ pub fn check_items(directive: &Directive) -> Result<(), Fault>
     Ok(())
 }
 
-// What a directive asks, in the order in which it acts.
-fn asked_by<'a>(parts: &'a Parts, directive: &'a Directive) -> Result<Asked<'a>, Fault>
-    ensures { let asked = asked_of directive.now parts.now.state.register in MatchResult result (λ a. asked ≡ Ok (asked_tasks a)) (λ fault. asked ≡ Err fault) }
+// What the region holds that a directive leaves, which undoes it.
+fn holdings_left<'a>(parts: &'a Parts, directive: &Directive) -> Result<&'a [Holding], Fault>
+    ensures { let left = holdings_left directive.now parts.now.state.register in MatchResult result (λ holdings. left ≡ Ok holdings.now) (λ fault. left ≡ Err fault) }
 {
-    check_items(directive)?;
-    let asked = match directive {
-        Directive::Enter { items } => Asked::Enter {
-            items: items.as_slice(),
-        },
+    match directive {
         Directive::Exit { number } => match parts.holdings(*number) {
-            Some(holdings) => Asked::Leave { holdings },
-            None => return Err(Fault::NoRegion { number: *number }),
+            Some(holdings) => Ok(holdings),
+            None => Err(Fault::NoRegion { number: *number }),
         },
-        Directive::EnterData { items, queue } => Asked::EnterData {
-            items: items.as_slice(),
-            queue: *queue,
-        },
-        Directive::ExitData {
-            items,
-            finalize,
-            queue,
-        } => Asked::ExitData {
-            items: items.as_slice(),
-            finalize: *finalize,
-            queue: *queue,
-        },
-        Directive::Update {
-            items,
-            if_present,
-            queue,
-        } => Asked::Update {
-            items: items.as_slice(),
-            if_present: *if_present,
-            queue: *queue,
-        },
-        Directive::Wait { .. } => Asked::Nothing,
-        Directive::Step { .. } => Asked::Nothing,
-    };
-    Ok(asked)
+        _ => Ok(&[]),
+    }
 }
 
-// The queue that a directive names.
-fn queue_in(directive: &Directive) -> Option<u64>
+/// The queue that a directive names.
+pub(crate) fn queue_in(directive: &Directive) -> Option<u64>
     ensures { result ≡ queue_in directive.now }
 {
     match directive {
-        Directive::Enter { .. } => None,
-        Directive::Exit { .. } => None,
         Directive::EnterData { queue, .. } => *queue,
         Directive::ExitData { queue, .. } => *queue,
         Directive::Update { queue, .. } => *queue,
         Directive::Wait { queue } => *queue,
         Directive::Step { queue } => Some(*queue),
+        Directive::Enter { .. } | Directive::Exit { .. } => None,
     }
 }
 
@@ -118,21 +92,6 @@ fn check_queue(queue: Option<u64>) -> Result<(), Fault>
     match queue {
         Some(q) if q >= QUEUE_COUNT => Err(Fault::NoQueue { q }),
         Some(_) | None => Ok(()),
-    }
-}
-
-// What a directive does beside its tasks.
-fn head_planned(directive: &Directive) -> Head
-    ensures { result ≡ head_planned directive.now }
-{
-    match directive {
-        Directive::Enter { .. } => Head::Entry,
-        Directive::Exit { number } => Head::Leaving(*number),
-        Directive::EnterData { .. } => Head::Plain,
-        Directive::ExitData { .. } => Head::Plain,
-        Directive::Update { .. } => Head::Plain,
-        Directive::Wait { queue } => Head::Waiting(*queue),
-        Directive::Step { queue } => Head::Stepping(*queue),
     }
 }
 
@@ -151,16 +110,16 @@ pub(crate) fn plan(parts: &Parts, directive: &Directive, plan: &mut Plan) -> Res
     requires births { parts.now.state.records.births < 2 ^ 48 }
     requires register { AllByRecursion HasFewHoldings parts.now.state.register.regions }
     ensures judged { let s = parts.now.state in MatchResult result (λ _. plan_of parts.now.limits directive.now s ≡ Ok (verdict_of directive.now s plan.new.dids)) (λ fault. plan_of parts.now.limits directive.now s ≡ Err fault) }
-    ensures planned { OnOk result (IsPlannedOn parts.now.limits directive.now (layout_of parts.now.state) plan.new) }
+    ensures planned { OnOk result (IsPlanOf parts.now.limits directive.now parts.now.state plan.new) }
 {
-    let asked = asked_by(parts, directive)?;
-    plan.queue = queue_in(directive);
-    check_queue(plan.queue)?;
-    let judged = judge_all(parts, &asked, &mut plan.draft);
-    plan.head = head_planned(directive);
+    check_items(directive)?;
+    let holdings = holdings_left(parts, directive)?;
+    check_queue(queue_in(directive))?;
+    let judged = judge_all(parts, directive, holdings, &mut plan.draft);
     let acts = plan.draft.acts();
     note_births(&mut plan.lens, acts);
-    note_held(&mut plan.holdings, plan.head, acts);
+    note_holdings(&mut plan.holdings, acts);
+    note_written(&mut plan.written, directive, acts);
     judged?;
     transfers_free(parts, directive)
 }

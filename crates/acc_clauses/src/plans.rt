@@ -1,47 +1,27 @@
 //! The plan of a directive.
 
-ghost use Rattle.std.specs.Prelude.{◌≡◌, ◌≤◌, [], None, length, IfOk, IfErr};
-ghost use Rattle.acc_base.specs.declared.faults.Fault.TheVariants.{Memory};
+ghost use Rattle.std.specs.Prelude.{◌≡◌, ◌≤◌, [], length};
 ghost use Rattle.acc_clauses.specs.Overlays.{tasks_in, dids_in};
-ghost use Rattle.acc_clauses.specs.Planned.{in_written_order, held_by};
+ghost use Rattle.acc_clauses.specs.Planned.{holdings_by};
 ghost use Rattle.acc_clauses.specs.Acts.{lens_born};
-ghost use Rattle.acc_clauses.specs.declared.plans.Head.TheVariants.{Plain};
 
 use crate::acted::Acted;
 use crate::drafts::Draft;
-use crate::notes::tell_written;
-use acc_base::{Did, Fault, Holding};
+use acc_base::{Did, Holding};
 use arrayvec::ArrayVec;
-use std::alloc::Global;
 use std::marker::Model;
-
-/// What a directive does beside its tasks.
-#[derive(Clone, Copy, Debug, PartialEq, Eq)]
-pub enum Head {
-    /// Nothing.
-    Plain,
-    /// It enters a region, which is open from then on.
-    Entry,
-    /// It leaves the region of this number.
-    Leaving(u64),
-    /// It makes the transfers of this queue, or those of all queues.
-    Waiting(Option<u64>),
-    /// It makes the first transfer of this queue.
-    Stepping(u64),
-}
 
 /// A directive that was judged whole: what each of its items will do.
 ///
-/// All of it lies in the value, some 16 KiB for 64 items, so a plan that is used again and again costs nothing to make.
+/// All of it lies in the value, some 20 KiB for 64 items, so a plan that is used again and again costs nothing to make.
 #[derive(Drop)]
 pub struct Plan {
-    pub(crate) head: Head,
-    // The queue that the directive names.
-    pub(crate) queue: Option<u64>,
     pub(crate) draft: Draft,
-    // What was noted of its tasks: the lengths of the blocks that they bear, and what a region that they enter holds.
+    // What was noted of its tasks: the lengths of the blocks that they bear, what a region that they enter holds, and what
+    // they do in written order.
     pub(crate) lens: ArrayVec<u64, 64>,
     pub(crate) holdings: ArrayVec<Holding, 64>,
+    pub(crate) written: ArrayVec<Did, 64>,
 }
 
 impl Model for Plan {
@@ -51,37 +31,22 @@ impl Model for Plan {
 
     ghost Value = { Planned };
 
-    ghost view = { λ p. record { head = p.head; queue = p.queue; tasks = tasks_in p.draft; dids = dids_in p.draft } };
+    ghost view = { λ p. record { tasks = tasks_in p.draft; dids = dids_in p.draft; written = p.written.items } };
 
-    ghost invariant = { λ p. IsNoted p.head (tasks_in p.draft) (dids_in p.draft) p.lens.items p.holdings.items };
+    ghost invariant = { λ p. IsNoted (tasks_in p.draft) (dids_in p.draft) p.lens.items p.holdings.items };
 }
 
 impl Plan {
     /// A plan of nothing, to be filled by [`crate::Store::plan`]. It takes no memory.
     pub fn new() -> Self
-        ensures { result ≡ record { head = Plain; queue = None; tasks = []; dids = [] } }
+        ensures { result ≡ record { tasks = []; dids = []; written = [] } }
     {
         Plan {
-            head: Head::Plain,
-            queue: None,
             draft: Draft::new(),
             lens: ArrayVec::new(),
             holdings: ArrayVec::new(),
+            written: ArrayVec::new(),
         }
-    }
-
-    /// What the directive does beside its tasks.
-    pub(crate) fn head(&self) -> Head
-        ensures { result ≡ self.now.head }
-    {
-        self.head
-    }
-
-    /// The queue that the directive names.
-    pub(crate) fn queue(&self) -> Option<u64>
-        ensures { result ≡ self.now.queue }
-    {
-        self.queue
     }
 
     /// Its tasks in the order in which they act, each with what it does.
@@ -93,16 +58,11 @@ impl Plan {
         self.draft.acts()
     }
 
-    /// What each item does, in the order in which the directive or the region names them: a list allocated at its length.
-    ///
-    /// # Errors
-    ///
-    /// [`Fault::Memory`] alone.
-    pub fn did(&self, alloc: Global) -> Result<Vec<Did>, Fault>
-        ensures ok { IfOk result (λ did. did.items ≡ in_written_order self.now.head self.now.dids) }
-        ensures only { IfErr result (λ fault. fault ≡ Memory) }
+    /// What each item does, in the order in which the directive or the region names them. It takes no memory.
+    pub fn did(&self) -> &[Did]
+        ensures { result.now ≡ self.now.written }
     {
-        tell_written(alloc, self.head, self.acts())
+        &self.written
     }
 
     /// The lengths of the blocks that its tasks bear, one after the other.
@@ -115,7 +75,7 @@ impl Plan {
 
     /// What the region that it enters holds, in written order; nothing where it enters none.
     pub(crate) fn holdings(&self) -> &[Holding]
-        ensures { result.now ≡ held_by self.now.head self.now.tasks self.now.dids }
+        ensures { result.now ≡ holdings_by self.now.tasks self.now.dids }
     {
         &self.holdings
     }

@@ -14,28 +14,24 @@ ghost use Rattle.acc_base.specs.Pointers.{attachment_of};
 ghost use Rattle.acc_base.specs.Acting.{after};
 ghost use Rattle.acc_base.specs.Queues.{queue_at, head_of};
 ghost use Rattle.acc_base.specs.Waits.{steps_of, ended_from};
-ghost use Rattle.acc_base.specs.declared.events.Event.{Event};
 ghost use Rattle.acc_base.specs.declared.items.Section.{Section};
 ghost use Rattle.acc_base.specs.declared.events.Event.TheVariants.{Lent, Gathered};
-ghost use Rattle.acc_base.specs.Judge.{Makes, Idle, verdict_of, plan_of, lend_event, leased, gather_event};
+ghost use Rattle.acc_base.specs.Judge.{verdict_of, plan_of, lend_event, leased, gather_event};
 ghost use Rattle.acc_clauses.specs.Lending.{IsLoanPlanned};
-ghost use Rattle.acc_base.specs.Records.{layout_of};
 ghost use Rattle.acc_base.specs.Register.{newest_region};
-ghost use Rattle.acc_base.specs.declared.directives.Directive.{Directive};
 ghost use Rattle.acc_base.specs.Accounts.{IsSound};
 ghost use Rattle.acc_host.specs.Host.{bytes_in, IsRead, IsOutOfHost};
 ghost use Rattle.acc_clauses.specs.Contents.{AreNew};
-ghost use Rattle.acc_clauses.specs.Stored.{IsPlan};
-ghost use Rattle.acc_clauses.specs.Planned.{IsPlannedOn};
+ghost use Rattle.acc_clauses.specs.Planned.{IsPlanOf, state_by};
 ghost use Rattle.acc_clauses.specs.Acts.{CanWrite, HasPlanRoom, LacksPlanRoom};
 
 use crate::draining::waiting;
 use crate::effects::puts_in;
-use crate::heads::finish;
+use crate::finishing::finish;
 use crate::judging::in_host;
 use crate::lending::{check_lease, plan_loan};
 use crate::parts::Parts;
-use crate::planning;
+use crate::planning::{self, queue_in};
 use crate::plans::Plan;
 use crate::pointers::pointers_in;
 use crate::running::act_all;
@@ -103,20 +99,20 @@ impl Store {
     pub fn plan(&self, directive: &Directive, plan: &mut Plan) -> Result<(), Fault>
         requires births { self.now.state.records.births < 2 ^ 48 }
         ensures judged { let s = self.now.state in MatchResult result (λ _. plan_of self.now.limits directive.now s ≡ Ok (verdict_of directive.now s plan.new.dids)) (λ fault. plan_of self.now.limits directive.now s ≡ Err fault) }
-        ensures planned { OnOk result (IsPlannedOn self.now.limits directive.now (layout_of self.now.state) plan.new) }
+        ensures planned { OnOk result (IsPlanOf self.now.limits directive.now self.now.state plan.new) }
     {
         planning::plan(&self.parts, directive, plan)
     }
 
-    /// Makes all room that a plan needs which was made on this state of the store. Nothing else changes, also where it is
-    /// refused.
+    /// Makes all room that a directive needs for which this plan was made on this state of the store. Nothing else changes,
+    /// also where it is refused.
     ///
     /// # Errors
     ///
     /// [`Fault::Memory`] alone, and only where some of that room was missing. A plan that bears a block always takes memory
     /// for its bytes; room for one region more is made for every plan.
-    pub fn reserve(&mut self, plan: &Plan) -> Result<(), Fault>
-        requires planned { IsPlan self.old plan.now }
+    pub fn reserve(&mut self, directive: &Directive, plan: &Plan) -> Result<(), Fault>
+        requires planned { IsPlanOf self.old.limits directive.now self.old.state plan.now }
         ensures limits { self.new.limits ≡ self.old.limits }
         ensures state { self.new.state ≡ self.old.state }
         ensures room { OnOk result (HasPlanRoom plan.now self.new.room) }
@@ -127,28 +123,27 @@ impl Store {
         let acts = plan.acts();
         self.parts
             .reserve(plan.lens(), acts.len() as u64, pointers_in(acts))?;
-        match plan.queue() {
+        match queue_in(directive) {
             Some(q) => self.parts.reserve_puts(q, puts_in(q, acts)),
             None => Ok(()),
         }
     }
 
-    /// Does a plan that was made on this state of the store, and for which room was made. It takes no memory and is never
-    /// refused. Each of the plan's births, at most 64, has fewer than 2^48 before it, and so has the region that it enters.
-    pub fn commit(&mut self, plan: &Plan)
-        requires planned { IsPlan self.old plan.now }
+    /// Does a directive for which this plan was made on this state of the store, and for which room was made. It takes no
+    /// memory and is never refused. Each of the plan's births, at most 64, has fewer than 2^48 before it, and so has the
+    /// region that it enters. Afterwards the state is that after the event of the directive; it stays where there is nothing
+    /// to do.
+    pub fn commit(&mut self, directive: &Directive, plan: &Plan)
+        requires planned { IsPlanOf self.old.limits directive.now self.old.state plan.now }
         requires births { self.old.state.records.births + 64 ≤ 2 ^ 48 }
         requires next { self.old.state.register.next < 2 ^ 48 }
         requires room { HasPlanRoom plan.now self.old.room }
         ensures limits { self.new.limits ≡ self.old.limits }
-
-        // The state is that after the event of the directive, and it stays where there is nothing to do.
-        ensures idle { (d : Directive) → IsPlannedOn self.old.limits d (layout_of self.old.state) plan.now → verdict_of d self.old.state plan.now.dids ≡ Idle → self.new.state ≡ self.old.state }
-        ensures state { (d : Directive) (e : Event) → IsPlannedOn self.old.limits d (layout_of self.old.state) plan.now → verdict_of d self.old.state plan.now.dids ≡ Makes e → self.new.state ≡ after e [] self.old.state }
+        ensures state { self.new.state ≡ state_by (verdict_of directive.now self.old.state plan.now.dids) self.old.state }
     {
         self.parts.laws();
         act_all(&mut self.parts, plan.acts());
-        finish(&mut self.parts, plan);
+        finish(&mut self.parts, directive, plan);
         self.parts.laws();
     }
 

@@ -4,52 +4,9 @@ ghost use Rattle.std.specs.Prelude.{ℕ, ◌≡◌, ◌<◌, ◌≤◌, length, 
 ghost use Rattle.acc_base.specs.declared.tasks.Task.{Task};
 ghost use Rattle.acc_base.specs.Clauses.{as_region};
 ghost use Rattle.acc_base.specs.Walk.{enter_data_task};
-ghost use Rattle.acc_clauses.specs.Asked.{asked_tasks};
+ghost use Rattle.acc_base.specs.Judge.{tasks_with};
 
-use acc_base::{Counter, EnterClause, ExitClause, Holding, Item, RegionClause, Task, UpdateClause};
-
-/// What a directive asks of its items, over the list in which they lie: its own, or that of the region that it leaves.
-/// The task of an item is made when it is judged.
-#[derive(Clone, Copy)]
-pub(crate) enum Asked<'a> {
-    /// The entry of a region's items.
-    Enter {
-        /// The items.
-        items: &'a [Item<RegionClause>],
-    },
-    /// The undoing of what a region holds, from the last item to the first.
-    Leave {
-        /// What it holds.
-        holdings: &'a [Holding],
-    },
-    /// The items of `enter data`.
-    EnterData {
-        /// The items.
-        items: &'a [Item<EnterClause>],
-        /// The queue of their transfers.
-        queue: Option<u64>,
-    },
-    /// The items of `exit data`.
-    ExitData {
-        /// The items.
-        items: &'a [Item<ExitClause>],
-        /// Whether the dynamic counters are cleared.
-        finalize: bool,
-        /// The queue of their transfers.
-        queue: Option<u64>,
-    },
-    /// The items of `update`.
-    Update {
-        /// The items.
-        items: &'a [Item<UpdateClause>],
-        /// Whether an absent section is passed over.
-        if_present: bool,
-        /// The queue of their transfers.
-        queue: Option<u64>,
-    },
-    /// No item.
-    Nothing,
-}
+use acc_base::{Counter, Directive, EnterClause, Holding, Item, RegionClause, Task};
 
 // A clause of `enter data` is the row of this clause of a region.
 fn as_region(clause: EnterClause) -> RegionClause
@@ -78,56 +35,55 @@ fn enter_data_task(item: Item<EnterClause>, queue: Option<u64>) -> Task
     }
 }
 
-impl Asked<'_> {
-    /// How many tasks there are.
-    pub(crate) fn count(&self) -> usize
-        ensures { result ≡ length (asked_tasks self.now) }
-    {
-        match self {
-            Asked::Enter { items } => items.len(),
-            Asked::Leave { holdings } => holdings.len(),
-            Asked::EnterData { items, .. } => items.len(),
-            Asked::ExitData { items, .. } => items.len(),
-            Asked::Update { items, .. } => items.len(),
-            Asked::Nothing => 0,
-        }
+/// How many tasks a directive has, where the region that it leaves holds these.
+pub(crate) fn task_count(directive: &Directive, holdings: &[Holding]) -> usize
+    ensures { result ≡ length (tasks_with directive.now holdings.now) }
+{
+    match directive {
+        Directive::Enter { items } => items.as_slice().len(),
+        Directive::Exit { .. } => holdings.len(),
+        Directive::EnterData { items, .. } => items.as_slice().len(),
+        Directive::ExitData { items, .. } => items.as_slice().len(),
+        Directive::Update { items, .. } => items.as_slice().len(),
+        Directive::Wait { .. } | Directive::Step { .. } => 0,
     }
+}
 
-    /// The task that acts at place `n`, counted from 0. There are more than `n`, and at most 64.
-    pub(crate) fn task(&self, n: usize) -> Task
-        requires there { n < length (asked_tasks self.now) }
-        requires few { length (asked_tasks self.now) ≤ 64 }
-        ensures { (d : Task) → result ≡ get_or (asked_tasks self.now) n d }
-    {
-        match self {
-            Asked::Enter { items } => Task::Enter {
-                counter: Counter::Structured,
-                item: items[n],
-                queue: None,
-            },
-            Asked::Leave { holdings } => Task::Leave {
-                holding: holdings[holdings.len() - 1 - n],
-            },
-            Asked::EnterData { items, queue } => enter_data_task(items[n], *queue),
-            Asked::ExitData {
-                items,
-                finalize,
-                queue,
-            } => Task::Exit {
-                finalize: *finalize,
-                item: items[n],
-                queue: *queue,
-            },
-            Asked::Update {
-                items,
-                if_present,
-                queue,
-            } => Task::Move {
-                if_present: *if_present,
-                item: items[n],
-                queue: *queue,
-            },
-            Asked::Nothing => unreachable!(),
-        }
+/// The task of a directive that acts at place `n`, counted from 0, where the region that it leaves holds these. There are
+/// more than `n` tasks, and at most 64.
+pub(crate) fn task_at(directive: &Directive, holdings: &[Holding], n: usize) -> Task
+    requires there { n < length (tasks_with directive.now holdings.now) }
+    requires few { length (tasks_with directive.now holdings.now) ≤ 64 }
+    ensures { (d : Task) → result ≡ get_or (tasks_with directive.now holdings.now) n d }
+{
+    match directive {
+        Directive::Enter { items } => Task::Enter {
+            counter: Counter::Structured,
+            item: items.as_slice()[n],
+            queue: None,
+        },
+        Directive::Exit { .. } => Task::Leave {
+            holding: holdings[holdings.len() - 1 - n],
+        },
+        Directive::EnterData { items, queue } => enter_data_task(items.as_slice()[n], *queue),
+        Directive::ExitData {
+            items,
+            finalize,
+            queue,
+        } => Task::Exit {
+            finalize: *finalize,
+            item: items.as_slice()[n],
+            queue: *queue,
+        },
+        Directive::Update {
+            items,
+            if_present,
+            queue,
+        } => Task::Move {
+            if_present: *if_present,
+            item: items.as_slice()[n],
+            queue: *queue,
+        },
+        Directive::Wait { .. } | Directive::Step { .. } => unreachable!(),
     }
 }

@@ -3,7 +3,7 @@
 
 ghost use Rattle.std.specs.Prelude.{◌≡◌, ◌+◌, ◌<◌, ◌≤◌, ◌^◌};
 ghost use Rattle.acc_clauses.specs.Acts.{HasPlanRoom};
-ghost use Rattle.acc_clauses.specs.Stored.{IsPlan};
+ghost use Rattle.acc_clauses.specs.Planned.{IsPlanOf};
 
 use acc_base::{
     Aim, Config, Counters, Did, Directive, Ended, EnterClause, ExitClause, Fault, Found, Item,
@@ -191,8 +191,8 @@ fn carry_out(store: &mut Store, directive: &Directive) -> Result<Plan, Fault>
 {
     let mut plan = Plan::new();
     store.plan(directive, &mut plan)?;
-    store.reserve(&plan)?;
-    store.commit(&plan);
+    store.reserve(directive, &plan)?;
+    store.commit(directive, &plan);
     Ok(plan)
 }
 
@@ -215,17 +215,17 @@ fn are_aims(did: &[Did], wanted: &[Aim]) -> bool {
     did.len() == wanted.len() && did.iter().zip(wanted).all(|(did, aim)| did.aim == *aim)
 }
 
-/// What each item of a directive did that was carried out.
-fn did(alloc: Global, store: &mut Store, directive: &Directive) -> Option<Vec<Did>> {
-    answer(store, directive)?.ok()?.did(alloc).ok()
+/// The plan of a directive that was carried out.
+fn done(store: &mut Store, directive: &Directive) -> Option<Plan> {
+    answer(store, directive)?.ok()
 }
 
-fn aims(alloc: Global, store: &mut Store, directive: &Directive, wanted: &[Aim]) -> bool {
-    did(alloc, store, directive).is_some_and(|did| are_aims(&did, wanted))
+fn aims(store: &mut Store, directive: &Directive, wanted: &[Aim]) -> bool {
+    done(store, directive).is_some_and(|plan| are_aims(plan.did(), wanted))
 }
 
-fn does(alloc: Global, store: &mut Store, directive: &Directive, wanted: &[Step]) -> bool {
-    did(alloc, store, directive).is_some_and(|did| are_steps(&did, wanted))
+fn does(store: &mut Store, directive: &Directive, wanted: &[Step]) -> bool {
+    done(store, directive).is_some_and(|plan| are_steps(plan.did(), wanted))
 }
 
 fn refuses(store: &mut Store, directive: &Directive, wanted: Fault) -> bool {
@@ -352,11 +352,11 @@ fn agrees(
     match turn {
         Turn::Does(ask, steps) => {
             let directive = directive_of(alloc, ask)?;
-            Ok(does(alloc, store, &directive, steps))
+            Ok(does(store, &directive, steps))
         }
         Turn::Aims(ask, wanted) => {
             let directive = directive_of(alloc, ask)?;
-            Ok(aims(alloc, store, &directive, wanted))
+            Ok(aims(store, &directive, wanted))
         }
         Turn::Refused(ask, fault) => {
             let directive = directive_of(alloc, ask)?;
@@ -459,19 +459,19 @@ fn told(store: &Store) -> (u64, u64, u64, u64) {
 }
 
 /// Makes room for a plan, and once more where memory is refused: then nothing may have changed before.
-fn reserve_twice(rt: &impl Abort, store: &mut Store, plan: &Plan)
-    requires { IsPlan store.old plan.now }
+fn reserve_twice(rt: &impl Abort, store: &mut Store, directive: &Directive, plan: &Plan)
+    requires { IsPlanOf store.old.limits directive.now store.old.state plan.now }
     ensures state { store.new.state ≡ store.old.state }
     ensures limits { store.new.limits ≡ store.old.limits }
     ensures room { HasPlanRoom plan.now store.new.room }
 {
     let before = told(store);
-    let Err(fault) = store.reserve(plan) else {
+    let Err(fault) = store.reserve(directive, plan) else {
         return;
     };
     assert_eq!(rt; fault, Fault::Memory);
     assert_eq!(rt; told(store), before);
-    if store.reserve(plan).is_err() {
+    if store.reserve(directive, plan).is_err() {
         panic!(rt; "no memory twice");
     }
 }
@@ -483,8 +483,8 @@ fn carry_out_twice(rt: &impl Abort, store: &mut Store, directive: &Directive) ->
 {
     let mut plan = Plan::new();
     store.plan(directive, &mut plan)?;
-    reserve_twice(rt, store, &plan);
-    store.commit(&plan);
+    reserve_twice(rt, store, directive, &plan);
+    store.commit(directive, &plan);
     Ok(plan)
 }
 

@@ -1,7 +1,7 @@
 -- A table that wants memory for a call was asked for one that makes an event: no refusal of the definitions is want of
 -- memory.
 use Rattle.std.proofs.Common.{◌≡◌, ℕ, suc, Bool, true, false, cond, List, [], ◌∷◌, length, Option, Some, None, Result, Ok, Err, refl}
-use Rattle.std.specs.Prelude.{⊤, ◌%◌, is_none, not, ◌&&◌, nat_le, nat_lt, ◌==◌, MatchResult}
+use Rattle.std.specs.Prelude.{⊤, ◌%◌, is_none, ok_or, not, ◌&&◌, nat_le, nat_lt, ◌==◌, MatchResult}
 use Rattle.acc_base.specs.declared.items.Section.{Section}
 use Rattle.acc_base.specs.declared.items.RegionClause.{RegionClause}
 use Rattle.acc_base.specs.declared.items.RegionClause.TheVariants as region
@@ -46,7 +46,8 @@ use Rattle.acc_base.specs.Bytes.{step_state}
 use Rattle.acc_base.specs.Detaching.{block_with}
 use Rattle.acc_base.specs.Pointers.{device_pointer, target_of, attach_there, judge_attach}
 use Rattle.acc_base.specs.Acting.{attach_if, judge_aim, judge_task, act_state, judge_all}
-use Rattle.acc_base.specs.Judge.{Verdict, Makes, Idle, item_limit, item_count, few_items, tasks_of_region, tasks_of, queue_in, transfers_in, verdict_of, directive_verdict, host_write_event, lend_there, lend_event, gather_event}
+use Rattle.acc_base.specs.Walk.{leave_tasks}
+use Rattle.acc_base.specs.Judge.{Verdict, Makes, Idle, item_limit, item_count, few_items, tasks_of, queue_in, transfers_in, verdict_of, directive_verdict, host_write_event, lend_there, lend_event, gather_event}
 use Rattle.acc_base.specs.Calls.{World, event_count, open_regions, ticket, allowance, trace_room, judge}
 use Rattle.acc_table.specs.Calls.{MayWantMemory, IsRefusal}
 use Rattle.acc_script.specs.Scripts.{makes_event}
@@ -241,7 +242,7 @@ all_tells l n (task ∷ others) s = bind_tells (judge_task l n task s) (λ did. 
 -- ---- a call
 
 -- a look for a region tells no want of memory
-region_tells : (number : ℕ) (held : Option (List Holding)) → Tells (tasks_of_region number held)
+region_tells : (number : ℕ) (held : Option (List Holding)) → Tells (ok_or held (NoRegion number) >>= λ holdings. Ok (leave_tasks holdings))
 region_tells number None = tt
 region_tells number (Some holdings) = tt
 

@@ -26,7 +26,7 @@ use Rattle.acc_base.proofs.SameMapping.{mapping-act}
 use Rattle.acc_base.proofs.Walked.{layout-after}
 use Rattle.acc_base.proofs.Accounted.{accepted_accounted, new_accounted}
 use Rattle.acc_clauses.specs.Contents.{Contents, AreNew}
-use Rattle.acc_clauses.specs.Planned.{Planned, IsPlannedOn}
+use Rattle.acc_clauses.specs.Planned.{Planned, IsPlanOf}
 use Rattle.acc_clauses.proofs.Events.{planned_asked}
 use Rattle.acc_table.specs.declared.calls.Reply.{Reply}
 use Rattle.acc_table.specs.Kept.{IsKept, world_of}
@@ -139,7 +139,7 @@ kept_after w call e tasks k h asked few =
     }
 
 -- so a directive does that was planned
-pub kept_directive : (w : World) (d : Directive) (p : Planned) (e : Event) → IsKept w → IsPlannedOn w.limits d (layout_of w.state) p → verdict_of d w.state p.dids ≡ Makes e → judge w (Do d) ≡ Ok (Makes e) → IsKept (world_after (Do d) e w)
+pub kept_directive : (w : World) (d : Directive) (p : Planned) (e : Event) → IsKept w → IsPlanOf w.limits d w.state p → verdict_of d w.state p.dids ≡ Makes e → judge w (Do d) ≡ Ok (Makes e) → IsKept (world_after (Do d) e w)
 kept_directive w d p e k planned is h = kept_after w (Do d) e p.tasks k h (planned_asked w.limits d w.state p e planned is) planned.few
 
 -- and a call whose event asks none: a write of the host, a loan, a lease that is back
@@ -159,7 +159,7 @@ kept_either call e old new trace longer (Ok reply) k next m same = kept_called c
 kept_either call e old new trace longer (Err x) k next m same = kept_same old new trace longer k same
 
 -- what a store and a trace keep that carried a directive out, or were asked in vain
-pub kept_carried : (d : Directive) (p : Planned) (old new : Contents) (trace longer : List Event) (r : Result Reply (Directive × Fault)) → IsKept (world_of old trace) → OnOk r (IsPlannedOn old.limits d (layout_of old.state) p)
+pub kept_carried : (d : Directive) (p : Planned) (old new : Contents) (trace longer : List Event) (r : Result Reply (Directive × Fault)) → IsKept (world_of old trace) → OnOk r (IsPlanOf old.limits d old.state p)
     → OnOk r (judge (world_of old trace) (Do d) ≡ Ok (planned_verdict d p old)) → IfOk r (λ reply. IsCommitted (planned_verdict d p old) reply old new trace longer) → OnErr r (IsAsBefore old new trace longer) → IsKept (world_of new longer)
 kept_carried d p old new trace longer (Ok reply) k planned h done same = go (planned_verdict d p old) refl done
   where

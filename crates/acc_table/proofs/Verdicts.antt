@@ -29,7 +29,7 @@ use Rattle.acc_base.specs.Judge.{few_items, tasks_of, queue_in, transfers_in, st
 use Rattle.acc_base.specs.Calls.{World, judge, ticket, allowance, trace_room, bytes_brought, world_after}
 use Rattle.acc_base.specs.Judge.{Verdict, Makes, Idle}
 use Rattle.acc_clauses.specs.Contents.{Contents}
-use Rattle.acc_clauses.specs.Planned.{Planned, head_planned, in_written_order}
+use Rattle.acc_clauses.specs.Planned.{Planned, in_written_order}
 use Rattle.acc_lend.specs.Loans.{with_section, written_over}
 use Rattle.acc_table.specs.declared.calls.Reply.{Reply}
 use Rattle.acc_table.specs.declared.calls.Reply.TheVariants.{Done}
@@ -40,7 +40,7 @@ use Rattle.acc_table.specs.Making.{is_idle, number_told, event_told, reply_told,
 -- ---- the event
 
 -- where there is something to do, a directive comes to the event that tells the number
-pub told : (d : Directive) (s : State) (dids : List Did) → is_idle d s ≡ false → verdict_of d s dids ≡ Makes (event_told d (number_told d s) (in_written_order (head_planned d) dids))
+pub told : (d : Directive) (s : State) (dids : List Did) → is_idle d s ≡ false → verdict_of d s dids ≡ Makes (event_told d (number_told d s) (in_written_order d dids))
 told (Enter items) s dids e = refl
 told (Exit number) s dids e = refl
 told (EnterData items queue) s dids e = refl
@@ -190,7 +190,7 @@ verdict_no_loan d s dids e h = go (is_idle d s) refl
   where
     go : (b : Bool) → is_idle d s ≡ b → is_loan e ≡ false
     go true idle = let none : verdict_of d s dids ≡ Idle = told_idle d s dids idle in cc
-    go false busy = no_loan e _ (sym (told d s dids busy) ∙ h) (told_no_loan d (number_told d s) (in_written_order (head_planned d) dids))
+    go false busy = no_loan e _ (sym (told d s dids busy) ∙ h) (told_no_loan d (number_told d s) (in_written_order d dids))
 
 -- so is the event that a directive makes
 pub directive_no_loan : (w : World) (d : Directive) (e : Event) → judge w (Do d) ≡ Ok (Makes e) → is_loan e ≡ false

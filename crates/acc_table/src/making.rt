@@ -5,10 +5,9 @@ ghost use Rattle.acc_base.specs.declared.faults.Fault.TheVariants.{Memory};
 ghost use Rattle.acc_base.specs.declared.events.Event.TheVariants.{HostWritten};
 ghost use Rattle.acc_base.specs.Bytes.{host_after_write};
 ghost use Rattle.acc_base.specs.Judge.{plan_of};
-ghost use Rattle.acc_base.specs.Records.{layout_of, State};
+ghost use Rattle.acc_base.specs.Records.{State};
 ghost use Rattle.acc_clauses.specs.Acts.{CanWrite, HasPlanRoom};
-ghost use Rattle.acc_clauses.specs.Planned.{in_written_order, IsPlannedOn};
-ghost use Rattle.acc_clauses.specs.Stored.{IsPlan, IsPlanOf};
+ghost use Rattle.acc_clauses.specs.Planned.{IsPlanOf};
 ghost use Rattle.acc_table.specs.Making.{is_idle, number_told, event_told, reply_told, planned_verdict, MayBeToldOf, IsCommitted, IsAsBefore};
 
 use crate::calls::Reply;
@@ -88,19 +87,24 @@ fn reply_told(directive: &Directive, number: u64) -> Reply
     }
 }
 
-/// Makes room for a plan in the store and for its event in the trace, and answers what its items will do, as the event
-/// stores it: a list of its own, allocated at its length.
-fn make_room(store: &mut Store, trace: &mut Vec<Event>, plan: &Plan) -> Result<List<Did>, Fault>
-    requires { IsPlan store.old plan.now }
+/// Makes room for a planned directive in the store and for its event in the trace, and answers what its items will do, as
+/// the event stores it: a list of its own, allocated at its length.
+fn make_room(
+    store: &mut Store,
+    trace: &mut Vec<Event>,
+    directive: &Directive,
+    plan: &Plan,
+) -> Result<List<Did>, Fault>
+    requires { IsPlanOf store.old.limits directive.now store.old.state plan.now }
     ensures same { IsAsBefore store.old store.new trace.old.items trace.new.items }
-    ensures did { IfOk result (λ did. did ≡ in_written_order plan.now.head plan.now.dids) }
+    ensures did { IfOk result (λ did. did ≡ plan.now.written) }
     ensures room { OnOk result (HasPlanRoom plan.now store.new.room) }
     ensures place { OnOk result (vec_len trace.new < vec_capacity trace.new) }
     ensures only { IfErr result (λ fault. fault ≡ Memory) }
 {
-    let did = plan.did(*trace.allocator())?;
+    let did = plan.did().to_vec(*trace.allocator())?;
     trace.reserve(1)?;
-    store.reserve(plan)?;
+    store.reserve(directive, plan)?;
     Ok(List::from_vec(did))
 }
 
@@ -112,10 +116,10 @@ fn commit(
     directive: Directive,
     did: List<Did>,
 ) -> Reply
-    requires planned { IsPlanOf directive store.old plan.now }
+    requires planned { IsPlanOf store.old.limits directive store.old.state plan.now }
     requires births { store.old.state.records.births + 64 ≤ 2 ^ 48 }
     requires regions { store.old.state.register.next < 2 ^ 48 }
-    requires did { did ≡ in_written_order plan.now.head plan.now.dids }
+    requires did { did ≡ plan.now.written }
     requires busy { is_idle directive store.old.state ≡ false }
     requires room { HasPlanRoom plan.now store.old.room }
     requires place { vec_len trace.old < vec_capacity trace.old }
@@ -123,7 +127,7 @@ fn commit(
 {
     let number = number_told(store, &directive);
     let reply = reply_told(&directive, number);
-    store.commit(plan);
+    store.commit(&directive, plan);
     trace.push_reserved(event_told(directive, number, did));
     reply
 }
@@ -143,9 +147,9 @@ fn prepare(
     requires births { store.old.state.records.births + 64 ≤ 2 ^ 48 }
     ensures same { IsAsBefore store.old store.new trace.old.items trace.new.items }
     ensures judged { OnOk result (plan_of store.old.limits directive.now store.old.state ≡ Ok (planned_verdict directive.now plan.new store.old)) }
-    ensures planned { OnOk result (IsPlanOf directive.now store.new plan.new) }
+    ensures planned { OnOk result (IsPlanOf store.new.limits directive.now store.new.state plan.new) }
     ensures idle { IfOk result (λ did. is_none did ≡ is_idle directive.now store.old.state) }
-    ensures did { IfOk result (λ told. IfSome told (λ did. did ≡ in_written_order plan.new.head plan.new.dids)) }
+    ensures did { IfOk result (λ told. IfSome told (λ did. did ≡ plan.new.written)) }
     ensures room { IfOk result (λ told. IfSome told (λ _. HasPlanRoom plan.new store.new.room)) }
     ensures place { IfOk result (λ told. IfSome told (λ _. vec_len trace.new < vec_capacity trace.new)) }
     ensures refused { IfErr result (MayBeToldOf (plan_of store.old.limits directive.now store.old.state)) }
@@ -154,7 +158,7 @@ fn prepare(
     if is_idle(store, directive) {
         return Ok(None);
     }
-    Ok(Some(make_room(store, trace, plan)?))
+    Ok(Some(make_room(store, trace, directive, plan)?))
 }
 
 /// Judges a directive, makes room for it, does it and stores its event, and answers the reply.
@@ -172,7 +176,7 @@ pub fn carry_out(
     requires births { store.old.state.records.births + 64 ≤ 2 ^ 48 }
     requires regions { store.old.state.register.next < 2 ^ 48 }
     ensures judged { OnOk result (plan_of store.old.limits directive store.old.state ≡ Ok (planned_verdict directive plan.new store.old)) }
-    ensures planned { OnOk result (IsPlannedOn store.old.limits directive (layout_of store.old.state) plan.new) }
+    ensures planned { OnOk result (IsPlanOf store.old.limits directive store.old.state plan.new) }
     ensures done { IfOk result (λ reply. IsCommitted (planned_verdict directive plan.new store.old) reply store.old store.new trace.old.items trace.new.items) }
     ensures back { IfErr result (λ back. back.0 ≡ directive) }
     ensures refused { IfErr result (λ back. MayBeToldOf (plan_of store.old.limits directive store.old.state) back.1) }

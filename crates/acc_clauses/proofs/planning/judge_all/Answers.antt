@@ -2,7 +2,7 @@ use Rattle.std.proofs.Common.{◌<◌, ◌≤◌, refl, sym, ap, ◌∙◌, leng
 use Rattle.acc_base.specs.declared.tasks.Task.{Task}
 use Rattle.acc_base.specs.Queues.{queue_named}
 use Rattle.acc_base.specs.Tasks.{queue_of}
-use Rattle.acc_clauses.specs.Asked.{asked_tasks}
+use Rattle.acc_base.specs.Judge.{tasks_with}
 use Rattle.acc_clauses.proofs.Asking.{queue_at_turn}
 use Rattle.acc_clauses.proofs.Turns.{turns_begun, turn, turn_refused, turns_done, unmixed_turn, asked_turn, few_turn, IsPlanned-next}
 use Rattle.acc_clauses.proofs.planning.judge_all.Goals as goal
@@ -14,40 +14,40 @@ loop-n-init c =
       few = rw none refl;
       asked = rw none refl;
       planned = rw none (record { bounds = c.laws.ensures.limits; sound = c.laws.ensures.sound.records; judged = tt });
-      judged = rw none (turns_begun c.args.parts.now.limits (asked_tasks c.args.asked.now) c.args.parts.now.state);
+      judged = rw none (turns_begun c.args.parts.now.limits (tasks_with c.args.directive.now c.args.holdings.now) c.args.parts.now.state);
     }
 
 pub judge-requires-clause-unmixed : goal.judge-requires-clause-unmixed
 judge-requires-clause-unmixed c =
-    let within : c.loop-n.n < length (asked_tasks c.args.asked.now) = omega (arith, c.loop-n-test.true, c.count-n-end.ensures) in
-    unmixed_turn c.loop-n.n _ c.task.result (asked_tasks c.args.asked.now) c.task.result within (c.task.ensures c.task.result) c.loop-n.invariant.asked c.requires.unmixed
+    let within : c.loop-n.n < length (tasks_with c.args.directive.now c.args.holdings.now) = omega (arith, c.loop-n-test.true, c.task_count-n-end.ensures) in
+    unmixed_turn c.loop-n.n _ c.task_at.result (tasks_with c.args.directive.now c.args.holdings.now) c.task_at.result within (c.task_at.ensures c.task_at.result) c.loop-n.invariant.asked c.requires.unmixed
 
 pub judge-requires-clause-queue : goal.judge-requires-clause-queue
 judge-requires-clause-queue c =
-    let within : c.loop-n.n < length (asked_tasks c.args.asked.now) = omega (arith, c.loop-n-test.true, c.count-n-end.ensures) in
-    ap (λ (t : Task). queue_named (queue_of t)) (c.task.ensures c.task.result) ∙ queue_at_turn (asked_tasks c.args.asked.now) c.loop-n.n c.task.result within c.requires.queues
+    let within : c.loop-n.n < length (tasks_with c.args.directive.now c.args.holdings.now) = omega (arith, c.loop-n-test.true, c.task_count-n-end.ensures) in
+    ap (λ (t : Task). queue_named (queue_of t)) (c.task_at.ensures c.task_at.result) ∙ queue_at_turn (tasks_with c.args.directive.now c.args.holdings.now) c.loop-n.n c.task_at.result within c.requires.queues
 
 pub returns-in_err-judge-clause-judged : goal.returns-in_err-judge-clause-judged
 returns-in_err-judge-clause-judged c =
-    let within : c.loop-n.n < length (asked_tasks c.args.asked.now) = omega (arith, c.loop-n-test.true, c.count-n-end.ensures) in
-    let refused = turn_refused c.args.parts.now.limits c.loop-n.n c.loop-n.n c.loop-n.draft c.task.result (asked_tasks c.args.asked.now) c.task.result c.args.parts.now.state _ _ within (c.task.ensures c.task.result) c.in_err-judge.ensures c.loop-n.invariant.judged in
+    let within : c.loop-n.n < length (tasks_with c.args.directive.now c.args.holdings.now) = omega (arith, c.loop-n-test.true, c.task_count-n-end.ensures) in
+    let refused = turn_refused c.args.parts.now.limits c.loop-n.n c.loop-n.n c.loop-n.draft c.task_at.result (tasks_with c.args.directive.now c.args.holdings.now) c.task_at.result c.args.parts.now.state _ _ within (c.task_at.ensures c.task_at.result) c.in_err-judge.ensures c.loop-n.invariant.judged in
     search rules
 
 pub loop-n-preserved : goal.loop-n-preserved
 loop-n-preserved c =
     let r = c.loop-n.invariant in
-    let tasks = asked_tasks c.args.asked.now in
-    let within : c.loop-n.n < length tasks = omega (arith, c.loop-n-test.true, c.count-n-end.ensures) in
+    let tasks = tasks_with c.args.directive.now c.args.holdings.now in
+    let within : c.loop-n.n < length tasks = omega (arith, c.loop-n-test.true, c.task_count-n-end.ensures) in
     let next = c.in_ok-judge.ensures in
-    let is = c.task.ensures c.task.result in
+    let is = c.task_at.ensures c.task_at.result in
     record {
       few = few_turn c.loop-n.n _ _ _ next.more r.few;
-      asked = asked_turn c.loop-n.n c.loop-n.draft c.judge.new.draft _ tasks c.task.result within is next.more r.asked;
-      planned = IsPlanned-next c.args.parts.now.limits c.loop-n.n c.loop-n.draft c.judge.new.draft c.task.result c.args.parts.now.state (sym r.few) r.planned next;
-      judged = turn c.args.parts.now.limits c.loop-n.n c.loop-n.n c.loop-n.draft c.judge.new.draft c.task.result tasks c.task.result c.args.parts.now.state _ within is next r.judged;
+      asked = asked_turn c.loop-n.n c.loop-n.draft c.judge.new.draft _ tasks c.task_at.result within is next.more r.asked;
+      planned = IsPlanned-next c.args.parts.now.limits c.loop-n.n c.loop-n.draft c.judge.new.draft c.task_at.result c.args.parts.now.state (sym r.few) r.planned next;
+      judged = turn c.args.parts.now.limits c.loop-n.n c.loop-n.n c.loop-n.draft c.judge.new.draft c.task_at.result tasks c.task_at.result c.args.parts.now.state _ within is next r.judged;
     }
 
 pub returns-clause-judged : goal.returns-clause-judged
 returns-clause-judged c =
-    let past : length (asked_tasks c.args.asked.now) ≤ c.loop-n.n = omega (arith, c.loop-n-test.false, c.count-n-end.ensures) in
-    turns_done c.args.parts.now.limits c.loop-n.n c.loop-n.n c.loop-n.draft (asked_tasks c.args.asked.now) c.args.parts.now.state _ past c.loop-n.invariant.judged
+    let past : length (tasks_with c.args.directive.now c.args.holdings.now) ≤ c.loop-n.n = omega (arith, c.loop-n-test.false, c.task_count-n-end.ensures) in
+    turns_done c.args.parts.now.limits c.loop-n.n c.loop-n.n c.loop-n.draft (tasks_with c.args.directive.now c.args.holdings.now) c.args.parts.now.state _ past c.loop-n.invariant.judged

@@ -2,8 +2,7 @@ use Rattle.std.proofs.Common.{◌≡◌, sym, ◌∙◌, ap, subst, List, [], �
 use Rattle.acc_base.specs.declared.events.Did.{Did}
 use Rattle.acc_base.specs.declared.events.Event.{Event}
 use Rattle.acc_base.specs.Judge.{Verdict, Makes, verdict_of}
-use Rattle.acc_clauses.specs.declared.plans.Head.{Head}
-use Rattle.acc_clauses.specs.Planned.{head_planned, in_written_order}
+use Rattle.acc_clauses.specs.Planned.{in_written_order, state_by}
 use Rattle.acc_table.specs.Making.{number_told, event_told, reply_told, IsCommitted}
 use Rattle.acc_table.proofs.Verdicts.{told, replied}
 use Rattle.acc_table.proofs.making.commit.Goals as goal
@@ -13,14 +12,14 @@ returns c =
     let d = c.args.directive in
     let s = c.args.store.now.state in
     let dids : List Did = c.args.plan.now.dids in
-    let written : c.args.did ≡ in_written_order (head_planned d) dids = c.requires.did ∙ ap (λ (h : Head). in_written_order h dids) c.requires.planned.planned.head in
+    let written : c.args.did ≡ in_written_order d dids = c.requires.did ∙ c.requires.planned.written in
     let event : Event = event_told d (number_told d s) c.args.did in
     let made : verdict_of d s dids ≡ Makes event = told d s dids c.requires.busy ∙ ap (λ did. Makes (event_told d (number_told d s) did)) (sym written) in
     record {
       done = subst (λ (v : Verdict). IsCommitted v c.reply_told-reply.result c.args.store.now c.commit.new.self c.args.trace.now.items c.push_reserved.new.self.items) (sym made) (record {
         reply = c.reply_told-reply.ensures ∙ (ap (reply_told d) c.number_told-number.ensures ∙ replied d (number_told d s) c.args.did s);
         limits = c.commit.ensures.limits;
-        state = c.commit.ensures.state d event c.requires.planned.planned made;
+        state = c.commit.ensures.state ∙ ap (λ (v : Verdict). state_by v s) made;
         trace = c.push_reserved.ensures.items ∙ ap (λ (e : Event). c.args.trace.now.items ++ e ∷ []) (c.event_told.ensures ∙ ap (λ n. event_told d n c.args.did) c.number_told-number.ensures);
       });
     }

@@ -3,11 +3,11 @@ use Rattle.std.proofs.lemmas.Result.{on_ok_weaker}
 use Rattle.std.specs.List.{All}
 use Rattle.acc_base.specs.declared.addresses.TheConstants.{MEMORY_MAX}
 use Rattle.acc_base.specs.Limits.{IsFromOne}
-use Rattle.acc_base.specs.Records.{layout_of}
 use Rattle.acc_queues.specs.Queued.{spare_at}
 use Rattle.acc_clauses.specs.Overlays.{dids_in, puts_in}
 use Rattle.acc_clauses.specs.Contents.{Contents}
-use Rattle.acc_clauses.specs.Stored.{IsPlan}
+use Rattle.acc_clauses.specs.Planned.{IsPlanOf}
+use Rattle.acc_clauses.proofs.Events.{planned_judged}
 use Rattle.acc_clauses.proofs.Remaining.{lens_fit}
 use Rattle.acc_clauses.proofs.Reserved.{none_room, one_room, queue_there, plan_room}
 use Rattle.acc_clauses.proofs.stores.Store.reserve.Goals as goal
@@ -15,15 +15,16 @@ use Rattle.acc_clauses.proofs.stores.Store.reserve.Goals as goal
 pub reserve-requires-clause-lens : goal.reserve-requires-clause-lens
 reserve-requires-clause-lens c =
     let p = c.args.plan.now in
-    let planned : IsPlan c.self.inside.parts p = subst (λ (k : Contents). IsPlan k p) (sym c.self.view_is) c.requires.planned in
-    subst (λ ls. All (IsFromOne MEMORY_MAX) ls) (sym c.lens.ensures.lens) (lens_fit c.self.inside.parts.limits 0 p.tasks p.dids c.self.inside.parts.state.records c.laws.ensures.limits planned.1.planned.judged)
+    let k : Contents = c.self.inside.parts in
+    let planned : IsPlanOf k.limits c.args.directive.now k.state p = subst (λ (x : Contents). IsPlanOf x.limits c.args.directive.now x.state p) (sym c.self.view_is) c.requires.planned in
+    subst (λ ls. All (IsFromOne MEMORY_MAX) ls) (sym c.lens.ensures.lens) (lens_fit c.self.inside.parts.limits 0 p.tasks p.dids c.self.inside.parts.state.records c.laws.ensures.limits (planned_judged k.limits c.args.directive.now k.state p planned))
 
 pub reserve_puts-requires-clause-known : goal.reserve_puts-requires-clause-known
 reserve_puts-requires-clause-known c =
     let k : Contents = c.self.inside.parts in
     let p = c.args.plan.now in
-    let planned : IsPlan k p = subst (λ (x : Contents). IsPlan x p) (sym c.self.view_is) c.requires.planned in
-    queue_there k.limits planned.0 (layout_of k.state) p c.in-Some.q planned.1.planned (sym c.queue.ensures ∙ c.in-Some.is)
+    let planned : IsPlanOf k.limits c.args.directive.now k.state p = subst (λ (x : Contents). IsPlanOf x.limits c.args.directive.now x.state p) (sym c.self.view_is) c.requires.planned in
+    queue_there k.limits c.args.directive.now k.state p c.in-Some.q planned (sym c.queue_in.ensures ∙ c.in-Some.is)
 
 pub returns-in-Some-clause-room : goal.returns-in-Some-clause-room
 returns-in-Some-clause-room c =
@@ -32,7 +33,7 @@ returns-in-Some-clause-room c =
     let acts = c.acts-acts.result.now in
     let q = c.in-Some.q in
     let kept = c.reserve_puts.ensures in
-    let planned : IsPlan k p = subst (λ (x : Contents). IsPlan x p) (sym c.self.view_is) c.requires.planned in
+    let planned : IsPlanOf k.limits c.args.directive.now k.state p = subst (λ (x : Contents). IsPlanOf x.limits c.args.directive.now x.state p) (sym c.self.view_is) c.requires.planned in
     let count : c.puts_in.result ≡ puts_in q p.tasks p.dids = c.puts_in.ensures.value ∙ ap (λ ts. puts_in q ts (dids_in acts)) c.acts-acts.ensures.tasks ∙ ap (λ ds. puts_in q p.tasks ds) c.acts-acts.ensures.dids in
     on_ok_weaker c.reserve_puts.result (λ (enough : c.puts_in.result ≤ spare_at q c.reserve_puts.new.self.room.puts).
     plan_room p acts c.lens.result.now c.pointers_in.result c.reserve.new.self.room c.reserve_puts.new.self.room (record {
@@ -44,14 +45,14 @@ returns-in-Some-clause-room c =
       region = c.in_ok-reserve.ensures.room_region;
       enough = c.in_ok-reserve.ensures.room_pointers;
     }) (record { births = kept.births; ranges = kept.ranges; regions = kept.regions; holdings = kept.holdings; attachments = kept.attachments })
-    (one_room k.limits planned.0 (layout_of k.state) p q c.reserve_puts.new.self.room planned.1.planned (sym c.queue.ensures ∙ c.in-Some.is)
+    (one_room c.args.directive.now k p q c.reserve_puts.new.self.room c.self.invariant planned (sym c.queue_in.ensures ∙ c.in-Some.is)
     (subst (λ n. n ≤ spare_at q c.reserve_puts.new.self.room.puts) count enough))) c.reserve_puts.ensures.room
 
 pub returns-in-None-clause-room : goal.returns-in-None-clause-room
 returns-in-None-clause-room c =
     let k : Contents = c.self.inside.parts in
     let p = c.args.plan.now in
-    let planned : IsPlan k p = subst (λ (x : Contents). IsPlan x p) (sym c.self.view_is) c.requires.planned in
+    let planned : IsPlanOf k.limits c.args.directive.now k.state p = subst (λ (x : Contents). IsPlanOf x.limits c.args.directive.now x.state p) (sym c.self.view_is) c.requires.planned in
     plan_room p c.acts-acts.result.now c.lens.result.now c.pointers_in.result c.reserve.new.self.room c.reserve.new.self.room (record {
       tasks = c.acts-acts.ensures.tasks;
       dids = c.acts-acts.ensures.dids;
@@ -61,4 +62,4 @@ returns-in-None-clause-room c =
       region = c.in_ok-reserve.ensures.room_region;
       enough = c.in_ok-reserve.ensures.room_pointers;
     }) (record { births = refl; ranges = refl; regions = refl; holdings = refl; attachments = refl })
-    (none_room k.limits planned.0 (layout_of k.state) p c.reserve.new.self.room planned.1.planned (sym c.queue.ensures ∙ c.in-None.is))
+    (none_room c.args.directive.now k p c.reserve.new.self.room c.self.invariant planned (sym c.queue_in.ensures ∙ c.in-None.is))

@@ -1,10 +1,6 @@
 -- What a planned directive makes of a store: the state after its event, and a store that is sound.
-use Rattle.std.specs.Prelude.{Option, Some, None}
 use Rattle.std.proofs.Common.{◌≡◌, ◌≤◌, refl, sym, ◌∙◌, ap, subst, ℕ, List, [], arith}
 use Rattle.acc_base.specs.declared.directives.Directive.{Directive}
-use Rattle.acc_base.specs.declared.directives.Directive.TheVariants as directives
-use Rattle.acc_base.specs.declared.transfers.Transfer.{Transfer}
-use Rattle.acc_base.specs.declared.events.Did.{Did}
 use Rattle.acc_base.specs.declared.events.Event.{Event}
 use Rattle.acc_base.specs.Limits.{Limits, IsWithinBounds}
 use Rattle.acc_base.specs.Records.{Records, Layout, Memory, State, layout_of}
@@ -13,8 +9,7 @@ use Rattle.acc_base.specs.Ranges.{structured_of, dynamic_of}
 use Rattle.acc_base.specs.Blocks.{used_bytes}
 use Rattle.acc_base.specs.Waits.{drained}
 use Rattle.acc_base.specs.Walk.{asked_in, done_in, stepped_in, register_after, loaned, walk}
-use Rattle.acc_base.specs.Queues.{head_of}
-use Rattle.acc_base.specs.Judge.{Makes, step_verdict, verdict_of}
+use Rattle.acc_base.specs.Judge.{Verdict, Makes, Idle, verdict_of}
 use Rattle.acc_base.specs.Acting.{act_all_state, host_after, memories_after, after}
 use Rattle.acc_base.specs.History.{IsLegal}
 use Rattle.acc_base.specs.Accounts.{IsLayoutSound, IsSound}
@@ -22,58 +17,41 @@ use Rattle.acc_base.proofs.Memories.{AreBrought, event_sized}
 use Rattle.acc_base.proofs.Walked.{layout-after, register-act_all_state}
 use Rattle.acc_base.proofs.Registers.{AreFew, register_sound}
 use Rattle.acc_base.proofs.Told.{IsTold, walk_told}
-use Rattle.acc_clauses.specs.Planned.{Planned, register_planned, steps_by, finished}
+use Rattle.acc_clauses.specs.Planned.{Planned, IsPlanOf, holdings_by, register_by, steps_by, finished, state_by}
 use Rattle.acc_clauses.specs.Contents.{Contents}
 use Rattle.acc_clauses.specs.Stored.{IsStoreSound, AreHoldingsWithin}
-use Rattle.acc_clauses.proofs.Events.{IsEventOf}
+use Rattle.acc_clauses.proofs.Events.{IsEventOf, event_of_plan, idle_plan}
 
 -- ---- the state
 
--- an event that lends nothing, and brings nothing back
-pub record IsPlain (e : Event) : Type 0 where
-  pub records : (w : Records) → loaned e w ≡ w
-  pub memories : (ms : List Memory) → memories_after e [] ms ≡ ms
-  pub brought : (w : Records) → AreBrought e [] w
-
--- the event that is made is the one that is meant
-plain_same : (x e : Event) → Makes x ≡ Makes e → IsPlain x → IsPlain e
-plain_same x e h plain = let is : x ≡ e = cc in subst IsPlain is plain
-
--- the event of each directive is one
-pub plain_verdict : (d : Directive) (s : State) (dids : List Did) (e : Event) → verdict_of d s dids ≡ Makes e → IsPlain e
-unfolding loaned
-plain_verdict (directives.Enter items) s dids e h = plain_same _ e h (record { records = λ w. refl; memories = λ ms. refl; brought = λ w. tt })
-plain_verdict (directives.Exit number) s dids e h = plain_same _ e h (record { records = λ w. refl; memories = λ ms. refl; brought = λ w. tt })
-plain_verdict (directives.EnterData items queue) s dids e h = plain_same _ e h (record { records = λ w. refl; memories = λ ms. refl; brought = λ w. tt })
-plain_verdict (directives.ExitData items finalize queue) s dids e h = plain_same _ e h (record { records = λ w. refl; memories = λ ms. refl; brought = λ w. tt })
-plain_verdict (directives.Update items if_present queue) s dids e h = plain_same _ e h (record { records = λ w. refl; memories = λ ms. refl; brought = λ w. tt })
-plain_verdict (directives.Wait queue) s dids e h = plain_same _ e h (record { records = λ w. refl; memories = λ ms. refl; brought = λ w. tt })
-plain_verdict (directives.Step queue) s dids e h = go (head_of queue s.records.queues) h
-  where
-    go : (o : Option Transfer) → step_verdict queue o ≡ Makes e → IsPlain e
-    go None made = absurd cc
-    go (Some t) made = plain_same _ e made (record { records = λ w. refl; memories = λ ms. refl; brought = λ w. tt })
-
--- what an event without bytes makes of a state, once its steps and its register are known
-by_parts : (e : Event) (a b : State) (x y : Register) → a ≡ b → x ≡ y → ((bytes : List ℕ) → host_after e [] bytes ≡ bytes) → IsPlain e
+-- what an event that brings no bytes makes of a state, once its steps and its register are known
+by_parts : (d : Directive) (p : Planned) (s : State) (e : Event) (a b : State) (x y : Register) → IsEventOf d p s e → a ≡ b → x ≡ y
     → ◌≡◌ {A = State} (record { records = loaned e a.records; register = x; host = host_after e [] a.host; memories = memories_after e [] a.memories }) (record b { register = y })
-by_parts e a b x y same register host plain =
+by_parts d p s e a b x y is same register =
     let P : List ℕ → State = λ bytes. record { records = loaned e a.records; register = x; host = bytes; memories = memories_after e [] a.memories } in
     let Q : State → State = λ t. record t { register = x } in
     let R : Records → State = λ w. record { records = w; register = x; host = a.host; memories = memories_after e [] a.memories } in
     let S : List Memory → State = λ ms. record { records = a.records; register = x; host = a.host; memories = ms } in
-    ap P (host a.host) ∙ ap R (plain.records a.records) ∙ ap S (plain.memories a.memories) ∙ ap Q same ∙ ap (λ (g : Register). record b { register = g }) register
+    ap P (is.host a.host) ∙ ap R (is.records a.records) ∙ ap S (is.memories a.memories) ∙ ap Q same ∙ ap (λ (g : Register). record b { register = g }) register
 
 -- the state after the event of a plan is that after its tasks, and then its queues and its register
-pub after_plan : (l : Limits) (p : Planned) (s : State) (e : Event) → IsEventOf l p s e → IsPlain e → after e [] s ≡ finished p (act_all_state p.tasks p.dids s)
+pub after_plan : (d : Directive) (p : Planned) (s : State) (e : Event) → IsEventOf d p s e → after e [] s ≡ finished d p (act_all_state p.tasks p.dids s)
 unfolding after
-after_plan l p s e is plain =
+after_plan d p s e is =
     let t : State = act_all_state p.tasks p.dids s in
     let acted : act_all_state (asked_in e s.register) (done_in e) s ≡ t = ap (λ ts. act_all_state ts (done_in e) s) is.asked ∙ ap (λ ds. act_all_state p.tasks ds s) is.done in
-    let made : drained (stepped_in e s.records.queues) (act_all_state (asked_in e s.register) (done_in e) s) ≡ drained (steps_by p.head t.records.queues) t =
-    ap (λ qs. drained qs (act_all_state (asked_in e s.register) (done_in e) s)) is.steps ∙ ap (drained (steps_by p.head t.records.queues)) acted in
-    by_parts e (drained (stepped_in e s.records.queues) (act_all_state (asked_in e s.register) (done_in e) s)) (drained (steps_by p.head t.records.queues) t) (register_after e s.register) (register_planned p t.register)
-    made (is.register ∙ ap (register_planned p) (sym (register-act_all_state p.tasks p.dids s))) is.host plain
+    let made : drained (stepped_in e s.records.queues) (act_all_state (asked_in e s.register) (done_in e) s) ≡ drained (steps_by d t.records.queues) t =
+    ap (λ qs. drained qs (act_all_state (asked_in e s.register) (done_in e) s)) is.steps ∙ ap (drained (steps_by d t.records.queues)) acted in
+    by_parts d p s e (drained (stepped_in e s.records.queues) (act_all_state (asked_in e s.register) (done_in e) s)) (drained (steps_by d t.records.queues) t) (register_after e s.register)
+    (register_by d (holdings_by p.tasks p.dids) t.register) is made (is.register ∙ ap (register_by d (holdings_by p.tasks p.dids)) (sym (register-act_all_state p.tasks p.dids s)))
+
+-- it is the state after what the directive comes to
+pub finished_verdict : (l : Limits) (d : Directive) (s : State) (p : Planned) → IsPlanOf l d s p → finished d p (act_all_state p.tasks p.dids s) ≡ state_by (verdict_of d s p.dids) s
+finished_verdict l d s p h = go (verdict_of d s p.dids) refl
+  where
+    go : (v : Verdict) → verdict_of d s p.dids ≡ v → finished d p (act_all_state p.tasks p.dids s) ≡ state_by v s
+    go (Makes e) made = sym (after_plan d p s e (event_of_plan l d s p e h made))
+    go Idle idle = idle_plan l d s p h idle
 
 -- ---- the layout
 

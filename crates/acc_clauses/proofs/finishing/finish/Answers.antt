@@ -1,0 +1,37 @@
+use Rattle.std.proofs.Common.{◌≤◌, refl, length, arith}
+use Rattle.acc_base.specs.Waits.{drained}
+use Rattle.acc_clauses.specs.Acts.{CanOpen}
+use Rattle.acc_clauses.proofs.Committing.{holdings_few}
+use Rattle.acc_clauses.proofs.Finished.{finished_enter, finished_exit, finished_wait, finished_step}
+use Rattle.acc_clauses.proofs.finishing.finish.Goals as goal
+
+pub enter-requires-clause-room : goal.enter-requires-clause-room
+enter-requires-clause-room c =
+    let p = c.args.plan.now in
+    let can : CanOpen (length p.tasks) c.args.parts.now = rw c.in-Enter.is at c.requires in
+    let held : length c.holdings.result.now ≤ length p.tasks = rw c.holdings.ensures (holdings_few p.tasks p.dids) in
+    record { regions = can.room.regions; enough = omega (arith, held, can.room.enough) }
+
+pub returns-in-Enter-clause-state : goal.returns-in-Enter-clause-state
+returns-in-Enter-clause-state c = rw c.in-Enter.is (finished_enter c.in-Enter.items c.args.plan.now c.args.parts.now.state c.enter.new.self.state c.holdings.result.now c.holdings.ensures c.enter.ensures.state)
+
+pub returns-in-Exit-clause-state : goal.returns-in-Exit-clause-state
+returns-in-Exit-clause-state c = rw c.in-Exit.is (finished_exit _ c.args.plan.now c.args.parts.now.state c.leave.new.self.state c.leave.ensures.state)
+
+pub returns-in-Wait-clause-state : goal.returns-in-Wait-clause-state
+returns-in-Wait-clause-state c = rw c.in-Wait.is (finished_wait _ c.args.plan.now c.args.parts.now.state c.drain.new.parts.state c.drain.ensures.state)
+
+pub returns-in-Step-clause-state : goal.returns-in-Step-clause-state
+returns-in-Step-clause-state c = rw c.in-Step.is (finished_step _ c.args.plan.now c.args.parts.now.state c.step.new.self.state c.step.ensures.state)
+
+pub returns-in-EnterData-clause-state : goal.returns-in-EnterData-clause-state
+unfolding drained
+returns-in-EnterData-clause-state c = rw c.in-EnterData.is refl
+
+pub returns-in-ExitData-clause-state : goal.returns-in-ExitData-clause-state
+unfolding drained
+returns-in-ExitData-clause-state c = rw c.in-ExitData.is refl
+
+pub returns-in-Update-clause-state : goal.returns-in-Update-clause-state
+unfolding drained
+returns-in-Update-clause-state c = rw c.in-Update.is refl

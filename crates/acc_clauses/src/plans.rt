@@ -11,6 +11,7 @@ use crate::acted::Acted;
 use crate::drafts::Draft;
 use crate::notes::tell_written;
 use acc_base::{Did, Fault, Holding};
+use acc_present::Hint;
 use arrayvec::ArrayVec;
 use std::alloc::Global;
 use std::marker::Model;
@@ -91,6 +92,11 @@ impl Plan {
         ensures few { length result.now ≤ 64 }
     {
         self.draft.acts()
+    }
+
+    /// Where the range of each task stood when it was judged.
+    pub(crate) fn hints(&self) -> &[Hint] {
+        self.draft.hints()
     }
 
     /// What each item does, in the order in which the directive or the region names them: a list allocated at its length.

@@ -4,6 +4,7 @@
 //! long scripts.
 #![tactic(auto)]
 
+mod all_over;
 mod clauses;
 mod copies;
 mod device;

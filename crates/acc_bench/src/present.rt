@@ -7,7 +7,7 @@ ghost use Rattle.acc_present.specs.Present.{HasRange};
 use crate::rows::tell;
 use crate::times::each_since;
 use acc_base::{Counters, Fault, Found, HOST_BASE, Section};
-use acc_present::Present;
+use acc_present::{Hint, Located, Present};
 use anyhow::Result;
 use std::alloc::Global;
 use std::rt::Clock;
@@ -127,7 +127,7 @@ fn map_one(present: &mut Present, section: Section, block: u64) -> Result<(), Fa
     requires { AllByRecursion (λ r. r.block < block) present.old.table.ranges }
     ensures { AllByRecursion (λ r. r.block < block + 1) present.new.table.ranges }
 {
-    let Found::Absent = present.find(section) else {
+    let Found::Absent = present.find(section).found else {
         return Ok(());
     };
     present.add(section, block)?;
@@ -136,7 +136,7 @@ fn map_one(present: &mut Present, section: Section, block: u64) -> Result<(), Fa
 
 /// Ends the mapping to a block, where no counter is above zero.
 #[tactic(auto, using(crate::proofs::Blocks::block_laws))]
-fn end_mapping(present: &mut Present, block: u64)
+fn end_mapping(present: &mut Present, block: u64, hint: Hint)
     requires { HasRange present.old.table block }
     ensures { (most : ℕ) → AllByRecursion (λ r. r.block < most) present.old.table.ranges → AllByRecursion (λ r. r.block < most) present.new.table.ranges }
 {
@@ -144,8 +144,8 @@ fn end_mapping(present: &mut Present, block: u64)
         structured: 0,
         dynamic: 0,
     };
-    if present.counters(block) == unused {
-        present.remove(block);
+    if present.counters(block, hint) == unused {
+        present.remove(block, hint);
     }
 }
 
@@ -154,8 +154,9 @@ fn end_mapping(present: &mut Present, block: u64)
 fn end_one(present: &mut Present, section: Section)
     ensures { (most : ℕ) → AllByRecursion (λ r. r.block < most) present.old.table.ranges → AllByRecursion (λ r. r.block < most) present.new.table.ranges }
 {
-    match present.find(section) {
-        Found::Inside { block, .. } => end_mapping(present, block),
+    let Located { found, hint } = present.find(section);
+    match found {
+        Found::Inside { block, .. } => end_mapping(present, block, hint),
         Found::Empty | Found::Absent | Found::Partly => {}
     }
 }
@@ -253,7 +254,7 @@ fn look_up(present: &Present, count: u64, behind: u64) -> u64 {
 
 /// 1 where the section is inside a range, and else 0.
 fn mapped(present: &Present, section: Section) -> u64 {
-    match present.find(section) {
+    match present.find(section).found {
         Found::Inside { .. } => 1,
         Found::Empty | Found::Absent | Found::Partly => 0,
     }

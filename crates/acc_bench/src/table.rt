@@ -1,5 +1,6 @@
 //! How long the calls of `acc_table` take.
 
+use crate::all_over;
 use crate::copies::time_copies;
 use crate::rows::tell;
 use crate::work::{Work, map, map_others, new_table, repeat, sixteen_bytes_at, time, write};
@@ -78,12 +79,12 @@ const TRANSFER: [(&str, Work); 2] = [
 /// that leaves 1,000 attached pointers out; and how long `enter data` with `exit data`, and a data region, take for 16
 /// bytes beside growing numbers of other ranges: where they map the bytes, and where the bytes are present. And how long
 /// an `update` of 16 bytes takes beside other ranges: made at once, put into a queue and stepped, and made by a `wait`
-/// for many.
+/// for many. At last how long calls take on ranges all over the table.
 pub fn run<R: Print + Clock + AllocGlobal>(rt: &R) -> Result<()> {
     for subject in &SUBJECTS {
         measure(rt, *subject)?;
     }
-    Ok(())
+    all_over::run(rt)
 }
 
 /// Measures a subject on a table of its own.

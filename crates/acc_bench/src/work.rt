@@ -59,7 +59,12 @@ pub fn repeat(
 }
 
 /// Makes a round.
-fn make_round(table: &mut Table, alloc: Global, work: Work, section: Section) -> Result<(), Fault> {
+pub fn make_round(
+    table: &mut Table,
+    alloc: Global,
+    work: Work,
+    section: Section,
+) -> Result<(), Fault> {
     match work {
         Work::ToDevice => update(table, alloc, UpdateClause::ToDevice, section, None),
         Work::ToSelf => update(table, alloc, UpdateClause::ToSelf, section, None),

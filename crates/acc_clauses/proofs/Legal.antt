@@ -22,7 +22,7 @@ use Rattle.acc_base.specs.Records.{Records, Memory, State}
 use Rattle.acc_base.specs.Ranges.{where_is, range_of}
 use Rattle.acc_base.specs.Blocks.{block_at}
 use Rattle.acc_base.specs.Tasks.{section_of}
-use Rattle.acc_base.specs.Accounts.{IsHostSection, IsMapped, IsCounted, HasOneBlockEach, IsMemoryOf, AreRecordsSound, AreMemoriesSized, IsLoanSound}
+use Rattle.acc_base.specs.Accounts.{IsHostSection, IsMapped, IsCounted, IsMemoryOf, AreRecordsSound, AreMemoriesSized, IsLoanSound}
 use Rattle.acc_base.proofs.Results.{equal}
 use Rattle.acc_base.proofs.Elements.{AllByRecursion-weaker, AllByRecursion-both, found_has}
 use Rattle.acc_base.proofs.Lookups.{at-own}
@@ -75,16 +75,6 @@ can_move l s section k bounds h m around =
       there = is_some (block_at k s.records.blocks) b there;
       len = λ free. bytes_of-len s.records.loans k s.memories s.records.blocks b m.blocks free there ∙ has.0.mapped.2;
     }
-
--- a block that is not there has no range
-pub has_none : (k : ℕ) (w : Records) → HasOneBlockEach w → (IsSome (block_at k w.blocks) → ⊥) → range_of k w.ranges ≡ None
-has_none k w h none = go (range_of k w.ranges) refl
-  where
-    go : (o : Option Range) → range_of k w.ranges ≡ o → o ≡ None
-    go None e = refl
-    go (Some r) e =
-        let has : IsMapped w.blocks r × ((r.block == k) ≡ true) = found_has (IsMapped w.blocks) (λ t. t.block == k) w.ranges r h.mapped e in
-        absurd (none (is_some (block_at k w.blocks) has.0.0 (subst (λ n. block_at n w.blocks ≡ Some has.0.0) (equal r.block k has.1) has.0.1)))
 
 -- the counters of the range of a block keep their limit
 pub limit_of : (l : Limits) (w : Records) (k : ℕ) (r : Range) → AreRecordsSound l w → range_of k w.ranges ≡ Some r → IsCounted l r

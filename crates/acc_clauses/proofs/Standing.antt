@@ -1,5 +1,5 @@
 -- Which blocks have a range, and which have ended and are kept by queued transfers, as the marks of the device tell it.
-use Rattle.std.proofs.Common.{ℕ, ◌≡◌, ◌<◌, refl, sym, ◌∙◌, ap, Bool, true, false, cond, List, [], ◌∷◌, Option, Some, None, arith, subst}
+use Rattle.std.proofs.Common.{ℕ, ◌≡◌, ◌<◌, refl, ◌∙◌, ap, Bool, true, false, cond, List, [], ◌∷◌, Option, Some, None, arith, subst}
 use Rattle.std.specs.Prelude.{◌==◌, ◌&&◌, nat_le, filter, is_none, unwrap_or, option_map, IfSome, IsSome}
 use Rattle.std.specs.List.{AllByRecursion, AllZip}
 use Rattle.acc_base.specs.declared.loans.Loan.{Loan}
@@ -63,28 +63,6 @@ told_by k ranges queues ms h = record {
 
 pub told : (l : Limits) (x : Environment) (next : Numbers) (k : ℕ) → ArePartsSound l x next → AllZip IsMarkOf x.device.marks x.device.blocks → IsSome (block_at k x.device.blocks) → IsMarkTold x.present.table.ranges x.queues.queues x.device.marks k
 told l x next k sound zip there = told_by k x.present.table.ranges x.queues.queues x.device.marks (mark_of k x.present.table.ranges x.queues.queues x.device.marks x.device.blocks zip sound.marked there)
-
--- ---- the range of a block
-
-some_range : (o : Option Range) → is_none o ≡ false → IsSome o
-some_range None e = cc
-some_range (Some r) e = refl
-
-no_range : (o : Option Range) → is_none o ≡ true → o ≡ None
-no_range None e = refl
-no_range (Some r) e = cc
-
--- a block that has not ended has a range
-pub has_range : (l : Limits) (x : Environment) (next : Numbers) (k : ℕ) → ArePartsSound l x next → AllZip IsMarkOf x.device.marks x.device.blocks → IsSome (block_at k x.device.blocks) → is_ended_at k x.device.marks ≡ false → IsSome (range_of k x.present.table.ranges)
-has_range l x next k sound zip there e =
-    let says : IsMarkTold x.present.table.ranges x.queues.queues x.device.marks k = told l x next k sound zip there in
-    some_range (range_of k x.present.table.ranges) (sym says.ended ∙ e)
-
--- and one that has ended has none
-pub has_no_range : (l : Limits) (x : Environment) (next : Numbers) (k : ℕ) → ArePartsSound l x next → AllZip IsMarkOf x.device.marks x.device.blocks → IsSome (block_at k x.device.blocks) → is_ended_at k x.device.marks ≡ true → range_of k x.present.table.ranges ≡ None
-has_no_range l x next k sound zip there e =
-    let says : IsMarkTold x.present.table.ranges x.queues.queues x.device.marks k = told l x next k sound zip there in
-    no_range (range_of k x.present.table.ranges) (sym says.ended ∙ e)
 
 -- ---- the lowest block that has ended
 

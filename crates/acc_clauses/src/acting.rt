@@ -19,36 +19,36 @@ use crate::transfers::{move_bytes, transfer_at};
 use acc_base::{Counter, Did, Item, RegionClause, Section, Step, Task, Transfer};
 use acc_dev::Device;
 use acc_host::HostMem;
-use acc_present::Present;
+use acc_present::{Hint, Present};
 
 /// Raises a counter of the range that is mapped to a block.
-fn raise(present: &mut Present, counter: Counter, block: u64)
+fn raise(present: &mut Present, counter: Counter, block: u64, hint: Hint)
     requires there { HasRange present.old.table block }
     requires below { counter_of counter block present.old.table.ranges < present.old.table.counter_max }
     ensures table { present.new.table ≡ with_ranges present.old.table (changed_at block (risen counter) present.old.table.ranges) }
     ensures room { IsRoomKept present.old.room present.new.room }
 {
     let raised = match counter {
-        Counter::Structured => present.count_structured(block),
-        Counter::Dynamic => present.count_dynamic(block),
+        Counter::Structured => present.count_structured(block, hint),
+        Counter::Dynamic => present.count_dynamic(block, hint),
     };
     let Ok(()) = raised else { unreachable!() };
 }
 
 /// Changes the counters of the range that is mapped to a block as the task does (OpenACC 3.3, section 2.6.7).
-fn recount(present: &mut Present, task: Task, block: u64)
+fn recount(present: &mut Present, task: Task, block: u64, hint: Hint)
     requires can { CanCount present.old.table.counter_max task block present.old.table.ranges }
     ensures table { present.new.table ≡ with_ranges present.old.table (changed_at block (recounted task) present.old.table.ranges) }
     ensures room { IsRoomKept present.old.room present.new.room }
 {
     match task {
-        Task::Enter { counter, .. } => raise(present, counter, block),
-        Task::Leave { .. } => present.drop_structured(block),
-        Task::Exit { finalize: true, .. } => present.clear_dynamic(block),
+        Task::Enter { counter, .. } => raise(present, counter, block, hint),
+        Task::Leave { .. } => present.drop_structured(block, hint),
+        Task::Exit { finalize: true, .. } => present.clear_dynamic(block, hint),
         Task::Exit {
             finalize: false,
             ..
-        } => present.drop_dynamic(block),
+        } => present.drop_dynamic(block, hint),
         Task::Move { .. } => {}
     }
 }
@@ -138,13 +138,13 @@ fn bear(
         section,
         item.clause,
     );
-    environment.present.add_reserved(section, block);
-    raise(&mut environment.present, counter, block);
+    let hint = environment.present.add_reserved(section, block);
+    raise(&mut environment.present, counter, block, hint);
     fill_later(environment, queue, item, block);
 }
 
 /// Where the task copies at the end of a mapping, host memory gets the bytes of the section, at once or later.
-fn give_bytes(environment: &mut Environment, task: Task, block: u64)
+fn give_bytes(environment: &mut Environment, task: Task, block: u64, hint: Hint)
     requires can { CanMove (section_of task) block (bare_state environment.old) }
     requires free { is_lent block environment.old.device.loans ≡ false }
     requires queue { CanQueue task (Dropped block true) environment.old }
@@ -153,13 +153,13 @@ fn give_bytes(environment: &mut Environment, task: Task, block: u64)
     ensures given { IsGivenBy task block environment.old environment.new }
 {
     if gives_bytes(task) {
-        let t = transfer_at(&environment.present, task, block);
+        let t = transfer_at(&environment.present, task, block, hint);
         move_bytes(environment, queue_of(task), t);
     }
 }
 
 /// Ends the mapping to a block. A block that a queued transfer names stays; else it is given back.
-fn end(environment: &mut Environment, task: Task, block: u64)
+fn end(environment: &mut Environment, task: Task, block: u64, hint: Hint)
     requires can { CanDrop task block true (bare_state environment.old) }
     requires free { is_lent block environment.old.device.loans ≡ false }
     requires queue { CanQueue task (Dropped block true) environment.old }
@@ -167,17 +167,17 @@ fn end(environment: &mut Environment, task: Task, block: u64)
     requires marked { AreMarked environment.old }
     ensures acted { IsActedBy task (Dropped block true) environment.old environment.new }
 {
-    give_bytes(environment, task, block);
+    give_bytes(environment, task, block, hint);
     environment.device.laws();
-    recount(&mut environment.present, task, block);
-    environment.present.remove(block);
+    recount(&mut environment.present, task, block, hint);
+    environment.present.remove(block, hint);
     if environment.device.retire(block) {
         environment.attached.forget(block);
     }
 }
 
 /// Lowers the counters of a range, or ends its mapping where none is above zero then.
-fn lower(environment: &mut Environment, task: Task, block: u64, ended: bool)
+fn lower(environment: &mut Environment, task: Task, block: u64, ended: bool, hint: Hint)
     requires can { CanDrop task block ended (bare_state environment.old) }
     requires free { is_lent block environment.old.device.loans ≡ false }
     requires queue { CanQueue task (Dropped block ended) environment.old }
@@ -186,14 +186,14 @@ fn lower(environment: &mut Environment, task: Task, block: u64, ended: bool)
     ensures acted { IsActedBy task (Dropped block ended) environment.old environment.new }
 {
     if ended {
-        end(environment, task, block);
+        end(environment, task, block, hint);
     } else {
-        recount(&mut environment.present, task, block);
+        recount(&mut environment.present, task, block, hint);
     }
 }
 
 /// Copies the section of an update, at once or later.
-fn update(environment: &mut Environment, task: Task, block: u64)
+fn update(environment: &mut Environment, task: Task, block: u64, hint: Hint)
     requires can { CanMove (section_of task) block (bare_state environment.old) }
     requires needed { CanNeed task (Moved block) environment.old }
     requires queue { CanQueue task (Moved block) environment.old }
@@ -201,12 +201,12 @@ fn update(environment: &mut Environment, task: Task, block: u64)
     requires marked { AreMarked environment.old }
     ensures acted { IsActedBy task (Moved block) environment.old environment.new }
 {
-    let t = transfer_at(&environment.present, task, block);
+    let t = transfer_at(&environment.present, task, block, hint);
     move_bytes(environment, queue_of(task), t);
 }
 
 /// Does the step of a task.
-fn step_on(environment: &mut Environment, task: Task, step: Step)
+fn step_on(environment: &mut Environment, task: Task, step: Step, hint: Hint)
     requires can { CanAct environment.old.present.table.counter_max environment.old.device.memory task step (bare_state environment.old) }
     requires needed { CanNeed task step environment.old }
     requires queue { CanQueue task step environment.old }
@@ -217,7 +217,7 @@ fn step_on(environment: &mut Environment, task: Task, step: Step)
 {
     match step {
         Step::Nothing => {}
-        Step::Counted { block } => recount(&mut environment.present, task, block),
+        Step::Counted { block } => recount(&mut environment.present, task, block, hint),
         Step::Born { block, place } => {
             let Task::Enter {
                 counter,
@@ -229,13 +229,14 @@ fn step_on(environment: &mut Environment, task: Task, step: Step)
             };
             bear(environment, counter, item, queue, block, place);
         }
-        Step::Dropped { block, ended } => lower(environment, task, block, ended),
-        Step::Moved { block } => update(environment, task, block),
+        Step::Dropped { block, ended } => lower(environment, task, block, ended, hint),
+        Step::Moved { block } => update(environment, task, block, hint),
     }
 }
 
-/// Does what a task does: entry attaches after its step, and exit detaches before its step.
-pub(crate) fn act_on(environment: &mut Environment, task: Task, did: Did)
+/// Does what a task does: entry attaches after its step, and exit detaches before its step. The hint is of the range of
+/// the task.
+pub(crate) fn act_on(environment: &mut Environment, task: Task, did: Did, hint: Hint)
     requires can { CanDo environment.old task did }
     requires room { HasRoomFor (birth_of task did.step) (room_of environment.old) }
     requires pointers { pointers_of did.aim ≤ (room_of environment.old).attachments }
@@ -245,12 +246,12 @@ pub(crate) fn act_on(environment: &mut Environment, task: Task, did: Did)
 {
     match task {
         Task::Enter { .. } => {
-            step_on(environment, task, did.step);
+            step_on(environment, task, did.step, hint);
             aim_on(environment, did.aim);
         }
         Task::Leave { .. } | Task::Exit { .. } | Task::Move { .. } => {
             aim_on(environment, did.aim);
-            step_on(environment, task, did.step);
+            step_on(environment, task, did.step, hint);
         }
     }
 }

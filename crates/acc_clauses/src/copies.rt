@@ -6,7 +6,6 @@ ghost use Rattle.acc_base.specs.Ranges.{start_of};
 ghost use Rattle.acc_base.specs.Bytes.{bytes_of, is_moved, bytes_moved_in, bytes_moved_out, memory_changed};
 ghost use Rattle.acc_base.specs.Loans.{is_lent};
 ghost use Rattle.acc_dev.specs.Device.{HasBlock};
-ghost use Rattle.acc_present.specs.Present.{HasRange};
 ghost use Rattle.acc_clauses.specs.Contents.{state_of, bare_state};
 ghost use Rattle.acc_clauses.specs.Acts.{CanCopy};
 ghost use Rattle.acc_clauses.specs.Copies.{IsRunEnd};
@@ -17,7 +16,7 @@ use acc_attach::Attached;
 use acc_base::Section;
 use acc_dev::Device;
 use acc_host::HostMem;
-use acc_present::Present;
+use acc_present::{Hint, Present};
 
 /// Copies a run of bytes to host memory from a block that is not lent and is mapped from the host address `start` on.
 fn run_out(device: &Device, host: &mut HostMem, run: Section, block: u64, start: u64)
@@ -51,12 +50,14 @@ pub(crate) fn run_in(device: &mut Device, host: &HostMem, run: Section, block: u
     device.write(block, run.start - start, bytes);
 }
 
-/// The host address at which the range that is mapped to a block begins.
-pub(crate) fn start_of(present: &Present, block: u64) -> u64
-    requires { HasRange present.now.table block }
+/// The host address at which the range that is mapped to a block begins; 0 where none is.
+pub(crate) fn start_of(present: &Present, block: u64, hint: Hint) -> u64
     ensures { result ≡ start_of block present.now.table.ranges }
 {
-    present.range_at(block).section.start
+    match present.range(block, hint) {
+        Some(range) => range.section.start,
+        None => 0,
+    }
 }
 
 /// Where the run of bytes from the host address `at` on ends that no attached pointer of the block has: at the next such

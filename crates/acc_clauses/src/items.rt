@@ -13,11 +13,20 @@ use crate::aims::{aim_before, attach};
 use crate::drafts::Draft;
 use crate::judging::{judge_row, step_free};
 use crate::parts::Parts;
-use crate::rows::pointer_aimed;
+use crate::readings::found_after;
+use crate::rows::{pointer_aimed, section_of};
 use acc_base::{Aim, Did, Fault, Step, Task};
+use acc_present::Hint;
 
 // Adds an entry whose step is judged. Its pointer is attached in what the step leaves.
-fn enter(parts: &Parts, draft: &mut Draft, n: u64, task: Task, step: Step) -> Result<(), Fault>
+fn enter(
+    parts: &Parts,
+    draft: &mut Draft,
+    n: u64,
+    task: Task,
+    step: Step,
+    hint: Hint,
+) -> Result<(), Fault>
     requires entry { enters task ≡ true }
     requires step { judge_step parts.now.limits n task (records_after draft.old parts.now.state.records) ≡ Ok step }
     requires planned { IsPlanned parts.now.limits draft.old parts.now.state.records }
@@ -26,13 +35,11 @@ fn enter(parts: &Parts, draft: &mut Draft, n: u64, task: Task, step: Step) -> Re
     requires few { n < 64 }
     ensures { MatchResult result (λ _. IsJudgedNext parts.now.limits n task parts.now.state draft.old draft.new) (λ fault. judge_task parts.now.limits n task (state_after draft.old parts.now.state) ≡ Err fault) }
 {
-    draft.push(Acted {
-        task,
-        did: Did {
-            step,
-            aim: Aim::None,
-        },
-    });
+    let did = Did {
+        step,
+        aim: Aim::None,
+    };
+    draft.push(Acted { task, did }, hint);
     if let Some(pointer) = pointer_aimed(task, step) {
         let aim = attach(parts, draft, n, pointer)?;
         draft.aim(aim);
@@ -50,15 +57,14 @@ pub(crate) fn judge(parts: &Parts, draft: &mut Draft, n: u64, task: Task) -> Res
     requires few { n < 64 }
     ensures { MatchResult result (λ _. IsJudgedNext parts.now.limits n task parts.now.state draft.old draft.new) (λ fault. judge_task parts.now.limits n task (state_after draft.old parts.now.state) ≡ Err fault) }
 {
-    let step = judge_row(parts, draft, n, task)?;
+    let located = found_after(parts, draft, section_of(task));
+    let step = judge_row(parts, draft, n, task, located)?;
     let aim = aim_before(parts, draft, task, step);
     step_free(parts, draft, task, step, aim)?;
     if let Task::Enter { .. } = task {
-        return enter(parts, draft, n, task, step);
+        return enter(parts, draft, n, task, step, located.hint);
     }
-    draft.push(Acted {
-        task,
-        did: Did { step, aim },
-    });
+    let did = Did { step, aim };
+    draft.push(Acted { task, did }, located.hint);
     Ok(())
 }

@@ -1,12 +1,13 @@
 //! The clause tables: what a task does after those that were judged before it, or why it is refused.
 
-ghost use Rattle.std.specs.Prelude.{ℕ, ◌≡◌, ◌+◌, ◌++◌, ◌∷◌, [], ◌<◌, ◌≤◌, ◌^◌, Option, Ok, true};
+ghost use Rattle.std.specs.Prelude.{ℕ, ◌≡◌, ◌+◌, ◌++◌, ◌∷◌, [], ◌<◌, ◌≤◌, ◌^◌, ◌&&◌, not, Option, Ok, true};
 ghost use Rattle.std.specs.List.{list_all};
 ghost use Rattle.acc_base.specs.declared.addresses.TheConstants.{MEMORY_MAX};
 ghost use Rattle.acc_base.specs.Limits.{IsFromOne};
-ghost use Rattle.acc_base.specs.Ranges.{ends_by};
+ghost use Rattle.acc_base.specs.Ranges.{where_is, ends_by};
+ghost use Rattle.acc_base.specs.Records.{Records};
 ghost use Rattle.acc_base.specs.Clauses.{in_host, pointer_checked, born, enter_absent, counted, enter_row, leave_row, exit_row, move_row};
-ghost use Rattle.acc_base.specs.Tasks.{queue_of, recounted, checked};
+ghost use Rattle.acc_base.specs.Tasks.{section_of, queue_of, recounted, checked};
 ghost use Rattle.acc_base.specs.Detaching.{block_aimed};
 ghost use Rattle.acc_clauses.specs.Aims.{step_free};
 ghost use Rattle.acc_base.specs.Steps.{block_needed, judge_row};
@@ -14,19 +15,20 @@ ghost use Rattle.acc_base.specs.Queues.{queue_named};
 ghost use Rattle.acc_base.specs.Transfers.{transfer_of, room_for};
 ghost use Rattle.acc_base.specs.Blocks.{rounded};
 ghost use Rattle.acc_base.specs.declared.events.Step.TheVariants.{Dropped};
-ghost use Rattle.acc_clauses.specs.Overlays.{IsPlanned, AreUnmixed, tasks_in, records_after, enters};
+ghost use Rattle.acc_clauses.specs.Overlays.{IsPlanned, AreUnmixed, tasks_in, records_after, enters, are_zero, recount};
 
 use crate::drafts::Draft;
 use crate::effects::{are_zero, recount};
 use crate::lending::not_lent;
 use crate::parts::Parts;
-use crate::readings::{counters_after, found_after, number_after, place_after, queue_len_after};
+use crate::readings::{counters_after, number_after, place_after, queue_len_after};
 use crate::rows::{moves, pointer_of, queue_of, section_of};
 use crate::sections::{POINTER_LEN, is_within, pointer_at};
 use acc_base::{
-    Aim, Counter, ExitClause, Fault, Found, HOST_BASE, Holding, Item, RegionClause, Section, Step,
-    Task, UpdateClause,
+    Aim, Counter, Counters, ExitClause, Fault, Found, HOST_BASE, Holding, Item, RegionClause,
+    Section, Step, Task, UpdateClause,
 };
+use acc_present::{Hint, Located};
 
 /// A section that is not empty lies in host memory. Nothing of an empty one is checked.
 pub(crate) fn in_host(parts: &Parts, n: u64, section: Section) -> Result<(), Fault>
@@ -131,11 +133,12 @@ fn counted(
     n: u64,
     counter: Counter,
     block: u64,
+    hint: Hint,
 ) -> Result<Step, Fault>
     requires { IsPlanned parts.now.limits draft.now parts.now.state.records }
     ensures { result ≡ counted parts.now.limits counter n block (records_after draft.now parts.now.state.records) }
 {
-    let counters = counters_after(parts, draft, block);
+    let counters = counters_after(parts, draft, block, hint);
     let count = match counter {
         Counter::Structured => counters.structured,
         Counter::Dynamic => counters.dynamic,
@@ -155,10 +158,12 @@ fn enter(
     counter: Counter,
     item: Item<RegionClause>,
     queue: Option<u64>,
+    located: Located,
 ) -> Result<Step, Fault>
     requires planned { IsPlanned parts.now.limits draft.now parts.now.state.records }
     requires entering { list_all enters (tasks_in draft.now) ≡ true }
     requires births { parts.now.state.records.births < 2 ^ 48 }
+    requires located { located.found ≡ where_is (section_of (Task.Enter counter item queue)) (records_after draft.now parts.now.state.records).ranges }
     ensures { result ≡ judge_row parts.now.limits n (Task.Enter counter item queue) (records_after draft.now parts.now.state.records) }
 {
     let task = Task::Enter {
@@ -167,40 +172,43 @@ fn enter(
         queue,
     };
     checked(parts, n, task)?;
-    let section = section_of(task);
-    match found_after(parts, draft, section) {
+    let Located { found, hint } = located;
+    match found {
         Found::Empty => Ok(Step::Nothing),
-        Found::Inside { block, .. } => counted(parts, draft, n, counter, block),
-        Found::Absent => enter_absent(parts, draft, n, item.clause, section),
+        Found::Inside { block, .. } => counted(parts, draft, n, counter, block, hint),
+        Found::Absent => enter_absent(parts, draft, n, item.clause, section_of(task)),
         Found::Partly => Err(Fault::PartlyPresent { item: n }),
     }
 }
 
-// The drop of a block by a task. A range is mapped just as long as a counter of it is above zero.
-#[tactic(auto, using(crate::proofs::Laws::plan_laws))]
-fn dropped(parts: &Parts, draft: &Draft, task: Task, block: u64) -> Step
-    requires { IsPlanned parts.now.limits draft.now parts.now.state.records }
-    ensures { result ≡ Dropped block (ends_by (recounted task) block (records_after draft.now parts.now.state.records).ranges) }
+// The drop of a block by a task, where its range has these counters. A range is mapped just as long as a counter of it
+// is above zero.
+fn dropped(task: Task, block: u64, counters: Counters) -> Step
+    requires structured { counters.structured < 2 ^ 40 }
+    requires dynamic { counters.dynamic < 2 ^ 40 }
+    ensures { result ≡ Dropped block (not (are_zero counters) && are_zero (recount task counters)) }
 {
-    let counters = counters_after(parts, draft, block);
     let ended = !are_zero(counters) && are_zero(recount(task, counters));
     Step::Dropped { block, ended }
 }
 
 // Undoes what an item of a region's entry counted, and nothing else.
-#[tactic(auto, unfolding(acc_base::specs::Steps::judge_row))]
-fn leave(parts: &Parts, draft: &Draft, holding: Holding) -> Result<Step, Fault>
+#[tactic(auto, using(crate::proofs::Laws::plan_laws), unfolding(acc_base::specs::Steps::judge_row))]
+fn leave(parts: &Parts, draft: &Draft, holding: Holding, hint: Hint) -> Result<Step, Fault>
     requires { IsPlanned parts.now.limits draft.now parts.now.state.records }
     ensures { (n : ℕ) → result ≡ judge_row parts.now.limits n (Task.Leave holding) (records_after draft.now parts.now.state.records) }
 {
     match holding.block {
-        Some(block) => Ok(dropped(parts, draft, Task::Leave { holding }, block)),
+        Some(block) => {
+            let counters = counters_after(parts, draft, block, hint);
+            Ok(dropped(Task::Leave { holding }, block, counters))
+        }
         None => Ok(Step::Nothing),
     }
 }
 
 // An item of `exit data`.
-#[tactic(auto, unfolding(acc_base::specs::Steps::judge_row))]
+#[tactic(auto, using(crate::proofs::Laws::plan_laws), unfolding(acc_base::specs::Steps::judge_row))]
 fn exit(
     parts: &Parts,
     draft: &Draft,
@@ -208,9 +216,10 @@ fn exit(
     finalize: bool,
     item: Item<ExitClause>,
     queue: Option<u64>,
+    located: Located,
 ) -> Result<Step, Fault>
     requires planned { IsPlanned parts.now.limits draft.now parts.now.state.records }
-    requires unmixed { AreUnmixed (tasks_in draft.now) }
+    requires located { located.found ≡ where_is (section_of (Task.Exit finalize item queue)) (records_after draft.now parts.now.state.records).ranges }
     ensures { result ≡ judge_row parts.now.limits n (Task.Exit finalize item queue) (records_after draft.now parts.now.state.records) }
 {
     let task = Task::Exit {
@@ -219,13 +228,15 @@ fn exit(
         queue,
     };
     checked(parts, n, task)?;
-    match found_after(parts, draft, section_of(task)) {
+    let Located { found, hint } = located;
+    match found {
         Found::Empty => Ok(Step::Nothing),
         Found::Inside { block, .. } => {
-            if counters_after(parts, draft, block).dynamic == 0 {
+            let counters = counters_after(parts, draft, block, hint);
+            if counters.dynamic == 0 {
                 return Ok(Step::Nothing);
             }
-            Ok(dropped(parts, draft, task, block))
+            Ok(dropped(task, block, counters))
         }
         Found::Absent => Ok(Step::Nothing),
         Found::Partly => Err(Fault::PartlyPresent { item: n }),
@@ -236,17 +247,15 @@ fn exit(
 #[tactic(auto, unfolding(acc_base::specs::Steps::judge_row))]
 fn copy(
     parts: &Parts,
-    draft: &Draft,
     n: u64,
     if_present: bool,
     item: Item<UpdateClause>,
+    found: Found,
 ) -> Result<Step, Fault>
-    requires planned { IsPlanned parts.now.limits draft.now parts.now.state.records }
-    requires unmixed { AreUnmixed (tasks_in draft.now) }
-    ensures { (queue : Option ℕ) → result ≡ judge_row parts.now.limits n (Task.Move if_present item queue) (records_after draft.now parts.now.state.records) }
+    ensures { (queue : Option ℕ) (w : Records) → found ≡ where_is item.section w.ranges → result ≡ judge_row parts.now.limits n (Task.Move if_present item queue) w }
 {
     in_host(parts, n, item.section)?;
-    match found_after(parts, draft, item.section) {
+    match found {
         Found::Empty => Ok(Step::Nothing),
         Found::Inside { block, .. } => Ok(Step::Moved { block }),
         Found::Absent => {
@@ -259,12 +268,20 @@ fn copy(
     }
 }
 
-/// What the clause tables say of the task of the item at place `n` after those that were judged before it.
+/// What the clause tables say of the task of the item at place `n` after those that were judged before it. `located` is
+/// where its section lies then.
 #[tactic(auto, using(crate::proofs::Laws::kind_laws))]
-pub(crate) fn judge_row(parts: &Parts, draft: &Draft, n: u64, task: Task) -> Result<Step, Fault>
+pub(crate) fn judge_row(
+    parts: &Parts,
+    draft: &Draft,
+    n: u64,
+    task: Task,
+    located: Located,
+) -> Result<Step, Fault>
     requires planned { IsPlanned parts.now.limits draft.now parts.now.state.records }
     requires unmixed { AreUnmixed (tasks_in draft.now ++ task ∷ []) }
     requires births { parts.now.state.records.births < 2 ^ 48 }
+    requires located { located.found ≡ where_is (section_of task) (records_after draft.now parts.now.state.records).ranges }
     ensures { result ≡ judge_row parts.now.limits n task (records_after draft.now parts.now.state.records) }
 {
     match task {
@@ -272,18 +289,18 @@ pub(crate) fn judge_row(parts: &Parts, draft: &Draft, n: u64, task: Task) -> Res
             counter,
             item,
             queue,
-        } => enter(parts, draft, n, counter, item, queue),
-        Task::Leave { holding } => leave(parts, draft, holding),
+        } => enter(parts, draft, n, counter, item, queue, located),
+        Task::Leave { holding } => leave(parts, draft, holding, located.hint),
         Task::Exit {
             finalize,
             item,
             queue,
-        } => exit(parts, draft, n, finalize, item, queue),
+        } => exit(parts, draft, n, finalize, item, queue, located),
         Task::Move {
             if_present,
             item,
             ..
-        } => copy(parts, draft, n, if_present, item),
+        } => copy(parts, n, if_present, item, located.found),
     }
 }
 

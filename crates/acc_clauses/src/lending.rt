@@ -12,6 +12,7 @@ use crate::judging::in_host;
 use crate::parts::Parts;
 use acc_base::{Directive, Fault, Found, Loan, QUEUE_COUNT, Section};
 use acc_lend::Lease;
+use acc_present::Located;
 
 /// The block, if there is one, is not lent.
 pub(crate) fn not_lent(parts: &Parts, block: Option<u64>) -> Result<(), Fault>
@@ -86,7 +87,8 @@ pub(crate) fn plan_loan(parts: &Parts, region: u64, section: Section) -> Result<
 {
     region_open(parts, region)?;
     in_host(parts, 0, section)?;
-    match parts.find(section) {
+    let Located { found, hint } = parts.find(section);
+    match found {
         Found::Empty => Err(Fault::NotPresent { item: 0 }),
         Found::Absent => Err(Fault::NotPresent { item: 0 }),
         Found::Partly => Err(Fault::PartlyPresent { item: 0 }),
@@ -95,7 +97,7 @@ pub(crate) fn plan_loan(parts: &Parts, region: u64, section: Section) -> Result<
             Ok(Loan {
                 serial: parts.next_serial(),
                 block,
-                offset: section.start.saturating_sub(parts.start(block)),
+                offset: section.start.saturating_sub(parts.start(block, hint)),
                 len: section.len,
             })
         }

@@ -15,6 +15,7 @@ use crate::environments::Environment;
 use crate::sections::pointer_at;
 use acc_attach::Left;
 use acc_base::Aim;
+use acc_present::Hint;
 
 /// Writes the device address of a target over a pointer in a block, which is not lent.
 fn write_target(environment: &mut Environment, pointer: u64, block: u64, target: u64)
@@ -22,7 +23,7 @@ fn write_target(environment: &mut Environment, pointer: u64, block: u64, target:
     ensures { let s = bare_state environment.old in environment.new ≡ record environment.old { device = record environment.old.device { memories = pointer_written block pointer (λ a. slice_index (to_le_bytes w64 target) (a - pointer)) s } } }
 {
     environment.device.laws();
-    let start = start_of(&environment.present, block);
+    let start = start_of(&environment.present, block, Hint::default());
     environment
         .device
         .write(block, pointer - start, &target.to_le_bytes());
@@ -33,7 +34,7 @@ fn write_back(environment: &mut Environment, pointer: u64, block: u64)
     requires can { CanAttach pointer block (bare_state environment.old) }
     ensures { let s = bare_state environment.old in environment.new ≡ record environment.old { device = record environment.old.device { memories = pointer_written block pointer (host_byte s.host) s } } }
 {
-    let start = start_of(&environment.present, block);
+    let start = start_of(&environment.present, block, Hint::default());
     run_in(
         &mut environment.device,
         &environment.host,

@@ -14,28 +14,30 @@ ghost use Rattle.acc_clauses.specs.Overlays.{IsPlanned, AreUnmixed, tasks_in, re
 use crate::drafts::Draft;
 use crate::effects::{counters_over, found_over, puts_in};
 use crate::parts::Parts;
-use acc_base::{Counters, Found, Section};
+use acc_base::{Counters, Section};
+use acc_present::{Hint, Located};
 
-/// Where a section lies after the tasks.
+/// Where a section lies after the tasks, and where its range stands now.
 #[tactic(auto, using(crate::proofs::Laws::plan_laws))]
-pub(crate) fn found_after(parts: &Parts, draft: &Draft, section: Section) -> Found
+pub(crate) fn found_after(parts: &Parts, draft: &Draft, section: Section) -> Located
     requires planned { IsPlanned parts.now.limits draft.now parts.now.state.records }
     requires unmixed { AreUnmixed (tasks_in draft.now) }
-    ensures { result ≡ where_is section (records_after draft.now parts.now.state.records).ranges }
+    ensures { result.found ≡ where_is section (records_after draft.now parts.now.state.records).ranges }
 {
-    let found = parts.find_apart(section, draft.ended());
-    found_over(section, found, draft.acts())
+    let Located { found, hint } = parts.find_apart(section, draft.ended());
+    let found = found_over(section, found, draft.acts());
+    Located { found, hint }
 }
 
 /// The counters of the range that is mapped to a block after the tasks; both are 0 where none is.
 #[tactic(auto, using(crate::proofs::Laws::plan_laws))]
-pub(crate) fn counters_after(parts: &Parts, draft: &Draft, block: u64) -> Counters
+pub(crate) fn counters_after(parts: &Parts, draft: &Draft, block: u64, hint: Hint) -> Counters
     requires planned { IsPlanned parts.now.limits draft.now parts.now.state.records }
     ensures value { result ≡ counters_at block (records_after draft.now parts.now.state.records).ranges }
     ensures structured { result.structured < 2 ^ 33 }
     ensures dynamic { result.dynamic < 2 ^ 33 }
 {
-    let counters = parts.counters(block);
+    let counters = parts.counters(block, hint);
     counters_over(block, counters, draft.acts())
 }
 

@@ -8,10 +8,20 @@ ghost use Rattle.acc_clauses.specs.Acts.{AreKnown, HasRoomFor, HasPutRoom, lens_
 
 use crate::acted::Acted;
 use crate::parts::Parts;
+use acc_present::Hint;
+
+// The hint of the task at place `n`.
+fn hint_of(hints: &[Hint], n: usize) -> Hint {
+    if n < hints.len() {
+        hints[n]
+    } else {
+        Hint::default()
+    }
+}
 
 /// Does the steps of these tasks, one after the other, each judged in what those before it leave, where there is room for
-/// all of them. It takes no memory and is never refused.
-pub fn act_all(parts: &mut Parts, acts: &[Acted])
+/// all of them. It takes no memory and is never refused. The hints are of the ranges of the tasks.
+pub fn act_all(parts: &mut Parts, acts: &[Acted], hints: &[Hint])
     requires judged { AreJudged parts.old.limits 0 (tasks_in acts.now) (dids_in acts.now) parts.old.state.records }
     requires known { AreKnown (tasks_in acts.now) (dids_in acts.now) parts.old.state.records }
     requires few { length acts.now ≤ 64 }
@@ -24,7 +34,8 @@ pub fn act_all(parts: &mut Parts, acts: &[Acted])
     ensures room_regions { parts.old.room.regions ≤ parts.new.room.regions }
     ensures room_holdings { parts.old.room.holdings ≤ parts.new.room.holdings }
 {
-    for x in acts {
-        parts.act(x.task, x.did);
+    for n in 0..acts.len() {
+        let Acted { task, did } = acts[n];
+        parts.act(task, did, hint_of(hints, n));
     }
 }

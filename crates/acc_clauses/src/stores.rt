@@ -37,6 +37,7 @@ use crate::pointers::pointers_in;
 use crate::running::act_all;
 use acc_base::{Config, Counters, Directive, Ended, Fault, Found, Hole, Loan, Range, Section};
 use acc_lend::Lease;
+use acc_present::Hint;
 use std::alloc::Global;
 use std::marker::Model;
 
@@ -142,7 +143,7 @@ impl Store {
         ensures state { self.new.state ≡ state_by (verdict_of directive.now self.old.state plan.now.dids) self.old.state }
     {
         self.parts.laws();
-        act_all(&mut self.parts, plan.acts());
+        act_all(&mut self.parts, plan.acts(), plan.hints());
         finish(&mut self.parts, directive, plan);
         self.parts.laws();
     }
@@ -236,7 +237,7 @@ impl Store {
     pub fn find(&self, section: Section) -> Found
         ensures { result ≡ where_is section self.now.state.records.ranges }
     {
-        self.parts.find(section)
+        self.parts.find(section).found
     }
 
     /// The mapped range of least start at or above a host address, if there is one.
@@ -251,7 +252,7 @@ impl Store {
         ensures structured { result.structured ≡ structured_of block self.now.state.records.ranges }
         ensures dynamic { result.dynamic ≡ dynamic_of block self.now.state.records.ranges }
     {
-        self.parts.counters(block)
+        self.parts.counters(block, Hint::default())
     }
 
     /// The attachment counter of the pointer at a host address, in the block whose range has its eight bytes; 0 where it

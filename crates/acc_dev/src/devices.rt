@@ -39,7 +39,8 @@ use std::marker::Model;
 /// A mapped block can be lent: [`Device::take_out`] moves its bytes into a lease, and [`Device::put_back`] moves them
 /// back (OpenACC 3.3, section 2.5, compute constructs). In between the block stays where it is and has no bytes here.
 ///
-/// A number finds its block by a binary search. [`Device::born`] adds a block at the end of the index. Where
+/// A number finds its block by a binary search, or in one step where no block was given back between it and the first
+/// or the last one. [`Device::born`] adds a block at the end of the index. Where
 /// [`Device::retire`] or [`Device::unpin`] gives its block back, it moves the entries behind that of the block, of 16
 /// bytes each, by one place; else it costs the search alone, as [`Device::pin`], [`Device::take_out`] and
 /// [`Device::put_back`] do. Beside that a birth and a block that is given back cost what the placement costs for its

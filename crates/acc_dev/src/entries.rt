@@ -36,12 +36,32 @@ pub struct Stored {
     pub loan: Option<Loan>,
 }
 
+/// The place in the index of a block's entry, if it stands there as far behind the first entry as its number is greater,
+/// or as far before the last one as its number is less. So it does where no block in between was given back.
+fn place_by_number(index: &[(u64, usize)], block: u64) -> Option<usize>
+    ensures { IfSome result (IsEntry index.now block) }
+{
+    let ahead = block.wrapping_sub(index.first()?.0) as usize;
+    if ahead < index.len() && index[ahead].0 == block {
+        return Some(ahead);
+    }
+    let behind = index.last()?.0.wrapping_sub(block) as usize;
+    let at = index.len().checked_sub(1)?.checked_sub(behind)?;
+    if at < index.len() && index[at].0 == block {
+        return Some(at);
+    }
+    None
+}
+
 /// The place in the index of a block's entry.
 pub fn position_of(index: &[(u64, usize)], block: u64) -> Option<usize>
     requires { IsIndexRising index.now }
     ensures found { IfSome result (IsEntry index.now block) }
     ensures none { IfNone result (AllByRecursion (λ e. e.0 ≡ block → ⊥) index.now) }
 {
+    if let Some(at) = place_by_number(index, block) {
+        return Some(at);
+    }
     index.binary_search_by_key(&block, |entry| entry.0).ok()
 }
 

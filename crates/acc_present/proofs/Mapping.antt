@@ -1,5 +1,5 @@
 -- The mapped ranges and their index, as mappings begin and end.
-use Rattle.std.proofs.Common.{ℕ, zero, suc, ◌≡◌, ◌<◌, ◌≤◌, refl, sym, ap, ◌∙◌, Bool, true, false, cond, List, [], ◌∷◌, get_or, set, take, drop, insert, Option, Some, None, IsSome, arith, rules}
+use Rattle.std.proofs.Common.{ℕ, zero, suc, ◌≡◌, ◌<◌, ◌≤◌, refl, sym, ap, ◌∙◌, Bool, true, false, cond, List, [], ◌∷◌, length, get_or, set, take, drop, insert, Option, Some, None, IsSome, arith}
 use Rattle.std.specs.Prelude.{◌==◌, not, option_map, nat_lt}
 use Rattle.std.specs.List.{AllByRecursion, remove}
 use Rattle.std.proofs.lemmas.Bool.Decides.{nat_tests}
@@ -12,8 +12,9 @@ use Rattle.acc_base.specs.Accounts.{EachPair, IsBelow}
 use Rattle.acc_base.proofs.RangeChanges.{KeepsPlace, section-change, block-change}
 use Rattle.acc_base.proofs.Where.{absent_says}
 use Rattle.acc_base.proofs.Results.{equal}
-use Rattle.acc_base.proofs.Lookups.{at}
+use Rattle.acc_base.proofs.Lookups.{at, at-own}
 use Rattle.acc_base.proofs.Options.{some_mapped, none_mapped, still_some}
+use Rattle.acc_base.proofs.Splitting.{all_at}
 use Rattle.acc_base.proofs.Elements.{AllByRecursion-weaker, AllByRecursion-both, AllByRecursion-filter, AllByRecursion-map, EachPair-filter, EachPair-map, find_none, list_all-from}
 use Rattle.acc_present.specs.declared.index.Entry.{Entry}
 use Rattle.acc_present.specs.Present.{AreMapped}
@@ -37,13 +38,19 @@ starts_rise (r ∷ rs) some rise =
     let len : 0 < r.section.len = some.0 in
     (AllByRecursion-weaker (λ (t : Range). IsBelow r.section t.section) (λ t. r.section.start < t.section.start) rs (λ t below. omega arith) rise.0, starts_rise rs some.1 rise.1)
 
+-- a range that has the block is the one that is mapped to it
+pub range_here : (block i : ℕ) (rs : List Range) → AreMapped rs → i < length rs → (get_or rs i no_range).block ≡ block → IsRangeAt block rs i
+range_here block i rs m within is =
+    let own : range_of (get_or rs i no_range).block rs ≡ Some (get_or rs i no_range) = all_at (λ r. range_of r.block rs ≡ Some r) rs i no_range within (at-own block_key rs m.own_block) in
+    record { bound = within; found = ap (λ b. range_of b rs) (sym is) ∙ own }
+
 -- the range at the place of the start that the index gives is that of the block
-pub range_there : (block start i : ℕ) (rs : List Range) (index : List Entry) → IsIndexed rs index → IsSome (range_of block rs) → start_in block index ≡ Some start → IsSplitBy (keyed.is_key_below start_key start) rs i → IsRangeAt block rs i
-range_there block start i rs index kept there given parts = go (range_of block rs) refl there
+pub range_there : (block start i : ℕ) (rs : List Range) (index : List Entry) → IsIndexed rs index → start_in block index ≡ Some start → IsSplitBy (keyed.is_key_below start_key start) rs i → IsRangeAt block rs i
+range_there block start i rs index kept given parts = go (range_of block rs) refl
   where
-    go : (o : Option Range) → range_of block rs ≡ o → IsSome o → IsRangeAt block rs i
-    go None e s = absurd (search (rules, s))
-    go (Some r) e s =
+    go : (o : Option Range) → range_of block rs ≡ o → IsRangeAt block rs i
+    go None e = let none : start_in block index ≡ None = kept.agrees block ∙ ap (option_map start_key) e in cc
+    go (Some r) e =
         let rise = starts_rise rs kept.mapped.some kept.mapped.rising in
         let starts : Some start ≡ Some (start_key r) = sym given ∙ kept.agrees block ∙ ap (option_map start_key) e in
         let same : start ≡ start_key r = cc in

@@ -21,13 +21,17 @@ fn place_of(index: &[Entry], block: u64) -> usize
     index.partition_point(|entry| entry.block < block)
 }
 
-/// Where the range of a block begins. The block has an entry.
-pub fn start_of(index: &[Entry], block: u64) -> u64
-    requires rising { AreBlocksRising index.now }
-    requires there { IsSome (start_in block index.now) }
-    ensures { start_in block index.now ≡ Some result }
+/// Where the range of a block begins, if the block has an entry.
+pub fn start_of(index: &[Entry], block: u64) -> Option<u64>
+    requires { AreBlocksRising index.now }
+    ensures { result ≡ start_in block index.now }
 {
-    index[place_of(index, block)].start
+    let at = place_of(index, block);
+    if at < index.len() && index[at].block == block {
+        Some(index[at].start)
+    } else {
+        None
+    }
 }
 
 /// One entry more, where there is room for it and the block has none.

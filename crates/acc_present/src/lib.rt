@@ -2,9 +2,11 @@
 //! register of open data regions (OpenACC 3.3, sections 2.6.5 and 2.6.7).
 #![tactic(auto)]
 
+mod hints;
 mod index;
 mod presence;
 mod ranges;
 mod register;
 
+pub use hints::{Hint, Located};
 pub use presence::Present;

@@ -2,13 +2,15 @@
 
 ghost use Rattle.std.specs.Prelude.{◌≡◌, ◌+◌, ◌^◌, ◌<◌, ◌≤◌, ◌↔◌, length, MatchResult, None, Some, Err, IfErr, OnOk, OnErr, MatchOption};
 ghost use Rattle.acc_base.specs.declared.mappings.Counter.TheVariants.{Structured, Dynamic};
+ghost use Rattle.acc_base.specs.declared.mappings.Found.TheVariants.{Absent};
 ghost use Rattle.acc_base.specs.Ranges.{where_is, where_is_apart, range_of, range_from, structured_of, dynamic_of, counter_of, with_range, without_range, changed_at, bare_range, risen, fallen, cleared};
 ghost use Rattle.acc_base.specs.Register.{region_at, newest_region, holdings_at, with_region, without_region};
 ghost use Rattle.acc_present.specs.Present.{new_table, with_ranges, with_regions, HasRange, HasRegion, IsRoomKept, IsRangeRoomTaken, IsRegionRoomTaken, IsRoomMissing, IsLawful};
 
+use crate::hints::{Hint, Located};
 use crate::ranges::Mappings;
 use crate::register::Register;
-use acc_base::{Counter, Counters, Fault, Found, Holding, Range, Section};
+use acc_base::{Counter, Counters, Fault, Holding, Range, Section};
 use std::alloc::Global;
 use std::marker::Model;
 
@@ -18,8 +20,9 @@ use std::marker::Model;
 /// Contracts see the table, and the room that was made for more beside it. A refused call leaves the table as it was.
 /// Only `new`, `add`, `enter` and `reserve` take memory.
 ///
-/// A section and a block number are searched for by halves. Adding and removing move entries beside that: of the ranges
-/// those that start behind, of the index of blocks those of higher numbers.
+/// A section is searched for by halves, and so is a block number in an index of them, unless the range stands where a
+/// [`Hint`] says. Adding and removing move entries beside that: of the ranges those that start behind, of the index of
+/// blocks those of higher numbers.
 #[derive(Drop)]
 pub struct Present {
     counter_max: u64,
@@ -68,26 +71,26 @@ impl Present {
     // ---- mapped ranges
 
     /// Where a section lies among the mapped ranges: it is empty, inside one of them, absent, or partly present. Any
-    /// section may be asked for, one that reaches past the last `u64` too.
-    pub fn find(&self, section: Section) -> Found
-        ensures { result ≡ where_is section self.now.table.ranges }
+    /// section may be asked for, one that reaches past the last `u64` too. And where the range stands that it is inside
+    /// of.
+    pub fn find(&self, section: Section) -> Located
+        ensures { result.found ≡ where_is section self.now.table.ranges }
     {
         self.mappings.find(section, &[])
     }
 
-    /// Where a section would lie if the mappings to the listed blocks had ended.
-    pub fn find_apart(&self, section: Section, blocks: &[u64]) -> Found
-        ensures { result ≡ where_is_apart section blocks.now self.now.table.ranges }
+    /// Where a section would lie if the mappings to the listed blocks had ended, and where its range stands.
+    pub fn find_apart(&self, section: Section, blocks: &[u64]) -> Located
+        ensures { result.found ≡ where_is_apart section blocks.now self.now.table.ranges }
     {
         self.mappings.find(section, blocks)
     }
 
-    /// The range that is mapped to a block. One is.
-    pub fn range_at(&self, block: u64) -> Range
-        requires { HasRange self.now.table block }
-        ensures { range_of block self.now.table.ranges ≡ Some result }
+    /// The range that is mapped to a block, if one is.
+    pub fn range(&self, block: u64, hint: Hint) -> Option<Range>
+        ensures { result ≡ range_of block self.now.table.ranges }
     {
-        self.mappings.range_at(block)
+        self.mappings.range(block, hint)
     }
 
     /// The mapped range of least start at or above an address.
@@ -105,7 +108,7 @@ impl Present {
     /// [`Fault::Memory`] alone, only where there was no room for one more range. The table is then as before, and no
     /// room has shrunk.
     pub fn add(&mut self, section: Section, block: u64) -> Result<(), Fault>
-        requires absent { where_is section self.old.table.ranges ≡ Found.Absent }
+        requires absent { where_is section self.old.table.ranges ≡ Absent }
         requires new { range_of block self.old.table.ranges ≡ None }
         ensures ok { OnOk result (self.new.table ≡ with_ranges self.old.table (with_range (bare_range section block) self.old.table.ranges)) }
         ensures only { IfErr result (λ fault. fault ≡ Fault.Memory) }
@@ -120,39 +123,41 @@ impl Present {
     }
 
     /// As [`Present::add`], where there is room for one more range: it takes no memory and is not refused. It takes one
-    /// from the room of ranges.
-    pub fn add_reserved(&mut self, section: Section, block: u64)
+    /// from the room of ranges. It answers where the new range stands.
+    pub fn add_reserved(&mut self, section: Section, block: u64) -> Hint
         requires room { 1 ≤ self.old.room.ranges }
-        requires absent { where_is section self.old.table.ranges ≡ Found.Absent }
+        requires absent { where_is section self.old.table.ranges ≡ Absent }
         requires new { range_of block self.old.table.ranges ≡ None }
         ensures table { self.new.table ≡ with_ranges self.old.table (with_range (bare_range section block) self.old.table.ranges) }
         ensures room_ranges { self.old.room.ranges ≤ self.new.room.ranges + 1 }
         ensures room_regions { self.old.room.regions ≤ self.new.room.regions }
         ensures room_holdings { self.old.room.holdings ≤ self.new.room.holdings }
     {
-        self.mappings.map(section, block);
+        self.mappings.map(section, block)
     }
 
     /// Ends the mapping to a block. A range is mapped to it, and both counters of the range are 0.
-    pub fn remove(&mut self, block: u64)
+    pub fn remove(&mut self, block: u64, hint: Hint)
         requires there { HasRange self.old.table block }
         requires structured { structured_of block self.old.table.ranges ≡ 0 }
         requires dynamic { dynamic_of block self.old.table.ranges ≡ 0 }
         ensures table { self.new.table ≡ with_ranges self.old.table (without_range block self.old.table.ranges) }
         ensures room { IsRoomKept self.old.room self.new.room }
     {
-        self.mappings.unmap(block);
+        self.mappings.unmap(block, hint);
     }
 
     // ---- reference counters
 
     /// The two reference counters of the range that is mapped to a block. One is.
-    pub fn counters(&self, block: u64) -> Counters
+    pub fn counters(&self, block: u64, hint: Hint) -> Counters
         requires { HasRange self.now.table block }
         ensures structured { result.structured ≡ structured_of block self.now.table.ranges }
         ensures dynamic { result.dynamic ≡ dynamic_of block self.now.table.ranges }
     {
-        let range = self.mappings.range_at(block);
+        let Some(range) = self.mappings.range(block, hint) else {
+            unreachable!()
+        };
         Counters {
             structured: range.structured,
             dynamic: range.dynamic,
@@ -165,7 +170,7 @@ impl Present {
     ///
     /// [`Fault::CounterFull`] with item 0, exactly where the counter has its greatest value. The table is then as
     /// before.
-    pub fn count_structured(&mut self, block: u64) -> Result<(), Fault>
+    pub fn count_structured(&mut self, block: u64, hint: Hint) -> Result<(), Fault>
         requires { HasRange self.old.table block }
         ensures ok { OnOk result (self.new.table ≡ with_ranges self.old.table (changed_at block (risen Structured) self.old.table.ranges)) }
         ensures full { (result ≡ Err (Fault.CounterFull 0)) ↔ (structured_of block self.old.table.ranges ≡ self.old.table.counter_max) }
@@ -173,7 +178,7 @@ impl Present {
         ensures unchanged { OnErr result (self.new.table ≡ self.old.table) }
         ensures room { IsRoomKept self.old.room self.new.room }
     {
-        self.count(Counter::Structured, block)
+        self.count(Counter::Structured, block, hint)
     }
 
     /// Raises the dynamic counter of the range that is mapped to a block. One is.
@@ -182,7 +187,7 @@ impl Present {
     ///
     /// [`Fault::CounterFull`] with item 0, exactly where the counter has its greatest value. The table is then as
     /// before.
-    pub fn count_dynamic(&mut self, block: u64) -> Result<(), Fault>
+    pub fn count_dynamic(&mut self, block: u64, hint: Hint) -> Result<(), Fault>
         requires { HasRange self.old.table block }
         ensures ok { OnOk result (self.new.table ≡ with_ranges self.old.table (changed_at block (risen Dynamic) self.old.table.ranges)) }
         ensures full { (result ≡ Err (Fault.CounterFull 0)) ↔ (dynamic_of block self.old.table.ranges ≡ self.old.table.counter_max) }
@@ -190,11 +195,11 @@ impl Present {
         ensures unchanged { OnErr result (self.new.table ≡ self.old.table) }
         ensures room { IsRoomKept self.old.room self.new.room }
     {
-        self.count(Counter::Dynamic, block)
+        self.count(Counter::Dynamic, block, hint)
     }
 
     /// Raises one of the counters of the range that is mapped to a block.
-    fn count(&mut self, counter: Counter, block: u64) -> Result<(), Fault>
+    fn count(&mut self, counter: Counter, block: u64, hint: Hint) -> Result<(), Fault>
         requires { HasRange self.old.table block }
         ensures ok { OnOk result (self.new.table ≡ with_ranges self.old.table (changed_at block (risen counter) self.old.table.ranges)) }
         ensures below { OnOk result (counter_of counter block self.old.table.ranges < self.old.table.counter_max) }
@@ -203,7 +208,7 @@ impl Present {
         ensures unchanged { OnErr result (self.new.table ≡ self.old.table) }
         ensures room { IsRoomKept self.old.room self.new.room }
     {
-        if self.mappings.raise(counter, block, self.counter_max) {
+        if self.mappings.raise(counter, block, hint, self.counter_max) {
             Ok(())
         } else {
             Err(Fault::CounterFull { item: 0 })
@@ -211,30 +216,30 @@ impl Present {
     }
 
     /// Lowers the structured counter of the range that is mapped to a block. One is. Zero stays zero.
-    pub fn drop_structured(&mut self, block: u64)
+    pub fn drop_structured(&mut self, block: u64, hint: Hint)
         requires { HasRange self.old.table block }
         ensures table { self.new.table ≡ with_ranges self.old.table (changed_at block (fallen Structured) self.old.table.ranges) }
         ensures room { IsRoomKept self.old.room self.new.room }
     {
-        self.mappings.lower(Counter::Structured, block);
+        self.mappings.lower(Counter::Structured, block, hint);
     }
 
     /// Lowers the dynamic counter of the range that is mapped to a block. One is. Zero stays zero.
-    pub fn drop_dynamic(&mut self, block: u64)
+    pub fn drop_dynamic(&mut self, block: u64, hint: Hint)
         requires { HasRange self.old.table block }
         ensures table { self.new.table ≡ with_ranges self.old.table (changed_at block (fallen Dynamic) self.old.table.ranges) }
         ensures room { IsRoomKept self.old.room self.new.room }
     {
-        self.mappings.lower(Counter::Dynamic, block);
+        self.mappings.lower(Counter::Dynamic, block, hint);
     }
 
     /// Sets the dynamic counter of the range that is mapped to a block to 0 (OpenACC 3.3, the finalize clause). One is.
-    pub fn clear_dynamic(&mut self, block: u64)
+    pub fn clear_dynamic(&mut self, block: u64, hint: Hint)
         requires { HasRange self.old.table block }
         ensures table { self.new.table ≡ with_ranges self.old.table (changed_at block cleared self.old.table.ranges) }
         ensures room { IsRoomKept self.old.room self.new.room }
     {
-        self.mappings.clear(block);
+        self.mappings.clear(block, hint);
     }
 
     // ---- open data regions

@@ -9,6 +9,7 @@ ghost use Rattle.acc_base.specs.Splits.{IsSplitBy};
 ghost use Rattle.acc_present.specs.Present.{AreMapped, IsWithinLimit};
 ghost use Rattle.acc_present.specs.Kept.{IsIndexed, IsRangeAt};
 
+use crate::hints::{Hint, Located};
 use crate::index::{Entry, put, start_of, take_out};
 use acc_base::{Counter, Fault, Found, Range, Section};
 use std::alloc::Global;
@@ -72,44 +73,58 @@ fn told_by(first: Range, section: Section, blocks: &[u64]) -> Option<Found>
     Some(Found::Partly)
 }
 
-/// Where a section that is not empty lies among ranges without those of the listed blocks.
-fn found_among(ranges: &[Range], section: Section, blocks: &[u64]) -> Found
-    requires mapped { AreMapped ranges.now }
-    requires some { 0 < section.len }
-    ensures { result ≡ where_is_apart section blocks.now ranges.now }
-{
-    for r in ranges {
-        if let Some(found) = told_by(*r, section, blocks) {
-            return found;
-        }
-    }
-    Found::Absent
-}
-
 /// Where a section lies among the ranges without those of the listed blocks.
-fn locate(ranges: &[Range], section: Section, blocks: &[u64]) -> Found
+fn locate(ranges: &[Range], section: Section, blocks: &[u64]) -> Located
     requires { AreMapped ranges.now }
-    ensures { result ≡ where_is_apart section blocks.now ranges.now }
+    ensures { result.found ≡ where_is_apart section blocks.now ranges.now }
 {
     if section.len == 0 {
-        return Found::Empty;
+        return Located {
+            found: Found::Empty,
+            hint: Hint::default(),
+        };
     }
     // Of the ranges that start below the section only the last can reach it.
     let from = first_from(ranges, section.start).saturating_sub(1);
-    found_among(&ranges[from..], section, blocks)
+    for at in from..ranges.len() {
+        if let Some(found) = told_by(ranges[at], section, blocks) {
+            let hint = Hint { at };
+            return Located { found, hint };
+        }
+    }
+    Located {
+        found: Found::Absent,
+        hint: Hint::default(),
+    }
 }
 
-/// The place of the range that is mapped to a block.
-fn place_of(ranges: &[Range], index: &[Entry], block: u64) -> usize
+/// The place of the range that is mapped to a block, if one is: that of the hint, or the one that a search finds.
+fn find_place(ranges: &[Range], index: &[Entry], block: u64, hint: Hint) -> Option<usize>
+    requires { IsIndexed ranges.now index.now }
+    ensures found { IfSome result (IsRangeAt block ranges.now) }
+    ensures none { IfNone result (range_of block ranges.now ≡ None) }
+{
+    if hint.at < ranges.len() && ranges[hint.at].block == block {
+        return Some(hint.at);
+    }
+    let start = start_of(index, block)?;
+    Some(first_from(ranges, start))
+}
+
+/// The place of the range that is mapped to a block. One is.
+fn place_of(ranges: &[Range], index: &[Entry], block: u64, hint: Hint) -> usize
     requires indexed { IsIndexed ranges.now index.now }
     requires there { IsSome (range_of block ranges.now) }
     ensures { IsRangeAt block ranges.now result }
 {
-    first_from(ranges, start_of(index, block))
+    let Some(at) = find_place(ranges, index, block, hint) else {
+        unreachable!()
+    };
+    at
 }
 
-/// A new range that nothing has counted, where there is room for it.
-fn map(ranges: &mut Vec<Range>, index: &mut Vec<Entry>, section: Section, block: u64)
+/// A new range that nothing has counted, where there is room for it. It answers where it stands.
+fn map(ranges: &mut Vec<Range>, index: &mut Vec<Entry>, section: Section, block: u64) -> Hint
     requires indexed { IsIndexed ranges.old.items index.old.items }
     requires absent { where_is section ranges.old.items ≡ Found.Absent }
     requires new { range_of block ranges.old.items ≡ None }
@@ -139,10 +154,11 @@ fn map(ranges: &mut Vec<Range>, index: &mut Vec<Entry>, section: Section, block:
             start: section.start,
         },
     );
+    Hint { at }
 }
 
 /// Ends the mapping to a block.
-fn unmap(ranges: &mut Vec<Range>, index: &mut Vec<Entry>, block: u64)
+fn unmap(ranges: &mut Vec<Range>, index: &mut Vec<Entry>, block: u64, hint: Hint)
     requires indexed { IsIndexed ranges.old.items index.old.items }
     requires there { IsSome (range_of block ranges.old.items) }
     ensures ranges { ranges.new.items ≡ without_range block ranges.old.items }
@@ -152,7 +168,7 @@ fn unmap(ranges: &mut Vec<Range>, index: &mut Vec<Entry>, block: u64)
     ensures capacity { vec_capacity ranges.new ≡ vec_capacity ranges.old }
     ensures capacity_index { vec_capacity index.new ≡ vec_capacity index.old }
 {
-    let at = place_of(ranges, index, block);
+    let at = place_of(ranges, index, block, hint);
     ranges.remove(at);
     take_out(index, block);
 }
@@ -201,7 +217,14 @@ fn lowered(counter: Counter, range: Range) -> Range
 }
 
 /// Raises a counter of the range that is mapped to a block, or answers `false` where it has reached its greatest value.
-fn raise(ranges: &mut [Range], index: &[Entry], counter: Counter, block: u64, most: u64) -> bool
+fn raise(
+    ranges: &mut [Range],
+    index: &[Entry],
+    counter: Counter,
+    block: u64,
+    hint: Hint,
+    most: u64,
+) -> bool
     requires indexed { IsIndexed ranges.old index.now }
     requires there { IsSome (range_of block ranges.old) }
     ensures below { OnTrue result (counter_of counter block ranges.old < most) }
@@ -211,7 +234,7 @@ fn raise(ranges: &mut [Range], index: &[Entry], counter: Counter, block: u64, mo
     ensures limit { AllByRecursion (IsWithinLimit most) ranges.old → AllByRecursion (IsWithinLimit most) ranges.new }
     ensures indexed { IsIndexed ranges.new index.now }
 {
-    let at = place_of(ranges, index, block);
+    let at = place_of(ranges, index, block, hint);
     let range = ranges[at];
     if most <= value_of(counter, range) {
         return false;
@@ -221,25 +244,25 @@ fn raise(ranges: &mut [Range], index: &[Entry], counter: Counter, block: u64, mo
 }
 
 /// Lowers a counter of the range that is mapped to a block. Zero stays zero.
-fn lower(ranges: &mut [Range], index: &[Entry], counter: Counter, block: u64)
+fn lower(ranges: &mut [Range], index: &[Entry], counter: Counter, block: u64, hint: Hint)
     requires indexed { IsIndexed ranges.old index.now }
     requires there { IsSome (range_of block ranges.old) }
     ensures ranges { ranges.new ≡ changed_at block (fallen counter) ranges.old }
     ensures indexed { IsIndexed ranges.new index.now }
 {
-    let at = place_of(ranges, index, block);
+    let at = place_of(ranges, index, block, hint);
     let range = ranges[at];
     ranges[at] = lowered(counter, range);
 }
 
 /// Sets the dynamic counter of the range that is mapped to a block to zero.
-fn clear(ranges: &mut [Range], index: &[Entry], block: u64)
+fn clear(ranges: &mut [Range], index: &[Entry], block: u64, hint: Hint)
     requires indexed { IsIndexed ranges.old index.now }
     requires there { IsSome (range_of block ranges.old) }
     ensures ranges { ranges.new ≡ changed_at block cleared ranges.old }
     ensures indexed { IsIndexed ranges.new index.now }
 {
-    let at = place_of(ranges, index, block);
+    let at = place_of(ranges, index, block, hint);
     let mut range = ranges[at];
     range.dynamic = 0;
     ranges[at] = range;
@@ -302,19 +325,19 @@ impl Mappings {
         let _ = &self.ranges;
     }
 
-    /// Where a section lies among the ranges without those of the listed blocks.
-    pub fn find(&self, section: Section, blocks: &[u64]) -> Found
-        ensures { result ≡ where_is_apart section blocks.now self.now.ranges }
+    /// Where a section lies among the ranges without those of the listed blocks, and where its range stands.
+    pub fn find(&self, section: Section, blocks: &[u64]) -> Located
+        ensures { result.found ≡ where_is_apart section blocks.now self.now.ranges }
     {
         locate(&self.ranges, section, blocks)
     }
 
-    /// The range that is mapped to a block.
-    pub fn range_at(&self, block: u64) -> Range
-        requires { IsSome (range_of block self.now.ranges) }
-        ensures { range_of block self.now.ranges ≡ Some result }
+    /// The range that is mapped to a block, if one is.
+    pub fn range(&self, block: u64, hint: Hint) -> Option<Range>
+        ensures { result ≡ range_of block self.now.ranges }
     {
-        self.ranges[place_of(&self.ranges, &self.index, block)]
+        let at = find_place(&self.ranges, &self.index, block, hint)?;
+        Some(self.ranges[at])
     }
 
     /// The range of least start at or above an address.
@@ -337,29 +360,29 @@ impl Mappings {
         Ok(())
     }
 
-    /// A new range that nothing has counted, where there is room for it.
-    pub fn map(&mut self, section: Section, block: u64)
+    /// A new range that nothing has counted, where there is room for it. It answers where it stands.
+    pub fn map(&mut self, section: Section, block: u64) -> Hint
         requires room { 1 ≤ self.old.room }
         requires absent { where_is section self.old.ranges ≡ Found.Absent }
         requires new { range_of block self.old.ranges ≡ None }
         ensures ranges { self.new.ranges ≡ with_range (bare_range section block) self.old.ranges }
         ensures room { self.old.room ≤ self.new.room + 1 }
     {
-        map(&mut self.ranges, &mut self.index, section, block);
+        map(&mut self.ranges, &mut self.index, section, block)
     }
 
     /// Ends the mapping to a block.
-    pub fn unmap(&mut self, block: u64)
+    pub fn unmap(&mut self, block: u64, hint: Hint)
         requires { IsSome (range_of block self.old.ranges) }
         ensures ranges { self.new.ranges ≡ without_range block self.old.ranges }
         ensures room { self.old.room ≤ self.new.room }
     {
-        unmap(&mut self.ranges, &mut self.index, block);
+        unmap(&mut self.ranges, &mut self.index, block, hint);
     }
 
     /// Raises a counter of the range that is mapped to a block, or answers `false` where it has reached its greatest
     /// value.
-    pub fn raise(&mut self, counter: Counter, block: u64, most: u64) -> bool
+    pub fn raise(&mut self, counter: Counter, block: u64, hint: Hint, most: u64) -> bool
         requires { IsSome (range_of block self.old.ranges) }
         ensures below { OnTrue result (counter_of counter block self.old.ranges < most) }
         ensures ranges { OnTrue result (self.new.ranges ≡ changed_at block (risen counter) self.old.ranges) }
@@ -368,24 +391,24 @@ impl Mappings {
         ensures limit { AllByRecursion (IsWithinLimit most) self.old.ranges → AllByRecursion (IsWithinLimit most) self.new.ranges }
         ensures room { self.old.room ≤ self.new.room }
     {
-        raise(&mut self.ranges, &self.index, counter, block, most)
+        raise(&mut self.ranges, &self.index, counter, block, hint, most)
     }
 
     /// Lowers a counter of the range that is mapped to a block. Zero stays zero.
-    pub fn lower(&mut self, counter: Counter, block: u64)
+    pub fn lower(&mut self, counter: Counter, block: u64, hint: Hint)
         requires { IsSome (range_of block self.old.ranges) }
         ensures ranges { self.new.ranges ≡ changed_at block (fallen counter) self.old.ranges }
         ensures room { self.old.room ≤ self.new.room }
     {
-        lower(&mut self.ranges, &self.index, counter, block);
+        lower(&mut self.ranges, &self.index, counter, block, hint);
     }
 
     /// Sets the dynamic counter of the range that is mapped to a block to zero.
-    pub fn clear(&mut self, block: u64)
+    pub fn clear(&mut self, block: u64, hint: Hint)
         requires { IsSome (range_of block self.old.ranges) }
         ensures ranges { self.new.ranges ≡ changed_at block cleared self.old.ranges }
         ensures room { self.old.room ≤ self.new.room }
     {
-        clear(&mut self.ranges, &self.index, block);
+        clear(&mut self.ranges, &self.index, block, hint);
     }
 }

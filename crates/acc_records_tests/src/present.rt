@@ -5,7 +5,7 @@ ghost use Rattle.std.specs.List.{AllByRecursion};
 ghost use Rattle.acc_present.specs.Present.{HasRange};
 
 use acc_base::{Counters, Fault, Found, Section};
-use acc_present::Present;
+use acc_present::{Hint, Present};
 use std::alloc::Global;
 use std::test::Fail;
 
@@ -85,7 +85,7 @@ fn map(present: &mut Present, asked: Section, block: u64) -> Result<bool, Fault>
     ensures before { AllByRecursion (λ r. r.block < block + 1) present.new.table.ranges }
     ensures unchanged { OnErr result (present.new.table ≡ present.old.table) }
 {
-    let Found::Absent = present.find(asked) else {
+    let Found::Absent = present.find(asked).found else {
         return Ok(false);
     };
     present.add(asked, block)?;
@@ -96,7 +96,7 @@ fn map(present: &mut Present, asked: Section, block: u64) -> Result<bool, Fault>
 fn found_in(alloc: Global, row: &Row) -> Result<Option<Found>, Fault> {
     let mut present = Present::new(alloc, 2);
     if map(&mut present, section(row.0), 1)? && map(&mut present, section(row.1), 2)? {
-        Ok(Some(present.find_apart(section(row.2), &[row.3])))
+        Ok(Some(present.find_apart(section(row.2), &[row.3]).found))
     } else {
         Ok(None)
     }
@@ -121,6 +121,7 @@ enum Turn {
 }
 
 /// A call, whether a full counter refuses it, and the structured and the dynamic counter behind it.
+#[derive(Clone, Copy)]
 struct Counted(Turn, bool, u64, u64);
 
 /// Calls in a row on one range, under a limit of 2.
@@ -143,56 +144,90 @@ const TURNS: [Counted; 11] = [
 fn block_at(present: &Present, address: u64) -> Option<u64>
     ensures { IfSome result (λ block. HasRange present.now.table block) }
 {
-    match present.find(section((address, 1))) {
+    match present.find(section((address, 1))).found {
         Found::Inside { block, .. } => Some(block),
         _ => None,
     }
 }
 
-/// The answer to a call on the counters of a block.
-fn take(present: &mut Present, turn: Turn, block: u64) -> Result<(), Fault>
+/// The answer to a call on the counters of a block, with a hint of where its range stands.
+fn take(present: &mut Present, turn: Turn, block: u64, hint: Hint) -> Result<(), Fault>
     requires { HasRange present.old.table block }
 {
     match turn {
-        Turn::CountStructured => return present.count_structured(block),
-        Turn::CountDynamic => return present.count_dynamic(block),
-        Turn::DropStructured => present.drop_structured(block),
-        Turn::DropDynamic => present.drop_dynamic(block),
-        Turn::ClearDynamic => present.clear_dynamic(block),
+        Turn::CountStructured => return present.count_structured(block, hint),
+        Turn::CountDynamic => return present.count_dynamic(block, hint),
+        Turn::DropStructured => present.drop_structured(block, hint),
+        Turn::DropDynamic => present.drop_dynamic(block, hint),
+        Turn::ClearDynamic => present.clear_dynamic(block, hint),
     }
     Ok(())
 }
 
 /// The answer to a call on the counters at 0x1000, or `None` where nothing is mapped there.
-fn answer(present: &mut Present, turn: Turn) -> Option<Result<(), Fault>> {
+fn answer(present: &mut Present, turn: Turn, hint: Hint) -> Option<Result<(), Fault>> {
     let block = block_at(present, 0x1000)?;
-    Some(take(present, turn, block))
+    Some(take(present, turn, block, hint))
 }
 
 /// The counters at 0x1000, or `None` where nothing is mapped there.
-fn counters(present: &Present) -> Option<Counters> {
+fn counters(present: &Present, hint: Hint) -> Option<Counters> {
     let block = block_at(present, 0x1000)?;
-    Some(present.counters(block))
+    Some(present.counters(block, hint))
 }
 
+/// A table of so many ranges of 16 bytes, at most 64: those before the last lie below 0x1000, and the last one there.
+fn ranges_below(alloc: Global, count: u64) -> Result<Present, Fault> {
+    let mut present = Present::new(alloc, 2);
+    for block in 0..count {
+        let start = 0x1000 - (count - 1 - block) % 64 * 16;
+        map(&mut present, section((start, 16)), block)?;
+    }
+    Ok(present)
+}
+
+/// Where the range at 0x1000 stands in a table of so many.
+fn hint_among(alloc: Global, count: u64) -> Result<Hint, Fault> {
+    let present = ranges_below(alloc, count)?;
+    Ok(present.find(section((0x1000, 1))).hint)
+}
+
+/// Whether a call and the counters behind it are as its row says.
+fn is_taken(present: &mut Present, row: &Counted, hint: Hint) -> bool {
+    let Counted(turn, full, structured, dynamic) = *row;
+    let wanted = if full {
+        Err(Fault::CounterFull { item: 0 })
+    } else {
+        Ok(())
+    };
+    let behind = Counters {
+        structured,
+        dynamic,
+    };
+    answer(present, turn, hint) == Some(wanted) && counters(present, hint) == Some(behind)
+}
+
+/// How many of the calls are as their rows say, among two ranges and with the hint of a table of so many.
+fn taken_with(alloc: Global, count: u64) -> Result<u64, Fault> {
+    let hint = hint_among(alloc, count)?;
+    let mut present = ranges_below(alloc, 2)?;
+    Ok(count_taken(&mut present, hint))
+}
+
+/// How many of the calls are as their rows say.
+fn count_taken(present: &mut Present, hint: Hint) -> u64 {
+    let mut taken = 0u64;
+    for row in &TURNS {
+        taken = taken.wrapping_add(u64::from(is_taken(present, row, hint)));
+    }
+    taken
+}
+
+// The hint of a table of one is that of the other range, that of two is right, and that of nine is out of bounds.
 #[test]
-fn counters_count_apart(rt: HostRuntime) -> Result<(), Fail> {
-    let mut present = Present::new(rt.alloc(), 2);
-    assert!(rt; map(&mut present, section((0x1000, 16)), 1)?);
-    for Counted(turn, full, structured, dynamic) in &TURNS {
-        let wanted = if *full {
-            Err(Fault::CounterFull { item: 0 })
-        } else {
-            Ok(())
-        };
-        assert_eq!(rt; answer(&mut present, *turn), Some(wanted));
-        assert_eq!(rt;
-            counters(&present),
-            Some(Counters {
-                structured: *structured,
-                dynamic: *dynamic
-            })
-        );
+fn counters_count_apart_with_any_hint(rt: HostRuntime) -> Result<(), Fail> {
+    for count in [1, 2, 9] {
+        assert_eq!(rt; taken_with(rt.alloc(), count)?, 11);
     }
     Ok(())
 }

@@ -82,7 +82,7 @@ impl Parts {
     pub(crate) fn is_lent(&self, block: u64) -> bool
         ensures { result ≡ is_lent block self.now.state.records.loans }
     {
-        self.loan(block).is_some()
+        self.loans() != 0 && self.loan(block).is_some()
     }
 
     /// How many blocks are lent.

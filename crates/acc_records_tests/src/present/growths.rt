@@ -22,7 +22,7 @@ struct View {
 /// What the table says, with where a section lies.
 fn look(present: &Present, asked: Section) -> View {
     View {
-        found: present.find(asked),
+        found: present.find(asked).found,
         first: present.next_range(0),
         regions: present.regions(),
     }

@@ -6,7 +6,7 @@ ghost use Rattle.acc_present.specs.Present.{HasRange};
 
 use super::map;
 use acc_base::{Counters, Fault, Found, Range, Section};
-use acc_present::Present;
+use acc_present::{Hint, Located, Present};
 use std::alloc::Global;
 use std::test::Fail;
 
@@ -38,9 +38,14 @@ fn lies(ranges: &[Range], asked: Section) -> Found {
     found
 }
 
+/// The hint of a look-up in each second step, and in each other one that of the first range.
+fn hint_in(step: u64, hint: Hint) -> Hint {
+    if step % 2 == 0 { hint } else { Hint::default() }
+}
+
 /// Ends the mapping to a block, in the table and in the list.
 #[tactic(auto, using(acc_present::proofs::Fresh::fresh_without))]
-fn end(present: &mut Present, list: &mut Vec<Range>, block: u64)
+fn end(present: &mut Present, list: &mut Vec<Range>, block: u64, hint: Hint)
     requires { HasRange present.old.table block }
     ensures { (most : ℕ) → AllByRecursion (λ r. r.block < most) present.old.table.ranges → AllByRecursion (λ r. r.block < most) present.new.table.ranges }
 {
@@ -48,8 +53,8 @@ fn end(present: &mut Present, list: &mut Vec<Range>, block: u64)
         structured: 0,
         dynamic: 0,
     };
-    if present.counters(block) == unused {
-        present.remove(block);
+    if present.counters(block, hint) == unused {
+        present.remove(block, hint);
         list.retain(|range| range.block != block);
     }
 }
@@ -86,11 +91,13 @@ fn step(
     requires { AllByRecursion (λ r. r.block < block) present.old.table.ranges }
     ensures { AllByRecursion (λ r. r.block < block + 1) present.new.table.ranges }
 {
-    let found = present.find(asked);
+    let Located { found, hint } = present.find(asked);
     let agree = found == lies(list, asked);
     match found {
         Found::Absent => begin(present, list, asked, block)?,
-        Found::Inside { block: mapped, .. } => end(present, list, mapped),
+        Found::Inside { block: mapped, .. } => {
+            end(present, list, mapped, hint_in(block, hint));
+        }
         Found::Empty | Found::Partly => {}
     }
     Ok(agree)

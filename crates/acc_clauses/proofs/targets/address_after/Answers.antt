@@ -10,7 +10,7 @@ pub overflow_add-result : goal.overflow_add-result
 overflow_add-result c =
     let p = c.args.parts.now in
     let place = place_read p.limits c.args.draft.now c.acts.result.now p.state.records c.in-Inside.block c.place.result c.place_over-place.result c.requires.planned c.requires.entering c.acts.ensures.value c.place.ensures c.place_over-place.ensures in
-    let sum = sum_bound p.limits c.args.draft.now p.state.records c.args.address c.in-Inside.block c.in-Inside.offset c.requires.planned (sym c.in-Inside.ensures) in
+    let sum = sum_bound p.limits c.args.draft.now p.state.records c.args.address c.in-Inside.block c.in-Inside.offset c.requires.planned (sym c.found_after.ensures ∙ c.in-Inside.is) in
     omega (arith, place, sum)
 
 pub returns-in-Inside : goal.returns-in-Inside
@@ -18,4 +18,4 @@ returns-in-Inside c =
     let p = c.args.parts.now in
     let w : Records = records_after c.args.draft.now p.state.records in
     let place = place_read p.limits c.args.draft.now c.acts.result.now p.state.records c.in-Inside.block c.place.result c.place_over-place.result c.requires.planned c.requires.entering c.acts.ensures.value c.place.ensures c.place_over-place.ensures in
-    ap (λ (n : ℕ). Some (n + c.in-Inside.offset)) place ∙ ap (λ (f : Found). address_in f w.blocks) c.in-Inside.ensures
+    ap (λ (n : ℕ). Some (n + c.in-Inside.offset)) place ∙ ap (λ (f : Found). address_in f w.blocks) (sym c.in-Inside.is ∙ c.found_after.ensures)

@@ -1,0 +1,23 @@
+//! Where a look-up found a range, so that the calls after it need not look for it again.
+
+use acc_base::Found;
+
+/// Where the range of a block stands, as a look-up found it.
+///
+/// Each value is right, and no contract speaks of it. A call that is handed a hint looks there first. Where it does not
+/// find the range of its block there, it searches as if it had none: mappings began or ended in between, or the hint is
+/// of another section or the default one. So a hint that is stale costs a search, and nothing else.
+#[derive(Clone, Copy, Debug, Default, PartialEq, Eq)]
+pub struct Hint {
+    // A place among the ranges by rising start.
+    pub(crate) at: usize,
+}
+
+/// Where a section lies, and where the range stands that tells it.
+#[derive(Clone, Copy, Debug, PartialEq, Eq)]
+pub struct Located {
+    /// Where the section lies among the mapped ranges.
+    pub found: Found,
+    /// Where the range stands that the section is inside of.
+    pub hint: Hint,
+}

@@ -1,8 +1,8 @@
 pub mod Numbers
 pub mod Pieces
-pub mod HeldClauses
-pub mod ClauseEnds
-pub mod CheckedClauses
+pub mod Repeated
+pub mod Keeping
+pub mod Wanting
 pub mod ByteWords
 pub mod NameEntries
 pub mod Enough

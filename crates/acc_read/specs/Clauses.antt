@@ -1,11 +1,12 @@
 -- The clauses and options of a directive.
-use Rattle.std.specs.Prelude.{ℕ, zero, suc, Bool, true, false, List, [], ◌∷◌, ◌++◌, length, Option, Some, None, Result, Ok, Err, is_some, ◌==◌, if◌then◌else◌}
+use Rattle.std.specs.Prelude.{ℕ, Bool, true, false, not, List, [], ◌∷◌, ◌++◌, length, Option, Some, None, Result, Ok, Err, is_some, ◌==◌, if◌then◌else◌}
 use Rattle.acc_base.specs.declared.faults.ScriptFault.{ScriptFault}
 use Rattle.acc_base.specs.declared.faults.ScriptFault.TheVariants.{Syntax}
 use Rattle.acc_base.specs.declared.items.Item.{Item}
 use Rattle.acc_read.specs.declared.items.Kind.{Kind}
 use Rattle.acc_read.specs.Reading.{◌>>=◌}
-use Rattle.acc_read.specs.Tokens.{word_at, mark_at, is_mark_next, is_word_before, is_at_end, skip_comma, left_parenthesis, right_parenthesis, colon, comma}
+use Rattle.acc_read.specs.Repeating.{one_or_more}
+use Rattle.acc_read.specs.Tokens.{word_at, mark_at, is_mark_next, is_word_before, is_at_end, left_parenthesis, right_parenthesis, colon, comma}
 use Rattle.acc_read.specs.Layout.{ArrayLayout}
 use Rattle.acc_read.specs.Items.{named_at, item_of}
 use Rattle.acc_read.specs.Queues.{queue_at}
@@ -13,16 +14,17 @@ use Rattle.acc_read.specs.Grammar.{Grammar}
 
 -- ---- the items of a clause
 
--- one item or more, separated by commas, behind the items before; fuel bounds their number, and as much as the text
--- has bytes is enough (`items_enough`)
-unfoldable pub items_at : {C : Type 0} → (fuel : ℕ) → Kind → C → ArrayLayout → List (Item C) → List ℕ
+-- an item, behind the items before
+unfoldable pub item_at : {C : Type 0} → Kind → C → ArrayLayout → List (Item C) → List ℕ
     → Result (List (Item C) × List ℕ) ScriptFault
-items_at zero kind clause layout before text = Err Syntax
-items_at (suc fuel) kind clause layout before text = do
+item_at kind clause layout before text = do
   named ← named_at kind layout text
-  if is_mark_next comma named.1
-      then items_at fuel kind clause layout (before ++ item_of clause named.0 ∷ []) (skip_comma named.1)
-      else Ok (before ++ item_of clause named.0 ∷ [], named.1)
+  Ok (before ++ item_of clause named.0 ∷ [], named.1)
+
+-- one item or more, separated by commas, behind the items before
+abbrev pub items_at : {C : Type 0} → Kind → C → ArrayLayout → List (Item C) → List ℕ
+    → Result (List (Item C) × List ℕ) ScriptFault
+items_at kind clause layout before text = one_or_more (item_at kind clause layout) (is_mark_next comma) before text
 
 -- ---- a clause
 
@@ -49,7 +51,7 @@ unfoldable pub group_at : {C : Type 0} → Grammar C → C → ArrayLayout → L
 group_at grammar clause layout before text = do
   inside ← mark_at left_parenthesis text
   modified ← modified_at grammar clause inside
-  items ← items_at (length modified.1) (grammar.lists modified.0) modified.0 layout before modified.1
+  items ← items_at (grammar.lists modified.0) modified.0 layout before modified.1
   close ← mark_at right_parenthesis items.1
   Ok (items.0, close)
 
@@ -97,15 +99,21 @@ clause_at grammar layout before text = do
       else if grammar.is_async word.0 then queued before word.1
       else listed (grammar.clause_of word.0) grammar layout before word.1
 
+-- more than blanks is left
+abbrev pub goes_on : List ℕ → Bool
+goes_on text = not (is_at_end text)
+
+-- clauses and options up to the end of the line, with or without a comma between two of them, behind those before
+abbrev pub all_clauses_at : {C : Type 0} → Grammar C → ArrayLayout → ClausesRead C → List ℕ
+    → Result (ClausesRead C × List ℕ) ScriptFault
+all_clauses_at grammar layout before text = one_or_more (clause_at grammar layout) goes_on before text
+
 -- what was read, if a clause was among it: each clause has an item
 abbrev pub with_clause : {C : Type 0} → ClausesRead C → Result (ClausesRead C) ScriptFault
 with_clause read = if length read.items == 0 then Err Syntax else Ok read
 
--- clauses and options up to the end of the line, with or without a comma between two of them; fuel bounds their number,
--- and as much as the text has bytes is enough (`clauses_enough`)
-unfoldable pub clauses_at : {C : Type 0} → (fuel : ℕ) → Grammar C → ArrayLayout → ClausesRead C → List ℕ
-    → Result (ClausesRead C) ScriptFault
-clauses_at zero grammar layout before text = Err Syntax
-clauses_at (suc fuel) grammar layout before text = do
-  read ← clause_at grammar layout before text
-  if is_at_end read.1 then with_clause read.0 else clauses_at fuel grammar layout read.0 (skip_comma read.1)
+-- the clauses and options of a directive, at least one clause
+unfoldable pub clauses_at : {C : Type 0} → Grammar C → ArrayLayout → List ℕ → Result (ClausesRead C) ScriptFault
+clauses_at grammar layout text = do
+  read ← all_clauses_at grammar layout nothing_read text
+  with_clause read.0

@@ -9,8 +9,8 @@ pub mod Items
 pub mod Queues
 pub mod Bytes
 pub mod Grammar
+pub mod Repeating
 pub mod Clauses
-pub mod Checked
 pub mod Kernels
 pub mod Statements
 pub mod Meanings

@@ -1,5 +1,8 @@
 -- What statements and clauses of the code say, without where they lie in memory.
+use Rattle.std.specs.Prelude.{◌≡◌, true, false, List, length, ◌==◌}
+use Rattle.acc_read.specs.declared.kept.Kept.{Kept}
 use Rattle.acc_read.specs.declared.clauses.Clauses.{Clauses}
+use Rattle.acc_read.specs.declared.clauses.Unfinished.{Unfinished}
 use Rattle.acc_read.specs.declared.statements.Statement.{Statement}
 use Rattle.acc_read.specs.declared.statements.Statement.TheVariants as code
 use Rattle.acc_read.specs.Clauses.{ClausesRead}
@@ -21,3 +24,16 @@ meaning_of code.Report = Report
 -- what clauses in memory say
 abbrev pub read_of : {C : Type 0} → Clauses C → ClausesRead C
 read_of clauses = record { items = clauses.items.items; has_option = clauses.has_option; queue = clauses.queue }
+
+-- ---- lists that are being filled
+
+-- what is kept of a list is all of it; or memory was refused for an item of it
+pub record IsKept {A : Type 0} (kept : Kept A) (items : List A) : Type 0 where
+  pub all : kept.is_wanting ≡ false → kept.items.items ≡ items
+  pub some : kept.is_wanting ≡ true → (length items == 0) ≡ false
+
+-- what is kept of clauses and options that were read
+pub record IsRead {C : Type 0} (unfinished : Unfinished C) (read : ClausesRead C) : Type 0 where
+  pub items : IsKept unfinished.items read.items
+  pub has_option : unfinished.has_option ≡ read.has_option
+  pub queue : unfinished.queue ≡ read.queue

@@ -37,16 +37,11 @@ abbrev pub Gives : {X Y : Type 0} → (Y → Bool) → (X → Y) → Result X Tr
 Gives needs view (Ok x) read = read ≡ Ok (view x)
 Gives needs view (Err trouble) read = Meets needs trouble read
 
--- what a function met that holds what it reads is what reading meets, or want of memory at any step of it
-abbrev pub Loses : {Y : Type 0} → Trouble → Result Y ScriptFault → Type 0
-Loses trouble.Memory read = Unit {0}
-Loses (trouble.Line kind) read = read ≡ Err kind
-
--- what a function returned that holds what it reads, seen by a view, is what reading gives, or want of memory at any
--- step of it
-abbrev pub Holds : {X Y : Type 0} → (X → Y) → Result X Trouble → Result Y ScriptFault → Type 0
-Holds view (Ok x) read = read ≡ Ok (view x)
-Holds view (Err trouble) read = Loses trouble read
+-- what a function returned that keeps what it reads, seen by a view, is what reading gives, and that was kept; it is never
+-- want of memory
+abbrev pub Keeps : {X Y Z : Type 0} → (Y → Type 0) → (X → Z) → Result X ScriptFault → Result (Y × Z) ScriptFault → Type 0
+Keeps {X} {Y} kept view (Ok x) read = (y : Y) × (read ≡ Ok (y, view x)) × kept y
+Keeps kept view (Err kind) read = read ≡ Err kind
 
 -- whatever was read needs memory
 abbrev pub always : {Y : Type 0} → Y → Bool

@@ -17,7 +17,7 @@ use Rattle.acc_read.specs.Places.{address_at, last_address_at, last_section_at}
 use Rattle.acc_read.specs.Queues.{last_queue_at}
 use Rattle.acc_read.specs.Bytes.{bytes_said}
 use Rattle.acc_read.specs.Grammar.{region_grammar, enter_grammar, exit_grammar, update_grammar}
-use Rattle.acc_read.specs.Clauses.{nothing_read, clauses_at}
+use Rattle.acc_read.specs.Clauses.{clauses_at}
 use Rattle.acc_read.specs.Kernels.{last_kernel_at}
 
 -- what a line asks for
@@ -70,7 +70,7 @@ array_at layout text = do
 -- `data CLAUSES` (OpenACC 3.3, the data construct)
 unfoldable pub data_at : ArrayLayout → List ℕ → Result Meaning ScriptFault
 data_at layout text = do
-  read ← clauses_at (length text) region_grammar layout nothing_read text
+  read ← clauses_at region_grammar layout text
   Ok (Direct (Enter read.items))
 
 -- the exit from the innermost open region, where one is open
@@ -88,20 +88,20 @@ end_at innermost text = do
 unfoldable pub enter_at : ArrayLayout → List ℕ → Result Meaning ScriptFault
 enter_at layout text = do
   rest ← keyword_at (codes "data") text
-  read ← clauses_at (length rest) enter_grammar layout nothing_read rest
+  read ← clauses_at enter_grammar layout rest
   Ok (Direct (EnterData read.items read.queue))
 
 -- `exit data CLAUSES`, with the options `finalize` and `async` (OpenACC 3.3, the exit data directive)
 unfoldable pub exit_at : ArrayLayout → List ℕ → Result Meaning ScriptFault
 exit_at layout text = do
   rest ← keyword_at (codes "data") text
-  read ← clauses_at (length rest) exit_grammar layout nothing_read rest
+  read ← clauses_at exit_grammar layout rest
   Ok (Direct (ExitData read.items read.has_option read.queue))
 
 -- `update CLAUSES`, with the options `if_present` and `async` (OpenACC 3.3, the update directive)
 unfoldable pub update_at : ArrayLayout → List ℕ → Result Meaning ScriptFault
 update_at layout text = do
-  read ← clauses_at (length text) update_grammar layout nothing_read text
+  read ← clauses_at update_grammar layout text
   Ok (Direct (Update read.items read.has_option read.queue))
 
 -- `wait(N)`, of one queue

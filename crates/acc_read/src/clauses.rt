@@ -1,14 +1,15 @@
 //! The clauses and options of a directive.
 
-ghost use Rattle.std.specs.Prelude.{length};
-ghost use Rattle.acc_read.specs.Reading.{Reads, Holds, Gives, always};
-ghost use Rattle.acc_read.specs.Clauses.{items_at, modifier_at, modified_at, group_at, nothing_read, queued, clause_at, with_clause, clauses_at};
-ghost use Rattle.acc_read.specs.Meanings.{read_of};
+ghost use Rattle.std.specs.Prelude.{List};
+ghost use Rattle.acc_base.specs.declared.items.Item.{Item};
+ghost use Rattle.acc_read.specs.Reading.{Reads, Keeps, Gives, always};
+ghost use Rattle.acc_read.specs.Clauses.{item_at, items_at, modifier_at, modified_at, group_at, ClausesRead, nothing_read, queued, clause_at, all_clauses_at, with_clause, clauses_at};
+ghost use Rattle.acc_read.specs.Meanings.{IsKept, IsRead, read_of};
 
 use crate::arrays::Arrays;
-use crate::checks::clauses_end;
 use crate::grammar::Clause;
 use crate::items::{Kind, item_of, named_at};
+use crate::kept::Kept;
 use crate::queues::queue_at;
 use crate::tokens::{is_at_end, is_mark_next, is_word_before, mark_at, skip_comma, word_at};
 use crate::troubles::Trouble;
@@ -26,28 +27,51 @@ pub struct Clauses<C> {
     pub queue: Option<u64>,
 }
 
+/// The clauses and options of a directive that were read so far.
+#[derive(Drop)]
+struct Unfinished<C> {
+    items: Kept<Item<C>>,
+    has_option: bool,
+    queue: Option<u64>,
+}
+
+/// An item, behind the items before; the text after it.
+#[tactic(auto, unfolding(crate::specs::Clauses::item_at))]
+fn item_at<'a, C: Copy>(
+    kind: Kind,
+    clause: C,
+    arrays: &Arrays,
+    items: &mut Kept<Item<C>>,
+    text: &'a [u8],
+) -> Result<&'a [u8], ScriptFault>
+    ensures { (before : List (Item C)) → IsKept items.old before
+        → Keeps (IsKept items.new) (λ x. x.now) result (item_at kind clause arrays.now before text.now) }
+{
+    let (named, rest) = named_at(kind, arrays, text)?;
+    items.push(item_of(clause, named));
+    Ok(rest)
+}
+
 /// One item or more, separated by commas, behind the items before; the text after them.
-#[tactic(auto, using(crate::proofs::HeldClauses::items_steps))]
 fn items_at<'a, C: Copy>(
     kind: Kind,
     clause: C,
     arrays: &Arrays,
-    items: &mut Vec<Item<C>>,
+    items: &mut Kept<Item<C>>,
     text: &'a [u8],
-) -> Result<&'a [u8], Trouble>
-    ensures { Holds (λ x. (items.new.items, x.now)) result
-        (items_at (length text.now) kind clause arrays.now items.old.items text.now) }
+) -> Result<&'a [u8], ScriptFault>
+    ensures { (before : List (Item C)) → IsKept items.old before
+        → Keeps (IsKept items.new) (λ x. x.now) result (items_at kind clause arrays.now before text.now) }
 {
     let mut rest = text;
     for _ in 0..text.len() {
-        let (named, after) = named_at(kind, arrays, rest)?;
-        items.push(item_of(clause, named))?;
-        if !is_mark_next(b',', after) {
-            return Ok(after);
+        rest = item_at(kind, clause, arrays, items, rest)?;
+        if !is_mark_next(b',', rest) {
+            return Ok(rest);
         }
-        rest = skip_comma(after);
+        rest = skip_comma(rest);
     }
-    Err(Trouble::Line(ScriptFault::Syntax))
+    Err(ScriptFault::Syntax)
 }
 
 /// A clause with the modifier that stands next, before a colon; the text after the colon.
@@ -66,7 +90,7 @@ fn modifier_at<C: Clause>(clause: C, text: &[u8]) -> Result<(C, &[u8]), ScriptFa
 /// A clause with the modifier that stands next, if one does; the text after it. The first word is a modifier exactly
 /// where a colon follows it.
 #[tactic(auto, unfolding(crate::specs::Clauses::modified_at))]
-pub fn modified_at<C: Clause>(clause: C, text: &[u8]) -> Result<(C, &[u8]), ScriptFault>
+fn modified_at<C: Clause>(clause: C, text: &[u8]) -> Result<(C, &[u8]), ScriptFault>
     ensures { Reads (λ x. (x.0, x.1.now)) result (modified_at C.grammar clause text.now) }
 {
     if is_word_before(b':', text) {
@@ -81,26 +105,28 @@ pub fn modified_at<C: Clause>(clause: C, text: &[u8]) -> Result<(C, &[u8]), Scri
 fn group_at<'a, C: Clause>(
     clause: C,
     arrays: &Arrays,
-    items: &mut Vec<Item<C>>,
+    items: &mut Kept<Item<C>>,
     text: &'a [u8],
-) -> Result<&'a [u8], Trouble>
-    ensures { Holds (λ x. (items.new.items, x.now)) result (group_at C.grammar clause arrays.now items.old.items text.now) }
+) -> Result<&'a [u8], ScriptFault>
+    ensures { (before : List (Item C)) → IsKept items.old before
+        → Keeps (IsKept items.new) (λ x. x.now) result (group_at C.grammar clause arrays.now before text.now) }
 {
     let inside = mark_at(b'(', text)?;
     let (modified, inside) = modified_at(clause, inside)?;
     let rest = items_at(modified.lists(), modified, arrays, items, inside)?;
-    Ok(mark_at(b')', rest)?)
+    mark_at(b')', rest)
 }
 
 /// The queue of `async`, which stands once at most; the text after it.
-fn queued<'a, C>(clauses: &mut Clauses<C>, text: &'a [u8]) -> Result<&'a [u8], ScriptFault>
-    ensures { Reads (λ x. (read_of clauses.new, x.now)) result (queued (read_of clauses.old) text.now) }
+fn queued<'a, C>(unfinished: &mut Unfinished<C>, text: &'a [u8]) -> Result<&'a [u8], ScriptFault>
+    ensures { (before : ClausesRead C) → IsRead unfinished.old before
+        → Keeps (IsRead unfinished.new) (λ x. x.now) result (queued before text.now) }
 {
-    if clauses.queue.is_some() {
+    if unfinished.queue.is_some() {
         return Err(ScriptFault::Syntax);
     }
     let (queue, rest) = queue_at(text)?;
-    clauses.queue = Some(queue);
+    unfinished.queue = Some(queue);
     Ok(rest)
 }
 
@@ -108,74 +134,79 @@ fn queued<'a, C>(clauses: &mut Clauses<C>, text: &'a [u8]) -> Result<&'a [u8], S
 #[tactic(auto, unfolding(crate::specs::Clauses::clause_at))]
 fn clause_at<'a, C: Clause>(
     arrays: &Arrays,
-    clauses: &mut Clauses<C>,
+    unfinished: &mut Unfinished<C>,
     text: &'a [u8],
-) -> Result<&'a [u8], Trouble>
-    ensures { Holds (λ x. (read_of clauses.new, x.now)) result (clause_at C.grammar arrays.now (read_of clauses.old) text.now) }
+) -> Result<&'a [u8], ScriptFault>
+    ensures { (before : ClausesRead C) → IsRead unfinished.old before
+        → Keeps (IsRead unfinished.new) (λ x. x.now) result (clause_at C.grammar arrays.now before text.now) }
 {
     let (word, rest) = word_at(text)?;
     if C::is_option(word) {
-        if clauses.has_option {
-            return Err(Trouble::Line(ScriptFault::Syntax));
+        if unfinished.has_option {
+            return Err(ScriptFault::Syntax);
         }
-        clauses.has_option = true;
+        unfinished.has_option = true;
         return Ok(rest);
     }
     if C::is_async(word) {
-        return Ok(queued(clauses, rest)?);
+        return queued(unfinished, rest);
     }
     match C::from_word(word) {
-        None => Err(Trouble::Line(ScriptFault::Syntax)),
-        Some(clause) => group_at(clause, arrays, &mut clauses.items, rest),
+        None => Err(ScriptFault::Syntax),
+        Some(clause) => group_at(clause, arrays, &mut unfinished.items, rest),
     }
 }
 
-/// What was read, if a clause was among it. Its list gives back the places that no item needs.
-fn with_clause<C: Copy>(mut clauses: Clauses<C>) -> Result<Clauses<C>, Trouble>
-    ensures { Holds read_of result (with_clause (read_of clauses)) }
-{
-    if clauses.items.is_empty() {
-        return Err(Trouble::Line(ScriptFault::Syntax));
-    }
-    clauses.items.shrink_to_fit();
-    Ok(clauses)
-}
-
-/// The clauses and options up to the end of the line, at least one clause, held in memory as they are read.
-#[tactic(auto, using(crate::proofs::HeldClauses::clauses_steps))]
-fn held_clauses<C: Clause>(
-    alloc: Global,
+/// The clauses and options up to the end of the line, behind those before; the text after them.
+fn all_clauses_at<'a, C: Clause>(
     arrays: &Arrays,
-    text: &[u8],
-) -> Result<Clauses<C>, Trouble>
-    ensures { Holds read_of result (clauses_at (length text.now) C.grammar arrays.now nothing_read text.now) }
+    unfinished: &mut Unfinished<C>,
+    text: &'a [u8],
+) -> Result<&'a [u8], ScriptFault>
+    ensures { (before : ClausesRead C) → IsRead unfinished.old before
+        → Keeps (IsRead unfinished.new) (λ x. x.now) result (all_clauses_at C.grammar arrays.now before text.now) }
 {
-    let mut clauses = Clauses {
-        items: Vec::new(alloc),
-        has_option: false,
-        queue: None,
-    };
     let mut rest = text;
     for _ in 0..text.len() {
-        rest = clause_at(arrays, &mut clauses, rest)?;
+        rest = clause_at(arrays, unfinished, rest)?;
         if is_at_end(rest) {
-            return with_clause(clauses);
+            return Ok(rest);
         }
         rest = skip_comma(rest);
     }
-    Err(Trouble::Line(ScriptFault::Syntax))
+    Err(ScriptFault::Syntax)
 }
 
-/// The clauses and options up to the end of the line, at least one clause. They are checked before any is held, so want
-/// of memory is told only where they are right.
-#[tactic(auto, using(crate::proofs::CheckedClauses::check_fails, crate::proofs::CheckedClauses::held_gives))]
+/// What was read, if a clause was among it.
+fn with_clause<C: Copy>(unfinished: Unfinished<C>) -> Result<Clauses<C>, Trouble>
+    ensures { (read : ClausesRead C) → IsRead unfinished read → Gives always read_of result (with_clause read) }
+{
+    let items = unfinished.items.finish()?;
+    if items.is_empty() {
+        return Err(Trouble::Line(ScriptFault::Syntax));
+    }
+    Ok(Clauses {
+        items,
+        has_option: unfinished.has_option,
+        queue: unfinished.queue,
+    })
+}
+
+/// The clauses and options up to the end of the line, at least one clause. Want of memory is told once all of them were
+/// read, so that a fault comes first.
+#[tactic(auto, unfolding(crate::specs::Clauses::clauses_at))]
 pub fn clauses_at<C: Clause>(
     alloc: Global,
     arrays: &Arrays,
     text: &[u8],
 ) -> Result<Clauses<C>, Trouble>
-    ensures { Gives always read_of result (clauses_at (length text.now) C.grammar arrays.now nothing_read text.now) }
+    ensures { Gives always read_of result (clauses_at C.grammar arrays.now text.now) }
 {
-    let _seen = clauses_end::<C>(arrays, text)?;
-    held_clauses(alloc, arrays, text)
+    let mut unfinished = Unfinished {
+        items: Kept::new(alloc),
+        has_option: false,
+        queue: None,
+    };
+    let _ = all_clauses_at(arrays, &mut unfinished, text)?;
+    with_clause(unfinished)
 }

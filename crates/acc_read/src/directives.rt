@@ -14,7 +14,7 @@ use acc_base::{Directive, List, ScriptFault};
 use std::alloc::Global;
 
 /// The start of a `data` construct.
-#[tactic(auto, unfolding(crate::specs::Statements::data_at), using(crate::proofs::CheckedClauses::data_wants))]
+#[tactic(auto, unfolding(crate::specs::Statements::data_at), using(crate::proofs::Wanting::data_wants))]
 pub fn data_at(alloc: Global, arrays: &Arrays, text: &[u8]) -> Result<Statement<'static>, Trouble>
     ensures { Gives takes_memory meaning_of result (data_at arrays.now text.now) }
 {
@@ -38,7 +38,7 @@ pub fn end_at(innermost: Option<u64>, text: &[u8]) -> Result<Statement<'static>,
 }
 
 /// The `enter data` directive.
-#[tactic(auto, unfolding(crate::specs::Statements::enter_at), using(crate::proofs::CheckedClauses::enter_wants))]
+#[tactic(auto, unfolding(crate::specs::Statements::enter_at), using(crate::proofs::Wanting::enter_wants))]
 pub fn enter_at(alloc: Global, arrays: &Arrays, text: &[u8]) -> Result<Statement<'static>, Trouble>
     ensures { Gives takes_memory meaning_of result (enter_at arrays.now text.now) }
 {
@@ -51,7 +51,7 @@ pub fn enter_at(alloc: Global, arrays: &Arrays, text: &[u8]) -> Result<Statement
 }
 
 /// The `exit data` directive.
-#[tactic(auto, unfolding(crate::specs::Statements::exit_at), using(crate::proofs::CheckedClauses::exit_wants))]
+#[tactic(auto, unfolding(crate::specs::Statements::exit_at), using(crate::proofs::Wanting::exit_wants))]
 pub fn exit_at(alloc: Global, arrays: &Arrays, text: &[u8]) -> Result<Statement<'static>, Trouble>
     ensures { Gives takes_memory meaning_of result (exit_at arrays.now text.now) }
 {
@@ -65,7 +65,7 @@ pub fn exit_at(alloc: Global, arrays: &Arrays, text: &[u8]) -> Result<Statement<
 }
 
 /// The `update` directive.
-#[tactic(auto, unfolding(crate::specs::Statements::update_at), using(crate::proofs::CheckedClauses::update_wants))]
+#[tactic(auto, unfolding(crate::specs::Statements::update_at), using(crate::proofs::Wanting::update_wants))]
 pub fn update_at(alloc: Global, arrays: &Arrays, text: &[u8]) -> Result<Statement<'static>, Trouble>
     ensures { Gives takes_memory meaning_of result (update_at arrays.now text.now) }
 {

@@ -6,11 +6,11 @@
 #![tactic(auto)]
 
 mod arrays;
-mod checks;
 mod clauses;
 mod directives;
 mod grammar;
 mod items;
+mod kept;
 mod kernels;
 mod lines;
 mod places;

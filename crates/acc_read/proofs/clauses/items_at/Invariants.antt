@@ -1,6 +1,10 @@
-use Rattle.std.proofs.Common.{◌≡◌, ◌-◌, length}
-use Rattle.acc_read.specs.Clauses.{items_at}
+use Rattle.std.proofs.Common.{length}
+use Rattle.acc_read.specs.Tokens.{is_mark_next, comma}
+use Rattle.acc_read.specs.Clauses.{item_at}
+use Rattle.acc_read.specs.Meanings.{IsKept}
+use Rattle.acc_read.proofs.Repeated.{IsLeft}
 use Rattle.acc_read.proofs.clauses.items_at.Given as goal
 
+-- what is left reads, behind what was kept, as all of the text does
 abbrev pub invariant-loop : goal.invariant-loop
-invariant-loop g l = items_at (length l.text - l.counter) l.kind l.clause l.arrays l.items.items l.rest ≡ items_at (length l.text) l.kind l.clause l.arrays l.fn.items.items l.text
+invariant-loop g l = IsLeft (IsKept l.fn.items) (IsKept l.items) (length l.text) l.counter (item_at l.kind l.clause l.arrays) (is_mark_next comma) l.text l.rest

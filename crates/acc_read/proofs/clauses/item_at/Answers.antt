@@ -1,0 +1,11 @@
+use Rattle.std.proofs.Common.{[], ◌∷◌, ◌++◌, refl}
+use Rattle.acc_read.specs.Clauses.{item_at}
+use Rattle.acc_read.proofs.clauses.item_at.Goals as goal
+
+pub returns : goal.returns
+unfolding item_at
+returns g c = λ before h. (
+  before ++ c.item_of.result ∷ [],
+  rw (c.in_ok-named.ensures, c.item_of.ensures) refl,
+  c.push.ensures before h,
+)

@@ -1,0 +1,48 @@
+//! A list that is filled while a line is read.
+
+ghost use Rattle.std.specs.Prelude.{◌≡◌, ◌==◌, ◌∷◌, ◌++◌, [], false, List, length, MatchResult};
+ghost use Rattle.acc_read.specs.Meanings.{IsKept};
+
+use std::alloc::{AllocError, Global};
+
+/// What is kept of the items of a line. Once memory was refused for one of them no more are kept, and the rest of the
+/// line can still be read for its faults.
+#[derive(Drop)]
+pub struct Kept<T> {
+    items: Vec<T>,
+    is_wanting: bool,
+}
+
+impl<T: Copy> Kept<T> {
+    /// No item.
+    pub fn new(alloc: Global) -> Kept<T>
+        ensures { IsKept result [] }
+    {
+        Kept {
+            items: Vec::new(alloc),
+            is_wanting: false,
+        }
+    }
+
+    /// One more item.
+    pub fn push(&mut self, item: T)
+        ensures { (items : List T) → IsKept self.old items → IsKept self.new (items ++ item ∷ []) }
+    {
+        if !self.is_wanting && self.items.push(item).is_err() {
+            self.is_wanting = true;
+        }
+    }
+
+    /// All items, or want of memory for one of them. The list gives back the places that no item needs.
+    pub fn finish(self) -> Result<Vec<T>, AllocError>
+        ensures { (items : List T) → IsKept self items
+            → MatchResult result (λ all. all.items ≡ items) (λ _. (length items == 0) ≡ false) }
+    {
+        if self.is_wanting {
+            return Err(AllocError);
+        }
+        let mut items = self.items;
+        items.shrink_to_fit();
+        Ok(items)
+    }
+}

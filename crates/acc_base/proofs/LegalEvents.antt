@@ -2,21 +2,11 @@
 use Rattle.std.proofs.Common.{ℕ, suc, ◌≡◌, refl, sym, ◌∙◌, ap, subst, true, false, List, [], ◌∷◌, length, Option, Some, None, Result, Ok, arith}
 use Rattle.std.specs.Prelude.{◌==◌, not, take, drop, unwrap_or, option_map, is_none, IsSome}
 use Rattle.std.proofs.lemmas.List.{reverse-reverse}
-use Rattle.acc_base.specs.declared.items.Section.{Section}
-use Rattle.acc_base.specs.declared.mappings.Block.{Block}
-use Rattle.acc_base.specs.declared.mappings.Found.{Found}
-use Rattle.acc_base.specs.declared.mappings.Found.TheVariants.{Empty, Inside, Partly, Absent}
-use Rattle.acc_base.specs.declared.loans.Loan.{Loan}
-use Rattle.acc_base.specs.declared.regions.Holding.{Holding}
-use Rattle.acc_base.specs.declared.transfers.Transfer.{Transfer}
-use Rattle.acc_base.specs.declared.tasks.Task.{Task}
-use Rattle.acc_base.specs.declared.directives.Directive.{Directive}
+use Rattle.acc_base.specs.Words.{Section, Block, Found, Loan, Holding, Transfer, Task, Directive, Did, Event, Fault}
+use Rattle.acc_base.specs.declared.mappings.Found.TheVariants.{Inside}
 use Rattle.acc_base.specs.declared.directives.Directive.TheVariants.{Enter, Exit, EnterData, ExitData, Update, Wait}
 use Rattle.acc_base.specs.declared.directives.Directive.TheVariants as directives
-use Rattle.acc_base.specs.declared.events.Did.{Did}
-use Rattle.acc_base.specs.declared.events.Event.{Event}
 use Rattle.acc_base.specs.declared.events.Event.TheVariants.{HostWritten, Lent, Gathered}
-use Rattle.acc_base.specs.declared.faults.Fault.{Fault}
 use Rattle.acc_base.specs.declared.faults.Fault.TheVariants.{NoLease}
 use Rattle.acc_base.specs.Results.{◌>>=◌, ◌>>◌, refuse_if}
 use Rattle.acc_base.specs.Limits.{Limits}
@@ -61,11 +51,11 @@ judged_all l n (task ∷ tasks) dids s e =
     let rest : AreJudged l (suc n) tasks others.0 (act task first.0 s.records) = subst (AreJudged l (suc n) tasks others.0) (records-act_state task first.0 s) (judged_all l (suc n) tasks others.0 (act_state task first.0 s) others.1) in
     subst (λ ds. AreJudged l n (task ∷ tasks) ds s.records) (ok_same _ _ others.2) (item.step, item.aim, rest)
 
-same_tasks : (xs ys : List Task) → ◌≡◌ {A = Result (List Task) Fault} (Ok xs) (Ok ys) → xs ≡ ys
+pub same_tasks : (xs ys : List Task) → ◌≡◌ {A = Result (List Task) Fault} (Ok xs) (Ok ys) → xs ≡ ys
 same_tasks xs ys e = ok_same _ _ e
 
 -- the tasks of leaving a region are those of what it holds, and it is open
-region_tasks : (number : ℕ) (o : Option (List Holding)) (tasks : List Task) → tasks_of_region number o ≡ Ok tasks → IsSome o × (leave_tasks (unwrap_or o []) ≡ tasks)
+pub region_tasks : (number : ℕ) (o : Option (List Holding)) (tasks : List Task) → tasks_of_region number o ≡ Ok tasks → IsSome o × (leave_tasks (unwrap_or o []) ≡ tasks)
 region_tasks number None tasks e = cc
 region_tasks number (Some holdings) tasks e = (refl, same_tasks _ _ e)
 
@@ -95,11 +85,9 @@ event_legal l (Exit number) s tasks dids e t q judged free h =
     let found : IsSome (holdings_at number s.register.regions) × (leave_tasks (unwrap_or (holdings_at number s.register.regions) []) ≡ tasks) = region_tasks number (holdings_at number s.register.regions) tasks t in
     subst (λ x. IsLegal l x (layout_of s)) (same_event _ _ h)
     (record { names = found.0; judged = subst (λ ds. AreJudged l 0 (leave_tasks (unwrap_or (holdings_at number s.register.regions) [])) ds s.records) (sym (reverse-reverse dids)) (subst (λ ts. AreJudged l 0 ts dids s.records) (sym found.1) judged) })
-event_legal l (EnterData items queue) s tasks dids e t q judged free h = subst (λ x. IsLegal l x (layout_of s)) (same_event _ _ h) (record { names = q; judged = subst (λ ts. AreJudged l 0 ts dids s.records) (sym (same_tasks _ _ t)) judged })
-event_legal l (ExitData items finalize queue) s tasks dids e t q judged free h = subst (λ x. IsLegal l x (layout_of s)) (same_event _ _ h) (record { names = q; judged = subst (λ ts. AreJudged l 0 ts dids s.records) (sym (same_tasks _ _ t)) judged })
-event_legal l (Update items if_present queue) s tasks dids e t q judged free h = subst (λ x. IsLegal l x (layout_of s)) (same_event _ _ h) (record { names = q; judged = subst (λ ts. AreJudged l 0 ts dids s.records) (sym (same_tasks _ _ t)) judged })
 event_legal l (Wait queue) s tasks dids e t q judged free h = subst (λ x. IsLegal l x (layout_of s)) (same_event _ _ h) (record { names = (q, refl, free); judged = tt })
 event_legal l (directives.Step queue) s tasks dids e t q judged free h = step_legal l queue s e free h
+event_legal l _ s tasks dids e t q judged free h = subst (λ x. IsLegal l x (layout_of s)) (same_event _ _ h) (record { names = q; judged = subst (λ ts. AreJudged l 0 ts dids s.records) (sym (same_tasks _ _ t)) judged })
 
 -- the event of a directive, with what its tasks did
 pub record IsMadeBy (l : Limits) (d : Directive) (s : State) (e : Event) : Type 0 where
@@ -120,9 +108,6 @@ made_by l d s e h =
     let free : (none_lent (transfers_in d s.records.queues) s.records.loans ≡ Ok tt) × (Ok (verdict_of d s acted.0) ≡ Ok (Makes e)) = then_ok (none_lent (transfers_in d s.records.queues) s.records.loans) (Ok (verdict_of d s acted.0)) (Makes e) acted.2 in
     let is : verdict_of d s acted.0 ≡ Makes e = ok_same _ _ free.1 in
     record { dids = acted.0; verdict_is = is; legal = event_legal l d s found.0 acted.0 e found.1 known.0 (judged_all l 0 found.0 acted.0 s acted.1) free.0 is }
-
-pub directive_legal : (l : Limits) (d : Directive) (s : State) (e : Event) → directive_verdict l d s ≡ Ok (Makes e) → IsLegal l e (layout_of s)
-directive_legal l d s e h = (made_by l d s e h).legal
 
 -- ---- a write of the host
 
@@ -149,14 +134,12 @@ lend_legal l region section s e h =
     there (Some holdings) e = refl
 
     go : (f : Found) → where_is section s.records.ranges ≡ f → IsSome (holdings_at region s.register.regions) → lend_there f region section s ≡ Ok e → (block : ℕ) × (Lent region section block s.register.serial ≡ e) × IsLegal l e (layout_of s)
-    go Empty at there_is k = cc
     go (Inside block offset) at there_is k =
         let both : (not_lent (Some block) s.records.loans ≡ Ok tt) × (Ok (Lent region section block s.register.serial) ≡ Ok e) = then_ok (not_lent (Some block) s.records.loans) (Ok (Lent region section block s.register.serial)) e k in
         let is : Lent region section block s.register.serial ≡ e = ok_same _ _ both.1 in
         let legal : IsLegal l (Lent region section block s.register.serial) (layout_of s) = record { names = (there_is, ap block_in at, refused_not _ _ both.0, refl); judged = tt } in
         (block, is, subst (λ x. IsLegal l x (layout_of s)) is legal)
-    go Partly at there_is k = cc
-    go Absent at there_is k = cc
+    go _ at there_is k = cc
 
 -- the loan that a lease brings back is there
 returned : (lease : Leased) (o : Option Loan) → is_loan_of lease o ≡ true → option_map (λ (x : Loan). x.serial) o ≡ Some lease.serial

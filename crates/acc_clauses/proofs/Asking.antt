@@ -4,18 +4,9 @@ use Rattle.std.specs.Prelude.{◌==◌, nat_lt, map, reverse, option_map, ⊤, M
 use Rattle.std.proofs.lemmas.Bool.Decides.{nat_tests}
 use Rattle.std.proofs.lemmas.List.{length-map, length-reverse, get_or-map, get_or-reverse}
 use Rattle.std.specs.List.{list_all, list_any, AllByRecursion}
-use Rattle.acc_base.specs.declared.directives.Directive.{Directive}
-use Rattle.acc_base.specs.declared.directives.Directive.TheVariants.{Enter, Exit, EnterData, ExitData, Update, Wait, Step}
-use Rattle.acc_base.specs.declared.items.Item.{Item}
-use Rattle.acc_base.specs.declared.items.RegionClause.{RegionClause}
-use Rattle.acc_base.specs.declared.items.EnterClause.{EnterClause}
-use Rattle.acc_base.specs.declared.items.ExitClause.{ExitClause}
-use Rattle.acc_base.specs.declared.items.UpdateClause.{UpdateClause}
-use Rattle.acc_base.specs.declared.regions.Holding.{Holding}
-use Rattle.acc_base.specs.declared.tasks.Task.{Task}
+use Rattle.acc_clauses.specs.Words.{Directive, Item, RegionClause, EnterClause, ExitClause, UpdateClause, Holding, Task, Did, Fault}
+use Rattle.acc_base.specs.declared.directives.Directive.TheVariants.{Enter, Exit, EnterData, ExitData, Update}
 use Rattle.acc_base.specs.declared.tasks.Task.TheVariants.{Leave}
-use Rattle.acc_base.specs.declared.events.Did.{Did}
-use Rattle.acc_base.specs.declared.faults.Fault.{Fault}
 use Rattle.acc_base.specs.Results.{◌>>=◌, ◌>>◌}
 use Rattle.acc_base.specs.Limits.{Limits}
 use Rattle.acc_base.specs.Records.{State}
@@ -123,8 +114,7 @@ tasks_fit (Exit number) g tasks all few e = go (holdings_at number g.regions) re
 tasks_fit (EnterData items queue) g tasks all few e = rw (← ok_same (map (enter_data_task queue) items) tasks e) (record { few = omega (arith, few, length-map items (enter_data_task queue)); unmixed = unmixed_enter_data queue items; queues = queue_of_enter queue items })
 tasks_fit (ExitData items finalize queue) g tasks all few e = rw (← ok_same (map (exit_task finalize queue) items) tasks e) (record { few = omega (arith, few, length-map items (exit_task finalize queue)); unmixed = unmixed_exit finalize queue items; queues = queue_of_exit finalize queue items })
 tasks_fit (Update items if_present queue) g tasks all few e = rw (← ok_same (map (move_task if_present queue) items) tasks e) (record { few = omega (arith, few, length-map items (move_task if_present queue)); unmixed = unmixed_move if_present queue items; queues = queue_of_move if_present queue items })
-tasks_fit (Wait queue) g tasks all few e = rw (← ok_same [] tasks e) (record { few = omega arith; unmixed = inl refl; queues = tt })
-tasks_fit (Step queue) g tasks all few e = rw (← ok_same [] tasks e) (record { few = omega arith; unmixed = inl refl; queues = tt })
+tasks_fit _ g tasks all few e = rw (← ok_same [] tasks e) (record { few = omega arith; unmixed = inl refl; queues = tt })
 
 -- so are those that a directive asks
 pub asked_fit : (d : Directive) (g : Register) (tasks : List Task) → AllByRecursion HasFewHoldings g.regions → asked_of d g ≡ Ok tasks → AreTasksOf d tasks

@@ -1,31 +1,22 @@
 -- Before the tasks of a plan each that leaves a region finds what it held, and the register is ready for the plan's head; after them the store is sound.
-use Rattle.std.proofs.Common.{ℕ, ◌≡◌, ◌+◌, ◌<◌, ◌≤◌, ◌^◌, refl, sym, ◌∙◌, ap, subst, Bool, true, false, cond, List, [], ◌∷◌, ◌++◌, map, length, Option, Some, None, Result, Ok, arith}
+use Rattle.std.proofs.Common.{ℕ, ◌≡◌, ◌+◌, ◌<◌, ◌≤◌, ◌^◌, refl, sym, ◌∙◌, ap, subst, Bool, true, false, cond, List, [], ◌∷◌, ◌++◌, map, length, Option, Some, None, Ok, arith}
 use Rattle.std.specs.Prelude.{◌==◌, reverse, option_map, IsSome, not}
 use Rattle.std.specs.List.{AllByRecursion}
 use Rattle.std.proofs.lemmas.Bool.Decides.{nat_tests}
 use Rattle.std.proofs.lemmas.Grind.{reverse_onto}
 use Rattle.std.proofs.lemmas.List.{length-append}
 use Rattle.acc_base.specs.Loans.{none_lent}
-use Rattle.acc_base.specs.declared.items.Item.{Item}
-use Rattle.acc_base.specs.declared.items.RegionClause.{RegionClause}
-use Rattle.acc_base.specs.declared.directives.Directive.{Directive}
+use Rattle.acc_clauses.specs.Words.{Item, RegionClause, Directive, Holding, Task, Did, Event}
 use Rattle.acc_base.specs.declared.directives.Directive.TheVariants as directives
-use Rattle.acc_base.specs.declared.regions.Holding.{Holding}
-use Rattle.acc_base.specs.declared.tasks.Task.{Task}
-use Rattle.acc_base.specs.declared.tasks.Task.TheVariants.{Enter, Leave, Exit, Move}
-use Rattle.acc_base.specs.declared.events.Did.{Did}
-use Rattle.acc_base.specs.declared.faults.Fault.{Fault}
+use Rattle.acc_base.specs.declared.tasks.Task.TheVariants.{Enter, Leave}
 use Rattle.acc_base.specs.Limits.{Limits, IsWithinBounds}
 use Rattle.acc_base.specs.Records.{Records, State, layout_of}
 use Rattle.acc_base.specs.Register.{Region, Register, holdings_at, region_at, count_held, is_counted_block}
 use Rattle.acc_base.specs.Ranges.{range_of}
 use Rattle.acc_base.specs.Blocks.{used_bytes}
-use Rattle.acc_base.specs.Steps.{act, act_all, released}
-use Rattle.acc_base.specs.Waits.{records_made, records_stepped, records_drained}
-use Rattle.acc_base.specs.Queues.{head_of}
-use Rattle.acc_base.specs.declared.transfers.Transfer.{Transfer}
-use Rattle.acc_base.specs.declared.events.Event.{Event}
-use Rattle.acc_base.specs.Walk.{enter_task, enter_data_task, exit_task, move_task, leave_tasks, holdings_of, block_counted, pointer_attached}
+use Rattle.acc_base.specs.Steps.{act, act_all}
+use Rattle.acc_base.specs.Waits.{records_drained}
+use Rattle.acc_base.specs.Walk.{enter_task, enter_data_task, exit_task, move_task, leave_tasks}
 use Rattle.acc_base.specs.Acting.{act_all_state}
 use Rattle.acc_base.specs.Judge.{tasks_of, tasks_of_region, Verdict, Makes, Idle, verdict_of}
 use Rattle.acc_base.specs.History.{AreJudged}
@@ -34,15 +25,17 @@ use Rattle.acc_base.proofs.Walked.{records-act_all_state, register-act_all_state
 use Rattle.acc_base.proofs.Sound.{ranges-drained}
 use Rattle.acc_base.proofs.AllTasks.{sum_by-reverse}
 use Rattle.acc_base.proofs.Registers.{IsNumbered, AreFew, next_region, opened_regions, opened_few, closed_few, closed_held}
+use Rattle.acc_base.proofs.Births.{births-drained}
+use Rattle.acc_base.proofs.LegalEvents.{same_tasks}
 use Rattle.acc_clauses.specs.declared.plans.Head.{Head}
-use Rattle.acc_clauses.specs.declared.plans.Head.TheVariants.{Plain, Entry, Leaving, Waiting, Stepping}
+use Rattle.acc_clauses.specs.declared.plans.Head.TheVariants.{Entry, Waiting, Stepping}
 use Rattle.acc_clauses.specs.Planned.{Planned, IsPlannedOn, head_planned, holding_by, holdings_by, held_by, register_by, register_planned, steps_by, finished, transfers_by}
 use Rattle.acc_clauses.specs.Contents.{Contents}
 use Rattle.acc_clauses.specs.Acts.{IsKnown, AreKnown, HasRegionRoom, CanFinish}
 use Rattle.acc_clauses.specs.Stored.{IsHeldWithin, IsHoldingWithin, AreHoldingsWithin, IsStoreSound}
 use Rattle.acc_clauses.proofs.Holding.{leaves_known}
 use Rattle.acc_clauses.proofs.Entering.{regions_within, entered_within}
-use Rattle.acc_clauses.proofs.Events.{IsEventOf, event_of_plan, planned_legal, idle_plan}
+use Rattle.acc_clauses.proofs.Events.{IsEventOf, event_of_plan, planned_legal, idle_plan, held_asked}
 use Rattle.acc_clauses.proofs.Finishing.{IsPlain, plain_verdict, after_plan, event_sound}
 
 -- ---- the tasks of a directive
@@ -50,12 +43,8 @@ use Rattle.acc_clauses.proofs.Finishing.{IsPlain, plain_verdict, after_plan, eve
 -- tasks of which none leaves a region
 known_map : {X : Type 0} (f : X → Task) (xs : List X) (dids : List Did) (w : Records) → ((x : X) (v : Records) → IsKnown v (f x)) → AreKnown (map f xs) dids w
 known_map f [] [] w h = tt
-known_map f [] (d ∷ ds) w h = tt
-known_map f (x ∷ xs) [] w h = tt
 known_map f (x ∷ xs) (d ∷ ds) w h = (h x w, known_map f xs ds (act (f x) d w) h)
-
-tasks_same : (xs ys : List Task) → ◌≡◌ {A = Result (List Task) Fault} (Ok xs) (Ok ys) → xs ≡ ys
-tasks_same xs ys e = cc
+known_map f _ _ w h = tt
 
 -- the region that is left is open, and its holdings give the tasks
 record IsOpen (number : ℕ) (g : Register) (tasks : List Task) : Type 0 where
@@ -68,7 +57,7 @@ open_region number g tasks e = go (holdings_at number g.regions) refl e
   where
     go : (o : Option (List Holding)) → holdings_at number g.regions ≡ o → tasks_of_region number o ≡ Ok tasks → IsOpen number g tasks
     go None p q = cc
-    go (Some hs) p q = record { holdings = hs; open_is = p; tasks_are = tasks_same (leave_tasks hs) tasks q }
+    go (Some hs) p q = record { holdings = hs; open_is = p; tasks_are = same_tasks (leave_tasks hs) tasks q }
 
 -- ---- what a region holds
 
@@ -87,7 +76,7 @@ all_reverse P (x ∷ xs) h = subst (AllByRecursion P) (sym (reverse_onto xs x []
 
 -- each task of a plan finds what it undoes
 pub plan_known : (d : Directive) (c : Contents) (p : Planned) → IsWithinBounds c.limits → IsStoreSound c → IsPlannedOn c.limits d (layout_of c.state) p → AreKnown p.tasks p.dids c.state.records
-plan_known (directives.Enter items) c p bounds h planned = subst (λ ts. AreKnown ts p.dids c.state.records) (tasks_same (map enter_task items) p.tasks planned.tasks) (known_map enter_task items p.dids c.state.records (λ x v. tt))
+plan_known (directives.Enter items) c p bounds h planned = subst (λ ts. AreKnown ts p.dids c.state.records) (same_tasks (map enter_task items) p.tasks planned.tasks) (known_map enter_task items p.dids c.state.records (λ x v. tt))
 plan_known (directives.Exit number) c p bounds h planned =
     let g : Register = c.state.register in
     let o : IsOpen number g p.tasks = open_region number g p.tasks planned.tasks in
@@ -97,11 +86,10 @@ plan_known (directives.Exit number) c p bounds h planned =
     subst (λ ts. AreKnown ts p.dids c.state.records) o.tasks_are (leaves_known c.limits 0 (reverse o.holdings) p.dids c.state.records bounds h.sound.layout.records judged within (λ b.
     let turned : count_held b (reverse o.holdings) ≡ count_held b o.holdings = sum_by-reverse (λ (x : Holding). cond (is_counted_block b x.block) 1 0) o.holdings in
     omega (arith, turned, closed_held b number o.holdings g numbered o.open_is, h.sound.layout.held b)))
-plan_known (directives.EnterData items queue) c p bounds h planned = subst (λ ts. AreKnown ts p.dids c.state.records) (tasks_same (map (enter_data_task queue) items) p.tasks planned.tasks) (known_map (enter_data_task queue) items p.dids c.state.records (λ x v. tt))
-plan_known (directives.ExitData items finalize queue) c p bounds h planned = subst (λ ts. AreKnown ts p.dids c.state.records) (tasks_same (map (exit_task finalize queue) items) p.tasks planned.tasks) (known_map (exit_task finalize queue) items p.dids c.state.records (λ x v. tt))
-plan_known (directives.Update items if_present queue) c p bounds h planned = subst (λ ts. AreKnown ts p.dids c.state.records) (tasks_same (map (move_task if_present queue) items) p.tasks planned.tasks) (known_map (move_task if_present queue) items p.dids c.state.records (λ x v. tt))
-plan_known (directives.Wait queue) c p bounds h planned = subst (λ ts. AreKnown ts p.dids c.state.records) (tasks_same [] p.tasks planned.tasks) (known_map enter_task [] p.dids c.state.records (λ x v. tt))
-plan_known (directives.Step queue) c p bounds h planned = subst (λ ts. AreKnown ts p.dids c.state.records) (tasks_same [] p.tasks planned.tasks) (known_map enter_task [] p.dids c.state.records (λ x v. tt))
+plan_known (directives.EnterData items queue) c p bounds h planned = subst (λ ts. AreKnown ts p.dids c.state.records) (same_tasks (map (enter_data_task queue) items) p.tasks planned.tasks) (known_map (enter_data_task queue) items p.dids c.state.records (λ x v. tt))
+plan_known (directives.ExitData items finalize queue) c p bounds h planned = subst (λ ts. AreKnown ts p.dids c.state.records) (same_tasks (map (exit_task finalize queue) items) p.tasks planned.tasks) (known_map (exit_task finalize queue) items p.dids c.state.records (λ x v. tt))
+plan_known (directives.Update items if_present queue) c p bounds h planned = subst (λ ts. AreKnown ts p.dids c.state.records) (same_tasks (map (move_task if_present queue) items) p.tasks planned.tasks) (known_map (move_task if_present queue) items p.dids c.state.records (λ x v. tt))
+plan_known _ c p bounds h planned = subst (λ ts. AreKnown ts p.dids c.state.records) (same_tasks [] p.tasks planned.tasks) (known_map enter_task [] p.dids c.state.records (λ x v. tt))
 
 -- ---- the register
 
@@ -140,40 +128,26 @@ plan_can (directives.Enter items) c f p h planned next room acted same regions h
 plan_can (directives.Exit number) c f p h planned next room acted same regions holdings =
     let o : IsOpen number c.state.register p.tasks = open_region number c.state.register p.tasks planned.tasks in
     subst (λ (x : Head). CanFinish x (length p.tasks) f) (sym planned.head) (rw same (some_region (region_at number c.state.register.regions) o.holdings o.open_is))
-plan_can (directives.EnterData items queue) c f p h planned next room acted same regions holdings = subst (λ (x : Head). CanFinish x (length p.tasks) f) (sym planned.head) tt
-plan_can (directives.ExitData items finalize queue) c f p h planned next room acted same regions holdings = subst (λ (x : Head). CanFinish x (length p.tasks) f) (sym planned.head) tt
-plan_can (directives.Update items if_present queue) c f p h planned next room acted same regions holdings = subst (λ (x : Head). CanFinish x (length p.tasks) f) (sym planned.head) tt
-plan_can (directives.Wait queue) c f p h planned next room acted same regions holdings = subst (λ (x : Head). CanFinish x (length p.tasks) f) (sym planned.head) (free_then (Waiting queue) c f p planned.head (tasks_same [] p.tasks planned.tasks) acted planned.free)
-plan_can (directives.Step queue) c f p h planned next room acted same regions holdings = subst (λ (x : Head). CanFinish x (length p.tasks) f) (sym planned.head) (free_then (Stepping queue) c f p planned.head (tasks_same [] p.tasks planned.tasks) acted planned.free)
-
--- what an entry holds is read of its tasks
-held_asked : (items : List (Item RegionClause)) (dids : List Did) → holdings_of items dids ≡ holdings_by (map enter_task items) dids
-held_asked [] dids = refl
-held_asked (item ∷ items) [] = refl
-held_asked (item ∷ items) (did ∷ dids) = ap (λ (hs : List Holding). record { item = item; block = block_counted did.step; aim = pointer_attached did.aim } ∷ hs) (held_asked items dids)
+plan_can (directives.Wait queue) c f p h planned next room acted same regions holdings = subst (λ (x : Head). CanFinish x (length p.tasks) f) (sym planned.head) (free_then (Waiting queue) c f p planned.head (same_tasks [] p.tasks planned.tasks) acted planned.free)
+plan_can (directives.Step queue) c f p h planned next room acted same regions holdings = subst (λ (x : Head). CanFinish x (length p.tasks) f) (sym planned.head) (free_then (Stepping queue) c f p planned.head (same_tasks [] p.tasks planned.tasks) acted planned.free)
+plan_can _ c f p h planned next room acted same regions holdings = subst (λ (x : Head). CanFinish x (length p.tasks) f) (sym planned.head) tt
 
 one_holding : (task : Task) (did : Did) → length (holding_by task did) ≤ 1
 one_holding (Enter counter item queue) did = omega arith
-one_holding (Leave holding) did = omega arith
-one_holding (Exit finalize item queue) did = omega arith
-one_holding (Move if_present item queue) did = omega arith
+one_holding _ did = omega arith
 
 -- no more is held than there are tasks
 holdings_few : (tasks : List Task) (dids : List Did) → length (holdings_by tasks dids) ≤ length tasks
 holdings_few [] [] = omega arith
-holdings_few [] (d ∷ ds) = omega arith
-holdings_few (t ∷ ts) [] = omega arith
 holdings_few (t ∷ ts) (d ∷ ds) =
     let later : length (holdings_by ts ds) ≤ length ts = holdings_few ts ds in
     let both : length (holding_by t d ++ holdings_by ts ds) ≡ length (holding_by t d) + length (holdings_by ts ds) = length-append (holding_by t d) (holdings_by ts ds) in
     omega (arith, later, both, one_holding t d)
+holdings_few _ _ = omega arith
 
 pub held_few : (head : Head) (tasks : List Task) (dids : List Did) → length (held_by head tasks dids) ≤ length tasks
-held_few Plain tasks dids = omega arith
 held_few Entry tasks dids = holdings_few tasks dids
-held_few (Leaving number) tasks dids = omega arith
-held_few (Waiting queue) tasks dids = omega arith
-held_few (Stepping queue) tasks dids = omega arith
+held_few _ tasks dids = omega arith
 
 numbered_of : (c : Contents) → IsStoreSound c → IsNumbered c.state.register
 numbered_of c h = record { first = h.sound.layout.register.first; rising = h.sound.layout.register.rising; known = h.sound.layout.register.known }
@@ -184,11 +158,7 @@ few_after (directives.Enter items) c p h planned =
     let short : length (holdings_by p.tasks p.dids) ≤ 64 = omega (arith, holdings_few p.tasks p.dids, planned.few) in
     subst (λ (x : Head). AreFew (register_by x (holdings_by p.tasks p.dids) c.state.register)) (sym planned.head) (opened_few (holdings_by p.tasks p.dids) c.state.register (numbered_of c h) h.sound.layout.register.few short)
 few_after (directives.Exit number) c p h planned = subst (λ (x : Head). AreFew (register_by x (holdings_by p.tasks p.dids) c.state.register)) (sym planned.head) (closed_few number c.state.register h.sound.layout.register.few)
-few_after (directives.EnterData items queue) c p h planned = subst (λ (x : Head). AreFew (register_by x (holdings_by p.tasks p.dids) c.state.register)) (sym planned.head) h.sound.layout.register.few
-few_after (directives.ExitData items finalize queue) c p h planned = subst (λ (x : Head). AreFew (register_by x (holdings_by p.tasks p.dids) c.state.register)) (sym planned.head) h.sound.layout.register.few
-few_after (directives.Update items if_present queue) c p h planned = subst (λ (x : Head). AreFew (register_by x (holdings_by p.tasks p.dids) c.state.register)) (sym planned.head) h.sound.layout.register.few
-few_after (directives.Wait queue) c p h planned = subst (λ (x : Head). AreFew (register_by x (holdings_by p.tasks p.dids) c.state.register)) (sym planned.head) h.sound.layout.register.few
-few_after (directives.Step queue) c p h planned = subst (λ (x : Head). AreFew (register_by x (holdings_by p.tasks p.dids) c.state.register)) (sym planned.head) h.sound.layout.register.few
+few_after _ c p h planned = subst (λ (x : Head). AreFew (register_by x (holdings_by p.tasks p.dids) c.state.register)) (sym planned.head) h.sound.layout.register.few
 
 -- what open regions hold lies within, with the register of a head
 abbrev IsWithinBy : Records → Planned → Register → Head → Type 0
@@ -219,32 +189,15 @@ within_after d c p bounds h planned = go d planned.head planned.tasks
 
     go : (d : Directive) → p.head ≡ head_planned d → tasks_of d g ≡ Ok p.tasks → AreHoldingsWithin v (register_planned p g).regions
     go (directives.Enter items) x e = subst (IsWithinBy v p g) (sym x) (subst (λ rs. AreHoldingsWithin v rs) (sym (opened_regions (holdings_by p.tasks p.dids) g (numbered_of c h)))
-        (AllByRecursion-append (λ (r : Region). AllByRecursion (IsHoldingWithin v) r.holdings) g.regions (next_region (holdings_by p.tasks p.dids) g ∷ []) kept (entered items (tasks_same (map enter_task items) p.tasks e), tt)))
+        (AllByRecursion-append (λ (r : Region). AllByRecursion (IsHoldingWithin v) r.holdings) g.regions (next_region (holdings_by p.tasks p.dids) g ∷ []) kept (entered items (same_tasks (map enter_task items) p.tasks e), tt)))
     go (directives.Exit number) x e = subst (IsWithinBy v p g) (sym x) (AllByRecursion-filter (λ (r : Region). AllByRecursion (IsHoldingWithin v) r.holdings) (λ r. not (r.number == number)) g.regions kept)
-    go (directives.EnterData items queue) x e = subst (IsWithinBy v p g) (sym x) kept
-    go (directives.ExitData items finalize queue) x e = subst (IsWithinBy v p g) (sym x) kept
-    go (directives.Update items if_present queue) x e = subst (IsWithinBy v p g) (sym x) kept
-    go (directives.Wait queue) x e = subst (IsWithinBy v p g) (sym x) kept
-    go (directives.Step queue) x e = subst (IsWithinBy v p g) (sym x) kept
+    go _ x e = subst (IsWithinBy v p g) (sym x) kept
 
 -- what is done to the parts is what the plan says
 pub all_finished : (p : Planned) (ts : List Task) (ds : List Did) (s t u : State) → ts ≡ p.tasks → ds ≡ p.dids → t ≡ act_all_state ts ds s → u ≡ finished p t → u ≡ finished p (act_all_state p.tasks p.dids s)
 all_finished p ts ds s t u a b e f = f ∙ ap (finished p) (e ∙ ap (λ x. act_all_state x ds s) a ∙ ap (λ x. act_all_state p.tasks x s) b)
 
 -- ---- queued transfers leave what is held
-
-births-stepped : (q : ℕ) (w : Records) → (records_stepped q w).births ≡ w.births
-unfolding records_stepped released
-births-stepped q w = go (head_of q w.queues)
-  where
-    go : (o : Option Transfer) → (records_made q o w).births ≡ w.births
-    go None = refl
-    go (Some t) = refl
-
-births-drained : (qs : List ℕ) (w : Records) → (records_drained qs w).births ≡ w.births
-unfolding records_drained
-births-drained [] w = refl
-births-drained (q ∷ qs) w = births-drained qs (records_stepped q w) ∙ births-stepped q w
 
 within_drained : (qs : List ℕ) (w : Records) (regions : List Region) → AreHoldingsWithin w regions → AreHoldingsWithin (records_drained qs w) regions
 within_drained qs w regions h =

@@ -2,15 +2,8 @@
 use Rattle.std.proofs.Common.{ℕ, ◌≡◌, refl, sym, ap, subst, ◌∙◌, List, [], ◌∷◌, Option, Some, None, Ok}
 use Rattle.std.specs.Prelude.{map, unwrap_or, option_map, IsSome}
 use Rattle.std.proofs.lemmas.List.{reverse-reverse}
-use Rattle.acc_base.specs.declared.directives.Directive.{Directive}
-use Rattle.acc_base.specs.declared.directives.Directive.TheVariants.{Enter, Exit, EnterData, ExitData, Update, Wait, Step}
-use Rattle.acc_base.specs.declared.items.Item.{Item}
-use Rattle.acc_base.specs.declared.items.RegionClause.{RegionClause}
-use Rattle.acc_base.specs.declared.regions.Holding.{Holding}
-use Rattle.acc_base.specs.declared.tasks.Task.{Task}
-use Rattle.acc_base.specs.declared.transfers.Transfer.{Transfer}
-use Rattle.acc_base.specs.declared.events.Did.{Did}
-use Rattle.acc_base.specs.declared.events.Event.{Event}
+use Rattle.acc_clauses.specs.Words.{Directive, Item, RegionClause, Task, Transfer, Did, Event}
+use Rattle.acc_base.specs.declared.directives.Directive.TheVariants.{Enter, Exit, Wait, Step}
 use Rattle.acc_base.specs.Limits.{Limits}
 use Rattle.acc_base.specs.Records.{Records, State, layout_of}
 use Rattle.acc_base.specs.Register.{holdings_at, opened}
@@ -19,9 +12,10 @@ use Rattle.acc_base.specs.Loans.{none_lent}
 use Rattle.acc_base.specs.Waits.{state_made, stepped, drained, steps_of}
 use Rattle.acc_base.specs.Walk.{enter_task, leave_tasks, asked_in, done_in, stepped_in, holdings_of, register_after, block_counted, pointer_attached}
 use Rattle.acc_base.specs.Acting.{act_all_state, host_after}
-use Rattle.acc_base.specs.Judge.{tasks_of_region, Makes, Idle, step_verdict, verdict_of}
+use Rattle.acc_base.specs.Judge.{Makes, Idle, step_verdict, verdict_of}
 use Rattle.acc_base.specs.History.{AreJudged, NamesRight, IsLegal}
 use Rattle.acc_base.proofs.Results.{ok_same}
+use Rattle.acc_base.proofs.LegalEvents.{same_event, region_tasks}
 use Rattle.acc_clauses.specs.Planned.{Planned, IsPlannedOn, head_planned, transfers_by, holdings_by, register_planned, steps_by, finished}
 use Rattle.acc_clauses.proofs.Emptying.{first_free}
 
@@ -36,16 +30,10 @@ pub record IsEventOf (l : Limits) (p : Planned) (s : State) (e : Event) : Type 0
 
 -- ---- the tasks
 
--- the region that is left is open, and its tasks undo what it holds
-left_asked : (number : ℕ) (o : Option (List Holding)) (ts : List Task) → tasks_of_region number o ≡ Ok ts → IsSome o × (leave_tasks (unwrap_or o []) ≡ ts)
-left_asked number None ts e = absurd cc
-left_asked number (Some holdings) ts e = (refl, ok_same _ _ e)
-
 -- what an entry holds is read of its tasks
-held_asked : (items : List (Item RegionClause)) (dids : List Did) → holdings_of items dids ≡ holdings_by (map enter_task items) dids
-held_asked [] dids = refl
-held_asked (item ∷ items) [] = refl
+pub held_asked : (items : List (Item RegionClause)) (dids : List Did) → holdings_of items dids ≡ holdings_by (map enter_task items) dids
 held_asked (item ∷ items) (did ∷ dids) = ap (λ hs. record { item = item; block = block_counted did.step; aim = pointer_attached did.aim } ∷ hs) (held_asked items dids)
+held_asked _ _ = refl
 
 -- no task did nothing
 none_done : (l : Limits) (n : ℕ) (dids : List Did) (w : Records) → AreJudged l n [] dids w → dids ≡ []
@@ -62,9 +50,6 @@ still l d s p h none = none_acted p.tasks p.dids s (sym none) (none_done l 0 p.d
 
 -- ---- the event
 
-event_same : (a b : Event) → Makes a ≡ Makes b → a ≡ b
-event_same a b e = cc
-
 known_queue : (l : Limits) (d : Directive) (s : State) (p : Planned) (queue : Option ℕ) → IsPlannedOn l d (layout_of s) p → p.queue ≡ queue → queue_named queue ≡ Ok tt
 known_queue l d s p queue h same = subst (λ o. queue_named o ≡ Ok tt) same h.known
 
@@ -75,7 +60,7 @@ transfers_free l d s p h = subst (λ k. none_lent (transfers_by k s.records.queu
 -- the first transfer of a queue is made
 step_event : (l : Limits) (queue : ℕ) (s : State) (p : Planned) (e : Event) → IsPlannedOn l (Step queue) (layout_of s) p → (o : Option Transfer) → head_of queue s.records.queues ≡ o → step_verdict queue o ≡ Makes e → IsEventOf l p s e
 step_event l queue s p e h None first made = cc
-step_event l queue s p e h (Some t) first made = subst (IsEventOf l p s) (event_same _ _ made) (record {
+step_event l queue s p e h (Some t) first made = subst (IsEventOf l p s) (same_event _ _ made) (record {
   asked = ok_same _ _ h.tasks;
   done = sym (none_done l 0 p.dids s.records (subst (λ ts. AreJudged l 0 ts p.dids s.records) (sym (ok_same _ _ h.tasks)) h.judged));
   steps = rw h.head refl;
@@ -87,7 +72,7 @@ step_event l queue s p e h (Some t) first made = subst (IsEventOf l p s) (event_
 pub event_of_plan : (l : Limits) (d : Directive) (s : State) (p : Planned) (e : Event) → IsPlannedOn l d (layout_of s) p → verdict_of d s p.dids ≡ Makes e → IsEventOf l p s e
 event_of_plan l (Enter items) s p e h made =
     let same : map enter_task items ≡ p.tasks = ok_same _ _ h.tasks in
-    subst (IsEventOf l p s) (event_same _ _ made) (record {
+    subst (IsEventOf l p s) (same_event _ _ made) (record {
       asked = same;
       done = refl;
       steps = rw h.head refl;
@@ -96,35 +81,11 @@ event_of_plan l (Enter items) s p e h made =
       host = λ bytes. refl;
     })
 event_of_plan l (Exit number) s p e h made =
-    let left : IsSome (holdings_at number s.register.regions) × (leave_tasks (unwrap_or (holdings_at number s.register.regions) []) ≡ p.tasks) = left_asked number (holdings_at number s.register.regions) p.tasks h.tasks in
-    subst (IsEventOf l p s) (event_same _ _ made) (record { asked = left.1; done = reverse-reverse p.dids; steps = rw h.head refl; register = rw h.head refl; names = left.0; host = λ bytes. refl })
-event_of_plan l (EnterData items queue) s p e h made = subst (IsEventOf l p s) (event_same _ _ made) (record {
-  asked = ok_same _ _ h.tasks;
-  done = refl;
-  steps = rw h.head refl;
-  register = rw h.head refl;
-  names = known_queue l (EnterData items queue) s p queue h h.queue;
-  host = λ bytes. refl;
-})
-event_of_plan l (ExitData items finalize queue) s p e h made = subst (IsEventOf l p s) (event_same _ _ made) (record {
-  asked = ok_same _ _ h.tasks;
-  done = refl;
-  steps = rw h.head refl;
-  register = rw h.head refl;
-  names = known_queue l (ExitData items finalize queue) s p queue h h.queue;
-  host = λ bytes. refl;
-})
-event_of_plan l (Update items if_present queue) s p e h made = subst (IsEventOf l p s) (event_same _ _ made) (record {
-  asked = ok_same _ _ h.tasks;
-  done = refl;
-  steps = rw h.head refl;
-  register = rw h.head refl;
-  names = known_queue l (Update items if_present queue) s p queue h h.queue;
-  host = λ bytes. refl;
-})
+    let left : IsSome (holdings_at number s.register.regions) × (leave_tasks (unwrap_or (holdings_at number s.register.regions) []) ≡ p.tasks) = region_tasks number (holdings_at number s.register.regions) p.tasks h.tasks in
+    subst (IsEventOf l p s) (same_event _ _ made) (record { asked = left.1; done = reverse-reverse p.dids; steps = rw h.head refl; register = rw h.head refl; names = left.0; host = λ bytes. refl })
 event_of_plan l (Wait queue) s p e h made =
     let none : [] ≡ p.tasks = ok_same _ _ h.tasks in
-    subst (IsEventOf l p s) (event_same _ _ made) (record {
+    subst (IsEventOf l p s) (same_event _ _ made) (record {
       asked = none;
       done = sym (none_done l 0 p.dids s.records (subst (λ ts. AreJudged l 0 ts p.dids s.records) (sym none) h.judged));
       steps = rw h.head (ap (λ (t : State). steps_of queue t.records.queues) (sym (still l (Wait queue) s p h none)));
@@ -133,6 +94,14 @@ event_of_plan l (Wait queue) s p e h made =
       host = λ bytes. refl;
     })
 event_of_plan l (Step queue) s p e h made = step_event l queue s p e h (head_of queue s.records.queues) refl made
+event_of_plan l d s p e h made = subst (IsEventOf l p s) (same_event _ _ made) (record {
+  asked = ok_same _ _ h.tasks;
+  done = refl;
+  steps = rw h.head refl;
+  register = rw h.head refl;
+  names = known_queue l d s p _ h h.queue;
+  host = λ bytes. refl;
+})
 
 pub planned_asked : (l : Limits) (d : Directive) (s : State) (p : Planned) (e : Event) → IsPlannedOn l d (layout_of s) p → verdict_of d s p.dids ≡ Makes e → asked_in e s.register ≡ p.tasks
 planned_asked l d s p e h made = (event_of_plan l d s p e h made).asked
@@ -156,10 +125,5 @@ step_idle l queue s p h (Some t) first idle = cc
 
 -- a plan without an event leaves the state
 pub idle_plan : (l : Limits) (d : Directive) (s : State) (p : Planned) → IsPlannedOn l d (layout_of s) p → verdict_of d s p.dids ≡ Idle → finished p (act_all_state p.tasks p.dids s) ≡ s
-idle_plan l (Enter items) s p h idle = cc
-idle_plan l (Exit number) s p h idle = cc
-idle_plan l (EnterData items queue) s p h idle = cc
-idle_plan l (ExitData items finalize queue) s p h idle = cc
-idle_plan l (Update items if_present queue) s p h idle = cc
-idle_plan l (Wait queue) s p h idle = cc
 idle_plan l (Step queue) s p h idle = step_idle l queue s p h (head_of queue s.records.queues) refl idle
+idle_plan l _ s p h idle = cc

@@ -1,7 +1,6 @@
 -- What a plan does of the register and the queues, head by head.
 use Rattle.std.proofs.Common.{ℕ, ◌≡◌, refl, sym, ◌∙◌, ap, List, [], ◌∷◌, Option, Some, None}
-use Rattle.acc_base.specs.declared.regions.Holding.{Holding}
-use Rattle.acc_base.specs.declared.transfers.Transfer.{Transfer}
+use Rattle.acc_clauses.specs.Words.{Holding, Transfer}
 use Rattle.acc_base.specs.Records.{State}
 use Rattle.acc_base.specs.Register.{Register, opened, closed}
 use Rattle.acc_base.specs.Queues.{head_of}

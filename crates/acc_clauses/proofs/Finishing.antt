@@ -1,11 +1,8 @@
 -- What a planned directive makes of a store: the state after its event, and a store that is sound.
 use Rattle.std.specs.Prelude.{Option, Some, None}
 use Rattle.std.proofs.Common.{◌≡◌, ◌≤◌, refl, sym, ◌∙◌, ap, subst, ℕ, List, [], arith}
-use Rattle.acc_base.specs.declared.directives.Directive.{Directive}
+use Rattle.acc_clauses.specs.Words.{Directive, Transfer, Did, Event}
 use Rattle.acc_base.specs.declared.directives.Directive.TheVariants as directives
-use Rattle.acc_base.specs.declared.transfers.Transfer.{Transfer}
-use Rattle.acc_base.specs.declared.events.Did.{Did}
-use Rattle.acc_base.specs.declared.events.Event.{Event}
 use Rattle.acc_base.specs.Limits.{Limits, IsWithinBounds}
 use Rattle.acc_base.specs.Records.{Records, Layout, Memory, State, layout_of}
 use Rattle.acc_base.specs.Register.{Register}
@@ -42,17 +39,12 @@ plain_same x e h plain = let is : x ≡ e = cc in subst IsPlain is plain
 -- the event of each directive is one
 pub plain_verdict : (d : Directive) (s : State) (dids : List Did) (e : Event) → verdict_of d s dids ≡ Makes e → IsPlain e
 unfolding loaned
-plain_verdict (directives.Enter items) s dids e h = plain_same _ e h (record { records = λ w. refl; memories = λ ms. refl; brought = λ w. tt })
-plain_verdict (directives.Exit number) s dids e h = plain_same _ e h (record { records = λ w. refl; memories = λ ms. refl; brought = λ w. tt })
-plain_verdict (directives.EnterData items queue) s dids e h = plain_same _ e h (record { records = λ w. refl; memories = λ ms. refl; brought = λ w. tt })
-plain_verdict (directives.ExitData items finalize queue) s dids e h = plain_same _ e h (record { records = λ w. refl; memories = λ ms. refl; brought = λ w. tt })
-plain_verdict (directives.Update items if_present queue) s dids e h = plain_same _ e h (record { records = λ w. refl; memories = λ ms. refl; brought = λ w. tt })
-plain_verdict (directives.Wait queue) s dids e h = plain_same _ e h (record { records = λ w. refl; memories = λ ms. refl; brought = λ w. tt })
 plain_verdict (directives.Step queue) s dids e h = go (head_of queue s.records.queues) h
   where
     go : (o : Option Transfer) → step_verdict queue o ≡ Makes e → IsPlain e
     go None made = absurd cc
     go (Some t) made = plain_same _ e made (record { records = λ w. refl; memories = λ ms. refl; brought = λ w. tt })
+plain_verdict _ s dids e h = plain_same _ e h (record { records = λ w. refl; memories = λ ms. refl; brought = λ w. tt })
 
 -- what an event without bytes makes of a state, once its steps and its register are known
 by_parts : (e : Event) (a b : State) (x y : Register) → a ≡ b → x ≡ y → ((bytes : List ℕ) → host_after e [] bytes ≡ bytes) → IsPlain e

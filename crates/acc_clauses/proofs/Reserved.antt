@@ -4,13 +4,9 @@ use Rattle.std.specs.Prelude.{◌==◌, nat_le, map, reverse}
 use Rattle.std.specs.List.{AllByRecursion}
 use Rattle.std.proofs.lemmas.Bool.Decides.{nat_tests}
 use Rattle.std.proofs.lemmas.List.{length-map}
-use Rattle.acc_base.specs.declared.directives.Directive.{Directive}
+use Rattle.acc_clauses.specs.Words.{Directive, Holding, Task, Did, Step}
 use Rattle.acc_base.specs.declared.directives.Directive.TheVariants as directives
-use Rattle.acc_base.specs.declared.regions.Holding.{Holding}
-use Rattle.acc_base.specs.declared.tasks.Task.{Task}
 use Rattle.acc_base.specs.declared.tasks.Task.TheVariants.{Leave}
-use Rattle.acc_base.specs.declared.events.Did.{Did}
-use Rattle.acc_base.specs.declared.events.Step.{Step}
 use Rattle.acc_base.specs.declared.transfers.TheConstants.{QUEUE_COUNT}
 use Rattle.acc_base.specs.Limits.{Limits}
 use Rattle.acc_base.specs.Records.{Layout}
@@ -58,12 +54,11 @@ none_by q task step queue same other = rw (same, other) refl
 -- nothing is put into a queue that the tasks do not name
 none_in : (q : ℕ) (queue : Option ℕ) (tasks : List Task) (dids : List Did) → AreOfQueue queue tasks → is_queue q queue ≡ false → puts_in q tasks dids ≡ 0
 none_in q queue [] [] h other = refl
-none_in q queue [] (d ∷ ds) h other = refl
-none_in q queue (t ∷ ts) [] h other = refl
 none_in q queue (t ∷ ts) (d ∷ ds) h other =
     let first : puts_by q t d.step ≡ 0 = none_by q t d.step queue h.0 other in
     let rest : puts_in q ts ds ≡ 0 = none_in q queue ts ds h.1 other in
     omega (arith, first, rest)
+none_in q queue _ _ h other = refl
 
 planned_queue : (l : Limits) (d : Directive) (lay : Layout) (p : Planned) → IsPlannedOn l d lay p → AreOfQueue p.queue p.tasks
 planned_queue l d lay p h = subst (λ o. AreOfQueue o p.tasks) (sym h.queue) (tasks_queue d lay.register p.tasks h.tasks)

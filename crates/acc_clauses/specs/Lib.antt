@@ -1,3 +1,4 @@
+pub mod Words
 pub mod Asked
 pub mod Contents
 pub mod Overlays

@@ -39,13 +39,12 @@ forgotten block xs first behind p q = go xs first behind p.passed p.failed q.pas
   where
     go : (ys : List Attachment) (i j : ℕ) → AllByRecursion (λ y. nat_lt y.block block ≡ true) (take i ys) → AllByRecursion (λ y. nat_lt y.block block ≡ false) (drop i ys) → AllByRecursion (λ y. nat_le y.block block ≡ true) (take j ys) → AllByRecursion (λ y. nat_le y.block block ≡ false) (drop j ys) → take i ys ++ drop j ys ≡ without_attachments block ys
     go [] zero zero f f' g g' = refl
-    go [] zero (suc j) f f' g g' = refl
     go [] (suc i) zero f f' g g' = refl
-    go [] (suc i) (suc j) f f' g g' = refl
     go (y ∷ ys) zero zero f f' g g' = let over = g'.0 in let t : (y.block == block) ≡ false = grind (arith, nat_tests) in rw t (ap (λ zs. y ∷ zs) (go ys zero zero tt f'.1 tt g'.1))
     go (y ∷ ys) zero (suc j) f f' g g' = let least = f'.0 in let most = g.0 in let t : (y.block == block) ≡ true = grind (arith, nat_tests) in rw t (go ys zero j tt f'.1 g.1 g')
     go (y ∷ ys) (suc i) zero f f' g g' = let under = f.0 in let over = g'.0 in absurd (grind (arith, nat_tests))
     go (y ∷ ys) (suc i) (suc j) f f' g g' = let under = f.0 in let t : (y.block == block) ≡ false = grind (arith, nat_tests) in rw t (ap (λ zs. y ∷ zs) (go ys i j f.1 f' g.1 g'))
+    go [] _ _ f f' g g' = refl
 
 -- the elements from one place on move down to another, and the list ends behind them
 pub moved_down : (xs : List Attachment) (n first behind : ℕ) → n ≡ length xs → first ≤ behind → behind ≤ n → take (n - (behind - first)) (copy_within xs behind n first) ≡ take first xs ++ drop behind xs

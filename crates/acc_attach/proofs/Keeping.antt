@@ -1,14 +1,8 @@
 -- What holds of all attachment counters holds after each change of them.
-use Rattle.std.proofs.Common.{ℕ, ◌≡◌, ◌<◌, ◌≤◌, refl, Bool, true, false, List, None, Ok, arith}
-use Rattle.std.specs.Prelude.{◌==◌, nat_le, find, IsOk}
-use Rattle.std.proofs.lemmas.Bool.Decides.{nat_tests}
+use Rattle.std.proofs.Common.{ℕ, ◌≡◌, ◌≤◌, List, None}
+use Rattle.std.specs.Prelude.{find}
 use Rattle.acc_base.specs.declared.attachments.Attachment.{Attachment}
-use Rattle.acc_base.specs.declared.attachments.Aim.{Aim}
-use Rattle.acc_base.specs.declared.attachments.Aim.TheVariants as aims
-use Rattle.acc_base.specs.declared.faults.Fault.{Fault}
-use Rattle.acc_base.specs.declared.faults.Fault.TheVariants.{CounterFull}
-use Rattle.acc_base.specs.Results.{◌>>◌, refuse_if}
-use Rattle.acc_base.specs.Attachments.{is_of, count_at, with_count, without_attachments, attach}
+use Rattle.acc_base.specs.Attachments.{is_of, count_at, with_count, without_attachments}
 use Rattle.acc_base.proofs.Attached.{none_at, count_at-most, rising-with_count, counted-with_count, rising-without, within-without}
 use Rattle.acc_attach.specs.Attached.{AreAttached}
 
@@ -37,14 +31,3 @@ zero_none most block pointer xs h e = none_at most block pointer xs h.counted e
 -- a counter is not above the limit
 pub count_limit : (most block pointer : ℕ) (xs : List Attachment) → AreAttached most xs → count_at block pointer xs ≤ most
 count_limit most block pointer xs h = count_at-most most block pointer xs h.counted
-
--- a counter that an attachment may raise is below the limit
-pub below_limit : (most n block pointer target now : ℕ) (xs : List Attachment) → IsOk (attach most n block pointer target now xs) → (count_at block pointer xs ≡ 0 → ⊥) → now ≡ target → count_at block pointer xs < most
-below_limit most n block pointer target now xs ok some same =
-    let s : (count_at block pointer xs == 0) ≡ false = grind (arith, nat_tests, some) in
-    let t : (now == target) ≡ true = grind (arith, nat_tests) in
-    go (nat_le most (count_at block pointer xs)) refl (rw (s, t) at ok)
-  where
-    go : (b : Bool) → nat_le most (count_at block pointer xs) ≡ b → IsOk {T = Aim} {E = Fault} (refuse_if b (CounterFull n) >> Ok (aims.Again pointer block)) → count_at block pointer xs < most
-    go true e k = cc
-    go false e k = grind (arith, nat_tests)

@@ -51,10 +51,9 @@ pub at_or_behind : (block pointer : ℕ) (a : Attachment) → is_below block poi
 at_or_behind block pointer a e = go (nat_lt a.block block) refl (a.block == block) refl (nat_lt a.pointer pointer) refl e
   where
     go : (s : Bool) → nat_lt a.block block ≡ s → (t : Bool) → (a.block == block) ≡ t → (u : Bool) → nat_lt a.pointer pointer ≡ u → (s || (t && u)) ≡ false → IsAtOrBehind block pointer a
-    go true f t g u h k = cc
-    go false f true g true h k = cc
     go false f true g false h k = inr (equal _ _ g, grind (arith, nat_tests))
     go false f false g u h k = inl (grind (arith, nat_tests))
+    go _ f _ g _ h k = cc
 
 -- a counter behind one of a later block is of a later block
 later_block : (block : ℕ) (a b : Attachment) → block < a.block → IsBefore a b → (b.block == block) ≡ false
@@ -208,8 +207,7 @@ not_skipped_below block address a (inr h) = go (a.block == block) (nat_le a.poin
 
     go : (s t : Bool) → (s && (t && nat_lt address (a.pointer + 8))) ≡ false
     go true true = short
-    go true false = refl
-    go false t = refl
+    go _ _ = refl
 
 -- from seven bytes below on, it is where the pointer does not begin behind the address
 skips_test : (block address : ℕ) (a : Attachment) → IsAtOrBehind block (address - 7) a → skips block address a ≡ (a.block == block && nat_le a.pointer address)
@@ -221,8 +219,7 @@ skips_test block address a (inr h) = go (a.block == block) (nat_le a.pointer add
 
     go : (s t : Bool) → (s && (t && nat_lt address (a.pointer + 8))) ≡ (s && t)
     go true true = long
-    go true false = refl
-    go false t = refl
+    go _ _ = refl
 
 -- where the first from seven bytes below on does not cover it, no later one does
 not_skipped_behind : (block address : ℕ) (a b : Attachment) → IsAtOrBehind block (address - 7) a → skips block address a ≡ false → IsBefore a b → skips block address b ≡ false
@@ -275,10 +272,9 @@ same_test : (a b : ℕ) → (a == b) ≡ (b == a)
 same_test a b = go (a == b) refl (b == a) refl
   where
     go : (s : Bool) → (a == b) ≡ s → (t : Bool) → (b == a) ≡ t → s ≡ t
-    go true e true f = refl
     go true e false f = absurd (grind (arith, nat_tests))
     go false e true f = absurd (grind (arith, nat_tests))
-    go false e false f = refl
+    go _ e _ f = refl
 
 -- a counter that does not stand before a pointer and is not its own stands behind it
 test_behind : (new x : Attachment) → is_below new.block new.pointer x ≡ false → is_of new.block new.pointer x ≡ false → is_before new x ≡ true

@@ -1,17 +1,12 @@
 -- What an accepted call finds: a ticket, places in the trace and the register, and a layout in which its event is legal.
 use Rattle.std.proofs.Common.{ℕ, ◌≡◌, ◌<◌, ◌≤◌, subst, false, List, [], length, Option, Some, None, Result, Ok, arith}
-use Rattle.std.specs.Prelude.{nat_le, nat_lt, ⊤}
+use Rattle.std.specs.Prelude.{nat_lt, ⊤}
 use Rattle.std.proofs.lemmas.Bool.Decides.{nat_tests}
-use Rattle.acc_base.specs.declared.transfers.Transfer.{Transfer}
-use Rattle.acc_base.specs.declared.directives.Directive.{Directive}
+use Rattle.acc_base.specs.Words.{Transfer, Directive, Call, Did, Event, Fault}
 use Rattle.acc_base.specs.declared.directives.Directive.TheVariants.{Enter, Exit, EnterData, ExitData, Update, Wait}
 use Rattle.acc_base.specs.declared.directives.Directive.TheVariants as directives
-use Rattle.acc_base.specs.declared.calls.Call.{Call}
 use Rattle.acc_base.specs.declared.calls.Call.TheVariants.{Do, HostWrite, Lend, Gather}
-use Rattle.acc_base.specs.declared.events.Did.{Did}
-use Rattle.acc_base.specs.declared.events.Event.{Event}
-use Rattle.acc_base.specs.declared.events.Event.TheVariants.{Entered, Left, EnteredData, ExitedData, Updated, Waited, Stepped, HostWritten, Lent, Gathered}
-use Rattle.acc_base.specs.declared.faults.Fault.{Fault}
+use Rattle.acc_base.specs.declared.events.Event.TheVariants.{Entered, HostWritten, Lent}
 use Rattle.acc_base.specs.Results.{◌>>=◌, ◌>>◌}
 use Rattle.acc_base.specs.Records.{Records, State, layout_of}
 use Rattle.acc_base.specs.Loans.{Leased}
@@ -21,22 +16,14 @@ use Rattle.acc_base.specs.Calls.{World, judge, ticket, allowance, trace_room, by
 use Rattle.acc_base.specs.Judge.{Verdict, Makes}
 use Rattle.acc_base.specs.History.{IsLegal}
 use Rattle.acc_base.specs.Accounts.{AreRecordsSound}
-use Rattle.acc_base.proofs.Results.{bind_ok, then_ok, refused_not}
+use Rattle.acc_base.proofs.Results.{bind_ok, then_ok, refused_not, below_most}
 use Rattle.acc_base.proofs.Memories.{AreBrought}
 use Rattle.acc_base.proofs.LegalEvents.{same_event, IsMadeBy, made_by, host_write_legal, lend_legal, IsGathered, gather_legal}
 
 -- an entry names at most 64 items, and finds fewer open regions than the limit says
 abbrev pub IsEntryAllowed : ℕ → ℕ → Event → Type 0
 IsEntryAllowed most regions (Entered number items did) = (length items ≤ 64) × (regions < most)
-IsEntryAllowed most regions (Left number did) = ⊤
-IsEntryAllowed most regions (EnteredData items queue did) = ⊤
-IsEntryAllowed most regions (ExitedData items finalize queue did) = ⊤
-IsEntryAllowed most regions (Updated items if_present queue did) = ⊤
-IsEntryAllowed most regions (Waited queue count) = ⊤
-IsEntryAllowed most regions (Stepped queue block) = ⊤
-IsEntryAllowed most regions (HostWritten addr len) = ⊤
-IsEntryAllowed most regions (Lent region section block serial) = ⊤
-IsEntryAllowed most regions (Gathered serial block) = ⊤
+IsEntryAllowed most regions _ = ⊤
 
 -- what an accepted call's event finds: a ticket, places in the trace and the register, and a layout in which it is legal; and the bytes that it brings back are as many as the block has
 pub record IsAccepted (w : World) (brought : List ℕ) (e : Event) : Type 0 where
@@ -46,25 +33,18 @@ pub record IsAccepted (w : World) (brought : List ℕ) (e : Event) : Type 0 wher
   pub legal : IsLegal w.limits e (layout_of w.state)
   pub fits : AreBrought e brought w.state.records
 
-below_limit : (most n : ℕ) → nat_le most n ≡ false → n < most
-below_limit most n e = grind (arith, nat_tests)
-
 at_most : (most n : ℕ) → nat_lt most n ≡ false → n ≤ most
 at_most most n e = grind (arith, nat_tests)
 
 -- a directive finds a place in the register where it needs one
 some_room : (w : World) (d : Directive) (dids : List Did) (e : Event) → allowance w d ≡ Ok tt → few_items d ≡ Ok tt → verdict_of d w.state dids ≡ Makes e → IsEntryAllowed w.limits.regions (open_regions w.state) e
-some_room w (Enter items) dids e a f h = subst (IsEntryAllowed w.limits.regions (open_regions w.state)) (same_event _ _ h) (at_most 64 (length items) (refused_not _ _ f), below_limit w.limits.regions (open_regions w.state) (refused_not _ _ a))
-some_room w (Exit number) dids e a f h = subst (IsEntryAllowed w.limits.regions (open_regions w.state)) (same_event _ _ h) tt
-some_room w (EnterData items queue) dids e a f h = subst (IsEntryAllowed w.limits.regions (open_regions w.state)) (same_event _ _ h) tt
-some_room w (ExitData items finalize queue) dids e a f h = subst (IsEntryAllowed w.limits.regions (open_regions w.state)) (same_event _ _ h) tt
-some_room w (Update items if_present queue) dids e a f h = subst (IsEntryAllowed w.limits.regions (open_regions w.state)) (same_event _ _ h) tt
-some_room w (Wait queue) dids e a f h = subst (IsEntryAllowed w.limits.regions (open_regions w.state)) (same_event _ _ h) tt
+some_room w (Enter items) dids e a f h = subst (IsEntryAllowed w.limits.regions (open_regions w.state)) (same_event _ _ h) (at_most 64 (length items) (refused_not _ _ f), below_most w.limits.regions (open_regions w.state) (refused_not _ _ a))
 some_room w (directives.Step queue) dids e a f h = go (head_of queue w.state.records.queues) h
   where
     go : (o : Option Transfer) → step_verdict queue o ≡ Makes e → IsEntryAllowed w.limits.regions (open_regions w.state) e
     go None made = cc
     go (Some t) made = subst (IsEntryAllowed w.limits.regions (open_regions w.state)) (same_event _ _ made) tt
+some_room w _ dids e a f h = subst (IsEntryAllowed w.limits.regions (open_regions w.state)) (same_event _ _ h) tt
 
 made_same : (x e : Event) → ◌≡◌ {A = Result Verdict Fault} (Ok (Makes x)) (Ok (Makes e)) → x ≡ e
 made_same x e h = cc
@@ -80,24 +60,19 @@ made r e h =
 
 -- the events of directives bring no bytes back
 no_bytes : (d : Directive) (s : State) (dids : List Did) (e : Event) (brought : List ℕ) (w : Records) → verdict_of d s dids ≡ Makes e → AreBrought e brought w
-no_bytes (Enter items) s dids e brought w h = subst (λ x. AreBrought x brought w) (same_event _ _ h) tt
-no_bytes (Exit number) s dids e brought w h = subst (λ x. AreBrought x brought w) (same_event _ _ h) tt
-no_bytes (EnterData items queue) s dids e brought w h = subst (λ x. AreBrought x brought w) (same_event _ _ h) tt
-no_bytes (ExitData items finalize queue) s dids e brought w h = subst (λ x. AreBrought x brought w) (same_event _ _ h) tt
-no_bytes (Update items if_present queue) s dids e brought w h = subst (λ x. AreBrought x brought w) (same_event _ _ h) tt
-no_bytes (Wait queue) s dids e brought w h = subst (λ x. AreBrought x brought w) (same_event _ _ h) tt
 no_bytes (directives.Step queue) s dids e brought w h = go (head_of queue s.records.queues) h
   where
     go : (o : Option Transfer) → step_verdict queue o ≡ Makes e → AreBrought e brought w
     go None made = cc
     go (Some t) made = subst (λ x. AreBrought x brought w) (same_event _ _ made) tt
+no_bytes _ s dids e brought w h = subst (λ x. AreBrought x brought w) (same_event _ _ h) tt
 
 -- a call with a ticket and a place in the trace, whose judgement is the event's
 admitted : (w : World) (r : Result Event Fault) (e : Event) → (ticket w >> (trace_room w >> makes r)) ≡ Ok (Makes e) → (event_count w.history < w.limits.tickets) × (length w.history.trace < w.limits.trace_cap) × (r ≡ Ok e)
 admitted w r e h =
     let first : (ticket w ≡ Ok tt) × ((trace_room w >> makes r) ≡ Ok (Makes e)) = then_ok (ticket w) (trace_room w >> makes r) (Makes e) h in
     let second : (trace_room w ≡ Ok tt) × (makes r ≡ Ok (Makes e)) = then_ok (trace_room w) (makes r) (Makes e) first.1 in
-    (below_limit w.limits.tickets (event_count w.history) (refused_not _ _ first.0), below_limit w.limits.trace_cap (length w.history.trace) (refused_not _ _ second.0), made r e second.1)
+    (below_most w.limits.tickets (event_count w.history) (refused_not _ _ first.0), below_most w.limits.trace_cap (length w.history.trace) (refused_not _ _ second.0), made r e second.1)
 
 -- a call that is judged to make an event is accepted
 pub accepted : (w : World) (call : Call Leased) (e : Event) → AreRecordsSound w.limits w.state.records → judge w call ≡ Ok (Makes e) → IsAccepted w (bytes_brought call) e
@@ -110,8 +85,8 @@ accepted w (Do d) e sound h =
     let fourth : (trace_room w ≡ Ok tt) × (last ≡ Ok (Makes e)) = then_ok (trace_room w) last (Makes e) third.1 in
     let by : IsMadeBy w.limits d w.state e = made_by w.limits d w.state e fourth.1 in
     record {
-      tickets = below_limit w.limits.tickets (event_count w.history) (refused_not _ _ first.0);
-      trace = below_limit w.limits.trace_cap (length w.history.trace) (refused_not _ _ fourth.0);
+      tickets = below_most w.limits.tickets (event_count w.history) (refused_not _ _ first.0);
+      trace = below_most w.limits.trace_cap (length w.history.trace) (refused_not _ _ fourth.0);
       room = some_room w d by.dids e second.0 third.0 by.verdict_is;
       legal = by.legal;
       fits = no_bytes d w.state by.dids e [] w.state.records by.verdict_is;

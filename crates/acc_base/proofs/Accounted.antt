@@ -2,10 +2,8 @@
 use Rattle.std.proofs.Common.{ℕ, ◌≡◌, ◌+◌, ◌≤◌, refl, sym, ◌∙◌, ap, subst, List, [], ◌∷◌, ◌++◌, length, Option, Some, Ok, arith, length-append}
 use Rattle.std.specs.Prelude.{unwrap_or, option_map}
 use Rattle.std.specs.List.{AllByRecursion}
-use Rattle.acc_base.specs.declared.mappings.Range.{Range}
-use Rattle.acc_base.specs.declared.calls.Call.{Call}
-use Rattle.acc_base.specs.declared.events.Event.{Event}
-use Rattle.acc_base.specs.declared.events.Event.TheVariants.{Entered, Left, EnteredData, ExitedData, Updated, Waited, Stepped, HostWritten, Lent, Gathered}
+use Rattle.acc_base.specs.Words.{Range, Call, Event}
+use Rattle.acc_base.specs.declared.events.Event.TheVariants.{Entered, Left}
 use Rattle.acc_base.specs.Limits.{Limits, IsWithinBounds}
 use Rattle.acc_base.specs.Records.{Layout, State, layout_of, new_layout}
 use Rattle.acc_base.specs.Register.{Register}
@@ -57,27 +55,13 @@ is_numbered g h = record { first = h.first; rising = h.rising; known = h.known }
 few_after : (most regions : ℕ) (e : Event) (g : Register) → IsRegisterSound g → IsEntryAllowed most regions e → AreFew (register_after e g)
 few_after most regions (Entered number items did) g h room = opened_few (holdings_of items did) g (is_numbered g h) h.few (omega (arith, holdings_short items did, room.0))
 few_after most regions (Left number did) g h room = closed_few number g h.few
-few_after most regions (EnteredData items queue did) g h room = h.few
-few_after most regions (ExitedData items finalize queue did) g h room = h.few
-few_after most regions (Updated items if_present queue did) g h room = h.few
-few_after most regions (Waited queue count) g h room = h.few
-few_after most regions (Stepped queue block) g h room = h.few
-few_after most regions (HostWritten addr len) g h room = h.few
-few_after most regions (Lent region section block serial) g h room = h.few
-few_after most regions (Gathered serial block) g h room = h.few
+few_after most regions _ g h room = h.few
 
 -- and there are no more regions than the limit says
 regions_after : (most : ℕ) (e : Event) (g : Register) → IsRegisterSound g → IsEntryAllowed most (length g.regions) e → length g.regions ≤ most → length (register_after e g).regions ≤ most
 regions_after most (Entered number items did) g h room le = omega (arith, opened_count (holdings_of items did) g (is_numbered g h), room.1)
 regions_after most (Left number did) g h room le = omega (arith, closed_count number g)
-regions_after most (EnteredData items queue did) g h room le = le
-regions_after most (ExitedData items finalize queue did) g h room le = le
-regions_after most (Updated items if_present queue did) g h room le = le
-regions_after most (Waited queue count) g h room le = le
-regions_after most (Stepped queue block) g h room le = le
-regions_after most (HostWritten addr len) g h room le = le
-regions_after most (Lent region section block serial) g h room le = le
-regions_after most (Gathered serial block) g h room le = le
+regions_after most _ g h room le = le
 
 -- the register after an event
 register-after : (e : Event) (brought : List ℕ) (s : State) → (after e brought s).register ≡ register_after e s.register

@@ -2,23 +2,11 @@
 use Rattle.std.proofs.Common.{ℕ, ◌≡◌, ◌+◌, ◌-◌, ◌≤◌, refl, sym, ◌∙◌, ap, subst, Bool, true, false, cond, List, [], ◌∷◌, Option, Some, None, arith}
 use Rattle.std.specs.Prelude.{◌==◌, IsSome}
 use Rattle.std.specs.List.{AllByRecursion}
-use Rattle.acc_base.specs.declared.mappings.Range.{Range}
-use Rattle.acc_base.specs.declared.mappings.Block.{Block}
-use Rattle.acc_base.specs.declared.mappings.Found.{Found}
-use Rattle.acc_base.specs.declared.mappings.Found.TheVariants.{Empty, Inside, Partly, Absent}
-use Rattle.acc_base.specs.declared.attachments.Attachment.{Attachment}
-use Rattle.acc_base.specs.declared.attachments.Aim.{Aim}
+use Rattle.acc_base.specs.Words.{Range, Block, Found, Attachment, Aim, Item, ExitClause, UpdateClause, Counter, Holding, Task, Step, Did}
+use Rattle.acc_base.specs.declared.mappings.Found.TheVariants.{Inside}
 use Rattle.acc_base.specs.declared.attachments.Aim.TheVariants as aims
-use Rattle.acc_base.specs.declared.items.Item.{Item}
-use Rattle.acc_base.specs.declared.items.ExitClause.{ExitClause}
-use Rattle.acc_base.specs.declared.items.UpdateClause.{UpdateClause}
-use Rattle.acc_base.specs.declared.mappings.Counter.{Counter}
-use Rattle.acc_base.specs.declared.regions.Holding.{Holding}
-use Rattle.acc_base.specs.declared.tasks.Task.{Task}
 use Rattle.acc_base.specs.declared.tasks.Task.TheVariants.{Enter, Leave, Exit, Move}
-use Rattle.acc_base.specs.declared.events.Step.{Step}
 use Rattle.acc_base.specs.declared.events.Step.TheVariants.{Nothing, Counted, Born, Dropped, Moved}
-use Rattle.acc_base.specs.declared.events.Did.{Did}
 use Rattle.acc_base.specs.Limits.{Limits, IsWithinBounds}
 use Rattle.acc_base.specs.Ranges.{where_is, counter_of}
 use Rattle.acc_base.specs.Blocks.{block_at}
@@ -44,14 +32,12 @@ mapped_there : (l : Limits) (w : Records) (pointer block : ℕ) → AreRecordsSo
 mapped_there l w pointer block h e = go (where_is (pointer_at pointer) w.ranges) refl e
   where
     go : (f : Found) → where_is (pointer_at pointer) w.ranges ≡ f → block_in f ≡ Some block → IsSome (block_at block w.blocks)
-    go Empty is k = cc
     go (Inside b offset) is k =
         let same : b ≡ block = cc in
         let found : (r : Range) × IsInsideOf (pointer_at pointer) w.ranges b offset r = inside_says (pointer_at pointer) w.ranges b offset is in
         let mapped : IsMapped w.blocks found.0 × _ = found_has (IsMapped w.blocks) _ w.ranges found.0 h.one_block_each.mapped found.1.around in
         rw (← same, ← found.1.block_is, mapped.0.1) refl
-    go Partly is k = cc
-    go Absent is k = cc
+    go _ is k = cc
 
 -- the block of each attachment counter is there
 abbrev AreThere : List Block → List Attachment → Type 0
@@ -96,9 +82,8 @@ detach_block : (immediate : Bool) (block pointer k : ℕ) (xs : List Attachment)
 detach_block immediate block pointer k xs e = go (count_at block pointer xs == 0) immediate e
   where
     go : (b i : Bool) → block_aimed (cond b aims.None (cond i (aims.Cleared pointer block) (aims.Less pointer block))) ≡ Some k → block ≡ k
-    go true i h = cc
     go false true h = cc
-    go false false h = cc
+    go _ _ h = cc
 
 -- after a detachment the counters are sound
 pub detach_sound : (l : Limits) (immediate : Bool) (block pointer : ℕ) (w : Records) → AreRecordsSound l w → IsSome (block_at block w.blocks) → AreRecordsSound l (records_aimed (detach immediate block pointer w.attached) w)
@@ -151,8 +136,7 @@ pub legal_attach_sound : (l : Limits) (named : Option ℕ) (aim : Aim) (w : Reco
 legal_attach_sound l named aims.None w bounds h legal = none_sound l w h
 legal_attach_sound l named (aims.New pointer block target) w bounds h legal = counted_sound l block pointer 1 w h bounds.counter_max.0 (mapped_there l w pointer block h legal.1)
 legal_attach_sound l named (aims.Again pointer block) w bounds h legal = counted_sound l block pointer (count_at block pointer w.attached + 1) w h (omega (arith, legal.4)) (mapped_there l w pointer block h legal.1)
-legal_attach_sound l named (aims.Less pointer block) w bounds h legal = absurd legal
-legal_attach_sound l named (aims.Cleared pointer block) w bounds h legal = absurd legal
+legal_attach_sound l named _ w bounds h legal = absurd legal
 
 -- an exit detaches before its step
 pub leave_sound : (l : Limits) (holding : Holding) (did : Did) (w : Records) → AreRecordsSound l w → IsAimLegal l (Leave holding) did w → AreRecordsSound l (records_aimed did.aim w)
@@ -173,8 +157,7 @@ pub attach_block : (l : Limits) (named : Option ℕ) (aim : Aim) (w : Records) �
 attach_block l named aims.None w h legal k e = cc
 attach_block l named (aims.New pointer block target) w h legal k e = let is : block ≡ k = cc in subst (λ b. IsSome (block_at b w.blocks)) is (mapped_there l w pointer block h legal.1)
 attach_block l named (aims.Again pointer block) w h legal k e = let is : block ≡ k = cc in subst (λ b. IsSome (block_at b w.blocks)) is (mapped_there l w pointer block h legal.1)
-attach_block l named (aims.Less pointer block) w h legal k e = absurd legal
-attach_block l named (aims.Cleared pointer block) w h legal k e = absurd legal
+attach_block l named _ w h legal k e = absurd legal
 
 detached_block : (l : Limits) (immediate : Bool) (pointer block : ℕ) (w : Records) → AreRecordsSound l w → block_with pointer w.ranges ≡ Some block → IsAimThere w.blocks (detach immediate block pointer w.attached)
 detached_block l immediate pointer block w h is k e = subst (λ b. IsSome (block_at b w.blocks)) (detach_block immediate block pointer k w.attached e) (mapped_there l w pointer block h is)
@@ -209,24 +192,14 @@ pub says_aimed : (l : Limits) (task : Task) (step : Step) (aim : Aim) (w : Recor
 says_aimed l (Enter counter item queue) Nothing aim w says = tt
 says_aimed l (Enter counter item queue) (Counted k) aim w says = record { mapped = says.mapped; room = says.room }
 says_aimed l (Enter counter item queue) (Born k p) aim w says = record { number = says.number; place_is = says.place_is; absent = says.absent; within = says.within }
-says_aimed l (Enter counter item queue) (Dropped k ended) aim w says = absurd says
-says_aimed l (Enter counter item queue) (Moved k) aim w says = absurd says
 says_aimed l (Leave holding) Nothing aim w says = says
-says_aimed l (Leave holding) (Counted k) aim w says = absurd says
-says_aimed l (Leave holding) (Born k p) aim w says = absurd says
 says_aimed l (Leave holding) (Dropped k ended) aim w says = says
-says_aimed l (Leave holding) (Moved k) aim w says = absurd says
 says_aimed l (Exit finalize item queue) Nothing aim w says = tt
-says_aimed l (Exit finalize item queue) (Counted k) aim w says = absurd says
-says_aimed l (Exit finalize item queue) (Born k p) aim w says = absurd says
 says_aimed l (Exit finalize item queue) (Dropped k ended) aim w says =
     record { range = record { offset = says.range.offset; inside = says.range.inside; within = says.range.within; some = says.range.some; mapped = says.range.mapped }; some = says.some; ended_is = says.ended_is }
-says_aimed l (Exit finalize item queue) (Moved k) aim w says = absurd says
 says_aimed l (Move if_present item queue) Nothing aim w says = tt
-says_aimed l (Move if_present item queue) (Counted k) aim w says = absurd says
-says_aimed l (Move if_present item queue) (Born k p) aim w says = absurd says
-says_aimed l (Move if_present item queue) (Dropped k ended) aim w says = absurd says
 says_aimed l (Move if_present item queue) (Moved k) aim w says = record { offset = says.offset; inside = says.inside; within = says.within; some = says.some; mapped = says.mapped }
+says_aimed l _ _ aim w says = absurd says
 
 -- what a task leaves of sound records: sound records, and both reference counters of every block
 pub record IsLeft (l : Limits) (task : Task) (did : Did) (w v : Records) : Type 0 where

@@ -4,14 +4,10 @@ use Rattle.acc_base.specs.declared.items.RegionClause.TheVariants as region
 use Rattle.acc_base.specs.declared.items.EnterClause.TheVariants as enter
 use Rattle.acc_base.specs.declared.items.ExitClause.TheVariants as exit
 use Rattle.acc_base.specs.declared.items.UpdateClause.TheVariants.{ToDevice}
-use Rattle.acc_base.specs.declared.calls.Call.{Call}
+use Rattle.acc_base.specs.Words.{Call, Aim, Attachment, Step, Did}
 use Rattle.acc_base.specs.declared.calls.Call.TheVariants.{HostWrite}
-use Rattle.acc_base.specs.declared.attachments.Aim.{Aim}
 use Rattle.acc_base.specs.declared.attachments.Aim.TheVariants as aims
-use Rattle.acc_base.specs.declared.attachments.Attachment.{Attachment}
-use Rattle.acc_base.specs.declared.events.Step.{Step}
 use Rattle.acc_base.specs.declared.events.Step.TheVariants.{Nothing, Counted, Born, Dropped}
-use Rattle.acc_base.specs.declared.events.Did.{Did}
 use Rattle.acc_base.specs.declared.events.Event.TheVariants.{Entered, Left, EnteredData, ExitedData, HostWritten}
 use Rattle.acc_base.specs.declared.faults.Fault.TheVariants.{OutOfHost, Misaligned, PartlyPresent, CounterFull}
 use Rattle.acc_base.specs.Loans.{Leased}
@@ -38,13 +34,10 @@ mapped = point_to 0x10 ∷ enter_data_of (item enter.Copyin a ∷ item enter.Cop
 abbrev attached_twice : List (Call Leased)
 attached_twice = mapped ++ enter_data_of (alone enter.Attach ∷ []) ∷ enter_data_of (alone enter.Attach ∷ []) ∷ []
 
-attached_twice_counts : (ran_with limits attached_twice).world.state.records.attached ≡ attached 1 2 ∷ []
+attached_twice_leaves : (ran_with limits attached_twice).world.state.records.attached ≡ attached 1 2 ∷ []
+    × attached_in 1 0x1008 (ran_with limits attached_twice).world.history ≡ 2
 unfolding ran_with
-attached_twice_counts = refl
-
-attached_twice_in : attached_in 1 0x1008 (ran_with limits attached_twice).world.history ≡ 2
-unfolding ran_with
-attached_twice_in = refl
+attached_twice_leaves = (refl, refl)
 
 -- a third time is one too many
 attached_full : (ran_with twice_at_most (attached_twice ++ enter_data_of (alone enter.Attach ∷ []) ∷ [])).refused ≡ None ∷ None ∷ None ∷ None ∷ Some (CounterFull 0) ∷ []
@@ -54,28 +47,22 @@ attached_full = refl
 abbrev aimed_elsewhere : List (Call Leased)
 aimed_elsewhere = attached_twice ++ point_to 0x20 ∷ enter_data_of (alone enter.Attach ∷ []) ∷ []
 
-aimed_elsewhere_counts : (ran_with limits aimed_elsewhere).world.state.records.attached ≡ attached 1 1 ∷ []
+aimed_elsewhere_leaves : (ran_with limits aimed_elsewhere).world.state.records.attached ≡ attached 1 1 ∷ []
+    × (ran_with limits aimed_elsewhere).world.state.memories ≡ memory 1 (replicate 8 0 ++ to_c) ∷ memory 2 (replicate 16 0) ∷ memory 3 (replicate 16 0) ∷ []
 unfolding ran_with
-aimed_elsewhere_counts = refl
-
-aimed_elsewhere_bytes : (ran_with limits aimed_elsewhere).world.state.memories ≡ memory 1 (replicate 8 0 ++ to_c) ∷ memory 2 (replicate 16 0) ∷ memory 3 (replicate 16 0) ∷ []
-unfolding ran_with
-aimed_elsewhere_bytes = refl
+aimed_elsewhere_leaves = (refl, refl)
 
 abbrev detached : List (Call Leased)
 detached = aimed_elsewhere ++ exit_data_of (alone exit.Detach ∷ []) ∷ exit_data_of (alone exit.Detach ∷ []) ∷ []
 
-detached_told : (ran_with limits detached).world.history.trace
+detached_leaves : (ran_with limits detached).world.history.trace
     ≡ HostWritten 0x1008 8 ∷ EnteredData (item enter.Copyin a ∷ item enter.Copyin b ∷ item enter.Copyin c ∷ []) None (did_of (Born 1 0x1_0000_0000) ∷ did_of (Born 2 0x1_0000_0010) ∷ did_of (Born 3 0x1_0000_0020) ∷ [])
     ∷ EnteredData (alone enter.Attach ∷ []) None (did Nothing (aims.New 0x1008 1 0x1_0000_0010) ∷ []) ∷ EnteredData (alone enter.Attach ∷ []) None (did Nothing (aims.Again 0x1008 1) ∷ [])
     ∷ HostWritten 0x1008 8 ∷ EnteredData (alone enter.Attach ∷ []) None (did Nothing (aims.New 0x1008 1 0x1_0000_0020) ∷ [])
     ∷ ExitedData (alone exit.Detach ∷ []) false None (did Nothing (aims.Less 0x1008 1) ∷ []) ∷ ExitedData (alone exit.Detach ∷ []) false None (did_of Nothing ∷ []) ∷ []
+    × (ran_with limits detached).world.state.memories ≡ memory 1 (replicate 8 0 ++ as_host 0x20) ∷ memory 2 (replicate 16 0) ∷ memory 3 (replicate 16 0) ∷ []
 unfolding ran_with
-detached_told = refl
-
-detached_bytes : (ran_with limits detached).world.state.memories ≡ memory 1 (replicate 8 0 ++ as_host 0x20) ∷ memory 2 (replicate 16 0) ∷ memory 3 (replicate 16 0) ∷ []
-unfolding ran_with
-detached_bytes = refl
+detached_leaves = (refl, refl)
 
 -- ---- an item's pointer is attached after the item was entered: its target is what the item itself makes
 
@@ -111,16 +98,13 @@ exited_with_counts = refl
 abbrev finalized_with : List (Call Leased)
 finalized_with = entered_with ++ enter_data_of (via enter.Copyin b ∷ []) ∷ finalize_of (via exit.Delete b ∷ via exit.Delete b ∷ []) ∷ []
 
-finalized_with_told : (ran_with limits finalized_with).world.history.trace
+finalized_with_leaves : (ran_with limits finalized_with).world.history.trace
     ≡ HostWritten 0x1008 8 ∷ EnteredData (item enter.Copyin a ∷ via enter.Copyin b ∷ []) None (did_of (Born 1 0x1_0000_0000) ∷ did (Born 2 0x1_0000_0010) (aims.New 0x1008 1 0x1_0000_0010) ∷ [])
     ∷ EnteredData (via enter.Copyin b ∷ []) None (did (Counted 2) (aims.Again 0x1008 1) ∷ [])
     ∷ ExitedData (via exit.Delete b ∷ via exit.Delete b ∷ []) true None (did (Dropped 2 true) (aims.Cleared 0x1008 1) ∷ did_of Nothing ∷ []) ∷ []
+    × (ran_with limits finalized_with).world.state.memories ≡ memory 1 (replicate 8 0 ++ as_host 0x10) ∷ []
 unfolding ran_with
-finalized_with_told = refl
-
-finalized_with_bytes : (ran_with limits finalized_with).world.state.memories ≡ memory 1 (replicate 8 0 ++ as_host 0x10) ∷ []
-unfolding ran_with
-finalized_with_bytes = refl
+finalized_with_leaves = (refl, refl)
 
 -- an item that ends the mapping that holds its own pointer detaches it first
 exited_own : (ran_with limits (point_to 0x10 ∷ enter_data_of (via enter.Copyin (at 0x1000 32) ∷ []) ∷ exit_data_of (via exit.Delete (at 0x1000 32) ∷ []) ∷ [])).world.history.trace

@@ -1,17 +1,13 @@
 -- The attachment counters after each change: the count of each pointer, the order of the counters, and their bounds.
-use Rattle.std.proofs.Common.{ℕ, ◌≡◌, ◌+◌, ◌-◌, ◌<◌, ◌≤◌, refl, sym, ap, subst, ◌∙◌, Bool, true, false, cond, ◌&&◌, ◌||◌, List, [], ◌∷◌, Some, None, Result, Ok, arith, inl, inr}
+use Rattle.std.proofs.Common.{ℕ, ◌≡◌, ◌+◌, ◌-◌, ◌<◌, ◌≤◌, refl, sym, ap, subst, ◌∙◌, Bool, true, false, cond, ◌&&◌, ◌||◌, List, [], ◌∷◌, Some, None, arith, inl, inr}
 use Rattle.std.specs.Prelude.{◌==◌, not, nat_le, nat_lt, find, filter, option_map, unwrap_or}
 use Rattle.std.specs.List.{AllByRecursion}
 use Rattle.std.proofs.lemmas.Bool.Decides.{nat_tests}
-use Rattle.acc_base.specs.declared.attachments.Attachment.{Attachment}
-use Rattle.acc_base.specs.declared.attachments.Aim.{Aim}
+use Rattle.acc_base.specs.Words.{Attachment, Aim}
 use Rattle.acc_base.specs.declared.attachments.Aim.TheVariants as aims
-use Rattle.acc_base.specs.declared.faults.Fault.{Fault}
-use Rattle.acc_base.specs.declared.faults.Fault.TheVariants.{CounterFull}
-use Rattle.acc_base.specs.Results.{◌>>◌, refuse_if}
 use Rattle.acc_base.specs.Section.{covers}
 use Rattle.acc_base.specs.Accounts.{EachPair}
-use Rattle.acc_base.specs.Attachments.{pointer_at, is_of, IsBefore, is_before, IsCountWithin, count_at, with_attachment, without_attachment, with_count, without_attachments, attach, detach, attached_by, count_after, is_skipped, next_pointer}
+use Rattle.acc_base.specs.Attachments.{pointer_at, is_of, IsBefore, is_before, IsCountWithin, count_at, with_attachment, without_attachment, with_count, without_attachments, detach, attached_by, count_after, is_skipped, next_pointer}
 use Rattle.acc_base.proofs.Results.{and_true, equal, equal_self}
 use Rattle.acc_base.proofs.Elements.{AllByRecursion-weaker, AllByRecursion-filter, EachPair-filter, find-none}
 
@@ -171,18 +167,6 @@ count_at-attached_by block pointer (aims.Again p b) xs = count_at-with_own block
 count_at-attached_by block pointer (aims.Less p b) xs = count_at-with_own block pointer b p (λ n. n - 1) xs
 count_at-attached_by block pointer (aims.Cleared p b) xs = count_at-with_count block pointer b p 0 xs
 
--- the pointers of a block that is forgotten count nothing
-pub count_at-without_same : (block pointer : ℕ) (xs : List Attachment) → count_at block pointer (without_attachments block xs) ≡ 0
-count_at-without_same block pointer xs = ap (λ o. unwrap_or (option_map (λ (a : Attachment). a.count) o) 0) (find-none (is_of block pointer) _ (none xs))
-  where
-    none : (ys : List Attachment) → AllByRecursion (λ y. is_of block pointer y ≡ false) (without_attachments block ys)
-    none [] = tt
-    none (y ∷ ys) = go (none ys) (y.block == block) refl
-      where
-        go : AllByRecursion (λ z. is_of block pointer z ≡ false) (without_attachments block ys) → (t : Bool) → (y.block == block) ≡ t → AllByRecursion (λ z. is_of block pointer z ≡ false) (cond (not t) (y ∷ without_attachments block ys) (without_attachments block ys))
-        go rest true e = rest
-        go rest false e = (rw e, rest)
-
 -- and those of the others as before
 pub count_at-without_other : (block pointer other : ℕ) (xs : List Attachment) → (block == other) ≡ false → count_at block pointer (without_attachments other xs) ≡ count_at block pointer xs
 count_at-without_other block pointer other xs differs = ap (λ o. unwrap_or (option_map (λ (a : Attachment). a.count) o) 0) (find-filter_kept (is_of block pointer) (λ a. not (a.block == other)) xs (λ x e. let block_is : x.block ≡ block = same_block block pointer x e in let t : (x.block == other) ≡ false = grind (arith, nat_tests) in rw t))
@@ -260,20 +244,6 @@ counted-with_count most block pointer count xs le h = go (count == 0) refl
     go : (b : Bool) → (count == 0) ≡ b → AllByRecursion (IsCountWithin most) (cond b (without_attachment block pointer xs) (with_attachment (record { block = block; pointer = pointer; count = count }) (without_attachment block pointer xs)))
     go true e = left
     go false e = AllByRecursion-with (IsCountWithin most) (record { block = block; pointer = pointer; count = count }) (without_attachment block pointer xs) (record { some = grind (arith, nat_tests); limit = le }) left
-
--- an attachment sets the count to one, or raises it below the limit
-pub attached_within : (most n block pointer target now : ℕ) (aim : Aim) (xs : List Attachment) → 1 ≤ most → AllByRecursion (IsCountWithin most) xs → attach most n block pointer target now xs ≡ Ok aim → AllByRecursion (IsCountWithin most) (attached_by aim xs)
-attached_within most n block pointer target now aim xs some h e = go (not (count_at block pointer xs == 0) && (now == target)) e
-  where
-    bounded : (b : Bool) → nat_le most (count_at block pointer xs) ≡ b → ◌≡◌ {A = Result Aim Fault} (refuse_if b (CounterFull n) >> Ok (aims.Again pointer block)) (Ok aim) → AllByRecursion (IsCountWithin most) (attached_by aim xs)
-    bounded true f k = cc
-    bounded false f k =
-        let is : aims.Again pointer block ≡ aim = cc in
-        rw (← is) (counted-with_count most block pointer (count_at block pointer xs + 1) xs (grind (arith, nat_tests)) h)
-
-    go : (b : Bool) → cond b (refuse_if (nat_le most (count_at block pointer xs)) (CounterFull n) >> Ok (aims.Again pointer block)) (Ok (aims.New pointer block target)) ≡ Ok aim → AllByRecursion (IsCountWithin most) (attached_by aim xs)
-    go true k = bounded (nat_le most (count_at block pointer xs)) refl k
-    go false k = let is : aims.New pointer block target ≡ aim = cc in rw (← is) (counted-with_count most block pointer 1 xs some h)
 
 -- a detachment lowers the count, or leaves it
 pub detached_within : (most : ℕ) (immediate : Bool) (block pointer : ℕ) (xs : List Attachment) → AllByRecursion (IsCountWithin most) xs → AllByRecursion (IsCountWithin most) (attached_by (detach immediate block pointer xs) xs)

@@ -1,5 +1,5 @@
 -- What is read of the range of a block, after each change of the ranges.
-use Rattle.std.proofs.Common.{ℕ, ◌≡◌, ◌+◌, refl, sym, ◌∙◌, ap, subst, Bool, true, false, cond, List, [], ◌∷◌, Option, Some, None, arith}
+use Rattle.std.proofs.Common.{ℕ, ◌≡◌, refl, sym, ◌∙◌, ap, subst, Bool, true, false, cond, List, [], ◌∷◌, Some, None, arith}
 use Rattle.std.specs.Prelude.{◌==◌, unwrap_or, option_map, not, nat_lt, IsSome}
 use Rattle.std.proofs.lemmas.Bool.Decides.{nat_tests}
 use Rattle.acc_base.specs.declared.mappings.Range.{Range}
@@ -60,16 +60,6 @@ with_other g new b (r ∷ rs) n = go (with_other g new b rs n) (nat_lt new.secti
     go rest true t e = rw n
     go rest false true e = rw e
     go rest false false e = rw e rest
-
-pub with_read : (g : Range → ℕ) (new : Range) (b : ℕ) (ranges : List Range) → range_of new.block ranges ≡ None → read_of g b (with_range new ranges) ≡ read_of g b ranges + cond (new.block == b) (g new) 0
-with_read g new b ranges none = go (new.block == b) refl
-  where
-    go : (t : Bool) → (new.block == b) ≡ t → read_of g b (with_range new ranges) ≡ read_of g b ranges + cond t (g new) 0
-    go true e =
-        let is_new : b ≡ new.block = sym (equal new.block b e) in
-        let absent : read_of g new.block ranges ≡ 0 = ap (λ (o : Option Range). unwrap_or (option_map g o) 0) none in
-        rw (is_new, with_same g new ranges none, absent) (omega arith)
-    go false e = with_other g new b ranges e ∙ omega arith
 
 -- a range that is there stays, and the new one is there
 pub with_there : (new : Range) (b : ℕ) (ranges : List Range) → IsSome (range_of b ranges) → IsSome (range_of b (with_range new ranges))

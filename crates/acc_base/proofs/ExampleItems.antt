@@ -1,17 +1,8 @@
 -- What examples are written with: limits, sections, items, calls, and what tables keep.
 use Rattle.std.proofs.Common.{ℕ, List, [], ◌∷◌, ◌++◌, Option, Some, None, true, false, replicate}
-use Rattle.acc_base.specs.declared.items.Section.{Section}
-use Rattle.acc_base.specs.declared.items.Item.{Item}
-use Rattle.acc_base.specs.declared.items.RegionClause.{RegionClause}
-use Rattle.acc_base.specs.declared.items.EnterClause.{EnterClause}
-use Rattle.acc_base.specs.declared.items.ExitClause.{ExitClause}
-use Rattle.acc_base.specs.declared.items.UpdateClause.{UpdateClause}
+use Rattle.acc_base.specs.Words.{Section, Item, RegionClause, EnterClause, ExitClause, UpdateClause, Call, Range, Block, Holding}
 use Rattle.acc_base.specs.declared.directives.Directive.TheVariants.{Enter, Exit, EnterData, ExitData, Update, Wait, Step}
-use Rattle.acc_base.specs.declared.calls.Call.{Call}
 use Rattle.acc_base.specs.declared.calls.Call.TheVariants.{Do, HostWrite}
-use Rattle.acc_base.specs.declared.mappings.Range.{Range}
-use Rattle.acc_base.specs.declared.mappings.Block.{Block}
-use Rattle.acc_base.specs.declared.regions.Holding.{Holding}
 use Rattle.acc_base.specs.Loans.{Leased}
 use Rattle.acc_base.specs.Limits.{Limits}
 use Rattle.acc_base.specs.Records.{Memory}

@@ -3,12 +3,11 @@ use Rattle.std.proofs.Common.{ℕ, ◌≡◌, refl, List, [], ◌∷◌, ◌++�
 use Rattle.acc_base.specs.declared.items.EnterClause.TheVariants as enter
 use Rattle.acc_base.specs.declared.items.ExitClause.TheVariants as exit
 use Rattle.acc_base.specs.declared.items.UpdateClause.TheVariants.{ToSelf, ToDevice}
-use Rattle.acc_base.specs.declared.calls.Call.{Call}
+use Rattle.acc_base.specs.Words.{Call, Range}
 use Rattle.acc_base.specs.declared.calls.Call.TheVariants.{HostWrite}
 use Rattle.acc_base.specs.declared.events.Event.TheVariants.{EnteredData, ExitedData, Updated, HostWritten}
 use Rattle.acc_base.specs.declared.events.Step.TheVariants.{Nothing, Counted, Born, Dropped, Moved}
 use Rattle.acc_base.specs.declared.faults.Fault.TheVariants.{NoTickets, TooManyItems, TraceFull, OutOfHost, PartlyPresent, NotPresent, CounterFull, DeviceFull}
-use Rattle.acc_base.specs.declared.mappings.Range.{Range}
 use Rattle.acc_base.specs.declared.mappings.Found.TheVariants.{Empty, Inside, Partly, Absent}
 use Rattle.acc_base.specs.Loans.{Leased}
 use Rattle.acc_base.specs.Limits.{Limits}
@@ -38,17 +37,11 @@ abbrev mapped_and_deleted : List (Call Leased)
 mapped_and_deleted = a 32 ∷ exit_data_of (item exit.Delete (at 0x1000 32) ∷ []) ∷ []
 
 deleted : (ran mapped_and_deleted).world.state.records ≡ record { ranges = []; blocks = []; attached = []; births = 1; queues = new_queues; loans = [] }
-unfolding ran
-deleted = refl
-
-deleted_bytes : (ran mapped_and_deleted).world.state.memories ≡ []
-unfolding ran
-deleted_bytes = refl
-
-deleted_told : (ran mapped_and_deleted).world.history.trace
+    × (ran mapped_and_deleted).world.state.memories ≡ []
+    × (ran mapped_and_deleted).world.history.trace
     ≡ EnteredData (item enter.Copyin (at 0x1000 32) ∷ []) None (did_of (Born 1 0x1_0000_0000) ∷ []) ∷ ExitedData (item exit.Delete (at 0x1000 32) ∷ []) false None (did_of (Dropped 1 true) ∷ []) ∷ []
 unfolding ran
-deleted_told = refl
+deleted = (refl, refl, refl)
 
 -- deleting what is absent does nothing, before it was mapped and after
 abbrev deleted_where_absent : List (Call Leased)
@@ -65,13 +58,10 @@ deleted_where_absent_told = refl
 abbrev over_the_end : List (Call Leased)
 over_the_end = a 16 ∷ enter_data_of (item enter.Copyin (at 0x1008 16) ∷ []) ∷ enter_data_of (item enter.Copyin (at 0x1004 4) ∷ []) ∷ []
 
-over_the_end_refused : (ran over_the_end).refused ≡ None ∷ Some (PartlyPresent 0) ∷ None ∷ []
+over_the_end_leaves : (ran over_the_end).refused ≡ None ∷ Some (PartlyPresent 0) ∷ None ∷ []
+    × (ran over_the_end).world.state.records ≡ record { ranges = range (at 0x1000 16) 1 0 2 ∷ []; blocks = block 1 0x1_0000_0000 16 ∷ []; attached = []; births = 1; queues = new_queues; loans = [] }
 unfolding ran
-over_the_end_refused = refl
-
-over_the_end_counted : (ran over_the_end).world.state.records ≡ record { ranges = range (at 0x1000 16) 1 0 2 ∷ []; blocks = block 1 0x1_0000_0000 16 ∷ []; attached = []; births = 1; queues = new_queues; loans = [] }
-unfolding ran
-over_the_end_counted = refl
+over_the_end_leaves = (refl, refl)
 
 -- ---- the counter falls, and at zero the mapping ends
 
@@ -79,23 +69,17 @@ abbrev counted_twice : List (Call Leased)
 counted_twice = a 16 ∷ a 16 ∷ exit_data_of (item exit.Delete (at 0x1004 4) ∷ []) ∷ []
 
 falls : (ran counted_twice).world.state.records.ranges ≡ range (at 0x1000 16) 1 0 1 ∷ []
+    × dynamic_in 1 (ran counted_twice).world.history ≡ 1
 unfolding ran
-falls = refl
-
-fall_told : dynamic_in 1 (ran counted_twice).world.history ≡ 1
-unfolding ran
-fall_told = refl
+falls = (refl, refl)
 
 abbrev counted_once : List (Call Leased)
 counted_once = a 16 ∷ exit_data_of (item exit.Delete (at 0x1004 4) ∷ []) ∷ exit_data_of (item exit.Delete (at 0x1000 16) ∷ []) ∷ []
 
 ends : (ran counted_once).world.state.records ≡ record { ranges = []; blocks = []; attached = []; births = 1; queues = new_queues; loans = [] }
+    × (ran counted_once).refused ≡ None ∷ None ∷ None ∷ []
 unfolding ran
-ends = refl
-
-nothing_refused : (ran counted_once).refused ≡ None ∷ None ∷ None ∷ []
-unfolding ran
-nothing_refused = refl
+ends = (refl, refl)
 
 -- ---- items act one after the other, each on what those before it left
 
@@ -105,71 +89,50 @@ few = record { host = 96; device = 64; regions = 4; tickets = 100; counter_max =
 abbrev three_counts : Call Leased
 three_counts = enter_data_of (item enter.Copyin (at 0x1000 16) ∷ item enter.Copyin (at 0x1000 16) ∷ item (enter.Create true) (at 0x1004 4) ∷ [])
 
-three_counted : (ran_with few (three_counts ∷ [])).world.state.records ≡ record { ranges = range (at 0x1000 16) 1 0 3 ∷ []; blocks = block 1 0x1_0000_0000 16 ∷ []; attached = []; births = 1; queues = new_queues; loans = [] }
-unfolding ran_with
-three_counted = refl
-
-three_told : (ran_with few (three_counts ∷ [])).world.history.trace
+three_leaves : (ran_with few (three_counts ∷ [])).world.state.records ≡ record { ranges = range (at 0x1000 16) 1 0 3 ∷ []; blocks = block 1 0x1_0000_0000 16 ∷ []; attached = []; births = 1; queues = new_queues; loans = [] }
+    × (ran_with few (three_counts ∷ [])).world.history.trace
     ≡ EnteredData (item enter.Copyin (at 0x1000 16) ∷ item enter.Copyin (at 0x1000 16) ∷ item (enter.Create true) (at 0x1004 4) ∷ []) None (did_of (Born 1 0x1_0000_0000) ∷ did_of (Counted 1) ∷ did_of (Counted 1) ∷ []) ∷ []
+    × dynamic_in 1 (ran_with few (three_counts ∷ [])).world.history ≡ 3
 unfolding ran_with
-three_told = refl
-
-three_in : dynamic_in 1 (ran_with few (three_counts ∷ [])).world.history ≡ 3
-unfolding ran_with
-three_in = refl
+three_leaves = (refl, refl, refl)
 
 -- of four items that delete it the last finds it absent
 abbrev dropped_by_four : List (Call Leased)
 dropped_by_four = three_counts ∷ exit_data_of (replicate 4 (item exit.Delete (at 0x1000 16))) ∷ []
 
-dropped_told : (ran_with few dropped_by_four).world.history.trace
+dropped : (ran_with few dropped_by_four).world.history.trace
     ≡ EnteredData (item enter.Copyin (at 0x1000 16) ∷ item enter.Copyin (at 0x1000 16) ∷ item (enter.Create true) (at 0x1004 4) ∷ []) None (did_of (Born 1 0x1_0000_0000) ∷ did_of (Counted 1) ∷ did_of (Counted 1) ∷ [])
     ∷ ExitedData (replicate 4 (item exit.Delete (at 0x1000 16))) false None (did_of (Dropped 1 false) ∷ did_of (Dropped 1 false) ∷ did_of (Dropped 1 true) ∷ did_of Nothing ∷ []) ∷ []
+    × dynamic_in 1 (ran_with few dropped_by_four).world.history ≡ 0
 unfolding ran_with
-dropped_told = refl
-
-dropped_in : dynamic_in 1 (ran_with few dropped_by_four).world.history ≡ 0
-unfolding ran_with
-dropped_in = refl
+dropped = (refl, refl)
 
 -- `finalize` takes all three at once, and a second item finds the section absent
 abbrev finalized : List (Call Leased)
 finalized = three_counts ∷ finalize_of (item exit.Delete (at 0x1000 16) ∷ item exit.Delete (at 0x1000 16) ∷ []) ∷ []
 
-finalized_records : (ran_with few finalized).world.state.records ≡ record { ranges = []; blocks = []; attached = []; births = 1; queues = new_queues; loans = [] }
-unfolding ran_with
-finalized_records = refl
-
-finalized_told : (ran_with few finalized).world.history.trace
+finalized_leaves : (ran_with few finalized).world.state.records ≡ record { ranges = []; blocks = []; attached = []; births = 1; queues = new_queues; loans = [] }
+    × (ran_with few finalized).world.history.trace
     ≡ EnteredData (item enter.Copyin (at 0x1000 16) ∷ item enter.Copyin (at 0x1000 16) ∷ item (enter.Create true) (at 0x1004 4) ∷ []) None (did_of (Born 1 0x1_0000_0000) ∷ did_of (Counted 1) ∷ did_of (Counted 1) ∷ [])
     ∷ ExitedData (item exit.Delete (at 0x1000 16) ∷ item exit.Delete (at 0x1000 16) ∷ []) true None (did_of (Dropped 1 true) ∷ did_of Nothing ∷ []) ∷ []
+    × dynamic_in 1 (ran_with few finalized).world.history ≡ 0
 unfolding ran_with
-finalized_told = refl
-
-finalized_in : dynamic_in 1 (ran_with few finalized).world.history ≡ 0
-unfolding ran_with
-finalized_in = refl
+finalized_leaves = (refl, refl, refl)
 
 -- an item that overlaps the range of the item before it is refused, and that range is not mapped
-overlapping_refused : (ran (enter_data_of (item enter.Copyin (at 0x1000 16) ∷ item enter.Copyin (at 0x1008 16) ∷ []) ∷ [])).refused ≡ Some (PartlyPresent 1) ∷ []
+overlapping : (ran (enter_data_of (item enter.Copyin (at 0x1000 16) ∷ item enter.Copyin (at 0x1008 16) ∷ []) ∷ [])).refused ≡ Some (PartlyPresent 1) ∷ []
+    × (ran (enter_data_of (item enter.Copyin (at 0x1000 16) ∷ item enter.Copyin (at 0x1008 16) ∷ []) ∷ [])).world.state ≡ new_state 64
 unfolding ran
-overlapping_refused = refl
-
-overlapping_left : (ran (enter_data_of (item enter.Copyin (at 0x1000 16) ∷ item enter.Copyin (at 0x1008 16) ∷ []) ∷ [])).world.state ≡ new_state 64
-unfolding ran
-overlapping_left = refl
+overlapping = (refl, refl)
 
 -- two items of one directive are two births, at two places
 abbrev two_births : List (Call Leased)
 two_births = HostWrite 0x1000 (1 ∷ 2 ∷ 3 ∷ []) ∷ enter_data_of (item enter.Copyin (at 0x1001 2) ∷ item (enter.Create false) (at 0x1000 1) ∷ []) ∷ []
 
-two_births_records : (ran two_births).world.state.records ≡ record { ranges = range (at 0x1000 1) 2 0 1 ∷ range (at 0x1001 2) 1 0 1 ∷ []; blocks = block 1 0x1_0000_0000 2 ∷ block 2 0x1_0000_0010 1 ∷ []; attached = []; births = 2; queues = new_queues; loans = [] }
+two_births_leaves : (ran two_births).world.state.records ≡ record { ranges = range (at 0x1000 1) 2 0 1 ∷ range (at 0x1001 2) 1 0 1 ∷ []; blocks = block 1 0x1_0000_0000 2 ∷ block 2 0x1_0000_0010 1 ∷ []; attached = []; births = 2; queues = new_queues; loans = [] }
+    × (ran two_births).world.state.memories ≡ memory 1 (2 ∷ 3 ∷ []) ∷ memory 2 (0xa5 ∷ []) ∷ []
 unfolding ran
-two_births_records = refl
-
-two_births_bytes : (ran two_births).world.state.memories ≡ memory 1 (2 ∷ 3 ∷ []) ∷ memory 2 (0xa5 ∷ []) ∷ []
-unfolding ran
-two_births_bytes = refl
+two_births_leaves = (refl, refl)
 
 -- ---- how many items, and how often a range is counted
 
@@ -190,13 +153,10 @@ unfolding ran_with
 sixty_five_left = refl
 
 -- the counter stops at two, so the third item of one directive is refused, and nothing is mapped
-three_of_two_refused : (ran (three_counts ∷ [])).refused ≡ Some (CounterFull 2) ∷ []
+three_of_two : (ran (three_counts ∷ [])).refused ≡ Some (CounterFull 2) ∷ []
+    × (ran (three_counts ∷ [])).world.state ≡ new_state 64
 unfolding ran
-three_of_two_refused = refl
-
-three_of_two_left : (ran (three_counts ∷ [])).world.state ≡ new_state 64
-unfolding ran
-three_of_two_left = refl
+three_of_two = (refl, refl)
 
 -- ---- want of device memory: the hole of 16 bytes is too small for 17, and for a second block
 
@@ -240,12 +200,9 @@ abbrev holes : List (Call Leased)
 holes = a 20 ∷ enter_data_of (item enter.Copyin (at 0x1014 1) ∷ []) ∷ exit_data_of (item exit.Delete (at 0x1000 20) ∷ []) ∷ enter_data_of (item enter.Copyin (at 0x1015 1) ∷ []) ∷ []
 
 first_fit : (ran holes).world.state.records.blocks ≡ block 2 0x1_0000_0020 1 ∷ block 3 0x1_0000_0000 1 ∷ []
+    × used_bytes (ran holes).world.state.records.blocks ≡ 32
 unfolding ran
-first_fit = refl
-
-first_fit_used : used_bytes (ran holes).world.state.records.blocks ≡ 32
-unfolding ran
-first_fit_used = refl
+first_fit = (refl, refl)
 
 -- ---- refusals leave the world as it was
 
@@ -253,12 +210,9 @@ abbrev refusals : List (Call Leased)
 refusals = a 65 ∷ enter_data_of (item enter.Copyin (at 0xfff 1) ∷ []) ∷ a 0 ∷ a 33 ∷ enter_data_of (item enter.Copyin (at 0x1021 17) ∷ []) ∷ a 1 ∷ a 1 ∷ exit_data_of (item exit.Delete (at 0x1000 64) ∷ []) ∷ []
 
 all_refused : (ran refusals).refused ≡ Some (OutOfHost 0) ∷ Some (OutOfHost 0) ∷ None ∷ None ∷ Some (DeviceFull 0 32) ∷ None ∷ Some (CounterFull 0) ∷ Some (PartlyPresent 0) ∷ []
+    × (ran refusals).world.state.records ≡ record { ranges = range (at 0x1000 33) 1 0 2 ∷ []; blocks = block 1 0x1_0000_0000 33 ∷ []; attached = []; births = 1; queues = new_queues; loans = [] }
 unfolding ran
-all_refused = refl
-
-all_left : (ran refusals).world.state.records ≡ record { ranges = range (at 0x1000 33) 1 0 2 ∷ []; blocks = block 1 0x1_0000_0000 33 ∷ []; attached = []; births = 1; queues = new_queues; loans = [] }
-unfolding ran
-all_left = refl
+all_refused = (refl, refl)
 
 no_items : (ran (idle ∷ [])).world.history.trace ≡ EnteredData [] None [] ∷ []
 unfolding ran
@@ -279,13 +233,10 @@ ticket_gone = refl
 abbrev wrote : List (Call Leased)
 wrote = HostWrite 0x1002 (1 ∷ 2 ∷ 3 ∷ []) ∷ []
 
-wrote_bytes : (ran wrote).world.state.host ≡ host_of (0 ∷ 0 ∷ 1 ∷ 2 ∷ 3 ∷ []) 59
+wrote_leaves : (ran wrote).world.state.host ≡ host_of (0 ∷ 0 ∷ 1 ∷ 2 ∷ 3 ∷ []) 59
+    × (ran wrote).world.history.trace ≡ HostWritten 0x1002 3 ∷ []
 unfolding ran
-wrote_bytes = refl
-
-wrote_told : (ran wrote).world.history.trace ≡ HostWritten 0x1002 3 ∷ []
-unfolding ran
-wrote_told = refl
+wrote_leaves = (refl, refl)
 
 -- over the last address of the host, before its first one, and no byte at all
 writes_refused : (ran (HostWrite 0x103e (1 ∷ 2 ∷ 3 ∷ []) ∷ HostWrite 0xfff (1 ∷ []) ∷ HostWrite 0xfff [] ∷ HostWrite 0x103f (1 ∷ []) ∷ [])).refused ≡ Some (OutOfHost 0) ∷ Some (OutOfHost 0) ∷ None ∷ None ∷ []
@@ -296,13 +247,10 @@ writes_refused = refl
 abbrev written_over : List (Call Leased)
 written_over = HostWrite 0x1000 (1 ∷ 2 ∷ []) ∷ a 2 ∷ HostWrite 0x1000 (5 ∷ 6 ∷ []) ∷ []
 
-written_over_host : (ran written_over).world.state.host ≡ host_of (5 ∷ 6 ∷ []) 62
+written_over_leaves : (ran written_over).world.state.host ≡ host_of (5 ∷ 6 ∷ []) 62
+    × (ran written_over).world.state.memories ≡ memory 1 (1 ∷ 2 ∷ []) ∷ []
 unfolding ran
-written_over_host = refl
-
-written_over_device : (ran written_over).world.state.memories ≡ memory 1 (1 ∷ 2 ∷ []) ∷ []
-unfolding ran
-written_over_device = refl
+written_over_leaves = (refl, refl)
 
 -- ---- a block that is created is filled, and gets none of the bytes of the host
 
@@ -318,26 +266,20 @@ created_zero = refl
 abbrev created_again : List (Call Leased)
 created_again = HostWrite 0x1000 (1 ∷ 2 ∷ 3 ∷ []) ∷ a 3 ∷ enter_data_of (item (enter.Create true) (at 0x1001 2) ∷ []) ∷ []
 
-created_again_counted : (ran created_again).world.state.records.ranges ≡ range (at 0x1000 3) 1 0 2 ∷ []
+created_again_leaves : (ran created_again).world.state.records.ranges ≡ range (at 0x1000 3) 1 0 2 ∷ []
+    × (ran created_again).world.state.memories ≡ memory 1 (1 ∷ 2 ∷ 3 ∷ []) ∷ []
 unfolding ran
-created_again_counted = refl
-
-created_again_bytes : (ran created_again).world.state.memories ≡ memory 1 (1 ∷ 2 ∷ 3 ∷ []) ∷ []
-unfolding ran
-created_again_bytes = refl
+created_again_leaves = (refl, refl)
 
 -- ---- an update moves the section only
 
 abbrev to_device : List (Call Leased)
 to_device = HostWrite 0x1004 (1 ∷ 2 ∷ 3 ∷ 4 ∷ []) ∷ enter_data_of (item (enter.Create false) (at 0x1004 4) ∷ []) ∷ update_of (item ToDevice (at 0x1005 2) ∷ []) ∷ []
 
-to_device_bytes : (ran to_device).world.state.memories ≡ memory 1 (0xa5 ∷ 2 ∷ 3 ∷ 0xa5 ∷ []) ∷ []
+to_device_leaves : (ran to_device).world.state.memories ≡ memory 1 (0xa5 ∷ 2 ∷ 3 ∷ 0xa5 ∷ []) ∷ []
+    × (ran to_device).world.state.host ≡ host_of (0 ∷ 0 ∷ 0 ∷ 0 ∷ 1 ∷ 2 ∷ 3 ∷ 4 ∷ []) 56
 unfolding ran
-to_device_bytes = refl
-
-to_device_host : (ran to_device).world.state.host ≡ host_of (0 ∷ 0 ∷ 0 ∷ 0 ∷ 1 ∷ 2 ∷ 3 ∷ 4 ∷ []) 56
-unfolding ran
-to_device_host = refl
+to_device_leaves = (refl, refl)
 
 to_device_told : (ran (a 4 ∷ update_of (item ToDevice (at 0x1001 2) ∷ []) ∷ [])).world.history.trace
     ≡ EnteredData (item enter.Copyin (at 0x1000 4) ∷ []) None (did_of (Born 1 0x1_0000_0000) ∷ []) ∷ Updated (item ToDevice (at 0x1001 2) ∷ []) false None (did_of (Moved 1) ∷ []) ∷ []
@@ -358,29 +300,20 @@ to_second_range = refl
 abbrev to_self : List (Call Leased)
 to_self = HostWrite 0x1004 (1 ∷ 2 ∷ 3 ∷ 4 ∷ []) ∷ enter_data_of (item enter.Copyin (at 0x1004 4) ∷ []) ∷ HostWrite 0x1002 (5 ∷ 6 ∷ 7 ∷ 8 ∷ 9 ∷ 10 ∷ []) ∷ update_of (item ToSelf (at 0x1005 2) ∷ []) ∷ []
 
-to_self_host : (ran to_self).world.state.host ≡ host_of (0 ∷ 0 ∷ 5 ∷ 6 ∷ 7 ∷ 2 ∷ 3 ∷ 10 ∷ []) 56
+to_self_leaves : (ran to_self).world.state.host ≡ host_of (0 ∷ 0 ∷ 5 ∷ 6 ∷ 7 ∷ 2 ∷ 3 ∷ 10 ∷ []) 56
+    × (ran to_self).world.state.memories ≡ memory 1 (1 ∷ 2 ∷ 3 ∷ 4 ∷ []) ∷ []
+    × (ran to_self).world.state.records.ranges ≡ range (at 0x1004 4) 1 0 1 ∷ []
 unfolding ran
-to_self_host = refl
-
-to_self_bytes : (ran to_self).world.state.memories ≡ memory 1 (1 ∷ 2 ∷ 3 ∷ 4 ∷ []) ∷ []
-unfolding ran
-to_self_bytes = refl
-
-to_self_counted : (ran to_self).world.state.records.ranges ≡ range (at 0x1004 4) 1 0 1 ∷ []
-unfolding ran
-to_self_counted = refl
+to_self_leaves = (refl, refl, refl)
 
 -- the items of an update move in written order
 abbrev there_and_back : List (Call Leased)
 there_and_back = HostWrite 0x1000 (1 ∷ 2 ∷ []) ∷ enter_data_of (item (enter.Create true) (at 0x1000 2) ∷ []) ∷ update_of (item ToDevice (at 0x1000 1) ∷ item ToSelf (at 0x1000 2) ∷ []) ∷ []
 
-there_and_back_host : (ran there_and_back).world.state.host ≡ host_of (1 ∷ []) 63
+there_and_back_leaves : (ran there_and_back).world.state.host ≡ host_of (1 ∷ []) 63
+    × (ran there_and_back).world.state.memories ≡ memory 1 (1 ∷ 0 ∷ []) ∷ []
 unfolding ran
-there_and_back_host = refl
-
-there_and_back_bytes : (ran there_and_back).world.state.memories ≡ memory 1 (1 ∷ 0 ∷ []) ∷ []
-unfolding ran
-there_and_back_bytes = refl
+there_and_back_leaves = (refl, refl)
 
 -- ---- what is absent is refused, or passed over with `if_present`; what is partly present is refused with it too
 
@@ -395,46 +328,31 @@ updates_refused = refl
 abbrev passed_over : List (Call Leased)
 passed_over = HostWrite 0x1000 (1 ∷ []) ∷ update_if_present_of (item ToSelf (at 0x1000 1) ∷ []) ∷ []
 
-passed_over_told : (ran passed_over).world.history.trace ≡ HostWritten 0x1000 1 ∷ Updated (item ToSelf (at 0x1000 1) ∷ []) true None (did_of Nothing ∷ []) ∷ []
+passed_over_leaves : (ran passed_over).world.history.trace ≡ HostWritten 0x1000 1 ∷ Updated (item ToSelf (at 0x1000 1) ∷ []) true None (did_of Nothing ∷ []) ∷ []
+    × (ran passed_over).world.state.host ≡ host_of (1 ∷ []) 63
 unfolding ran
-passed_over_told = refl
-
-passed_over_host : (ran passed_over).world.state.host ≡ host_of (1 ∷ []) 63
-unfolding ran
-passed_over_host = refl
+passed_over_leaves = (refl, refl)
 
 -- ---- where the mapping ends, its section alone is copied out, and the whole mapping is gone
 
 abbrev copied_out : List (Call Leased)
 copied_out = HostWrite 0x1000 (1 ∷ 2 ∷ 3 ∷ 4 ∷ []) ∷ a 4 ∷ HostWrite 0x1000 (5 ∷ 6 ∷ 7 ∷ 8 ∷ []) ∷ exit_data_of (item exit.Copyout (at 0x1001 2) ∷ []) ∷ []
 
-copied_out_host : (ran copied_out).world.state.host ≡ host_of (5 ∷ 2 ∷ 3 ∷ 8 ∷ []) 60
+copied_out_leaves : (ran copied_out).world.state.host ≡ host_of (5 ∷ 2 ∷ 3 ∷ 8 ∷ []) 60
+    × (ran copied_out).world.state.records ≡ record { ranges = []; blocks = []; attached = []; births = 1; queues = new_queues; loans = [] }
+    × (ran copied_out).world.state.memories ≡ []
 unfolding ran
-copied_out_host = refl
-
-copied_out_records : (ran copied_out).world.state.records ≡ record { ranges = []; blocks = []; attached = []; births = 1; queues = new_queues; loans = [] }
-unfolding ran
-copied_out_records = refl
-
-copied_out_memories : (ran copied_out).world.state.memories ≡ []
-unfolding ran
-copied_out_memories = refl
+copied_out_leaves = (refl, refl, refl)
 
 -- where the counter stays above zero nothing is copied
 abbrev still_mapped : List (Call Leased)
 still_mapped = HostWrite 0x1000 (1 ∷ 2 ∷ []) ∷ a 2 ∷ a 2 ∷ HostWrite 0x1000 (5 ∷ 6 ∷ []) ∷ exit_data_of (item exit.Copyout (at 0x1000 2) ∷ []) ∷ []
 
-still_mapped_host : (ran still_mapped).world.state.host ≡ host_of (5 ∷ 6 ∷ []) 62
+still_mapped_leaves : (ran still_mapped).world.state.host ≡ host_of (5 ∷ 6 ∷ []) 62
+    × (ran still_mapped).world.state.records ≡ record { ranges = range (at 0x1000 2) 1 0 1 ∷ []; blocks = block 1 0x1_0000_0000 2 ∷ []; attached = []; births = 1; queues = new_queues; loans = [] }
+    × (ran still_mapped).world.state.memories ≡ memory 1 (1 ∷ 2 ∷ []) ∷ []
 unfolding ran
-still_mapped_host = refl
-
-still_mapped_records : (ran still_mapped).world.state.records ≡ record { ranges = range (at 0x1000 2) 1 0 1 ∷ []; blocks = block 1 0x1_0000_0000 2 ∷ []; attached = []; births = 1; queues = new_queues; loans = [] }
-unfolding ran
-still_mapped_records = refl
-
-still_mapped_bytes : (ran still_mapped).world.state.memories ≡ memory 1 (1 ∷ 2 ∷ []) ∷ []
-unfolding ran
-still_mapped_bytes = refl
+still_mapped_leaves = (refl, refl, refl)
 
 -- copying out what is absent does nothing
 absent_copied_out : (ran (HostWrite 0x1000 (1 ∷ []) ∷ exit_data_of (item exit.Copyout (at 0x1000 1) ∷ []) ∷ [])).world.state.host ≡ host_of (1 ∷ []) 63

@@ -1,13 +1,10 @@
 -- While no block is lent, the exit from an open region is not refused.
 use Rattle.std.proofs.Common.{ℕ, suc, ◌≡◌, refl, ◌∙◌, ap, List, [], ◌∷◌, Option, Some, None, Ok}
 use Rattle.std.specs.Prelude.{map, reverse}
-use Rattle.acc_base.specs.declared.regions.Holding.{Holding}
+use Rattle.acc_base.specs.Words.{Holding, Step, Did, Event}
 use Rattle.acc_base.specs.declared.tasks.Task.TheVariants.{Leave}
 use Rattle.acc_base.specs.declared.directives.Directive.TheVariants.{Exit}
-use Rattle.acc_base.specs.declared.events.Step.{Step}
 use Rattle.acc_base.specs.declared.events.Step.TheVariants.{Nothing, Dropped}
-use Rattle.acc_base.specs.declared.events.Did.{Did}
-use Rattle.acc_base.specs.declared.events.Event.{Event}
 use Rattle.acc_base.specs.declared.events.Event.TheVariants.{Left}
 use Rattle.acc_base.specs.Results.{◌>>=◌, ◌>>◌}
 use Rattle.acc_base.specs.Limits.{Limits}

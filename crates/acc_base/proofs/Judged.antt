@@ -3,20 +3,10 @@ use Rattle.std.proofs.Common.{ℕ, ◌≡◌, ◌+◌, ◌<◌, refl, subst, Boo
 use Rattle.std.specs.Prelude.{◌==◌, ◌&&◌, not, nat_le, ⊤, Contains, IfSome}
 use Rattle.std.proofs.lemmas.Bool.Decides.{nat_tests}
 use Rattle.std.proofs.lemmas.List.Elements.{All-contains, All-from_recursion}
-use Rattle.acc_base.specs.declared.items.Section.{Section}
-use Rattle.acc_base.specs.declared.items.Item.{Item}
-use Rattle.acc_base.specs.declared.items.RegionClause.{RegionClause}
+use Rattle.acc_base.specs.Words.{Section, Item, RegionClause, ExitClause, UpdateClause, Counter, Range, Found, Holding, Task, Step, Loan}
 use Rattle.acc_base.specs.declared.items.RegionClause.TheVariants as region
-use Rattle.acc_base.specs.declared.items.ExitClause.{ExitClause}
-use Rattle.acc_base.specs.declared.items.UpdateClause.{UpdateClause}
-use Rattle.acc_base.specs.declared.mappings.Counter.{Counter}
-use Rattle.acc_base.specs.declared.mappings.Range.{Range}
-use Rattle.acc_base.specs.declared.mappings.Found.{Found}
 use Rattle.acc_base.specs.declared.mappings.Found.TheVariants.{Empty, Inside, Partly, Absent}
-use Rattle.acc_base.specs.declared.regions.Holding.{Holding}
-use Rattle.acc_base.specs.declared.tasks.Task.{Task}
 use Rattle.acc_base.specs.declared.tasks.Task.TheVariants.{Enter, Leave, Exit, Move}
-use Rattle.acc_base.specs.declared.events.Step.{Step}
 use Rattle.acc_base.specs.declared.events.Step.TheVariants.{Nothing, Counted, Born, Dropped, Moved}
 use Rattle.acc_base.specs.declared.faults.Fault.TheVariants.{CounterFull, Lent}
 use Rattle.acc_base.specs.Results.{◌>>◌, refuse_if}
@@ -27,7 +17,6 @@ use Rattle.acc_base.specs.Ranges.{where_is, range_of, counter_of, dynamic_of, en
 use Rattle.acc_base.specs.Blocks.{rounded, place_for}
 use Rattle.acc_base.specs.Clauses.{in_host, pointer_checked, born_at, enter_absent, enter_row, leave_row, exit_row, move_row}
 use Rattle.acc_base.specs.Tasks.{section_of, pointer_of, queue_of, recounted, checked}
-use Rattle.acc_base.specs.declared.loans.Loan.{Loan}
 use Rattle.acc_base.specs.Loans.{is_lent, not_lent}
 use Rattle.acc_base.specs.Transfers.{transfer_of, room_for}
 use Rattle.acc_base.specs.Steps.{judge_row, block_detached, block_needed, judge_step}
@@ -77,23 +66,13 @@ abbrev pub IsJudgedTo : Limits → Task → Step → Records → Type 0
 IsJudgedTo l (Enter counter item queue) Nothing w = ⊤
 IsJudgedTo l (Enter counter item queue) (Counted k) w = IsCount l counter k w
 IsJudgedTo l (Enter counter item queue) (Born k p) w = IsBirth l (section_of (Enter counter item queue)) k p w
-IsJudgedTo l (Enter counter item queue) (Dropped k ended) w = ⊥
-IsJudgedTo l (Enter counter item queue) (Moved k) w = ⊥
 IsJudgedTo l (Leave holding) Nothing w = holding.block ≡ None
-IsJudgedTo l (Leave holding) (Counted k) w = ⊥
-IsJudgedTo l (Leave holding) (Born k p) w = ⊥
 IsJudgedTo l (Leave holding) (Dropped k ended) w = (holding.block ≡ Some k) × (ended ≡ ends_by (recounted (Leave holding)) k w.ranges)
-IsJudgedTo l (Leave holding) (Moved k) w = ⊥
 IsJudgedTo l (Exit finalize item queue) Nothing w = ⊤
-IsJudgedTo l (Exit finalize item queue) (Counted k) w = ⊥
-IsJudgedTo l (Exit finalize item queue) (Born k p) w = ⊥
 IsJudgedTo l (Exit finalize item queue) (Dropped k ended) w = IsDrop l finalize item queue k ended w
-IsJudgedTo l (Exit finalize item queue) (Moved k) w = ⊥
 IsJudgedTo l (Move if_present item queue) Nothing w = ⊤
-IsJudgedTo l (Move if_present item queue) (Counted k) w = ⊥
-IsJudgedTo l (Move if_present item queue) (Born k p) w = ⊥
-IsJudgedTo l (Move if_present item queue) (Dropped k ended) w = ⊥
 IsJudgedTo l (Move if_present item queue) (Moved k) w = IsInRangeOf l item.section k w
+IsJudgedTo l _ _ w = ⊥
 
 -- ---- sections of host memory
 
@@ -102,9 +81,8 @@ pub in_host_says : (l : Limits) (n : ℕ) (section : Section) → in_host l n se
 in_host_says l n section e filled = go (is_empty section) (is_within section (host_memory l.host)) filled (refused_not _ _ e)
   where
     go : (a b : Bool) → a ≡ false → (not a && not b) ≡ false → b ≡ true
-    go true b p q = cc
     go false true p q = refl
-    go false false p q = cc
+    go _ _ p q = cc
 
 inside_filled : (s : Section) (ranges : List Range) (k o : ℕ) → where_is s ranges ≡ Inside k o → is_empty s ≡ false
 inside_filled s ranges k o e = go (is_empty s) refl e
@@ -138,13 +116,10 @@ born_says l counter item queue n w step (Some place) p a h e = enter_told l coun
 absent_entered : (l : Limits) (counter : Counter) (item : Item RegionClause) (queue : Option ℕ) (n : ℕ) (w : Records) (step : Step) (clause : RegionClause)
     → where_is (section_of (Enter counter item queue)) w.ranges ≡ Absent → is_within (section_of (Enter counter item queue)) (host_memory l.host) ≡ true
     → enter_absent clause l n (section_of (Enter counter item queue)) w ≡ Ok step → IsJudgedTo l (Enter counter item queue) step w
-absent_entered l counter item queue n w step region.Copy a h e = born_says l counter item queue n w step _ refl a h e
-absent_entered l counter item queue n w step region.Copyin a h e = born_says l counter item queue n w step _ refl a h e
-absent_entered l counter item queue n w step (region.Copyout zeroed) a h e = born_says l counter item queue n w step _ refl a h e
-absent_entered l counter item queue n w step (region.Create zeroed) a h e = born_says l counter item queue n w step _ refl a h e
 absent_entered l counter item queue n w step region.NoCreate a h e = enter_told l counter item queue w _ _ (ok_same _ _ e) tt
 absent_entered l counter item queue n w step region.Present a h e = cc
 absent_entered l counter item queue n w step region.Attach a h e = enter_told l counter item queue w _ _ (ok_same _ _ e) tt
+absent_entered l counter item queue n w step _ a h e = born_says l counter item queue n w step _ refl a h e
 
 entered_says : (l : Limits) (counter : Counter) (item : Item RegionClause) (queue : Option ℕ) (n : ℕ) (w : Records) (step : Step) (found : Found)
     → where_is (section_of (Enter counter item queue)) w.ranges ≡ found → in_host l n (section_of (Enter counter item queue)) ≡ Ok tt
@@ -170,7 +145,6 @@ left_says l holding w step (Some k) is e = subst (λ t. IsJudgedTo l (Leave hold
 exited_says : (l : Limits) (finalize : Bool) (item : Item ExitClause) (queue : Option ℕ) (n : ℕ) (w : Records) (step : Step) (found : Found)
     → where_is (section_of (Exit finalize item queue)) w.ranges ≡ found → in_host l n (section_of (Exit finalize item queue)) ≡ Ok tt
     → exit_row found (recounted (Exit finalize item queue)) n w ≡ Ok step → IsJudgedTo l (Exit finalize item queue) step w
-exited_says l finalize item queue n w step Empty f h e = subst (λ t. IsJudgedTo l (Exit finalize item queue) t w) (ok_same _ _ e) tt
 exited_says l finalize item queue n w step (Inside k o) f h e = ⊎_elim
     (λ a. subst (λ t. IsJudgedTo l (Exit finalize item queue) t w) (ok_same _ _ a.1) tt)
     (λ b. let some : 0 < dynamic_of k w.ranges = above (dynamic_of k w.ranges) b.0 in
@@ -179,8 +153,8 @@ exited_says l finalize item queue n w step (Inside k o) f h e = ⊎_elim
   where
     above : (d : ℕ) → (d == 0) ≡ false → 0 < d
     above d z = grind (arith, nat_tests)
-exited_says l finalize item queue n w step Absent f h e = subst (λ t. IsJudgedTo l (Exit finalize item queue) t w) (ok_same _ _ e) tt
 exited_says l finalize item queue n w step Partly f h e = cc
+exited_says l finalize item queue n w step _ f h e = subst (λ t. IsJudgedTo l (Exit finalize item queue) t w) (ok_same _ _ e) tt
 
 -- ---- `update`
 
@@ -190,8 +164,7 @@ moved_says : (l : Limits) (if_present : Bool) (item : Item UpdateClause) (queue 
 moved_says l if_present item queue n w step Empty f h e = subst (λ t. IsJudgedTo l (Move if_present item queue) t w) (ok_same _ _ e) tt
 moved_says l if_present item queue n w step (Inside k o) f h e = subst (λ t. IsJudgedTo l (Move if_present item queue) t w) (ok_same _ _ e) (in_range_of l n item.section k o w h f)
 moved_says l true item queue n w step Absent f h e = subst (λ t. IsJudgedTo l (Move true item queue) t w) (ok_same _ _ e) tt
-moved_says l false item queue n w step Absent f h e = cc
-moved_says l if_present item queue n w step Partly f h e = cc
+moved_says l _ item queue n w step _ f h e = cc
 
 -- ---- any task
 

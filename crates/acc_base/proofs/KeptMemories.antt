@@ -3,8 +3,7 @@ use Rattle.std.proofs.Common.{ℕ, ◌≡◌, refl, ◌∙◌, ap, Bool, true, f
 use Rattle.std.specs.Prelude.{◌==◌, filter, not}
 use Rattle.std.specs.List.{AllByRecursion, AllZip, list_any}
 use Rattle.std.proofs.lemmas.Bool.Decides.{nat_tests}
-use Rattle.acc_base.specs.declared.mappings.Block.{Block}
-use Rattle.acc_base.specs.declared.loans.Loan.{Loan}
+use Rattle.acc_base.specs.Words.{Block, Loan}
 use Rattle.acc_base.specs.Records.{Memory}
 use Rattle.acc_base.specs.Blocks.{without_block}
 use Rattle.acc_base.specs.Bytes.{memories_kept}
@@ -24,20 +23,11 @@ or_true false y e = e
 
 owners_there : (ls : List Loan) (ms : List Memory) (bs : List Block) → AllZip (IsMemoryOf ls) ms bs → AllByRecursion (λ m. has bs m.block ≡ true) ms
 owners_there ls [] [] h = tt
-owners_there ls [] (b ∷ bs) h = absurd h
-owners_there ls (m ∷ ms) [] h = absurd h
 owners_there ls (m ∷ ms) (b ∷ bs) h = (
   (let e : (b.number == m.block) ≡ true = rw h.0.block (equal_self b.number) in rw e),
   AllByRecursion-weaker (λ x. has bs x.block ≡ true) (λ x. has (b ∷ bs) x.block ≡ true) ms (λ x e. or_true (b.number == x.block) (has bs x.block) e) (owners_there ls ms bs h.1),
 )
-
-filter-all : {X : Type 0} (p : X → Bool) (xs : List X) → AllByRecursion (λ x. p x ≡ true) xs → filter p xs ≡ xs
-filter-all p [] h = refl
-filter-all p (x ∷ xs) h = rw h.0 (ap (λ ys. x ∷ ys) (filter-all p xs h.1))
-
--- no block is gone, so no memory is
-pub memories_kept-same : (ls : List Loan) (ms : List Memory) (bs : List Block) → AllZip (IsMemoryOf ls) ms bs → memories_kept bs ms ≡ ms
-memories_kept-same ls ms bs h = filter-all (λ m. has bs m.block) ms (owners_there ls ms bs h)
+owners_there ls _ _ h = absurd h
 
 has-without : (k n : ℕ) (blocks : List Block) → has (without_block k blocks) n ≡ (not (n == k) && has blocks n)
 has-without k n [] = go (n == k)
@@ -49,12 +39,11 @@ has-without k n (b ∷ bs) = go (has-without k n bs) (b.number == k) refl (b.num
   where
     go : has (without_block k bs) n ≡ (not (n == k) && has bs n) → (x : Bool) → (b.number == k) ≡ x → (y : Bool) → (b.number == n) ≡ y → (z : Bool) → (n == k) ≡ z
         → has (cond (not x) (b ∷ without_block k bs) (without_block k bs)) n ≡ (not z && (y || has bs n))
-    go rest true e true f true g = rest ∙ ap (λ t. not t && has bs n) g
     go rest true e true f false g = absurd (grind (arith, nat_tests))
-    go rest true e false f z g = rest ∙ ap (λ t. not t && has bs n) g
     go rest false e true f true g = absurd (grind (arith, nat_tests))
     go rest false e true f false g = ap (λ t. t || has (without_block k bs) n) f
     go rest false e false f z g = ap (λ t. t || has (without_block k bs) n) f ∙ (rest ∙ ap (λ t. not t && has bs n) g)
+    go rest true e _ f _ g = rest ∙ ap (λ t. not t && has bs n) g
 
 filter-same : {X : Type 0} (p q : X → Bool) (xs : List X) → AllByRecursion (λ x. p x ≡ q x) xs → filter p xs ≡ filter q xs
 filter-same p q [] h = refl

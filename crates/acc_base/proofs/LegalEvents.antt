@@ -2,21 +2,11 @@
 use Rattle.std.proofs.Common.{ℕ, suc, ◌≡◌, refl, sym, ◌∙◌, ap, subst, true, false, List, [], ◌∷◌, length, Option, Some, None, Result, Ok, arith}
 use Rattle.std.specs.Prelude.{◌==◌, not, take, drop, unwrap_or, option_map, is_none, ok_or, IsSome}
 use Rattle.std.proofs.lemmas.List.{reverse-reverse}
-use Rattle.acc_base.specs.declared.items.Section.{Section}
-use Rattle.acc_base.specs.declared.mappings.Block.{Block}
-use Rattle.acc_base.specs.declared.mappings.Found.{Found}
-use Rattle.acc_base.specs.declared.mappings.Found.TheVariants.{Empty, Inside, Partly, Absent}
-use Rattle.acc_base.specs.declared.loans.Loan.{Loan}
-use Rattle.acc_base.specs.declared.regions.Holding.{Holding}
-use Rattle.acc_base.specs.declared.transfers.Transfer.{Transfer}
-use Rattle.acc_base.specs.declared.tasks.Task.{Task}
-use Rattle.acc_base.specs.declared.directives.Directive.{Directive}
+use Rattle.acc_base.specs.Words.{Section, Block, Found, Loan, Holding, Transfer, Task, Directive, Did, Event, Fault}
+use Rattle.acc_base.specs.declared.mappings.Found.TheVariants.{Inside}
 use Rattle.acc_base.specs.declared.directives.Directive.TheVariants.{Enter, Exit, EnterData, ExitData, Update, Wait}
 use Rattle.acc_base.specs.declared.directives.Directive.TheVariants as directives
-use Rattle.acc_base.specs.declared.events.Did.{Did}
-use Rattle.acc_base.specs.declared.events.Event.{Event}
 use Rattle.acc_base.specs.declared.events.Event.TheVariants.{HostWritten, Lent, Gathered}
-use Rattle.acc_base.specs.declared.faults.Fault.{Fault}
 use Rattle.acc_base.specs.declared.faults.Fault.TheVariants.{NoLease, NoRegion}
 use Rattle.acc_base.specs.Results.{◌>>=◌, ◌>>◌, refuse_if}
 use Rattle.acc_base.specs.Limits.{Limits}
@@ -118,9 +108,6 @@ made_by l d s e h =
     let is : verdict_of d s acted.0 ≡ Makes e = ok_same _ _ free.1 in
     record { dids = acted.0; verdict_is = is; legal = event_legal l d s left.0 acted.0 e left.1 known.0 judged free.0 is }
 
-pub directive_legal : (l : Limits) (d : Directive) (s : State) (e : Event) → directive_verdict l d s ≡ Ok (Makes e) → IsLegal l e (layout_of s)
-directive_legal l d s e h = (made_by l d s e h).legal
-
 -- ---- a write of the host
 
 pub host_write_legal : (l : Limits) (addr len : ℕ) (lay : Layout) (e : Event) → host_write_event l addr len ≡ Ok e → HostWritten addr len ≡ e × IsLegal l e lay
@@ -146,14 +133,12 @@ lend_legal l region section s e h =
     there (Some holdings) e = refl
 
     go : (f : Found) → where_is section s.records.ranges ≡ f → IsSome (holdings_at region s.register.regions) → lend_there f region section s ≡ Ok e → (block : ℕ) × (Lent region section block s.register.serial ≡ e) × IsLegal l e (layout_of s)
-    go Empty at there_is k = cc
     go (Inside block offset) at there_is k =
         let both : (not_lent (Some block) s.records.loans ≡ Ok tt) × (Ok (Lent region section block s.register.serial) ≡ Ok e) = then_ok (not_lent (Some block) s.records.loans) (Ok (Lent region section block s.register.serial)) e k in
         let is : Lent region section block s.register.serial ≡ e = ok_same _ _ both.1 in
         let legal : IsLegal l (Lent region section block s.register.serial) (layout_of s) = record { names = (there_is, ap block_in at, refused_not _ _ both.0, refl); judged = tt } in
         (block, is, subst (λ x. IsLegal l x (layout_of s)) is legal)
-    go Partly at there_is k = cc
-    go Absent at there_is k = cc
+    go _ at there_is k = cc
 
 -- the loan that a lease brings back is there
 returned : (lease : Leased) (o : Option Loan) → is_loan_of lease o ≡ true → option_map (λ (x : Loan). x.serial) o ≡ Some lease.serial

@@ -3,30 +3,18 @@ use Rattle.std.proofs.Common.{ℕ, ◌≡◌, refl, sym, ◌∙◌, ap, Bool, tr
 use Rattle.std.specs.Prelude.{◌==◌, ◌<◌, not, nat_lt, is_some}
 use Rattle.std.specs.List.{AllByRecursion}
 use Rattle.std.proofs.lemmas.Bool.Decides.{nat_tests}
-use Rattle.acc_base.specs.declared.loans.Loan.{Loan}
-use Rattle.acc_base.specs.declared.mappings.Range.{Range}
+use Rattle.acc_base.specs.Words.{Loan, Range}
 use Rattle.acc_base.specs.Ranges.{range_of, with_range}
 use Rattle.acc_base.specs.Loans.{loan_of, is_lent, with_loan, without_loan}
 use Rattle.acc_base.specs.Accounts.{EachPair, IsLoanSound, AreLoansSound}
 use Rattle.acc_base.proofs.Results.{equal, equal_self}
-use Rattle.acc_base.proofs.Lookups.{at-without_same, at-without_other}
+use Rattle.acc_base.proofs.Lookups.{at-without_other}
 use Rattle.acc_base.proofs.Elements.{AllByRecursion-weaker, AllByRecursion-both, AllByRecursion-filter, EachPair-filter, find_none}
 
 abbrev block_named : Loan → ℕ
 block_named l = l.block
 
 -- ---- one loan more
-
--- the loan of a block, after one more was put in its place, where no other loan has its block
-pub loan_of-with_same : (new : Loan) (ls : List Loan) → loan_of new.block ls ≡ None → loan_of new.block (with_loan new ls) ≡ Some new
-loan_of-with_same new [] none = rw (equal_self new.block)
-loan_of-with_same new (l ∷ ls) none = go (loan_of-with_same new ls) (nat_lt new.block l.block) (l.block == new.block) refl none
-  where
-    go : (loan_of new.block ls ≡ None → loan_of new.block (with_loan new ls) ≡ Some new) → (b t : Bool) → (l.block == new.block) ≡ t → cond t (Some l) (loan_of new.block ls) ≡ None
-        → loan_of new.block (cond b (new ∷ l ∷ ls) (l ∷ with_loan new ls)) ≡ Some new
-    go rest true t e n = rw (equal_self new.block)
-    go rest false true e n = cc
-    go rest false false e n = rw e (rest n)
 
 -- the loans of other blocks stay
 pub loan_of-with_other : (new : Loan) (ls : List Loan) (b : ℕ) → (new.block == b) ≡ false → loan_of b (with_loan new ls) ≡ loan_of b ls
@@ -57,9 +45,6 @@ is_lent-with_free new ls b free = go (new.block == b) refl
     go false e = sym (ap is_some (loan_of-with_other new ls b e)) ∙ free
 
 -- ---- one loan fewer
-
-pub is_lent-without_same : (k : ℕ) (ls : List Loan) → is_lent k (without_loan k ls) ≡ false
-is_lent-without_same k ls = ap is_some (at-without_same block_named k ls)
 
 pub is_lent-without_other : (b k : ℕ) (ls : List Loan) → (b == k) ≡ false → is_lent b (without_loan k ls) ≡ is_lent b ls
 is_lent-without_other b k ls e = ap is_some (at-without_other block_named k b ls e)

@@ -13,6 +13,7 @@ pub mod Judged
 pub mod Queued
 pub mod Lending
 pub mod Sound
+pub mod Births
 pub mod Loaned
 pub mod Puts
 pub mod Recounted

@@ -5,12 +5,10 @@ use Rattle.acc_base.specs.declared.items.EnterClause.TheVariants as enter
 use Rattle.acc_base.specs.declared.items.ExitClause.TheVariants as exit
 use Rattle.acc_base.specs.declared.items.UpdateClause.TheVariants.{ToSelf, ToDevice}
 use Rattle.acc_base.specs.declared.directives.Directive.TheVariants.{ExitData}
-use Rattle.acc_base.specs.declared.calls.Call.{Call}
+use Rattle.acc_base.specs.Words.{Call, Loan, Fault}
 use Rattle.acc_base.specs.declared.calls.Call.TheVariants.{Do, HostWrite, Lend, Gather}
 use Rattle.acc_base.specs.declared.events.Step.TheVariants.{Nothing, Counted, Born, Dropped, Moved}
 use Rattle.acc_base.specs.declared.events.Event.TheVariants as events
-use Rattle.acc_base.specs.declared.loans.Loan.{Loan}
-use Rattle.acc_base.specs.declared.faults.Fault.{Fault}
 use Rattle.acc_base.specs.declared.faults.Fault.TheVariants.{NoTickets, TraceFull, OutOfHost, Misaligned, NoQueue, PartlyPresent, NotPresent, CounterFull, Lent, DeviceFull, QueueFull, NoRegion, NoLease}
 use Rattle.acc_base.specs.Loans.{Leased}
 use Rattle.acc_base.specs.Judge.{leased}
@@ -48,28 +46,22 @@ out_told = refl
 abbrev barred : List (Call Leased)
 barred = out ++ Lend 1 a ∷ update_of (item ToSelf a ∷ []) ∷ exit_of 1 ∷ step 0 ∷ wait_all ∷ exit_data_of (item exit.Delete a ∷ []) ∷ []
 
-barred_refused : (ran_with limits barred).refused ≡ fine 4 ++ replicate 6 (Some (Lent 1))
+barred_leaves : (ran_with limits barred).refused ≡ fine 4 ++ replicate 6 (Some (Lent 1))
+    × (ran_with limits barred).world ≡ (ran_with limits out).world
 unfolding ran_with
-barred_refused = refl
-
-barred_world : (ran_with limits barred).world ≡ (ran_with limits out).world
-unfolding ran_with
-barred_world = refl
+barred_leaves = (refl, refl)
 
 -- a second region counts the block meanwhile; then the lease comes back, and all goes on
 abbrev back : List (Call Leased)
 back = out ++ enter_of (item Copyin a ∷ []) ∷ gather 1 1 0 16 zeros ∷ step 0 ∷ step 0 ∷ exit_of 2 ∷ exit_of 1 ∷ Lend 9 a ∷ Lend 1 a ∷ gather 1 1 0 16 zeros ∷ []
 
-back_refused : (ran_with limits back).refused ≡ fine 10 ++ Some (NoRegion 9) ∷ Some (NoRegion 1) ∷ Some (NoLease 1) ∷ []
-unfolding ran_with
-back_refused = refl
-
-back_told : (ran_with limits back).world.history.trace
+back_leaves : (ran_with limits back).refused ≡ fine 10 ++ Some (NoRegion 9) ∷ Some (NoRegion 1) ∷ Some (NoLease 1) ∷ []
+    × (ran_with limits back).world.history.trace
     ≡ events.EnteredData (item enter.Copyin a ∷ []) None (did_of (Born 1 0x1_0000_0000) ∷ []) ∷ events.Entered 1 (item Present a ∷ []) (did_of (Counted 1) ∷ [])
     ∷ events.Updated (item ToSelf a ∷ []) false (Some 0) (did_of (Moved 1) ∷ []) ∷ events.Lent 1 a 1 1 ∷ events.Entered 2 (item Copyin a ∷ []) (did_of (Counted 1) ∷ []) ∷ events.Gathered 1 1
     ∷ events.Stepped 0 1 ∷ events.Left 2 (did_of (Dropped 1 false) ∷ []) ∷ events.Left 1 (did_of (Dropped 1 false) ∷ []) ∷ []
 unfolding ran_with
-back_told = refl
+back_leaves = (refl, refl)
 
 -- no lease but the loan's own: here the bytes are too many or too few, or the place,
 -- the length, the serial number or the block is another
@@ -119,24 +111,18 @@ ready_leased = refl
 abbrev taken : List (Call Leased)
 taken = ready ++ Lend 1 four ∷ []
 
-taken_bytes : (ran_with limits taken).world.state.memories ≡ memory 1 [] ∷ []
+taken_leaves : (ran_with limits taken).world.state.memories ≡ memory 1 [] ∷ []
+    × (ran_with limits taken).world.state.host ≡ host_of (0x0a ∷ 0x0b ∷ 0x0c ∷ 0x0d ∷ []) 60
 unfolding ran_with
-taken_bytes = refl
-
-taken_host : (ran_with limits taken).world.state.host ≡ host_of (0x0a ∷ 0x0b ∷ 0x0c ∷ 0x0d ∷ []) 60
-unfolding ran_with
-taken_host = refl
+taken_leaves = (refl, refl)
 
 abbrev added : List (Call Leased)
 added = taken ++ gather 1 1 0 4 (0x0b ∷ 0x0c ∷ 0x0d ∷ 0x0e ∷ []) ∷ []
 
-added_bytes : (ran_with limits added).world.state.memories ≡ memory 1 (0x0b ∷ 0x0c ∷ 0x0d ∷ 0x0e ∷ []) ∷ []
+added_leaves : (ran_with limits added).world.state.memories ≡ memory 1 (0x0b ∷ 0x0c ∷ 0x0d ∷ 0x0e ∷ []) ∷ []
+    × (ran_with limits added).world.state.host ≡ host_of (0x0a ∷ 0x0b ∷ 0x0c ∷ 0x0d ∷ []) 60
 unfolding ran_with
-added_bytes = refl
-
-added_host : (ran_with limits added).world.state.host ≡ host_of (0x0a ∷ 0x0b ∷ 0x0c ∷ 0x0d ∷ []) 60
-unfolding ran_with
-added_host = refl
+added_leaves = (refl, refl)
 
 -- the host gets the two bytes in the middle
 added_updated : (ran_with limits (added ++ update_of (item ToSelf (at 0x1001 2) ∷ []) ∷ [])).world.state.host ≡ host_of (0x0a ∷ 0x0c ∷ 0x0d ∷ 0x0d ∷ []) 60
@@ -147,13 +133,10 @@ added_updated = refl
 abbrev added_left : List (Call Leased)
 added_left = added ++ finalize_of (item exit.Delete four ∷ []) ∷ exit_of 1 ∷ []
 
-added_left_host : (ran_with limits added_left).world.state.host ≡ host_of (0x0b ∷ 0x0c ∷ 0x0d ∷ 0x0e ∷ []) 60
+added_left_leaves : (ran_with limits added_left).world.state.host ≡ host_of (0x0b ∷ 0x0c ∷ 0x0d ∷ 0x0e ∷ []) 60
+    × (ran_with limits added_left).world.state.memories ≡ []
 unfolding ran_with
-added_left_host = refl
-
-added_left_bytes : (ran_with limits added_left).world.state.memories ≡ []
-unfolding ran_with
-added_left_bytes = refl
+added_left_leaves = (refl, refl)
 
 -- the host's own bytes are not lent
 written_meanwhile : (ran_with limits (taken ++ HostWrite 0x1000 (1 ∷ 2 ∷ 3 ∷ 4 ∷ []) ∷ gather 1 1 0 4 (0x0b ∷ 0x0c ∷ 0x0d ∷ 0x0e ∷ []) ∷ update_of (item ToDevice (at 0x1000 1) ∷ []) ∷ [])).world.state.memories ≡ memory 1 (1 ∷ 0x0c ∷ 0x0d ∷ 0x0e ∷ []) ∷ []
@@ -178,13 +161,10 @@ part_bytes = refl
 abbrev both : List (Call Leased)
 both = part ++ Lend 1 a ∷ []
 
-both_loans : (ran_with limits both).world.state.records.loans ≡ loan 2 1 0 16 ∷ loan 1 2 4 8 ∷ []
+both_leaves : (ran_with limits both).world.state.records.loans ≡ loan 2 1 0 16 ∷ loan 1 2 4 8 ∷ []
+    × (ran_with limits both).world.state.register ≡ record { regions = region 1 [] ∷ []; next = 2; serial = 3 }
 unfolding ran_with
-both_loans = refl
-
-both_register : (ran_with limits both).world.state.register ≡ record { regions = region 1 [] ∷ []; next = 2; serial = 3 }
-unfolding ran_with
-both_register = refl
+both_leaves = (refl, refl)
 
 -- the bytes of the second array as a kernel left them
 abbrev sevens : List ℕ
@@ -194,17 +174,11 @@ sevens = replicate 4 0 ++ replicate 8 7 ++ replicate 4 0
 abbrev third : List (Call Leased)
 third = both ++ Lend 1 a ∷ Lend 1 c ∷ gather 1 1 0 16 zeros ∷ gather 1 2 4 8 sevens ∷ []
 
-third_refused : (ran_with limits third).refused ≡ fine 4 ++ Some (Lent 1) ∷ Some (NotPresent 0) ∷ Some (NoLease 1) ∷ None ∷ []
+third_leaves : (ran_with limits third).refused ≡ fine 4 ++ Some (Lent 1) ∷ Some (NotPresent 0) ∷ Some (NoLease 1) ∷ None ∷ []
+    × (ran_with limits third).world.state.records.loans ≡ loan 2 1 0 16 ∷ []
+    × (ran_with limits third).world.state.memories ≡ memory 1 [] ∷ memory 2 sevens ∷ []
 unfolding ran_with
-third_refused = refl
-
-third_loans : (ran_with limits third).world.state.records.loans ≡ loan 2 1 0 16 ∷ []
-unfolding ran_with
-third_loans = refl
-
-third_bytes : (ran_with limits third).world.state.memories ≡ memory 1 [] ∷ memory 2 sevens ∷ []
-unfolding ran_with
-third_bytes = refl
+third_leaves = (refl, refl, refl)
 
 third_lent : (ran_with limits (third ++ gather 2 1 0 16 zeros ∷ Lend 1 (at 0x1018 4) ∷ [])).world.history.trace
     ≡ events.Entered 1 [] [] ∷ events.EnteredData (item enter.Copyin a ∷ item enter.Copyin b ∷ []) None (did_of (Born 1 0x1_0000_0000) ∷ did_of (Born 2 0x1_0000_0010) ∷ [])
@@ -262,13 +236,10 @@ abbrev passing : List (Call Leased)
 passing = enter_of (item Copyin a ∷ []) ∷ Lend 1 a ∷ exit_data_of (item exit.Delete a ∷ []) ∷ finalize_of (item exit.Copyout a ∷ []) ∷ enter_of (item NoCreate a ∷ item Copy a ∷ []) ∷ update_of (item ToSelf (at 0x1004 0) ∷ []) ∷ update_later 0 (item ToDevice a ∷ [])
     ∷ enter_data_of (item enter.Copyin b ∷ []) ∷ update_of (item ToSelf b ∷ []) ∷ exit_data_of (item exit.Copyout b ∷ []) ∷ enter_data_of (item (enter.Create true) a ∷ []) ∷ []
 
-passing_refused : (ran_with limits passing).refused ≡ fine 11
+passing_leaves : (ran_with limits passing).refused ≡ fine 11
+    × (ran_with limits passing).world.state.memories ≡ memory 1 [] ∷ []
 unfolding ran_with
-passing_refused = refl
-
-passing_bytes : (ran_with limits passing).world.state.memories ≡ memory 1 [] ∷ []
-unfolding ran_with
-passing_bytes = refl
+passing_leaves = (refl, refl)
 
 -- a region that counted nothing is left, and its loan comes back after that
 nothing_held : (ran_with limits (enter_of (item NoCreate a ∷ []) ∷ enter_data_of (item enter.Copyin a ∷ []) ∷ Lend 1 a ∷ exit_of 1 ∷ exit_of 1 ∷ gather 1 1 0 16 zeros ∷ [])).refused ≡ fine 4 ++ Some (NoRegion 1) ∷ None ∷ []

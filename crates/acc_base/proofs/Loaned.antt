@@ -2,19 +2,11 @@
 use Rattle.std.proofs.Common.{ℕ, ◌≡◌, refl, ◌∙◌, ap, subst, true, false, List, [], ◌∷◌, Option, Some, None, arith}
 use Rattle.std.specs.Prelude.{◌+◌, ◌-◌, ◌<◌, ◌≤◌, unwrap_or, option_map}
 use Rattle.std.proofs.lemmas.Bool.Decides.{nat_tests}
-use Rattle.acc_base.specs.declared.items.Section.{Section}
-use Rattle.acc_base.specs.declared.mappings.Range.{Range}
-use Rattle.acc_base.specs.declared.mappings.Found.{Found}
-use Rattle.acc_base.specs.declared.mappings.Found.TheVariants.{Empty, Inside, Partly, Absent}
-use Rattle.acc_base.specs.declared.loans.Loan.{Loan}
-use Rattle.acc_base.specs.declared.transfers.Transfer.{Transfer}
-use Rattle.acc_base.specs.declared.tasks.Task.{Task}
-use Rattle.acc_base.specs.declared.tasks.Task.TheVariants.{Enter, Leave, Exit, Move}
-use Rattle.acc_base.specs.declared.events.Step.{Step}
-use Rattle.acc_base.specs.declared.events.Step.TheVariants.{Nothing, Counted, Born, Dropped, Moved}
-use Rattle.acc_base.specs.declared.events.Did.{Did}
-use Rattle.acc_base.specs.declared.events.Event.{Event}
-use Rattle.acc_base.specs.declared.events.Event.TheVariants.{Entered, Left, EnteredData, ExitedData, Updated, Waited, Stepped, HostWritten, Lent, Gathered}
+use Rattle.acc_base.specs.Words.{Section, Range, Found, Loan, Transfer, Task, Step, Did, Event}
+use Rattle.acc_base.specs.declared.mappings.Found.TheVariants.{Inside}
+use Rattle.acc_base.specs.declared.tasks.Task.TheVariants.{Enter}
+use Rattle.acc_base.specs.declared.events.Step.TheVariants.{Dropped}
+use Rattle.acc_base.specs.declared.events.Event.TheVariants.{Entered, Lent, Gathered}
 use Rattle.acc_base.specs.Limits.{Limits}
 use Rattle.acc_base.specs.Section.{is_empty, is_within}
 use Rattle.acc_base.specs.Ranges.{where_is, range_of, start_of}
@@ -36,26 +28,19 @@ use Rattle.acc_base.proofs.RangeChanges.{block_of}
 
 pub loans-step : (task : Task) (step : Step) (w : Records) → (act_step task step w).loans ≡ w.loans
 unfolding act_step act_row records_after_birth records_after_end released with_range_changed
-loans-step task Nothing w = refl
-loans-step task (Counted k) w = refl
-loans-step task (Born k p) w = refl
 loans-step task (Dropped k true) w = refl
-loans-step task (Dropped k false) w = refl
-loans-step task (Moved k) w = refl
+loans-step task _ w = refl
 
 pub loans-act : (task : Task) (did : Did) (w : Records) → (act task did w).loans ≡ w.loans
 unfolding act
 loans-act (Enter counter item queue) did w = loans-step (Enter counter item queue) did.step w
-loans-act (Leave holding) did w = loans-step (Leave holding) did.step _
-loans-act (Exit finalize item queue) did w = loans-step (Exit finalize item queue) did.step _
-loans-act (Move if_present item queue) did w = loans-step (Move if_present item queue) did.step _
+loans-act task did w = loans-step task did.step _
 
 pub loans-act_all : (tasks : List Task) (dids : List Did) (w : Records) → (act_all tasks dids w).loans ≡ w.loans
 unfolding act_all
 loans-act_all [] [] w = refl
-loans-act_all [] (did ∷ dids) w = refl
-loans-act_all (task ∷ tasks) [] w = refl
 loans-act_all (task ∷ tasks) (did ∷ dids) w = loans-act_all tasks dids (act task did w) ∙ loans-act task did w
+loans-act_all _ _ w = refl
 
 pub loans-stepped : (q : ℕ) (w : Records) → (records_stepped q w).loans ≡ w.loans
 unfolding records_stepped released
@@ -76,15 +61,7 @@ loans-drained (q ∷ qs) w = loans-drained qs (records_stepped q w) ∙ loans-st
 pub ranges-loaned : (e : Event) (w : Records) → (loaned e w).ranges ≡ w.ranges
 unfolding loaned
 ranges-loaned (Entered number items did) w = refl
-ranges-loaned (Left number did) w = refl
-ranges-loaned (EnteredData items queue did) w = refl
-ranges-loaned (ExitedData items finalize queue did) w = refl
-ranges-loaned (Updated items if_present queue did) w = refl
-ranges-loaned (Waited queue count) w = refl
-ranges-loaned (Stepped queue block) w = refl
-ranges-loaned (HostWritten addr len) w = refl
-ranges-loaned (Lent region section block serial) w = refl
-ranges-loaned (Gathered serial block) w = refl
+ranges-loaned _ w = refl
 
 -- records with other loans
 pub with_loans : (l : Limits) (w : Records) (ls : List Loan) → AreRecordsSound l w → AreLoansSound w.ranges ls → AreRecordsSound l (record w { loans = ls })
@@ -109,7 +86,6 @@ placed_loan l serial block section w h is = go (where_is section w.ranges) refl 
     fits start range e within = grind (arith, nat_tests)
 
     go : (f : Found) → where_is section w.ranges ≡ f → block_in f ≡ Some block → IsLoanSound w.ranges (loan_at serial block section w.ranges)
-    go Empty at k = cc
     go (Inside b offset) at k =
         let same : b ≡ block = cc in
         let found : (r : Range) × IsInsideOf section w.ranges b offset r = inside_says section w.ranges b offset at in
@@ -122,22 +98,14 @@ placed_loan l serial block section w h is = go (where_is section w.ranges) refl 
           some = filled section found.1.some;
           within = fits (start_of block w.ranges) r.section (ap (λ (o : Option Range). unwrap_or (option_map (λ (x : Range). x.section.start) o) 0) mapped) own.1;
         }
-    go Partly at k = cc
-    go Absent at k = cc
+    go _ at k = cc
 
 -- records stay sound
 pub loaned_sound : (l : Limits) (e : Event) (lay : Layout) → NamesRight l e lay → AreRecordsSound l (records_drained (stepped_in e lay.records.queues) (act_all (asked_in e lay.register) (done_in e) lay.records))
     → AreRecordsSound l (loaned e (records_drained (stepped_in e lay.records.queues) (act_all (asked_in e lay.register) (done_in e) lay.records)))
 unfolding loaned records_drained act_all
-loaned_sound l (Entered number items did) lay names h = h
-loaned_sound l (Left number did) lay names h = h
-loaned_sound l (EnteredData items queue did) lay names h = h
-loaned_sound l (ExitedData items finalize queue did) lay names h = h
-loaned_sound l (Updated items if_present queue did) lay names h = h
-loaned_sound l (Waited queue count) lay names h = h
-loaned_sound l (Stepped queue block) lay names h = h
-loaned_sound l (HostWritten addr len) lay names h = h
 loaned_sound l (Lent region section block serial) lay names h =
     let w : Records = lay.records in
     with_loans l w _ h (loans-with w.ranges (loan_at serial block section w.ranges) w.loans names.2 (placed_loan l serial block section w h names.1) h.loans)
 loaned_sound l (Gathered serial block) lay names h = with_loans l lay.records _ h (loans-without lay.records.ranges block lay.records.loans h.loans)
+loaned_sound l _ lay names h = h

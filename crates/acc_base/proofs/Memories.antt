@@ -5,22 +5,12 @@ use Rattle.std.specs.List.{AllByRecursion, AllZip}
 use Rattle.std.specs.Int.{to_le_bytes, w64}
 use Rattle.std.proofs.lemmas.List.{length-replicate}
 use Rattle.std.proofs.lemmas.Bool.{true≢false}
-use Rattle.acc_base.specs.declared.items.Section.{Section}
-use Rattle.acc_base.specs.declared.mappings.Range.{Range}
-use Rattle.acc_base.specs.declared.mappings.Counter.TheVariants.{Structured, Dynamic}
-use Rattle.acc_base.specs.declared.mappings.Block.{Block}
-use Rattle.acc_base.specs.declared.loans.Loan.{Loan}
-use Rattle.acc_base.specs.declared.attachments.Attachment.{Attachment}
-use Rattle.acc_base.specs.declared.attachments.Aim.{Aim}
+use Rattle.acc_base.specs.Words.{Section, Range, Block, Loan, Attachment, Aim, Task, Transfer, Step, Did, Event}
+use Rattle.acc_base.specs.declared.mappings.Counter.TheVariants.{Structured}
 use Rattle.acc_base.specs.declared.attachments.Aim.TheVariants as aims
-use Rattle.acc_base.specs.declared.tasks.Task.{Task}
-use Rattle.acc_base.specs.declared.tasks.Task.TheVariants.{Enter, Leave, Exit, Move}
-use Rattle.acc_base.specs.declared.transfers.Transfer.{Transfer}
-use Rattle.acc_base.specs.declared.events.Step.{Step}
-use Rattle.acc_base.specs.declared.events.Step.TheVariants.{Nothing, Counted, Born, Dropped, Moved}
-use Rattle.acc_base.specs.declared.events.Did.{Did}
-use Rattle.acc_base.specs.declared.events.Event.{Event}
-use Rattle.acc_base.specs.declared.events.Event.TheVariants.{Entered, Left, EnteredData, ExitedData, Updated, Waited, Stepped, HostWritten, Lent, Gathered}
+use Rattle.acc_base.specs.declared.tasks.Task.TheVariants.{Enter, Exit}
+use Rattle.acc_base.specs.declared.events.Step.TheVariants.{Born, Dropped}
+use Rattle.acc_base.specs.declared.events.Event.TheVariants.{HostWritten, Lent, Gathered}
 use Rattle.acc_base.specs.Limits.{Limits}
 use Rattle.acc_base.specs.Records.{Records, Memory, State, new_state}
 use Rattle.acc_base.specs.Section.{covers, host_base}
@@ -46,8 +36,6 @@ use Rattle.acc_base.proofs.Lending.{is_lent-with_same, is_lent-with_free, is_len
 -- a block is gone, and its memory with it; the others stay in step
 without_sized : (ls : List Loan) (k : ℕ) (ms : List Memory) (bs : List Block) → AllZip (IsMemoryOf ls) ms bs → AllZip (IsMemoryOf ls) (filter (λ m. not (m.block == k)) ms) (without_block k bs)
 without_sized ls k [] [] h = tt
-without_sized ls k [] (b ∷ bs) h = absurd h
-without_sized ls k (m ∷ ms) [] h = absurd h
 without_sized ls k (m ∷ ms) (b ∷ bs) h = subst (λ n. AllZip (IsMemoryOf ls) (cond (not (n == k)) (m ∷ filter (λ x. not (x.block == k)) ms) (filter (λ x. not (x.block == k)) ms)) (cond (not (b.number == k)) (b ∷ without_block k bs) (without_block k bs))) (sym h.0.block)
     (go (without_sized ls k ms bs h.1) (b.number == k))
   where
@@ -55,6 +43,7 @@ without_sized ls k (m ∷ ms) (b ∷ bs) h = subst (λ n. AllZip (IsMemoryOf ls)
         → AllZip (IsMemoryOf ls) (cond (not t) (m ∷ filter (λ x. not (x.block == k)) ms) (filter (λ x. not (x.block == k)) ms)) (cond (not t) (b ∷ without_block k bs) (without_block k bs))
     go rest true = rest
     go rest false = (h.0, rest)
+without_sized ls k _ _ h = absurd h
 
 -- ---- copies keep lengths
 
@@ -75,9 +64,8 @@ length-host_after_write addr len bytes host = length-written_bytes (covers (reco
 
 sized-push : (ls : List Loan) (ms : List Memory) (bs : List Block) (m : Memory) (b : Block) → AllZip (IsMemoryOf ls) ms bs → IsMemoryOf ls m b → AllZip (IsMemoryOf ls) (ms ++ m ∷ []) (bs ++ b ∷ [])
 sized-push ls [] [] m b h k = (k, tt)
-sized-push ls [] (c ∷ bs) m b h k = absurd h
-sized-push ls (x ∷ ms) [] m b h k = absurd h
 sized-push ls (x ∷ ms) (c ∷ bs) m b h k = (h.0, sized-push ls ms bs m b h.1 k)
+sized-push ls _ _ m b h k = absurd h
 
 -- ---- the memory of one block changed
 
@@ -90,9 +78,8 @@ memory_changed_sized ls k change m b keeps h = go (m.block == k)
 
 pub changed_sized : (ls : List Loan) (k : ℕ) (change : List ℕ → List ℕ) (ms : List Memory) (bs : List Block) → ((bytes : List ℕ) → length (change bytes) ≡ length bytes) → AllZip (IsMemoryOf ls) ms bs → AllZip (IsMemoryOf ls) (map (memory_changed k change) ms) bs
 changed_sized ls k change [] [] keeps h = tt
-changed_sized ls k change [] (b ∷ bs) keeps h = absurd h
-changed_sized ls k change (m ∷ ms) [] keeps h = absurd h
 changed_sized ls k change (m ∷ ms) (b ∷ bs) keeps h = (memory_changed_sized ls k change m b keeps h.0, changed_sized ls k change ms bs keeps h.1)
+changed_sized ls k change _ _ keeps h = absurd h
 
 -- ---- a transfer
 
@@ -122,26 +109,22 @@ made_sized ls (Some t) attached host ms bs h = go t.out
 -- counting keeps the block of a range
 pub recounted-block : (task : Task) (r : Range) → (recounted task r).block ≡ r.block
 recounted-block (Enter Structured item queue) r = refl
-recounted-block (Enter Dynamic item queue) r = refl
-recounted-block (Leave holding) r = refl
 recounted-block (Exit finalize item queue) r = go finalize
   where
     go : (b : Bool) → (recounted (Exit b item queue) r).block ≡ r.block
     go true = refl
     go false = refl
-recounted-block (Move if_present item queue) r = refl
+recounted-block _ r = refl
 
 -- and its section
 pub recounted-section : (task : Task) (r : Range) → (recounted task r).section ≡ r.section
 recounted-section (Enter Structured item queue) r = refl
-recounted-section (Enter Dynamic item queue) r = refl
-recounted-section (Leave holding) r = refl
 recounted-section (Exit finalize item queue) r = go finalize
   where
     go : (b : Bool) → (recounted (Exit b item queue) r).section ≡ r.section
     go true = refl
     go false = refl
-recounted-section (Move if_present item queue) r = refl
+recounted-section _ r = refl
 
 -- the memory of a block that is born by a task is as long as the block
 pub is_born_memory : (ls : List Loan) (task : Task) (block place : ℕ) → IsMemoryOf ls (record { block = block; bytes = replicate (section_of task).len (fill_of task) })
@@ -169,8 +152,6 @@ step_sized l task step s h = record { host = length-host_made (made_now task ste
     made step = made_sized s.records.loans (made_now task step s.records.ranges) s.records.attached s.host s.memories s.records.blocks h.blocks
 
     blocks : (step : Step) → AllZip (IsMemoryOf (act_step task step s.records).loans) (memories_acted task step s) (act_step task step s.records).blocks
-    blocks Nothing = made Nothing
-    blocks (Counted k) = made (Counted k)
     blocks (Born k p) =
         let new : Memory = record { block = k; bytes = replicate (section_of task).len (fill_of task) } in
         let r : Range = recounted task (bare_range (section_of task) k) in
@@ -179,8 +160,7 @@ step_sized l task step s h = record { host = length-host_made (made_now task ste
     blocks (Dropped k true) =
         let w : Records = record (with_put task (Dropped k true) s.records) { ranges = without_range k s.records.ranges } in
         released_sized k w (memories_made (made_now task (Dropped k true) s.records.ranges) s.records.attached s.host s.memories) (made (Dropped k true))
-    blocks (Dropped k false) = made (Dropped k false)
-    blocks (Moved k) = made (Moved k)
+    blocks step = made step
 
 -- and after an attachment or a detachment
 pub aimed_sized : (l : Limits) (aim : Aim) (s : State) → AreMemoriesSized l s → AreMemoriesSized l (aimed aim s)
@@ -192,31 +172,27 @@ aimed_sized l aim s h = record { host = h.host; blocks = go aim }
         (λ bytes. length-written_bytes (covers (pointer_at pointer)) source (start_of block s.records.ranges) bytes) h.blocks
 
     go : (a : Aim) → AllZip (IsMemoryOf s.records.loans) (memories_aimed a s) s.records.blocks
-    go aims.None = h.blocks
     go (aims.New pointer block target) = written block pointer (λ a. slice_index (to_le_bytes w64 target) (a - pointer))
-    go (aims.Again pointer block) = h.blocks
     go (aims.Less pointer block) = last (count_at block pointer s.records.attached == 1)
       where
         last : (b : Bool) → AllZip (IsMemoryOf s.records.loans) (cond b (pointer_written block pointer (host_byte s.host) s) s.memories) s.records.blocks
         last true = written block pointer (host_byte s.host)
         last false = h.blocks
     go (aims.Cleared pointer block) = written block pointer (host_byte s.host)
+    go _ = h.blocks
 
 -- and after a task, whatever it did
 pub act_sized : (l : Limits) (task : Task) (did : Did) (s : State) → AreMemoriesSized l s → AreMemoriesSized l (act_state task did s)
 unfolding act_state
 act_sized l (Enter counter item queue) did s h = aimed_sized l did.aim (step_state (Enter counter item queue) did.step s) (step_sized l (Enter counter item queue) did.step s h)
-act_sized l (Leave holding) did s h = step_sized l (Leave holding) did.step (aimed did.aim s) (aimed_sized l did.aim s h)
-act_sized l (Exit finalize item queue) did s h = step_sized l (Exit finalize item queue) did.step (aimed did.aim s) (aimed_sized l did.aim s h)
-act_sized l (Move if_present item queue) did s h = step_sized l (Move if_present item queue) did.step (aimed did.aim s) (aimed_sized l did.aim s h)
+act_sized l task did s h = step_sized l task did.step (aimed did.aim s) (aimed_sized l did.aim s h)
 
 -- and after a list of tasks
 pub act_all_sized : (l : Limits) (tasks : List Task) (dids : List Did) (s : State) → AreMemoriesSized l s → AreMemoriesSized l (act_all_state tasks dids s)
 unfolding act_all_state
 act_all_sized l [] [] s h = h
-act_all_sized l [] (d ∷ ds) s h = h
-act_all_sized l (t ∷ ts) [] s h = h
 act_all_sized l (t ∷ ts) (d ∷ ds) s h = act_all_sized l ts ds (act_state t d s) (act_sized l t d s h)
+act_all_sized l _ _ s h = h
 
 -- ---- queued transfers
 
@@ -240,80 +216,47 @@ drained_sized l (q ∷ qs) s h = drained_sized l qs (stepped q s) (stepped_sized
 
 -- the bytes that a call brings keep the length of host memory
 pub length-host_after : (e : Event) (brought host : List ℕ) → length (host_after e brought host) ≡ length host
-length-host_after (Entered number items did) brought host = refl
-length-host_after (Left number did) brought host = refl
-length-host_after (EnteredData items queue did) brought host = refl
-length-host_after (ExitedData items finalize queue did) brought host = refl
-length-host_after (Updated items if_present queue did) brought host = refl
-length-host_after (Waited queue count) brought host = refl
-length-host_after (Stepped queue block) brought host = refl
 length-host_after (HostWritten addr len) brought host = length-host_after_write addr len brought host
-length-host_after (Lent region section block serial) brought host = refl
-length-host_after (Gathered serial block) brought host = refl
+length-host_after _ brought host = refl
 
 -- the bytes that a call brings back are as many as the block has
 abbrev pub AreBrought : Event → List ℕ → Records → Type 0
-AreBrought (Entered number items did) brought w = ⊤
-AreBrought (Left number did) brought w = ⊤
-AreBrought (EnteredData items queue did) brought w = ⊤
-AreBrought (ExitedData items finalize queue did) brought w = ⊤
-AreBrought (Updated items if_present queue did) brought w = ⊤
-AreBrought (Waited queue count) brought w = ⊤
-AreBrought (Stepped queue block) brought w = ⊤
-AreBrought (HostWritten addr len) brought w = ⊤
-AreBrought (Lent region section block serial) brought w = ⊤
 AreBrought (Gathered serial block) brought w = AllByRecursion (λ b. b.number ≡ block → length brought ≡ b.len) w.blocks
+AreBrought _ brought w = ⊤
 
 -- the memory of a block that is lent has no length to keep
 pub lent_sized : (new : Loan) (ls : List Loan) (ms : List Memory) (bs : List Block) → AllZip (IsMemoryOf ls) ms bs → AllZip (IsMemoryOf (with_loan new ls)) (map (memory_changed new.block (λ _. [])) ms) bs
 lent_sized new ls [] [] h = tt
-lent_sized new ls [] (b ∷ bs) h = absurd h
-lent_sized new ls (m ∷ ms) [] h = absurd h
 lent_sized new ls (m ∷ ms) (b ∷ bs) h = (go (m.block == new.block) refl, lent_sized new ls ms bs h.1)
   where
     go : (t : Bool) → (m.block == new.block) ≡ t → IsMemoryOf (with_loan new ls) (cond t (record m { bytes = [] }) m) b
     go true e = record { block = h.0.block; len = λ free. absurd (true≢false (sym (is_lent-with_same new ls b.number (sym (equal _ _ e) ∙ h.0.block)) ∙ free)) }
     go false e = record { block = h.0.block; len = λ free. h.0.len (is_lent-with_free new ls b.number free) }
+lent_sized new ls _ _ h = absurd h
 
 -- that of a block that came back has its length again
 pub gathered_sized : (k : ℕ) (brought : List ℕ) (ls : List Loan) (ms : List Memory) (bs : List Block) → AllByRecursion (λ b. b.number ≡ k → length brought ≡ b.len) bs → AllZip (IsMemoryOf ls) ms bs
     → AllZip (IsMemoryOf (without_loan k ls)) (map (memory_changed k (λ _. brought)) ms) bs
 gathered_sized k brought ls [] [] fits h = tt
-gathered_sized k brought ls [] (b ∷ bs) fits h = absurd h
-gathered_sized k brought ls (m ∷ ms) [] fits h = absurd h
 gathered_sized k brought ls (m ∷ ms) (b ∷ bs) fits h = (go (m.block == k) refl, gathered_sized k brought ls ms bs fits.1 h.1)
   where
     go : (t : Bool) → (m.block == k) ≡ t → IsMemoryOf (without_loan k ls) (cond t (record m { bytes = brought }) m) b
     go true e = record { block = h.0.block; len = λ free. fits.0 (sym h.0.block ∙ equal _ _ e) }
     go false e = record { block = h.0.block; len = λ free. h.0.len (sym (is_lent-without_other b.number k ls (subst (λ n. (n == k) ≡ false) h.0.block e)) ∙ free) }
+gathered_sized k brought ls _ _ fits h = absurd h
 
 -- and so are those after an event, whatever it did to loans
 loaned_sized : (e : Event) (brought : List ℕ) (w : Records) (ms : List Memory) → AreBrought e brought w → AllZip (IsMemoryOf w.loans) ms w.blocks → AllZip (IsMemoryOf (loaned e w).loans) (memories_after e brought ms) (loaned e w).blocks
 unfolding loaned
-loaned_sized (Entered number items did) brought w ms fits h = h
-loaned_sized (Left number did) brought w ms fits h = h
-loaned_sized (EnteredData items queue did) brought w ms fits h = h
-loaned_sized (ExitedData items finalize queue did) brought w ms fits h = h
-loaned_sized (Updated items if_present queue did) brought w ms fits h = h
-loaned_sized (Waited queue count) brought w ms fits h = h
-loaned_sized (Stepped queue block) brought w ms fits h = h
-loaned_sized (HostWritten addr len) brought w ms fits h = h
 loaned_sized (Lent region section block serial) brought w ms fits h = lent_sized (loan_at serial block section w.ranges) w.loans ms w.blocks h
 loaned_sized (Gathered serial block) brought w ms fits h = gathered_sized block brought w.loans ms w.blocks fits h
+loaned_sized _ brought w ms fits h = h
 
 -- what an event asks of the bytes that are brought back is asked of the blocks before its call
 brought_last : (e : Event) (brought : List ℕ) (s : State) → AreBrought e brought s.records → AreBrought e brought (drained (stepped_in e s.records.queues) (act_all_state (asked_in e s.register) (done_in e) s)).records
 unfolding drained act_all_state
-brought_last (Entered number items did) brought s fits = tt
-brought_last (Left number did) brought s fits = tt
-brought_last (EnteredData items queue did) brought s fits = tt
-brought_last (ExitedData items finalize queue did) brought s fits = tt
-brought_last (Updated items if_present queue did) brought s fits = tt
-brought_last (Waited queue count) brought s fits = tt
-brought_last (Stepped queue block) brought s fits = tt
-brought_last (HostWritten addr len) brought s fits = tt
-brought_last (Lent region section block serial) brought s fits = tt
 brought_last (Gathered serial block) brought s fits = fits
+brought_last _ brought s fits = tt
 
 -- memories are as long as their blocks after an event
 pub event_sized : (l : Limits) (e : Event) (brought : List ℕ) (s : State) → AreBrought e brought s.records → AreMemoriesSized l s → AreMemoriesSized l (after e brought s)

@@ -4,10 +4,9 @@ use Rattle.std.specs.Prelude.{◌⊎◌, map, filter, nat_le, IfSome}
 use Rattle.std.specs.List.{list_all, AllByRecursion}
 use Rattle.std.proofs.lemmas.Bool.{cases_lt}
 use Rattle.std.proofs.lemmas.Bool.Decides.{nat_tests}
-use Rattle.acc_base.specs.declared.mappings.Block.{Block}
-use Rattle.acc_base.specs.declared.items.Section.{Section}
+use Rattle.acc_base.specs.Words.{Block, Section}
 use Rattle.acc_base.specs.Section.{end_of, is_within}
-use Rattle.acc_base.specs.Blocks.{place_for, fits_at, is_clear_of, least, least_of, block_end, size_of, rounded, Fits, IsFree, IsPlaceFor}
+use Rattle.acc_base.specs.Blocks.{place_for, fits_at, is_clear_of, least, least_of, block_end, size_of, Fits, IsFree, IsPlaceFor}
 use Rattle.acc_base.proofs.Results.{and_true, tested}
 use Rattle.acc_base.proofs.Elements.{AllByRecursion-both, AllByRecursion-filter, AllByRecursion-weaker, list_all-from, list_all-to}
 
@@ -163,10 +162,6 @@ place_for-least memory blocks size some filled = go (place_for memory blocks siz
     go : (o : Option ℕ) → IsFoundPlace (fits_at memory blocks size) o → IsPlaceFor memory blocks size o
     go None none = λ q fits. none q (fits_to memory blocks size q some filled fits)
     go (Some p) found = (fits_says memory blocks size p found.0, λ q fits. found.1 q (fits_to memory blocks size q some filled fits))
-
--- a block that is not empty takes some bytes
-pub size-some : (n : ℕ) → 0 < n → 0 < rounded n
-size-some n some = omega arith
 
 -- ---- places are multiples of 16
 

@@ -3,9 +3,8 @@ use Rattle.std.proofs.Common.{◌≡◌, refl, List, [], ◌∷◌, ◌++◌, So
 use Rattle.acc_base.specs.declared.items.EnterClause.TheVariants as enter
 use Rattle.acc_base.specs.declared.items.ExitClause.TheVariants as exit
 use Rattle.acc_base.specs.declared.items.UpdateClause.TheVariants.{ToSelf, ToDevice}
-use Rattle.acc_base.specs.declared.calls.Call.{Call}
+use Rattle.acc_base.specs.Words.{Call, Aim}
 use Rattle.acc_base.specs.declared.calls.Call.TheVariants.{HostWrite}
-use Rattle.acc_base.specs.declared.attachments.Aim.{Aim}
 use Rattle.acc_base.specs.declared.attachments.Aim.TheVariants as aims
 use Rattle.acc_base.specs.declared.faults.Fault.TheVariants.{OutOfHost, Misaligned, CounterFull}
 use Rattle.acc_base.specs.Loans.{Leased}

@@ -2,14 +2,9 @@
 use Rattle.std.proofs.Common.{ℕ, ◌≡◌, ◌+◌, ◌-◌, ◌≤◌, refl, ap, subst, Bool, true, false, cond, List, [], ◌∷◌, ◌++◌, Option, Some, None, Ok, arith, ◌<◌}
 use Rattle.std.specs.Prelude.{◌==◌, not, ◌||◌, is_some, unwrap_or, option_map, IfSome, ⊤}
 use Rattle.std.proofs.lemmas.Bool.Decides.{nat_tests}
-use Rattle.acc_base.specs.declared.items.Section.{Section}
+use Rattle.acc_base.specs.Words.{Section, Range, Block, Task, Transfer, Step}
 use Rattle.acc_base.specs.declared.mappings.Counter.TheVariants.{Structured, Dynamic}
-use Rattle.acc_base.specs.declared.mappings.Range.{Range}
-use Rattle.acc_base.specs.declared.mappings.Block.{Block}
-use Rattle.acc_base.specs.declared.tasks.Task.{Task}
 use Rattle.acc_base.specs.declared.tasks.Task.TheVariants.{Enter, Leave, Exit, Move}
-use Rattle.acc_base.specs.declared.transfers.Transfer.{Transfer}
-use Rattle.acc_base.specs.declared.events.Step.{Step}
 use Rattle.acc_base.specs.declared.events.Step.TheVariants.{Nothing, Counted, Born, Dropped, Moved}
 use Rattle.acc_base.specs.Limits.{Limits, IsWithinBounds}
 use Rattle.acc_base.specs.Section.{is_empty, is_within}
@@ -22,12 +17,12 @@ use Rattle.acc_base.specs.Tasks.{section_of, queue_of, recounted}
 use Rattle.acc_base.specs.Loans.{not_lent}
 use Rattle.acc_base.specs.Steps.{block_needed}
 use Rattle.acc_base.specs.Transfers.{transfer_at, transfer_of, room_for, queues_after}
-use Rattle.acc_base.specs.Steps.{is_in_use, records_after_birth, with_range_changed, act_row, with_put, act_step, judge_step}
+use Rattle.acc_base.specs.Steps.{is_in_use, records_after_birth, with_range_changed, act_row, with_put, act_step}
 use Rattle.acc_base.specs.Accounts.{IsMapped, IsTransferSound, AreRecordsSound}
 use Rattle.acc_base.proofs.Elements.{AllByRecursion-weaker, found_has}
 use Rattle.acc_base.proofs.Lookups.{at-own, at-none, at-push_new}
 use Rattle.acc_base.proofs.Where.{IsInsideOf, inside_says, absent_says}
-use Rattle.acc_base.proofs.Judged.{IsBirth, IsInRangeOf, IsJudgedTo, step_judged, task_says, IsStepFree, not_lent_says}
+use Rattle.acc_base.proofs.Judged.{IsBirth, IsInRangeOf, IsJudgedTo, IsStepFree, not_lent_says}
 use Rattle.acc_base.proofs.Queued.{pins-le_put, queues-put}
 use Rattle.acc_base.proofs.RangeChanges.{KeepsPlace, block_of}
 use Rattle.acc_base.proofs.Sound.{number_of_block, recounted_keeps, counted_sound, dropped_sound, ended_sound, birth_sound, first_counted}
@@ -40,23 +35,16 @@ row_sound l task Nothing w bounds says free h = h
 row_sound l (Enter counter item queue) (Counted k) w bounds says free h = counted_sound l counter item queue k w h says
 row_sound l (Enter Structured item queue) (Born k p) w bounds says free h = birth_sound l (risen Structured (bare_range (section_of (Enter Structured item queue)) k)) p w (first_counted l Structured (section_of (Enter Structured item queue)) k bounds) says h
 row_sound l (Enter Dynamic item queue) (Born k p) w bounds says free h = birth_sound l (risen Dynamic (bare_range (section_of (Enter Dynamic item queue)) k)) p w (first_counted l Dynamic (section_of (Enter Dynamic item queue)) k bounds) says h
-row_sound l (Enter counter item queue) (Dropped k ended) w bounds says free h = absurd says
 row_sound l (Enter counter item queue) (Moved k) w bounds says free h = h
-row_sound l (Leave holding) (Counted k) w bounds says free h = absurd says
-row_sound l (Leave holding) (Born k p) w bounds says free h = absurd says
 row_sound l (Leave holding) (Dropped k true) w bounds says free h = ended_sound l k w (not_lent_says k w.loans free) h
 row_sound l (Leave holding) (Dropped k false) w bounds says free h = dropped_sound l (recounted (Leave holding)) k w (recounted_keeps (Leave holding)) (λ r. omega arith) (λ r. omega arith) h says.1
 row_sound l (Leave holding) (Moved k) w bounds says free h = h
-row_sound l (Exit finalize item queue) (Counted k) w bounds says free h = absurd says
-row_sound l (Exit finalize item queue) (Born k p) w bounds says free h = absurd says
 row_sound l (Exit finalize item queue) (Dropped k true) w bounds says free h = ended_sound l k w (not_lent_says k w.loans free) h
 row_sound l (Exit true item queue) (Dropped k false) w bounds says free h = dropped_sound l (recounted (Exit true item queue)) k w (recounted_keeps (Exit true item queue)) (λ r. omega arith) (λ r. omega arith) h says.ended_is
 row_sound l (Exit false item queue) (Dropped k false) w bounds says free h = dropped_sound l (recounted (Exit false item queue)) k w (recounted_keeps (Exit false item queue)) (λ r. omega arith) (λ r. omega arith) h says.ended_is
 row_sound l (Exit finalize item queue) (Moved k) w bounds says free h = h
-row_sound l (Move if_present item queue) (Counted k) w bounds says free h = absurd says
-row_sound l (Move if_present item queue) (Born k p) w bounds says free h = absurd says
-row_sound l (Move if_present item queue) (Dropped k ended) w bounds says free h = absurd says
 row_sound l (Move if_present item queue) (Moved k) w bounds says free h = h
+row_sound l _ _ w bounds says free h = absurd says
 
 -- ---- one transfer more in a queue
 
@@ -92,9 +80,8 @@ none_put l blocks None = tt
 none_put l blocks (Some q) = tt
 
 put_if : (l : Limits) (q : Option ℕ) (t : Option Transfer) (w : Records) → IsPutSound l w.blocks q t → room_for l.queue_cap q t w.queues ≡ Ok tt → AreRecordsSound l w → AreRecordsSound l (record w { queues = queues_after q t w.queues })
-put_if l None t w sound room h = h
-put_if l (Some q) None w sound room h = h
 put_if l (Some q) (Some t) w sound room h = put_sound l q t w sound room h
+put_if l _ _ w sound room h = h
 
 -- ---- the transfer of a task
 
@@ -139,24 +126,21 @@ born_placed l section k p w b number len h birth =
 
 -- what a task puts can be made in what its row leaves, and before it where a mapping ends
 moved_sound : (l : Limits) (task : Task) (k : ℕ) (w : Records) → IsJudgedTo l task (Moved k) w → AreRecordsSound l w → IsPutSound l w.blocks (queue_of task) (transfer_of task (Moved k) w.ranges)
-moved_sound l (Enter counter item queue) k w says h = absurd says
 moved_sound l (Leave holding) k w says h = tt
-moved_sound l (Exit finalize item queue) k w says h = absurd says
 moved_sound l (Move if_present item None) k w says h = tt
 moved_sound l (Move if_present item (Some q)) k w says h = placed_sound l item.section k (is_to_self item.clause) w h says
+moved_sound l _ k w says h = absurd says
 
 end_sound : (l : Limits) (task : Task) (k : ℕ) (w : Records) → IsJudgedTo l task (Dropped k true) w → AreRecordsSound l w → IsPutSound l w.blocks (queue_of task) (transfer_of task (Dropped k true) w.ranges)
-end_sound l (Enter counter item queue) k w says h = absurd says
 end_sound l (Leave holding) k w says h = tt
 end_sound l (Exit finalize item None) k w says h = tt
 end_sound l (Exit finalize item (Some q)) k w says h =
     let placed : IsTransferSound l w.blocks (transfer_at (Exit finalize item (Some q)) k w.ranges) = placed_sound l (section_of (Exit finalize item (Some q))) k true w h says.range in
     elim (is_copyout item.clause) as (λ b. IfSome (cond b (Some (transfer_at (Exit finalize item (Some q)) k w.ranges)) None) (IsTransferSound l w.blocks)) [ true ↦ placed | false ↦ tt ]
-end_sound l (Move if_present item queue) k w says h = absurd says
+end_sound l _ k w says h = absurd says
 
 start_sound : (l : Limits) (task : Task) (k p : ℕ) (w : Records) → IsJudgedTo l task (Born k p) w → AreRecordsSound l w → IsPutSound l (act_row task (Born k p) w).blocks (queue_of task) (transfer_of task (Born k p) w.ranges)
 unfolding act_row records_after_birth
-start_sound l (Enter counter item None) k p w says h = tt
 start_sound l (Enter counter item (Some q)) k p w says h =
     let task : Task = Enter counter item (Some q) in
     let r : Range = recounted task (bare_range (section_of task) k) in
@@ -165,9 +149,9 @@ start_sound l (Enter counter item (Some q)) k p w says h =
     let placed : IsTransferSound l (w.blocks ++ b ∷ []) (record { block = k; offset = 0; section = section_of task; out = false })
     = born_placed l (section_of task) k p w b (keeps.block (bare_range (section_of task) k)) (ap (λ (s : Section). s.len) (keeps.section (bare_range (section_of task) k))) h says in
     elim (copies_in item.clause) as (λ t. IfSome (cond t (Some (record { block = k; offset = 0; section = section_of task; out = false })) None) (IsTransferSound l (w.blocks ++ b ∷ []))) [ true ↦ placed | false ↦ tt ]
-start_sound l (Leave holding) k p w says h = tt
 start_sound l (Exit finalize item queue) k p w says h = absurd says
 start_sound l (Move if_present item queue) k p w says h = absurd says
+start_sound l _ k p w says h = tt
 
 -- ---- a task
 
@@ -175,12 +159,7 @@ start_sound l (Move if_present item queue) k p w says h = absurd says
 pub acted_sound : (l : Limits) (task : Task) (step : Step) (w : Records) → IsWithinBounds l → IsJudgedTo l task step w → IsStepFree l task step w → AreRecordsSound l w → AreRecordsSound l (act_step task step w)
 unfolding act_step act_row records_after_birth with_range_changed
 acted_sound l task Nothing w bounds says free h = put_if l (queue_of task) None w (none_put l w.blocks (queue_of task)) free.room h
-acted_sound l task (Counted k) w bounds says free h = put_if l (queue_of task) None (act_row task (Counted k) w) (none_put l w.blocks (queue_of task)) free.room (row_sound l task (Counted k) w bounds says free.needed h)
 acted_sound l task (Born k p) w bounds says free h = put_if l (queue_of task) (transfer_of task (Born k p) w.ranges) (act_row task (Born k p) w) (start_sound l task k p w says h) free.room (row_sound l task (Born k p) w bounds says free.needed h)
 acted_sound l task (Dropped k true) w bounds says free h = ended_sound l k (with_put task (Dropped k true) w) (not_lent_says k w.loans free.needed) (put_if l (queue_of task) (transfer_of task (Dropped k true) w.ranges) w (end_sound l task k w says h) free.room h)
-acted_sound l task (Dropped k false) w bounds says free h = put_if l (queue_of task) None (act_row task (Dropped k false) w) (none_put l w.blocks (queue_of task)) free.room (row_sound l task (Dropped k false) w bounds says free.needed h)
 acted_sound l task (Moved k) w bounds says free h = put_if l (queue_of task) (transfer_of task (Moved k) w.ranges) w (moved_sound l task k w says h) free.room h
-
--- a task that was judged keeps the records sound
-pub judged_sound : (l : Limits) (n : ℕ) (task : Task) (step : Step) (w : Records) → IsWithinBounds l → judge_step l n task w ≡ Ok step → AreRecordsSound l w → AreRecordsSound l (act_step task step w)
-judged_sound l n task step w bounds e h = acted_sound l task step w bounds (task_says l n task w step e) (step_judged l n task w step e).free h
+acted_sound l task step w bounds says free h = put_if l (queue_of task) None (act_row task step w) (none_put l w.blocks (queue_of task)) free.room (row_sound l task step w bounds says free.needed h)

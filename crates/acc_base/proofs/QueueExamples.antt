@@ -1,10 +1,9 @@
 -- Transfers that wait in queues, and blocks that outlive their mapping, with values worked out by hand.
 use Rattle.std.proofs.Common.{ℕ, ◌≡◌, refl, List, [], ◌∷◌, ◌++◌, Some, None, true, false, replicate}
-use Rattle.acc_base.specs.declared.items.Section.{Section}
+use Rattle.acc_base.specs.Words.{Section, Call}
 use Rattle.acc_base.specs.declared.items.EnterClause.TheVariants as enter
 use Rattle.acc_base.specs.declared.items.ExitClause.TheVariants as exit
 use Rattle.acc_base.specs.declared.items.UpdateClause.TheVariants.{ToSelf, ToDevice}
-use Rattle.acc_base.specs.declared.calls.Call.{Call}
 use Rattle.acc_base.specs.declared.calls.Call.TheVariants.{HostWrite}
 use Rattle.acc_base.specs.declared.events.Step.TheVariants.{Born, Dropped, Moved}
 use Rattle.acc_base.specs.declared.events.Event.TheVariants.{EnteredData, ExitedData, Updated, Waited, Stepped, HostWritten}
@@ -29,55 +28,28 @@ abbrev ended : List (Call Leased)
 ended = first_is 7 ∷ enter_data_of (item enter.Copyin a ∷ []) ∷ first_is 9 ∷ exit_later 1 (item exit.Copyout a ∷ []) ∷ enter_data_of (item (enter.Create false) a ∷ []) ∷ []
 
 -- the first block stays, so the new one lies behind it
-ended_blocks : (ran_with limits ended).world.state.records.blocks ≡ block 1 0x1_0000_0000 16 ∷ block 2 0x1_0000_0010 16 ∷ []
+ended_leaves : (ran_with limits ended).world.state.records.blocks ≡ block 1 0x1_0000_0000 16 ∷ block 2 0x1_0000_0010 16 ∷ []
+    × (ran_with limits ended).world.state.memories ≡ memory 1 (7 ∷ replicate 15 0) ∷ memory 2 (replicate 16 0xa5) ∷ []
+    × ended_from 0x1_0000_0000 (ran_with limits ended).world.state.records ≡ Some (record { place = 0x1_0000_0000; size = 16; pins = 1 })
+    × ended_from 0x1_0000_0001 (ran_with limits ended).world.state.records ≡ None
+    × queue_at 1 (ran_with limits ended).world.state.records.queues ≡ record { block = 1; offset = 0; section = a; out = true } ∷ []
+    × (ran_with limits ended).world.state.host ≡ host_of (9 ∷ []) 63
 unfolding ran_with
-ended_blocks = refl
-
-ended_bytes : (ran_with limits ended).world.state.memories ≡ memory 1 (7 ∷ replicate 15 0) ∷ memory 2 (replicate 16 0xa5) ∷ []
-unfolding ran_with
-ended_bytes = refl
-
-ended_told : ended_from 0x1_0000_0000 (ran_with limits ended).world.state.records ≡ Some (record { place = 0x1_0000_0000; size = 16; pins = 1 })
-unfolding ran_with
-ended_told = refl
-
-ended_alone : ended_from 0x1_0000_0001 (ran_with limits ended).world.state.records ≡ None
-unfolding ran_with
-ended_alone = refl
-
-ended_queue : queue_at 1 (ran_with limits ended).world.state.records.queues ≡ record { block = 1; offset = 0; section = a; out = true } ∷ []
-unfolding ran_with
-ended_queue = refl
-
-ended_host : (ran_with limits ended).world.state.host ≡ host_of (9 ∷ []) 63
-unfolding ran_with
-ended_host = refl
+ended_leaves = (refl, refl, refl, refl, refl, refl)
 
 -- then the copy is made, and the block is given back with it
 abbrev waited : List (Call Leased)
 waited = ended ++ wait_for 1 ∷ []
 
-waited_host : (ran_with limits waited).world.state.host ≡ host_of (7 ∷ []) 63
-unfolding ran_with
-waited_host = refl
-
-waited_bytes : (ran_with limits waited).world.state.memories ≡ memory 2 (replicate 16 0xa5) ∷ []
-unfolding ran_with
-waited_bytes = refl
-
-waited_blocks : (ran_with limits waited).world.state.records.blocks ≡ block 2 0x1_0000_0010 16 ∷ []
-unfolding ran_with
-waited_blocks = refl
-
-waited_queues : (ran_with limits waited).world.state.records.queues ≡ new_queues
-unfolding ran_with
-waited_queues = refl
-
-waited_told : (ran_with limits waited).world.history.trace
+waited_leaves : (ran_with limits waited).world.state.host ≡ host_of (7 ∷ []) 63
+    × (ran_with limits waited).world.state.memories ≡ memory 2 (replicate 16 0xa5) ∷ []
+    × (ran_with limits waited).world.state.records.blocks ≡ block 2 0x1_0000_0010 16 ∷ []
+    × (ran_with limits waited).world.state.records.queues ≡ new_queues
+    × (ran_with limits waited).world.history.trace
     ≡ HostWritten 0x1000 1 ∷ EnteredData (item enter.Copyin a ∷ []) None (did_of (Born 1 0x1_0000_0000) ∷ []) ∷ HostWritten 0x1000 1
     ∷ ExitedData (item exit.Copyout a ∷ []) false (Some 1) (did_of (Dropped 1 true) ∷ []) ∷ EnteredData (item (enter.Create false) a ∷ []) None (did_of (Born 2 0x1_0000_0010) ∷ []) ∷ Waited (Some 1) 1 ∷ []
 unfolding ran_with
-waited_told = refl
+waited_leaves = (refl, refl, refl, refl, refl)
 
 -- ---- a transfer uses the bytes of the moment in which it is made
 
@@ -106,14 +78,11 @@ stepped_twice_bytes = refl
 
 -- and then there is nothing to do, which is no event
 stepped_idle : (ran_with limits (stepped_twice ++ step 0 ∷ [])).world ≡ (ran_with limits stepped_twice).world
-unfolding ran_with
-stepped_idle = refl
-
-stepped_told : (ran_with limits (stepped_twice ++ step 0 ∷ [])).world.history.trace
+    × (ran_with limits (stepped_twice ++ step 0 ∷ [])).world.history.trace
     ≡ HostWritten 0x1000 1 ∷ EnteredData (item enter.Copyin byte ∷ []) None (did_of (Born 1 0x1_0000_0000) ∷ []) ∷ Updated (item ToSelf byte ∷ item ToDevice byte ∷ []) false (Some 0) (did_of (Moved 1) ∷ did_of (Moved 1) ∷ [])
     ∷ HostWritten 0x1000 1 ∷ Updated (item ToDevice byte ∷ []) false None (did_of (Moved 1) ∷ []) ∷ HostWritten 0x1000 1 ∷ Stepped 0 1 ∷ Stepped 0 1 ∷ []
 unfolding ran_with
-stepped_told = refl
+stepped_idle = (refl, refl)
 
 -- ---- the limit of a queue, where earlier items of the same directive count, and other queues do not
 
@@ -144,13 +113,10 @@ no_queue = refl
 abbrev two_queues : List (Call Leased)
 two_queues = first_is 6 ∷ enter_data_of (item enter.Copyin byte ∷ []) ∷ first_is 5 ∷ update_later 3 (item ToSelf byte ∷ []) ∷ update_later 1 (item ToDevice byte ∷ []) ∷ wait_all ∷ []
 
-two_queues_host : (ran_with limits two_queues).world.state.host ≡ host_of (5 ∷ []) 63
+two_queues_leaves : (ran_with limits two_queues).world.state.host ≡ host_of (5 ∷ []) 63
+    × (ran_with limits two_queues).world.state.memories ≡ memory 1 (5 ∷ []) ∷ []
 unfolding ran_with
-two_queues_host = refl
-
-two_queues_bytes : (ran_with limits two_queues).world.state.memories ≡ memory 1 (5 ∷ []) ∷ []
-unfolding ran_with
-two_queues_bytes = refl
+two_queues_leaves = (refl, refl)
 
 two_queues_told : (ran_with limits (two_queues ++ wait_all ∷ [])).world.history.trace
     ≡ HostWritten 0x1000 1 ∷ EnteredData (item enter.Copyin byte ∷ []) None (did_of (Born 1 0x1_0000_0000) ∷ []) ∷ HostWritten 0x1000 1 ∷ Updated (item ToSelf byte ∷ []) false (Some 3) (did_of (Moved 1) ∷ [])
@@ -190,10 +156,7 @@ pointed_counts : (ran_with limits pointed).world.state.records.attached ≡ reco
 unfolding ran_with
 pointed_counts = refl
 
-pointed_host : (ran_with limits (pointed ++ step 0 ∷ [])).world.state.host ≡ host_of (replicate 8 1) 56
+pointed_leaves : (ran_with limits (pointed ++ step 0 ∷ [])).world.state.host ≡ host_of (replicate 8 1) 56
+    × (ran_with limits (pointed ++ step 0 ∷ [])).world.state.records.attached ≡ []
 unfolding ran_with
-pointed_host = refl
-
-pointed_gone : (ran_with limits (pointed ++ step 0 ∷ [])).world.state.records.attached ≡ []
-unfolding ran_with
-pointed_gone = refl
+pointed_leaves = (refl, refl)

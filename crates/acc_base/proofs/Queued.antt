@@ -5,8 +5,7 @@ use Rattle.std.specs.List.{AllByRecursion}
 use Rattle.std.proofs.lemmas.Bool.Decides.{nat_tests}
 use Rattle.std.proofs.lemmas.List.{length-set, get_or_past, set_past}
 use Rattle.std.proofs.lemmas.List.Sums.{sum_by-cons, sum_by-set, sum_by_push}
-use Rattle.acc_base.specs.declared.transfers.Transfer.{Transfer}
-use Rattle.acc_base.specs.declared.mappings.Block.{Block}
+use Rattle.acc_base.specs.Words.{Transfer, Block}
 use Rattle.acc_base.specs.Limits.{Limits}
 use Rattle.acc_base.specs.Queues.{queue_at, head_of, put, popped, pins_in, pins_of, queue_room}
 use Rattle.acc_base.specs.Accounts.{IsTransferSound, AreQueuesSound}

@@ -1,14 +1,10 @@
 -- Both reference counters of every block after a task that was judged.
 use Rattle.std.proofs.Common.{ℕ, ◌≡◌, ◌+◌, ◌-◌, refl, sym, ◌∙◌, ap, subst, Bool, true, false, cond, Option, Some, None, List}
 use Rattle.std.specs.Prelude.{◌==◌, unwrap_or, option_map, if◌then◌else◌}
-use Rattle.acc_base.specs.declared.items.Section.{Section}
-use Rattle.acc_base.specs.declared.mappings.Counter.{Counter}
+use Rattle.acc_base.specs.Words.{Section, Counter, Range, Task, Step}
 use Rattle.acc_base.specs.declared.mappings.Counter.TheVariants.{Structured, Dynamic}
-use Rattle.acc_base.specs.declared.mappings.Range.{Range}
-use Rattle.acc_base.specs.declared.tasks.Task.{Task}
 use Rattle.acc_base.specs.declared.tasks.Task.TheVariants.{Enter, Leave, Exit, Move}
-use Rattle.acc_base.specs.declared.events.Step.{Step}
-use Rattle.acc_base.specs.declared.events.Step.TheVariants.{Nothing, Counted, Born, Dropped, Moved}
+use Rattle.acc_base.specs.declared.events.Step.TheVariants.{Counted, Born, Dropped}
 use Rattle.acc_base.specs.Limits.{Limits}
 use Rattle.acc_base.specs.Records.{Records}
 use Rattle.acc_base.specs.Ranges.{range_of, counter_in, counter_of, with_range, bare_range, is_unused, ends_by}
@@ -23,38 +19,27 @@ use Rattle.acc_base.proofs.Sound.{recounted_keeps, counter_is, fresh}
 -- what a task makes of a counter of the range that it names
 abbrev pub moved_by : Counter → Task → ℕ → ℕ
 moved_by Structured (Enter Structured item queue) n = n + 1
-moved_by Dynamic (Enter Structured item queue) n = n
-moved_by Structured (Enter Dynamic item queue) n = n
 moved_by Dynamic (Enter Dynamic item queue) n = n + 1
 moved_by Structured (Leave holding) n = n - 1
-moved_by Dynamic (Leave holding) n = n
-moved_by Structured (Exit finalize item queue) n = n
 moved_by Dynamic (Exit finalize item queue) n = if finalize then 0 else n - 1
 moved_by counter (Move if_present item queue) n = n
+moved_by _ _ n = n
 
 -- the step counts, bears or drops the block
 abbrev pub names : ℕ → Step → Bool
-names block Nothing = false
 names block (Counted k) = k == block
 names block (Born k place) = k == block
 names block (Dropped k ended) = k == block
-names block (Moved k) = false
+names block _ = false
 
 pub counter-recounted : (counter : Counter) (task : Task) (r : Range) → counter_in counter (recounted task r) ≡ moved_by counter task (counter_in counter r)
 counter-recounted Structured (Enter Structured item queue) r = refl
 counter-recounted Dynamic (Enter Structured item queue) r = refl
-counter-recounted Structured (Enter Dynamic item queue) r = refl
-counter-recounted Dynamic (Enter Dynamic item queue) r = refl
-counter-recounted Structured (Leave holding) r = refl
-counter-recounted Dynamic (Leave holding) r = refl
 counter-recounted Structured (Exit true item queue) r = refl
-counter-recounted Structured (Exit false item queue) r = refl
 counter-recounted Dynamic (Exit true item queue) r = refl
-counter-recounted Dynamic (Exit false item queue) r = refl
-counter-recounted Structured (Move if_present item queue) r = refl
-counter-recounted Dynamic (Move if_present item queue) r = refl
+counter-recounted _ _ r = refl
 
-unused_zero : (counter : Counter) (r : Range) → is_unused r ≡ true → counter_in counter r ≡ 0
+pub unused_zero : (counter : Counter) (r : Range) → is_unused r ≡ true → counter_in counter r ≡ 0
 unused_zero Structured r e = equal _ _ (and_true (r.structured == 0) (r.dynamic == 0) e).0
 unused_zero Dynamic r e = equal _ _ (and_true (r.structured == 0) (r.dynamic == 0) e).1
 
@@ -70,33 +55,27 @@ ended_zero counter task k ranges (Some r) e ends =
 
 -- no range has the block, and the task does not raise the counter
 pub zero_stays : (l : Limits) (task : Task) (k : ℕ) (ended : Bool) (w : Records) (counter : Counter) → IsJudgedTo l task (Dropped k ended) w → moved_by counter task 0 ≡ 0
-zero_stays l (Enter c item queue) k ended w counter says = absurd says
 zero_stays l (Leave holding) k ended w Structured says = refl
 zero_stays l (Leave holding) k ended w Dynamic says = refl
 zero_stays l (Exit finalize item queue) k ended w Structured says = refl
 zero_stays l (Exit true item queue) k ended w Dynamic says = refl
 zero_stays l (Exit false item queue) k ended w Dynamic says = refl
-zero_stays l (Move if_present item queue) k ended w counter says = absurd says
+zero_stays l _ k ended w counter says = absurd says
 
 pub ends_told : (l : Limits) (task : Task) (k : ℕ) (w : Records) → IsJudgedTo l task (Dropped k true) w → true ≡ ends_by (recounted task) k w.ranges
-ends_told l (Enter c item queue) k w says = absurd says
 ends_told l (Leave holding) k w says = says.1
 ends_told l (Exit finalize item queue) k w says = says.ended_is
-ends_told l (Move if_present item queue) k w says = absurd says
+ends_told l _ k w says = absurd says
 
 pub count_mapped : (l : Limits) (task : Task) (k : ℕ) (w : Records) → IsJudgedTo l task (Counted k) w → range_of k w.ranges ≡ None → ⊥
 count_mapped l (Enter c item queue) k w says = says.mapped
-count_mapped l (Leave holding) k w says = absurd says
-count_mapped l (Exit finalize item queue) k w says = absurd says
-count_mapped l (Move if_present item queue) k w says = absurd says
+count_mapped l _ k w says = absurd says
 
 pub birth_number : (l : Limits) (task : Task) (k p : ℕ) (w : Records) → IsJudgedTo l task (Born k p) w → k ≡ w.births + 1
 birth_number l (Enter c item queue) k p w says = says.number
-birth_number l (Leave holding) k p w says = absurd says
-birth_number l (Exit finalize item queue) k p w says = absurd says
-birth_number l (Move if_present item queue) k p w says = absurd says
+birth_number l _ k p w says = absurd says
 
-zero_in : (counter : Counter) (s : Section) (k : ℕ) → counter_in counter (bare_range s k) ≡ 0
+pub zero_in : (counter : Counter) (s : Section) (k : ℕ) → counter_in counter (bare_range s k) ≡ 0
 zero_in Structured s k = refl
 zero_in Dynamic s k = refl
 
@@ -126,7 +105,6 @@ born_read counter task k b ranges none = go (k == b) refl
 pub counter-act : (l : Limits) (task : Task) (step : Step) (w : Records) (counter : Counter) (b : ℕ) → AreRecordsSound l w → IsJudgedTo l task step w
     → counter_of counter b (act_step task step w).ranges ≡ cond (names b step) (moved_by counter task (counter_of counter b w.ranges)) (counter_of counter b w.ranges)
 unfolding act_step act_row with_range_changed records_after_birth records_after_end released
-counter-act l task Nothing w counter b h says = refl
 counter-act l task (Counted k) w counter b h says =
     changed_read (counter_in counter) (recounted task) (moved_by counter task) (recounted_keeps task).block (counter-recounted counter task) k b w.ranges (λ none. absurd (count_mapped l task k w says none))
 counter-act l task (Born k p) w counter b h says =
@@ -142,4 +120,4 @@ counter-act l task (Dropped k true) w counter b h says = without_read (counter_i
     go false e = refl
 counter-act l task (Dropped k false) w counter b h says =
     changed_read (counter_in counter) (recounted task) (moved_by counter task) (recounted_keeps task).block (counter-recounted counter task) k b w.ranges (λ none. zero_stays l task k false w counter says)
-counter-act l task (Moved k) w counter b h says = refl
+counter-act l task _ w counter b h says = refl

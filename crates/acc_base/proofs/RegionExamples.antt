@@ -1,12 +1,10 @@
 -- Runs with data regions, with values worked out by hand.
 use Rattle.std.proofs.Common.{ℕ, ◌≡◌, refl, List, [], ◌∷◌, ◌++◌, Some, None, true, false, replicate}
-use Rattle.acc_base.specs.declared.items.Section.{Section}
-use Rattle.acc_base.specs.declared.items.RegionClause.{RegionClause}
+use Rattle.acc_base.specs.Words.{Section, RegionClause, Call}
 use Rattle.acc_base.specs.declared.items.RegionClause.TheVariants.{Copy, Copyin, Copyout, Create, NoCreate, Present}
 use Rattle.acc_base.specs.declared.items.EnterClause.TheVariants as enter
 use Rattle.acc_base.specs.declared.items.ExitClause.TheVariants as exit
 use Rattle.acc_base.specs.declared.items.UpdateClause.TheVariants.{ToDevice}
-use Rattle.acc_base.specs.declared.calls.Call.{Call}
 use Rattle.acc_base.specs.declared.calls.Call.TheVariants.{HostWrite}
 use Rattle.acc_base.specs.declared.events.Event.TheVariants.{Entered, Left, EnteredData, ExitedData}
 use Rattle.acc_base.specs.declared.events.Step.TheVariants.{Nothing, Counted, Born, Dropped}
@@ -33,13 +31,10 @@ enter_one clause s = enter_of (item clause s ∷ [])
 abbrev mapped_later : List (Call Leased)
 mapped_later = enter_one NoCreate a ∷ enter_one Copyin a ∷ exit_of 1 ∷ []
 
-mapped_later_ranges : (ran_with limits mapped_later).world.state.records.ranges ≡ range a 1 1 0 ∷ []
+mapped_later_leaves : (ran_with limits mapped_later).world.state.records.ranges ≡ range a 1 1 0 ∷ []
+    × (ran_with limits mapped_later).world.state.register ≡ record { regions = region 2 (holding Copyin a (Some 1) ∷ []) ∷ []; next = 3; serial = 1 }
 unfolding ran_with
-mapped_later_ranges = refl
-
-mapped_later_register : (ran_with limits mapped_later).world.state.register ≡ record { regions = region 2 (holding Copyin a (Some 1) ∷ []) ∷ []; next = 3; serial = 1 }
-unfolding ran_with
-mapped_later_register = refl
+mapped_later_leaves = (refl, refl)
 
 mapped_later_in : (entries_in 1 (ran_with limits mapped_later).world.history ≡ 1) × (exits_in 1 (ran_with limits mapped_later).world.history ≡ 0)
 unfolding ran_with
@@ -49,22 +44,13 @@ mapped_later_in = (refl, refl)
 abbrev mapped_later_left : List (Call Leased)
 mapped_later_left = mapped_later ++ exit_of 2 ∷ exit_of 2 ∷ []
 
-mapped_later_left_refused : (ran_with limits mapped_later_left).refused ≡ None ∷ None ∷ None ∷ None ∷ Some (NoRegion 2) ∷ []
-unfolding ran_with
-mapped_later_left_refused = refl
-
-mapped_later_left_told : (ran_with limits mapped_later_left).world.history.trace
+mapped_later_left_leaves : (ran_with limits mapped_later_left).refused ≡ None ∷ None ∷ None ∷ None ∷ Some (NoRegion 2) ∷ []
+    × (ran_with limits mapped_later_left).world.history.trace
     ≡ Entered 1 (item NoCreate a ∷ []) (did_of Nothing ∷ []) ∷ Entered 2 (item Copyin a ∷ []) (did_of (Born 1 0x1_0000_0000) ∷ []) ∷ Left 1 (did_of Nothing ∷ []) ∷ Left 2 (did_of (Dropped 1 true) ∷ []) ∷ []
+    × (ran_with limits mapped_later_left).world.state.records ≡ record { ranges = []; blocks = []; attached = []; births = 1; queues = new_queues; loans = [] }
+    × (ran_with limits mapped_later_left).world.state.register ≡ record { regions = []; next = 3; serial = 1 }
 unfolding ran_with
-mapped_later_left_told = refl
-
-mapped_later_left_records : (ran_with limits mapped_later_left).world.state.records ≡ record { ranges = []; blocks = []; attached = []; births = 1; queues = new_queues; loans = [] }
-unfolding ran_with
-mapped_later_left_records = refl
-
-mapped_later_left_register : (ran_with limits mapped_later_left).world.state.register ≡ record { regions = []; next = 3; serial = 1 }
-unfolding ran_with
-mapped_later_left_register = refl
+mapped_later_left_leaves = (refl, refl, refl, refl)
 
 mapped_later_left_in : (entries_in 1 (ran_with limits mapped_later_left).world.history ≡ 1) × (exits_in 1 (ran_with limits mapped_later_left).world.history ≡ 1)
 unfolding ran_with
@@ -109,13 +95,10 @@ abbrev entered_present : List (Call Leased)
 entered_present = wrote_first ∷ enter_data_of (item enter.Copyin four ∷ []) ∷ wrote_then
     ∷ enter_of (item Copy four ∷ item Copyin four ∷ item (Copyout true) four ∷ item (Create true) four ∷ item NoCreate four ∷ item Present four ∷ []) ∷ []
 
-entered_present_ranges : (ran_with limits entered_present).world.state.records.ranges ≡ range four 1 6 1 ∷ []
+entered_present_leaves : (ran_with limits entered_present).world.state.records.ranges ≡ range four 1 6 1 ∷ []
+    × (ran_with limits entered_present).world.state.memories ≡ memory 1 (1 ∷ 2 ∷ 3 ∷ 4 ∷ []) ∷ []
 unfolding ran_with
-entered_present_ranges = refl
-
-entered_present_memories : (ran_with limits entered_present).world.state.memories ≡ memory 1 (1 ∷ 2 ∷ 3 ∷ 4 ∷ []) ∷ []
-unfolding ran_with
-entered_present_memories = refl
+entered_present_leaves = (refl, refl)
 
 entered_present_in : (entries_in 1 (ran_with limits entered_present).world.history ≡ 6) × (exits_in 1 (ran_with limits entered_present).world.history ≡ 0)
 unfolding ran_with
@@ -155,17 +138,11 @@ left_create = refl
 abbrev left_while_dynamic : List (Call Leased)
 left_while_dynamic = wrote_first ∷ enter_one Copy four ∷ wrote_then ∷ enter_data_of (item enter.Copyin four ∷ []) ∷ exit_of 1 ∷ []
 
-left_while_dynamic_host : (ran_with limits left_while_dynamic).world.state.host ≡ host_of (5 ∷ 6 ∷ 7 ∷ 8 ∷ []) 60
+left_while_dynamic_leaves : (ran_with limits left_while_dynamic).world.state.host ≡ host_of (5 ∷ 6 ∷ 7 ∷ 8 ∷ []) 60
+    × (ran_with limits left_while_dynamic).world.state.records.ranges ≡ range four 1 0 1 ∷ []
+    × (ran_with limits left_while_dynamic).world.state.memories ≡ memory 1 (1 ∷ 2 ∷ 3 ∷ 4 ∷ []) ∷ []
 unfolding ran_with
-left_while_dynamic_host = refl
-
-left_while_dynamic_ranges : (ran_with limits left_while_dynamic).world.state.records.ranges ≡ range four 1 0 1 ∷ []
-unfolding ran_with
-left_while_dynamic_ranges = refl
-
-left_while_dynamic_memories : (ran_with limits left_while_dynamic).world.state.memories ≡ memory 1 (1 ∷ 2 ∷ 3 ∷ 4 ∷ []) ∷ []
-unfolding ran_with
-left_while_dynamic_memories = refl
+left_while_dynamic_leaves = (refl, refl, refl)
 
 -- a region that only counted copies nothing out where the mapping stays, and the `copyout` that ends it does
 abbrev copied_out_last : List (Call Leased)
@@ -183,17 +160,11 @@ copied_out_last_host = refl
 abbrev part_copied : List (Call Leased)
 part_copied = wrote_first ∷ enter_data_of (item enter.Copyin four ∷ []) ∷ wrote_then ∷ enter_one Copy (at 0x1001 2) ∷ exit_data_of (item exit.Delete four ∷ []) ∷ exit_of 1 ∷ []
 
-part_copied_host : (ran_with limits part_copied).world.state.host ≡ host_of (5 ∷ 2 ∷ 3 ∷ 8 ∷ []) 60
+part_copied_leaves : (ran_with limits part_copied).world.state.host ≡ host_of (5 ∷ 2 ∷ 3 ∷ 8 ∷ []) 60
+    × (ran_with limits part_copied).world.state.records ≡ record { ranges = []; blocks = []; attached = []; births = 1; queues = new_queues; loans = [] }
+    × (ran_with limits part_copied).world.state.memories ≡ []
 unfolding ran_with
-part_copied_host = refl
-
-part_copied_records : (ran_with limits part_copied).world.state.records ≡ record { ranges = []; blocks = []; attached = []; births = 1; queues = new_queues; loans = [] }
-unfolding ran_with
-part_copied_records = refl
-
-part_copied_memories : (ran_with limits part_copied).world.state.memories ≡ []
-unfolding ran_with
-part_copied_memories = refl
+part_copied_leaves = (refl, refl, refl)
 
 -- ---- exit acts from the last item to the first: the first one ends the mapping, and copies out all four bytes
 
@@ -235,17 +206,11 @@ three_left_told = refl
 abbrev finalized_inside : List (Call Leased)
 finalized_inside = wrote_first ∷ enter_data_of (item enter.Copyin four ∷ item enter.Copyin four ∷ item enter.Copyin four ∷ []) ∷ enter_one Present four ∷ wrote_then ∷ finalize_of (item exit.Copyout four ∷ item exit.Copyout four ∷ []) ∷ []
 
-finalized_inside_ranges : (ran_with limits finalized_inside).world.state.records.ranges ≡ range four 1 1 0 ∷ []
+finalized_inside_leaves : (ran_with limits finalized_inside).world.state.records.ranges ≡ range four 1 1 0 ∷ []
+    × (ran_with limits finalized_inside).world.state.host ≡ host_of (5 ∷ 6 ∷ 7 ∷ 8 ∷ []) 60
+    × (ran_with limits finalized_inside).world.state.memories ≡ memory 1 (1 ∷ 2 ∷ 3 ∷ 4 ∷ []) ∷ []
 unfolding ran_with
-finalized_inside_ranges = refl
-
-finalized_inside_host : (ran_with limits finalized_inside).world.state.host ≡ host_of (5 ∷ 6 ∷ 7 ∷ 8 ∷ []) 60
-unfolding ran_with
-finalized_inside_host = refl
-
-finalized_inside_memories : (ran_with limits finalized_inside).world.state.memories ≡ memory 1 (1 ∷ 2 ∷ 3 ∷ 4 ∷ []) ∷ []
-unfolding ran_with
-finalized_inside_memories = refl
+finalized_inside_leaves = (refl, refl, refl)
 
 -- the second item finds the dynamic counter at zero, and does nothing
 finalized_inside_told : (ran_with limits (enter_one Copyin four ∷ enter_data_of (item enter.Copyin four ∷ []) ∷ finalize_of (item exit.Copyout four ∷ item exit.Copyout four ∷ []) ∷ [])).world.history.trace
@@ -262,13 +227,10 @@ unfolding ran_with
 finalized_inside_dynamic_in = refl
 
 -- the region's exit ends the mapping, and `present` copies nothing out
-finalized_left_host : (ran_with limits (finalized_inside ++ exit_of 1 ∷ [])).world.state.host ≡ host_of (5 ∷ 6 ∷ 7 ∷ 8 ∷ []) 60
+finalized_left : (ran_with limits (finalized_inside ++ exit_of 1 ∷ [])).world.state.host ≡ host_of (5 ∷ 6 ∷ 7 ∷ 8 ∷ []) 60
+    × (ran_with limits (finalized_inside ++ exit_of 1 ∷ [])).world.state.records ≡ record { ranges = []; blocks = []; attached = []; births = 1; queues = new_queues; loans = [] }
 unfolding ran_with
-finalized_left_host = refl
-
-finalized_left_records : (ran_with limits (finalized_inside ++ exit_of 1 ∷ [])).world.state.records ≡ record { ranges = []; blocks = []; attached = []; births = 1; queues = new_queues; loans = [] }
-unfolding ran_with
-finalized_left_records = refl
+finalized_left = (refl, refl)
 
 -- an `exit data` where regions alone hold the range does nothing, with `finalize` too
 only_structured : (ran_with limits (enter_one Copyin a ∷ exit_data_of (item exit.Delete a ∷ []) ∷ finalize_of (item exit.Delete a ∷ []) ∷ [])).world.state.records.ranges ≡ range a 1 1 0 ∷ []
@@ -307,13 +269,10 @@ sixty_five_entered = refl
 abbrev counters_full : List (Call Leased)
 counters_full = enter_of (item Copyin a ∷ item Copyin a ∷ item Copyin a ∷ []) ∷ enter_of (item Copyin a ∷ item Copyin a ∷ []) ∷ enter_data_of (item enter.Copyin a ∷ item enter.Copyin a ∷ []) ∷ enter_one Present a ∷ enter_data_of (item enter.Copyin (at 0x1010 1) ∷ item enter.Copyin a ∷ []) ∷ []
 
-counters_full_refused : (ran_with twice_at_most counters_full).refused ≡ Some (CounterFull 2) ∷ None ∷ None ∷ Some (CounterFull 0) ∷ Some (CounterFull 1) ∷ []
+counters_full_leaves : (ran_with twice_at_most counters_full).refused ≡ Some (CounterFull 2) ∷ None ∷ None ∷ Some (CounterFull 0) ∷ Some (CounterFull 1) ∷ []
+    × (ran_with twice_at_most counters_full).world.state.records ≡ record { ranges = range a 1 2 2 ∷ []; blocks = block 1 0x1_0000_0000 16 ∷ []; attached = []; births = 1; queues = new_queues; loans = [] }
 unfolding ran_with
-counters_full_refused = refl
-
-counters_full_ranges : (ran_with twice_at_most counters_full).world.state.records ≡ record { ranges = range a 1 2 2 ∷ []; blocks = block 1 0x1_0000_0000 16 ∷ []; attached = []; births = 1; queues = new_queues; loans = [] }
-unfolding ran_with
-counters_full_ranges = refl
+counters_full_leaves = (refl, refl)
 
 three_entered_left : (ran_with twice_at_most (enter_of (item Copyin a ∷ item Copyin a ∷ item Copyin a ∷ []) ∷ [])).world.state ≡ new_state 64
 unfolding ran_with
@@ -324,13 +283,10 @@ three_entered_left = refl
 abbrev entered_and_left : List (Call Leased)
 entered_and_left = enter_of [] ∷ enter_one Present a ∷ exit_of 1 ∷ enter_of [] ∷ enter_of [] ∷ exit_of 2 ∷ []
 
-entered_and_left_told : (ran_with limits entered_and_left).world.history.trace ≡ Entered 1 [] [] ∷ Left 1 [] ∷ Entered 2 [] [] ∷ Entered 3 [] [] ∷ Left 2 [] ∷ []
+entered_and_left_leaves : (ran_with limits entered_and_left).world.history.trace ≡ Entered 1 [] [] ∷ Left 1 [] ∷ Entered 2 [] [] ∷ Entered 3 [] [] ∷ Left 2 [] ∷ []
+    × (ran_with limits entered_and_left).world.state.register ≡ record { regions = region 3 [] ∷ []; next = 4; serial = 1 }
 unfolding ran_with
-entered_and_left_told = refl
-
-entered_and_left_register : (ran_with limits entered_and_left).world.state.register ≡ record { regions = region 3 [] ∷ []; next = 4; serial = 1 }
-unfolding ran_with
-entered_and_left_register = refl
+entered_and_left_leaves = (refl, refl)
 
 -- two open regions are two
 both_open : (ran_with limits (enter_one Copyin a ∷ enter_one Present a ∷ [])).world.state.register ≡ record { regions = region 1 (holding Copyin a (Some 1) ∷ []) ∷ region 2 (holding Present a (Some 1) ∷ []) ∷ []; next = 3; serial = 1 }

@@ -4,10 +4,7 @@ use Rattle.std.specs.Prelude.{◌==◌, not, nat_lt, filter, option_map}
 use Rattle.std.specs.List.{AllByRecursion}
 use Rattle.std.proofs.lemmas.Bool.Decides.{nat_tests}
 use Rattle.std.proofs.lemmas.List.Sums.{sum_by-cons, sum_by_push}
-use Rattle.acc_base.specs.declared.items.Item.{Item}
-use Rattle.acc_base.specs.declared.items.RegionClause.{RegionClause}
-use Rattle.acc_base.specs.declared.regions.Holding.{Holding}
-use Rattle.acc_base.specs.declared.events.Did.{Did}
+use Rattle.acc_base.specs.Words.{Item, RegionClause, Holding, Did}
 use Rattle.acc_base.specs.Register.{Region, Register, new_register, holdings_at, region_at, with_region, without_region, opened, closed, count_held, held_in}
 use Rattle.acc_base.specs.Walk.{holdings_of}
 use Rattle.acc_base.specs.Accounts.{EachPair, IsRegisterSound}
@@ -68,9 +65,8 @@ opened_count holdings g h = ap (λ (rs : List Region). length rs) (opened_region
 -- a region holds no more than its entry had items
 pub holdings_short : (items : List (Item RegionClause)) (dids : List Did) → length (holdings_of items dids) ≤ length items
 holdings_short [] [] = omega arith
-holdings_short [] (did ∷ dids) = omega arith
-holdings_short (item ∷ items) [] = omega arith
 holdings_short (item ∷ items) (did ∷ dids) = let later : length (holdings_of items dids) ≤ length items = holdings_short items dids in omega arith
+holdings_short _ _ = omega arith
 
 -- ---- exit
 

@@ -1,14 +1,13 @@
 -- Tests, and results in a row.
-use Rattle.std.proofs.Common.{ℕ, ◌≡◌, refl, Bool, true, false, cond, Result, Ok, Err, ◌&&◌, arith, inl, inr}
-use Rattle.std.specs.Prelude.{◌⊎◌, ◌==◌, not, ⊤}
+use Rattle.std.proofs.Common.{ℕ, ◌≡◌, ◌<◌, refl, Bool, true, false, cond, Result, Ok, Err, ◌&&◌, arith, inl, inr}
+use Rattle.std.specs.Prelude.{◌⊎◌, ◌==◌, not, nat_le, ⊤}
 use Rattle.std.proofs.lemmas.Bool.Decides.{nat_tests}
 use Rattle.acc_base.specs.declared.faults.Fault.{Fault}
 use Rattle.acc_base.specs.Results.{◌>>=◌, ◌>>◌, refuse_if}
 
 pub and_true : (a b : Bool) → (a && b) ≡ true → (a ≡ true) × (b ≡ true)
 and_true true true e = (refl, refl)
-and_true true false e = cc
-and_true false b e = cc
+and_true _ _ e = cc
 
 pub and_false : (a b : Bool) → (a && b) ≡ false → (a ≡ false) ⊎ (b ≡ false)
 and_false true b e = inr e
@@ -28,6 +27,9 @@ equal a b e = grind (arith, nat_tests)
 
 pub differ : (a b : ℕ) → (a == b) ≡ false → a ≡ b → ⊥
 differ a b e same = grind (arith, nat_tests)
+
+pub below_most : (most n : ℕ) → nat_le most n ≡ false → n < most
+below_most most n e = grind (arith, nat_tests)
 
 pub equal_self : (a : ℕ) → (a == a) ≡ true
 equal_self a = grind (arith, nat_tests)

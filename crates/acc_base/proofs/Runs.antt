@@ -1,7 +1,6 @@
 -- Calls one after the other, computed by the definitions: what each was refused for, and the world in the end.
 use Rattle.std.proofs.Common.{List, [], ◌∷◌, Option, Some, None, Result, Ok, Err}
-use Rattle.acc_base.specs.declared.calls.Call.{Call}
-use Rattle.acc_base.specs.declared.faults.Fault.{Fault}
+use Rattle.acc_base.specs.Words.{Call, Fault}
 use Rattle.acc_base.specs.Loans.{Leased}
 use Rattle.acc_base.specs.Limits.{Limits}
 use Rattle.acc_base.specs.Steps.{judge_step, judge_row, act_step, act_row, released, records_after_birth, records_after_end, with_range_changed}
@@ -13,7 +12,7 @@ use Rattle.acc_base.specs.Acting.{judge_aim, judge_task, judge_all, act_state, a
 use Rattle.acc_base.specs.Judge.{directive_verdict, host_write_event, lend_event, gather_event}
 use Rattle.acc_base.specs.Walk.{loaned}
 use Rattle.acc_base.specs.Calls.{World, judge, world_after, new_world}
-use Rattle.acc_base.specs.Judge.{Verdict, Makes, Idle}
+use Rattle.acc_base.specs.Judge.{Verdict, Makes}
 
 -- the refusals, and the world in the end
 pub record Ran : Type 0 where
@@ -27,8 +26,7 @@ refusal_in (Err fault) = Some fault
 next_in : Call Leased → World → Result Verdict Fault → World
 unfolding world_after after loaned act_all_state act_state step_state aimed act_step act_row records_after_birth records_after_end released with_range_changed drained stepped
 next_in call w (Ok (Makes e)) = world_after call e w
-next_in call w (Ok Idle) = w
-next_in call w (Err fault) = w
+next_in call w _ = w
 
 unfoldable pub ran_in : List (Call Leased) → World → Ran
 unfolding next_in judge directive_verdict host_write_event lend_event gather_event judge_all judge_task judge_step judge_row judge_aim judge_attach judge_detach judge_release act_state step_state aimed act_step act_row records_after_birth records_after_end released with_range_changed

@@ -1,11 +1,8 @@
 -- Attaching and detaching a pointer leaves ranges, blocks, births and queues alone.
-use Rattle.std.proofs.Common.{◌≡◌, refl, true, false}
-use Rattle.acc_base.specs.declared.attachments.Aim.{Aim}
-use Rattle.acc_base.specs.declared.tasks.Task.{Task}
-use Rattle.acc_base.specs.declared.tasks.Task.TheVariants.{Enter, Leave, Exit, Move}
-use Rattle.acc_base.specs.declared.events.Step.{Step}
-use Rattle.acc_base.specs.declared.events.Step.TheVariants.{Nothing, Counted, Born, Dropped, Moved}
-use Rattle.acc_base.specs.declared.events.Did.{Did}
+use Rattle.std.proofs.Common.{◌≡◌, refl, true}
+use Rattle.acc_base.specs.Words.{Aim, Task, Step, Did}
+use Rattle.acc_base.specs.declared.tasks.Task.TheVariants.{Enter}
+use Rattle.acc_base.specs.declared.events.Step.TheVariants.{Dropped}
 use Rattle.acc_base.specs.Records.{Records}
 use Rattle.acc_base.specs.Steps.{records_after_birth, records_after_end, released, with_range_changed, act_row, act_step, records_aimed, act}
 
@@ -18,17 +15,11 @@ pub record IsSameMapping (v w : Records) : Type 0 where
 
 mapping-aimed : (task : Task) (step : Step) (aim : Aim) (w : Records) → IsSameMapping (act_step task step (records_aimed aim w)) (act_step task step w)
 unfolding act_step act_row released with_range_changed records_after_birth records_after_end
-mapping-aimed task Nothing aim w = record { ranges = refl; blocks = refl; births = refl; queues = refl }
-mapping-aimed task (Counted k) aim w = record { ranges = refl; blocks = refl; births = refl; queues = refl }
-mapping-aimed task (Born k p) aim w = record { ranges = refl; blocks = refl; births = refl; queues = refl }
 mapping-aimed task (Dropped k true) aim w = record { ranges = refl; blocks = refl; births = refl; queues = refl }
-mapping-aimed task (Dropped k false) aim w = record { ranges = refl; blocks = refl; births = refl; queues = refl }
-mapping-aimed task (Moved k) aim w = record { ranges = refl; blocks = refl; births = refl; queues = refl }
+mapping-aimed task _ aim w = record { ranges = refl; blocks = refl; births = refl; queues = refl }
 
 -- what a task leaves of ranges, blocks, births and queues is what its step leaves
 pub mapping-act : (task : Task) (did : Did) (w : Records) → IsSameMapping (act task did w) (act_step task did.step w)
 unfolding act
 mapping-act (Enter counter item queue) did w = record { ranges = refl; blocks = refl; births = refl; queues = refl }
-mapping-act (Leave holding) did w = mapping-aimed (Leave holding) did.step did.aim w
-mapping-act (Exit finalize item queue) did w = mapping-aimed (Exit finalize item queue) did.step did.aim w
-mapping-act (Move if_present item queue) did w = mapping-aimed (Move if_present item queue) did.step did.aim w
+mapping-act task did w = mapping-aimed task did.step did.aim w

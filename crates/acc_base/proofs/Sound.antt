@@ -3,16 +3,8 @@ use Rattle.std.proofs.Common.{ℕ, zero, suc, ◌≡◌, ◌+◌, ◌%◌, ◌<�
 use Rattle.std.specs.Prelude.{◌⊎◌, ◌==◌, ◌&&◌, ◌||◌, not, nat_lt, nat_le, unwrap_or, option_map, is_some, length, replicate, IsSome, IfSome, ⊤}
 use Rattle.std.specs.List.{AllByRecursion, list_all}
 use Rattle.std.proofs.lemmas.Bool.Decides.{nat_tests}
-use Rattle.acc_base.specs.declared.items.Section.{Section}
-use Rattle.acc_base.specs.declared.items.Item.{Item}
-use Rattle.acc_base.specs.declared.items.RegionClause.{RegionClause}
-use Rattle.acc_base.specs.declared.mappings.Counter.{Counter}
+use Rattle.acc_base.specs.Words.{Section, Item, RegionClause, Counter, Range, Block, Attachment, Transfer, Task, Loan}
 use Rattle.acc_base.specs.declared.mappings.Counter.TheVariants.{Structured, Dynamic}
-use Rattle.acc_base.specs.declared.mappings.Range.{Range}
-use Rattle.acc_base.specs.declared.mappings.Block.{Block}
-use Rattle.acc_base.specs.declared.attachments.Attachment.{Attachment}
-use Rattle.acc_base.specs.declared.transfers.Transfer.{Transfer}
-use Rattle.acc_base.specs.declared.tasks.Task.{Task}
 use Rattle.acc_base.specs.declared.tasks.Task.TheVariants.{Enter, Leave, Exit, Move}
 use Rattle.acc_base.specs.Limits.{Limits, IsWithinBounds}
 use Rattle.acc_base.specs.Section.{is_empty, is_within, is_apart, end_of, device_base, device_memory}
@@ -35,7 +27,6 @@ use Rattle.acc_base.proofs.Where.{absent_says}
 use Rattle.acc_base.proofs.Places.{place_for-found, IsFoundPlace, place_for-even}
 use Rattle.acc_base.proofs.Attached.{rising-without, within-without}
 use Rattle.acc_base.proofs.Queued.{pins-popped, none_named, queues-popped, queues-blocks}
-use Rattle.acc_base.specs.declared.loans.Loan.{Loan}
 use Rattle.acc_base.specs.Loans.{is_lent}
 use Rattle.acc_base.proofs.Lending.{loans-weaker, loans-other, range_of-with_other}
 use Rattle.acc_base.proofs.Judged.{IsBirth, IsCount}

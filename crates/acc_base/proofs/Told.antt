@@ -3,17 +3,10 @@ use Rattle.std.proofs.Common.{ℕ, ◌≡◌, ◌+◌, ◌-◌, ◌≤◌, ◌<�
 use Rattle.std.specs.Prelude.{reverse, fold, sum_by, unwrap_or, option_map, IsSome, IfSome, ⊤}
 use Rattle.std.specs.List.{AllByRecursion}
 use Rattle.std.proofs.lemmas.List.Sums.{sum_by-cons}
-use Rattle.acc_base.specs.declared.items.Item.{Item}
-use Rattle.acc_base.specs.declared.items.RegionClause.{RegionClause}
-use Rattle.acc_base.specs.declared.items.EnterClause.{EnterClause}
-use Rattle.acc_base.specs.declared.mappings.Range.{Range}
+use Rattle.acc_base.specs.Words.{Item, RegionClause, EnterClause, Range, Holding, Task, Did, Event}
 use Rattle.acc_base.specs.declared.mappings.Counter.TheVariants.{Structured, Dynamic}
-use Rattle.acc_base.specs.declared.regions.Holding.{Holding}
-use Rattle.acc_base.specs.declared.tasks.Task.{Task}
 use Rattle.acc_base.specs.declared.tasks.Task.TheVariants.{Leave}
-use Rattle.acc_base.specs.declared.events.Did.{Did}
-use Rattle.acc_base.specs.declared.events.Event.{Event}
-use Rattle.acc_base.specs.declared.events.Event.TheVariants.{Entered, Left, EnteredData, ExitedData, Updated, Waited, Stepped, HostWritten, Lent, Gathered}
+use Rattle.acc_base.specs.declared.events.Event.TheVariants.{Entered, Left, EnteredData, ExitedData, Updated, Lent}
 use Rattle.acc_base.specs.Limits.{Limits, IsWithinBounds}
 use Rattle.acc_base.specs.Records.{Records, Layout, new_layout}
 use Rattle.acc_base.specs.Register.{Region, Register, holdings_at, opened, closed, is_counted_block, count_held, held_in}
@@ -24,7 +17,7 @@ use Rattle.acc_base.specs.Waits.{records_drained}
 use Rattle.acc_base.specs.Walk.{enter_task, enter_data_task, exit_task, move_task, asked_in, done_in, stepped_in, register_after, holdings_of, walk, walk_all, loaned}
 use Rattle.acc_base.specs.History.{NamesRight, drops, count_counted, count_dropped, entries_of, exits_of, entries_in, exits_in, dynamic_in, dynamic_after, IsLegal, AreLegal}
 use Rattle.acc_base.specs.Calls.{History}
-use Rattle.acc_base.specs.Accounts.{EachPair, AreRecordsSound, AreHeld, IsHistoryLegal}
+use Rattle.acc_base.specs.Accounts.{AreRecordsSound, AreHeld, IsHistoryLegal}
 use Rattle.acc_base.proofs.Results.{equal_self}
 use Rattle.acc_base.proofs.Elements.{AllByRecursion-weaker, IfSome-weaker}
 use Rattle.acc_base.proofs.Sound.{ranges-drained, drained_sound, new_sound}
@@ -68,11 +61,7 @@ recounted_by l (Updated items if_present queue did) g w b said left = record {
   structured = left.counter_is Structured b ∙ (recount_same Structured b (move_task if_present queue) items did (structured_of b w.ranges) (λ x m. refl) ∙ omega arith);
   dynamic = left.counter_is Dynamic b ∙ recount_same Dynamic b (move_task if_present queue) items did (dynamic_of b w.ranges) (λ x m. refl);
 }
-recounted_by l (Waited queue count) g w b said left = record { structured = left.counter_is Structured b ∙ omega arith; dynamic = left.counter_is Dynamic b }
-recounted_by l (Stepped queue block) g w b said left = record { structured = left.counter_is Structured b ∙ omega arith; dynamic = left.counter_is Dynamic b }
-recounted_by l (HostWritten addr len) g w b said left = record { structured = left.counter_is Structured b ∙ omega arith; dynamic = left.counter_is Dynamic b }
-recounted_by l (Lent region section block serial) g w b said left = record { structured = left.counter_is Structured b ∙ omega arith; dynamic = left.counter_is Dynamic b }
-recounted_by l (Gathered serial block) g w b said left = record { structured = left.counter_is Structured b ∙ omega arith; dynamic = left.counter_is Dynamic b }
+recounted_by l _ g w b said left = record { structured = left.counter_is Structured b ∙ omega arith; dynamic = left.counter_is Dynamic b }
 
 -- what a number of a region holds, where one of that number is open
 holds : (o : Option (List Holding)) → IsSome o → o ≡ Some (unwrap_or o [])
@@ -92,26 +81,13 @@ held_by l (Left number did) lay b h legal said =
     let turned_back : count_held b (reverse holdings) ≡ count_held b holdings = sum_by-reverse (λ (x : Holding). cond (is_counted_block b x.block) 1 0) holdings in
     let dropped : count_dropped b (reverse did) ≡ count_held b (reverse holdings) = held-left l b (reverse holdings) (reverse did) said in
     record { held = omega arith }
-held_by l (EnteredData items queue did) lay b h legal said = record { held = refl }
-held_by l (ExitedData items finalize queue did) lay b h legal said = record { held = refl }
-held_by l (Updated items if_present queue did) lay b h legal said = record { held = refl }
-held_by l (Waited queue count) lay b h legal said = record { held = refl }
-held_by l (Stepped queue block) lay b h legal said = record { held = refl }
-held_by l (HostWritten addr len) lay b h legal said = record { held = refl }
-held_by l (Lent region section block serial) lay b h legal said = record { held = refl }
-held_by l (Gathered serial block) lay b h legal said = record { held = refl }
+held_by l _ lay b h legal said = record { held = refl }
 
 numbered_by : (e : Event) (g : Register) → IsNumbered g → IsNumbered (register_after e g)
 numbered_by (Entered number items did) g h = opened_numbered (holdings_of items did) g h
 numbered_by (Left number did) g h = closed_numbered number g h
-numbered_by (EnteredData items queue did) g h = h
-numbered_by (ExitedData items finalize queue did) g h = h
-numbered_by (Updated items if_present queue did) g h = h
-numbered_by (Waited queue count) g h = h
-numbered_by (Stepped queue block) g h = h
-numbered_by (HostWritten addr len) g h = h
 numbered_by (Lent region section block serial) g h = record { first = h.first; rising = h.rising; known = h.known }
-numbered_by (Gathered serial block) g h = h
+numbered_by _ g h = h
 
 -- what holds of a layout, with how often each block was counted and dropped by regions, and its dynamic counter
 pub record IsTold (l : Limits) (lay : Layout) (entries exits dynamics : ℕ → ℕ) : Type 0 where
@@ -200,65 +176,19 @@ legal_told l h lay bounds legal =
 
 abbrev pub with_number : Event → List ℕ → List ℕ
 with_number (Entered number items did) numbers = number ∷ numbers
-with_number (Left number did) numbers = numbers
-with_number (EnteredData items queue did) numbers = numbers
-with_number (ExitedData items finalize queue did) numbers = numbers
-with_number (Updated items if_present queue did) numbers = numbers
-with_number (Waited queue count) numbers = numbers
-with_number (Stepped queue block) numbers = numbers
-with_number (HostWritten addr len) numbers = numbers
-with_number (Lent region section block serial) numbers = numbers
-with_number (Gathered serial block) numbers = numbers
+with_number _ numbers = numbers
 
 -- the numbers of the regions that were entered, in order
 abbrev pub numbers_in : List Event → List ℕ
 numbers_in [] = []
 numbers_in (e ∷ events) = with_number e (numbers_in events)
 
-abbrev AreFrom : ℕ → List ℕ → Type 0
-AreFrom least numbers = AllByRecursion (λ n. least ≤ n) numbers
-
-numbers_from : (l : Limits) (events : List Event) (lay : Layout) → AreLegal l events lay → AreFrom lay.register.next (numbers_in events)
-unfolding walk
-numbers_from l [] lay legal = tt
-numbers_from l (e ∷ events) lay legal = go e legal.0.names (numbers_from l events (walk e lay) legal.1)
-  where
-    go : (x : Event) → NamesRight l x lay → AreFrom (register_after x lay.register).next (numbers_in events) → AreFrom lay.register.next (with_number x (numbers_in events))
-    go (Entered number items did) names later = let is : number ≡ lay.register.next = names in (omega arith, AllByRecursion-weaker (λ n. lay.register.next + 1 ≤ n) (λ n. lay.register.next ≤ n) (numbers_in events) (λ n p. omega arith) later)
-    go (Left number did) names later = later
-    go (EnteredData items queue did) names later = later
-    go (ExitedData items finalize queue did) names later = later
-    go (Updated items if_present queue did) names later = later
-    go (Waited queue count) names later = later
-    go (Stepped queue block) names later = later
-    go (HostWritten addr len) names later = later
-    go (Lent region section block serial) names later = later
-    go (Gathered serial block) names later = later
-
--- they rise, so no number is used twice
-pub numbers_rise : (l : Limits) (events : List Event) (lay : Layout) → AreLegal l events lay → EachPair (λ (m : ℕ) (n : ℕ). m < n) (numbers_in events)
-unfolding walk
-numbers_rise l [] lay legal = tt
-numbers_rise l (e ∷ events) lay legal = go e legal.0.names (numbers_from l events (walk e lay) legal.1) (numbers_rise l events (walk e lay) legal.1)
-  where
-    go : (x : Event) → NamesRight l x lay → AreFrom (register_after x lay.register).next (numbers_in events) → EachPair (λ (m : ℕ) (n : ℕ). m < n) (numbers_in events) → EachPair (λ (m : ℕ) (n : ℕ). m < n) (with_number x (numbers_in events))
-    go (Entered number items did) names from later = let is : number ≡ lay.register.next = names in (AllByRecursion-weaker (λ n. lay.register.next + 1 ≤ n) (λ n. number < n) (numbers_in events) (λ n p. omega arith) from, later)
-    go (Left number did) names from later = later
-    go (EnteredData items queue did) names from later = later
-    go (ExitedData items finalize queue did) names from later = later
-    go (Updated items if_present queue did) names from later = later
-    go (Waited queue count) names from later = later
-    go (Stepped queue block) names from later = later
-    go (HostWritten addr len) names from later = later
-    go (Lent region section block serial) names from later = later
-    go (Gathered serial block) names from later = later
-
 -- the numbers count up by one from this one
 abbrev pub AreConsecutive : ℕ → List ℕ → Type 0
 AreConsecutive first [] = ⊤
 AreConsecutive first (n ∷ numbers) = (n ≡ first) × AreConsecutive (first + 1) numbers
 
--- each region's number is one more than that of the region entered before it, so a refused call uses none
+-- each region's number is one more than that of the region entered before it, so none is used twice, and a refused call uses none
 pub numbers_consecutive : (l : Limits) (events : List Event) (lay : Layout) → AreLegal l events lay → AreConsecutive lay.register.next (numbers_in events)
 unfolding walk
 numbers_consecutive l [] lay legal = tt
@@ -266,15 +196,7 @@ numbers_consecutive l (e ∷ events) lay legal = go e legal.0.names (numbers_con
   where
     go : (x : Event) → NamesRight l x lay → AreConsecutive (register_after x lay.register).next (numbers_in events) → AreConsecutive lay.register.next (with_number x (numbers_in events))
     go (Entered number items did) names later = (names, later)
-    go (Left number did) names later = later
-    go (EnteredData items queue did) names later = later
-    go (ExitedData items finalize queue did) names later = later
-    go (Updated items if_present queue did) names later = later
-    go (Waited queue count) names later = later
-    go (Stepped queue block) names later = later
-    go (HostWritten addr len) names later = later
-    go (Lent region section block serial) names later = later
-    go (Gathered serial block) names later = later
+    go _ names later = later
 
 -- ---- what open regions hold
 

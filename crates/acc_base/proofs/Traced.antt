@@ -2,18 +2,11 @@
 use Rattle.std.proofs.Common.{ℕ, suc, ◌≡◌, ◌+◌, ◌-◌, ◌<◌, ◌≤◌, refl, sym, ◌∙◌, ap, subst, Bool, true, false, cond, List, [], ◌∷◌, ◌++◌, Option, Some, None, arith}
 use Rattle.std.specs.Prelude.{◌==◌, ◌&&◌, fold, unwrap_or, option_map, IsSome}
 use Rattle.std.proofs.lemmas.Bool.Decides.{nat_tests}
-use Rattle.acc_base.specs.declared.mappings.Block.{Block}
-use Rattle.acc_base.specs.declared.attachments.Attachment.{Attachment}
-use Rattle.acc_base.specs.declared.attachments.Aim.{Aim}
+use Rattle.acc_base.specs.Words.{Block, Attachment, Aim, Transfer, Task, Step, Did, Event}
 use Rattle.acc_base.specs.declared.attachments.Aim.TheVariants as aims
-use Rattle.acc_base.specs.declared.transfers.Transfer.{Transfer}
-use Rattle.acc_base.specs.declared.tasks.Task.{Task}
 use Rattle.acc_base.specs.declared.tasks.Task.TheVariants.{Enter, Leave, Exit, Move}
-use Rattle.acc_base.specs.declared.events.Step.{Step}
 use Rattle.acc_base.specs.declared.events.Step.TheVariants.{Nothing, Counted, Born, Dropped, Moved}
-use Rattle.acc_base.specs.declared.events.Did.{Did}
-use Rattle.acc_base.specs.declared.events.Event.{Event}
-use Rattle.acc_base.specs.declared.events.Event.TheVariants.{Entered, Left, EnteredData, ExitedData, Updated, Waited, Stepped, HostWritten, Lent, Gathered}
+use Rattle.acc_base.specs.declared.events.Event.TheVariants.{Lent, Gathered}
 use Rattle.acc_base.specs.Limits.{Limits, IsWithinBounds}
 use Rattle.acc_base.specs.Records.{Records, Layout, new_layout}
 use Rattle.acc_base.specs.Ranges.{bare_range, without_range}
@@ -145,12 +138,10 @@ step_told l (Enter counter item queue) (Born k p) w pointers sound says h = put_
   where
     put_after : AreTold pointers (records_after_birth (recounted (Enter counter item queue) (bare_range (section_of (Enter counter item queue)) k)) p w) → AreTold pointers (act_step (Enter counter item queue) (Born k p) w)
     put_after t = record { there = t.there; unborn = t.unborn }
-step_told l (Leave holding) (Born k p) w pointers sound says h = absurd says
-step_told l (Exit finalize item queue) (Born k p) w pointers sound says h = absurd says
-step_told l (Move if_present item queue) (Born k p) w pointers sound says h = absurd says
 step_told l task (Dropped k true) w pointers sound says h = ended_told k (with_put task (Dropped k true) w) pointers (put_told task (Dropped k true) w pointers h)
 step_told l task (Dropped k false) w pointers sound says h = record { there = h.there; unborn = h.unborn }
 step_told l task (Moved k) w pointers sound says h = put_told task (Moved k) w pointers h
+step_told l _ (Born k p) w pointers sound says h = absurd says
 
 -- ---- an attachment or a detachment leaves the counters that it says
 
@@ -201,27 +192,19 @@ tasks_told : (l : Limits) (n : ℕ) (tasks : List Task) (dids : List Did) (w : R
     → AreTold (λ block pointer. fold (λ m d. count_after block pointer d.aim m) (pointers block pointer) dids) (act_all tasks dids w)
 unfolding act_all
 tasks_told l n [] [] w pointers bounds sound judged h = h
-tasks_told l n [] (did ∷ dids) w pointers bounds sound judged h = absurd judged
-tasks_told l n (task ∷ tasks) [] w pointers bounds sound judged h = absurd judged
 tasks_told l n (task ∷ tasks) (did ∷ dids) w pointers bounds sound judged h =
     let says : IsJudgedTo l task did.step w = task_says l n task w did.step judged.0 in
     let free : IsStepFree l task did.step w = (step_judged l n task w did.step judged.0).free in
     let left : IsLeft l task did w (act task did w) = task_left l task did w bounds sound says free judged.1 in
     tasks_told l (suc n) tasks dids (act task did w) (told_after did pointers) bounds left.sound judged.2 (task_told l task did w pointers bounds sound says free judged.1 h)
+tasks_told l n _ _ w pointers bounds sound judged h = absurd judged
 
 -- lending and gathering leave the attachment counters
 loaned_told : (e : Event) (w : Records) (pointers : ℕ → ℕ → ℕ) → AreTold pointers w → AreTold pointers (loaned e w)
 unfolding loaned
-loaned_told (Entered number items did) w pointers h = h
-loaned_told (Left number did) w pointers h = h
-loaned_told (EnteredData items queue did) w pointers h = h
-loaned_told (ExitedData items finalize queue did) w pointers h = h
-loaned_told (Updated items if_present queue did) w pointers h = h
-loaned_told (Waited queue count) w pointers h = h
-loaned_told (Stepped queue block) w pointers h = h
-loaned_told (HostWritten addr len) w pointers h = h
 loaned_told (Lent region section block serial) w pointers h = record { there = h.there; unborn = h.unborn }
 loaned_told (Gathered serial block) w pointers h = record { there = h.there; unborn = h.unborn }
+loaned_told _ w pointers h = h
 
 walks_told : (l : Limits) (events : List Event) (lay : Layout) (pointers : ℕ → ℕ → ℕ) → IsWithinBounds l → AreRecordsSound l lay.records → AreLegal l events lay → AreTold pointers lay.records
     → AreTold (λ block pointer. fold (attached_after block pointer) (pointers block pointer) events) (walk_all events lay).records

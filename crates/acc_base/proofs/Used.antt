@@ -5,9 +5,8 @@ use Rattle.std.specs.List.{AllByRecursion}
 use Rattle.std.proofs.lemmas.Bool.Decides.{nat_tests}
 use Rattle.std.proofs.lemmas.List.Sums.{sum_by-cons}
 use Rattle.std.proofs.lemmas.List.Filters.{sum_by-filter_both, length-filter_both}
-use Rattle.acc_base.specs.declared.mappings.Block.{Block}
+use Rattle.acc_base.specs.Words.{Block, Section}
 use Rattle.acc_base.specs.Limits.{Limits}
-use Rattle.acc_base.specs.declared.items.Section.{Section}
 use Rattle.acc_base.specs.Section.{device_memory, end_of}
 use Rattle.acc_base.specs.Records.{Records}
 use Rattle.acc_base.specs.Blocks.{block_end, size_of, used_bytes}

@@ -1,10 +1,7 @@
 -- The layout after an event is the walk of the event.
 use Rattle.std.proofs.Common.{◌≡◌, refl, ◌∙◌, ap, List, [], ◌∷◌, ℕ, Option, Some, None}
-use Rattle.acc_base.specs.declared.transfers.Transfer.{Transfer}
-use Rattle.acc_base.specs.declared.tasks.Task.{Task}
-use Rattle.acc_base.specs.declared.tasks.Task.TheVariants.{Enter, Leave, Exit, Move}
-use Rattle.acc_base.specs.declared.events.Did.{Did}
-use Rattle.acc_base.specs.declared.events.Event.{Event}
+use Rattle.acc_base.specs.Words.{Transfer, Task, Did, Event}
+use Rattle.acc_base.specs.declared.tasks.Task.TheVariants.{Enter}
 use Rattle.acc_base.specs.Records.{State, Records, layout_of}
 use Rattle.acc_base.specs.Steps.{act, act_all}
 use Rattle.acc_base.specs.Walk.{walk, asked_in, done_in, stepped_in, loaned, register_after}
@@ -18,32 +15,26 @@ use Rattle.acc_base.specs.Acting.{act_state, act_all_state, after}
 pub records-act_state : (task : Task) (did : Did) (s : State) → (act_state task did s).records ≡ act task did s.records
 unfolding act_state act step_state aimed
 records-act_state (Enter counter item queue) did s = refl
-records-act_state (Leave holding) did s = refl
-records-act_state (Exit finalize item queue) did s = refl
-records-act_state (Move if_present item queue) did s = refl
+records-act_state _ did s = refl
 
 -- and the same of a list of tasks
 pub records-act_all_state : (tasks : List Task) (dids : List Did) (s : State) → (act_all_state tasks dids s).records ≡ act_all tasks dids s.records
 unfolding act_all_state act_all
 records-act_all_state [] [] s = refl
-records-act_all_state [] (d ∷ ds) s = refl
-records-act_all_state (t ∷ ts) [] s = refl
 records-act_all_state (t ∷ ts) (d ∷ ds) s = records-act_all_state ts ds (act_state t d s) ∙ ap (act_all ts ds) (records-act_state t d s)
+records-act_all_state _ _ s = refl
 
 -- tasks leave the register
 register-act_state : (task : Task) (did : Did) (s : State) → (act_state task did s).register ≡ s.register
 unfolding act_state step_state aimed
 register-act_state (Enter counter item queue) did s = refl
-register-act_state (Leave holding) did s = refl
-register-act_state (Exit finalize item queue) did s = refl
-register-act_state (Move if_present item queue) did s = refl
+register-act_state _ did s = refl
 
 pub register-act_all_state : (tasks : List Task) (dids : List Did) (s : State) → (act_all_state tasks dids s).register ≡ s.register
 unfolding act_all_state
 register-act_all_state [] [] s = refl
-register-act_all_state [] (d ∷ ds) s = refl
-register-act_all_state (t ∷ ts) [] s = refl
 register-act_all_state (t ∷ ts) (d ∷ ds) s = register-act_all_state ts ds (act_state t d s) ∙ register-act_state t d s
+register-act_all_state _ _ s = refl
 
 -- transfers that are made one after the other
 records-stepped : (q : ℕ) (s : State) → (stepped q s).records ≡ records_stepped q s.records

@@ -3,12 +3,10 @@ use Rattle.std.proofs.Common.{ℕ, ◌≡◌, ◌+◌, ◌-◌, ◌<◌, ◌≤�
 use Rattle.std.specs.Prelude.{◌↔◌, Contains, IfSome, ⊤}
 use Rattle.std.proofs.lemmas.List.Elements.{All-contains, All-from_recursion}
 use Rattle.acc_base.specs.Inside.{IsInsideOne}
-use Rattle.acc_base.specs.declared.mappings.Found.{Found}
+use Rattle.acc_base.specs.Words.{Found, Section, Range}
 use Rattle.std.specs.List.{list_all, AllByRecursion}
 use Rattle.std.proofs.lemmas.Bool.{false≢true}
 use Rattle.std.proofs.lemmas.Bool.Decides.{nat_tests}
-use Rattle.acc_base.specs.declared.items.Section.{Section}
-use Rattle.acc_base.specs.declared.mappings.Range.{Range}
 use Rattle.acc_base.specs.declared.mappings.Found.TheVariants.{Empty, Inside, Partly, Absent}
 use Rattle.acc_base.specs.Section.{is_empty, is_within, is_apart, IsWithin, IsApart, Covers}
 use Rattle.acc_base.specs.Ranges.{where_is, range_around, found_in, IsPlacedAt, IsClear, IsInNone}
@@ -82,19 +80,16 @@ pub inside_says : (s : Section) (ranges : List Range) (block offset : ℕ) → w
 inside_says s ranges block offset e = go (is_empty s) refl (range_around s ranges) refl (list_all (λ r. is_apart s r.section) ranges) e
   where
     go : (x : Bool) → is_empty s ≡ x → (found : Option Range) → range_around s ranges ≡ found → (y : Bool) → cond x Empty (found_in s found (cond y Absent Partly)) ≡ Inside block offset → (r : Range) × IsInsideOf s ranges block offset r
-    go true t found f y h = cc
     go false t (Some r) f y h = (r, record { around = f; block_is = cc; offset_is = cc; some = t })
     go false t None f true h = cc
-    go false t None f false h = cc
+    go _ t _ f _ h = cc
 
 pub absent_says : (s : Section) (ranges : List Range) → where_is s ranges ≡ Absent → (list_all (λ r. is_apart s r.section) ranges ≡ true) × (is_empty s ≡ false)
 absent_says s ranges e = go (is_empty s) refl (range_around s ranges) (list_all (λ r. is_apart s r.section) ranges) refl e
   where
     go : (x : Bool) → is_empty s ≡ x → (found : Option Range) (y : Bool) → list_all (λ r. is_apart s r.section) ranges ≡ y → cond x Empty (found_in s found (cond y Absent Partly)) ≡ Absent → (list_all (λ r. is_apart s r.section) ranges ≡ true) × (is_empty s ≡ false)
-    go true t found y f h = cc
-    go false t (Some r) y f h = cc
     go false t None true f h = (f, t)
-    go false t None false f h = cc
+    go _ t _ _ f h = cc
 
 -- ---- exactly when
 
@@ -115,10 +110,8 @@ inside_when s ranges Absent placed h = absurd (within_not_clear s ranges h.1.0 h
 inside_when s ranges Partly placed h = absurd (All-contains (λ (r : Range). ¬ IsWithin s r.section) ranges h.1.0 (All-from_recursion (λ (r : Range). ¬ IsWithin s r.section) ranges placed.1) h.1.1 h.1.2)
 
 in_one : (s : Section) (ranges : List Range) (found : Found) → IsPlacedAt s ranges found → IsInside found → IsInsideOne s ranges
-in_one s ranges Empty placed h = absurd h
 in_one s ranges (Inside block offset) placed h = (placed.0, (placed.1.0, placed.1.1.mapped, placed.1.1.within))
-in_one s ranges Absent placed h = absurd h
-in_one s ranges Partly placed h = absurd h
+in_one s ranges _ placed h = absurd h
 
 -- a section is inside a range exactly where each of its addresses is in that one range
 pub inside_exactly : (s : Section) (ranges : List Range) → AllByRecursion (λ (r : Range). 0 < r.section.len) ranges → IsInside (where_is s ranges) ↔ IsInsideOne s ranges

@@ -1,12 +1,7 @@
 -- What holds of every world that accepted calls lead to: ranges and blocks are apart and account for every used byte, and every counter is what the history gives.
 use Rattle.std.specs.Prelude.{ℕ, ◌+◌, ◌%◌, ◌≡◌, ◌<◌, ◌≤◌, ◌⊎◌, true, false, List, [], ◌∷◌, length, Some, IsSome, ⊤}
 use Rattle.std.specs.List.{AllByRecursion, AllZip}
-use Rattle.acc_base.specs.declared.items.Section.{Section}
-use Rattle.acc_base.specs.declared.mappings.Range.{Range}
-use Rattle.acc_base.specs.declared.mappings.Block.{Block}
-use Rattle.acc_base.specs.declared.attachments.Attachment.{Attachment}
-use Rattle.acc_base.specs.declared.transfers.Transfer.{Transfer}
-use Rattle.acc_base.specs.declared.loans.Loan.{Loan}
+use Rattle.acc_base.specs.Words.{Section, Range, Block, Attachment, Transfer, Loan}
 use Rattle.acc_base.specs.declared.transfers.TheConstants.{QUEUE_COUNT}
 use Rattle.acc_base.specs.Limits.{Limits}
 use Rattle.acc_base.specs.Section.{end_of, is_within, host_memory, device_memory}

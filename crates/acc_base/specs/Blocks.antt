@@ -1,8 +1,7 @@
 -- The blocks of device memory, and where a new one is placed: at the least device address at which it fits.
 use Rattle.std.specs.Prelude.{ℕ, ◌+◌, ◌*◌, ◌/◌, ◌<◌, ◌≤◌, Bool, not, ◌&&◌, ◌||◌, if◌then◌else◌, nat_le, ◌==◌, List, [], ◌∷◌, map, Option, Some, None, filter, find, unwrap_or, option_map, sum_by}
 use Rattle.std.specs.List.{list_all, AllByRecursion}
-use Rattle.acc_base.specs.declared.mappings.Block.{Block}
-use Rattle.acc_base.specs.declared.items.Section.{Section}
+use Rattle.acc_base.specs.Words.{Block, Section}
 use Rattle.acc_base.specs.Section.{Covers, is_within}
 
 -- the least multiple of 16 that is at least n

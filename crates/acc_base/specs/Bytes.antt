@@ -1,14 +1,9 @@
 -- What the step of an item leaves of the bytes: the host's, and those of the blocks.
 use Rattle.std.specs.Prelude.{ℕ, suc, ◌-◌, Bool, true, false, not, ◌&&◌, if◌then◌else◌, ◌==◌, List, [], ◌∷◌, ◌++◌, map, replicate, filter, find, Option, Some, None, unwrap_or, option_map, slice_index}
 use Rattle.std.specs.List.{list_any}
-use Rattle.acc_base.specs.declared.items.Section.{Section}
-use Rattle.acc_base.specs.declared.mappings.Block.{Block}
-use Rattle.acc_base.specs.declared.attachments.Attachment.{Attachment}
-use Rattle.acc_base.specs.declared.tasks.Task.{Task}
-use Rattle.acc_base.specs.declared.tasks.Task.TheVariants.{Enter, Leave, Exit, Move}
-use Rattle.acc_base.specs.declared.transfers.Transfer.{Transfer}
-use Rattle.acc_base.specs.declared.events.Step.{Step}
-use Rattle.acc_base.specs.declared.events.Step.TheVariants.{Nothing, Counted, Born, Dropped, Moved}
+use Rattle.acc_base.specs.Words.{Section, Block, Attachment, Task, Transfer, Step}
+use Rattle.acc_base.specs.declared.tasks.Task.TheVariants.{Enter}
+use Rattle.acc_base.specs.declared.events.Step.TheVariants.{Born, Dropped}
 use Rattle.acc_base.specs.Section.{covers, host_base}
 use Rattle.acc_base.specs.Attachments.{is_skipped}
 use Rattle.acc_base.specs.Records.{Records, Memory, State}
@@ -80,16 +75,11 @@ fill_byte zeroed = if zeroed then 0 else 0xa5
 -- what fills a block that is born by this task
 abbrev pub fill_of : Task → ℕ
 fill_of (Enter counter item queue) = fill_byte (is_zeroed item.clause)
-fill_of (Leave holding) = fill_byte false
-fill_of (Exit finalize item queue) = fill_byte false
-fill_of (Move if_present item queue) = fill_byte false
+fill_of _ = fill_byte false
 
 abbrev pub memories_begun : Task → Step → List Memory → List Memory
-memories_begun task Nothing memories = memories
-memories_begun task (Counted block) memories = memories
 memories_begun task (Born block place) memories = memories ++ record { block = block; bytes = replicate (section_of task).len (fill_of task) } ∷ []
-memories_begun task (Dropped block ended) memories = memories
-memories_begun task (Moved block) memories = memories
+memories_begun task _ memories = memories
 
 -- the memory of a block is gone once the block is given back
 abbrev pub memories_released : ℕ → Records → List Memory → List Memory
@@ -97,12 +87,8 @@ memories_released block w memories = if is_in_use block w then memories else wit
 
 -- the memories after a step that left these records
 abbrev pub memories_ended : Step → Records → List Memory → List Memory
-memories_ended Nothing w memories = memories
-memories_ended (Counted block) w memories = memories
-memories_ended (Born block place) w memories = memories
 memories_ended (Dropped block true) w memories = memories_released block w memories
-memories_ended (Dropped block false) w memories = memories
-memories_ended (Moved block) w memories = memories
+memories_ended _ w memories = memories
 
 -- the host's bytes after a task
 abbrev pub host_acted : Task → Step → State → List ℕ

@@ -1,11 +1,8 @@
 -- A call on a table: its refusal, or its event with the world after it. A world is a history and the state that it led to.
 use Rattle.std.specs.Prelude.{ℕ, nat_le, List, [], ◌∷◌, ◌++◌, length, Result, Ok, ⊤}
-use Rattle.acc_base.specs.declared.directives.Directive.{Directive}
+use Rattle.acc_base.specs.Words.{Directive, Call, Event, Fault}
 use Rattle.acc_base.specs.declared.directives.Directive.TheVariants.{Enter}
-use Rattle.acc_base.specs.declared.calls.Call.{Call}
 use Rattle.acc_base.specs.declared.calls.Call.TheVariants.{Do, HostWrite, Lend, Gather}
-use Rattle.acc_base.specs.declared.events.Event.{Event}
-use Rattle.acc_base.specs.declared.faults.Fault.{Fault}
 use Rattle.acc_base.specs.declared.faults.Fault.TheVariants.{NoTickets, NoAllowance, TraceFull}
 use Rattle.acc_base.specs.Results.{◌>>=◌, ◌>>◌, refuse_if}
 use Rattle.acc_base.specs.Limits.{Limits}
@@ -82,10 +79,9 @@ judge w (Gather lease) = do
 
 -- the bytes that a call brings
 abbrev pub bytes_brought : Call Leased → List ℕ
-bytes_brought (Do directive) = []
 bytes_brought (HostWrite addr bytes) = bytes
-bytes_brought (Lend region section) = []
 bytes_brought (Gather lease) = lease.bytes
+bytes_brought _ = []
 
 -- the world after an event of a call
 unfoldable pub world_after : Call Leased → Event → World → World

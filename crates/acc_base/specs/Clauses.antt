@@ -1,21 +1,12 @@
 -- The clause tables: which clause is which row, and what a row does by where its section lies (OpenACC 3.3, section 2.7).
 use Rattle.std.specs.Prelude.{ℕ, ◌+◌, ◌%◌, Bool, true, false, not, ◌&&◌, if◌then◌else◌, nat_le, ◌==◌, Option, Some, None, Result, Ok, Err, ⊤}
-use Rattle.acc_base.specs.declared.items.Section.{Section}
-use Rattle.acc_base.specs.declared.items.RegionClause.{RegionClause}
+use Rattle.acc_base.specs.Words.{Section, RegionClause, EnterClause, ExitClause, UpdateClause, Counter, Range, Found, Step, Fault}
 use Rattle.acc_base.specs.declared.items.RegionClause.TheVariants as region
-use Rattle.acc_base.specs.declared.items.EnterClause.{EnterClause}
 use Rattle.acc_base.specs.declared.items.EnterClause.TheVariants as enter
-use Rattle.acc_base.specs.declared.items.ExitClause.{ExitClause}
 use Rattle.acc_base.specs.declared.items.ExitClause.TheVariants as exit
-use Rattle.acc_base.specs.declared.items.UpdateClause.{UpdateClause}
 use Rattle.acc_base.specs.declared.items.UpdateClause.TheVariants as update
-use Rattle.acc_base.specs.declared.mappings.Counter.{Counter}
-use Rattle.acc_base.specs.declared.mappings.Range.{Range}
-use Rattle.acc_base.specs.declared.mappings.Found.{Found}
 use Rattle.acc_base.specs.declared.mappings.Found.TheVariants.{Empty, Inside, Partly, Absent}
-use Rattle.acc_base.specs.declared.events.Step.{Step}
 use Rattle.acc_base.specs.declared.events.Step.TheVariants.{Nothing, Counted, Born, Dropped, Moved}
-use Rattle.acc_base.specs.declared.faults.Fault.{Fault}
 use Rattle.acc_base.specs.declared.faults.Fault.TheVariants.{OutOfHost, Misaligned, PartlyPresent, NotPresent, CounterFull, DeviceFull}
 use Rattle.acc_base.specs.Results.{◌>>◌, refuse_if}
 use Rattle.acc_base.specs.Limits.{Limits}
@@ -37,27 +28,18 @@ as_region enter.Attach = region.Attach
 abbrev pub copies_in : RegionClause → Bool
 copies_in region.Copy = true
 copies_in region.Copyin = true
-copies_in (region.Copyout zeroed) = false
-copies_in (region.Create zeroed) = false
-copies_in region.NoCreate = false
-copies_in region.Present = false
-copies_in region.Attach = false
+copies_in _ = false
 
 -- just before the mapping ends, host memory gets the bytes of the section
 abbrev pub copies_out : RegionClause → Bool
 copies_out region.Copy = true
-copies_out region.Copyin = false
 copies_out (region.Copyout zeroed) = true
-copies_out (region.Create zeroed) = false
-copies_out region.NoCreate = false
-copies_out region.Present = false
-copies_out region.Attach = false
+copies_out _ = false
 
 -- the same of a clause of `exit data`
 abbrev pub is_copyout : ExitClause → Bool
 is_copyout exit.Copyout = true
-is_copyout exit.Delete = false
-is_copyout exit.Detach = false
+is_copyout _ = false
 
 -- an `update` copies to host memory, and not to the device
 abbrev pub is_to_self : UpdateClause → Bool
@@ -66,29 +48,19 @@ is_to_self update.ToDevice = false
 
 -- the modifier `zero` of a clause
 abbrev pub is_zeroed : RegionClause → Bool
-is_zeroed region.Copy = false
-is_zeroed region.Copyin = false
 is_zeroed (region.Copyout zeroed) = zeroed
 is_zeroed (region.Create zeroed) = zeroed
-is_zeroed region.NoCreate = false
-is_zeroed region.Present = false
-is_zeroed region.Attach = false
+is_zeroed _ = false
 
 -- ---- what an item names: `attach` and `detach` name a pointer by the start of their section, and no section
 
 abbrev pub is_attach : RegionClause → Bool
-is_attach region.Copy = false
-is_attach region.Copyin = false
-is_attach (region.Copyout zeroed) = false
-is_attach (region.Create zeroed) = false
-is_attach region.NoCreate = false
-is_attach region.Present = false
 is_attach region.Attach = true
+is_attach _ = false
 
 abbrev pub is_detach : ExitClause → Bool
-is_detach exit.Delete = false
-is_detach exit.Copyout = false
 is_detach exit.Detach = true
+is_detach _ = false
 
 -- the section that an item names, where its clause names a pointer alone or not
 abbrev pub section_named : Bool → Section → Section

@@ -1,10 +1,7 @@
 -- Where a pointer is present, and what detaching it does, which bytes have no part in (OpenACC 3.3, sections 2.6.8 and 2.7.2).
 use Rattle.std.specs.Prelude.{ℕ, Bool, false, if◌then◌else◌, ◌==◌, List, Option, Some, None}
-use Rattle.acc_base.specs.declared.mappings.Range.{Range}
-use Rattle.acc_base.specs.declared.mappings.Found.{Found}
-use Rattle.acc_base.specs.declared.mappings.Found.TheVariants.{Empty, Inside, Partly, Absent}
-use Rattle.acc_base.specs.declared.attachments.Attachment.{Attachment}
-use Rattle.acc_base.specs.declared.attachments.Aim.{Aim}
+use Rattle.acc_base.specs.Words.{Range, Found, Attachment, Aim}
+use Rattle.acc_base.specs.declared.mappings.Found.TheVariants.{Inside}
 use Rattle.acc_base.specs.declared.attachments.Aim.TheVariants as aims
 use Rattle.acc_base.specs.Ranges.{where_is}
 use Rattle.acc_base.specs.Attachments.{pointer_at, detach}
@@ -12,10 +9,8 @@ use Rattle.acc_base.specs.Records.{Records}
 
 -- the block of the range that a section is inside
 abbrev pub block_in : Found → Option ℕ
-block_in Empty = None
 block_in (Inside block offset) = Some block
-block_in Partly = None
-block_in Absent = None
+block_in _ = None
 
 -- the block that holds a pointer: its eight bytes are inside one range
 abbrev pub block_with : ℕ → List Range → Option ℕ

@@ -1,9 +1,8 @@
 -- The number, the name and the text of each fault.
 use Rattle.std.specs.Prelude.{ℕ, List, [], ◌++◌, codes}
 use Rattle.std.specs.Fmt.{decimal}
-use Rattle.acc_base.specs.declared.faults.Fault.{Fault}
+use Rattle.acc_base.specs.Words.{Fault, ScriptFault}
 use Rattle.acc_base.specs.declared.faults.Fault.TheVariants.{Memory, BadConfig, NoTickets, NoAllowance, TooManyItems, TraceFull, OutOfHost, Misaligned, NoQueue, PartlyPresent, NotPresent, CounterFull, Lent, DeviceFull, QueueFull, NoRegion, NoLease, BadCuts, Script, Read, Write}
-use Rattle.acc_base.specs.declared.faults.ScriptFault.{ScriptFault}
 use Rattle.acc_base.specs.declared.faults.ScriptFault.TheVariants.{TooLong, NotText, Syntax, Number, UnknownName, NameTaken, HostFull, NoOpenRegion, Unclosed}
 
 abbrev pub number_of : Fault → ℕ

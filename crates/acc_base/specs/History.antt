@@ -1,13 +1,9 @@
 -- The counters as counts over the events, and which lists of events are legal.
 use Rattle.std.specs.Prelude.{ℕ, suc, ◌+◌, ◌-◌, ◌≡◌, ◌<◌, Bool, false, if◌then◌else◌, ◌==◌, List, [], ◌∷◌, length, Option, option_map, Some, Ok, count_by, sum_by, fold, IsSome, ⊤}
-use Rattle.acc_base.specs.declared.events.Step.{Step}
+use Rattle.acc_base.specs.Words.{Step, Did, Event, Aim, Task}
 use Rattle.acc_base.specs.declared.events.Step.TheVariants.{Counted, Born, Dropped}
-use Rattle.acc_base.specs.declared.events.Did.{Did}
-use Rattle.acc_base.specs.declared.events.Event.{Event}
 use Rattle.acc_base.specs.declared.events.Event.TheVariants.{Entered, Left, EnteredData, ExitedData, Updated, Waited, Stepped, HostWritten, Lent, Gathered}
-use Rattle.acc_base.specs.declared.attachments.Aim.{Aim}
 use Rattle.acc_base.specs.declared.attachments.Aim.TheVariants as aims
-use Rattle.acc_base.specs.declared.tasks.Task.{Task}
 use Rattle.acc_base.specs.declared.tasks.Task.TheVariants.{Enter, Leave, Exit, Move}
 use Rattle.acc_base.specs.Limits.{Limits}
 use Rattle.acc_base.specs.Records.{Records, Layout}
@@ -98,8 +94,7 @@ abbrev pub IsAttachLegal : Limits → Option ℕ → Aim → Records → Type 0
 IsAttachLegal l named aims.None w = ⊤
 IsAttachLegal l named (aims.New pointer block target) w = (named ≡ Some pointer) × (block_with pointer w.ranges ≡ Some block) × (is_lent block w.loans ≡ false) × IsTarget target w
 IsAttachLegal l named (aims.Again pointer block) w = (named ≡ Some pointer) × (block_with pointer w.ranges ≡ Some block) × (is_lent block w.loans ≡ false) × (0 < count_at block pointer w.attached) × (count_at block pointer w.attached < l.counter_max)
-IsAttachLegal l named (aims.Less pointer block) w = ⊥
-IsAttachLegal l named (aims.Cleared pointer block) w = ⊥
+IsAttachLegal l named _ w = ⊥
 
 -- what became of the pointer of an item is legal in what was there before the item
 abbrev pub IsAimLegal : Limits → Task → Did → Records → Type 0
@@ -111,9 +106,8 @@ IsAimLegal l (Move if_present item queue) did w = did.aim ≡ aims.None
 -- each task did what it is judged to do in what the tasks before it left
 abbrev pub AreJudged : Limits → ℕ → List Task → List Did → Records → Type 0
 AreJudged l n [] [] w = ⊤
-AreJudged l n [] (did ∷ dids) w = ⊥
-AreJudged l n (task ∷ tasks) [] w = ⊥
 AreJudged l n (task ∷ tasks) (did ∷ dids) w = (judge_step l n task w ≡ Ok did.step) × IsAimLegal l task did w × AreJudged l (suc n) tasks dids (act task did w)
+AreJudged l n _ _ w = ⊥
 
 -- what an event names is so: a new region has the next number, a region that is left is open, there is the queue, a wait makes as many transfers as wait there, a step makes the first one, none of them of a lent block, a write lies in host memory, a loan is of a section inside a range whose block is not lent, in an open region and under the next serial number, and a block comes back that is lent under that number
 abbrev pub NamesRight : Limits → Event → Layout → Type 0

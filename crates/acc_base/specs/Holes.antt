@@ -1,8 +1,6 @@
 -- The holes of a device: blocks and holes are the device, with no address in two of them.
 use Rattle.std.specs.Prelude.{ℕ, suc, ◌≡◌, ◌+◌, ◌<◌, ◌≤◌, ◌⊎◌, ◌↔◌, List, [], ◌∷◌, ◌++◌, map, Contains, Option, None, Some}
-use Rattle.acc_base.specs.declared.items.Section.{Section}
-use Rattle.acc_base.specs.declared.mappings.Block.{Block}
-use Rattle.acc_base.specs.declared.mappings.Hole.{Hole}
+use Rattle.acc_base.specs.Words.{Section, Block, Hole}
 use Rattle.acc_base.specs.Section.{Spans, Covers, end_of}
 use Rattle.acc_base.specs.Blocks.{size_of, used_bytes, IsVacant, Fits}
 

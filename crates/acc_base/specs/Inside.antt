@@ -1,7 +1,6 @@
 -- Sections inside a mapped range.
 use Rattle.std.specs.Prelude.{◌<◌, List, Contains}
-use Rattle.acc_base.specs.declared.items.Section.{Section}
-use Rattle.acc_base.specs.declared.mappings.Range.{Range}
+use Rattle.acc_base.specs.Words.{Section, Range}
 use Rattle.acc_base.specs.Section.{IsWithin}
 
 -- the section is not empty, and each of its addresses is in one mapped range

@@ -1,3 +1,4 @@
+pub mod Words
 pub mod Inside
 pub mod Limits
 pub mod Faults

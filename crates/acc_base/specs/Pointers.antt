@@ -1,12 +1,9 @@
 -- Pointers: what one holds, what it is to be aimed at, what attaching it does, and what attaching and detaching leave of the bytes (OpenACC 3.3, sections 2.6.8 and 2.7.2).
 use Rattle.std.specs.Prelude.{ℕ, ◌+◌, ◌-◌, if◌then◌else◌, ◌==◌, List, map, take, drop, Option, Some, None, unwrap_or, option_map, slice_index, Result, Ok}
 use Rattle.std.specs.Int.{to_le_bytes, from_le_bytes, w64}
-use Rattle.acc_base.specs.declared.mappings.Block.{Block}
-use Rattle.acc_base.specs.declared.mappings.Found.{Found}
-use Rattle.acc_base.specs.declared.mappings.Found.TheVariants.{Empty, Inside, Partly, Absent}
-use Rattle.acc_base.specs.declared.attachments.Aim.{Aim}
+use Rattle.acc_base.specs.Words.{Block, Found, Aim, Fault}
+use Rattle.acc_base.specs.declared.mappings.Found.TheVariants.{Inside}
 use Rattle.acc_base.specs.declared.attachments.Aim.TheVariants as aims
-use Rattle.acc_base.specs.declared.faults.Fault.{Fault}
 use Rattle.acc_base.specs.Limits.{Limits}
 use Rattle.acc_base.specs.Section.{covers, host_base, only}
 use Rattle.acc_base.specs.Ranges.{where_is, start_of}
@@ -35,10 +32,8 @@ device_pointer block pointer s = pointer_in (start_of block s.records.ranges) po
 
 -- the device address of the section that lies there
 abbrev pub address_in : Found → List Block → Option ℕ
-address_in Empty blocks = None
 address_in (Inside block offset) blocks = Some (place_of block blocks + offset)
-address_in Partly blocks = None
-address_in Absent blocks = None
+address_in _ blocks = None
 
 -- the device address that a host address is mapped to
 abbrev pub device_address_of : ℕ → Records → Option ℕ
@@ -56,9 +51,8 @@ attachment_of pointer w = unwrap_or (option_map (λ block. count_at block pointe
 
 -- a pointer that lies in a block, which is not lent, is aimed at a target; where pointer or target is missing, nothing is done
 abbrev pub attach_there : Limits → ℕ → ℕ → Option ℕ → Option ℕ → State → Result Aim Fault
-attach_there l n pointer None target s = Ok aims.None
-attach_there l n pointer (Some block) None s = Ok aims.None
 attach_there l n pointer (Some block) (Some target) s = not_lent (Some block) s.records.loans >> attach l.counter_max n block pointer target (device_pointer block pointer s) s.records.attached
+attach_there l n pointer _ _ s = Ok aims.None
 
 -- attaching the pointer of the item at place n
 unfoldable pub judge_attach : Limits → ℕ → ℕ → State → Result Aim Fault
@@ -72,11 +66,10 @@ pointer_written block pointer source s = map (memory_changed block (written_byte
 
 -- an attachment writes the target's device address, and a detachment to zero the host's bytes
 abbrev pub memories_aimed : Aim → State → List Memory
-memories_aimed aims.None s = s.memories
 memories_aimed (aims.New pointer block target) s = pointer_written block pointer (λ a. slice_index (to_le_bytes w64 target) (a - pointer)) s
-memories_aimed (aims.Again pointer block) s = s.memories
 memories_aimed (aims.Less pointer block) s = if count_at block pointer s.records.attached == 1 then pointer_written block pointer (host_byte s.host) s else s.memories
 memories_aimed (aims.Cleared pointer block) s = pointer_written block pointer (host_byte s.host) s
+memories_aimed _ s = s.memories
 
 -- the state after an attachment or a detachment
 unfoldable pub aimed : Aim → State → State

@@ -1,8 +1,7 @@
 -- The queues of transfers that are yet to be made (OpenACC 3.3, section 2.16, asynchronous behavior).
 use Rattle.std.specs.Prelude.{ℕ, ◌==◌, nat_le, List, [], ◌∷◌, ◌++◌, length, drop, replicate, Option, Some, None, slice_get, slice_index_or, slice_set, Result, Ok, ⊤, count_by, sum_by}
-use Rattle.acc_base.specs.declared.transfers.Transfer.{Transfer}
+use Rattle.acc_base.specs.Words.{Transfer, Fault}
 use Rattle.acc_base.specs.declared.transfers.TheConstants.{QUEUE_COUNT}
-use Rattle.acc_base.specs.declared.faults.Fault.{Fault}
 use Rattle.acc_base.specs.declared.faults.Fault.TheVariants.{NoQueue, QueueFull}
 use Rattle.acc_base.specs.Results.{refuse_if}
 

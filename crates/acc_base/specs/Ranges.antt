@@ -1,11 +1,8 @@
 -- The mapped ranges, and where a section lies among them (OpenACC 3.3, section 2.6).
 use Rattle.std.specs.Prelude.{ℕ, ◌+◌, ◌-◌, ◌≡◌, ◌<◌, Bool, not, ◌&&◌, false, if◌then◌else◌, nat_le, nat_lt, ◌==◌, List, [], ◌∷◌, map, Option, Some, None, find, filter, unwrap_or, option_map}
 use Rattle.std.specs.List.{list_all, list_any, Contains, AllByRecursion}
-use Rattle.acc_base.specs.declared.items.Section.{Section}
-use Rattle.acc_base.specs.declared.mappings.Range.{Range}
-use Rattle.acc_base.specs.declared.mappings.Counter.{Counter}
+use Rattle.acc_base.specs.Words.{Section, Range, Counter, Found}
 use Rattle.acc_base.specs.declared.mappings.Counter.TheVariants.{Structured, Dynamic}
-use Rattle.acc_base.specs.declared.mappings.Found.{Found}
 use Rattle.acc_base.specs.declared.mappings.Found.TheVariants.{Empty, Inside, Partly, Absent}
 use Rattle.acc_base.specs.Section.{is_empty, is_within, is_apart, IsWithin, IsApart}
 

@@ -1,10 +1,6 @@
 -- What a data environment holds at one moment: its records, its register, and the bytes of its memories.
 use Rattle.std.specs.Prelude.{ℕ, List, [], replicate}
-use Rattle.acc_base.specs.declared.mappings.Range.{Range}
-use Rattle.acc_base.specs.declared.mappings.Block.{Block}
-use Rattle.acc_base.specs.declared.attachments.Attachment.{Attachment}
-use Rattle.acc_base.specs.declared.transfers.Transfer.{Transfer}
-use Rattle.acc_base.specs.declared.loans.Loan.{Loan}
+use Rattle.acc_base.specs.Words.{Range, Block, Attachment, Transfer, Loan}
 use Rattle.acc_base.specs.Queues.{new_queues}
 use Rattle.acc_base.specs.Register.{Register, new_register}
 

@@ -1,14 +1,9 @@
 -- The step of an item: its refusal, or what it does to mappings and counters, and to the queues. And what its pointer leaves of the records.
 use Rattle.std.specs.Prelude.{ℕ, ◌+◌, Bool, true, false, not, ◌||◌, if◌then◌else◌, ◌==◌, List, [], ◌∷◌, ◌++◌, Option, None, Some, is_none, is_some, Result, Ok}
-use Rattle.acc_base.specs.declared.mappings.Range.{Range}
-use Rattle.acc_base.specs.declared.tasks.Task.{Task}
+use Rattle.acc_base.specs.Words.{Range, Task, Step, Did, Aim, Fault}
 use Rattle.acc_base.specs.declared.tasks.Task.TheVariants.{Enter, Leave, Exit, Move}
-use Rattle.acc_base.specs.declared.events.Step.{Step}
 use Rattle.acc_base.specs.declared.events.Step.TheVariants.{Nothing, Counted, Born, Dropped, Moved}
-use Rattle.acc_base.specs.declared.events.Did.{Did}
-use Rattle.acc_base.specs.declared.attachments.Aim.{Aim}
 use Rattle.acc_base.specs.declared.attachments.Aim.TheVariants as aims
-use Rattle.acc_base.specs.declared.faults.Fault.{Fault}
 use Rattle.acc_base.specs.Results.{◌>>=◌, ◌>>◌}
 use Rattle.acc_base.specs.Limits.{Limits}
 use Rattle.acc_base.specs.Records.{Records}
@@ -32,18 +27,16 @@ is_action _ = true
 -- the pointer that an item attaches or detaches beside its step: the one that it names, where the step did something or the clause names a pointer alone
 abbrev pub pointer_aimed : Task → Step → Option ℕ
 pointer_aimed (Enter counter item queue) step = if is_attach item.clause || is_action step then pointer_of (Enter counter item queue) else None
-pointer_aimed (Leave holding) step = None
 pointer_aimed (Exit finalize item queue) step = if is_detach item.clause || is_action step then pointer_of (Exit finalize item queue) else None
-pointer_aimed (Move if_present item queue) step = None
+pointer_aimed _ step = None
 
 -- ---- the blocks that must not be lent
 
 -- the block in which the task detaches a pointer before its step
 abbrev pub block_detached : Task → Step → Records → Option ℕ
-block_detached (Enter counter item queue) step w = None
 block_detached (Leave holding) step w = block_aimed (judge_release holding.aim w)
 block_detached (Exit finalize item queue) step w = block_aimed (detach_if finalize (pointer_aimed (Exit finalize item queue) step) w)
-block_detached (Move if_present item queue) step w = None
+block_detached _ step w = None
 
 -- the block that the step takes a counter from, or whose bytes it copies at once
 abbrev pub block_needed : Task → Step → Option ℕ
@@ -100,12 +93,11 @@ with_range_changed block change w = record w { ranges = changed_at block change 
 
 -- counters, births and ends, which come at once with a queue, too
 unfoldable pub act_row : Task → Step → Records → Records
-act_row task Nothing w = w
 act_row task (Counted block) w = with_range_changed block (recounted task) w
 act_row task (Born block place) w = records_after_birth (recounted task (bare_range (section_of task) block)) place w
 act_row task (Dropped block true) w = records_after_end block w
 act_row task (Dropped block false) w = with_range_changed block (recounted task) w
-act_row task (Moved block) w = w
+act_row task _ w = w
 
 -- the transfer of a task with a queue is put there
 abbrev pub with_put : Task → Step → Records → Records

@@ -1,11 +1,8 @@
 -- What one item asks, whatever directive it stands in: which section, which pointer, which queue, and what it does to counters.
 use Rattle.std.specs.Prelude.{ℕ, if◌then◌else◌, Option, None, Result, ⊤}
-use Rattle.acc_base.specs.declared.items.Section.{Section}
+use Rattle.acc_base.specs.Words.{Section, Range, Task, Fault}
 use Rattle.acc_base.specs.declared.mappings.Counter.TheVariants.{Structured, Dynamic}
-use Rattle.acc_base.specs.declared.mappings.Range.{Range}
-use Rattle.acc_base.specs.declared.tasks.Task.{Task}
 use Rattle.acc_base.specs.declared.tasks.Task.TheVariants.{Enter, Leave, Exit, Move}
-use Rattle.acc_base.specs.declared.faults.Fault.{Fault}
 use Rattle.acc_base.specs.Results.{◌>>◌}
 use Rattle.acc_base.specs.Limits.{Limits}
 use Rattle.acc_base.specs.Ranges.{risen, fallen, cleared}
@@ -21,9 +18,8 @@ section_of (Move if_present item queue) = item.section
 -- the pointer that it names; the exit from a region takes it from what the entry attached
 abbrev pub pointer_of : Task → Option ℕ
 pointer_of (Enter counter item queue) = pointer_named (is_attach item.clause) item.section item.pointer
-pointer_of (Leave holding) = None
 pointer_of (Exit finalize item queue) = pointer_named (is_detach item.clause) item.section item.pointer
-pointer_of (Move if_present item queue) = None
+pointer_of _ = None
 
 -- the queue into which its transfer is put; without one it is made at once
 abbrev pub queue_of : Task → Option ℕ

@@ -1,12 +1,8 @@
 -- The transfer of an item's step, which is made at once or put into a queue (OpenACC 3.3, sections 2.7 and 2.16, and the update directive).
 use Rattle.std.specs.Prelude.{ℕ, ◌-◌, Bool, true, false, if◌then◌else◌, List, Option, Some, None, Result, Ok, ⊤}
-use Rattle.acc_base.specs.declared.mappings.Range.{Range}
-use Rattle.acc_base.specs.declared.tasks.Task.{Task}
+use Rattle.acc_base.specs.Words.{Range, Task, Transfer, Step, Fault}
 use Rattle.acc_base.specs.declared.tasks.Task.TheVariants.{Enter, Leave, Exit, Move}
-use Rattle.acc_base.specs.declared.transfers.Transfer.{Transfer}
-use Rattle.acc_base.specs.declared.events.Step.{Step}
-use Rattle.acc_base.specs.declared.events.Step.TheVariants.{Nothing, Counted, Born, Dropped, Moved}
-use Rattle.acc_base.specs.declared.faults.Fault.{Fault}
+use Rattle.acc_base.specs.declared.events.Step.TheVariants.{Born, Dropped, Moved}
 use Rattle.acc_base.specs.Ranges.{start_of}
 use Rattle.acc_base.specs.Queues.{put, queue_room}
 use Rattle.acc_base.specs.Clauses.{copies_in, copies_out, is_copyout, is_to_self}
@@ -19,16 +15,13 @@ first_address t = t.section.start - t.offset
 -- a birth by this task copies the section to the new block
 abbrev pub gets_bytes : Task → Bool
 gets_bytes (Enter counter item queue) = copies_in item.clause
-gets_bytes (Leave holding) = false
-gets_bytes (Exit finalize item queue) = false
-gets_bytes (Move if_present item queue) = false
+gets_bytes _ = false
 
 -- the end of a mapping by this task copies the section to the host
 abbrev pub gives_bytes : Task → Bool
-gives_bytes (Enter counter item queue) = false
 gives_bytes (Leave holding) = copies_out holding.item.clause
 gives_bytes (Exit finalize item queue) = is_copyout item.clause
-gives_bytes (Move if_present item queue) = false
+gives_bytes _ = false
 
 -- a copy by this task goes to the host
 abbrev pub goes_out : Task → Bool
@@ -42,12 +35,10 @@ abbrev pub transfer_at : Task → ℕ → List Range → Transfer
 transfer_at task block ranges = record { block = block; offset = (section_of task).start - start_of block ranges; section = section_of task; out = goes_out task }
 
 abbrev pub transfer_of : Task → Step → List Range → Option Transfer
-transfer_of task Nothing ranges = None
-transfer_of task (Counted block) ranges = None
 transfer_of task (Born block place) ranges = if gets_bytes task then Some (record { block = block; offset = 0; section = section_of task; out = false }) else None
 transfer_of task (Dropped block true) ranges = if gives_bytes task then Some (transfer_at task block ranges) else None
-transfer_of task (Dropped block false) ranges = None
 transfer_of task (Moved block) ranges = Some (transfer_at task block ranges)
+transfer_of task _ ranges = None
 
 -- ---- when it is made
 
@@ -62,12 +53,10 @@ made_now task step ranges = at_once (queue_of task) (transfer_of task step range
 
 -- the queue has room for a transfer that is put there
 abbrev pub room_for : ℕ → Option ℕ → Option Transfer → List (List Transfer) → Result ⊤ Fault
-room_for queue_cap None t queues = Ok tt
-room_for queue_cap (Some q) None queues = Ok tt
 room_for queue_cap (Some q) (Some t) queues = queue_room queue_cap q queues
+room_for queue_cap _ _ queues = Ok tt
 
 -- the queues after it
 abbrev pub queues_after : Option ℕ → Option Transfer → List (List Transfer) → List (List Transfer)
-queues_after None t queues = queues
-queues_after (Some q) None queues = queues
 queues_after (Some q) (Some t) queues = put q t queues
+queues_after _ _ queues = queues

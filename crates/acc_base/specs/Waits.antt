@@ -1,9 +1,7 @@
 -- Queued transfers are made: the first of a queue, or all of one queue or of all of them (OpenACC 3.3, section 2.16 and the wait directive).
 use Rattle.std.specs.Prelude.{ℕ, suc, ◌&&◌, nat_le, List, [], ◌∷◌, ◌++◌, length, filter, replicate, Option, Some, None, is_none, option_map}
 use Rattle.std.specs.List.{flat_map}
-use Rattle.acc_base.specs.declared.mappings.Block.{Block}
-use Rattle.acc_base.specs.declared.mappings.Ended.{Ended}
-use Rattle.acc_base.specs.declared.transfers.Transfer.{Transfer}
+use Rattle.acc_base.specs.Words.{Block, Ended, Transfer}
 use Rattle.acc_base.specs.Records.{Records, State}
 use Rattle.acc_base.specs.Ranges.{range_of}
 use Rattle.acc_base.specs.Blocks.{size_of, lowest}

@@ -21,29 +21,13 @@ pub struct Config {
 }
 
 impl Model for Config {
-    ghost use Rattle.acc_base.specs.Limits.{Limits, IsWithinBounds};
+    ghost use Rattle.acc_base.specs.Limits.{Limits, limits_of, IsWithinBounds};
 
     ghost Value = { Limits };
 
-    ghost view = { λ c. record {
-      host = c.host;
-      device = c.device;
-      regions = c.regions;
-      tickets = c.tickets;
-      counter_max = c.counter_max;
-      queue_cap = c.queue_cap;
-      trace_cap = c.trace_cap;
-    } };
+    ghost view = { λ c. limits_of c.host c.device c.regions c.tickets c.counter_max c.queue_cap c.trace_cap };
 
-    ghost invariant = { λ c. IsWithinBounds (record {
-      host = c.host;
-      device = c.device;
-      regions = c.regions;
-      tickets = c.tickets;
-      counter_max = c.counter_max;
-      queue_cap = c.queue_cap;
-      trace_cap = c.trace_cap;
-    }) };
+    ghost invariant = { λ c. IsWithinBounds (limits_of c.host c.device c.regions c.tickets c.counter_max c.queue_cap c.trace_cap) };
 
     ghost inverse = { λ l. record {
       host = l.host;

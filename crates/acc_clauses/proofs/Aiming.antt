@@ -3,9 +3,8 @@ use Rattle.std.proofs.Common.{ℕ, ◌≡◌, ◌+◌, ◌<◌, ◌≤◌, refl,
 use Rattle.std.specs.Prelude.{◌==◌, ◌⊎◌, ◌-◌, map, slice_index}
 use Rattle.std.specs.Int.{w64, to_le_bytes}
 use Rattle.std.proofs.lemmas.Bool.Decides.{nat_tests}
-use Rattle.acc_base.specs.declared.attachments.Aim.{Aim}
+use Rattle.acc_clauses.specs.Words.{Aim, Attachment}
 use Rattle.acc_base.specs.declared.attachments.Aim.TheVariants as aims
-use Rattle.acc_base.specs.declared.attachments.Attachment.{Attachment}
 use Rattle.acc_base.specs.Section.{covers}
 use Rattle.acc_base.specs.Ranges.{start_of}
 use Rattle.acc_base.specs.Attachments.{pointer_at, count_at, with_count, detach, attached_by}
@@ -89,9 +88,8 @@ was_one : (n : ℕ) → left.Zero ≡ left_of false n → (n == 1) ≡ true
 was_one n e = go (n == 0) (n == 1) e
   where
     go : (a b : Bool) → left.Zero ≡ cond a left.Nothing (cond b left.Zero left.Less) → b ≡ true
-    go true b h = cc
     go false true h = refl
-    go false false h = cc
+    go _ _ h = cc
 
 was_more : (n : ℕ) → 0 < n → (left.Zero ≡ left_of false n → ⊥) → (n == 1) ≡ false
 was_more n some h = let filled : (n == 0) ≡ false = grind (arith, nat_tests) in go (n == 1) refl filled

@@ -2,14 +2,10 @@
 use Rattle.std.proofs.Common.{ℕ, ◌≡◌, ◌≤◌, refl, sym, ap, ◌∙◌, subst, Bool, true, false, cond, List, [], ◌∷◌, suc, Option, Some, None, arith}
 use Rattle.std.specs.Prelude.{◌==◌, unwrap_or, option_map}
 use Rattle.std.proofs.lemmas.Bool.Decides.{nat_tests}
-use Rattle.acc_base.specs.declared.mappings.Counter.{Counter}
+use Rattle.acc_clauses.specs.Words.{Counter, Range, Task, Step, Did}
 use Rattle.acc_base.specs.declared.mappings.Counter.TheVariants.{Structured, Dynamic}
-use Rattle.acc_base.specs.declared.mappings.Range.{Range}
-use Rattle.acc_base.specs.declared.tasks.Task.{Task}
-use Rattle.acc_base.specs.declared.tasks.Task.TheVariants.{Enter, Leave, Exit, Move}
-use Rattle.acc_base.specs.declared.events.Step.{Step}
-use Rattle.acc_base.specs.declared.events.Step.TheVariants.{Nothing, Counted, Born, Dropped, Moved}
-use Rattle.acc_base.specs.declared.events.Did.{Did}
+use Rattle.acc_base.specs.declared.tasks.Task.TheVariants.{Enter}
+use Rattle.acc_base.specs.declared.events.Step.TheVariants.{Counted, Born, Dropped}
 use Rattle.acc_base.specs.Limits.{Limits, IsWithinBounds}
 use Rattle.acc_base.specs.Records.{Records}
 use Rattle.acc_base.specs.Ranges.{range_of, counter_in, counter_of, without_range, is_unused}
@@ -29,6 +25,7 @@ use Rattle.acc_base.proofs.SameMapping.{mapping-act}
 use Rattle.acc_base.proofs.Attached.{count_at-attached_by, count_at-without_other}
 use Rattle.acc_base.proofs.Aimed.{IsLeft, task_left}
 use Rattle.acc_base.proofs.AllTasks.{all_left}
+use Rattle.acc_base.proofs.Births.{births_least}
 use Rattle.acc_clauses.specs.declared.acted.Acted.{Acted}
 use Rattle.acc_clauses.specs.Overlays.{tasks_in, dids_in, records_after, IsPlanned}
 use Rattle.acc_clauses.specs.Aims.{count_over}
@@ -54,19 +51,9 @@ unmapped l w block h zero = go (range_of block w.ranges) refl
         let some = has.0.some in
         absurd (omega (arith, some, structured, dynamic))
 
-births-step : (task : Task) (step : Step) (w : Records) → w.births ≤ (act_step task step w).births
-unfolding act_step act_row with_range_changed records_after_birth records_after_end released
-births-step task Nothing w = omega arith
-births-step task (Counted k) w = omega arith
-births-step task (Born k p) w = omega arith
-births-step task (Dropped k true) w = omega arith
-births-step task (Dropped k false) w = omega arith
-births-step task (Moved k) w = omega arith
-
 -- a task leaves the counters of a block that is gone at zero
 zero_left : (l : Limits) (task : Task) (step : Step) (w : Records) (block : ℕ) (counter : Counter) → AreRecordsSound l w → IsJudgedTo l task step w → IsGone w block
     → cond (names block step) (moved_by counter task (counter_of counter block w.ranges)) (counter_of counter block w.ranges) ≡ 0
-zero_left l task Nothing w block counter h says gone = gone.zero counter
 zero_left l task (Counted k) w block counter h says gone = go (k == block) refl
   where
     go : (t : Bool) → (k == block) ≡ t → cond t (moved_by counter task (counter_of counter block w.ranges)) (counter_of counter block w.ranges) ≡ 0
@@ -82,11 +69,11 @@ zero_left l task (Dropped k ended) w block counter h says gone = go (k == block)
     go : (t : Bool) → cond t (moved_by counter task (counter_of counter block w.ranges)) (counter_of counter block w.ranges) ≡ 0
     go true = ap (moved_by counter task) (gone.zero counter) ∙ zero_stays l task k ended w counter says
     go false = gone.zero counter
-zero_left l task (Moved k) w block counter h says gone = gone.zero counter
+zero_left l task _ w block counter h says gone = gone.zero counter
 
 gone-act : (l : Limits) (task : Task) (did : Did) (w : Records) (block : ℕ) → AreRecordsSound l w → IsJudgedTo l task did.step w → IsLeft l task did w (act task did w) → IsGone w block → IsGone (act task did w) block
 gone-act l task did w block h says left gone =
-    let births : w.births ≤ (act task did w).births = subst (λ n. w.births ≤ n) (sym (mapping-act task did w).births) (births-step task did.step w) in
+    let births : w.births ≤ (act task did w).births = subst (λ n. w.births ≤ n) (sym (mapping-act task did w).births) (births_least task did.step w) in
     let born = gone.born in
     record { born = omega (arith, born, births); zero = λ counter. left.counter_is counter block ∙ zero_left l task did.step w block counter h says gone }
 
@@ -118,26 +105,18 @@ gone_ended l task k w h says = record { born = ended_born l task k w h says; zer
 
 -- the step ends the mapping to the block
 abbrev ends : ℕ → Step → Bool
-ends block Nothing = false
-ends block (Counted k) = false
-ends block (Born k p) = false
 ends block (Dropped k true) = k == block
-ends block (Dropped k false) = false
-ends block (Moved k) = false
+ends block _ = false
 
 -- a step leaves the counters of the blocks whose mapping it does not end
 count-step : (task : Task) (step : Step) (w : Records) (block pointer : ℕ) → ends block step ≡ false → count_at block pointer (act_step task step w).attached ≡ count_at block pointer w.attached
 unfolding act_step act_row with_range_changed records_after_birth records_after_end released
-count-step task Nothing w block pointer other = refl
-count-step task (Counted k) w block pointer other = refl
-count-step task (Born k p) w block pointer other = refl
 count-step task (Dropped k true) w block pointer other = go (is_in_use k (record w { ranges = without_range k w.ranges; queues = (with_put task (Dropped k true) w).queues }))
   where
     go : (t : Bool) → count_at block pointer (cond t w.attached (without_attachments k w.attached)) ≡ count_at block pointer w.attached
     go true = refl
     go false = let differs : (block == k) ≡ false = grind (arith, nat_tests) in count_at-without_other block pointer k w.attached differs
-count-step task (Dropped k false) w block pointer other = refl
-count-step task (Moved k) w block pointer other = refl
+count-step task _ w block pointer other = refl
 
 -- so does a task, but for what becomes of its pointer
 count-act : (task : Task) (did : Did) (w : Records) (block pointer : ℕ) → ends block did.step ≡ false → count_at block pointer (act task did w).attached ≡ count_after block pointer did.aim (count_at block pointer w.attached)
@@ -145,9 +124,7 @@ unfolding act
 count-act (Enter counter item queue) did w block pointer other =
     count_at-attached_by block pointer did.aim (act_step (Enter counter item queue) did.step w).attached
     ∙ ap (count_after block pointer did.aim) (count-step (Enter counter item queue) did.step w block pointer other)
-count-act (Leave holding) did w block pointer other = count-step (Leave holding) did.step (records_aimed did.aim w) block pointer other ∙ count_at-attached_by block pointer did.aim w.attached
-count-act (Exit finalize item queue) did w block pointer other = count-step (Exit finalize item queue) did.step (records_aimed did.aim w) block pointer other ∙ count_at-attached_by block pointer did.aim w.attached
-count-act (Move if_present item queue) did w block pointer other = count-step (Move if_present item queue) did.step (records_aimed did.aim w) block pointer other ∙ count_at-attached_by block pointer did.aim w.attached
+count-act task did w block pointer other = count-step task did.step (records_aimed did.aim w) block pointer other ∙ count_at-attached_by block pointer did.aim w.attached
 
 -- the first of some tasks did not end a block that is not gone after them
 ends_none : (l : Limits) (n : ℕ) (x : Acted) (xs : List Acted) (w : Records) (block : ℕ) → IsWithinBounds l → AreRecordsSound l w → AreJudged l n (tasks_in (x ∷ xs)) (dids_in (x ∷ xs)) w
@@ -171,12 +148,8 @@ ends_none l n x xs w block bounds h judged mapped = go x.did.step refl
     last k is false e = refl
 
     go : (step : Step) → x.did.step ≡ step → ends block step ≡ false
-    go Nothing is = refl
-    go (Counted k) is = refl
-    go (Born k p) is = refl
     go (Dropped k true) is = last k is (k == block) refl
-    go (Dropped k false) is = refl
-    go (Moved k) is = refl
+    go _ is = refl
 
 -- the counter of a pointer in a block that is not gone after tasks
 count-after : (l : Limits) (n : ℕ) (xs : List Acted) (w : Records) (block pointer : ℕ) → IsWithinBounds l → AreRecordsSound l w → AreJudged l n (tasks_in xs) (dids_in xs) w → (IsGone (records_after xs w) block → ⊥)

@@ -4,19 +4,10 @@ use Rattle.std.specs.Prelude.{◌==◌, unwrap_or, option_map, IsSome}
 use Rattle.std.specs.List.{list_all}
 use Rattle.std.proofs.lemmas.Bool.{false≢true}
 use Rattle.std.proofs.lemmas.Bool.Decides.{nat_tests}
-use Rattle.acc_base.specs.declared.items.Item.{Item}
-use Rattle.acc_base.specs.declared.items.RegionClause.{RegionClause}
-use Rattle.acc_base.specs.declared.items.Section.{Section}
-use Rattle.acc_base.specs.declared.mappings.Counter.{Counter}
-use Rattle.acc_base.specs.declared.mappings.Range.{Range}
-use Rattle.acc_base.specs.declared.mappings.Block.{Block}
-use Rattle.acc_base.specs.declared.mappings.Found.{Found}
-use Rattle.acc_base.specs.declared.mappings.Found.TheVariants.{Empty, Inside, Partly, Absent}
-use Rattle.acc_base.specs.declared.tasks.Task.{Task}
-use Rattle.acc_base.specs.declared.tasks.Task.TheVariants.{Enter, Leave, Exit, Move}
-use Rattle.acc_base.specs.declared.events.Step.{Step}
-use Rattle.acc_base.specs.declared.events.Step.TheVariants.{Nothing, Counted, Born, Dropped, Moved}
-use Rattle.acc_base.specs.declared.events.Did.{Did}
+use Rattle.acc_clauses.specs.Words.{Item, RegionClause, Section, Counter, Range, Block, Found, Task, Step, Did}
+use Rattle.acc_base.specs.declared.mappings.Found.TheVariants.{Inside, Partly, Absent}
+use Rattle.acc_base.specs.declared.tasks.Task.TheVariants.{Enter}
+use Rattle.acc_base.specs.declared.events.Step.TheVariants.{Counted, Born, Dropped}
 use Rattle.acc_base.specs.Limits.{Limits, IsWithinBounds}
 use Rattle.acc_base.specs.Section.{is_within, is_apart, end_of, only, device_memory}
 use Rattle.acc_base.specs.Records.{Records}
@@ -84,7 +75,6 @@ pub pointer_in_block : (l : Limits) (w : Records) (block pointer : ℕ) → AreR
 pointer_in_block l w block pointer h e = go (where_is (pointer_at pointer) w.ranges) refl e
   where
     go : (f : Found) → where_is (pointer_at pointer) w.ranges ≡ f → block_in f ≡ Some block → IsPointerIn block pointer w
-    go Empty is k = cc
     go (Inside b offset) is k =
         let same : b ≡ block = cc in
         let held = held_in l (pointer_at pointer) w block offset h (is ∙ ap (λ n. Inside n offset) same) in
@@ -94,26 +84,22 @@ pointer_in_block l w block pointer h e = go (where_is (pointer_at pointer) w.ran
       where
         inside : (t : Section) → is_within (pointer_at pointer) t ≡ true → (t.start ≤ pointer) × (pointer + 8 ≤ t.start + t.len)
         inside t h = grind (arith, nat_tests)
-    go Partly is k = cc
-    go Absent is k = cc
+    go _ is k = cc
 
 -- ---- the block of a pointer before an entry
 
 beside_before : (s t : Section) (k block : ℕ) (f : Found) → (k ≡ block → ⊥) → block_in (found_beside s t k f) ≡ Some block → block_in f ≡ Some block
-beside_before s t k block Empty other e = e
-beside_before s t k block (Inside b offset) other e = e
-beside_before s t k block Partly other e = e
 beside_before s t k block Absent other e = go (is_within s t) (is_apart s t) e
   where
     go : (x y : Bool) → block_in (cond x (Inside k (s.start - t.start)) (cond y Absent Partly)) ≡ Some block → block_in Absent ≡ Some block
     go true y h = absurd (other cc)
     go false true h = cc
     go false false h = cc
+beside_before s t k block _ other e = e
 
 before-step : (l : Limits) (counter : Counter) (item : Item RegionClause) (queue : Option ℕ) (step : Step) (w : Records) (pointer block : ℕ) → AreRecordsSound l w → IsJudgedTo l (Enter counter item queue) step w → IsSome (block_at block w.blocks)
     → block_with pointer (act_step (Enter counter item queue) step w).ranges ≡ Some block → block_with pointer w.ranges ≡ Some block
 unfolding act_step act_row with_range_changed records_after_birth
-before-step l counter item queue Nothing w pointer block h says there e = e
 before-step l counter item queue (Counted k) w pointer block h says there e =
     let task : Task = Enter counter item queue in
     sym (ap block_in (where_is-changed (recounted task) (recounted_keeps task).section (recounted_keeps task).block (pointer_at pointer) k w.ranges)) ∙ e
@@ -127,15 +113,13 @@ before-step l counter item queue (Born k p) w pointer block h says there e =
     (λ same. let none : block_at block w.blocks ≡ None = subst (λ n. block_at n w.blocks ≡ None) (sym block_is ∙ same) (no_block-new l w k h says.number) in cc)
     (sym (ap block_in (where_is-with (pointer_at pointer) new w.ranges off)) ∙ e)
 before-step l counter item queue (Dropped k ended) w pointer block h says there e = absurd says
-before-step l counter item queue (Moved k) w pointer block h says there e = e
+before-step l counter item queue _ w pointer block h says there e = e
 
 before-act : (l : Limits) (task : Task) (did : Did) (w : Records) (pointer block : ℕ) → AreRecordsSound l w → IsJudgedTo l task did.step w → enters task ≡ true → IsSome (block_at block w.blocks)
     → block_with pointer (act task did w).ranges ≡ Some block → block_with pointer w.ranges ≡ Some block
 unfolding act
 before-act l (Enter counter item queue) did w pointer block h says entry there e = before-step l counter item queue did.step w pointer block h says there e
-before-act l (Leave holding) did w pointer block h says entry there e = absurd (false≢true entry)
-before-act l (Exit finalize item queue) did w pointer block h says entry there e = absurd (false≢true entry)
-before-act l (Move if_present item queue) did w pointer block h says entry there e = absurd (false≢true entry)
+before-act l _ did w pointer block h says entry there e = absurd (false≢true entry)
 
 -- a pointer that lies in a block after entries lay in it before them, where the block was there
 pub before-after : (l : Limits) (n : ℕ) (xs : List Acted) (w : Records) (pointer block : ℕ) → IsWithinBounds l → AreRecordsSound l w → AreJudged l n (tasks_in xs) (dids_in xs) w → list_all enters (tasks_in xs) ≡ true
@@ -175,9 +159,7 @@ pub target_bound : (l : Limits) (w : Records) (target : ℕ) → IsWithinBounds 
 target_bound l w target bounds h t = go (where_is (only t.0) w.ranges) refl t.1
   where
     go : (f : Found) → where_is (only t.0) w.ranges ≡ f → address_in f w.blocks ≡ Some target → target < 2 ^ 42
-    go Empty is e = cc
     go (Inside block offset) is e =
         let same : place_of block w.blocks + offset ≡ target = cc in
         subst (λ n. n < 2 ^ 42) same (address_bound l w (only t.0) block offset bounds h is)
-    go Partly is e = cc
-    go Absent is e = cc
+    go _ is e = cc

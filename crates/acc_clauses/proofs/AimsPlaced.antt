@@ -3,15 +3,9 @@ use Rattle.std.proofs.Common.{ℕ, ◌≡◌, ◌+◌, ◌≤◌, refl, sym, ap,
 use Rattle.std.specs.Prelude.{◌==◌, unwrap_or, option_map, IsSome}
 use Rattle.std.specs.List.{list_all}
 use Rattle.std.proofs.lemmas.Bool.{false≢true}
-use Rattle.acc_base.specs.declared.items.Item.{Item}
-use Rattle.acc_base.specs.declared.items.RegionClause.{RegionClause}
-use Rattle.acc_base.specs.declared.mappings.Counter.{Counter}
-use Rattle.acc_base.specs.declared.mappings.Block.{Block}
-use Rattle.acc_base.specs.declared.tasks.Task.{Task}
-use Rattle.acc_base.specs.declared.tasks.Task.TheVariants.{Enter, Leave, Exit, Move}
-use Rattle.acc_base.specs.declared.events.Step.{Step}
-use Rattle.acc_base.specs.declared.events.Step.TheVariants.{Nothing, Counted, Born, Dropped, Moved}
-use Rattle.acc_base.specs.declared.events.Did.{Did}
+use Rattle.acc_clauses.specs.Words.{Item, RegionClause, Counter, Block, Task, Step, Did}
+use Rattle.acc_base.specs.declared.tasks.Task.TheVariants.{Enter}
+use Rattle.acc_base.specs.declared.events.Step.TheVariants.{Born, Dropped, Moved}
 use Rattle.acc_base.specs.Limits.{Limits, IsWithinBounds}
 use Rattle.acc_base.specs.Records.{Records, State}
 use Rattle.acc_base.specs.Ranges.{bare_range}
@@ -79,19 +73,15 @@ place-born task k p block blocks none = go (k == block) refl
 place-step : (l : Limits) (counter : Counter) (item : Item RegionClause) (queue : Option ℕ) (step : Step) (w : Records) (block : ℕ) → AreRecordsSound l w → IsJudgedTo l (Enter counter item queue) step w
     → place_of block (act_step (Enter counter item queue) step w).blocks ≡ place_by block (place_of block w.blocks) step
 unfolding act_step act_row with_range_changed records_after_birth
-place-step l counter item queue Nothing w block h says = refl
-place-step l counter item queue (Counted k) w block h says = refl
 place-step l counter item queue (Born k p) w block h says = place-born (Enter counter item queue) k p block w.blocks (no_block-new l w k h says.number)
 place-step l counter item queue (Dropped k ended) w block h says = absurd says
-place-step l counter item queue (Moved k) w block h says = refl
+place-step l counter item queue _ w block h says = refl
 
 place-act : (l : Limits) (task : Task) (did : Did) (w : Records) (block : ℕ) → AreRecordsSound l w → IsJudgedTo l task did.step w → enters task ≡ true
     → place_of block (act task did w).blocks ≡ place_by block (place_of block w.blocks) did.step
 unfolding act
 place-act l (Enter counter item queue) did w block h says entry = place-step l counter item queue did.step w block h says
-place-act l (Leave holding) did w block h says entry = absurd (false≢true entry)
-place-act l (Exit finalize item queue) did w block h says entry = absurd (false≢true entry)
-place-act l (Move if_present item queue) did w block h says entry = absurd (false≢true entry)
+place-act l _ did w block h says entry = absurd (false≢true entry)
 
 pub place-after : (l : Limits) (n : ℕ) (xs : List Acted) (w : Records) (block : ℕ) → IsWithinBounds l → AreRecordsSound l w → AreJudged l n (tasks_in xs) (dids_in xs) w → list_all enters (tasks_in xs) ≡ true
     → place_over block (place_of block w.blocks) xs ≡ place_of block (records_after xs w).blocks
@@ -111,23 +101,19 @@ place-planned l xs w block p entries = place-after l 0 xs w block p.bounds p.sou
 there-step : (l : Limits) (counter : Counter) (item : Item RegionClause) (queue : Option ℕ) (step : Step) (w : Records) (block : ℕ) → IsJudgedTo l (Enter counter item queue) step w → IsSome (block_at block w.blocks)
     → IsSome (block_at block (act_step (Enter counter item queue) step w).blocks)
 unfolding act_step act_row with_range_changed records_after_birth
-there-step l counter item queue Nothing w block says there = there
-there-step l counter item queue (Counted k) w block says there = there
 there-step l counter item queue (Born k p) w block says there = go (block_at block w.blocks) refl there
   where
     go : (o : Option Block) → block_at block w.blocks ≡ o → IsSome o → IsSome (block_at block (w.blocks ++ new_block (Enter counter item queue) k p ∷ []))
     go None e t = cc
     go (Some b) e t = rw (at-push_there (λ (b : Block). b.number) block w.blocks (new_block (Enter counter item queue) k p) b e) refl
 there-step l counter item queue (Dropped k ended) w block says there = absurd says
-there-step l counter item queue (Moved k) w block says there = there
+there-step l counter item queue _ w block says there = there
 
 pub there-act : (l : Limits) (task : Task) (did : Did) (w : Records) (block : ℕ) → IsJudgedTo l task did.step w → enters task ≡ true → IsSome (block_at block w.blocks)
     → IsSome (block_at block (act task did w).blocks)
 unfolding act
 there-act l (Enter counter item queue) did w block says entry there = there-step l counter item queue did.step w block says there
-there-act l (Leave holding) did w block says entry there = absurd (false≢true entry)
-there-act l (Exit finalize item queue) did w block says entry there = absurd (false≢true entry)
-there-act l (Move if_present item queue) did w block says entry there = absurd (false≢true entry)
+there-act l _ did w block says entry there = absurd (false≢true entry)
 
 -- ---- the host after entries: what an entry copies goes to the device
 
@@ -138,8 +124,6 @@ none_now (Some q) s = refl
 
 host-step : (l : Limits) (counter : Counter) (item : Item RegionClause) (queue : Option ℕ) (step : Step) (s : State) → IsJudgedTo l (Enter counter item queue) step s.records → (step_state (Enter counter item queue) step s).host ≡ s.host
 unfolding step_state
-host-step l counter item queue Nothing s says = none_now queue s
-host-step l counter item queue (Counted k) s says = none_now queue s
 host-step l counter item queue (Born k p) s says = go queue (copies_in item.clause)
   where
     go : (q : Option ℕ) (b : Bool) → host_made (at_once q (cond b (Some (record { block = k; offset = 0; section = section_of (Enter counter item queue); out = false })) None)) s.records.attached s.memories s.host ≡ s.host
@@ -148,13 +132,12 @@ host-step l counter item queue (Born k p) s says = go queue (copies_in item.clau
     go (Some q) b = refl
 host-step l counter item queue (Dropped k ended) s says = absurd says
 host-step l counter item queue (Moved k) s says = absurd says
+host-step l counter item queue _ s says = none_now queue s
 
 host-act : (l : Limits) (task : Task) (did : Did) (s : State) → IsJudgedTo l task did.step s.records → enters task ≡ true → (act_state task did s).host ≡ s.host
 unfolding act_state aimed
 host-act l (Enter counter item queue) did s says entry = host-step l counter item queue did.step s says
-host-act l (Leave holding) did s says entry = absurd (false≢true entry)
-host-act l (Exit finalize item queue) did s says entry = absurd (false≢true entry)
-host-act l (Move if_present item queue) did s says entry = absurd (false≢true entry)
+host-act l _ did s says entry = absurd (false≢true entry)
 
 pub host-after : (l : Limits) (n : ℕ) (xs : List Acted) (s : State) → AreJudged l n (tasks_in xs) (dids_in xs) s.records → list_all enters (tasks_in xs) ≡ true → (state_after xs s).host ≡ s.host
 unfolding act_all_state

@@ -3,19 +3,10 @@ use Rattle.std.proofs.Common.{ℕ, ◌≡◌, ◌+◌, ◌-◌, ◌<◌, ◌≤�
 use Rattle.std.specs.Prelude.{◌==◌, ◌%◌, find, unwrap_or, option_map, IsSome}
 use Rattle.std.specs.List.{list_all, AllByRecursion}
 use Rattle.std.proofs.lemmas.Bool.{false≢true}
-use Rattle.acc_base.specs.declared.items.Item.{Item}
-use Rattle.acc_base.specs.declared.items.RegionClause.{RegionClause}
-use Rattle.acc_base.specs.declared.mappings.Counter.{Counter}
-use Rattle.acc_base.specs.declared.mappings.Range.{Range}
-use Rattle.acc_base.specs.declared.mappings.Block.{Block}
-use Rattle.acc_base.specs.declared.attachments.Attachment.{Attachment}
-use Rattle.acc_base.specs.declared.attachments.Aim.{Aim}
+use Rattle.acc_clauses.specs.Words.{Item, RegionClause, Counter, Range, Block, Attachment, Aim, Task, Step, Did}
 use Rattle.acc_base.specs.declared.attachments.Aim.TheVariants as aims
-use Rattle.acc_base.specs.declared.tasks.Task.{Task}
-use Rattle.acc_base.specs.declared.tasks.Task.TheVariants.{Enter, Leave, Exit, Move}
-use Rattle.acc_base.specs.declared.events.Step.{Step}
-use Rattle.acc_base.specs.declared.events.Step.TheVariants.{Nothing, Counted, Born, Dropped, Moved}
-use Rattle.acc_base.specs.declared.events.Did.{Did}
+use Rattle.acc_base.specs.declared.tasks.Task.TheVariants.{Enter}
+use Rattle.acc_base.specs.declared.events.Step.TheVariants.{Nothing, Counted, Born, Dropped}
 use Rattle.acc_base.specs.Limits.{Limits, IsWithinBounds}
 use Rattle.acc_base.specs.Section.{covers}
 use Rattle.acc_base.specs.Records.{Records, Memory, State}
@@ -78,9 +69,8 @@ named_aligned l n counter item queue step w p judged e =
     aligned l n p (subst (λ o. pointer_checked l n o ≡ Ok tt) named (pointer_checked_by l n task (then_ok _ _ step (step_judged l n (Enter counter item queue) w step judged).row).0))
   where
     go : (a b : Bool) → cond (a || b) (pointer_of (Enter counter item queue)) None ≡ Some p → pointer_of (Enter counter item queue) ≡ Some p
-    go true b h = h
-    go false true h = h
     go false false h = cc
+    go _ _ h = h
 
 -- ---- a step of an entry leaves the blocks that are there
 
@@ -135,8 +125,7 @@ holds-step l counter item queue (Born k p) s block pointer h says there =
     bytes None true = bytes-other k block (bytes_moved_in (is_moved (section_of task) k s.records.attached) s.host ((section_of task).start - 0)) (s.memories ++ born ∷ []) other ∙ bytes-push block born s.memories other
     bytes None false = bytes-push block born s.memories other
     bytes (Some q) b = bytes-push block born s.memories other
-holds-step l counter item queue (Dropped k ended) s block pointer h says there = absurd says
-holds-step l counter item queue (Moved k) s block pointer h says there = absurd says
+holds-step l counter item queue _ s block pointer h says there = absurd says
 
 -- ---- an attachment
 
@@ -209,8 +198,7 @@ module _ (l : Limits) (block pointer : ℕ) (even : pointer % 8 ≡ 0) (s : Stat
       go true f true g none =
           let same : count_at b p s.records.attached ≡ count_at block pointer s.records.attached = ap (λ n. count_at n p s.records.attached) (equal b block f) ∙ ap (λ n. count_at block n s.records.attached) (equal p pointer g) in
           absurd (omega (arith, more, same, none))
-      go true f false g none = none
-      go false f u g none = none
+      go _ f _ g none = none
 
   pub holds-aim : (named : Option ℕ) (aim : Aim) (value : ℕ) → ((p : ℕ) → named ≡ Some p → p % 8 ≡ 0) → IsAttachLegal l named aim s.records → Holds block pointer value s → Holds block pointer (value_by block pointer value aim) (aimed aim s)
   unfolding aimed
@@ -219,18 +207,14 @@ module _ (l : Limits) (block pointer : ℕ) (even : pointer % 8 ≡ 0) (s : Stat
       let bound : target < 2 ^ 42 = target_bound l s.records target bounds sound legal.3 in
       holds-new p b target value (evens p legal.0) (omega (arith, bound)) legal.1 legal.2 h
   holds-aim named (aims.Again p b) value evens legal h = holds-again p b value legal.3 h
-  holds-aim named (aims.Less p b) value evens legal h = absurd legal
-  holds-aim named (aims.Cleared p b) value evens legal h = absurd legal
+  holds-aim named _ value evens legal h = absurd legal
 
 -- ---- entries
 
 attached-step : (l : Limits) (counter : Counter) (item : Item RegionClause) (queue : Option ℕ) (step : Step) (w : Records) → IsJudgedTo l (Enter counter item queue) step w → (act_step (Enter counter item queue) step w).attached ≡ w.attached
 unfolding act_step act_row with_range_changed records_after_birth
-attached-step l counter item queue Nothing w says = refl
-attached-step l counter item queue (Counted k) w says = refl
-attached-step l counter item queue (Born k p) w says = refl
 attached-step l counter item queue (Dropped k ended) w says = absurd says
-attached-step l counter item queue (Moved k) w says = refl
+attached-step l counter item queue _ w says = refl
 
 holds-act : (l : Limits) (n block pointer value : ℕ) (task : Task) (did : Did) (s : State) → IsWithinBounds l → AreRecordsSound l s.records → AreMemoriesSized l s → judge_step l n task s.records ≡ Ok did.step → IsAimLegal l task did s.records → enters task ≡ true
     → pointer % 8 ≡ 0 → StartsBelow block pointer (act task did s.records) → Holds block pointer value s → Holds block pointer (value_by block pointer value did.aim) (act_state task did s)
@@ -247,9 +231,7 @@ holds-act l n block pointer value (Enter counter item queue) did s bounds h size
     holds-before says some =
         let count : count_at block pointer s.records.attached ≡ 0 → ⊥ = (λ none. some (ap (count_at block pointer) (attached-step l counter item queue did.step s.records says) ∙ none)) in
         holds-step l counter item queue did.step s block pointer h says (counted_there l s.records block pointer h count) ∙ holds count
-holds-act l n block pointer value (Leave holding) did s bounds h sized judged legal entry even above holds = absurd (false≢true entry)
-holds-act l n block pointer value (Exit finalize item queue) did s bounds h sized judged legal entry even above holds = absurd (false≢true entry)
-holds-act l n block pointer value (Move if_present item queue) did s bounds h sized judged legal entry even above holds = absurd (false≢true entry)
+holds-act l n block pointer value _ did s bounds h sized judged legal entry even above holds = absurd (false≢true entry)
 
 -- a pointer that lies in the block after entries
 pub holds-after : (l : Limits) (n block pointer value : ℕ) (xs : List Acted) (s : State) → IsWithinBounds l → AreRecordsSound l s.records → AreMemoriesSized l s → AreJudged l n (tasks_in xs) (dids_in xs) s.records → list_all enters (tasks_in xs) ≡ true

@@ -19,11 +19,10 @@ drop-written taken source a (suc n) [] = refl
 drop-written taken source a (suc n) (x ∷ xs) = let same : suc a + n ≡ a + suc n = omega arith in drop-written taken source (suc a) n xs ∙ ap (λ m. written_bytes taken source m (drop n xs)) same
 
 take-written : (taken : ℕ → Bool) (source : ℕ → ℕ) (a m : ℕ) (old : List ℕ) → ((k : ℕ) → k < m → taken (a + k) ≡ false) → take m (written_bytes taken source a old) ≡ take m old
-take-written taken source a zero old h = refl
-take-written taken source a (suc m) [] h = refl
 take-written taken source a (suc m) (x ∷ xs) h =
     let first : taken a ≡ false = (let same : a ≡ a + 0 = omega arith in ap taken same) ∙ h 0 (omega arith) in
     rw first (ap (λ ys. x ∷ ys) (take-written taken source (suc a) m xs (λ k below. (let same : suc a + k ≡ a + suc k = omega arith in ap taken same) ∙ h (suc k) (omega (arith, below)))))
+take-written taken source a _ _ h = refl
 
 -- two pointers that are eight bytes apart
 abbrev pub AreApart : ℕ → ℕ → Type 0

@@ -2,15 +2,8 @@
 use Rattle.std.proofs.Common.{ℕ, ◌≡◌, ◌+◌, ◌-◌, ◌≤◌, refl, sym, ◌∙◌, ap, subst, Bool, true, false, cond, ◌&&◌, List, [], ◌∷◌, ◌++◌, length, replicate, Option, Some, None, arith}
 use Rattle.std.specs.Prelude.{IsSome, is_some, is_none}
 use Rattle.std.specs.List.{AllByRecursion, AllZip}
-use Rattle.acc_base.specs.declared.items.Section.{Section}
-use Rattle.acc_base.specs.declared.items.Item.{Item}
-use Rattle.acc_base.specs.declared.items.RegionClause.{RegionClause}
-use Rattle.acc_base.specs.declared.mappings.Counter.{Counter}
-use Rattle.acc_base.specs.declared.mappings.Range.{Range}
-use Rattle.acc_base.specs.declared.mappings.Block.{Block}
-use Rattle.acc_base.specs.declared.attachments.Attachment.{Attachment}
+use Rattle.acc_clauses.specs.Words.{Section, Item, RegionClause, Counter, Range, Block, Attachment, Transfer}
 use Rattle.acc_base.specs.declared.tasks.Task.TheVariants.{Enter}
-use Rattle.acc_base.specs.declared.transfers.Transfer.{Transfer}
 use Rattle.acc_base.specs.declared.events.Step.TheVariants.{Born}
 use Rattle.acc_base.specs.Section.{covers, is_within, host_memory}
 use Rattle.acc_base.specs.Records.{Memory, State}
@@ -144,23 +137,20 @@ born_memories counter item queue k place ranges attached host ms in_host new bar
         ∙ ap (λ x. ms ++ record { block = k; bytes = x } ∷ []) (
         written-same (is_moved section k attached) (covers section) (host_byte host) (section.start - 0) (replicate section.len fill) (λ a. moved-clear section k attached a (fresh-clear k attached bare a))
         ∙ born_copied section (section.start - 0) fill host in_host (omega arith)))
-    go true (Some q) = refl
     go false None = refl
-    go false (Some q) = refl
+    go _ _ = refl
 
 -- a birth leaves host memory
 born_host : (b : Bool) (o : Option ℕ) (k : ℕ) (section : Section) (attached : List Attachment) (host : List ℕ) (ms : List Memory) → host ≡ host_made (at_once o (cond b (Some (record { block = k; offset = 0; section = section; out = false })) None)) attached ms host
 born_host true None k section attached host ms = refl
-born_host true (Some q) k section attached host ms = refl
 born_host false None k section attached host ms = refl
-born_host false (Some q) k section attached host ms = refl
+born_host _ _ k section attached host ms = refl
 
 -- a copy that is put changes the queues alone
 filled_is : (b : Bool) (o : Option ℕ) (t : Transfer) (s : State) → cond (b && is_some o) (moved_state o t s) s ≡ record s { records = record s.records { queues = queues_after o (cond b (Some t) None) s.records.queues } }
 filled_is true None t s = refl
-filled_is true (Some q) t s = refl
 filled_is false None t s = refl
-filled_is false (Some q) t s = refl
+filled_is _ _ t s = refl
 
 -- both are the step of the birth
 born_whole : (counter : Counter) (item : Item RegionClause) (queue : Option ℕ) (k place : ℕ) (s : State) → is_within (section_of (Enter counter item queue)) (host_memory (length s.host)) ≡ true

@@ -20,15 +20,14 @@ use Rattle.acc_base.specs.Records.{Records, State}
 use Rattle.acc_base.specs.Register.{Region, Register, holdings_at, region_at, opened, closed, count_held, is_counted_block}
 use Rattle.acc_base.specs.Ranges.{range_of}
 use Rattle.acc_base.specs.Blocks.{used_bytes}
-use Rattle.acc_base.specs.Steps.{act, act_all, released}
-use Rattle.acc_base.specs.Waits.{records_made, records_stepped, records_drained}
-use Rattle.acc_base.specs.Queues.{head_of}
-use Rattle.acc_base.specs.declared.transfers.Transfer.{Transfer}
+use Rattle.acc_base.specs.Steps.{act, act_all}
+use Rattle.acc_base.specs.Waits.{records_drained}
 use Rattle.acc_base.specs.declared.events.Event.{Event}
 use Rattle.acc_base.specs.Walk.{enter_task, enter_data_task, exit_task, move_task}
 use Rattle.acc_base.specs.Acting.{act_all_state}
 use Rattle.acc_base.specs.Judge.{tasks_with, holdings_left, transfers_in, Verdict, Makes, Idle, verdict_of}
 use Rattle.acc_base.specs.History.{AreJudged}
+use Rattle.acc_base.proofs.Births.{births-drained}
 use Rattle.acc_base.proofs.Elements.{AllByRecursion-append, AllByRecursion-filter, AllByRecursion-weaker, find-none}
 use Rattle.acc_base.proofs.Walked.{records-act_all_state, register-act_all_state, records-drained}
 use Rattle.acc_base.proofs.Sound.{ranges-drained}
@@ -198,19 +197,6 @@ pub all_finished : (d : Directive) (p : Planned) (ts : List Task) (ds : List Did
 all_finished d p ts ds s t u a b e f = f ∙ ap (finished d p) (e ∙ ap (λ x. act_all_state x ds s) a ∙ ap (λ x. act_all_state p.tasks x s) b)
 
 -- ---- queued transfers leave what is held
-
-births-stepped : (q : ℕ) (w : Records) → (records_stepped q w).births ≡ w.births
-unfolding records_stepped released
-births-stepped q w = go (head_of q w.queues)
-  where
-    go : (o : Option Transfer) → (records_made q o w).births ≡ w.births
-    go None = refl
-    go (Some t) = refl
-
-births-drained : (qs : List ℕ) (w : Records) → (records_drained qs w).births ≡ w.births
-unfolding records_drained
-births-drained [] w = refl
-births-drained (q ∷ qs) w = births-drained qs (records_stepped q w) ∙ births-stepped q w
 
 within_drained : (qs : List ℕ) (w : Records) (regions : List Region) → AreHoldingsWithin w regions → AreHoldingsWithin (records_drained qs w) regions
 within_drained qs w regions h =

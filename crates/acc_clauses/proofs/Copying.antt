@@ -4,8 +4,7 @@ use Rattle.std.specs.Prelude.{◌==◌, slice_index}
 use Rattle.std.specs.List.{AllByRecursion}
 use Rattle.std.proofs.lemmas.Bool.Decides.{nat_tests}
 use Rattle.std.proofs.lemmas.List.{get_or-take, get_or-drop, length-drop, length-take-le, length-replicate, take-append-drop}
-use Rattle.acc_base.specs.declared.items.Section.{Section}
-use Rattle.acc_base.specs.declared.attachments.Attachment.{Attachment}
+use Rattle.acc_clauses.specs.Words.{Section, Attachment}
 use Rattle.acc_base.specs.Section.{covers, end_of, is_within, host_memory, host_base}
 use Rattle.acc_base.specs.Attachments.{is_skipped}
 use Rattle.acc_base.specs.Records.{Memory}

@@ -1,15 +1,8 @@
 -- A step and an attachment or a detachment, one after the other.
 use Rattle.std.proofs.Common.{ℕ, ◌≡◌, refl, ap, [], Option, arith, append-nil, Bool, inl, inr, subst, sym}
 use Rattle.std.specs.Prelude.{◌⊎◌}
-use Rattle.acc_base.specs.declared.items.Item.{Item}
-use Rattle.acc_base.specs.declared.items.ExitClause.{ExitClause}
-use Rattle.acc_base.specs.declared.items.UpdateClause.{UpdateClause}
-use Rattle.acc_base.specs.declared.regions.Holding.{Holding}
-use Rattle.acc_base.specs.declared.tasks.Task.{Task}
+use Rattle.acc_clauses.specs.Words.{Item, ExitClause, UpdateClause, Holding, Task, Did, Step, Aim}
 use Rattle.acc_base.specs.declared.tasks.Task.TheVariants.{Enter, Leave, Exit, Move}
-use Rattle.acc_base.specs.declared.events.Did.{Did}
-use Rattle.acc_base.specs.declared.events.Step.{Step}
-use Rattle.acc_base.specs.declared.attachments.Aim.{Aim}
 use Rattle.acc_base.specs.Records.{State}
 use Rattle.acc_base.specs.Bytes.{step_state}
 use Rattle.acc_base.specs.Pointers.{aimed}
@@ -30,9 +23,7 @@ not_entry task (inr (inr h)) entry = rw h.3 at entry
 enter_whole : (task : Task) (did : Did) (s : State) → IsEnter task → aimed did.aim (step_state task did.step s) ≡ act_state task did s
 unfolding act_state
 enter_whole (Enter counter item queue) did s entry = refl
-enter_whole (Leave holding) did s entry = absurd entry
-enter_whole (Exit finalize item queue) did s entry = absurd entry
-enter_whole (Move if_present item queue) did s entry = absurd entry
+enter_whole _ did s entry = absurd entry
 
 pub entry_done : (task : Task) (did : Did) (x y z : Environment) → IsEnter task → IsActedBy task did.step x y → IsAimedBy did.aim y z → IsDoneBy task did x z
 entry_done task did x y z entry acted aims = both (step_state task did.step) (aimed did.aim) (act_state task did) (birth_of task did.step) [] (birth_of task did.step) 0 (pointers_of did.aim) (pointers_of did.aim) (λ q. puts_by q task did.step) (λ q. 0) (λ q. puts_by q task did.step) x y z
@@ -42,9 +33,7 @@ entry_done task did x y z entry acted aims = both (step_state task did.step) (ai
 leave_whole : (task : Task) (did : Did) (s : State) → (IsEnter task → ⊥) → step_state task did.step (aimed did.aim s) ≡ act_state task did s
 unfolding act_state
 leave_whole (Enter counter item queue) did s other = absurd (other tt)
-leave_whole (Leave holding) did s other = refl
-leave_whole (Exit finalize item queue) did s other = refl
-leave_whole (Move if_present item queue) did s other = refl
+leave_whole _ did s other = refl
 
 pub leaves : (task : Task) (did : Did) (x y z : Environment) → (IsEnter task → ⊥) → IsAimedBy did.aim x y → IsActedBy task did.step y z → IsDoneBy task did x z
 leaves task did x y z other aims acted = both (aimed did.aim) (step_state task did.step) (act_state task did) [] (birth_of task did.step) (birth_of task did.step) (pointers_of did.aim) 0 (pointers_of did.aim) (λ q. 0) (λ q. puts_by q task did.step) (λ q. puts_by q task did.step) x y z
@@ -54,9 +43,7 @@ leaves task did x y z other aims acted = both (aimed did.aim) (step_state task d
 
 pub aim_after : (task : Task) (did : Did) (x y : Environment) → IsEnter task → CanDo x task did → IsActedBy task did.step x y → CanAim y.attached.counter_max did.aim (bare_state y)
 aim_after (Enter counter item queue) did x y entry can acted = subst (λ n. CanAim n did.aim (bare_state y)) (sym acted.pointer_max) (subst (CanAim x.attached.counter_max did.aim) (sym (acted.state bare_numbers)) can.aim)
-aim_after (Leave holding) did x y entry can acted = absurd entry
-aim_after (Exit finalize item queue) did x y entry can acted = absurd entry
-aim_after (Move if_present item queue) did x y entry can acted = absurd entry
+aim_after _ did x y entry can acted = absurd entry
 
 pub step_after : (task : Task) (did : Did) (x y : Environment) → (IsEnter task → ⊥) → CanDo x task did → IsAimedBy did.aim x y → CanAct y.present.table.counter_max y.device.memory task did.step (bare_state y)
 step_after task did x y other can aims =
@@ -65,9 +52,7 @@ step_after task did x y other can aims =
   where
     go : (t : Task) → (IsEnter t → ⊥) → CanDo x t did → CanAct x.present.table.counter_max x.device.memory t did.step (aimed did.aim (bare_state x))
     go (Enter counter item queue) enters can = absurd (enters tt)
-    go (Leave holding) enters can = can.step
-    go (Exit finalize item queue) enters can = can.step
-    go (Move if_present item queue) enters can = can.step
+    go _ enters can = can.step
 
 -- what an attachment or a detachment leaves of the queues, and of the room in them
 pub queues_kept : (aim : Aim) (task : Task) (step : Step) (x y : Environment) → IsAimedBy aim x y → CanQueue task step x → CanQueue task step y
@@ -90,12 +75,8 @@ puts_kept aim puts x y h room q = omega (arith, h.room.puts q, room q)
 -- what a task can do has room in its queue
 pub do_needed : (x : Environment) (task : Task) (did : Did) → CanDo x task did → CanNeed task did.step x
 do_needed x (Enter counter item queue) did can = can.needed
-do_needed x (Leave holding) did can = can.needed
-do_needed x (Exit finalize item queue) did can = can.needed
-do_needed x (Move if_present item queue) did can = can.needed
+do_needed x _ did can = can.needed
 
 pub do_queue : (x : Environment) (task : Task) (did : Did) → CanDo x task did → CanQueue task did.step x
 do_queue x (Enter counter item queue) did can = can.queue
-do_queue x (Leave holding) did can = can.queue
-do_queue x (Exit finalize item queue) did can = can.queue
-do_queue x (Move if_present item queue) did can = can.queue
+do_queue x _ did can = can.queue

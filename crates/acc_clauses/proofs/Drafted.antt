@@ -1,10 +1,8 @@
 -- The births and ends that a draft notes, after one more task.
 use Rattle.std.proofs.Common.{ℕ, ◌≡◌, ◌+◌, ◌<◌, ◌≤◌, refl, sym, ap, ◌∙◌, true, false, List, [], ◌∷◌, ◌++◌, length, arith}
 use Rattle.std.proofs.lemmas.List.{append-nil, append_assoc, length-append}
-use Rattle.acc_base.specs.declared.tasks.Task.{Task}
-use Rattle.acc_base.specs.declared.attachments.Aim.{Aim}
-use Rattle.acc_base.specs.declared.events.Step.{Step}
-use Rattle.acc_base.specs.declared.events.Step.TheVariants.{Nothing, Counted, Born, Dropped, Moved}
+use Rattle.acc_clauses.specs.Words.{Task, Aim, Step}
+use Rattle.acc_base.specs.declared.events.Step.TheVariants.{Nothing, Dropped}
 use Rattle.acc_clauses.specs.declared.acted.Acted.{Acted}
 use Rattle.acc_clauses.specs.Overlays.{IsDraft, birth_by, births_of, end_by, ended_of, with_aim}
 
@@ -25,18 +23,11 @@ ended_of-push xs x = ended_of-append xs (x ∷ []) ∙ ap (λ ps. ended_of xs ++
 
 length-birth_by : (task : Task) (step : Step) → length (birth_by task step) ≤ 1
 length-birth_by task Nothing = omega arith
-length-birth_by task (Counted b) = omega arith
-length-birth_by task (Born b p) = omega arith
-length-birth_by task (Dropped b ended) = omega arith
-length-birth_by task (Moved b) = omega arith
+length-birth_by task _ = omega arith
 
 length-end_by : (step : Step) → length (end_by step) ≤ 1
-length-end_by Nothing = omega arith
-length-end_by (Counted b) = omega arith
-length-end_by (Born b p) = omega arith
 length-end_by (Dropped b true) = omega arith
-length-end_by (Dropped b false) = omega arith
-length-end_by (Moved b) = omega arith
+length-end_by _ = omega arith
 
 -- a task bears one block at most
 pub length-births_of : (xs : List Acted) → length (births_of xs) ≤ length xs

@@ -34,9 +34,8 @@ drained-none q s = refl
 -- ---- the other queues
 
 drop-set : {X : Type 0} (xs : List X) (i : ℕ) (x : X) → drop (suc i) (slice_set xs i x) ≡ drop (suc i) xs
-drop-set [] i x = refl
-drop-set (y ∷ ys) zero x = refl
 drop-set (y ∷ ys) (suc i) x = drop-set ys i x
+drop-set _ _ x = refl
 
 -- a step of a queue leaves the queues behind it
 later-stepped : (q : ℕ) (s : State) → drop (suc q) (stepped q s).records.queues ≡ drop (suc q) s.records.queues
@@ -58,9 +57,8 @@ later-drained q (suc n) s = later-drained q n (stepped q s) ∙ later-stepped q 
 -- the steps from a queue on are those of the queue, and then those of the queues behind it
 steps-split : (i q : ℕ) (queues : List (List Transfer)) → steps_from q (drop i queues) ≡ replicate (length (queue_at i queues)) q ++ steps_from (suc q) (drop (suc i) queues)
 steps-split zero q [] = refl
-steps-split (suc i) q [] = refl
-steps-split zero q (ts ∷ queues) = refl
 steps-split (suc i) q (ts ∷ queues) = steps-split i q queues
+steps-split _ q _ = refl
 
 -- once a queue is emptied, those behind it are left
 pub rest_drained : (q : ℕ) (s t u : State) → t ≡ drained (replicate (length (queue_at q s.records.queues)) q) s → drained (steps_from q (drop q s.records.queues)) s ≡ u → drained (steps_from (q + 1) (drop (q + 1) t.records.queues)) t ≡ u

@@ -2,8 +2,7 @@
 use Rattle.std.proofs.Common.{ℕ, zero, suc, ◌+◌, ◌≡◌, refl, sym, ◌∙◌, ap, subst, List, [], ◌∷◌, Option, Some, None, Ok, take, drop, replicate, add-one, false}
 use Rattle.std.specs.Prelude.{slice_get, slice_set}
 use Rattle.std.specs.List.{flat_map}
-use Rattle.acc_base.specs.declared.loans.Loan.{Loan}
-use Rattle.acc_base.specs.declared.transfers.Transfer.{Transfer}
+use Rattle.acc_clauses.specs.Words.{Loan, Transfer}
 use Rattle.acc_base.specs.Loans.{is_lent, not_lent, none_lent}
 use Rattle.acc_base.specs.Queues.{queue_at, head_of, popped}
 use Rattle.acc_base.specs.Records.{Records, State}
@@ -22,9 +21,8 @@ AreFree ts loans = none_lent ts loans ≡ Ok tt
 -- ---- parts of a list of transfers
 
 free-drop : (n : ℕ) (ts : List Transfer) (loans : List Loan) → AreFree ts loans → AreFree (drop n ts) loans
-free-drop zero ts loans h = h
-free-drop (suc n) [] loans h = h
 free-drop (suc n) (t ∷ ts) loans h = free-drop n ts loans (then_ok (not_lent (Some t.block) loans) (none_lent ts loans) tt h).1
+free-drop _ _ loans h = h
 
 free-first : (ts : List Transfer) (loans : List Loan) → AreFree ts loans → AreFree (take 1 ts) loans
 free-first [] loans h = h

@@ -3,10 +3,8 @@ use Rattle.std.proofs.Common.{ℕ, ◌≡◌, ◌≤◌, refl, sym, ◌∙◌, a
 use Rattle.std.specs.Prelude.{IsSome, is_none}
 use Rattle.std.specs.List.{AllZip}
 use Rattle.acc_base.specs.Loans.{is_lent}
-use Rattle.acc_base.specs.declared.mappings.Range.{Range}
-use Rattle.acc_base.specs.declared.tasks.Task.{Task}
-use Rattle.acc_base.specs.declared.tasks.Task.TheVariants.{Enter, Leave, Exit, Move}
-use Rattle.acc_base.specs.declared.transfers.Transfer.{Transfer}
+use Rattle.acc_clauses.specs.Words.{Range, Task, Transfer}
+use Rattle.acc_base.specs.declared.tasks.Task.TheVariants.{Enter}
 use Rattle.acc_base.specs.declared.events.Step.TheVariants.{Dropped}
 use Rattle.acc_base.specs.Records.{Records, State}
 use Rattle.acc_base.specs.Ranges.{range_of, changed_at, without_range, ends_by}
@@ -79,9 +77,7 @@ range_ends task k ended x y can given = ap (ends_by (recounted task) k) (same_ra
 -- a task that does not enter raises no counter
 pub falls : (most : ℕ) (task : Task) (k : ℕ) (ranges : List Range) (r : Range) → (IsEnter task → ⊥) → range_of k ranges ≡ Some r → CanCount most task k ranges
 falls most (Enter counter item queue) k ranges r other is = absurd (other tt)
-falls most (Leave holding) k ranges r other is = record { there = is_some (range_of k ranges) r is; below = tt }
-falls most (Exit finalize item queue) k ranges r other is = record { there = is_some (range_of k ranges) r is; below = tt }
-falls most (Move if_present item queue) k ranges r other is = record { there = is_some (range_of k ranges) r is; below = tt }
+falls most _ k ranges r other is = record { there = is_some (range_of k ranges) r is; below = tt }
 
 pub block_there : (task : Task) (k : ℕ) (ended : Bool) (x y : Environment) → CanDrop task k ended (bare_state x) → IsGivenBy task k x y → IsSome (block_at k y.device.blocks)
 block_there task k ended x y can given = rw (same_blocks task k x y given) can.move.there

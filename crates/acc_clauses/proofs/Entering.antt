@@ -3,20 +3,12 @@ use Rattle.std.proofs.Common.{ℕ, suc, ◌≡◌, ◌+◌, ◌≤◌, refl, sym
 use Rattle.std.specs.Prelude.{◌==◌, nat_lt, nat_le}
 use Rattle.std.specs.List.{AllByRecursion}
 use Rattle.std.proofs.lemmas.Bool.Decides.{nat_tests}
-use Rattle.acc_base.specs.declared.items.Section.{Section}
-use Rattle.acc_base.specs.declared.items.Item.{Item}
-use Rattle.acc_base.specs.declared.items.RegionClause.{RegionClause}
+use Rattle.acc_clauses.specs.Words.{Section, Item, RegionClause, Range, Found, Task, Step, Did, Fault}
 use Rattle.acc_base.specs.declared.items.RegionClause.TheVariants as region
-use Rattle.acc_base.specs.declared.mappings.Range.{Range}
-use Rattle.acc_base.specs.declared.mappings.Found.{Found}
-use Rattle.acc_base.specs.declared.mappings.Found.TheVariants.{Empty, Inside, Partly, Absent}
+use Rattle.acc_base.specs.declared.mappings.Found.TheVariants.{Empty, Inside, Absent}
 use Rattle.acc_base.specs.declared.mappings.Counter.TheVariants.{Structured}
-use Rattle.acc_base.specs.declared.tasks.Task.{Task}
 use Rattle.acc_base.specs.declared.tasks.Task.TheVariants.{Enter}
-use Rattle.acc_base.specs.declared.events.Step.{Step}
-use Rattle.acc_base.specs.declared.events.Step.TheVariants.{Nothing, Counted, Born, Dropped, Moved}
-use Rattle.acc_base.specs.declared.events.Did.{Did}
-use Rattle.acc_base.specs.declared.faults.Fault.{Fault}
+use Rattle.acc_base.specs.declared.events.Step.TheVariants.{Counted, Born}
 use Rattle.acc_base.specs.declared.faults.Fault.TheVariants.{CounterFull}
 use Rattle.acc_base.specs.Results.{refuse_if}
 use Rattle.acc_base.specs.Limits.{Limits, IsWithinBounds}
@@ -47,9 +39,8 @@ use Rattle.acc_clauses.proofs.Holding.{within_step, held_act, within_act}
 pub within_all : (l : Limits) (n : ℕ) (tasks : List Task) (dids : List Did) (w : Records) (s : Section) (b : ℕ) → AreJudged l n tasks dids w → IsHeldWithin w s b → IsHeldWithin (act_all tasks dids w) s b
 unfolding act_all
 within_all l n [] [] w s b judged h = h
-within_all l n [] (d ∷ ds) w s b judged h = absurd judged
-within_all l n (t ∷ ts) [] w s b judged h = absurd judged
 within_all l n (t ∷ ts) (d ∷ ds) w s b judged h = within_all l (suc n) ts ds (act t d w) s b judged.2 (within_act l t d w s b (task_says l n t w d.step judged.0) h)
+within_all l n _ _ w s b judged h = absurd judged
 
 -- and so does what open regions hold
 pub regions_within : (l : Limits) (n : ℕ) (tasks : List Task) (dids : List Did) (w : Records) (regions : List Region) → AreJudged l n tasks dids w → AreHoldingsWithin w regions → AreHoldingsWithin (act_all tasks dids w) regions
@@ -67,25 +58,21 @@ born_not_counted None n k s w e = cc
 born_not_counted (Some p) n k s w e = cc
 
 absent_not_counted : (clause : RegionClause) (l : Limits) (n k : ℕ) (s : Section) (w : Records) → enter_absent clause l n s w ≡ Ok (Counted k) → ⊥
-absent_not_counted region.Copy l n k s w e = born_not_counted (place_for (device_memory l.device) w.blocks (rounded s.len)) n k s w e
-absent_not_counted region.Copyin l n k s w e = born_not_counted (place_for (device_memory l.device) w.blocks (rounded s.len)) n k s w e
-absent_not_counted (region.Copyout z) l n k s w e = born_not_counted (place_for (device_memory l.device) w.blocks (rounded s.len)) n k s w e
-absent_not_counted (region.Create z) l n k s w e = born_not_counted (place_for (device_memory l.device) w.blocks (rounded s.len)) n k s w e
 absent_not_counted region.NoCreate l n k s w e = cc
 absent_not_counted region.Present l n k s w e = cc
 absent_not_counted region.Attach l n k s w e = cc
+absent_not_counted _ l n k s w e = born_not_counted (place_for (device_memory l.device) w.blocks (rounded s.len)) n k s w e
 
 -- a section whose block is counted is inside the block's range
 counted_inside : (l : Limits) (clause : RegionClause) (section : Section) (n k : ℕ) (w : Records) (found : Found) → enter_row found l Structured clause n section w ≡ Ok (Counted k) → where_is section w.ranges ≡ found
     → (o : ℕ) × (where_is section w.ranges ≡ Inside k o)
-counted_inside l clause section n k w Empty e f = cc
 counted_inside l clause section n k w (Inside b o) e f =
     let both : (refuse_if (nat_le l.counter_max (counter_of Structured b w.ranges)) (CounterFull n) ≡ Ok tt) × (Ok (Counted b) ≡ Ok (Counted k)) = then_ok _ _ (Counted k) e in
     let same : Counted b ≡ Counted k = step_same _ _ both.1 in
     let block : b ≡ k = cc in
     (o, f ∙ ap (λ x. Inside x o) block)
 counted_inside l clause section n k w Absent e f = absurd (absent_not_counted clause l n k section w e)
-counted_inside l clause section n k w Partly e f = cc
+counted_inside l clause section n k w _ e f = cc
 
 counted_says : (l : Limits) (item : Item RegionClause) (n k : ℕ) (w : Records) → judge_step l n (Enter Structured item None) w ≡ Ok (Counted k) → (o : ℕ) × (where_is (section_of (Enter Structured item None)) w.ranges ≡ Inside k o)
 unfolding judge_row
@@ -139,7 +126,6 @@ counted_within l w section k o sound e =
 -- what one item's entry counts
 first_within : (l : Limits) (n : ℕ) (item : Item RegionClause) (step : Step) (w : Records) → AreRecordsSound l w → judge_step l n (Enter Structured item None) w ≡ Ok step → (k : ℕ) → block_counted step ≡ Some k
     → IsHeldWithin (act_step (Enter Structured item None) step w) item.section k
-first_within l n item Nothing w sound e k c = cc
 first_within l n item (Counted b) w sound e k c =
     let says : IsJudgedTo l (Enter Structured item None) (Counted b) w = task_says l n (Enter Structured item None) w (Counted b) e in
     let inside : (o : ℕ) × (where_is (section_of (Enter Structured item None)) w.ranges ≡ Inside b o) = counted_says l item n b w e in
@@ -154,19 +140,17 @@ first_within l n item (Born b p) w sound e k c =
     let same : b ≡ k = cc in
     subst (λ s. IsHeldWithin (act_step (Enter Structured item None) (Born b p) w) s k) whole
     (subst (IsHeldWithin (act_step (Enter Structured item None) (Born b p) w) (section_of (Enter Structured item None))) same (born_within l item b p w sound says.number))
-first_within l n item (Dropped b ended) w sound e k c = cc
-first_within l n item (Moved b) w sound e k c = cc
+first_within l n item _ w sound e k c = cc
 
 -- what all items of an entry count
 pub entered_within : (l : Limits) (n : ℕ) (items : List (Item RegionClause)) (dids : List Did) (w : Records) → IsWithinBounds l → AreRecordsSound l w → AreJudged l n (map enter_task items) dids w
     → AllByRecursion (IsHoldingWithin (act_all (map enter_task items) dids w)) (holdings_of items dids)
 unfolding act_all
 entered_within l n [] [] w bounds sound judged = tt
-entered_within l n [] (d ∷ ds) w bounds sound judged = absurd judged
-entered_within l n (i ∷ is) [] w bounds sound judged = absurd judged
 entered_within l n (i ∷ is) (d ∷ ds) w bounds sound judged =
     let v : Records = act (Enter Structured i None) d w in
     let later : AreRecordsSound l v = (task_left l (Enter Structured i None) d w bounds sound (task_says l n (Enter Structured i None) w d.step judged.0) (step_judged l n (Enter Structured i None) w d.step judged.0).free judged.1).sound in (
       (λ k e. within_all l (suc n) (map enter_task is) ds v i.section k judged.2 (held_act (Enter Structured i None) d w i.section k (first_within l n i d.step w sound judged.0 k e))),
       entered_within l (suc n) is ds v bounds later judged.2,
     )
+entered_within l n _ _ w bounds sound judged = absurd judged

@@ -3,9 +3,7 @@ use Rattle.std.proofs.Common.{ℕ, ◌≡◌, refl, ap, ◌∙◌, Bool, true, f
 use Rattle.std.specs.Prelude.{◌==◌, not, nat_lt, option_map}
 use Rattle.std.specs.List.{list_all, list_any}
 use Rattle.std.proofs.lemmas.Bool.Decides.{nat_tests}
-use Rattle.acc_base.specs.declared.items.Section.{Section}
-use Rattle.acc_base.specs.declared.mappings.Range.{Range}
-use Rattle.acc_base.specs.declared.mappings.Found.{Found}
+use Rattle.acc_clauses.specs.Words.{Section, Range, Found}
 use Rattle.acc_base.specs.declared.mappings.Found.TheVariants.{Empty, Partly, Absent}
 use Rattle.acc_base.specs.Section.{is_empty, is_within, is_apart}
 use Rattle.acc_base.specs.Ranges.{where_is, where_is_apart, range_around, found_in, with_range, without_range, without_ranges, changed_at}
@@ -63,9 +61,8 @@ all_apart-with s new (r ∷ rs) = go (all_apart-with s new rs) (nat_lt new.secti
   where
     swap : (x y z : Bool) → (x && (y && z)) ≡ (y && (x && z))
     swap true true z = refl
-    swap true false z = refl
     swap false true z = refl
-    swap false false z = refl
+    swap _ _ z = refl
 
     go : all_apart s (with_range new rs) ≡ (is_apart s new.section && all_apart s rs) → (first : Bool)
         → all_apart s (cond first (new ∷ r ∷ rs) (r ∷ with_range new rs)) ≡ (is_apart s new.section && all_apart s (r ∷ rs))
@@ -81,7 +78,6 @@ where_is-with s new ranges off = go (is_empty s) refl
     inner some (Some r) f clear g true e y h =
         let none : range_around s ranges ≡ None = around_none s ranges some (all_apart-within s new.section ranges some e off) in
         cc
-    inner some (Some r) f clear g false e y h = refl
     inner some None f true g true e y h = rw e refl
     inner some None f true g false e true h = rw (e, h) refl
     inner some None f true g false e false h = rw (e, h) refl
@@ -89,7 +85,7 @@ where_is-with s new ranges off = go (is_empty s) refl
         let all : all_apart s ranges ≡ true = all_apart-within s new.section ranges some e off in
         cc
     inner some None f false g false e true h = refl
-    inner some None f false g false e false h = refl
+    inner some _ f _ g false e _ h = refl
 
     go : (b : Bool) → is_empty s ≡ b
         → cond b Empty (found_in s (range_around s (with_range new ranges)) (cond (all_apart s (with_range new ranges)) Absent Partly))
@@ -152,14 +148,6 @@ module _ (f : Range → Range) (stays : (r : Range) → (f r).section ≡ r.sect
   apart-changed s blocks k ranges = rw (without-changed blocks k ranges) (where_is-changed s k (without_ranges blocks ranges))
 
 -- ---- ranges that end
-
-without_none : (ranges : List Range) → without_ranges [] ranges ≡ ranges
-without_none [] = refl
-without_none (r ∷ rs) = ap (λ ts. r ∷ ts) (without_none rs)
-
--- apart from no range
-pub apart_none : (s : Section) (ranges : List Range) → where_is_apart s [] ranges ≡ where_is s ranges
-apart_none s ranges = ap (where_is s) (without_none ranges)
 
 without_both : (blocks : List ℕ) (k : ℕ) (ranges : List Range) → without_ranges (k ∷ blocks) ranges ≡ without_ranges blocks (without_range k ranges)
 without_both blocks k [] = refl

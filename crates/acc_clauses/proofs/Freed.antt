@@ -3,12 +3,7 @@ use Rattle.std.proofs.Common.{ℕ, zero, suc, ◌≡◌, ◌+◌, refl, sym, ◌
 use Rattle.std.specs.Prelude.{⊤, option_map, slice_get}
 use Rattle.std.specs.List.{flat_map}
 use Rattle.std.proofs.lemmas.List.Concat.{flat_map-cons}
-use Rattle.acc_base.specs.declared.loans.Loan.{Loan}
-use Rattle.acc_base.specs.declared.transfers.Transfer.{Transfer}
-use Rattle.acc_base.specs.declared.tasks.Task.{Task}
-use Rattle.acc_base.specs.declared.attachments.Aim.{Aim}
-use Rattle.acc_base.specs.declared.events.Step.{Step}
-use Rattle.acc_base.specs.declared.faults.Fault.{Fault}
+use Rattle.acc_clauses.specs.Words.{Loan, Transfer, Task, Aim, Step, Fault}
 use Rattle.acc_base.specs.Results.{◌>>◌}
 use Rattle.acc_base.specs.Loans.{not_lent, none_lent}
 use Rattle.acc_base.specs.Records.{Records}
@@ -54,9 +49,8 @@ detached_lent xs task step before cap w aimed fault e h = refused (not_lent aime
 -- those from a place on are the one that is there, and those behind it
 places-split : (place : ℕ) (ts : List Transfer) (loans : List Loan) → none_lent (drop place ts) loans ≡ (not_lent (option_map (λ (t : Transfer). t.block) (slice_get ts place)) loans >> none_lent (drop (suc place) ts) loans)
 places-split zero [] loans = refl
-places-split zero (t ∷ ts) loans = refl
-places-split (suc place) [] loans = refl
 places-split (suc place) (t ∷ ts) loans = places-split place ts loans
+places-split _ _ loans = refl
 
 module _ (place : ℕ) (ts : List Transfer) (loans : List Loan) (all : Result ⊤ Fault) (block : Option ℕ) (named : block ≡ option_map (λ (t : Transfer). t.block) (slice_get ts place)) (left : none_lent (drop place ts) loans ≡ all) where
   -- the one at the place, and then those behind it, tell what all tell

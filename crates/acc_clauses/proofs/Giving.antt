@@ -4,13 +4,7 @@ use Rattle.std.specs.Prelude.{nat_le, unwrap_or, option_map, IsSome, is_some}
 use Rattle.std.proofs.lemmas.Bool.Decides.{nat_tests}
 use Rattle.acc_base.proofs.Judged.{not_lent_says}
 use Rattle.acc_base.specs.Loans.{is_lent, not_lent}
-use Rattle.acc_base.specs.declared.items.Section.{Section}
-use Rattle.acc_base.specs.declared.items.Item.{Item}
-use Rattle.acc_base.specs.declared.items.RegionClause.{RegionClause}
-use Rattle.acc_base.specs.declared.mappings.Range.{Range}
-use Rattle.acc_base.specs.declared.tasks.Task.{Task}
-use Rattle.acc_base.specs.declared.transfers.Transfer.{Transfer}
-use Rattle.acc_base.specs.declared.events.Step.{Step}
+use Rattle.acc_clauses.specs.Words.{Section, Item, RegionClause, Range, Task, Transfer, Step}
 use Rattle.acc_base.specs.declared.events.Step.TheVariants.{Dropped, Moved}
 use Rattle.acc_base.specs.Section.{is_within}
 use Rattle.acc_base.specs.Records.{State}

@@ -1,22 +1,17 @@
 -- What is held stays within the range of its block, whatever step is done; and each task that leaves finds what it held.
 use Rattle.std.proofs.Common.{ℕ, suc, ◌≡◌, ◌+◌, ◌-◌, ◌≤◌, refl, sym, ◌∙◌, ap, subst, Bool, true, false, cond, List, [], ◌∷◌, map, Option, Some, None, arith}
-use Rattle.std.specs.Prelude.{◌==◌, nat_lt, unwrap_or, option_map}
+use Rattle.std.specs.Prelude.{◌==◌, unwrap_or, option_map}
 use Rattle.std.specs.List.{AllByRecursion}
 use Rattle.std.proofs.lemmas.Bool.Decides.{nat_tests}
 use Rattle.std.proofs.lemmas.List.Sums.{sum_by-cons}
-use Rattle.acc_base.specs.declared.items.Section.{Section}
-use Rattle.acc_base.specs.declared.mappings.Range.{Range}
+use Rattle.acc_clauses.specs.Words.{Section, Range, Holding, Task, Step, Did}
 use Rattle.acc_base.specs.declared.mappings.Counter.TheVariants.{Structured}
-use Rattle.acc_base.specs.declared.regions.Holding.{Holding}
-use Rattle.acc_base.specs.declared.tasks.Task.{Task}
-use Rattle.acc_base.specs.declared.tasks.Task.TheVariants.{Enter, Leave, Exit, Move}
-use Rattle.acc_base.specs.declared.events.Step.{Step}
-use Rattle.acc_base.specs.declared.events.Step.TheVariants.{Nothing, Counted, Born, Dropped, Moved}
-use Rattle.acc_base.specs.declared.events.Did.{Did}
+use Rattle.acc_base.specs.declared.tasks.Task.TheVariants.{Leave}
+use Rattle.acc_base.specs.declared.events.Step.TheVariants.{Nothing, Counted, Born, Dropped}
 use Rattle.acc_base.specs.Limits.{Limits, IsWithinBounds}
 use Rattle.acc_base.specs.Section.{is_within}
 use Rattle.acc_base.specs.Records.{Records}
-use Rattle.acc_base.specs.Ranges.{range_of, structured_of, changed_at, with_range, without_range, bare_range}
+use Rattle.acc_base.specs.Ranges.{range_of, structured_of, changed_at, without_range, bare_range}
 use Rattle.acc_base.specs.Register.{is_counted_block, count_held}
 use Rattle.acc_base.specs.Tasks.{section_of, recounted}
 use Rattle.acc_base.specs.Steps.{act_row, act_step, act, released, records_after_birth, records_after_end, with_range_changed}
@@ -27,24 +22,15 @@ use Rattle.acc_base.proofs.Elements.{AllByRecursion-weaker}
 use Rattle.acc_base.proofs.RangeChanges.{block_of}
 use Rattle.acc_base.proofs.Lookups.{at-changed, at-without_same, at-without_other}
 use Rattle.acc_base.proofs.Judged.{IsJudgedTo, task_says, step_judged}
-use Rattle.acc_base.proofs.Recounted.{names}
+use Rattle.acc_base.proofs.Recounted.{names, birth_number}
 use Rattle.acc_base.proofs.Aimed.{IsLeft, task_left}
 use Rattle.acc_base.proofs.Memories.{recounted-block, recounted-section}
 use Rattle.acc_clauses.specs.Acts.{IsKnown, AreKnown}
 use Rattle.acc_clauses.specs.Stored.{IsHeldWithin, IsHoldingWithin}
 use Rattle.acc_base.proofs.SameMapping.{mapping-act}
+use Rattle.acc_base.proofs.Lending.{range_of-with_other}
 
 -- ---- the range of a block after a step
-
--- a range more leaves those of other blocks
-range-with_other : (new : Range) (b : ℕ) (rs : List Range) → (new.block == b) ≡ false → range_of b (with_range new rs) ≡ range_of b rs
-range-with_other new b [] n = rw n
-range-with_other new b (r ∷ rs) n = go (range-with_other new b rs n) (nat_lt new.section.start r.section.start) (r.block == b) refl
-  where
-    go : range_of b (with_range new rs) ≡ range_of b rs → (x t : Bool) → (r.block == b) ≡ t → range_of b (cond x (new ∷ r ∷ rs) (r ∷ with_range new rs)) ≡ range_of b (r ∷ rs)
-    go rest true t e = rw n
-    go rest false true e = rw e
-    go rest false false e = rw e rest
 
 -- a change of counters leaves sections
 within_changed : (task : Task) (k b : ℕ) (rs : List Range) (s : Section) → ((r : Range) → range_of b rs ≡ Some r → is_within s r.section ≡ true) → (r : Range) → range_of b (changed_at k (recounted task) rs) ≡ Some r → is_within s r.section ≡ true
@@ -71,27 +57,20 @@ within_without k b rs s h r e = go (b == k) refl
         cc
     go false t = h r (sym (at-without_other block_of k b rs t) ∙ e)
 
-born_number : (l : Limits) (task : Task) (k p : ℕ) (w : Records) → IsJudgedTo l task (Born k p) w → k ≡ w.births + 1
-born_number l (Enter counter item queue) k p w says = says.number
-born_number l (Leave holding) k p w says = absurd says
-born_number l (Exit finalize item queue) k p w says = absurd says
-born_number l (Move if_present item queue) k p w says = absurd says
-
 above_differs : (k b n : ℕ) → k ≡ n + 1 → b ≤ n → (k == b) ≡ false
 above_differs k b n e h = grind (arith, nat_tests)
 
 -- what is held stays within after a step
 pub within_step : (l : Limits) (task : Task) (step : Step) (w : Records) (s : Section) (b : ℕ) → IsJudgedTo l task step w → IsHeldWithin w s b → IsHeldWithin (act_step task step w) s b
 unfolding act_step act_row released records_after_birth records_after_end with_range_changed
-within_step l task Nothing w s b says h = record { born = h.born; within = h.within }
 within_step l task (Counted k) w s b says h = record { born = h.born; within = within_changed task k b w.ranges s h.within }
 within_step l task (Born k p) w s b says h =
     let new : Range = recounted task (bare_range (section_of task) k) in
-    let other : (new.block == b) ≡ false = rw (recounted-block task (bare_range (section_of task) k)) (above_differs k b w.births (born_number l task k p w says) h.born) in
-    record { born = omega (arith, h.born); within = λ r e. h.within r (sym (range-with_other new b w.ranges other) ∙ e) }
+    let other : (new.block == b) ≡ false = rw (recounted-block task (bare_range (section_of task) k)) (above_differs k b w.births (birth_number l task k p w says) h.born) in
+    record { born = omega (arith, h.born); within = λ r e. h.within r (sym (range_of-with_other new b w.ranges other) ∙ e) }
 within_step l task (Dropped k true) w s b says h = record { born = h.born; within = within_without k b w.ranges s h.within }
 within_step l task (Dropped k false) w s b says h = record { born = h.born; within = within_changed task k b w.ranges s h.within }
-within_step l task (Moved k) w s b says h = record { born = h.born; within = h.within }
+within_step l task _ w s b says h = record { born = h.born; within = h.within }
 
 -- the pointer of a task changes nothing of what is held
 pub held_act : (task : Task) (did : Did) (w : Records) (s : Section) (b : ℕ) → IsHeldWithin (act_step task did.step w) s b → IsHeldWithin (act task did w) s b
@@ -125,10 +104,8 @@ counted_self k block e = let same : (k == k) ≡ true = grind (arith, nat_tests)
 -- what a task that leaves makes of the structured counter of a block
 leave_names : (l : Limits) (b : ℕ) (h : Holding) (step : Step) (w : Records) → IsJudgedTo l (Leave h) step w → names b step ≡ is_counted_block b h.block
 leave_names l b h Nothing w says = rw says refl
-leave_names l b h (Counted k) w says = absurd says
-leave_names l b h (Born k p) w says = absurd says
 leave_names l b h (Dropped k ended) w says = rw says.0 refl
-leave_names l b h (Moved k) w says = absurd says
+leave_names l b h _ w says = absurd says
 
 -- the counters still cover what is left to undo
 covers_next : (c : Bool) (m n k : ℕ) → cond c 1 0 + n ≤ m → k ≡ cond c (m - 1) m → n ≤ k
@@ -139,8 +116,6 @@ covers_next false m n k h e = omega (arith, h, e)
 pub leaves_known : (l : Limits) (n : ℕ) (hs : List Holding) (dids : List Did) (w : Records) → IsWithinBounds l → AreRecordsSound l w → AreJudged l n (map Leave hs) dids w → AllByRecursion (IsHoldingWithin w) hs
     → ((b : ℕ) → count_held b hs ≤ structured_of b w.ranges) → AreKnown (map Leave hs) dids w
 leaves_known l n [] [] w bounds sound judged within covers = tt
-leaves_known l n [] (d ∷ ds) w bounds sound judged within covers = tt
-leaves_known l n (h ∷ hs) [] w bounds sound judged within covers = tt
 leaves_known l n (h ∷ hs) (d ∷ ds) w bounds sound judged within covers = (known, leaves_known l (suc n) hs ds v bounds left.sound judged.2 later covered)
   where
     v : Records
@@ -169,3 +144,4 @@ leaves_known l n (h ∷ hs) (d ∷ ds) w bounds sound judged within covers = (kn
         after ∙ ap (λ t. cond t (structured_of b w.ranges - 1) (structured_of b w.ranges)) (leave_names l b h d.step w says) in
         let one : count_held b (h ∷ hs) ≡ cond (is_counted_block b h.block) 1 0 + count_held b hs = held-cons b h hs in
         covers_next (is_counted_block b h.block) (structured_of b w.ranges) (count_held b hs) (structured_of b v.ranges) (omega (arith, covers b, one)) named
+leaves_known l n _ _ w bounds sound judged within covers = tt

@@ -1,28 +1,21 @@
 -- What look-ups before the tasks of a plan say of the records after them.
-use Rattle.std.proofs.Common.{ℕ, ◌≡◌, ◌+◌, ◌<◌, ◌≤◌, refl, sym, ap, ◌∙◌, Bool, true, false, ◌&&◌, List, [], ◌∷◌, ◌++◌, length, suc, Option, Some, None, Ok, arith, ⊎_elim, inl, inr}
+use Rattle.std.proofs.Common.{ℕ, ◌≡◌, ◌+◌, ◌<◌, ◌≤◌, refl, sym, ap, ◌∙◌, Bool, true, false, ◌&&◌, List, [], ◌∷◌, ◌++◌, length, suc, Option, Some, None, arith, ⊎_elim, inl, inr}
 use Rattle.std.specs.Prelude.{◌==◌, not, unwrap_or, option_map, All, IfSome}
 use Rattle.std.specs.List.{list_all, list_any, AllByRecursion}
 use Rattle.std.proofs.lemmas.List.Folds.{list_all-append, list_any-append}
 use Rattle.std.proofs.lemmas.List.Elements.{All-from_recursion}
 use Rattle.std.proofs.lemmas.Bool.Decides.{nat_tests}
 use Rattle.acc_base.specs.declared.addresses.TheConstants.{MEMORY_MAX}
-use Rattle.acc_base.specs.declared.items.Section.{Section}
-use Rattle.acc_base.specs.declared.mappings.Range.{Range}
-use Rattle.acc_base.specs.declared.mappings.Counter.{Counter}
+use Rattle.acc_clauses.specs.Words.{Section, Range, Counter, Counters, Found, Task, Step}
 use Rattle.acc_base.specs.declared.mappings.Counter.TheVariants.{Structured, Dynamic}
-use Rattle.acc_base.specs.declared.mappings.Counters.{Counters}
-use Rattle.acc_base.specs.declared.mappings.Found.{Found}
 use Rattle.acc_base.specs.declared.mappings.Found.TheVariants.{Absent}
-use Rattle.acc_base.specs.declared.tasks.Task.{Task}
-use Rattle.acc_base.specs.declared.tasks.Task.TheVariants.{Enter, Leave, Exit, Move}
-use Rattle.acc_base.specs.declared.events.Step.{Step}
-use Rattle.acc_base.specs.declared.events.Step.TheVariants.{Nothing, Counted, Born, Dropped, Moved}
+use Rattle.acc_base.specs.declared.tasks.Task.TheVariants.{Enter, Exit}
+use Rattle.acc_base.specs.declared.events.Step.TheVariants.{Born, Dropped}
 use Rattle.acc_base.specs.Limits.{Limits, IsWithinBounds, IsFromOne}
 use Rattle.acc_base.specs.Section.{is_empty, is_within, end_of, host_memory, device_memory}
 use Rattle.acc_base.specs.Records.{Records}
 use Rattle.acc_base.specs.Ranges.{where_is, where_is_apart, range_of, counter_in, structured_of, dynamic_of, is_unused, ends_by}
 use Rattle.acc_base.specs.Blocks.{rounded, place_for, fits_at}
-use Rattle.acc_base.specs.Clauses.{in_host}
 use Rattle.acc_base.specs.Tasks.{section_of, recounted}
 use Rattle.acc_base.specs.Steps.{act}
 use Rattle.acc_base.specs.History.{AreJudged}
@@ -31,22 +24,19 @@ use Rattle.acc_base.proofs.Results.{and_true}
 use Rattle.acc_base.proofs.Elements.{found_has, AllByRecursion-append}
 use Rattle.acc_base.proofs.Where.{absent_says}
 use Rattle.acc_base.proofs.Places.{place_for-found}
-use Rattle.acc_base.proofs.Judged.{IsJudgedTo, IsBirth, task_says, in_host_says}
+use Rattle.acc_base.proofs.Judged.{IsJudgedTo, IsBirth, task_says}
 use Rattle.acc_placement.specs.Ranges.{IsTakeBelow}
 use Rattle.acc_dev.specs.Device.{planned_blocks}
 use Rattle.acc_clauses.specs.declared.acted.Acted.{Acted}
 use Rattle.acc_clauses.specs.Overlays.{IsPlanned, AreUnmixed, tasks_in, dids_in, records_after, enters, birth_by, births_of, end_by, ended_of, found_by, found_over, counters_in, counters_at, recount, are_zero, counters_over}
-use Rattle.acc_clauses.proofs.Founds.{apart_none}
 use Rattle.acc_clauses.proofs.Overlaid.{or_false, birth_entry, bears_none, drops_none, sound-after, counters-after, found-entered, found-left, blocks-after, births-after}
+use Rattle.acc_present.proofs.Finding.{apart_from_none}
 
 -- ---- where a section lies
 
 end_none : (l : Limits) (task : Task) (step : Step) (w : Records) → IsJudgedTo l task step w → enters task ≡ true → end_by step ≡ []
-end_none l task Nothing w says none = refl
-end_none l task (Counted k) w says none = refl
-end_none l task (Born k p) w says none = refl
 end_none l task (Dropped k ended) w says none = absurd (drops_none l task k ended w says none)
-end_none l task (Moved k) w says none = refl
+end_none l task _ w says none = refl
 
 ended_none : (l : Limits) (n : ℕ) (xs : List Acted) (w : Records) → AreJudged l n (tasks_in xs) (dids_in xs) w → list_all enters (tasks_in xs) ≡ true → ended_of xs ≡ []
 ended_none l n [] w judged all = refl
@@ -58,11 +48,8 @@ ended_none l n (x ∷ xs) w judged all =
     rw (first, rest) refl
 
 found_stays : (l : Limits) (task : Task) (step : Step) (w : Records) (s : Section) (f : Found) → IsJudgedTo l task step w → enters task ≡ false → found_by s f task step ≡ f
-found_stays l task Nothing w s f says none = refl
-found_stays l task (Counted k) w s f says none = refl
 found_stays l task (Born k p) w s f says none = absurd (bears_none l task k p w says none)
-found_stays l task (Dropped k ended) w s f says none = refl
-found_stays l task (Moved k) w s f says none = refl
+found_stays l task _ w s f says none = refl
 
 found_same : (l : Limits) (n : ℕ) (xs : List Acted) (w : Records) (s : Section) (f : Found) → AreJudged l n (tasks_in xs) (dids_in xs) w → list_any enters (tasks_in xs) ≡ false → found_over s f xs ≡ f
 found_same l n [] w s f judged none = refl
@@ -75,7 +62,7 @@ pub found-planned : (l : Limits) (xs : List Acted) (w : Records) (s : Section) �
     → found_over s (where_is_apart s (ended_of xs) w.ranges) xs ≡ where_is s (records_after xs w).ranges
 found-planned l xs w s p unmixed = ⊎_elim
     (λ all. ap (λ es. found_over s (where_is_apart s es w.ranges) xs) (ended_none l 0 xs w p.judged all)
-    ∙ ap (λ f. found_over s f xs) (apart_none s w.ranges)
+    ∙ ap (λ f. found_over s f xs) (apart_from_none s w.ranges)
     ∙ found-entered l 0 xs w s p.judged all)
     (λ none. found_same l 0 xs w s (where_is_apart s (ended_of xs) w.ranges) p.judged none ∙ found-left l 0 xs w s p.judged none)
     unmixed
@@ -90,10 +77,8 @@ recounted_both (Enter counter item queue) r = go counter
   where
     go : (c : Counter) → is_unused (recounted (Enter c item queue) r) ≡ are_zero (recount (Enter c item queue) (counters_in r))
     go c = elim c as (λ v. is_unused (recounted (Enter v item queue) r) ≡ are_zero (recount (Enter v item queue) (counters_in r))) [ Structured ↦ refl | Dynamic ↦ refl ]
-recounted_both (Leave holding) r = refl
 recounted_both (Exit true item queue) r = refl
-recounted_both (Exit false item queue) r = refl
-recounted_both (Move if_present item queue) r = refl
+recounted_both _ r = refl
 
 -- both counters of a range that is looked for; both are 0 where there is none
 abbrev counters_found : Option Range → Counters
@@ -142,14 +127,6 @@ counters_read l xs acts w b c r p same s d e =
 
 -- ---- births
 
--- an absent section that was checked is from 1 to 67,108,864 bytes long
-pub absent-len : (l : Limits) (n : ℕ) (s : Section) (ranges : List Range) → IsWithinBounds l → in_host l n s ≡ Ok tt → where_is s ranges ≡ Absent → IsFromOne MEMORY_MAX s.len
-absent-len l n s ranges bounds checked absent =
-    let filled : is_empty s ≡ false = (absent_says s ranges absent).1 in
-    let within : is_within s (host_memory l.host) ≡ true = in_host_says l n s checked filled in
-    let most : l.host ≤ MEMORY_MAX = bounds.host.1 in
-    grind (arith, nat_tests)
-
 birth_len : (l : Limits) (s : Section) (ranges : List Range) → IsWithinBounds l → is_within s (host_memory l.host) ≡ true → where_is s ranges ≡ Absent → IsFromOne MEMORY_MAX s.len
 birth_len l s ranges bounds within absent =
     let filled : is_empty s ≡ false = (absent_says s ranges absent).1 in
@@ -163,13 +140,10 @@ place_below l w size p e =
     grind (arith, nat_tests)
 
 take_by : (l : Limits) (task : Task) (step : Step) (w : Records) → IsWithinBounds l → IsJudgedTo l task step w → AllByRecursion (IsTakeBelow (end_of (device_memory l.device))) (birth_by task step)
-take_by l task Nothing w bounds says = tt
-take_by l task (Counted k) w bounds says = tt
 take_by l task (Born k p) w bounds says =
     let birth : IsBirth l (section_of task) k p w = birth_entry l task k p w says in
     ((birth_len l (section_of task) w.ranges bounds birth.within birth.absent, place_below l w (rounded (section_of task).len) p birth.place_is), tt)
-take_by l task (Dropped k ended) w bounds says = tt
-take_by l task (Moved k) w bounds says = tt
+take_by l task _ w bounds says = tt
 
 takes : (l : Limits) (n : ℕ) (xs : List Acted) (w : Records) → IsWithinBounds l → AreJudged l n (tasks_in xs) (dids_in xs) w → AllByRecursion (IsTakeBelow (end_of (device_memory l.device))) (births_of xs)
 takes l n [] w bounds judged = tt

@@ -4,16 +4,11 @@ use Rattle.std.specs.Prelude.{◌==◌, IsSome}
 use Rattle.std.specs.List.{AllByRecursion, AllZip}
 use Rattle.std.proofs.lemmas.Bool.Decides.{nat_tests}
 use Rattle.acc_base.specs.declared.addresses.TheConstants.{MEMORY_MAX}
-use Rattle.acc_base.specs.declared.items.Section.{Section}
-use Rattle.acc_base.specs.declared.mappings.Range.{Range}
-use Rattle.acc_base.specs.declared.mappings.Block.{Block}
-use Rattle.acc_base.specs.declared.loans.Loan.{Loan}
+use Rattle.acc_clauses.specs.Words.{Section, Range, Block, Loan, Task, Step}
 use Rattle.acc_base.specs.Loans.{loan_of, is_lent}
 use Rattle.std.specs.Prelude as tests
 use Rattle.acc_base.specs.declared.mappings.Found.TheVariants.{Inside}
-use Rattle.acc_base.specs.declared.tasks.Task.{Task}
 use Rattle.acc_base.specs.declared.tasks.Task.TheVariants.{Enter, Leave, Exit, Move}
-use Rattle.acc_base.specs.declared.events.Step.{Step}
 use Rattle.acc_base.specs.declared.events.Step.TheVariants.{Nothing, Counted, Born, Dropped, Moved}
 use Rattle.acc_base.specs.Limits.{Limits, IsWithinBounds, IsFromOne}
 use Rattle.acc_base.specs.Section.{end_of, is_within, is_empty, host_memory, device_memory}
@@ -156,17 +151,7 @@ pub can_by : (l : Limits) (s : State) (task : Task) (step : Step) → IsWithinBo
 can_by l s task Nothing bounds h m few known says = tt
 can_by l s (Enter counter item queue) (Counted k) bounds h m few known says = record { there = not_none (range_of k s.records.ranges) says.mapped; below = says.room }
 can_by l s (Enter counter item queue) (Born k p) bounds h m few known says = (tt, can_bear l s (section_of (Enter counter item queue)) k p bounds h m few says)
-can_by l s (Enter counter item queue) (Dropped k ended) bounds h m few known says = absurd says
-can_by l s (Enter counter item queue) (Moved k) bounds h m few known says = absurd says
-can_by l s (Leave holding) (Counted k) bounds h m few known says = absurd says
-can_by l s (Leave holding) (Born k p) bounds h m few known says = absurd says
 can_by l s (Leave holding) (Dropped k ended) bounds h m few known says = record { move = can_move l s holding.item.section k bounds h m (known k says.0); not_entry = λ x. x; ends = sym says.1 }
-can_by l s (Leave holding) (Moved k) bounds h m few known says = absurd says
-can_by l s (Exit finalize item queue) (Counted k) bounds h m few known says = absurd says
-can_by l s (Exit finalize item queue) (Born k p) bounds h m few known says = absurd says
 can_by l s (Exit finalize item queue) (Dropped k ended) bounds h m few known says = record { move = can_range l s (section_of (Exit finalize item queue)) k bounds h m says.range; not_entry = λ x. x; ends = sym says.ended_is }
-can_by l s (Exit finalize item queue) (Moved k) bounds h m few known says = absurd says
-can_by l s (Move if_present item queue) (Counted k) bounds h m few known says = absurd says
-can_by l s (Move if_present item queue) (Born k p) bounds h m few known says = absurd says
-can_by l s (Move if_present item queue) (Dropped k ended) bounds h m few known says = absurd says
 can_by l s (Move if_present item queue) (Moved k) bounds h m few known says = can_range l s item.section k bounds h m says
+can_by l s _ _ bounds h m few known says = absurd says

@@ -4,8 +4,7 @@ use Rattle.std.specs.Prelude.{drop, take}
 use Rattle.std.specs.List.{AllByRecursion}
 use Rattle.std.proofs.lemmas.Bool.Decides.{nat_tests}
 use Rattle.acc_base.specs.Loans.{is_lent, none_lent}
-use Rattle.acc_base.specs.declared.items.Section.{Section}
-use Rattle.acc_base.specs.declared.transfers.Transfer.{Transfer}
+use Rattle.acc_clauses.specs.Words.{Section, Transfer}
 use Rattle.acc_base.specs.Limits.{Limits, IsWithinBounds}
 use Rattle.acc_base.specs.Section.{is_within, host_memory}
 use Rattle.acc_base.specs.Records.{State}

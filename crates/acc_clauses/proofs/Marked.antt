@@ -4,9 +4,7 @@ use Rattle.std.specs.Prelude.{◌==◌, not, map, is_none, IsSome, nat_lt, optio
 use Rattle.std.specs.List.{AllByRecursion, AllZip}
 use Rattle.std.proofs.lemmas.Bool.Decides.{nat_tests}
 use Rattle.std.proofs.lemmas.List.Sums.{sum_by-cons, count_by-le-length}
-use Rattle.acc_base.specs.declared.mappings.Range.{Range}
-use Rattle.acc_base.specs.declared.mappings.Block.{Block}
-use Rattle.acc_base.specs.declared.transfers.Transfer.{Transfer}
+use Rattle.acc_clauses.specs.Words.{Range, Block, Transfer}
 use Rattle.acc_base.specs.Limits.{Limits}
 use Rattle.acc_base.specs.Ranges.{range_of, changed_at, with_range, without_range}
 use Rattle.acc_base.specs.Blocks.{block_at}
@@ -52,8 +50,6 @@ pub record IsMarkAt (ranges : List Range) (queues : List (List Transfer)) (marks
 pub mark_told : (ranges : List Range) (queues : List (List Transfer)) (k : ℕ) (marks : List Mark) (blocks : List Block) → AllZip IsMarkOf marks blocks → IsSome (block_at k blocks) → AllByRecursion (IsMarkRight ranges queues) marks
     → IsMarkAt ranges queues marks k
 mark_told ranges queues k [] [] zip there h = cc
-mark_told ranges queues k [] (b ∷ bs) zip there h = absurd zip
-mark_told ranges queues k (m ∷ ms) [] zip there h = absurd zip
 mark_told ranges queues k (m ∷ ms) (b ∷ bs) zip there h = go (m.block == k) refl (subst (λ n. IsSome (cond (n == k) (Some b) (block_at k bs))) (sym zip.0) there) (mark_told ranges queues k ms bs zip.1)
   where
     go : (t : Bool) → (m.block == k) ≡ t → IsSome (cond t (Some b) (block_at k bs)) → (IsSome (block_at k bs) → AllByRecursion (IsMarkRight ranges queues) ms → IsMarkAt ranges queues ms k) → IsMarkAt ranges queues (m ∷ ms) k
@@ -71,6 +67,7 @@ mark_told ranges queues k (m ∷ ms) (b ∷ bs) zip there h = go (m.block == k) 
           pins = ap (λ o. unwrap_or (option_map (λ (x : Mark). x.pins) o) 0) later ∙ told.pins;
           ended = ap (λ o. unwrap_or (option_map (λ (x : Mark). x.ended) o) false) later ∙ told.ended;
         }
+mark_told ranges queues k _ _ zip there h = absurd zip
 
 -- ---- how many transfers name a block
 
@@ -219,10 +216,9 @@ marks_born new ranges queues marks others unpinned h = AllByRecursion-append (Is
 -- no mark is that of a block that is yet to be born
 pub marks_old : (births : ℕ) (marks : List Mark) (blocks : List Block) → AllZip IsMarkOf marks blocks → AllByRecursion (λ b. b.number ≤ births) blocks → AllByRecursion (λ (m : Mark). m.block ≡ births + 1 → ⊥) marks
 marks_old births [] [] zip born = tt
-marks_old births [] (b ∷ bs) zip born = absurd zip
-marks_old births (m ∷ ms) [] zip born = absurd zip
 marks_old births (m ∷ ms) (b ∷ bs) zip born =
     ((λ e. let low : b.number ≤ births = born.0 in let own : m.block ≡ b.number = zip.0 in absurd (omega (arith, e, low, own))), marks_old births ms bs zip.1 born.1)
+marks_old births _ _ zip born = absurd zip
 
 -- ---- the range of a block is gone
 

@@ -2,9 +2,7 @@
 use Rattle.std.proofs.Common.{ℕ, ◌≡◌, ◌+◌, ◌-◌, ◌<◌, refl, sym, ◌∙◌, ap, subst, Bool, true, false, cond, List, [], ◌∷◌, length, map, Option, Some, None, arith}
 use Rattle.std.specs.Prelude.{◌==◌, find, IsSome, slice_index, unwrap_or, option_map, take, drop, slice_range}
 use Rattle.std.specs.List.{AllByRecursion, AllZip}
-use Rattle.acc_base.specs.declared.items.Section.{Section}
-use Rattle.acc_base.specs.declared.mappings.Block.{Block}
-use Rattle.acc_base.specs.declared.loans.Loan.{Loan}
+use Rattle.acc_clauses.specs.Words.{Section, Block, Loan}
 use Rattle.acc_base.specs.Loans.{is_lent}
 use Rattle.acc_base.specs.Section.{host_base, covers, is_within, host_memory}
 use Rattle.acc_base.specs.Records.{Memory}
@@ -48,21 +46,19 @@ lens_of block blocks b apart there = AllByRecursion-weaker (λ c. block_at c.num
 memories_long : (ls : List Loan) (block len : ℕ) (memories : List Memory) (blocks : List Block) → AllZip (IsMemoryOf ls) memories blocks → is_lent block ls ≡ false → AllByRecursion (λ b. b.number ≡ block → b.len ≡ len) blocks
     → AllByRecursion (λ m. m.block ≡ block → length m.bytes ≡ len) memories
 memories_long ls block len [] [] h free k = tt
-memories_long ls block len [] (b ∷ bs) h free k = absurd h
-memories_long ls block len (m ∷ ms) [] h free k = absurd h
 memories_long ls block len (m ∷ ms) (b ∷ bs) h free k = ((λ is. let own : b.number ≡ block = sym h.0.block ∙ is in h.0.len (rw own free) ∙ k.0 own), memories_long ls block len ms bs h.1 free k.1)
+memories_long ls block len _ _ h free k = absurd h
 
 -- a block that is there and not lent has a memory as long
 pub bytes_of-len : (ls : List Loan) (block : ℕ) (memories : List Memory) (blocks : List Block) (b : Block) → AllZip (IsMemoryOf ls) memories blocks → is_lent block ls ≡ false → block_at block blocks ≡ Some b → length (bytes_of block memories) ≡ b.len
 bytes_of-len ls block [] [] b h free e = cc
-bytes_of-len ls block [] (c ∷ cs) b h free e = absurd h
-bytes_of-len ls block (m ∷ ms) [] b h free e = absurd h
 bytes_of-len ls block (m ∷ ms) (c ∷ cs) b h free e = subst (λ n. length (unwrap_or (option_map (λ x. x.bytes) (cond (n == block) (Some m) (find (λ x. x.block == block) ms))) []) ≡ b.len) (sym h.0.block) (go (bytes_of-len ls block ms cs b h.1 free) (c.number == block) refl e)
   where
     go : (block_at block cs ≡ Some b → length (bytes_of block ms) ≡ b.len) → (t : Bool) → (c.number == block) ≡ t → cond t (Some c) (block_at block cs) ≡ Some b
         → length (unwrap_or (option_map (λ x. x.bytes) (cond t (Some m) (find (λ x. x.block == block) ms))) []) ≡ b.len
     go rest true is k = let same : c ≡ b = cc in h.0.len (subst (λ n. is_lent n ls ≡ false) (sym (equal _ _ is)) free) ∙ ap (λ (x : Block). x.len) same
     go rest false is k = rest k
+bytes_of-len ls block _ _ b h free e = absurd h
 
 -- what is there is something
 pub some_of : {X : Type 0} (o : Option X) → IsSome o → (x : X) × (o ≡ Some x)

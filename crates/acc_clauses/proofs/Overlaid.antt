@@ -4,16 +4,10 @@ use Rattle.std.specs.Prelude.{◌==◌}
 use Rattle.std.specs.List.{list_all, list_any}
 use Rattle.std.proofs.lemmas.List.{append-nil, append_assoc, length-append}
 use Rattle.std.proofs.lemmas.Bool.{false≢true}
-use Rattle.acc_base.specs.declared.items.Section.{Section}
-use Rattle.acc_base.specs.declared.mappings.Range.{Range}
-use Rattle.acc_base.specs.declared.mappings.Counters.{Counters}
-use Rattle.acc_base.specs.declared.mappings.Counter.{Counter}
+use Rattle.acc_clauses.specs.Words.{Section, Range, Counters, Counter, Task, Step, Did}
 use Rattle.acc_base.specs.declared.mappings.Counter.TheVariants.{Structured, Dynamic}
-use Rattle.acc_base.specs.declared.tasks.Task.{Task}
-use Rattle.acc_base.specs.declared.tasks.Task.TheVariants.{Enter, Leave, Exit, Move}
-use Rattle.acc_base.specs.declared.events.Step.{Step}
-use Rattle.acc_base.specs.declared.events.Step.TheVariants.{Nothing, Counted, Born, Dropped, Moved}
-use Rattle.acc_base.specs.declared.events.Did.{Did}
+use Rattle.acc_base.specs.declared.tasks.Task.TheVariants.{Enter, Exit}
+use Rattle.acc_base.specs.declared.events.Step.TheVariants.{Counted, Born, Dropped}
 use Rattle.acc_base.specs.Limits.{Limits, IsWithinBounds}
 use Rattle.acc_base.specs.Section.{is_apart}
 use Rattle.acc_base.specs.Records.{Records}
@@ -32,7 +26,8 @@ use Rattle.acc_dev.specs.Device.{planned_blocks}
 use Rattle.acc_clauses.specs.declared.acted.Acted.{Acted}
 use Rattle.acc_clauses.specs.Overlays.{tasks_in, dids_in, records_after, enters, birth_by, births_of, end_by, ended_of, found_by, found_over, counters_at, recount, counters_by, counters_over}
 use Rattle.acc_base.proofs.SameMapping.{mapping-act}
-use Rattle.acc_clauses.proofs.Founds.{where_is-with, where_is-changed, apart-changed, apart_none, apart_more}
+use Rattle.acc_clauses.proofs.Founds.{where_is-with, where_is-changed, apart-changed, apart_more}
+use Rattle.acc_present.proofs.Finding.{apart_from_none}
 
 pub or_false : (a b : Bool) → (a || b) ≡ false → (a ≡ false) × (b ≡ false)
 or_false true b e = cc
@@ -42,31 +37,22 @@ or_false false b e = (refl, e)
 
 pub birth_entry : (l : Limits) (task : Task) (k p : ℕ) (w : Records) → IsJudgedTo l task (Born k p) w → IsBirth l (section_of task) k p w
 birth_entry l (Enter counter item queue) k p w says = says
-birth_entry l (Leave holding) k p w says = absurd says
-birth_entry l (Exit finalize item queue) k p w says = absurd says
-birth_entry l (Move if_present item queue) k p w says = absurd says
+birth_entry l _ k p w says = absurd says
 
 -- a task that enters not bears no block
 pub bears_none : (l : Limits) (task : Task) (k p : ℕ) (w : Records) → IsJudgedTo l task (Born k p) w → enters task ≡ false → ⊥
 bears_none l (Enter counter item queue) k p w says e = false≢true (sym e)
-bears_none l (Leave holding) k p w says e = says
-bears_none l (Exit finalize item queue) k p w says e = says
-bears_none l (Move if_present item queue) k p w says e = says
+bears_none l _ k p w says e = says
 
 -- a task that enters drops none
 pub drops_none : (l : Limits) (task : Task) (k : ℕ) (ended : Bool) (w : Records) → IsJudgedTo l task (Dropped k ended) w → enters task ≡ true → ⊥
 drops_none l (Enter counter item queue) k ended w says e = says
-drops_none l (Leave holding) k ended w says e = false≢true e
-drops_none l (Exit finalize item queue) k ended w says e = false≢true e
-drops_none l (Move if_present item queue) k ended w says e = false≢true e
+drops_none l _ k ended w says e = false≢true e
 
 moved_both : (task : Task) (c : Counters) → ◌≡◌ {A = Counters} (record { structured = moved_by Structured task c.structured; dynamic = moved_by Dynamic task c.dynamic }) (recount task c)
 moved_both (Enter Structured item queue) c = refl
-moved_both (Enter Dynamic item queue) c = refl
-moved_both (Leave holding) c = refl
 moved_both (Exit true item queue) c = refl
-moved_both (Exit false item queue) c = refl
-moved_both (Move if_present item queue) c = refl
+moved_both _ c = refl
 
 both_by : (b : Bool) (task : Task) (s d s' d' : ℕ) → s' ≡ cond b (moved_by Structured task s) s → d' ≡ cond b (moved_by Dynamic task d) d
     → ◌≡◌ {A = Counters} (record { structured = s'; dynamic = d' }) (cond b (recount task (record { structured = s; dynamic = d })) (record { structured = s; dynamic = d }))
@@ -76,11 +62,10 @@ both_by false task s d s' d' e f = rw (e, f) refl
 -- both counters of a block after a task
 counters-left : (task : Task) (step : Step) (b : ℕ) (ranges left : List Range)
     → ((c : Counter) → counter_of c b left ≡ cond (names b step) (moved_by c task (counter_of c b ranges)) (counter_of c b ranges)) → counters_at b left ≡ counters_by b (counters_at b ranges) task step
-counters-left task Nothing b ranges left each = both_by false task _ _ _ _ (each Structured) (each Dynamic)
 counters-left task (Counted k) b ranges left each = both_by (k == b) task _ _ _ _ (each Structured) (each Dynamic)
 counters-left task (Born k p) b ranges left each = both_by (k == b) task _ _ _ _ (each Structured) (each Dynamic)
 counters-left task (Dropped k ended) b ranges left each = both_by (k == b) task _ _ _ _ (each Structured) (each Dynamic)
-counters-left task (Moved k) b ranges left each = both_by false task _ _ _ _ (each Structured) (each Dynamic)
+counters-left task _ b ranges left each = both_by false task _ _ _ _ (each Structured) (each Dynamic)
 
 new_is : (task : Task) (k : ℕ) (s : Section) → (recounted task (bare_range s k)).section ≡ s
 new_is task k s = (recounted_keeps task).section (bare_range s k)
@@ -89,7 +74,6 @@ new_is task k s = (recounted_keeps task).section (bare_range s k)
 found-step : (l : Limits) (task : Task) (step : Step) (w : Records) (s : Section) → IsJudgedTo l task step w → enters task ≡ true
     → found_by s (where_is s w.ranges) task step ≡ where_is s (act_step task step w).ranges
 unfolding act_step act_row with_range_changed records_after_birth
-found-step l task Nothing w s says none = refl
 found-step l task (Counted k) w s says none = sym (where_is-changed (recounted task) (recounted_keeps task).section (recounted_keeps task).block s k w.ranges)
 found-step l task (Born k p) w s says none =
     let new : Range = recounted task (bare_range (section_of task) k) in
@@ -99,18 +83,17 @@ found-step l task (Born k p) w s says none =
     let there = where_is-with s new w.ranges (subst (λ t. list_all (λ r. is_apart t r.section) w.ranges ≡ true) (sym range_is) off) in
     sym (rw (range_is, block_is) at there)
 found-step l task (Dropped k ended) w s says none = absurd (drops_none l task k ended w says none)
-found-step l task (Moved k) w s says none = refl
+found-step l task _ w s says none = refl
 
 -- where a section lies apart from ended ranges, before the step of one that does not and after it
 apart-step : (l : Limits) (task : Task) (step : Step) (w : Records) (s : Section) (ended : List ℕ) → IsJudgedTo l task step w → enters task ≡ false
     → where_is_apart s (end_by step ++ ended) w.ranges ≡ where_is_apart s ended (act_step task step w).ranges
 unfolding act_step act_row with_range_changed records_after_end released
-apart-step l task Nothing w s ended says none = refl
 apart-step l task (Counted k) w s ended says none = sym (apart-changed (recounted task) (recounted_keeps task).section (recounted_keeps task).block s ended k w.ranges)
 apart-step l task (Born k p) w s ended says none = absurd (bears_none l task k p w says none)
 apart-step l task (Dropped k true) w s ended says none = apart_more s ended k w.ranges
 apart-step l task (Dropped k false) w s ended says none = sym (apart-changed (recounted task) (recounted_keeps task).section (recounted_keeps task).block s ended k w.ranges)
-apart-step l task (Moved k) w s ended says none = refl
+apart-step l task _ w s ended says none = refl
 
 planned_more : (xs ys : List (ℕ × ℕ)) (n : ℕ) → planned_blocks n (xs ++ ys) ≡ planned_blocks n xs ++ planned_blocks (n + length xs) ys
 planned_more [] ys n = let e : n ≡ n + 0 = omega arith in ap (λ m. planned_blocks m ys) e
@@ -125,15 +108,13 @@ record IsBornBy (task : Task) (step : Step) (w v : Records) : Type 0 where
 
 born-step : (l : Limits) (task : Task) (step : Step) (w : Records) → IsJudgedTo l task step w → enters task ≡ true → IsBornBy task step w (act_step task step w)
 unfolding act_step act_row with_range_changed records_after_birth
-born-step l task Nothing w says none = record { blocks = sym (append-nil w.blocks); births = omega arith }
-born-step l task (Counted k) w says none = record { blocks = sym (append-nil w.blocks); births = omega arith }
 born-step l task (Born k p) w says none =
     let number : k ≡ w.births + 1 = (birth_entry l task k p w says).number in
     let range_is : (recounted task (bare_range (section_of task) k)).section ≡ section_of task = (recounted_keeps task).section (bare_range (section_of task) k) in
     let block_is : (recounted task (bare_range (section_of task) k)).block ≡ k = (recounted_keeps task).block (bare_range (section_of task) k) in
     record { blocks = rw (range_is, block_is, number) refl; births = omega arith }
 born-step l task (Dropped k ended) w says none = absurd (drops_none l task k ended w says none)
-born-step l task (Moved k) w says none = record { blocks = sym (append-nil w.blocks); births = omega arith }
+born-step l task _ w says none = record { blocks = sym (append-nil w.blocks); births = omega arith }
 
 -- and the same of the whole task
 found-act : (l : Limits) (task : Task) (did : Did) (w : Records) (s : Section) → IsJudgedTo l task did.step w → enters task ≡ true → found_by s (where_is s w.ranges) task did.step ≡ where_is s (act task did w).ranges
@@ -184,7 +165,7 @@ found-entered l n (x ∷ xs) w s judged all =
 pub found-left : (l : Limits) (n : ℕ) (xs : List Acted) (w : Records) (s : Section) → AreJudged l n (tasks_in xs) (dids_in xs) w → list_any enters (tasks_in xs) ≡ false
     → where_is_apart s (ended_of xs) w.ranges ≡ where_is s (records_after xs w).ranges
 unfolding act_all
-found-left l n [] w s judged none = apart_none s w.ranges
+found-left l n [] w s judged none = apart_from_none s w.ranges
 found-left l n (x ∷ xs) w s judged none =
     let says = task_says l n x.task w x.did.step judged.0 in
     let parts : (enters x.task ≡ false) × (list_any enters (tasks_in xs) ≡ false) = or_false _ _ none in

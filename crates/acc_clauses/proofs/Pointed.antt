@@ -2,14 +2,8 @@
 use Rattle.std.proofs.Common.{ℕ, ◌≡◌, refl, sym, ap, ◌∙◌, Bool, true, false, cond, List, [], ◌∷◌, ◌++◌, length, Option, Some, None, Result, Ok, Err}
 use Rattle.std.specs.Prelude.{◌||◌, ⊤}
 use Rattle.std.proofs.lemmas.Bool.{false≢true}
-use Rattle.acc_base.specs.declared.attachments.Aim.{Aim}
-use Rattle.acc_base.specs.declared.mappings.Counter.{Counter}
-use Rattle.acc_base.specs.declared.items.Item.{Item}
-use Rattle.acc_base.specs.declared.items.RegionClause.{RegionClause}
-use Rattle.acc_base.specs.declared.tasks.Task.{Task}
-use Rattle.acc_base.specs.declared.tasks.Task.TheVariants.{Enter, Leave, Exit, Move}
-use Rattle.acc_base.specs.declared.events.Step.{Step}
-use Rattle.acc_base.specs.declared.faults.Fault.{Fault}
+use Rattle.acc_clauses.specs.Words.{Aim, Counter, Item, RegionClause, Task, Step, Fault}
+use Rattle.acc_base.specs.declared.tasks.Task.TheVariants.{Enter}
 use Rattle.acc_base.specs.Results.{◌>>=◌, ◌>>◌}
 use Rattle.acc_base.specs.Limits.{Limits}
 use Rattle.acc_base.specs.Records.{Records, State}
@@ -64,15 +58,11 @@ both_judged l n xs ys task step aim s e f more = record { did = record { step = 
 half_state : (task : Task) (step : Step) (s : State) → enters task ≡ true → act_state task (did_of step) s ≡ step_state task step s
 unfolding act_state aimed
 half_state (Enter counter item queue) step s entry = refl
-half_state (Leave holding) step s entry = absurd (false≢true entry)
-half_state (Exit finalize item queue) step s entry = absurd (false≢true entry)
-half_state (Move if_present item queue) step s entry = absurd (false≢true entry)
+half_state _ step s entry = absurd (false≢true entry)
 
 half_legal : (l : Limits) (task : Task) (step : Step) (w : Records) → enters task ≡ true → IsAimLegal l task (did_of step) w
 half_legal l (Enter counter item queue) step w entry = tt
-half_legal l (Leave holding) step w entry = absurd (false≢true entry)
-half_legal l (Exit finalize item queue) step w entry = absurd (false≢true entry)
-half_legal l (Move if_present item queue) step w entry = absurd (false≢true entry)
+half_legal l _ step w entry = absurd (false≢true entry)
 
 pub half_planned : (l : Limits) (n : ℕ) (xs ys : List Acted) (task : Task) (step : Step) (w : Records) → enters task ≡ true → n ≡ length xs → IsPlanned l xs w
     → judge_step l n task (records_after xs w) ≡ Ok step → ys ≡ xs ++ record { task = task; did = did_of step } ∷ [] → IsPlanned l ys w
@@ -87,16 +77,12 @@ aimed_checked l n (Enter counter item queue) step w pointer entry e named = go (
     go : (b : Bool) → cond b (pointer_of (Enter counter item queue)) None ≡ Some pointer → pointer_checked l n (Some pointer) ≡ Ok tt
     go true is = let all = pointer_checked_by l n (Enter counter item queue) (then_ok (checked l n (Enter counter item queue)) _ step (step_judged l n (Enter counter item queue) w step e).row).0 in rw is at all
     go false is = cc
-aimed_checked l n (Leave holding) step w pointer entry e named = absurd (false≢true entry)
-aimed_checked l n (Exit finalize item queue) step w pointer entry e named = absurd (false≢true entry)
-aimed_checked l n (Move if_present item queue) step w pointer entry e named = absurd (false≢true entry)
+aimed_checked l n _ step w pointer entry e named = absurd (false≢true entry)
 
 aim_entered : (l : Limits) (n : ℕ) (task : Task) (step : Step) (s : State) → enters task ≡ true → judge_aim l n task step s ≡ attach_if l n (pointer_aimed task step) (step_state task step s)
 unfolding judge_aim
 aim_entered l n (Enter counter item queue) step s entry = refl
-aim_entered l n (Leave holding) step s entry = absurd (false≢true entry)
-aim_entered l n (Exit finalize item queue) step s entry = absurd (false≢true entry)
-aim_entered l n (Move if_present item queue) step s entry = absurd (false≢true entry)
+aim_entered l n _ step s entry = absurd (false≢true entry)
 
 -- its pointer is judged in what its step left
 pub entry_aim : (l : Limits) (n : ℕ) (xs ys : List Acted) (task : Task) (step : Step) (named : Option ℕ) (s : State) → enters task ≡ true → ys ≡ xs ++ record { task = task; did = did_of step } ∷ [] → pointer_aimed task step ≡ named
@@ -111,16 +97,12 @@ entry_aim l n xs ys task step named s entry more is =
 aim_left : (l : Limits) (n : ℕ) (task : Task) (step : Step) (s : State) → enters task ≡ false → judge_aim l n task step s ≡ Ok (aim_before task step s.records)
 unfolding judge_aim
 aim_left l n (Enter counter item queue) step s other = absurd (false≢true (sym other))
-aim_left l n (Leave holding) step s other = refl
-aim_left l n (Exit finalize item queue) step s other = refl
-aim_left l n (Move if_present item queue) step s other = refl
+aim_left l n _ step s other = refl
 
 -- a task that is no entry
 pub enters_not : (task : Task) → ((counter : Counter) (item : Item RegionClause) (queue : Option ℕ) → task ≡ Enter counter item queue → ⊥) → enters task ≡ false
 enters_not (Enter counter item queue) other = absurd (other counter item queue refl)
-enters_not (Leave holding) other = refl
-enters_not (Exit finalize item queue) other = refl
-enters_not (Move if_present item queue) other = refl
+enters_not _ other = refl
 
 -- so both are what it does
 pub left_judged : (l : Limits) (n : ℕ) (xs ys : List Acted) (task : Task) (step : Step) (aim : Aim) (s : State) → enters task ≡ false → judge_step l n task (records_after xs s.records) ≡ Ok step
@@ -134,15 +116,12 @@ left_judged l n xs ys task step aim s other e before more =
 -- the block in which a task detaches a pointer before its step
 detached-before : (task : Task) (step : Step) (w : Records) → block_aimed (aim_before task step w) ≡ block_detached task step w
 detached-before (Enter counter item queue) step w = refl
-detached-before (Leave holding) step w = refl
-detached-before (Exit finalize item queue) step w = refl
-detached-before (Move if_present item queue) step w = refl
+detached-before _ step w = refl
 
 -- three tests in a row
 three_tests : (a b c : Result ⊤ Fault) (step : Step) → (a >> (b >> (c >> Ok step))) ≡ ((a >> (b >> c)) >> Ok step)
 three_tests (Ok x) (Ok y) c step = refl
-three_tests (Ok x) (Err fault) c step = refl
-three_tests (Err fault) b c step = refl
+three_tests _ _ c step = refl
 
 -- a step is refused as it cannot be done
 pub step_after : (l : Limits) (n : ℕ) (task : Task) (step : Step) (before : Aim) (w : Records) (r : Result ⊤ Fault) → Ok step ≡ judge_row l n task w → before ≡ aim_before task step w → r ≡ step_free task step before l.queue_cap w

@@ -4,8 +4,7 @@ use Rattle.std.specs.Prelude.{◌==◌, not, ◌||◌, is_none, is_some, IsSome,
 use Rattle.std.specs.List.{AllZip}
 use Rattle.std.proofs.lemmas.Bool.Decides.{nat_tests}
 use Rattle.std.proofs.lemmas.List.{get_or_past}
-use Rattle.acc_base.specs.declared.transfers.Transfer.{Transfer}
-use Rattle.acc_base.specs.declared.mappings.Range.{Range}
+use Rattle.acc_clauses.specs.Words.{Transfer, Range}
 use Rattle.acc_base.specs.Records.{Records}
 use Rattle.acc_base.specs.Ranges.{range_of}
 use Rattle.acc_base.specs.Blocks.{block_at}
@@ -72,17 +71,6 @@ made t x = record x {
   device = record x.device { memories = memories_made (Some t) x.attached.attached x.host x.device.memories };
 }
 
-pub make_moves : (t : Transfer) (x y : Environment) → AreMarked x → y ≡ made t x → IsMovedBy None t x y
-make_moves t x y marked is = rw is (record {
-  state = λ next. refl;
-  counter_max = refl;
-  memory = refl;
-  pointer_max = refl;
-  queue_cap = refl;
-  room = room_same (λ q. 0) x (made t x) (none_taken x.present.room) refl (omega arith) (λ q. omega arith);
-  marked = marked;
-})
-
 -- ---- the first one of a queue
 
 -- nothing waits
@@ -113,9 +101,8 @@ pub used_pinned : (k : ℕ) (w : Records) → (pins_of k w.queues ≡ 0 → ⊥)
 used_pinned k w some = go (is_some (range_of k w.ranges)) (pins_of k w.queues == 0) refl
   where
     go : (a b : Bool) → (pins_of k w.queues == 0) ≡ b → (a || not b) ≡ true
-    go true b e = refl
     go false true e = absurd (some (equal _ _ e))
-    go false false e = refl
+    go _ _ e = refl
 
 pub used_mapped : (k : ℕ) (w : Records) → is_none (range_of k w.ranges) ≡ false → is_in_use k w ≡ true
 used_mapped k w mapped = go (range_of k w.ranges) mapped (not (pins_of k w.queues == 0))

@@ -3,13 +3,9 @@ use Rattle.std.proofs.Common.{ℕ, ◌≡◌, ◌+◌, ◌<◌, ◌≢◌, refl,
 use Rattle.std.specs.Prelude.{◌==◌, nat_le, is_some}
 use Rattle.std.proofs.lemmas.Bool.Decides.{nat_tests}
 use Rattle.std.proofs.lemmas.List.{length-set, length-append, get_or-set_same, get_or-set_other}
-use Rattle.acc_base.specs.declared.mappings.Range.{Range}
-use Rattle.acc_base.specs.declared.transfers.Transfer.{Transfer}
+use Rattle.acc_clauses.specs.Words.{Range, Transfer, Task, Step, Did}
 use Rattle.acc_base.specs.declared.transfers.TheConstants.{QUEUE_COUNT}
-use Rattle.acc_base.specs.declared.tasks.Task.{Task}
-use Rattle.acc_base.specs.declared.events.Step.{Step}
-use Rattle.acc_base.specs.declared.events.Step.TheVariants.{Nothing, Counted, Born, Dropped, Moved}
-use Rattle.acc_base.specs.declared.events.Did.{Did}
+use Rattle.acc_base.specs.declared.events.Step.TheVariants.{Born, Dropped}
 use Rattle.acc_base.specs.declared.faults.Fault.TheVariants.{QueueFull}
 use Rattle.acc_base.specs.Results.{refuse_if}
 use Rattle.acc_base.specs.Limits.{Limits}
@@ -31,18 +27,14 @@ if_some false x = refl
 
 -- the step has a transfer just as the tables say
 pub moves_some : (task : Task) (step : Step) (ranges : List Range) → moves task step ≡ is_some (transfer_of task step ranges)
-moves_some task Nothing ranges = refl
-moves_some task (Counted k) ranges = refl
 moves_some task (Born k p) ranges = if_some (gets_bytes task) _
 moves_some task (Dropped k true) ranges = if_some (gives_bytes task) _
-moves_some task (Dropped k false) ranges = refl
-moves_some task (Moved k) ranges = refl
+moves_some task _ ranges = refl
 
 -- there stay as many queues
 length-after : (named : Option ℕ) (t : Option Transfer) (queues : List (List Transfer)) → length (queues_after named t queues) ≡ length queues
-length-after None t queues = refl
-length-after (Some p) None queues = refl
 length-after (Some p) (Some t) queues = length-set queues p (queue_at p queues ++ t ∷ [])
+length-after _ _ queues = refl
 
 -- a queue after one more transfer in some queue
 waiting-put : (q p : ℕ) (t : Transfer) (queues : List (List Transfer)) → q < length queues → length (queue_at q (put p t queues)) ≡ length (queue_at q queues) + cond (p == q) 1 0
@@ -77,12 +69,8 @@ waiting-after q (Some p) (Some t) queues there = go (p == q) (waiting-put q p t 
 -- a step puts its transfer into the queue, and nothing else changes the queues
 queues-step : (task : Task) (step : Step) (w : Records) → (act_step task step w).queues ≡ queues_after (queue_of task) (transfer_of task step w.ranges) w.queues
 unfolding act_step act_row with_range_changed records_after_birth records_after_end released
-queues-step task Nothing w = refl
-queues-step task (Counted k) w = refl
-queues-step task (Born k p) w = refl
 queues-step task (Dropped k true) w = refl
-queues-step task (Dropped k false) w = refl
-queues-step task (Moved k) w = refl
+queues-step task _ w = refl
 
 queues-act : (task : Task) (did : Did) (w : Records) → (act task did w).queues ≡ queues_after (queue_of task) (transfer_of task did.step w.ranges) w.queues
 queues-act task did w = (mapping-act task did w).queues ∙ queues-step task did.step w

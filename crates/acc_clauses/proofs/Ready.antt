@@ -4,17 +4,10 @@ use Rattle.std.specs.Prelude.{◌==◌, length}
 use Rattle.std.proofs.lemmas.Bool.Decides.{nat_tests}
 use Rattle.acc_base.specs.Section.{device_memory}
 use Rattle.acc_base.specs.Loans.{is_lent, not_lent}
-use Rattle.acc_base.specs.declared.mappings.Found.{Found}
-use Rattle.acc_base.specs.declared.mappings.Found.TheVariants.{Empty, Inside, Partly, Absent}
-use Rattle.acc_base.specs.declared.mappings.Counter.{Counter}
-use Rattle.acc_base.specs.declared.items.Item.{Item}
-use Rattle.acc_base.specs.declared.items.RegionClause.{RegionClause}
-use Rattle.acc_base.specs.declared.attachments.Aim.{Aim}
+use Rattle.acc_clauses.specs.Words.{Found, Counter, Item, RegionClause, Aim, Did, Task, Step}
+use Rattle.acc_base.specs.declared.mappings.Found.TheVariants.{Inside}
 use Rattle.acc_base.specs.declared.attachments.Aim.TheVariants as aims
-use Rattle.acc_base.specs.declared.events.Did.{Did}
-use Rattle.acc_base.specs.declared.tasks.Task.{Task}
 use Rattle.acc_base.specs.declared.tasks.Task.TheVariants.{Enter, Leave, Exit, Move}
-use Rattle.acc_base.specs.declared.events.Step.{Step}
 use Rattle.acc_base.specs.Limits.{Limits, IsWithinBounds}
 use Rattle.acc_base.specs.Records.{Records, State}
 use Rattle.acc_base.specs.Ranges.{where_is}
@@ -49,19 +42,16 @@ with_pointer : (l : Limits) (s : State) (pointer block : ℕ) → IsWithinBounds
 with_pointer l s pointer block bounds h m e = go (where_is (pointer_at pointer) s.records.ranges) refl e
   where
     go : (f : Found) → where_is (pointer_at pointer) s.records.ranges ≡ f → block_in f ≡ Some block → CanMove (pointer_at pointer) block s
-    go Empty is k = cc
     go (Inside b offset) is k =
         let same : b ≡ block = cc in
         subst (λ n. CanMove (pointer_at pointer) n s) same (can_move l s (pointer_at pointer) b bounds h m (mapped_around l s.records (pointer_at pointer) b offset h is))
-    go Partly is k = cc
-    go Absent is k = cc
+    go _ is k = cc
 
 can_attach : (l : Limits) (s : State) (named : Option ℕ) (aim : Aim) → IsWithinBounds l → AreRecordsSound l s.records → AreMemoriesSized l s → IsAttachLegal l named aim s.records → CanAim l.counter_max aim s
 can_attach l s named aims.None bounds h m legal = tt
 can_attach l s named (aims.New pointer block target) bounds h m legal = record { move = with_pointer l s pointer block bounds h m legal.1; free = legal.2 }
 can_attach l s named (aims.Again pointer block) bounds h m legal = record { some = legal.3; below = legal.4 }
-can_attach l s named (aims.Less pointer block) bounds h m legal = absurd legal
-can_attach l s named (aims.Cleared pointer block) bounds h m legal = absurd legal
+can_attach l s named _ bounds h m legal = absurd legal
 
 can_detach : (l : Limits) (s : State) (immediate : Bool) (pointer block : ℕ) → IsWithinBounds l → AreRecordsSound l s.records → AreMemoriesSized l s → block_with pointer s.records.ranges ≡ Some block
     → not_lent (block_aimed (detach immediate block pointer s.records.attached)) s.records.loans ≡ Ok tt → CanAim l.counter_max (detach immediate block pointer s.records.attached) s
@@ -132,10 +122,8 @@ sized_aim l x s aim sized can = subst (λ n. CanAim n aim s) (sym sized.pointers
 
 -- what is known of a task does not read the attachment counters
 known_aimed : (w : Records) (aim : Aim) (task : Task) → IsKnown w task → IsKnown (records_aimed aim w) task
-known_aimed w aim (Enter counter item queue) known = tt
 known_aimed w aim (Leave holding) known = λ k e. let around : IsMappedAround w holding.item.section k = known k e in record { range = around.range; range_is = around.range_is; within = around.within }
-known_aimed w aim (Exit finalize item queue) known = tt
-known_aimed w aim (Move if_present item queue) known = tt
+known_aimed w aim _ known = tt
 
 -- after a detachment the step can be done
 can_leave : (l : Limits) (x : Environment) (task : Task) (did : Did) → AreSizedBy l x → IsReady l (bare_state x) task did → CanAim l.counter_max did.aim (bare_state x) → AreRecordsSound l (records_aimed did.aim (bare_state x).records) → CanLeave x task did

@@ -1,10 +1,8 @@
 -- What is left to do of a directive's steps, before each of them.
-use Rattle.std.proofs.Common.{ℕ, suc, ◌≡◌, ◌+◌, ◌≤◌, sym, ◌∙◌, ap, true, false, List, [], ◌∷◌, ◌++◌, length, drop, arith, append_assoc, append-nil, length-append}
+use Rattle.std.proofs.Common.{ℕ, suc, ◌≡◌, ◌+◌, ◌≤◌, sym, ◌∙◌, ap, List, [], ◌∷◌, ◌++◌, length, drop, arith, append_assoc, append-nil, length-append}
 use Rattle.std.proofs.lemmas.List.{drop_all}
-use Rattle.acc_base.specs.declared.tasks.Task.{Task}
-use Rattle.acc_base.specs.declared.events.Step.{Step}
-use Rattle.acc_base.specs.declared.events.Step.TheVariants.{Nothing, Counted, Born, Dropped, Moved}
-use Rattle.acc_base.specs.declared.events.Did.{Did}
+use Rattle.acc_clauses.specs.Words.{Task, Step, Did, Holding}
+use Rattle.acc_base.specs.declared.events.Step.TheVariants.{Nothing, Born}
 use Rattle.acc_base.specs.declared.addresses.TheConstants.{MEMORY_MAX}
 use Rattle.acc_base.specs.declared.tasks.Task.TheVariants.{Enter, Leave, Exit, Move}
 use Rattle.acc_base.specs.Limits.{Limits, IsWithinBounds, IsFromOne}
@@ -14,14 +12,14 @@ use Rattle.acc_base.proofs.Elements.{AllByRecursion-append}
 use Rattle.acc_base.proofs.Judged.{IsJudgedTo, task_says}
 use Rattle.acc_base.proofs.Walked.{records-act_state}
 use Rattle.acc_base.proofs.SameMapping.{mapping-act}
+use Rattle.acc_base.proofs.Births.{births_most}
 use Rattle.acc_clauses.proofs.Legal.{birth_len}
 use Rattle.acc_base.specs.Records.{Records, State}
 use Rattle.acc_base.specs.Tasks.{section_of}
-use Rattle.acc_base.specs.Steps.{act_row, act_step, act, released, records_after_birth, records_after_end, with_range_changed}
+use Rattle.acc_base.specs.Steps.{act_step, act}
 use Rattle.acc_base.specs.Acting.{act_state, act_all_state}
 use Rattle.acc_base.specs.History.{AreJudged}
 use Rattle.acc_clauses.specs.declared.acted.Acted.{Acted}
-use Rattle.acc_base.specs.declared.regions.Holding.{Holding}
 use Rattle.acc_clauses.specs.Planned.{holdings_by}
 use Rattle.acc_clauses.specs.Overlays.{tasks_in, dids_in, puts_by, puts_in}
 use Rattle.acc_clauses.specs.Contents.{Contents}
@@ -54,15 +52,6 @@ first_room l task tasks did dids c h = record {
 pub first_puts : (l : Limits) (task : Task) (tasks : List Task) (did : Did) (dids : List Did) (c : Contents) → CanRun l (task ∷ tasks) (did ∷ dids) c → HasPutRoom (λ q. puts_by q task did.step) c.room
 first_puts l task tasks did dids c h = λ q. omega (arith, h.puts q)
 
-births_step : (task : Task) (step : Step) (w : Records) → (act_step task step w).births ≤ w.births + 1
-unfolding act_step act_row released records_after_birth records_after_end with_range_changed
-births_step task Nothing w = omega arith
-births_step task (Counted k) w = omega arith
-births_step task (Born k p) w = omega arith
-births_step task (Dropped k true) w = omega arith
-births_step task (Dropped k false) w = omega arith
-births_step task (Moved k) w = omega arith
-
 -- what comes first in both is the same
 same_rest : (xs ys zs : List ℕ) → xs ++ ys ≡ xs ++ zs → ys ≡ zs
 same_rest [] ys zs e = e
@@ -91,7 +80,7 @@ rest_can l task tasks did dids c e h limits state room =
 pub births_next : (task : Task) (did : Did) (c e : Contents) → e.state ≡ act_state task did c.state → e.state.records.births ≤ c.state.records.births + 1
 births_next task did c e state =
     let births : e.state.records.births ≡ (act_step task did.step c.state.records).births = ap (λ (s : State). s.records.births) state ∙ (ap (λ (w : Records). w.births) (records-act_state task did c.state) ∙ (mapping-act task did c.state.records).births) in
-    rw births (births_step task did.step c.state.records)
+    rw births (births_most task did.step c.state.records)
 
 -- what the tasks come to is what the first comes to, and then the others
 pub rest_state : (task : Task) (tasks : List Task) (did : Did) (dids : List Did) (s t u : State) → t ≡ act_state task did s → act_all_state (task ∷ tasks) (did ∷ dids) s ≡ u → act_all_state tasks dids t ≡ u
@@ -116,20 +105,17 @@ holdings_done acts i holdings all h e = let none : drop i acts ≡ [] = drop_all
 -- a block that a task is judged to bear is not too long
 birth_fits : (l : Limits) (task : Task) (step : Step) (w : Records) → IsWithinBounds l → IsJudgedTo l task step w → AllByRecursion (IsFromOne MEMORY_MAX) (birth_of task step)
 birth_fits l task Nothing w bounds says = tt
-birth_fits l task (Counted k) w bounds says = tt
 birth_fits l (Enter counter item queue) (Born k p) w bounds says = (birth_len l (section_of (Enter counter item queue)) k p w bounds says, tt)
 birth_fits l (Leave holding) (Born k p) w bounds says = absurd says
 birth_fits l (Exit finalize item queue) (Born k p) w bounds says = absurd says
 birth_fits l (Move if_present item queue) (Born k p) w bounds says = absurd says
-birth_fits l task (Dropped k ended) w bounds says = tt
-birth_fits l task (Moved k) w bounds says = tt
+birth_fits l task _ w bounds says = tt
 
 lens_each : (l : Limits) (n : ℕ) (tasks : List Task) (dids : List Did) (w : Records) → IsWithinBounds l → AreJudged l n tasks dids w → AllByRecursion (IsFromOne MEMORY_MAX) (lens_born tasks dids)
 lens_each l n [] [] w bounds judged = tt
-lens_each l n [] (d ∷ ds) w bounds judged = tt
-lens_each l n (t ∷ ts) [] w bounds judged = tt
 lens_each l n (t ∷ ts) (d ∷ ds) w bounds judged =
     AllByRecursion-append (IsFromOne MEMORY_MAX) (birth_of t d.step) (lens_born ts ds) (birth_fits l t d.step w bounds (task_says l n t w d.step judged.0)) (lens_each l (suc n) ts ds (act t d w) bounds judged.2)
+lens_each l n _ _ w bounds judged = tt
 
 -- and so is none of those that tasks are judged to bear
 pub lens_fit : (l : Limits) (n : ℕ) (tasks : List Task) (dids : List Did) (w : Records) → IsWithinBounds l → AreJudged l n tasks dids w → All (IsFromOne MEMORY_MAX) (lens_born tasks dids)

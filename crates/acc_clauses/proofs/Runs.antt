@@ -2,8 +2,7 @@
 use Rattle.std.proofs.Common.{ℕ, suc, ◌≡◌, ◌+◌, ◌-◌, ◌<◌, ◌≤◌, refl, Bool, true, false, cond, List, [], ◌∷◌, map, Some, None, arith, ⊎_elim}
 use Rattle.std.specs.Prelude.{◌==◌, ◌⊎◌, ◌||◌, nat_lt}
 use Rattle.std.proofs.lemmas.Bool.Decides.{nat_tests}
-use Rattle.acc_base.specs.declared.items.Section.{Section}
-use Rattle.acc_base.specs.declared.attachments.Attachment.{Attachment}
+use Rattle.acc_clauses.specs.Words.{Section, Attachment}
 use Rattle.acc_base.specs.Section.{covers, end_of, is_within}
 use Rattle.acc_base.specs.Attachments.{IsBefore, is_skipped, next_pointer}
 use Rattle.acc_base.specs.Records.{Memory}
@@ -59,7 +58,6 @@ below_next s run block attached at stop a low inside first len h = go (nat_lt a 
     most = h.most
 
     go : (x : Bool) → nat_lt a at ≡ x → (y : Bool) → nat_lt a stop ≡ y → (z : Bool) → nat_lt a (stop + 8) ≡ z → moved_below s block attached (stop + 8) a ≡ (moved_below s block attached at a || covers run a)
-    go true e y f z g = grind (arith, nat_tests)
     go false e true f z g =
         let clear : is_skipped block attached a ≡ false = h.clear a (grind (arith, nat_tests)) (grind (arith, nat_tests)) in
         rw clear (grind (arith, nat_tests))
@@ -70,7 +68,7 @@ below_next s run block attached at stop a low inside first len h = go (nat_lt a 
             let skipped : is_skipped block attached a ≡ true = h.skipped a (grind (arith, nat_tests)) (grind (arith, nat_tests)) (grind (arith, nat_tests)) (grind (arith, nat_tests)) in
             rw skipped (grind (arith, nat_tests))
         within false k = grind (arith, nat_tests)
-    go false e false f false g = grind (arith, nat_tests)
+    go _ e _ f _ g = grind (arith, nat_tests)
 
 -- ---- bytes written one run after the other
 
@@ -90,9 +88,8 @@ written-twice p q r source a (x ∷ xs) h = rw (h a, written-twice p q r source 
   where
     go : (b c : Bool) → cond c (source a) (cond b (source a) x) ∷ written_bytes r source (suc a) xs ≡ cond (b || c) (source a) x ∷ written_bytes r source (suc a) xs
     go true true = refl
-    go true false = refl
     go false true = refl
-    go false false = refl
+    go _ _ = refl
 
 -- ---- memories changed one run after the other
 

@@ -2,12 +2,9 @@
 use Rattle.std.proofs.Common.{ℕ, ◌≡◌, ◌<◌, refl, ◌∙◌, ap, Bool, true, false, cond, List, [], ◌∷◌, Option, Some, None, arith, subst}
 use Rattle.std.specs.Prelude.{◌==◌, ◌&&◌, nat_le, filter, is_none, unwrap_or, option_map, IfSome, IsSome}
 use Rattle.std.specs.List.{AllByRecursion, AllZip}
-use Rattle.acc_base.specs.declared.loans.Loan.{Loan}
+use Rattle.acc_clauses.specs.Words.{Loan, Range, Block, Transfer}
 use Rattle.acc_base.specs.Loans.{loan_of}
 use Rattle.acc_dev.specs.Device.{DeviceState, HasBlock, IsLoanOn}
-use Rattle.acc_base.specs.declared.mappings.Range.{Range}
-use Rattle.acc_base.specs.declared.mappings.Block.{Block}
-use Rattle.acc_base.specs.declared.transfers.Transfer.{Transfer}
 use Rattle.acc_base.specs.Limits.{Limits}
 use Rattle.acc_base.specs.Ranges.{range_of}
 use Rattle.acc_base.specs.Blocks.{block_at, lower, lowest}

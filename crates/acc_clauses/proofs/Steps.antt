@@ -2,15 +2,8 @@
 use Rattle.std.proofs.Common.{ℕ, ◌≡◌, ◌<◌, refl, sym, ◌∙◌, ap, subst, Bool, true, false, cond, List, [], ◌∷◌, Option, Some, None, arith}
 use Rattle.std.specs.Prelude.{◌==◌, not, nat_lt, unwrap_or, option_map, IsSome}
 use Rattle.std.specs.List.{AllByRecursion}
-use Rattle.acc_base.specs.declared.items.Section.{Section}
-use Rattle.acc_base.specs.declared.items.Item.{Item}
-use Rattle.acc_base.specs.declared.items.UpdateClause.{UpdateClause}
-use Rattle.acc_base.specs.declared.mappings.Counter.{Counter}
-use Rattle.acc_base.specs.declared.mappings.Counter.TheVariants.{Structured, Dynamic}
-use Rattle.acc_base.specs.declared.mappings.Range.{Range}
-use Rattle.acc_base.specs.declared.tasks.Task.{Task}
+use Rattle.acc_clauses.specs.Words.{Section, Item, UpdateClause, Counter, Range, Task, Transfer}
 use Rattle.acc_base.specs.declared.tasks.Task.TheVariants.{Move}
-use Rattle.acc_base.specs.declared.transfers.Transfer.{Transfer}
 use Rattle.acc_base.specs.declared.events.Step.TheVariants.{Nothing, Counted, Dropped}
 use Rattle.acc_base.specs.Records.{State}
 use Rattle.acc_base.specs.Ranges.{range_of, changed_at, with_range, without_range, bare_range, counter_in, counter_of, is_unused, ends_by}
@@ -18,11 +11,12 @@ use Rattle.acc_base.specs.Tasks.{queue_of, recounted}
 use Rattle.acc_base.specs.Transfers.{at_once, queues_after}
 use Rattle.acc_base.specs.Steps.{act_row, act_step, with_range_changed}
 use Rattle.acc_base.specs.Bytes.{step_state}
-use Rattle.acc_base.proofs.Results.{equal, equal_self, and_true}
+use Rattle.acc_base.proofs.Results.{equal, equal_self}
 use Rattle.acc_base.proofs.Lookups.{at-none, at-changed}
 use Rattle.acc_base.proofs.Counting.{with_same, with_new}
 use Rattle.acc_base.proofs.Sound.{counter_is}
 use Rattle.acc_base.proofs.Memories.{recounted-block}
+use Rattle.acc_base.proofs.Recounted.{unused_zero, zero_in}
 use Rattle.acc_present.specs.Present.{PresentTable, PresentState, with_ranges}
 use Rattle.acc_present.specs.Present as present
 use Rattle.acc_clauses.specs.declared.numbers.Numbers.{Numbers}
@@ -159,10 +153,6 @@ new_absent k ranges h = at-none (λ (r : Range). r.block) k ranges h
 pub new_there : (section : Section) (k : ℕ) (t u : PresentTable) → u ≡ with_ranges t (with_range (bare_range section k) t.ranges) → IsSome (range_of k u.ranges)
 new_there section k t u e = subst (λ (x : PresentTable). IsSome (range_of k x.ranges)) (sym e) (with_new (bare_range section k) t.ranges)
 
-zero_in : (counter : Counter) (s : Section) (k : ℕ) → counter_in counter (bare_range s k) ≡ 0
-zero_in Structured s k = refl
-zero_in Dynamic s k = refl
-
 pub new_below : (counter : Counter) (section : Section) (k : ℕ) (t u : PresentTable) → AllByRecursion (λ r. r.block ≡ k → ⊥) t.ranges → 0 < t.counter_max → u ≡ with_ranges t (with_range (bare_range section k) t.ranges)
     → counter_of counter k u.ranges < u.counter_max
 new_below counter section k t u h some e =
@@ -187,10 +177,6 @@ found_changed task k ranges r e =
 -- the range of a block that is counted is there still
 pub changed_there : (task : Task) (k : ℕ) (t u : PresentTable) (r : Range) → u ≡ with_ranges t (changed_at k (recounted task) t.ranges) → range_of k t.ranges ≡ Some r → IsSome (range_of k u.ranges)
 changed_there task k t u r e is = subst (λ (x : PresentTable). IsSome (range_of k x.ranges)) (sym e) (is_some (range_of k (changed_at k (recounted task) t.ranges)) (recounted task r) (found_changed task k t.ranges r is))
-
-unused_zero : (counter : Counter) (r : Range) → is_unused r ≡ true → counter_in counter r ≡ 0
-unused_zero Structured r e = equal _ _ (and_true (r.structured == 0) (r.dynamic == 0) e).0
-unused_zero Dynamic r e = equal _ _ (and_true (r.structured == 0) (r.dynamic == 0) e).1
 
 -- both counters are zero after a change that leaves the range unused
 pub changed_zero : (counter : Counter) (task : Task) (k : ℕ) (t u : PresentTable) (r : Range) → u ≡ with_ranges t (changed_at k (recounted task) t.ranges) → range_of k t.ranges ≡ Some r → ends_by (recounted task) k t.ranges ≡ true

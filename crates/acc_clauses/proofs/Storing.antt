@@ -1,33 +1,13 @@
--- A store is sound at first, and after a write of the host.
-use Rattle.std.proofs.Common.{ℕ, ◌≡◌, refl, sym, ◌∙◌, subst, List, length, arith}
-use Rattle.acc_base.specs.Limits.{Limits}
-use Rattle.acc_base.specs.Records.{State, new_state}
+-- A store is sound after a write of the host.
+use Rattle.std.proofs.Common.{ℕ, ◌≡◌, sym, ◌∙◌, subst, List, length}
+use Rattle.acc_base.specs.Records.{State}
 use Rattle.acc_base.specs.Bytes.{host_after_write}
 use Rattle.acc_base.specs.Accounts.{IsSound}
-use Rattle.acc_base.proofs.Sound.{new_sound}
-use Rattle.acc_base.proofs.Memories.{new_sized, length-host_after_write}
-use Rattle.acc_clauses.specs.Contents.{Contents, AreNew}
+use Rattle.acc_base.proofs.Memories.{length-host_after_write}
+use Rattle.acc_clauses.specs.Contents.{Contents}
 use Rattle.acc_clauses.specs.Stored.{IsStoreSound, AreHoldingsWithin}
 
-new_state_sound : (l : Limits) → IsSound l (new_state l.host)
-new_state_sound l = record {
-  layout = record {
-    records = new_sound l;
-    register = record { first = omega arith; rising = tt; known = tt; few = tt };
-    held = λ block. refl;
-  };
-  bytes_accounted = omega arith;
-  memories_sized = new_sized l;
-}
-
--- a new store is sound
-pub new_store_sound : (l : Limits) (c : Contents) → AreNew l c → IsStoreSound c
-new_store_sound l c h = record {
-  sound = rw (h.limits, h.state) (new_state_sound l);
-  holdings = let P : State → Type 0 = λ s. AreHoldingsWithin s.records s.register.regions in subst P (sym h.state) tt;
-}
-
--- and one whose host memory alone changed, and is as long
+-- one whose host memory alone changed, and is as long
 pub host_sound : (c e : Contents) (host : List ℕ) → IsStoreSound c → e.limits ≡ c.limits → e.state ≡ record c.state { host = host } → length host ≡ length c.state.host → IsStoreSound e
 host_sound c e host h limits state len =
     let there : IsSound c.limits (record c.state { host = host }) = record {

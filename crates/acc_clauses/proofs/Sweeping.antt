@@ -1,8 +1,7 @@
 -- A copy in runs, on the parts of a data environment: what holds before each run, and what one more run leaves.
 use Rattle.std.proofs.Common.{ℕ, ◌≡◌, ◌+◌, ◌-◌, ◌<◌, ◌≤◌, refl, sym, ◌∙◌, ap, Bool, true, false, cond, List, [], ◌∷◌, length, map, Some}
 use Rattle.std.specs.Prelude.{◌==◌, find, unwrap_or, option_map, slice_index}
-use Rattle.acc_base.specs.declared.items.Section.{Section}
-use Rattle.acc_base.specs.declared.attachments.Attachment.{Attachment}
+use Rattle.acc_clauses.specs.Words.{Section, Attachment}
 use Rattle.acc_base.specs.Section.{covers, end_of, is_within, host_memory, host_base}
 use Rattle.acc_base.specs.Records.{Memory}
 use Rattle.acc_base.specs.Bytes.{bytes_of, host_byte, memory_changed, is_moved, bytes_moved_in, bytes_moved_out}

@@ -1,9 +1,7 @@
 -- One turn of the loop over the tasks of a directive.
 use Rattle.std.proofs.Common.{ℕ, ◌≡◌, ◌+◌, ◌<◌, ◌≤◌, refl, sym, ap, ◌∙◌, List, [], ◌∷◌, ◌++◌, length, suc, Result, Ok, Err, arith, drop, get_or, add-one}
 use Rattle.std.proofs.lemmas.List.{append-nil, append_assoc, drop_more, drop_all, length-append}
-use Rattle.acc_base.specs.declared.tasks.Task.{Task}
-use Rattle.acc_base.specs.declared.events.Did.{Did}
-use Rattle.acc_base.specs.declared.faults.Fault.{Fault}
+use Rattle.acc_clauses.specs.Words.{Task, Did, Fault}
 use Rattle.acc_base.specs.Results.{◌>>=◌}
 use Rattle.acc_base.specs.Limits.{Limits}
 use Rattle.acc_base.specs.Records.{Records, State}

@@ -2,20 +2,11 @@
 use Rattle.std.specs.Prelude.{ℕ, ◌≡◌, ◌+◌, ◌<◌, ◌≤◌, ◌⊎◌, ◌^◌, Bool, true, false, ◌&&◌, List, [], ◌∷◌, ◌++◌, length, replicate, if◌then◌else◌, Option, Some, None, is_some, is_none, IsSome, Ok, ⊤}
 use Rattle.std.specs.List.{AllByRecursion}
 use Rattle.acc_base.specs.declared.addresses.TheConstants.{MEMORY_MAX}
-use Rattle.acc_base.specs.declared.directives.Directive.{Directive}
+use Rattle.acc_clauses.specs.Words.{Directive, Section, Item, RegionClause, Range, Holding, Task, Step, Did, Aim, Transfer}
 use Rattle.acc_base.specs.declared.directives.Directive.TheVariants as directives
-use Rattle.acc_base.specs.declared.items.Section.{Section}
-use Rattle.acc_base.specs.declared.items.Item.{Item}
-use Rattle.acc_base.specs.declared.items.RegionClause.{RegionClause}
-use Rattle.acc_base.specs.declared.mappings.Range.{Range}
 use Rattle.acc_base.specs.declared.mappings.Found.TheVariants.{Absent}
-use Rattle.acc_base.specs.declared.regions.Holding.{Holding}
-use Rattle.acc_base.specs.declared.tasks.Task.{Task}
 use Rattle.acc_base.specs.declared.tasks.Task.TheVariants.{Enter, Leave, Exit, Move}
-use Rattle.acc_base.specs.declared.events.Step.{Step}
 use Rattle.acc_base.specs.declared.events.Step.TheVariants.{Nothing, Counted, Born, Dropped, Moved}
-use Rattle.acc_base.specs.declared.events.Did.{Did}
-use Rattle.acc_base.specs.declared.attachments.Aim.{Aim}
 use Rattle.acc_base.specs.declared.attachments.Aim.TheVariants as aims
 use Rattle.acc_base.specs.Limits.{Limits, IsFromOne}
 use Rattle.acc_base.specs.Section.{end_of, is_within, host_memory}
@@ -24,7 +15,6 @@ use Rattle.acc_base.specs.Blocks.{rounded, place_for, block_at}
 use Rattle.acc_base.specs.Attachments.{pointer_at, count_at}
 use Rattle.acc_base.specs.Loans.{is_lent, not_lent, none_lent}
 use Rattle.acc_base.specs.Records.{Records, State}
-use Rattle.acc_base.specs.declared.transfers.Transfer.{Transfer}
 use Rattle.acc_base.specs.Queues.{queue_at, head_of, pins_of}
 use Rattle.acc_base.specs.Judge.{transfers_in}
 use Rattle.acc_base.specs.Tasks.{section_of, queue_of, recounted}
@@ -63,10 +53,8 @@ pub record IsMappedAround (w : Records) (section : Section) (block : ℕ) : Type
 
 -- a task that undoes a holding finds the block that was counted
 abbrev pub IsKnown : Records → Task → Type 0
-IsKnown w (Enter counter item queue) = ⊤
 IsKnown w (Leave holding) = (block : ℕ) → holding.block ≡ Some block → IsMappedAround w holding.item.section block
-IsKnown w (Exit finalize item queue) = ⊤
-IsKnown w (Move if_present item queue) = ⊤
+IsKnown w _ = ⊤
 
 -- each task that undoes a holding finds the block that was counted, in what the tasks before it leave
 abbrev pub AreKnown : List Task → List Did → Records → Type 0
@@ -78,16 +66,12 @@ AreKnown _ _ w = ⊤
 -- the counter that the task raises is below its limit
 abbrev pub IsBelowLimit : ℕ → Task → ℕ → List Range → Type 0
 IsBelowLimit counter_max (Enter counter item queue) block ranges = counter_of counter block ranges < counter_max
-IsBelowLimit counter_max (Leave holding) block ranges = ⊤
-IsBelowLimit counter_max (Exit finalize item queue) block ranges = ⊤
-IsBelowLimit counter_max (Move if_present item queue) block ranges = ⊤
+IsBelowLimit counter_max _ block ranges = ⊤
 
 -- entry is the one task that bears a block
 abbrev pub IsEnter : Task → Type 0
 IsEnter (Enter counter item queue) = ⊤
-IsEnter (Leave holding) = ⊥
-IsEnter (Exit finalize item queue) = ⊥
-IsEnter (Move if_present item queue) = ⊥
+IsEnter _ = ⊥
 
 -- the range of the block can be counted by the task
 pub record CanCount (counter_max : ℕ) (task : Task) (block : ℕ) (ranges : List Range) : Type 0 where
@@ -215,11 +199,8 @@ CanDo x (Move if_present item queue) did = CanLeave x (Move if_present item queu
 
 -- the length of the block that a step bears, if it bears one
 abbrev pub birth_of : Task → Step → List ℕ
-birth_of task Nothing = []
-birth_of task (Counted block) = []
 birth_of task (Born block place) = (section_of task).len ∷ []
-birth_of task (Dropped block ended) = []
-birth_of task (Moved block) = []
+birth_of task _ = []
 
 -- the lengths of the blocks that tasks bear, one after the other
 abbrev pub lens_born : List Task → List Did → List ℕ
@@ -228,11 +209,8 @@ lens_born _ _ = []
 
 -- how many attachment counters more an attachment takes
 abbrev pub pointers_of : Aim → ℕ
-pointers_of aims.None = 0
 pointers_of (aims.New pointer block target) = 1
-pointers_of (aims.Again pointer block) = 0
-pointers_of (aims.Less pointer block) = 0
-pointers_of (aims.Cleared pointer block) = 0
+pointers_of _ = 0
 
 -- and how many all of these do
 abbrev pub pointers_in : List Did → ℕ

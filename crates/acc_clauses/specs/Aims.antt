@@ -1,13 +1,10 @@
 -- What a plan knows of pointers after its tasks: what each look-up answers then, from what it answers before them.
 use Rattle.std.specs.Prelude.{ℕ, if◌then◌else◌, ◌==◌, ◌&&◌, List, fold, Result, ⊤}
-use Rattle.acc_base.specs.declared.tasks.Task.{Task}
-use Rattle.acc_base.specs.declared.tasks.Task.TheVariants.{Enter, Leave, Exit, Move}
-use Rattle.acc_base.specs.declared.attachments.Aim.{Aim}
+use Rattle.acc_clauses.specs.Words.{Task, Aim, Step, Fault}
+use Rattle.acc_base.specs.declared.tasks.Task.TheVariants.{Leave, Exit}
 use Rattle.acc_base.specs.declared.attachments.Aim.TheVariants as aims
-use Rattle.acc_base.specs.declared.events.Step.{Step}
-use Rattle.acc_base.specs.declared.events.Step.TheVariants.{Nothing, Counted, Born, Dropped, Moved}
+use Rattle.acc_base.specs.declared.events.Step.TheVariants.{Born}
 use Rattle.acc_base.specs.Attachments.{count_after}
-use Rattle.acc_base.specs.declared.faults.Fault.{Fault}
 use Rattle.acc_base.specs.Results.{◌>>◌}
 use Rattle.acc_base.specs.Records.{Records}
 use Rattle.acc_base.specs.Loans.{not_lent}
@@ -27,11 +24,8 @@ count_over block pointer count xs = fold (λ n x. count_after block pointer x.di
 
 -- the device address of a block after a step that ends no mapping
 abbrev pub place_by : ℕ → ℕ → Step → ℕ
-place_by block place Nothing = place
-place_by block place (Counted b) = place
 place_by block place (Born b p) = if b == block then p else place
-place_by block place (Dropped b ended) = place
-place_by block place (Moved b) = place
+place_by block place _ = place
 
 -- and after entries
 abbrev pub place_over : ℕ → ℕ → List Acted → ℕ
@@ -41,11 +35,8 @@ place_over block place xs = fold (λ p x. place_by block p x.did.step) place xs
 
 -- the address that it holds after an attachment
 abbrev pub value_by : ℕ → ℕ → ℕ → Aim → ℕ
-value_by block pointer value aims.None = value
 value_by block pointer value (aims.New p b target) = if b == block && p == pointer then target else value
-value_by block pointer value (aims.Again p b) = value
-value_by block pointer value (aims.Less p b) = value
-value_by block pointer value (aims.Cleared p b) = value
+value_by block pointer value _ = value
 
 -- and after entries
 abbrev pub value_over : ℕ → ℕ → ℕ → List Acted → ℕ
@@ -55,10 +46,9 @@ value_over block pointer value xs = fold (λ v x. value_by block pointer v x.did
 
 -- what becomes of the pointer of a task before its step: what leaves detaches it
 abbrev pub aim_before : Task → Step → Records → Aim
-aim_before (Enter counter item queue) step w = aims.None
 aim_before (Leave holding) step w = judge_release holding.aim w
 aim_before (Exit finalize item queue) step w = detach_if finalize (pointer_aimed (Exit finalize item queue) step) w
-aim_before (Move if_present item queue) step w = aims.None
+aim_before _ step w = aims.None
 
 -- neither the block in which a task detaches a pointer before its step, nor the one that the step needs is lent, and its queue has room
 abbrev pub step_free : Task → Step → Aim → ℕ → Records → Result ⊤ Fault

@@ -1,8 +1,7 @@
 -- What contracts see of a store and of its parts: the limits, the state, and the room for more.
 use Rattle.std.specs.Prelude.{ℕ, ◌≡◌, ◌<◌, List, is_none, length}
 use Rattle.std.specs.List.{AllByRecursion}
-use Rattle.acc_base.specs.declared.mappings.Range.{Range}
-use Rattle.acc_base.specs.declared.transfers.Transfer.{Transfer}
+use Rattle.acc_clauses.specs.Words.{Range, Transfer}
 use Rattle.acc_base.specs.Limits.{Limits}
 use Rattle.acc_base.specs.Section.{device_memory}
 use Rattle.acc_base.specs.Records.{State, new_state}

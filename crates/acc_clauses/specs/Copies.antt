@@ -1,7 +1,6 @@
 -- A copy that leaves out the bytes of attached pointers goes in runs, each up to the next such pointer.
 use Rattle.std.specs.Prelude.{ℕ, ◌+◌, ◌≡◌, ◌<◌, ◌≤◌, Bool, true, false, ◌&&◌, nat_lt, List}
-use Rattle.acc_base.specs.declared.items.Section.{Section}
-use Rattle.acc_base.specs.declared.attachments.Attachment.{Attachment}
+use Rattle.acc_clauses.specs.Words.{Section, Attachment}
 use Rattle.acc_base.specs.Attachments.{is_skipped}
 use Rattle.acc_base.specs.Bytes.{is_moved}
 

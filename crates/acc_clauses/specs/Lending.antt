@@ -1,7 +1,6 @@
 -- Lending a block, and taking it back: what is planned, and what it leaves of a state.
 use Rattle.std.specs.Prelude.{ℕ, ◌≡◌, [], map, Ok}
-use Rattle.acc_base.specs.declared.items.Section.{Section}
-use Rattle.acc_base.specs.declared.loans.Loan.{Loan}
+use Rattle.acc_clauses.specs.Words.{Section, Loan}
 use Rattle.acc_base.specs.declared.events.Event.TheVariants.{Lent}
 use Rattle.acc_base.specs.Limits.{Limits}
 use Rattle.acc_base.specs.Register.{numbered}

@@ -1,3 +1,4 @@
+pub mod Words
 pub mod Contents
 pub mod Overlays
 pub mod Planned

@@ -1,18 +1,11 @@
 -- What a plan knows of the records after its tasks: what each look-up answers then, from what it answers before them.
 use Rattle.std.specs.Prelude.{ℕ, ◌+◌, ◌-◌, ◌≡◌, ◌⊎◌, Bool, true, false, if◌then◌else◌, ◌==◌, ◌&&◌, ◌≤◌, length, List, [], ◌∷◌, ◌++◌, map, fold, Option, Some, None, Ok}
 use Rattle.std.specs.List.{AllByRecursion, list_all, list_any}
-use Rattle.acc_base.specs.declared.items.Section.{Section}
-use Rattle.acc_base.specs.declared.mappings.Range.{Range}
-use Rattle.acc_base.specs.declared.mappings.Counters.{Counters}
+use Rattle.acc_clauses.specs.Words.{Section, Range, Counters, Found, Task, Step, Did, Aim}
 use Rattle.acc_base.specs.declared.mappings.Counter.TheVariants.{Structured, Dynamic}
-use Rattle.acc_base.specs.declared.mappings.Found.{Found}
-use Rattle.acc_base.specs.declared.mappings.Found.TheVariants.{Empty, Inside, Partly, Absent}
-use Rattle.acc_base.specs.declared.tasks.Task.{Task}
-use Rattle.acc_base.specs.declared.tasks.Task.TheVariants.{Enter, Leave, Exit, Move}
-use Rattle.acc_base.specs.declared.events.Step.{Step}
-use Rattle.acc_base.specs.declared.events.Step.TheVariants.{Nothing, Counted, Born, Dropped, Moved}
-use Rattle.acc_base.specs.declared.events.Did.{Did}
-use Rattle.acc_base.specs.declared.attachments.Aim.{Aim}
+use Rattle.acc_base.specs.declared.mappings.Found.TheVariants.{Inside, Partly, Absent}
+use Rattle.acc_base.specs.declared.tasks.Task.TheVariants.{Enter}
+use Rattle.acc_base.specs.declared.events.Step.TheVariants.{Counted, Born, Dropped, Moved}
 use Rattle.acc_base.specs.Limits.{Limits, IsWithinBounds}
 use Rattle.acc_base.specs.Section.{is_within, is_apart}
 use Rattle.acc_base.specs.Records.{Records, State}
@@ -61,9 +54,7 @@ with_aim aim x = record { task = x.task; did = record { step = x.did.step; aim =
 -- the task is an entry: it may map a section to a new block, and ends no mapping
 abbrev pub enters : Task → Bool
 enters (Enter counter item queue) = true
-enters (Leave holding) = false
-enters (Exit finalize item queue) = false
-enters (Move if_present item queue) = false
+enters _ = false
 
 -- all tasks enter, or none does
 abbrev pub AreUnmixed : List Task → Type 0
@@ -73,11 +64,8 @@ AreUnmixed tasks = (list_all enters tasks ≡ true) ⊎ (list_any enters tasks �
 
 -- the place and the length of the block that the task bears, if it does
 abbrev pub birth_by : Task → Step → List (ℕ × ℕ)
-birth_by task Nothing = []
-birth_by task (Counted block) = []
 birth_by task (Born block place) = (place, (section_of task).len) ∷ []
-birth_by task (Dropped block ended) = []
-birth_by task (Moved block) = []
+birth_by task _ = []
 
 -- the places and lengths of the blocks that these tasks bear
 abbrev pub births_of : List Acted → List (ℕ × ℕ)
@@ -86,12 +74,8 @@ births_of (x ∷ xs) = birth_by x.task x.did.step ++ births_of xs
 
 -- the block whose mapping ends by the step, if one does
 abbrev pub end_by : Step → List ℕ
-end_by Nothing = []
-end_by (Counted block) = []
-end_by (Born block place) = []
 end_by (Dropped block true) = block ∷ []
-end_by (Dropped block false) = []
-end_by (Moved block) = []
+end_by _ = []
 
 -- the blocks whose mappings end by these tasks
 abbrev pub ended_of : List Acted → List ℕ
@@ -108,18 +92,13 @@ pub record IsDraft (xs : List Acted) (births : List (ℕ × ℕ)) (ended : List 
 
 -- where a section lies once a range that it may touch is mapped to a new block
 abbrev pub found_beside : Section → Section → ℕ → Found → Found
-found_beside s range block Empty = Empty
-found_beside s range block (Inside other offset) = Inside other offset
 found_beside s range block Absent = if is_within s range then Inside block (s.start - range.start) else (if is_apart s range then Absent else Partly)
-found_beside s range block Partly = Partly
+found_beside s range block found = found
 
 -- where it lies after a task
 abbrev pub found_by : Section → Found → Task → Step → Found
-found_by s found task Nothing = found
-found_by s found task (Counted block) = found
 found_by s found task (Born block place) = found_beside s (section_of task) block found
-found_by s found task (Dropped block ended) = found
-found_by s found task (Moved block) = found
+found_by s found task _ = found
 
 -- where it lies after tasks of which none ends a mapping
 abbrev pub found_over : Section → Found → List Acted → Found
@@ -149,11 +128,10 @@ are_zero c = (c.structured == 0) && (c.dynamic == 0)
 
 -- the counters of a block's range after a task
 abbrev pub counters_by : ℕ → Counters → Task → Step → Counters
-counters_by block c task Nothing = c
 counters_by block c task (Counted b) = if b == block then recount task c else c
 counters_by block c task (Born b place) = if b == block then recount task c else c
 counters_by block c task (Dropped b ended) = if b == block then recount task c else c
-counters_by block c task (Moved b) = c
+counters_by block c task _ = c
 
 -- the counters of a block's range after tasks
 abbrev pub counters_over : ℕ → Counters → List Acted → Counters
@@ -163,12 +141,10 @@ counters_over block c xs = fold (λ d x. counters_by block d x.task x.did.step) 
 
 -- the step has a transfer
 abbrev pub moves : Task → Step → Bool
-moves task Nothing = false
-moves task (Counted block) = false
 moves task (Born block place) = gets_bytes task
 moves task (Dropped block true) = gives_bytes task
-moves task (Dropped block false) = false
 moves task (Moved block) = true
+moves task _ = false
 
 -- it is this queue that is named
 abbrev pub is_queue : ℕ → Option ℕ → Bool

@@ -49,10 +49,7 @@ fn place_by(block: u64, place: u64, step: Step) -> u64
             block: of,
             place: new,
         } => { if of == block { new } else { place } }
-        Step::Nothing => place,
-        Step::Counted { .. } => place,
-        Step::Dropped { .. } => place,
-        Step::Moved { .. } => place,
+        _ => place,
     }
 }
 
@@ -83,10 +80,7 @@ fn value_by(block: u64, pointer: u64, value: u64, aim: Aim) -> u64
                 value
             }
         }
-        Aim::None => value,
-        Aim::Again { .. } => value,
-        Aim::Less { .. } => value,
-        Aim::Cleared { .. } => value,
+        _ => value,
     }
 }
 

@@ -66,8 +66,7 @@ fn counters_by(block: u64, counters: Counters, x: Acted) -> Counters
         Step::Counted { block } => Some(block),
         Step::Born { block, .. } => Some(block),
         Step::Dropped { block, .. } => Some(block),
-        Step::Nothing => None,
-        Step::Moved { .. } => None,
+        _ => None,
     };
     if named == Some(block) {
         recount(x.task, counters)
@@ -97,9 +96,6 @@ fn found_beside(section: Section, range: Section, block: u64, found: Found) -> F
     ensures { result ≡ found_beside section range block found }
 {
     match found {
-        Found::Empty => Found::Empty,
-        Found::Inside { block, offset } => Found::Inside { block, offset },
-        Found::Partly => Found::Partly,
         Found::Absent => {
             if is_within(section, range) {
                 let offset = section.start - range.start;
@@ -110,6 +106,7 @@ fn found_beside(section: Section, range: Section, block: u64, found: Found) -> F
             }
             Found::Partly
         }
+        _ => found,
     }
 }
 
@@ -119,10 +116,7 @@ fn found_by(section: Section, found: Found, x: Acted) -> Found
 {
     match x.did.step {
         Step::Born { block, .. } => found_beside(section, section_of(x.task), block, found),
-        Step::Nothing => found,
-        Step::Counted { .. } => found,
-        Step::Dropped { .. } => found,
-        Step::Moved { .. } => found,
+        _ => found,
     }
 }
 

@@ -327,7 +327,7 @@ fn block_needed(task: Task, step: Step) -> Option<u64>
     match step {
         Step::Dropped { block, .. } => Some(block),
         Step::Moved { block } if queue_of(task).is_none() => Some(block),
-        Step::Nothing | Step::Counted { .. } | Step::Born { .. } | Step::Moved { .. } => None,
+        _ => None,
     }
 }
 

@@ -13,25 +13,14 @@ use acc_base::{ExitClause, RegionClause, Section, Step, Task, UpdateClause};
 fn is_attach(clause: RegionClause) -> bool
     ensures { result ≡ is_attach clause }
 {
-    match clause {
-        RegionClause::Attach => true,
-        RegionClause::Copy
-        | RegionClause::Copyin
-        | RegionClause::Copyout { .. }
-        | RegionClause::Create { .. }
-        | RegionClause::NoCreate
-        | RegionClause::Present => false,
-    }
+    matches!(clause, RegionClause::Attach)
 }
 
 // The clause names a pointer alone.
 fn is_detach(clause: ExitClause) -> bool
     ensures { result ≡ is_detach clause }
 {
-    match clause {
-        ExitClause::Detach => true,
-        ExitClause::Copyout | ExitClause::Delete => false,
-    }
+    matches!(clause, ExitClause::Detach)
 }
 
 // The section that an item names.
@@ -84,7 +73,7 @@ pub fn pointer_of(task: Task) -> Option<u64>
         Task::Exit { item, .. } => {
             pointer_named(is_detach(item.clause), item.section, item.pointer)
         }
-        Task::Leave { .. } | Task::Move { .. } => None,
+        _ => None,
     }
 }
 
@@ -94,10 +83,7 @@ fn is_action(step: Step) -> bool
 {
     match step {
         Step::Nothing => false,
-        Step::Counted { .. } => true,
-        Step::Born { .. } => true,
-        Step::Dropped { .. } => true,
-        Step::Moved { .. } => true,
+        _ => true,
     }
 }
 
@@ -108,8 +94,7 @@ pub fn pointer_aimed(task: Task, step: Step) -> Option<u64>
     let alone = match task {
         Task::Enter { item, .. } => is_attach(item.clause),
         Task::Exit { item, .. } => is_detach(item.clause),
-        Task::Leave { .. } => false,
-        Task::Move { .. } => false,
+        _ => false,
     };
     if alone || is_action(step) {
         pointer_of(task)
@@ -136,11 +121,7 @@ pub fn copies_in(clause: RegionClause) -> bool
 {
     match clause {
         RegionClause::Copy | RegionClause::Copyin => true,
-        RegionClause::Copyout { .. }
-        | RegionClause::Create { .. }
-        | RegionClause::NoCreate
-        | RegionClause::Present
-        | RegionClause::Attach => false,
+        _ => false,
     }
 }
 
@@ -148,14 +129,7 @@ pub fn copies_in(clause: RegionClause) -> bool
 fn copies_out(clause: RegionClause) -> bool
     ensures { result ≡ copies_out clause }
 {
-    match clause {
-        RegionClause::Copy | RegionClause::Copyout { .. } => true,
-        RegionClause::Copyin
-        | RegionClause::Create { .. }
-        | RegionClause::NoCreate
-        | RegionClause::Present
-        | RegionClause::Attach => false,
-    }
+    matches!(clause, RegionClause::Copy | RegionClause::Copyout { .. })
 }
 
 /// The modifier `zero` of a clause.
@@ -164,11 +138,7 @@ pub fn is_zeroed(clause: RegionClause) -> bool
 {
     match clause {
         RegionClause::Copyout { zero } | RegionClause::Create { zero } => zero,
-        RegionClause::Copy
-        | RegionClause::Copyin
-        | RegionClause::NoCreate
-        | RegionClause::Present
-        | RegionClause::Attach => false,
+        _ => false,
     }
 }
 
@@ -178,7 +148,7 @@ fn gets_bytes(task: Task) -> bool
 {
     match task {
         Task::Enter { item, .. } => copies_in(item.clause),
-        Task::Leave { .. } | Task::Exit { .. } | Task::Move { .. } => false,
+        _ => false,
     }
 }
 
@@ -188,11 +158,8 @@ pub fn gives_bytes(task: Task) -> bool
 {
     match task {
         Task::Leave { holding } => copies_out(holding.item.clause),
-        Task::Exit { item, .. } => match item.clause {
-            ExitClause::Copyout => true,
-            ExitClause::Delete | ExitClause::Detach => false,
-        },
-        Task::Enter { .. } | Task::Move { .. } => false,
+        Task::Exit { item, .. } => matches!(item.clause, ExitClause::Copyout),
+        _ => false,
     }
 }
 
@@ -203,10 +170,7 @@ pub fn goes_out(task: Task) -> bool
     match task {
         Task::Enter { .. } => false,
         Task::Leave { .. } | Task::Exit { .. } => true,
-        Task::Move { item, .. } => match item.clause {
-            UpdateClause::ToSelf => true,
-            UpdateClause::ToDevice => false,
-        },
+        Task::Move { item, .. } => matches!(item.clause, UpdateClause::ToSelf),
     }
 }
 
@@ -218,6 +182,6 @@ pub fn moves(task: Task, step: Step) -> bool
         Step::Born { .. } => gets_bytes(task),
         Step::Dropped { ended: true, .. } => gives_bytes(task),
         Step::Moved { .. } => true,
-        Step::Nothing | Step::Counted { .. } | Step::Dropped { ended: false, .. } => false,
+        _ => false,
     }
 }

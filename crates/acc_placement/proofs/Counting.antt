@@ -39,15 +39,12 @@ without (t ∷ ts) e (inr i) =
 
 -- holes that end at taken ranges end at those of a list that has the same addresses behind them
 edged_keep : (low : ℕ) (hs : List (ℕ × ℕ)) (high : ℕ) (ts us : List (ℕ × ℕ)) → IsRising low hs high → ((a : ℕ) → low ≤ a → IsIn ts a → IsIn us a) → IsEdged hs ts → IsEdged hs us
-edged_keep low [] high ts us s f e = tt
-edged_keep low (h ∷ []) high ts us s f e = tt
 edged_keep low (h ∷ k ∷ t) high ts us s f e =
     (f _ (omega arith) e.0, edged_keep (h.0 + h.1 + 1) (k ∷ t) high ts us s.3 (λ a le. f a (omega arith)) e.1)
+edged_keep low _ high ts us s f e = tt
 
 -- there is at most one hole more than there are taken ranges
 pub length_holes : (low : ℕ) (hs : List (ℕ × ℕ)) (high : ℕ) (ts : List (ℕ × ℕ)) → IsRising low hs high → ((a : ℕ) → IsIn hs a → IsIn ts a → ⊥) → IsEdged hs ts → length hs ≤ length ts + 1
-length_holes low [] high ts s sep e = omega arith
-length_holes low (h ∷ []) high ts s sep e = omega arith
 length_holes low (h ∷ k ∷ t) high ts s sep e =
     let w = without ts (h.0 + h.1) e.0 in
     let rise = s.3 in
@@ -60,3 +57,4 @@ length_holes low (h ∷ k ∷ t) high ts s sep e =
     (edged_keep k.0 (k ∷ t) high ts w.rest (omega arith, rise.1, rise.2, rise.3)
     (λ a le i. elim (w.others a i) [ inl x ↦ absurd (omega arith) | inr x ↦ x ]) e.1) in
     omega (arith, w.one_less)
+length_holes low _ high ts s sep e = omega arith

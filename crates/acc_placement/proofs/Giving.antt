@@ -32,8 +32,6 @@ disjoint_shorter (h ∷ l) r x d = (λ a w i. d.0 a w (in_longer l r x a i), dis
 
 -- each hole of a space ends at a taken range, or at the end of the space
 edged_of : (low : ℕ) (hs : List (ℕ × ℕ)) (high base top : ℕ) (ts : List (ℕ × ℕ)) → IsRising low hs high → ((a : ℕ) → IsIn hs a → (base ≤ a) × (a < top)) → ((a : ℕ) → low ≤ a → base ≤ a → a < top → IsIn hs a ⊎ IsIn ts a) → IsEdged hs ts
-edged_of low [] high base top ts s bounds cover = tt
-edged_of low (h ∷ []) high base top ts s bounds cover = tt
 edged_of low (h ∷ k ∷ t) high base top ts s bounds cover =
     let first : (base ≤ h.0) × (h.0 < top) = bounds h.0 (inl (omega arith, omega (arith, s.1))) in
     let rise = s.3 in
@@ -46,6 +44,7 @@ edged_of low (h ∷ k ∷ t) high base top ts s bounds cover =
       edged_of (h.0 + h.1 + 1) (k ∷ t) high base top ts rise (λ a i. bounds a (inr i))
           (λ a le ge lt. elim (cover a (omega (arith, s.0)) ge lt) [ inl (inl w) ↦ absurd (omega arith) | inl (inr i) ↦ inl i | inr i ↦ inr i ]),
     )
+edged_of low _ high base top ts s bounds cover = tt
 
 -- giving back one of the taken ranges leaves no more holes than there were taken ranges
 pub length_new : (r : Space) (new before after : List (ℕ × ℕ)) (p n top : ℕ) → IsCanonical r → IsPartition r (before ++ (p, n) ∷ after) → IsFilled 0 top r.holes new p n → length new ≤ r.taken

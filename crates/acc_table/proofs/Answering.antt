@@ -3,12 +3,8 @@ use Rattle.std.proofs.Common.{ℕ, ◌≡◌, ◌<◌, ◌≤◌, ◌^◌, ◌+�
 use Rattle.std.specs.Prelude.{◌↔◌, ◌==◌, nat_le, IsTrue, IsSome, unwrap_or, option_map, take, drop}
 use Rattle.std.specs.List.{AllByRecursion}
 use Rattle.std.proofs.lemmas.Bool.Decides.{nat_tests}
-use Rattle.acc_base.specs.declared.items.Section.{Section}
-use Rattle.acc_base.specs.declared.mappings.Range.{Range}
-use Rattle.acc_base.specs.declared.mappings.Block.{Block}
-use Rattle.acc_base.specs.declared.loans.Loan.{Loan}
-use Rattle.acc_base.specs.declared.mappings.Found.{Found}
-use Rattle.acc_base.specs.declared.mappings.Found.TheVariants.{Empty, Inside, Partly, Absent}
+use Rattle.acc_clauses.specs.Words.{Section, Range, Block, Loan, Found}
+use Rattle.acc_base.specs.declared.mappings.Found.TheVariants.{Inside}
 use Rattle.acc_base.specs.Limits.{IsWithinBounds}
 use Rattle.acc_base.specs.Section.{is_within, end_of, host_memory, host_base, device_memory}
 use Rattle.acc_base.specs.Ranges.{where_is, range_of, range_from, IsPlacedAt}
@@ -41,10 +37,8 @@ pub placed : (w : World) (s : Section) → IsAccounted w → IsPlacedAt s w.stat
 placed w s a = where_is-placed s w.state.records.ranges (filled w a)
 
 as_test : (found : Found) → IsTrue (is_inside found) ↔ IsInside found
-as_test Empty = (never, (λ h. absurd h))
 as_test (Inside block offset) = ((λ h. tt), (λ h. refl))
-as_test Partly = (never, (λ h. absurd h))
-as_test Absent = (never, (λ h. absurd h))
+as_test _ = (never, (λ h. absurd h))
 
 -- in every table the test of presence is right: one range has each address of the section
 pub present : (w : World) (s : Section) → IsAccounted w → IsTrue (is_inside (where_is s w.state.records.ranges)) ↔ IsInsideOne s w.state.records.ranges

@@ -1,23 +1,14 @@
 -- Each accepted call keeps what a table keeps.
-use Rattle.std.proofs.Common.{ℕ, ◌≡◌, ◌+◌, ◌≤◌, refl, sym, ◌∙◌, ap, subst, true, false, List, [], ◌∷◌, ◌++◌, length, Option, Some, None, Result, Ok, Err, arith, length-append}
+use Rattle.std.proofs.Common.{◌≡◌, ◌+◌, ◌≤◌, refl, sym, ◌∙◌, ap, subst, List, [], ◌∷◌, ◌++◌, length, Result, Ok, Err, arith, length-append}
 use Rattle.std.specs.Prelude.{IfOk, OnOk, OnErr}
-use Rattle.acc_base.specs.declared.faults.Fault.{Fault}
-use Rattle.acc_base.specs.declared.directives.Directive.{Directive}
-use Rattle.acc_base.specs.declared.calls.Call.{Call}
+use Rattle.acc_clauses.specs.Words.{Fault, Directive, Call, Task, Did, Event}
 use Rattle.acc_base.specs.declared.calls.Call.TheVariants.{Do}
 use Rattle.acc_base.specs.Loans.{Leased}
-use Rattle.acc_base.specs.declared.transfers.Transfer.{Transfer}
-use Rattle.acc_base.specs.declared.tasks.Task.{Task}
-use Rattle.acc_base.specs.declared.events.Step.{Step}
-use Rattle.acc_base.specs.declared.events.Step.TheVariants.{Nothing, Counted, Born, Dropped, Moved}
-use Rattle.acc_base.specs.declared.events.Did.{Did}
-use Rattle.acc_base.specs.declared.events.Event.{Event}
-use Rattle.acc_base.specs.declared.events.Event.TheVariants.{Entered, Left, EnteredData, ExitedData, Updated, Waited, Stepped, HostWritten, Lent, Gathered}
+use Rattle.acc_base.specs.declared.events.Event.TheVariants.{Entered}
 use Rattle.acc_base.specs.Limits.{Limits, IsWithinBounds}
 use Rattle.acc_base.specs.Records.{Records, Layout, layout_of}
-use Rattle.acc_base.specs.Steps.{act_row, act_step, act, act_all, released, records_after_birth, records_after_end, with_range_changed}
-use Rattle.acc_base.specs.Queues.{head_of}
-use Rattle.acc_base.specs.Waits.{records_made, records_stepped, records_drained}
+use Rattle.acc_base.specs.Steps.{act, act_all}
+use Rattle.acc_base.specs.Waits.{records_drained}
 use Rattle.acc_base.specs.Walk.{walk, asked_in, done_in, stepped_in, loaned}
 use Rattle.acc_base.specs.Acting.{after}
 use Rattle.acc_base.specs.Calls.{World, judge, world_after, bytes_brought, new_world}
@@ -25,6 +16,7 @@ use Rattle.acc_base.specs.Judge.{Verdict, Makes, Idle, verdict_of}
 use Rattle.acc_base.proofs.SameMapping.{mapping-act}
 use Rattle.acc_base.proofs.Walked.{layout-after}
 use Rattle.acc_base.proofs.Accounted.{accepted_accounted, new_accounted}
+use Rattle.acc_base.proofs.Births.{births_most, births-drained}
 use Rattle.acc_clauses.specs.Contents.{Contents, AreNew}
 use Rattle.acc_clauses.specs.Planned.{Planned, IsPlanOf}
 use Rattle.acc_clauses.proofs.Events.{planned_asked}
@@ -35,89 +27,41 @@ use Rattle.acc_table.proofs.Verdicts.{made, unchanged}
 
 -- ---- births, of which a directive has at most 64
 
-step_births : (task : Task) (step : Step) (w : Records) → (act_step task step w).births ≤ w.births + 1
-unfolding act_step act_row with_range_changed records_after_birth records_after_end released
-step_births task Nothing w = omega arith
-step_births task (Counted k) w = omega arith
-step_births task (Born k p) w = omega arith
-step_births task (Dropped k true) w = omega arith
-step_births task (Dropped k false) w = omega arith
-step_births task (Moved k) w = omega arith
-
 act_births : (task : Task) (did : Did) (w : Records) → (act task did w).births ≤ w.births + 1
-act_births task did w = rw (mapping-act task did w).births (step_births task did.step w)
+act_births task did w = rw (mapping-act task did w).births (births_most task did.step w)
 
 all_births : (tasks : List Task) (dids : List Did) (w : Records) → (act_all tasks dids w).births ≤ w.births + length tasks
 unfolding act_all
 all_births [] [] w = omega arith
-all_births [] (d ∷ ds) w = omega arith
-all_births (t ∷ ts) [] w = omega arith
 all_births (t ∷ ts) (d ∷ ds) w = omega (arith, act_births t d w, all_births ts ds (act t d w))
-
--- transfers that are made bear none
-stepped_births : (q : ℕ) (w : Records) → (records_stepped q w).births ≡ w.births
-unfolding records_stepped released
-stepped_births q w = go (head_of q w.queues)
-  where
-    go : (o : Option Transfer) → (records_made q o w).births ≡ w.births
-    go None = refl
-    go (Some t) = refl
-
-drained_births : (qs : List ℕ) (w : Records) → (records_drained qs w).births ≡ w.births
-unfolding records_drained
-drained_births [] w = refl
-drained_births (q ∷ qs) w = drained_births qs (records_stepped q w) ∙ stepped_births q w
+all_births _ _ w = omega arith
 
 -- nor does a loan
 loaned_births : (e : Event) (w : Records) → (loaned e w).births ≡ w.births
 unfolding loaned
 loaned_births (Entered number items did) w = refl
-loaned_births (Left number did) w = refl
-loaned_births (EnteredData items queue did) w = refl
-loaned_births (ExitedData items finalize queue did) w = refl
-loaned_births (Updated items if_present queue did) w = refl
-loaned_births (Waited queue count) w = refl
-loaned_births (Stepped queue block) w = refl
-loaned_births (HostWritten addr len) w = refl
-loaned_births (Lent region section block serial) w = refl
-loaned_births (Gathered serial block) w = refl
+loaned_births _ w = refl
 
 walk_births : (e : Event) (lay : Layout) (tasks : List Task) → asked_in e lay.register ≡ tasks → (walk e lay).records.births ≤ lay.records.births + length tasks
 unfolding walk
 walk_births e lay tasks is =
     let most : (act_all (asked_in e lay.register) (done_in e) lay.records).births ≤ lay.records.births + length tasks = subst (λ ts. (act_all ts (done_in e) lay.records).births ≤ lay.records.births + length tasks) (sym is) (all_births tasks (done_in e) lay.records) in
     let acted : Records = act_all (asked_in e lay.register) (done_in e) lay.records in
-    subst (λ n. n ≤ lay.records.births + length tasks) (sym (loaned_births e (records_drained (stepped_in e lay.records.queues) acted) ∙ drained_births (stepped_in e lay.records.queues) acted)) most
+    subst (λ n. n ≤ lay.records.births + length tasks) (sym (loaned_births e (records_drained (stepped_in e lay.records.queues) acted) ∙ births-drained (stepped_in e lay.records.queues) acted)) most
 
 -- ---- region numbers, of which an event uses at most one
 
 walk_regions : (e : Event) (lay : Layout) → (walk e lay).register.next ≤ lay.register.next + 1
 unfolding walk
 walk_regions (Entered number items did) lay = omega arith
-walk_regions (Left number did) lay = omega arith
-walk_regions (EnteredData items queue did) lay = omega arith
-walk_regions (ExitedData items finalize queue did) lay = omega arith
-walk_regions (Updated items if_present queue did) lay = omega arith
-walk_regions (Waited queue count) lay = omega arith
-walk_regions (Stepped queue block) lay = omega arith
-walk_regions (HostWritten addr len) lay = omega arith
-walk_regions (Lent region section block serial) lay = omega arith
-walk_regions (Gathered serial block) lay = omega arith
+walk_regions _ lay = omega arith
 
 -- ---- serial numbers of loans, of which an event uses at most one
 
 walk_serials : (e : Event) (lay : Layout) → (walk e lay).register.serial ≤ lay.register.serial + 1
 unfolding walk
 walk_serials (Entered number items did) lay = omega arith
-walk_serials (Left number did) lay = omega arith
-walk_serials (EnteredData items queue did) lay = omega arith
-walk_serials (ExitedData items finalize queue did) lay = omega arith
-walk_serials (Updated items if_present queue did) lay = omega arith
-walk_serials (Waited queue count) lay = omega arith
-walk_serials (Stepped queue block) lay = omega arith
-walk_serials (HostWritten addr len) lay = omega arith
-walk_serials (Lent region section block serial) lay = omega arith
-walk_serials (Gathered serial block) lay = omega arith
+walk_serials _ lay = omega arith
 
 -- ---- a call
 

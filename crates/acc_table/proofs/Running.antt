@@ -1,6 +1,5 @@
 -- One turn after the other.
-use Rattle.std.proofs.lemmas.List.{append-nil}
-use Rattle.std.proofs.Common.{ℕ, ◌≡◌, ◌≤◌, ◌∙◌, arith, false, cond, refl, sym, ap, subst, List, [], ◌∷◌, ◌++◌, length, Result, Ok, Err, inl, inr}
+use Rattle.std.proofs.Common.{ℕ, ◌≡◌, ◌≤◌, ◌∙◌, arith, false, cond, refl, sym, ap, subst, List, [], ◌∷◌, ◌++◌, length, Result, Ok, Err, inl}
 use Rattle.std.specs.Prelude.{MatchResult, Bool, true, find, filter, IfOk, IfErr, OnErr, ◌+◌, slice_get, slice_index_or, nat_lt, ◌==◌, ◌&&◌, Option, Some, None}
 use Rattle.std.specs.List.{position, position_or_len, remove}
 use Rattle.std.proofs.lemmas.List.Folds.{find_at}
@@ -8,12 +7,9 @@ use Rattle.std.proofs.lemmas.Option.{slice_get-get_or, get_or_from_slice_get, sl
 use Rattle.std.proofs.lemmas.Bool.Decides.{nat_tests}
 use Rattle.std.proofs.lemmas.List.Quantifiers.{position-Some}
 use Rattle.acc_base.proofs.Results.{and_true, equal}
-use Rattle.acc_base.specs.declared.calls.Call.{Call}
+use Rattle.acc_clauses.specs.Words.{Call, Directive, Event, Fault}
 use Rattle.acc_base.specs.declared.calls.Call.TheVariants.{Do, HostWrite, Gather}
-use Rattle.acc_base.specs.declared.directives.Directive.{Directive}
-use Rattle.acc_base.specs.declared.events.Event.{Event}
-use Rattle.acc_base.specs.declared.events.Event.TheVariants.{Entered, Left, EnteredData, ExitedData, Updated, Waited, Stepped, HostWritten, Lent, Gathered}
-use Rattle.acc_base.specs.declared.faults.Fault.{Fault}
+use Rattle.acc_base.specs.declared.events.Event.TheVariants.{Lent, Gathered}
 use Rattle.acc_base.specs.declared.faults.Fault.TheVariants.{Memory, NoLease}
 use Rattle.acc_base.specs.Loans.{Leased}
 use Rattle.acc_base.specs.Records.{State}
@@ -31,7 +27,7 @@ use Rattle.acc_table.specs.Calls.{reply_of, IsCarriedOut, IsDone, MayWantMemory,
 use Rattle.acc_clauses.specs.Contents.{Contents}
 use Rattle.acc_table.specs.Kept.{IsKept, world_of}
 use Rattle.acc_table.specs.Making.{is_loan, IsLeaseJudged, IsMadeInto}
-use Rattle.acc_table.specs.Turns.{is_meant, brought_back, answer_to, asked_by, kept_by, lent_by, refuse_back, StaysRefused, MayCome, MayAnswer, IsRun}
+use Rattle.acc_table.specs.Turns.{is_meant, brought_back, asked_by, kept_by, lent_by, refuse_back, StaysRefused, MayCome, MayAnswer, IsRun}
 use Rattle.acc_table.specs.Turning.{is_lend, lends_in, IsTurnTaken, IsTurnMade, IsRefusalOf, IsTurnRefused}
 use Rattle.acc_table.proofs.Verdicts.{directive_no_loan, write_no_loan, gather_rewritten, judge_rewritten, judged_refused, made_wanted, made_done}
 use Rattle.acc_table.proofs.Keeping.{kept_alone, kept_called}
@@ -40,16 +36,8 @@ use Rattle.acc_table.proofs.Keeping.{kept_alone, kept_called}
 
 -- an event that is not that of a loan is replied no lease
 no_lease : (e : Event) (s : State) → is_loan e ≡ false → lent_by (reply_of e s) ≡ []
-no_lease (Entered number items did) s h = refl
-no_lease (Left number did) s h = refl
-no_lease (EnteredData items queue did) s h = refl
-no_lease (ExitedData items finalize queue did) s h = refl
-no_lease (Updated items if_present queue did) s h = refl
-no_lease (Waited queue count) s h = refl
-no_lease (Stepped queue block) s h = refl
-no_lease (HostWritten addr len) s h = refl
 no_lease (Lent region section block serial) s h = cc
-no_lease (Gathered serial block) s h = refl
+no_lease _ s h = refl
 
 -- nor is a call that makes none
 lends_none : (w next : World) (call : Call Leased) (reply : Reply) → ((e : Event) → judge w call ≡ Ok (Makes e) → is_loan e ≡ false) → IsDone w call reply next → lent_by reply ≡ []
@@ -67,15 +55,6 @@ pub write_lends_none : (w next : World) (addr : ℕ) (bytes : List ℕ) (reply :
 write_lends_none w next addr bytes reply done = let none : lent_by reply ≡ [] = lends_none w next (HostWrite addr bytes) reply (write_no_loan w addr bytes) done in omega (arith, ap length none)
 
 -- ---- one turn
-
--- the answer to a turn whose call was carried out
-pub turn_answered : (w next : World) (leases kept rest : List Leased) (turn : Turn) (reply : Reply) → IsTurnMade w leases turn reply next kept → rest ≡ kept ++ lent_by reply → MayAnswer w leases turn (asked_by turn leases) (answer_to reply) next rest
-turn_answered w next leases kept rest turn reply made rest_is = subst (λ r. MayAnswer w leases turn r (answer_to reply) next rest) (sym made.asked) (go (judge w made.call) made.done)
-  where
-    go : (r : Result Verdict Fault) → MatchResult r (λ verdict. IsCarriedOut w made.call verdict reply next) (λ fault. ⊥) → MayCome w leases (kept_by turn leases) made.call r (answer_to reply) next rest
-    go (Ok (Makes e)) h = inr (record { answer_is = ap answer_to h.0; next_is = h.1; rest_is = rest_is ∙ (ap (λ ls. ls ++ lent_by reply) made.kept_is ∙ ap (λ x. kept_by turn leases ++ lent_by x) h.0) })
-    go (Ok Idle) h = record { answer_is = ap answer_to h.0; same = h.1; same_leases = rest_is ∙ (ap (λ x. kept ++ lent_by x) h.0 ∙ (append-nil kept ∙ made.idle h.0)) }
-    go (Err fault) h = absurd h
 
 -- and to one that was refused
 pub refused : (w next : World) (leases rest : List Leased) (turn : Turn) (fault : Fault) → IsTurnRefused w leases turn fault next rest → MayAnswer w leases turn (asked_by turn leases) (Refused fault) next rest
@@ -210,6 +189,5 @@ lends_more turn more = go (is_lend turn)
 pub run_more : (w : World) (leases : List Leased) (turns : List Turn) (answers : List Answer) (mid next : World) (held rest : List Leased) (turn : Turn) (answer : Answer)
     → IsRun w leases turns answers mid held → MayAnswer mid held turn (asked_by turn held) answer next rest → IsRun w leases (turns ++ turn ∷ []) (answers ++ answer ∷ []) next rest
 run_more w leases [] [] mid next held rest turn answer run may = (next, rest, subst (λ h. MayAnswer w h turn (asked_by turn h) answer next rest) run.1 (subst (λ m. MayAnswer m held turn (asked_by turn held) answer next rest) run.0 may), (refl, refl))
-run_more w leases [] (a ∷ answers) mid next held rest turn answer run may = absurd run
-run_more w leases (t ∷ turns) [] mid next held rest turn answer run may = absurd run
 run_more w leases (t ∷ turns) (a ∷ answers) mid next held rest turn answer run may = (run.0, run.1, run.2, run_more run.0 run.1 turns answers mid next held rest turn answer run.3 may)
+run_more w leases _ _ mid next held rest turn answer run may = absurd run

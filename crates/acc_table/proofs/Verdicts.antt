@@ -3,29 +3,24 @@ use Rattle.std.proofs.Common.{ℕ, ◌≡◌, ◌+◌, ◌-◌, ◌<◌, ◌≤�
 use Rattle.std.specs.Prelude.{⊤, not, nat_le, take, drop, is_none, option_map, unwrap_or, ◌&&◌, IfOk, IfErr, OnOk}
 use Rattle.std.proofs.lemmas.List.{take_all, length-take-le}
 use Rattle.std.proofs.lemmas.Bool.Decides.{nat_tests}
-use Rattle.acc_base.specs.declared.items.Section.{Section}
+use Rattle.acc_clauses.specs.Words.{Section, Directive, Call, Event, Did, Transfer, Fault}
 use Rattle.acc_base.specs.Section.{is_empty, is_within, host_memory}
-use Rattle.acc_base.proofs.Results.{bind_ok, then_ok, ok_same, refused_not}
-use Rattle.acc_base.specs.declared.directives.Directive.{Directive}
-use Rattle.acc_base.specs.declared.directives.Directive.TheVariants.{Enter, Exit, EnterData, ExitData, Update, Wait, Step}
-use Rattle.acc_base.specs.declared.calls.Call.{Call}
+use Rattle.acc_base.proofs.Results.{then_ok, ok_same, refused_not}
+use Rattle.acc_base.proofs.LegalEvents.{IsMadeBy, made_by}
+use Rattle.acc_base.specs.declared.directives.Directive.TheVariants.{Enter, Step}
 use Rattle.acc_base.specs.declared.calls.Call.TheVariants.{Do, HostWrite, Gather}
-use Rattle.acc_base.specs.declared.events.Event.{Event}
 use Rattle.acc_base.specs.declared.events.Event.TheVariants.{Stepped, HostWritten}
-use Rattle.acc_base.specs.declared.events.Did.{Did}
-use Rattle.acc_base.specs.declared.transfers.Transfer.{Transfer}
-use Rattle.acc_base.specs.declared.faults.Fault.{Fault}
 use Rattle.acc_base.specs.declared.faults.Fault.TheVariants.{Memory}
 use Rattle.acc_base.specs.Results.{◌>>=◌, ◌>>◌}
-use Rattle.acc_base.specs.Loans.{Leased, none_lent}
+use Rattle.acc_base.specs.Loans.{Leased}
 use Rattle.acc_base.specs.Walk.{loaned}
 use Rattle.acc_base.specs.Records.{Records, State}
-use Rattle.acc_base.specs.Queues.{head_of, queue_named}
+use Rattle.acc_base.specs.Queues.{head_of}
 use Rattle.acc_base.specs.Bytes.{host_after_write}
 use Rattle.acc_base.specs.Waits.{drained}
-use Rattle.acc_base.specs.Acting.{act_all_state, judge_all, after}
+use Rattle.acc_base.specs.Acting.{act_all_state, after}
 use Rattle.acc_base.specs.Clauses.{in_host}
-use Rattle.acc_base.specs.Judge.{few_items, tasks_of, queue_in, transfers_in, step_verdict, verdict_of, directive_verdict, plan_of, host_write_event, gather_event}
+use Rattle.acc_base.specs.Judge.{few_items, step_verdict, verdict_of, directive_verdict, plan_of, host_write_event, gather_event}
 use Rattle.acc_base.specs.Calls.{World, judge, ticket, allowance, trace_room, bytes_brought, world_after}
 use Rattle.acc_base.specs.Judge.{Verdict, Makes, Idle}
 use Rattle.acc_clauses.specs.Contents.{Contents}
@@ -41,41 +36,26 @@ use Rattle.acc_table.specs.Making.{is_idle, number_told, event_told, reply_told,
 
 -- where there is something to do, a directive comes to the event that tells the number
 pub told : (d : Directive) (s : State) (dids : List Did) → is_idle d s ≡ false → verdict_of d s dids ≡ Makes (event_told d (number_told d s) (in_written_order d dids))
-told (Enter items) s dids e = refl
-told (Exit number) s dids e = refl
-told (EnterData items queue) s dids e = refl
-told (ExitData items finalize queue) s dids e = refl
-told (Update items if_present queue) s dids e = refl
-told (Wait queue) s dids e = refl
 told (Step queue) s dids e = go (head_of queue s.records.queues) e
   where
     go : (o : Option Transfer) → is_none (option_map (λ (t : Transfer). t.block) o) ≡ false → step_verdict queue o ≡ Makes (Stepped queue (unwrap_or (option_map (λ (t : Transfer). t.block) o) 0))
     go None x = cc
     go (Some t) x = refl
+told _ s dids e = refl
 
 -- its reply is the one that tells the number
 pub replied : (d : Directive) (n : ℕ) (did : List Did) (s : State) → reply_told d n ≡ reply_of (event_told d n did) s
 replied (Enter items) n did s = refl
-replied (Exit number) n did s = refl
-replied (EnterData items queue) n did s = refl
-replied (ExitData items finalize queue) n did s = refl
-replied (Update items if_present queue) n did s = refl
-replied (Wait queue) n did s = refl
-replied (Step queue) n did s = refl
+replied _ n did s = refl
 
 -- where the directive is the step of an empty queue, there is nothing to do
 pub told_idle : (d : Directive) (s : State) (dids : List Did) → is_idle d s ≡ true → verdict_of d s dids ≡ Idle
-told_idle (Enter items) s dids e = cc
-told_idle (Exit number) s dids e = cc
-told_idle (EnterData items queue) s dids e = cc
-told_idle (ExitData items finalize queue) s dids e = cc
-told_idle (Update items if_present queue) s dids e = cc
-told_idle (Wait queue) s dids e = cc
 told_idle (Step queue) s dids e = go (head_of queue s.records.queues) e
   where
     go : (o : Option Transfer) → is_none (option_map (λ (t : Transfer). t.block) o) ≡ true → step_verdict queue o ≡ Idle
     go None x = refl
     go (Some t) x = cc
+told_idle _ s dids e = cc
 
 -- ---- the world
 
@@ -103,11 +83,8 @@ judge_directive w d = go (ticket w) (allowance w d) (few_items d) (trace_room w)
   where
     go : (a b c t : Result ⊤ Fault)
         → (a >> (b >> (c >> (t >> directive_verdict w.limits d w.state)))) ≡ ((a >> (b >> (c >> t))) >> (c >> directive_verdict w.limits d w.state))
-    go (Err f) b c t = refl
-    go (Ok x) (Err f) c t = refl
-    go (Ok x) (Ok y) (Err f) t = refl
     go (Ok x) (Ok y) (Ok z) (Err f) = refl
-    go (Ok x) (Ok y) (Ok z) (Ok u) = refl
+    go _ _ _ _ = refl
 
 -- what a plan answers is the verdict, where nothing was told before
 pub judged_plan : (w : World) (d : Directive) (v : Verdict) → admitted w d ≡ Ok tt → plan_of w.limits d w.state ≡ Ok v → judge w (Do d) ≡ Ok v
@@ -131,10 +108,8 @@ unfolding judge write_admitted host_write_event
 judge_write w addr bytes = go (ticket w) (trace_room w) (in_host w.limits 0 (record { start = addr; len = length bytes }))
   where
     go : (a b c : Result ⊤ Fault) → (a >> (b >> ((c >> Ok (HostWritten addr (length bytes))) >>= λ x. Ok (Makes x)))) ≡ ((a >> (b >> c)) >> Ok (Makes (HostWritten addr (length bytes))))
-    go (Err f) b c = refl
-    go (Ok x) (Err f) c = refl
     go (Ok x) (Ok y) (Err f) = refl
-    go (Ok x) (Ok y) (Ok z) = refl
+    go _ _ _ = refl
 
 pub judged_write : (w : World) (addr : ℕ) (bytes : List ℕ) → write_admitted w (record { start = addr; len = length bytes }) ≡ Ok tt → judge w (HostWrite addr bytes) ≡ Ok (Makes (HostWritten addr (length bytes)))
 judged_write w addr bytes a = judge_write w addr bytes ∙ rw a refl
@@ -178,12 +153,7 @@ no_loan e f h p = let same : f ≡ e = cc in subst (λ (x : Event). is_loan x �
 
 told_no_loan : (d : Directive) (n : ℕ) (did : List Did) → is_loan (event_told d n did) ≡ false
 told_no_loan (Enter items) n did = refl
-told_no_loan (Exit number) n did = refl
-told_no_loan (EnterData items queue) n did = refl
-told_no_loan (ExitData items finalize queue) n did = refl
-told_no_loan (Update items if_present queue) n did = refl
-told_no_loan (Wait queue) n did = refl
-told_no_loan (Step queue) n did = refl
+told_no_loan _ n did = refl
 
 verdict_no_loan : (d : Directive) (s : State) (dids : List Did) (e : Event) → verdict_of d s dids ≡ Makes e → is_loan e ≡ false
 verdict_no_loan d s dids e h = go (is_idle d s) refl
@@ -194,17 +164,13 @@ verdict_no_loan d s dids e h = go (is_idle d s) refl
 
 -- so is the event that a directive makes
 pub directive_no_loan : (w : World) (d : Directive) (e : Event) → judge w (Do d) ≡ Ok (Makes e) → is_loan e ≡ false
-unfolding plan_of directive_verdict
+unfolding plan_of
 directive_no_loan w d e h =
     let s : State = w.state in
     let planned : plan_of w.limits d s ≡ Ok (Makes e) = (then_ok (admitted w d) (plan_of w.limits d s) (Makes e) (sym (judge_directive w d) ∙ h)).1 in
     let judged : directive_verdict w.limits d s ≡ Ok (Makes e) = (then_ok (few_items d) (directive_verdict w.limits d s) (Makes e) planned).1 in
-    let asked = bind_ok (tasks_of d s.register) _ (Makes e) judged in
-    let named = then_ok (queue_named (queue_in d)) _ (Makes e) asked.2 in
-    let acted = bind_ok (judge_all w.limits 0 asked.0 s) _ (Makes e) named.1 in
-    let free = then_ok (none_lent (transfers_in d s.records.queues) s.records.loans) _ (Makes e) acted.2 in
-    let is : verdict_of d s acted.0 ≡ Makes e = ok_same (verdict_of d s acted.0) (Makes e) free.1 in
-    verdict_no_loan d s acted.0 e is
+    let made : IsMadeBy w.limits d s e = made_by w.limits d s e judged in
+    verdict_no_loan d s made.dids e made.verdict_is
 
 -- and that of a write of the host
 pub write_no_loan : (w : World) (addr : ℕ) (bytes : List ℕ) (e : Event) → judge w (HostWrite addr bytes) ≡ Ok (Makes e) → is_loan e ≡ false

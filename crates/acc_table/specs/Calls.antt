@@ -1,9 +1,7 @@
 -- What a call may do, and what it answers.
 use Rattle.std.specs.Prelude.{◌≡◌, MatchResult}
-use Rattle.acc_base.specs.declared.calls.Call.{Call}
-use Rattle.acc_base.specs.declared.events.Event.{Event}
+use Rattle.acc_clauses.specs.Words.{Call, Event, Fault}
 use Rattle.acc_base.specs.declared.events.Event.TheVariants as events
-use Rattle.acc_base.specs.declared.faults.Fault.{Fault}
 use Rattle.acc_base.specs.declared.faults.Fault.TheVariants.{Memory}
 use Rattle.acc_base.specs.Loans.{Leased}
 use Rattle.acc_base.specs.Records.{State}
@@ -16,15 +14,9 @@ use Rattle.acc_table.specs.declared.calls.Reply.TheVariants as replies
 -- what a call that made this event of a state answers: an entry to a region its number, a wait how many transfers it made, and a loan its lease, with the bytes that the block had
 abbrev pub reply_of : Event → State → Reply
 reply_of (events.Entered number items did) s = replies.Entered number
-reply_of (events.Left number did) s = replies.Done
-reply_of (events.EnteredData items queue did) s = replies.Done
-reply_of (events.ExitedData items finalize queue did) s = replies.Done
-reply_of (events.Updated items if_present queue did) s = replies.Done
 reply_of (events.Waited queue count) s = replies.Drained count
-reply_of (events.Stepped queue block) s = replies.Done
-reply_of (events.HostWritten addr len) s = replies.Done
 reply_of (events.Lent region section block serial) s = replies.Lease (leased (loan_at serial block section s.records.ranges) s)
-reply_of (events.Gathered serial block) s = replies.Done
+reply_of _ s = replies.Done
 
 -- the reply is that of the event, and the world is that after it; where there was nothing to do, the world is the same
 abbrev pub IsCarriedOut : World → Call Leased → Verdict → Reply → World → Type 0

@@ -1,14 +1,9 @@
 -- How a directive that was judged becomes an event, and what is refused before its items are judged.
 use Rattle.std.specs.Prelude.{ℕ, ◌≡◌, ◌++◌, ◌∷◌, [], Bool, true, false, List, length, is_none, option_map, unwrap_or, Result, Ok, Err, MatchResult, ⊤}
-use Rattle.acc_base.specs.declared.items.Section.{Section}
-use Rattle.acc_base.specs.declared.directives.Directive.{Directive}
+use Rattle.acc_clauses.specs.Words.{Section, Directive, Loan, Did, Event, Fault}
 use Rattle.acc_base.specs.declared.calls.Call.TheVariants.{Lend, Gather}
-use Rattle.acc_base.specs.declared.loans.Loan.{Loan}
 use Rattle.acc_base.specs.declared.directives.Directive.TheVariants.{Enter, Exit, EnterData, ExitData, Update, Wait, Step}
-use Rattle.acc_base.specs.declared.events.Did.{Did}
-use Rattle.acc_base.specs.declared.events.Event.{Event}
 use Rattle.acc_base.specs.declared.events.Event.TheVariants as events
-use Rattle.acc_base.specs.declared.faults.Fault.{Fault}
 use Rattle.acc_base.specs.Results.{◌>>◌}
 use Rattle.acc_base.specs.Acting.{after}
 use Rattle.acc_base.specs.Records.{State}

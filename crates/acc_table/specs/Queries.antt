@@ -1,12 +1,7 @@
 -- What the queries of a table answer.
 use Rattle.std.specs.Prelude.{ℕ, ◌-◌, ◌<◌, ◌≤◌, Bool, true, false, ◌||◌, if◌then◌else◌, List, length, take, drop, Option, Some, None, option_map}
 use Rattle.std.specs.List.{AllByRecursion}
-use Rattle.acc_base.specs.declared.items.Section.{Section}
-use Rattle.acc_base.specs.declared.mappings.Range.{Range}
-use Rattle.acc_base.specs.declared.mappings.Block.{Block}
-use Rattle.acc_base.specs.declared.mappings.Counters.{Counters}
-use Rattle.acc_base.specs.declared.loans.Loan.{Loan}
-use Rattle.acc_base.specs.declared.mappings.Found.{Found}
+use Rattle.acc_clauses.specs.Words.{Section, Range, Block, Counters, Loan, Found}
 use Rattle.acc_base.specs.declared.mappings.Found.TheVariants.{Inside}
 use Rattle.acc_base.specs.Section.{is_empty, is_within, host_memory, host_base}
 use Rattle.acc_base.specs.Ranges.{where_is, range_from, dynamic_of, structured_of}

@@ -1,7 +1,6 @@
 -- How one turn is made. No public clause cites this module.
 use Rattle.std.specs.Prelude.{ℕ, ◌≡◌, ◌≤◌, Bool, true, false, List, [], ◌∷◌, filter, length, Result, Ok, Err}
-use Rattle.acc_base.specs.declared.calls.Call.{Call}
-use Rattle.acc_base.specs.declared.faults.Fault.{Fault}
+use Rattle.acc_clauses.specs.Words.{Call, Fault}
 use Rattle.acc_base.specs.Loans.{Leased}
 use Rattle.acc_base.specs.Calls.{World}
 use Rattle.acc_table.specs.declared.calls.Turn.{Turn}

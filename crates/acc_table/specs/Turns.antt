@@ -1,10 +1,8 @@
 -- A list of turns, one after the other, with its answers and the leases that it leaves.
 use Rattle.std.specs.Prelude.{ℕ, ◌≡◌, ◌⊎◌, ⊤, Bool, ◌==◌, ◌&&◌, List, [], ◌∷◌, ◌++◌, length, find, Option, Some, None, Result, Ok, Err, MatchResult}
 use Rattle.std.specs.List.{remove, position_or_len}
-use Rattle.acc_base.specs.declared.calls.Call.{Call}
+use Rattle.acc_clauses.specs.Words.{Call, Event, Fault}
 use Rattle.acc_base.specs.declared.calls.Call.TheVariants.{Do, HostWrite, Lend, Gather}
-use Rattle.acc_base.specs.declared.events.Event.{Event}
-use Rattle.acc_base.specs.declared.faults.Fault.{Fault}
 use Rattle.acc_base.specs.declared.faults.Fault.TheVariants.{Memory, NoLease}
 use Rattle.acc_base.specs.Results.{◌>>◌}
 use Rattle.acc_base.specs.Loans.{Leased}
@@ -49,18 +47,13 @@ answer_to replies.Idle = answers.Idle
 
 -- the leases that a turn does not bring back, in their order
 abbrev pub kept_by : Turn → List Leased → List Leased
-kept_by (turns.Do directive) leases = leases
-kept_by (turns.HostWrite addr bytes) leases = leases
-kept_by (turns.Lend region section) leases = leases
 kept_by (turns.Back serial bytes) leases = remove leases (position_or_len (is_meant serial (length bytes)) leases)
+kept_by _ leases = leases
 
 -- the lease that is replied, if one is
 abbrev pub lent_by : Reply → List Leased
-lent_by replies.Done = []
-lent_by (replies.Entered number) = []
-lent_by (replies.Drained count) = []
 lent_by (replies.Lease lease) = lease ∷ []
-lent_by replies.Idle = []
+lent_by _ = []
 
 -- the turn was refused, and the world and the leases stayed
 pub record StaysRefused (w : World) (leases : List Leased) (fault : Fault) (answer : Answer) (next : World) (rest : List Leased) : Type 0 where
@@ -102,5 +95,4 @@ MayAnswer w leases turn (Err fault) answer next rest = MatchResult (refuse_back 
 abbrev pub IsRun : World → List Leased → List Turn → List Answer → World → List Leased → Type 0
 IsRun w leases [] [] next rest = (next ≡ w) × (rest ≡ leases)
 IsRun w leases (turn ∷ turns) (answer ∷ answers) next rest = (mid : World) × (held : List Leased) × MayAnswer w leases turn (asked_by turn leases) answer mid held × IsRun mid held turns answers next rest
-IsRun w leases [] (answer ∷ answers) next rest = ⊥
-IsRun w leases (turn ∷ turns) [] next rest = ⊥
+IsRun w leases _ _ next rest = ⊥

@@ -1,6 +1,5 @@
 use Rattle.std.proofs.Common.{◌≡◌, sym, ◌∙◌, ap, subst, List, [], ◌∷◌, ◌++◌}
-use Rattle.acc_base.specs.declared.events.Did.{Did}
-use Rattle.acc_base.specs.declared.events.Event.{Event}
+use Rattle.acc_clauses.specs.Words.{Did, Event}
 use Rattle.acc_base.specs.Judge.{Verdict, Makes, verdict_of}
 use Rattle.acc_clauses.specs.Planned.{in_written_order, state_by}
 use Rattle.acc_table.specs.Making.{number_told, event_told, reply_told, IsCommitted}

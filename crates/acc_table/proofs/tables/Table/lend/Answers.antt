@@ -1,9 +1,8 @@
 use Rattle.std.proofs.Common.{◌≡◌, refl, sym, subst, Ok}
 use Rattle.std.specs.Prelude.{IfOk}
 use Rattle.acc_base.specs.declared.calls.Call.TheVariants.{Lend}
-use Rattle.acc_base.specs.declared.events.Event.{Event}
+use Rattle.acc_clauses.specs.Words.{Event, Loan}
 use Rattle.acc_base.specs.declared.events.Event.TheVariants.{Lent}
-use Rattle.acc_base.specs.declared.loans.Loan.{Loan}
 use Rattle.acc_base.specs.Calls.{World, judge}
 use Rattle.acc_base.specs.Judge.{Makes}
 use Rattle.acc_table.specs.Calls.{IsDone}

@@ -1,0 +1,24 @@
+-- The types of the words of the project, for this crate and those above it, so that one line of a file names them.
+pub use Rattle.acc_base.specs.declared.items.EnterClause.{EnterClause}
+pub use Rattle.acc_base.specs.declared.items.ExitClause.{ExitClause}
+pub use Rattle.acc_base.specs.declared.items.Item.{Item}
+pub use Rattle.acc_base.specs.declared.items.RegionClause.{RegionClause}
+pub use Rattle.acc_base.specs.declared.items.Section.{Section}
+pub use Rattle.acc_base.specs.declared.items.UpdateClause.{UpdateClause}
+pub use Rattle.acc_base.specs.declared.mappings.Block.{Block}
+pub use Rattle.acc_base.specs.declared.mappings.Counter.{Counter}
+pub use Rattle.acc_base.specs.declared.mappings.Counters.{Counters}
+pub use Rattle.acc_base.specs.declared.mappings.Found.{Found}
+pub use Rattle.acc_base.specs.declared.mappings.Range.{Range}
+pub use Rattle.acc_base.specs.declared.attachments.Aim.{Aim}
+pub use Rattle.acc_base.specs.declared.attachments.Attachment.{Attachment}
+pub use Rattle.acc_base.specs.declared.loans.Loan.{Loan}
+pub use Rattle.acc_base.specs.declared.regions.Holding.{Holding}
+pub use Rattle.acc_base.specs.declared.transfers.Transfer.{Transfer}
+pub use Rattle.acc_base.specs.declared.tasks.Task.{Task}
+pub use Rattle.acc_base.specs.declared.directives.Directive.{Directive}
+pub use Rattle.acc_base.specs.declared.calls.Call.{Call}
+pub use Rattle.acc_base.specs.declared.events.Did.{Did}
+pub use Rattle.acc_base.specs.declared.events.Event.{Event}
+pub use Rattle.acc_base.specs.declared.events.Step.{Step}
+pub use Rattle.acc_base.specs.declared.faults.Fault.{Fault}

@@ -36,7 +36,7 @@ use Rattle.acc_base.proofs.LegalEvents.{open_left}
 use Rattle.acc_base.proofs.Registers.{IsNumbered, AreFew, next_region, opened_regions, opened_few, closed_few, closed_held}
 use Rattle.acc_clauses.specs.Planned.{Planned, IsPlanOf, holding_by, holdings_by, register_by, steps_by, finished}
 use Rattle.acc_clauses.specs.Contents.{Contents}
-use Rattle.acc_clauses.specs.Acts.{IsKnown, AreKnown, HasRegionRoom, CanFinish}
+use Rattle.acc_clauses.specs.Acts.{IsKnown, AreKnown, HasRegionRoom, regions_entered, CanFinish}
 use Rattle.acc_clauses.specs.Stored.{IsHeldWithin, IsHoldingWithin, AreHoldingsWithin, IsStoreSound}
 use Rattle.acc_clauses.proofs.Holding.{leaves_known}
 use Rattle.acc_clauses.proofs.Entering.{regions_within, entered_within}
@@ -109,13 +109,13 @@ free_then : (d : Directive) (c f : Contents) (p : Planned) → IsPlanOf c.limits
 free_then d c f p planned none acted = subst (λ (x : State). none_lent (transfers_in d x.records.queues) x.records.loans ≡ Ok tt) (sym (acted ∙ still c.limits d c.state p planned none)) planned.free
 
 -- the register is ready for a directive, and so are the transfers that it makes
-pub plan_can : (d : Directive) (c f : Contents) (p : Planned) → IsStoreSound c → IsPlanOf c.limits d c.state p → c.state.register.next < 2 ^ 48 → HasRegionRoom (length p.tasks) c.room
-    → f.state ≡ act_all_state p.tasks p.dids c.state → f.state.register ≡ c.state.register → c.room.regions ≤ f.room.regions → c.room.holdings ≤ f.room.holdings → CanFinish d (length p.tasks) f
+pub plan_can : (d : Directive) (c f : Contents) (p : Planned) → IsStoreSound c → IsPlanOf c.limits d c.state p → c.state.register.next < 2 ^ 48 → HasRegionRoom (regions_entered d) (length (holdings_by p.tasks p.dids)) c.room
+    → f.state ≡ act_all_state p.tasks p.dids c.state → f.state.register ≡ c.state.register → c.room.regions ≤ f.room.regions → c.room.holdings ≤ f.room.holdings → CanFinish d (length (holdings_by p.tasks p.dids)) f
 plan_can (directives.Enter items) c f p h planned next room acted same regions holdings = record {
   next = rw same next;
   new = rw same (find-none (λ (r : Region). r.number == c.state.register.next) c.state.register.regions
       (AllByRecursion-weaker (λ (r : Region). r.number < c.state.register.next) (λ (r : Region). (r.number == c.state.register.next) ≡ false) c.state.register.regions (λ r low. below_differs r.number c.state.register.next low) h.sound.layout.register.known));
-  room = record { regions = omega (arith, room.regions, regions); enough = omega (arith, room.enough, holdings) };
+  room = record { regions_fit = omega (arith, room.regions_fit, regions); holdings_fit = omega (arith, room.holdings_fit, holdings) };
 }
 plan_can (directives.Exit number) c f p h planned next room acted same regions holdings =
     let is : IsAskedWith (directives.Exit number) c.state.register p.tasks = asked_with (directives.Exit number) c.state.register p.tasks planned.asked in

@@ -17,12 +17,12 @@ use Rattle.acc_base.specs.Judge.{queue_in}
 use Rattle.acc_base.proofs.Results.{equal, refused_not}
 use Rattle.acc_queues.specs.Queued.{spare_at}
 use Rattle.acc_clauses.specs.declared.acted.Acted.{Acted}
-use Rattle.acc_clauses.specs.Planned.{Planned, IsPlanOf}
+use Rattle.acc_clauses.specs.Planned.{Planned, holdings_by, IsPlanOf}
 use Rattle.acc_clauses.specs.Overlays.{tasks_in, dids_in, is_queue, puts_by, puts_in}
 use Rattle.acc_clauses.specs.Contents.{Contents, Room}
 use Rattle.acc_clauses.specs.Stored.{IsStoreSound}
 use Rattle.acc_clauses.proofs.Asking.{asked_fit}
-use Rattle.acc_clauses.specs.Acts.{lens_born, pointers_in, HasRoomFor, HasPutRoom, HasRegionRoom, HasPlanRoom}
+use Rattle.acc_clauses.specs.Acts.{lens_born, pointers_in, HasRoomFor, HasPutRoom, HasRegionRoom, HasPlanRoom, regions_entered}
 
 -- ---- the queue of a directive
 
@@ -84,24 +84,23 @@ pub record IsSameRoom (old new : Room) : Type 0 where
   pub holdings : new.holdings ≡ old.holdings
   pub attachments : new.attachments ≡ old.attachments
 
--- room was made for these tasks
-pub record IsReserved (p : Planned) (acts : List Acted) (lens : List ℕ) (pointers : ℕ) (room : Room) : Type 0 where
+-- room was made for these tasks of a directive
+pub record IsReserved (d : Directive) (p : Planned) (acts : List Acted) (lens : List ℕ) (pointers : ℕ) (room : Room) : Type 0 where
   pub tasks : tasks_in acts ≡ p.tasks
   pub dids : dids_in acts ≡ p.dids
   pub lens_are : lens ≡ lens_born p.tasks p.dids
   pub pointers_are : pointers ≡ pointers_in (dids_in acts)
   pub births : HasRoomFor lens room
-  pub region : HasRegionRoom (length acts) room
+  pub region : HasRegionRoom (regions_entered d) (length (holdings_by p.tasks p.dids)) room
   pub enough : pointers ≤ room.attachments
 
-pub plan_room : (p : Planned) (acts : List Acted) (lens : List ℕ) (pointers : ℕ) (old new : Room) → IsReserved p acts lens pointers old → IsSameRoom old new → HasPutRoom (λ q. puts_in q p.tasks p.dids) new → HasPlanRoom p new
-plan_room p acts lens pointers old new h same puts =
-    let count : length p.tasks ≡ length acts = ap length (sym h.tasks) ∙ length-map acts (λ (x : Acted). x.task) in
+pub plan_room : (d : Directive) (p : Planned) (acts : List Acted) (lens : List ℕ) (pointers : ℕ) (old new : Room) → IsReserved d p acts lens pointers old → IsSameRoom old new → HasPutRoom (λ q. puts_in q p.tasks p.dids) new → HasPlanRoom d p new
+plan_room d p acts lens pointers old new h same puts =
     let more : pointers ≡ pointers_in p.dids = h.pointers_are ∙ ap pointers_in h.dids in
     let births : HasRoomFor (lens_born p.tasks p.dids) old = subst (λ ls. HasRoomFor ls old) h.lens_are h.births in
     record {
       births = record { rest = births.rest; births_are = same.births ∙ births.births_are; ranges = omega (arith, births.ranges, same.ranges) };
-      region = record { regions = omega (arith, h.region.regions, same.regions); enough = omega (arith, h.region.enough, same.holdings, count) };
+      region = record { regions_fit = omega (arith, h.region.regions_fit, same.regions); holdings_fit = omega (arith, h.region.holdings_fit, same.holdings) };
       pointers = omega (arith, h.enough, more, same.attachments);
       puts = puts;
     }

@@ -227,10 +227,10 @@ pub record HasRoomFor (births : List ℕ) (room : Room) : Type 0 where
 abbrev pub HasPutRoom : (ℕ → ℕ) → Room → Type 0
 HasPutRoom puts room = (q : ℕ) → puts q ≤ spare_at q room.puts
 
--- there is room for one region with so many holdings
-pub record HasRegionRoom (holdings : ℕ) (room : Room) : Type 0 where
-  pub regions : 1 ≤ room.regions
-  pub enough : holdings ≤ room.holdings
+-- there is room for so many regions, the next of which has so many holdings
+pub record HasRegionRoom (regions holdings : ℕ) (room : Room) : Type 0 where
+  pub regions_fit : regions ≤ room.regions
+  pub holdings_fit : holdings ≤ room.holdings
 
 -- births of these lengths, so many attachment counters and so many transfers in each queue took their room, and nothing else was taken
 pub record IsRoomLeft (births : List ℕ) (pointers : ℕ) (put : ℕ → ℕ) (old new : Room) : Type 0 where
@@ -337,28 +337,33 @@ CanWrite section host = 0 < section.len → is_within section (host_memory (leng
 pub record CanOpen (holdings : ℕ) (c : Contents) : Type 0 where
   pub next : c.state.register.next < 2 ^ 48
   pub new : region_at c.state.register.next c.state.register.regions ≡ None
-  pub room : HasRegionRoom holdings c.room
+  pub room : HasRegionRoom 1 holdings c.room
 
--- what a directive of so many tasks needs of the register and its room, and of the transfers that it makes
+-- what a directive needs of the register and its room, where a region that it enters has so many holdings, and of the transfers that it makes
 abbrev pub CanFinish : Directive → ℕ → Contents → Type 0
-CanFinish (directives.Enter items) tasks c = CanOpen tasks c
-CanFinish (directives.Exit number) tasks c = IsSome (region_at number c.state.register.regions)
-CanFinish d tasks c = none_lent (transfers_in d c.state.records.queues) c.state.records.loans ≡ Ok tt
+CanFinish (directives.Enter items) holdings c = CanOpen holdings c
+CanFinish (directives.Exit number) holdings c = IsSome (region_at number c.state.register.regions)
+CanFinish d holdings c = none_lent (transfers_in d c.state.records.queues) c.state.records.loans ≡ Ok tt
 
--- there is room for all that a plan takes in
-pub record HasPlanRoom (p : Planned) (room : Room) : Type 0 where
+-- how many regions a directive enters
+abbrev pub regions_entered : Directive → ℕ
+regions_entered (directives.Enter items) = 1
+regions_entered _ = 0
+
+-- there is room for all that a plan of a directive takes in
+pub record HasPlanRoom (d : Directive) (p : Planned) (room : Room) : Type 0 where
   pub births : HasRoomFor (lens_born p.tasks p.dids) room
-  pub region : HasRegionRoom (length p.tasks) room
+  pub region : HasRegionRoom (regions_entered d) (length (holdings_by p.tasks p.dids)) room
   pub pointers : pointers_in p.dids ≤ room.attachments
   pub puts : HasPutRoom (λ q. puts_in q p.tasks p.dids) room
 
--- a birth always takes memory, for its bytes; else room is missing for one region with so many holdings, or for so many attachment counters
-abbrev pub LacksRoom : List ℕ → ℕ → ℕ → Room → Type 0
-LacksRoom lens holdings pointers room = (0 < length lens) ⊎ (room.regions ≡ 0) ⊎ (room.holdings < holdings) ⊎ (room.attachments < pointers)
+-- a birth always takes memory, for its bytes; else room is missing for so many regions, for so many holdings, or for so many attachment counters
+abbrev pub LacksRoom : List ℕ → ℕ → ℕ → ℕ → Room → Type 0
+LacksRoom lens regions holdings pointers room = (0 < length lens) ⊎ (room.regions < regions) ⊎ (room.holdings < holdings) ⊎ (room.attachments < pointers)
 
--- for a plan, also for its transfers in some queue
-abbrev pub LacksPlanRoom : Planned → Room → Type 0
-LacksPlanRoom p room = LacksRoom (lens_born p.tasks p.dids) (length p.tasks) (pointers_in p.dids) room ⊎ ((q : ℕ) × (spare_at q room.puts < puts_in q p.tasks p.dids))
+-- for a plan of a directive, also for its transfers in some queue
+abbrev pub LacksPlanRoom : Directive → Planned → Room → Type 0
+LacksPlanRoom d p room = LacksRoom (lens_born p.tasks p.dids) (regions_entered d) (length (holdings_by p.tasks p.dids)) (pointers_in p.dids) room ⊎ ((q : ℕ) × (spare_at q room.puts < puts_in q p.tasks p.dids))
 
 -- ---- what a plan notes
 

@@ -7,6 +7,7 @@ ghost use Rattle.acc_base.specs.Queues.{queue_named};
 ghost use Rattle.acc_base.specs.Judge.{few_items, tasks_with, holdings_left, queue_in, verdict_of, plan_of};
 ghost use Rattle.acc_clauses.specs.Overlays.{IsPlanned, AreUnmixed, AreQueuesNamed, tasks_in, dids_in};
 ghost use Rattle.acc_clauses.specs.Planned.{HasFewHoldings, IsPlanOf};
+ghost use Rattle.acc_clauses.specs.Acts.{regions_entered};
 
 use crate::drafts::Draft;
 use crate::items::judge;
@@ -82,6 +83,16 @@ pub(crate) fn queue_in(directive: &Directive) -> Option<u64>
         Directive::Wait { queue } => *queue,
         Directive::Step { queue } => Some(*queue),
         Directive::Enter { .. } | Directive::Exit { .. } => None,
+    }
+}
+
+/// How many regions a directive enters.
+pub(crate) fn regions_entered(directive: &Directive) -> u64
+    ensures { result ≡ regions_entered directive.now }
+{
+    match directive {
+        Directive::Enter { .. } => 1,
+        _ => 0,
     }
 }
 

@@ -31,7 +31,7 @@ use crate::finishing::finish;
 use crate::judging::in_host;
 use crate::lending::{check_lease, plan_loan};
 use crate::parts::Parts;
-use crate::planning::{self, queue_in};
+use crate::planning::{self, queue_in, regions_entered};
 use crate::plans::Plan;
 use crate::pointers::pointers_in;
 use crate::running::act_all;
@@ -111,19 +111,21 @@ impl Store {
     /// # Errors
     ///
     /// [`Fault::Memory`] alone, and only where some of that room was missing. A plan that bears a block always takes memory
-    /// for its bytes; room for one region more is made for every plan.
+    /// for its bytes.
     pub fn reserve(&mut self, directive: &Directive, plan: &Plan) -> Result<(), Fault>
         requires planned { IsPlanOf self.old.limits directive.now self.old.state plan.now }
         ensures limits { self.new.limits ≡ self.old.limits }
         ensures state { self.new.state ≡ self.old.state }
-        ensures room { OnOk result (HasPlanRoom plan.now self.new.room) }
+        ensures room { OnOk result (HasPlanRoom directive.now plan.now self.new.room) }
         ensures only { IfErr result (λ fault. fault ≡ Memory) }
-        ensures needed { OnErr result (LacksPlanRoom plan.now self.old.room) }
+        ensures needed { OnErr result (LacksPlanRoom directive.now plan.now self.old.room) }
     {
         self.parts.laws();
         let acts = plan.acts();
+        let regions = regions_entered(directive);
+        let holdings = plan.holdings().len() as u64;
         self.parts
-            .reserve(plan.lens(), acts.len() as u64, pointers_in(acts))?;
+            .reserve(plan.lens(), regions, holdings, pointers_in(acts))?;
         match queue_in(directive) {
             Some(q) => self.parts.reserve_puts(q, puts_in(q, acts)),
             None => Ok(()),
@@ -138,7 +140,7 @@ impl Store {
         requires planned { IsPlanOf self.old.limits directive.now self.old.state plan.now }
         requires births { self.old.state.records.births + 64 ≤ 2 ^ 48 }
         requires next { self.old.state.register.next < 2 ^ 48 }
-        requires room { HasPlanRoom plan.now self.old.room }
+        requires room { HasPlanRoom directive.now plan.now self.old.room }
         ensures limits { self.new.limits ≡ self.old.limits }
         ensures state { self.new.state ≡ state_by (verdict_of directive.now self.old.state plan.now.dids) self.old.state }
     {

@@ -63,9 +63,9 @@ pub record IsRegionRoomTaken (old new : Room) : Type 0 where
   pub regions : old.regions ≤ new.regions + 1
   pub holdings : old.holdings ≤ new.holdings
 
--- there is less room than for so many more ranges, and one more region with so many holdings
-abbrev pub IsRoomMissing : ℕ → ℕ → Room → Type 0
-IsRoomMissing ranges holdings room = (room.ranges < ranges) ⊎ (room.regions ≡ 0) ⊎ (room.holdings < holdings)
+-- there is less room than for so many more ranges, so many more regions, and so many holdings
+abbrev pub IsRoomMissing : ℕ → ℕ → ℕ → Room → Type 0
+IsRoomMissing ranges regions holdings room = (room.ranges < ranges) ⊎ (room.regions < regions) ⊎ (room.holdings < holdings)
 
 -- ---- what holds of every present table
 

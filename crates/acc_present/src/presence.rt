@@ -308,23 +308,23 @@ impl Present {
 
     // ---- room
 
-    /// Makes room for so many more ranges, and for one more region with so many holdings, so that
+    /// Makes room for so many more ranges, and for so many more regions, the next of which has so many holdings, so that
     /// [`Present::add_reserved`] and [`Present::enter_reserved`] take no memory.
     ///
     /// # Errors
     ///
     /// [`Fault::Memory`] alone, only where some of that room was missing. No room has shrunk then.
-    pub fn reserve(&mut self, ranges: u64, holdings: u64) -> Result<(), Fault>
+    pub fn reserve(&mut self, ranges: u64, regions: u64, holdings: u64) -> Result<(), Fault>
         ensures table { self.new.table ≡ self.old.table }
         ensures ranges { OnOk result (ranges ≤ self.new.room.ranges) }
-        ensures regions { OnOk result (1 ≤ self.new.room.regions) }
+        ensures regions { OnOk result (regions ≤ self.new.room.regions) }
         ensures holdings { OnOk result (holdings ≤ self.new.room.holdings) }
         ensures only { IfErr result (λ fault. fault ≡ Fault.Memory) }
-        ensures needed { OnErr result (IsRoomMissing ranges holdings self.old.room) }
+        ensures needed { OnErr result (IsRoomMissing ranges regions holdings self.old.room) }
         ensures room { IsRoomKept self.old.room self.new.room }
     {
         self.mappings.reserve(ranges as usize)?;
-        self.register.reserve(holdings as usize)?;
+        self.register.reserve(regions as usize, holdings as usize)?;
         Ok(())
     }
 }

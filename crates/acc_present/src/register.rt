@@ -144,17 +144,18 @@ impl Register {
         holdings_of(&self.regions, number)
     }
 
-    /// Makes room for one more region with so many holdings. It is refused only where some of that room was missing.
-    pub fn reserve(&mut self, holdings: usize) -> Result<(), Fault>
+    /// Makes room for so many more regions, the next of which has so many holdings. It is refused only where some of that
+    /// room was missing.
+    pub fn reserve(&mut self, regions: usize, holdings: usize) -> Result<(), Fault>
         ensures regions { self.new.regions ≡ self.old.regions }
-        ensures ok { OnOk result (1 ≤ self.new.room) }
+        ensures ok { OnOk result (regions ≤ self.new.room) }
         ensures ok_holdings { OnOk result (holdings ≤ self.new.holdings) }
         ensures only { IfErr result (λ fault. fault ≡ Fault.Memory) }
-        ensures needed { OnErr result ((self.old.room ≡ 0) ⊎ (self.old.holdings < holdings)) }
+        ensures needed { OnErr result ((self.old.room < regions) ⊎ (self.old.holdings < holdings)) }
         ensures room { self.old.room ≤ self.new.room }
         ensures room_holdings { self.old.holdings ≤ self.new.holdings }
     {
-        self.regions.reserve(1)?;
+        self.regions.reserve(regions)?;
         self.spare.reserve(holdings)?;
         Ok(())
     }

@@ -98,7 +98,7 @@ fn make_room(
     requires { IsPlanOf store.old.limits directive.now store.old.state plan.now }
     ensures same { IsAsBefore store.old store.new trace.old.items trace.new.items }
     ensures did { IfOk result (λ did. did ≡ plan.now.written) }
-    ensures room { OnOk result (HasPlanRoom plan.now store.new.room) }
+    ensures room { OnOk result (HasPlanRoom directive.now plan.now store.new.room) }
     ensures place { OnOk result (vec_len trace.new < vec_capacity trace.new) }
     ensures only { IfErr result (λ fault. fault ≡ Memory) }
 {
@@ -121,7 +121,7 @@ fn commit(
     requires regions { store.old.state.register.next < 2 ^ 48 }
     requires did { did ≡ plan.now.written }
     requires busy { is_idle directive store.old.state ≡ false }
-    requires room { HasPlanRoom plan.now store.old.room }
+    requires room { HasPlanRoom directive plan.now store.old.room }
     requires place { vec_len trace.old < vec_capacity trace.old }
     ensures done { IsCommitted (planned_verdict directive plan.now store.old) result store.old store.new trace.old.items trace.new.items }
 {
@@ -150,7 +150,7 @@ fn prepare(
     ensures planned { OnOk result (IsPlanOf store.new.limits directive.now store.new.state plan.new) }
     ensures idle { IfOk result (λ did. is_none did ≡ is_idle directive.now store.old.state) }
     ensures did { IfOk result (λ told. IfSome told (λ did. did ≡ plan.new.written)) }
-    ensures room { IfOk result (λ told. IfSome told (λ _. HasPlanRoom plan.new store.new.room)) }
+    ensures room { IfOk result (λ told. IfSome told (λ _. HasPlanRoom directive.now plan.new store.new.room)) }
     ensures place { IfOk result (λ told. IfSome told (λ _. vec_len trace.new < vec_capacity trace.new)) }
     ensures refused { IfErr result (MayBeToldOf (plan_of store.old.limits directive.now store.old.state)) }
 {

@@ -53,8 +53,8 @@ impl Parts {
         step(&mut self.environment, q);
     }
 
-    /// Makes room for births of blocks of these lengths, in this order, for one region with so many holdings, and for so
-    /// many attachment counters. Nothing else changes, also where it is refused.
+    /// Makes room for births of blocks of these lengths, in this order, for so many regions, the next of which has so many
+    /// holdings, and for so many attachment counters. Nothing else changes, also where it is refused.
     ///
     /// # Errors
     ///
@@ -62,6 +62,7 @@ impl Parts {
     pub(crate) fn reserve(
         &mut self,
         lens: &[u64],
+        regions: u64,
         holdings: u64,
         pointers: u64,
     ) -> Result<(), Fault>
@@ -70,16 +71,16 @@ impl Parts {
         ensures limits { self.new.limits ≡ self.old.limits }
         ensures state { self.new.state ≡ self.old.state }
         ensures room { OnOk result (HasRoomFor lens.now self.new.room) }
-        ensures room_region { OnOk result (HasRegionRoom holdings self.new.room) }
+        ensures room_region { OnOk result (HasRegionRoom regions holdings self.new.room) }
         ensures room_pointers { OnOk result (pointers ≤ self.new.room.attachments) }
         ensures puts { self.new.room.puts ≡ self.old.room.puts }
         ensures only { IfErr result (λ fault. fault ≡ Memory) }
-        ensures needed { OnErr result (LacksRoom lens.now holdings pointers self.old.room) }
+        ensures needed { OnErr result (LacksRoom lens.now regions holdings pointers self.old.room) }
     {
         self.environment.device.reserve(lens)?;
         self.environment
             .present
-            .reserve(lens.len() as u64, holdings)?;
+            .reserve(lens.len() as u64, regions, holdings)?;
         self.environment.attached.reserve(pointers)?;
         Ok(())
     }
@@ -110,7 +111,7 @@ impl Parts {
     pub(crate) fn enter(&mut self, holdings: &[Holding])
         requires next { self.old.state.register.next < 2 ^ 48 }
         requires new { region_at self.old.state.register.next self.old.state.register.regions ≡ None }
-        requires room { HasRegionRoom (length holdings.now) self.old.room }
+        requires room { HasRegionRoom 1 (length holdings.now) self.old.room }
         ensures limits { self.new.limits ≡ self.old.limits }
         ensures state { self.new.state ≡ record self.old.state { register = opened holdings.now self.old.state.register } }
     {

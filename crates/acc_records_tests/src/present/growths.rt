@@ -66,11 +66,11 @@ fn reserves(present: &mut Present) -> bool {
         len: 1,
     };
     let before = look(present, asked);
-    match present.reserve(3, 2) {
+    match present.reserve(3, 1, 2) {
         Ok(()) => true,
         Err(fault) => {
             let refused = is_refused(before, look(present, asked), fault);
-            present.reserve(3, 2) == Ok(()) && refused
+            present.reserve(3, 1, 2) == Ok(()) && refused
         }
     }
 }

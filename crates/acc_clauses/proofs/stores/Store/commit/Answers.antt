@@ -35,7 +35,7 @@ pub act_all-requires-clause-room : goal.act_all-requires-clause-room
 act_all-requires-clause-room c =
     let k : Contents = c.self.inside.parts in
     let p = c.args.plan.now in
-    let room : HasPlanRoom p k.room = subst (λ (x : Contents). HasPlanRoom p x.room) (sym c.self.view_is) c.requires.room in
+    let room : HasPlanRoom c.args.directive.now p k.room = subst (λ (x : Contents). HasPlanRoom c.args.directive.now p x.room) (sym c.self.view_is) c.requires.room in
     subst (λ (ts : List Task). HasRoomFor (lens_born ts (dids_in c.acts.result.now)) k.room) (sym c.acts.ensures.tasks)
     (subst (λ (ds : List Did). HasRoomFor (lens_born p.tasks ds) k.room) (sym c.acts.ensures.dids) room.births)
 
@@ -43,14 +43,14 @@ pub act_all-requires-clause-pointers : goal.act_all-requires-clause-pointers
 act_all-requires-clause-pointers c =
     let k : Contents = c.self.inside.parts in
     let p = c.args.plan.now in
-    let room : HasPlanRoom p k.room = subst (λ (x : Contents). HasPlanRoom p x.room) (sym c.self.view_is) c.requires.room in
+    let room : HasPlanRoom c.args.directive.now p k.room = subst (λ (x : Contents). HasPlanRoom c.args.directive.now p x.room) (sym c.self.view_is) c.requires.room in
     subst (λ (ds : List Did). pointers_in ds ≤ k.room.attachments) (sym c.acts.ensures.dids) room.pointers
 
 pub act_all-requires-clause-puts : goal.act_all-requires-clause-puts
 act_all-requires-clause-puts c =
     let k : Contents = c.self.inside.parts in
     let p = c.args.plan.now in
-    let room : HasPlanRoom p k.room = subst (λ (x : Contents). HasPlanRoom p x.room) (sym c.self.view_is) c.requires.room in
+    let room : HasPlanRoom c.args.directive.now p k.room = subst (λ (x : Contents). HasPlanRoom c.args.directive.now p x.room) (sym c.self.view_is) c.requires.room in
     subst (λ (ts : List Task). HasPutRoom (λ q. puts_in q ts (dids_in c.acts.result.now)) k.room) (sym c.acts.ensures.tasks)
     (subst (λ (ds : List Did). HasPutRoom (λ q. puts_in q p.tasks ds) k.room) (sym c.acts.ensures.dids) room.puts)
 
@@ -61,7 +61,7 @@ finish-requires c =
     let p = c.args.plan.now in
     let acts = c.acts.result.now in
     let planned : IsPlanOf k.limits c.args.directive.now k.state p = subst (λ (x : Contents). IsPlanOf x.limits c.args.directive.now x.state p) (sym c.self.view_is) c.requires.planned in
-    let room : HasPlanRoom p k.room = subst (λ (x : Contents). HasPlanRoom p x.room) (sym c.self.view_is) c.requires.room in
+    let room : HasPlanRoom c.args.directive.now p k.room = subst (λ (x : Contents). HasPlanRoom c.args.directive.now p x.room) (sym c.self.view_is) c.requires.room in
     let next : k.state.register.next < 2 ^ 48 = subst (λ (x : Contents). x.state.register.next < 2 ^ 48) (sym c.self.view_is) c.requires.next in
     let same : f.state.register ≡ k.state.register = ap (λ (s : State). s.register) c.act_all.ensures.state ∙ register-act_all_state (tasks_in acts) (dids_in acts) k.state in
     plan_can c.args.directive.now k f p c.self.invariant planned next room.region (c.act_all.ensures.state ∙ ap (λ ts. act_all_state ts (dids_in acts) k.state) c.acts.ensures.tasks ∙ ap (λ ds. act_all_state p.tasks ds k.state) c.acts.ensures.dids) same c.act_all.ensures.room_regions c.act_all.ensures.room_holdings

@@ -36,13 +36,13 @@ returns-in-Some-clause-room c =
     let planned : IsPlanOf k.limits c.args.directive.now k.state p = subst (λ (x : Contents). IsPlanOf x.limits c.args.directive.now x.state p) (sym c.self.view_is) c.requires.planned in
     let count : c.puts_in.result ≡ puts_in q p.tasks p.dids = c.puts_in.ensures.value ∙ ap (λ ts. puts_in q ts (dids_in acts)) c.acts-acts.ensures.tasks ∙ ap (λ ds. puts_in q p.tasks ds) c.acts-acts.ensures.dids in
     on_ok_weaker c.reserve_puts.result (λ (enough : c.puts_in.result ≤ spare_at q c.reserve_puts.new.self.room.puts).
-    plan_room p acts c.lens.result.now c.pointers_in.result c.reserve.new.self.room c.reserve_puts.new.self.room (record {
+    plan_room c.args.directive.now p acts c.lens.result.now c.pointers_in.result c.reserve.new.self.room c.reserve_puts.new.self.room (record {
       tasks = c.acts-acts.ensures.tasks;
       dids = c.acts-acts.ensures.dids;
       lens_are = c.lens.ensures.lens;
       pointers_are = c.pointers_in.ensures;
       births = c.in_ok-reserve.ensures.room;
-      region = c.in_ok-reserve.ensures.room_region;
+      region = rw (← c.regions_entered-regions.ensures, ← c.holdings.ensures) c.in_ok-reserve.ensures.room_region;
       enough = c.in_ok-reserve.ensures.room_pointers;
     }) (record { births = kept.births; ranges = kept.ranges; regions = kept.regions; holdings = kept.holdings; attachments = kept.attachments })
     (one_room c.args.directive.now k p q c.reserve_puts.new.self.room c.self.invariant planned (sym c.queue_in.ensures ∙ c.in-Some.is)
@@ -53,13 +53,13 @@ returns-in-None-clause-room c =
     let k : Contents = c.self.inside.parts in
     let p = c.args.plan.now in
     let planned : IsPlanOf k.limits c.args.directive.now k.state p = subst (λ (x : Contents). IsPlanOf x.limits c.args.directive.now x.state p) (sym c.self.view_is) c.requires.planned in
-    plan_room p c.acts-acts.result.now c.lens.result.now c.pointers_in.result c.reserve.new.self.room c.reserve.new.self.room (record {
+    plan_room c.args.directive.now p c.acts-acts.result.now c.lens.result.now c.pointers_in.result c.reserve.new.self.room c.reserve.new.self.room (record {
       tasks = c.acts-acts.ensures.tasks;
       dids = c.acts-acts.ensures.dids;
       lens_are = c.lens.ensures.lens;
       pointers_are = c.pointers_in.ensures;
       births = c.in_ok-reserve.ensures.room;
-      region = c.in_ok-reserve.ensures.room_region;
+      region = rw (← c.regions_entered-regions.ensures, ← c.holdings.ensures) c.in_ok-reserve.ensures.room_region;
       enough = c.in_ok-reserve.ensures.room_pointers;
     }) (record { births = refl; ranges = refl; regions = refl; holdings = refl; attachments = refl })
     (none_room c.args.directive.now k p c.reserve.new.self.room c.self.invariant planned (sym c.queue_in.ensures ∙ c.in-None.is))

@@ -1,13 +1,13 @@
 -- The fuel of a repetition is enough: each turn takes a byte at least, so more fuel changes nothing.
 use Rattle.std.proofs.Common.{◌≡◌, ℕ, zero, suc, ◌+◌, ◌<◌, ◌≤◌, Bool, true, false, cond, List, [], length, take, drop, length-drop, Option, Some, None, Result, Ok, Err, refl, sym, subst, ◌∙◌, arith}
-use Rattle.std.specs.Prelude.{is_some, ◌==◌, codes}
+use Rattle.std.specs.Prelude.{is_some, ok_or, ◌==◌, codes}
 use Rattle.std.specs.List.{prefix_len}
 use Rattle.std.specs.Str.{bytes_eq}
 use Rattle.std.proofs.lemmas.Bool.{eqb-false}
 use Rattle.std.proofs.lemmas.List.{nil_from_length}
 use Rattle.std.proofs.lemmas.List.Sums.{prefix_len-le-length}
 use Rattle.acc_base.specs.declared.faults.ScriptFault.{ScriptFault}
-use Rattle.acc_base.specs.declared.faults.ScriptFault.TheVariants.{Syntax}
+use Rattle.acc_base.specs.declared.faults.ScriptFault.TheVariants.{Syntax, UnknownName}
 use Rattle.acc_base.specs.declared.items.Item.{Item}
 use Rattle.acc_read.specs.declared.arrays.Array.{Array}
 use Rattle.acc_read.specs.declared.items.Kind.{Kind}
@@ -16,11 +16,11 @@ use Rattle.acc_read.specs.Reading.{◌>>=◌}
 use Rattle.acc_read.specs.Repeating.{repeated}
 use Rattle.acc_read.specs.Tokens.{is_word_byte, is_blank, word_len, skip_blanks, word_at, keyword_at, is_word_next, is_name, name_at, number_said, number_at, number_limit, is_mark_next, mark_at, skip_comma, is_word_before, comma, colon, left_bracket, right_bracket, left_parenthesis, right_parenthesis}
 use Rattle.acc_read.specs.Layout.{ArrayLayout, array_of}
-use Rattle.acc_read.specs.Places.{known, known_at, offset_at, address_at, part_at, section_at}
+use Rattle.acc_read.specs.Places.{known_at, offset_at, address_at, part_at, section_at}
 use Rattle.acc_read.specs.Items.{via_at, aim_at, named_at}
 use Rattle.acc_read.specs.Queues.{queue_number_at, queue_at}
 use Rattle.acc_read.specs.Grammar.{Grammar}
-use Rattle.acc_read.specs.Clauses.{item_at, items_at, some_clause, modifier_at, modified_at, group_at, ClausesRead, listed, queued, clause_at, goes_on, all_clauses_at}
+use Rattle.acc_read.specs.Clauses.{item_at, items_at, modifier_at, modified_at, group_at, ClausesRead, listed, queued, clause_at, goes_on, all_clauses_at}
 use Rattle.acc_read.proofs.Repeated.{after_step}
 
 -- ---- fewer bytes than before
@@ -49,6 +49,12 @@ either : {A : Type 0} (rest : A → List ℕ) (n : ℕ) (b : Bool) (x y : Result
     → Leaves rest n y → Leaves rest n (cond b x y)
 either rest n true x y p q = p
 either rest n false x y p q = q
+
+-- a reading of what is there
+found : {A B : Type 0} (rest : B → List ℕ) (n : ℕ) (o : Option A) (kind : ScriptFault) (f : A → Result B ScriptFault)
+    → ((x : A) → Leaves rest n (f x)) → Leaves rest n (ok_or o kind >>= f)
+found rest n None kind f leaves = tt
+found rest n (Some x) kind f leaves = leaves x
 
 -- fewer bytes than so many are fewer than more
 within : {A : Type 0} (rest : A → List ℕ) (n m : ℕ) (read : Result A ScriptFault) → n ≤ m → Leaves rest n read
@@ -110,11 +116,7 @@ number_leaves limit text = steps after after _ _ _ _ (word_leaves text) (λ word
 -- the name of an array takes a byte at least
 known_leaves : (layout : ArrayLayout) (text : List ℕ) → Leaves after (length text) (known_at layout text)
 unfolding known_at
-known_leaves layout text = steps after after _ _ _ _ (name_leaves text) (λ name less. by (array_of name.0 layout) name.1 less)
-  where
-    by : (o : Option Array) (rest : List ℕ) → length rest < length text → Leaves after (length text) (known o rest)
-    by None rest less = tt
-    by (Some array) rest less = less
+known_leaves layout text = steps after after _ _ _ _ (name_leaves text) (λ name less. found after _ (array_of name.0 layout) UnknownName (λ array. Ok (array, name.1)) (λ array. less))
 
 -- an offset makes no text longer
 offset_leaves : (array : Array) (text : List ℕ) → Leaves after (length text + 1) (offset_at array text)
@@ -245,11 +247,7 @@ module _ {C : Type 0} where
   modifier_leaves : (grammar : Grammar C) (clause : C) (text : List ℕ)
       → Leaves after (length text) (modifier_at grammar clause text)
   unfolding modifier_at
-  modifier_leaves grammar clause text = steps after after _ _ _ _ (word_leaves text) (λ word l0. steps alone after _ _ _ _ (mark_leaves colon word.1) (λ between l1. by (grammar.modified clause word.0) between (omega arith)))
-    where
-      by : (o : Option C) (rest : List ℕ) → length rest < length text → Leaves after (length text) (some_clause o rest)
-      by None rest less = tt
-      by (Some modified) rest less = less
+  modifier_leaves grammar clause text = steps after after _ _ _ _ (word_leaves text) (λ word l0. steps alone after _ _ _ _ (mark_leaves colon word.1) (λ between l1. found after _ (grammar.modified clause word.0) Syntax (λ modified. Ok (modified, between)) (λ modified. omega arith)))
 
   -- a clause with its modifier, if it has one, makes no text longer
   modified_leaves : (grammar : Grammar C) (clause : C) (text : List ℕ)
@@ -266,8 +264,7 @@ module _ {C : Type 0} where
   -- a clause of a word makes no text longer
   listed_leaves : (o : Option C) (grammar : Grammar C) (layout : ArrayLayout) (before : ClausesRead C) (text : List ℕ)
       → Leaves after (length text + 1) (listed o grammar layout before text)
-  listed_leaves None grammar layout before text = tt
-  listed_leaves (Some clause) grammar layout before text = steps after after _ _ _ _ (group_leaves grammar clause layout before.items text) (λ items less. less)
+  listed_leaves o grammar layout before text = found after _ o Syntax _ (λ clause. steps after after _ _ _ _ (group_leaves grammar clause layout before.items text) (λ items less. less))
 
   -- `async` and its queue make no text longer
   queued_leaves : (before : ClausesRead C) (text : List ℕ) → Leaves after (length text + 1) (queued before text)

@@ -197,7 +197,7 @@ module _ {A : Type 0} where
       next shorter read false less = refl
 
       by : IsEnough n step more → (r : Result (A × List ℕ) ScriptFault) → Leaves after (length text) r
-          → (r >>= after_step n step more) ≡ (r >>= after_step (suc n) step more)
+          → (r >>= after_step step more n) ≡ (r >>= after_step step more (suc n))
       by shorter (Ok read) less = next shorter read (more read.1) less
       by shorter (Err kind) less = refl
 

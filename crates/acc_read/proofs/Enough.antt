@@ -9,7 +9,6 @@ use Rattle.std.proofs.lemmas.List.Sums.{prefix_len-le-length}
 use Rattle.acc_base.specs.declared.faults.ScriptFault.{ScriptFault}
 use Rattle.acc_base.specs.declared.faults.ScriptFault.TheVariants.{Syntax, UnknownName}
 use Rattle.acc_base.specs.declared.items.Item.{Item}
-use Rattle.acc_read.specs.declared.arrays.Array.{Array}
 use Rattle.acc_read.specs.declared.items.Kind.{Kind}
 use Rattle.acc_read.specs.declared.items.Kind.TheVariants.{Sections, Items, Pointers}
 use Rattle.acc_read.specs.Reading.{◌>>=◌}
@@ -96,11 +95,6 @@ keyword_leaves : (keyword text : List ℕ) → Leaves alone (length text) (keywo
 unfolding keyword_at
 keyword_leaves keyword text = steps after alone _ _ _ _ (word_leaves text) (λ word less. either alone _ (bytes_eq word.0 keyword) _ _ less tt)
 
--- a name takes a byte at least
-name_leaves : (text : List ℕ) → Leaves after (length text) (name_at text)
-unfolding name_at
-name_leaves text = steps after after _ _ _ _ (word_leaves text) (λ word less. either after _ (is_name word.0) _ _ less tt)
-
 -- a number takes a byte at least
 number_leaves : (limit : ℕ) (text : List ℕ) → Leaves after (length text) (number_at limit text)
 unfolding number_at
@@ -115,40 +109,25 @@ number_leaves limit text = steps after after _ _ _ _ (word_leaves text) (λ word
 
 -- the name of an array takes a byte at least
 known_leaves : (layout : ArrayLayout) (text : List ℕ) → Leaves after (length text) (known_at layout text)
-unfolding known_at
-known_leaves layout text = steps after after _ _ _ _ (name_leaves text) (λ name less. found after _ (array_of name.0 layout) UnknownName (λ array. Ok (array, name.1)) (λ array. less))
-
--- an offset makes no text longer
-offset_leaves : (array : Array) (text : List ℕ) → Leaves after (length text + 1) (offset_at array text)
-unfolding offset_at
-offset_leaves array text = steps alone after _ _ _ _ (mark_leaves left_bracket text) (λ bracket l0. steps after after _ _ _ _ (number_leaves number_limit bracket) (λ from l1. steps alone after _ _ _ _ (mark_leaves right_bracket from.1) (λ close l2. omega arith)))
+unfolding known_at name_at
+known_leaves layout text = steps after after _ _ _ _ (steps after after _ _ _ _ (word_leaves text) (λ word less. either after _ (is_name word.0) _ _ less tt)) (λ name less. found after _ (array_of name.0 layout) UnknownName (λ array. Ok (array, name.1)) (λ array. less))
 
 -- an address takes a byte at least
 address_leaves : (layout : ArrayLayout) (text : List ℕ) → Leaves after (length text) (address_at layout text)
-unfolding address_at
-address_leaves layout text = steps after after _ _ _ _ (known_leaves layout text) (λ array less. within after _ _ _ (omega arith) (offset_leaves array.0 array.1))
-
--- a part of an array makes no text longer
-part_leaves : (array : Array) (text : List ℕ) → Leaves after (length text + 1) (part_at array text)
-unfolding part_at
-part_leaves array text = steps alone after _ _ _ _ (mark_leaves left_bracket text) (λ bracket l0. steps after after _ _ _ _ (number_leaves number_limit bracket) (λ from l1. steps alone after _ _ _ _ (mark_leaves colon from.1) (λ between l2. steps after after _ _ _ _ (number_leaves number_limit between) (λ len l3. steps alone after _ _ _ _ (mark_leaves right_bracket len.1) (λ close l4. omega arith)))))
+unfolding address_at offset_at
+address_leaves layout text = steps after after _ _ _ _ (known_leaves layout text) (λ array l0. steps alone after _ _ _ _ (mark_leaves left_bracket array.1) (λ bracket l1. steps after after _ _ _ _ (number_leaves number_limit bracket) (λ from l2. steps alone after _ _ _ _ (mark_leaves right_bracket from.1) (λ close l3. omega arith))))
 
 -- a section takes a byte at least
 section_leaves : (layout : ArrayLayout) (text : List ℕ) → Leaves after (length text) (section_at layout text)
-unfolding section_at
-section_leaves layout text = steps after after _ _ _ _ (known_leaves layout text) (λ array less. either after _ (is_mark_next left_bracket array.1) _ _ (within after _ _ _ (omega arith) (part_leaves array.0 array.1)) less)
+unfolding section_at part_at
+section_leaves layout text = steps after after _ _ _ _ (known_leaves layout text) (λ array l0. either after _ (is_mark_next left_bracket array.1) _ _ (steps alone after _ _ _ _ (mark_leaves left_bracket array.1) (λ bracket l1. steps after after _ _ _ _ (number_leaves number_limit bracket) (λ from l2. steps alone after _ _ _ _ (mark_leaves colon from.1) (λ between l3. steps after after _ _ _ _ (number_leaves number_limit between) (λ len l4. steps alone after _ _ _ _ (mark_leaves right_bracket len.1) (λ close l5. omega arith)))))) l0)
 
 -- ---- items
 
--- the pointer behind `via` takes a byte at least
-via_leaves : (layout : ArrayLayout) (text : List ℕ) → Leaves after (length text) (via_at layout text)
-unfolding via_at
-via_leaves layout text = steps alone after _ _ _ _ (keyword_leaves (codes "via") text) (λ rest l0. steps after after _ _ _ _ (address_leaves layout rest) (λ pointer l1. omega arith))
-
 -- the pointer to a section, if there is one, makes no text longer
 aim_leaves : (layout : ArrayLayout) (text : List ℕ) → Leaves after (length text + 1) (aim_at layout text)
-unfolding aim_at
-aim_leaves layout text = either after _ (is_word_next (codes "via") text) _ _ (within after _ _ _ (omega arith) (via_leaves layout text)) (omega arith)
+unfolding aim_at via_at
+aim_leaves layout text = either after _ (is_word_next (codes "via") text) _ _ (steps alone after _ _ _ _ (keyword_leaves (codes "via") text) (λ rest l0. steps after after _ _ _ _ (address_leaves layout rest) (λ pointer l1. omega arith))) (omega arith)
 
 -- what an item names takes a byte at least
 named_leaves : (kind : Kind) (layout : ArrayLayout) (text : List ℕ) → Leaves after (length text) (named_at kind layout text)
@@ -159,15 +138,10 @@ named_leaves Pointers layout text = steps after after _ _ _ _ (address_leaves la
 
 -- ---- queues
 
--- the number of a queue makes no text longer
-queue_number_leaves : (text : List ℕ) → Leaves after (length text + 1) (queue_number_at text)
-unfolding queue_number_at
-queue_number_leaves text = steps alone after _ _ _ _ (mark_leaves left_parenthesis text) (λ inside l0. steps after after _ _ _ _ (number_leaves number_limit inside) (λ number l1. steps alone after _ _ _ _ (mark_leaves right_parenthesis number.1) (λ close l2. omega arith)))
-
 -- the queue of `async` makes no text longer
 queue_leaves : (text : List ℕ) → Leaves after (length text + 1) (queue_at text)
-unfolding queue_at
-queue_leaves text = either after _ (is_mark_next left_parenthesis text) _ _ (queue_number_leaves text) (omega arith)
+unfolding queue_at queue_number_at
+queue_leaves text = either after _ (is_mark_next left_parenthesis text) _ _ (steps alone after _ _ _ _ (mark_leaves left_parenthesis text) (λ inside l0. steps after after _ _ _ _ (number_leaves number_limit inside) (λ number l1. steps alone after _ _ _ _ (mark_leaves right_parenthesis number.1) (λ close l2. omega arith)))) (omega arith)
 
 -- ---- one or more
 
@@ -243,17 +217,11 @@ module _ {C : Type 0} where
   items_enough extra kind clause layout before text =
       enough extra (item_at kind clause layout) (is_mark_next comma) (items_take kind clause layout) before text
 
-  -- a modifier takes a byte at least
-  modifier_leaves : (grammar : Grammar C) (clause : C) (text : List ℕ)
-      → Leaves after (length text) (modifier_at grammar clause text)
-  unfolding modifier_at
-  modifier_leaves grammar clause text = steps after after _ _ _ _ (word_leaves text) (λ word l0. steps alone after _ _ _ _ (mark_leaves colon word.1) (λ between l1. found after _ (grammar.modified clause word.0) Syntax (λ modified. Ok (modified, between)) (λ modified. omega arith)))
-
   -- a clause with its modifier, if it has one, makes no text longer
   modified_leaves : (grammar : Grammar C) (clause : C) (text : List ℕ)
       → Leaves after (length text + 1) (modified_at grammar clause text)
-  unfolding modified_at
-  modified_leaves grammar clause text = either after _ (is_word_before colon text) _ _ (within after _ _ _ (omega arith) (modifier_leaves grammar clause text)) (omega arith)
+  unfolding modified_at modifier_at
+  modified_leaves grammar clause text = either after _ (is_word_before colon text) _ _ (steps after after _ _ _ _ (word_leaves text) (λ word l0. steps alone after _ _ _ _ (mark_leaves colon word.1) (λ between l1. found after _ (grammar.modified clause word.0) Syntax (λ modified. Ok (modified, between)) (λ modified. omega arith)))) (omega arith)
 
   -- the items of a clause in parentheses make no text longer
   group_leaves : (grammar : Grammar C) (clause : C) (layout : ArrayLayout) (before : List (Item C)) (text : List ℕ)

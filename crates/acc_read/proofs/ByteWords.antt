@@ -1,5 +1,5 @@
 -- Words that say bytes.
-use Rattle.std.proofs.Common.{◌≡◌, ℕ, ◌<◌, ◌≤◌, ◌%◌, ◌-◌, ◌≢◌, Bool, true, false, cond, List, [], ◌∷◌, length, Some, None, Result, Ok, Err, refl, arith}
+use Rattle.std.proofs.Common.{◌≡◌, ℕ, ◌<◌, ◌≤◌, ◌%◌, ◌-◌, ◌≢◌, Bool, true, false, cond, List, [], ◌∷◌, length, Some, None, Ok, Err, refl, arith}
 use Rattle.std.specs.Prelude.{not, ◌||◌, ◌&&◌, nat_le, nat_lt, is_some, IsOk}
 use Rattle.std.specs.List.{list_all}
 use Rattle.std.specs.Char.{is_ascii_hexdigit}
@@ -7,16 +7,8 @@ use Rattle.std.proofs.lemmas.Bool.{le-ltb, lt-ltb, eq-eqb, and_parts}
 use Rattle.std.proofs.lemmas.List.Sums.{AllPass-from_list_all}
 use Rattle.hex.specs.Hex.{decode_of, is_hex_digit}
 use Rattle.hex.proofs.HexLemmas.{decode_of-digits}
-use Rattle.acc_base.specs.declared.faults.ScriptFault.{ScriptFault}
 use Rattle.acc_base.specs.declared.faults.ScriptFault.TheVariants.{Syntax, Number}
-use Rattle.acc_read.specs.Reading.{◌>>=◌, wants}
-use Rattle.acc_read.specs.Tokens.{word_at, is_at_end}
 use Rattle.acc_read.specs.Bytes.{digit_limit, bytes_said, decoded}
-use Rattle.acc_read.specs.Layout.{ArrayLayout}
-use Rattle.acc_read.specs.Places.{address_at}
-use Rattle.acc_read.specs.Statements.{Write, takes_memory, last_bytes_at, write_at}
-
--- ---- one word
 
 -- a digit of either case has a value
 has_value : (upper lower decimal : Bool) (a b c : ℕ) → (decimal || upper) || lower ≡ true
@@ -53,11 +45,11 @@ all_values (c ∷ word) e =
 
 -- a word with an even number of digits, and not too many, says bytes
 pub right_word : (word : List ℕ) → list_all is_ascii_hexdigit word ≡ true → length word ≤ 128 → length word % 2 ≢ 1
-    → IsOk (bytes_said word)
+    → (bytes : List ℕ) × (bytes_said word ≡ Ok bytes)
 unfolding bytes_said
 right_word word e few even =
     let bytes = decode_of-digits word (omega arith) (AllPass-from_list_all is_hex_digit word (all_values word e)) in
-    rw (e, le-ltb 128 (length word) few, bytes.1) refl
+    (bytes.0, rw (e, le-ltb 128 (length word) few, bytes.1) refl)
 
 -- the bytes that a right word is decoded to are those that it says
 pub word_decoded : (word bytes : List ℕ) → IsOk (bytes_said word) → decode_of word ≡ Ok bytes
@@ -71,52 +63,5 @@ word_decoded word bytes right e = by (list_all is_ascii_hexdigit word) (nat_lt d
     by true true h = absurd cc
     by true false h = rw e refl
 
--- ---- the last word of a line
-
--- a line without a word has no bytes
-pub no_word : (text : List ℕ) (kind : ScriptFault) → word_at text ≡ Err kind → last_bytes_at text ≡ Err kind
-unfolding last_bytes_at
-no_word text kind e = rw e refl
-
--- a word that says no bytes is at fault before the end of the line is looked at
-pub last_faulty : (text word rest : List ℕ) (kind : ScriptFault) → word_at text ≡ Ok (word, rest)
-    → bytes_said word ≡ Err kind → last_bytes_at text ≡ Err kind
-unfolding last_bytes_at
-last_faulty text word rest kind e f = rw (e, f) refl
-
--- a right word with more behind it
-pub last_open : (text word rest : List ℕ) → word_at text ≡ Ok (word, rest) → IsOk (bytes_said word)
-    → is_at_end rest ≡ false → last_bytes_at text ≡ Err Syntax
-unfolding last_bytes_at
-last_open text word rest e right more = rw e (by (bytes_said word) right)
-  where
-    by : (r : Result (List ℕ) ScriptFault) → IsOk r
-        → (r >>= (λ bytes. cond (is_at_end rest) (Ok bytes) (Err Syntax))) ≡ Err Syntax
-    by (Ok bytes) h = rw more refl
-    by (Err kind) h = absurd cc
-
--- a right word at the end of the line
-pub last_said : (text word rest : List ℕ) → word_at text ≡ Ok (word, rest) → is_at_end rest ≡ true
-    → last_bytes_at text ≡ bytes_said word
-unfolding last_bytes_at
-last_said text word rest e ends = rw e (by (bytes_said word))
-  where
-    by : (r : Result (List ℕ) ScriptFault) → (r >>= (λ bytes. cond (is_at_end rest) (Ok bytes) (Err Syntax))) ≡ r
-    by (Ok bytes) = rw ends refl
-    by (Err kind) = refl
-
--- a write of a right word is one that takes memory
-pub write_wants : (layout : ArrayLayout) (text rest word : List ℕ) (addr : ℕ) → address_at layout text ≡ Ok (addr, rest)
-    → last_bytes_at rest ≡ bytes_said word → IsOk (bytes_said word) → wants takes_memory (write_at layout text) ≡ true
-unfolding write_at
-write_wants layout text rest word addr e said right = rw (e, said) (by (bytes_said word) right)
-  where
-    by : (r : Result (List ℕ) ScriptFault) → IsOk r → wants takes_memory (r >>= (λ bytes. Ok (Write addr bytes))) ≡ true
-    by (Ok bytes) h = refl
-    by (Err kind) h = absurd cc
-
 -- what a word is said to be by its digits
 pub ruleset word_laws = (not_digits, many_digits, odd_digits, right_word)
-
--- what the last word of a line is said to be
-pub ruleset last_word_laws = (last_faulty, last_open, last_said, no_word)

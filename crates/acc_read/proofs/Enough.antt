@@ -1,26 +1,25 @@
 -- The fuel of a repetition is enough: each turn takes a byte at least, so more fuel changes nothing.
 use Rattle.std.proofs.Common.{◌≡◌, ℕ, zero, suc, ◌+◌, ◌<◌, ◌≤◌, Bool, true, false, cond, List, [], length, take, drop, length-drop, Option, Some, None, Result, Ok, Err, refl, sym, subst, ◌∙◌, arith}
-use Rattle.std.specs.Prelude.{is_some, ◌==◌, codes}
+use Rattle.std.specs.Prelude.{is_some, ok_or, ◌==◌, codes}
 use Rattle.std.specs.List.{prefix_len}
 use Rattle.std.specs.Str.{bytes_eq}
 use Rattle.std.proofs.lemmas.Bool.{eqb-false}
 use Rattle.std.proofs.lemmas.List.{nil_from_length}
 use Rattle.std.proofs.lemmas.List.Sums.{prefix_len-le-length}
 use Rattle.acc_base.specs.declared.faults.ScriptFault.{ScriptFault}
-use Rattle.acc_base.specs.declared.faults.ScriptFault.TheVariants.{Syntax}
+use Rattle.acc_base.specs.declared.faults.ScriptFault.TheVariants.{Syntax, UnknownName}
 use Rattle.acc_base.specs.declared.items.Item.{Item}
-use Rattle.acc_read.specs.declared.arrays.Array.{Array}
 use Rattle.acc_read.specs.declared.items.Kind.{Kind}
 use Rattle.acc_read.specs.declared.items.Kind.TheVariants.{Sections, Items, Pointers}
 use Rattle.acc_read.specs.Reading.{◌>>=◌}
 use Rattle.acc_read.specs.Repeating.{repeated}
 use Rattle.acc_read.specs.Tokens.{is_word_byte, is_blank, word_len, skip_blanks, word_at, keyword_at, is_word_next, is_name, name_at, number_said, number_at, number_limit, is_mark_next, mark_at, skip_comma, is_word_before, comma, colon, left_bracket, right_bracket, left_parenthesis, right_parenthesis}
 use Rattle.acc_read.specs.Layout.{ArrayLayout, array_of}
-use Rattle.acc_read.specs.Places.{known, known_at, offset_at, address_at, part_at, section_at}
+use Rattle.acc_read.specs.Places.{known_at, offset_at, address_at, part_at, section_at}
 use Rattle.acc_read.specs.Items.{via_at, aim_at, named_at}
 use Rattle.acc_read.specs.Queues.{queue_number_at, queue_at}
 use Rattle.acc_read.specs.Grammar.{Grammar}
-use Rattle.acc_read.specs.Clauses.{item_at, items_at, some_clause, modifier_at, modified_at, group_at, ClausesRead, listed, queued, clause_at, goes_on, all_clauses_at}
+use Rattle.acc_read.specs.Clauses.{item_at, items_at, modifier_at, modified_at, group_at, ClausesRead, listed, queued, clause_at, goes_on, all_clauses_at}
 use Rattle.acc_read.proofs.Repeated.{after_step}
 
 -- ---- fewer bytes than before
@@ -49,6 +48,12 @@ either : {A : Type 0} (rest : A → List ℕ) (n : ℕ) (b : Bool) (x y : Result
     → Leaves rest n y → Leaves rest n (cond b x y)
 either rest n true x y p q = p
 either rest n false x y p q = q
+
+-- a reading of what is there
+found : {A B : Type 0} (rest : B → List ℕ) (n : ℕ) (o : Option A) (kind : ScriptFault) (f : A → Result B ScriptFault)
+    → ((x : A) → Leaves rest n (f x)) → Leaves rest n (ok_or o kind >>= f)
+found rest n None kind f leaves = tt
+found rest n (Some x) kind f leaves = leaves x
 
 -- fewer bytes than so many are fewer than more
 within : {A : Type 0} (rest : A → List ℕ) (n m : ℕ) (read : Result A ScriptFault) → n ≤ m → Leaves rest n read
@@ -90,11 +95,6 @@ keyword_leaves : (keyword text : List ℕ) → Leaves alone (length text) (keywo
 unfolding keyword_at
 keyword_leaves keyword text = steps after alone _ _ _ _ (word_leaves text) (λ word less. either alone _ (bytes_eq word.0 keyword) _ _ less tt)
 
--- a name takes a byte at least
-name_leaves : (text : List ℕ) → Leaves after (length text) (name_at text)
-unfolding name_at
-name_leaves text = steps after after _ _ _ _ (word_leaves text) (λ word less. either after _ (is_name word.0) _ _ less tt)
-
 -- a number takes a byte at least
 number_leaves : (limit : ℕ) (text : List ℕ) → Leaves after (length text) (number_at limit text)
 unfolding number_at
@@ -109,44 +109,25 @@ number_leaves limit text = steps after after _ _ _ _ (word_leaves text) (λ word
 
 -- the name of an array takes a byte at least
 known_leaves : (layout : ArrayLayout) (text : List ℕ) → Leaves after (length text) (known_at layout text)
-unfolding known_at
-known_leaves layout text = steps after after _ _ _ _ (name_leaves text) (λ name less. by (array_of name.0 layout) name.1 less)
-  where
-    by : (o : Option Array) (rest : List ℕ) → length rest < length text → Leaves after (length text) (known o rest)
-    by None rest less = tt
-    by (Some array) rest less = less
-
--- an offset makes no text longer
-offset_leaves : (array : Array) (text : List ℕ) → Leaves after (length text + 1) (offset_at array text)
-unfolding offset_at
-offset_leaves array text = steps alone after _ _ _ _ (mark_leaves left_bracket text) (λ bracket l0. steps after after _ _ _ _ (number_leaves number_limit bracket) (λ from l1. steps alone after _ _ _ _ (mark_leaves right_bracket from.1) (λ close l2. omega arith)))
+unfolding known_at name_at
+known_leaves layout text = steps after after _ _ _ _ (steps after after _ _ _ _ (word_leaves text) (λ word less. either after _ (is_name word.0) _ _ less tt)) (λ name less. found after _ (array_of name.0 layout) UnknownName (λ array. Ok (array, name.1)) (λ array. less))
 
 -- an address takes a byte at least
 address_leaves : (layout : ArrayLayout) (text : List ℕ) → Leaves after (length text) (address_at layout text)
-unfolding address_at
-address_leaves layout text = steps after after _ _ _ _ (known_leaves layout text) (λ array less. within after _ _ _ (omega arith) (offset_leaves array.0 array.1))
-
--- a part of an array makes no text longer
-part_leaves : (array : Array) (text : List ℕ) → Leaves after (length text + 1) (part_at array text)
-unfolding part_at
-part_leaves array text = steps alone after _ _ _ _ (mark_leaves left_bracket text) (λ bracket l0. steps after after _ _ _ _ (number_leaves number_limit bracket) (λ from l1. steps alone after _ _ _ _ (mark_leaves colon from.1) (λ between l2. steps after after _ _ _ _ (number_leaves number_limit between) (λ len l3. steps alone after _ _ _ _ (mark_leaves right_bracket len.1) (λ close l4. omega arith)))))
+unfolding address_at offset_at
+address_leaves layout text = steps after after _ _ _ _ (known_leaves layout text) (λ array l0. steps alone after _ _ _ _ (mark_leaves left_bracket array.1) (λ bracket l1. steps after after _ _ _ _ (number_leaves number_limit bracket) (λ from l2. steps alone after _ _ _ _ (mark_leaves right_bracket from.1) (λ close l3. omega arith))))
 
 -- a section takes a byte at least
 section_leaves : (layout : ArrayLayout) (text : List ℕ) → Leaves after (length text) (section_at layout text)
-unfolding section_at
-section_leaves layout text = steps after after _ _ _ _ (known_leaves layout text) (λ array less. either after _ (is_mark_next left_bracket array.1) _ _ (within after _ _ _ (omega arith) (part_leaves array.0 array.1)) less)
+unfolding section_at part_at
+section_leaves layout text = steps after after _ _ _ _ (known_leaves layout text) (λ array l0. either after _ (is_mark_next left_bracket array.1) _ _ (steps alone after _ _ _ _ (mark_leaves left_bracket array.1) (λ bracket l1. steps after after _ _ _ _ (number_leaves number_limit bracket) (λ from l2. steps alone after _ _ _ _ (mark_leaves colon from.1) (λ between l3. steps after after _ _ _ _ (number_leaves number_limit between) (λ len l4. steps alone after _ _ _ _ (mark_leaves right_bracket len.1) (λ close l5. omega arith)))))) l0)
 
 -- ---- items
 
--- the pointer behind `via` takes a byte at least
-via_leaves : (layout : ArrayLayout) (text : List ℕ) → Leaves after (length text) (via_at layout text)
-unfolding via_at
-via_leaves layout text = steps alone after _ _ _ _ (keyword_leaves (codes "via") text) (λ rest l0. steps after after _ _ _ _ (address_leaves layout rest) (λ pointer l1. omega arith))
-
 -- the pointer to a section, if there is one, makes no text longer
 aim_leaves : (layout : ArrayLayout) (text : List ℕ) → Leaves after (length text + 1) (aim_at layout text)
-unfolding aim_at
-aim_leaves layout text = either after _ (is_word_next (codes "via") text) _ _ (within after _ _ _ (omega arith) (via_leaves layout text)) (omega arith)
+unfolding aim_at via_at
+aim_leaves layout text = either after _ (is_word_next (codes "via") text) _ _ (steps alone after _ _ _ _ (keyword_leaves (codes "via") text) (λ rest l0. steps after after _ _ _ _ (address_leaves layout rest) (λ pointer l1. omega arith))) (omega arith)
 
 -- what an item names takes a byte at least
 named_leaves : (kind : Kind) (layout : ArrayLayout) (text : List ℕ) → Leaves after (length text) (named_at kind layout text)
@@ -157,15 +138,10 @@ named_leaves Pointers layout text = steps after after _ _ _ _ (address_leaves la
 
 -- ---- queues
 
--- the number of a queue makes no text longer
-queue_number_leaves : (text : List ℕ) → Leaves after (length text + 1) (queue_number_at text)
-unfolding queue_number_at
-queue_number_leaves text = steps alone after _ _ _ _ (mark_leaves left_parenthesis text) (λ inside l0. steps after after _ _ _ _ (number_leaves number_limit inside) (λ number l1. steps alone after _ _ _ _ (mark_leaves right_parenthesis number.1) (λ close l2. omega arith)))
-
 -- the queue of `async` makes no text longer
 queue_leaves : (text : List ℕ) → Leaves after (length text + 1) (queue_at text)
-unfolding queue_at
-queue_leaves text = either after _ (is_mark_next left_parenthesis text) _ _ (queue_number_leaves text) (omega arith)
+unfolding queue_at queue_number_at
+queue_leaves text = either after _ (is_mark_next left_parenthesis text) _ _ (steps alone after _ _ _ _ (mark_leaves left_parenthesis text) (λ inside l0. steps after after _ _ _ _ (number_leaves number_limit inside) (λ number l1. steps alone after _ _ _ _ (mark_leaves right_parenthesis number.1) (λ close l2. omega arith)))) (omega arith)
 
 -- ---- one or more
 
@@ -195,7 +171,7 @@ module _ {A : Type 0} where
       next shorter read false less = refl
 
       by : IsEnough n step more → (r : Result (A × List ℕ) ScriptFault) → Leaves after (length text) r
-          → (r >>= after_step n step more) ≡ (r >>= after_step (suc n) step more)
+          → (r >>= after_step step more n) ≡ (r >>= after_step step more (suc n))
       by shorter (Ok read) less = next shorter read (more read.1) less
       by shorter (Err kind) less = refl
 
@@ -241,21 +217,11 @@ module _ {C : Type 0} where
   items_enough extra kind clause layout before text =
       enough extra (item_at kind clause layout) (is_mark_next comma) (items_take kind clause layout) before text
 
-  -- a modifier takes a byte at least
-  modifier_leaves : (grammar : Grammar C) (clause : C) (text : List ℕ)
-      → Leaves after (length text) (modifier_at grammar clause text)
-  unfolding modifier_at
-  modifier_leaves grammar clause text = steps after after _ _ _ _ (word_leaves text) (λ word l0. steps alone after _ _ _ _ (mark_leaves colon word.1) (λ between l1. by (grammar.modified clause word.0) between (omega arith)))
-    where
-      by : (o : Option C) (rest : List ℕ) → length rest < length text → Leaves after (length text) (some_clause o rest)
-      by None rest less = tt
-      by (Some modified) rest less = less
-
   -- a clause with its modifier, if it has one, makes no text longer
   modified_leaves : (grammar : Grammar C) (clause : C) (text : List ℕ)
       → Leaves after (length text + 1) (modified_at grammar clause text)
-  unfolding modified_at
-  modified_leaves grammar clause text = either after _ (is_word_before colon text) _ _ (within after _ _ _ (omega arith) (modifier_leaves grammar clause text)) (omega arith)
+  unfolding modified_at modifier_at
+  modified_leaves grammar clause text = either after _ (is_word_before colon text) _ _ (steps after after _ _ _ _ (word_leaves text) (λ word l0. steps alone after _ _ _ _ (mark_leaves colon word.1) (λ between l1. found after _ (grammar.modified clause word.0) Syntax (λ modified. Ok (modified, between)) (λ modified. omega arith)))) (omega arith)
 
   -- the items of a clause in parentheses make no text longer
   group_leaves : (grammar : Grammar C) (clause : C) (layout : ArrayLayout) (before : List (Item C)) (text : List ℕ)
@@ -266,8 +232,7 @@ module _ {C : Type 0} where
   -- a clause of a word makes no text longer
   listed_leaves : (o : Option C) (grammar : Grammar C) (layout : ArrayLayout) (before : ClausesRead C) (text : List ℕ)
       → Leaves after (length text + 1) (listed o grammar layout before text)
-  listed_leaves None grammar layout before text = tt
-  listed_leaves (Some clause) grammar layout before text = steps after after _ _ _ _ (group_leaves grammar clause layout before.items text) (λ items less. less)
+  listed_leaves o grammar layout before text = found after _ o Syntax _ (λ clause. steps after after _ _ _ _ (group_leaves grammar clause layout before.items text) (λ items less. less))
 
   -- `async` and its queue make no text longer
   queued_leaves : (before : ClausesRead C) (text : List ℕ) → Leaves after (length text + 1) (queued before text)

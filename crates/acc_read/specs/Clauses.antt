@@ -1,5 +1,5 @@
 -- The clauses and options of a directive.
-use Rattle.std.specs.Prelude.{ℕ, Bool, true, false, not, List, [], ◌∷◌, ◌++◌, length, Option, Some, None, Result, Ok, Err, is_some, ◌==◌, if◌then◌else◌}
+use Rattle.std.specs.Prelude.{ℕ, Bool, true, false, not, List, [], ◌∷◌, ◌++◌, length, Option, Some, None, Result, Ok, Err, ok_or, is_some, ◌==◌, if◌then◌else◌}
 use Rattle.acc_base.specs.declared.faults.ScriptFault.{ScriptFault}
 use Rattle.acc_base.specs.declared.faults.ScriptFault.TheVariants.{Syntax}
 use Rattle.acc_base.specs.declared.items.Item.{Item}
@@ -28,17 +28,13 @@ items_at kind clause layout before text = one_or_more (item_at kind clause layou
 
 -- ---- a clause
 
--- this clause, where there is one
-abbrev pub some_clause : {C : Type 0} → Option C → List ℕ → Result (C × List ℕ) ScriptFault
-some_clause None rest = Err Syntax
-some_clause (Some clause) rest = Ok (clause, rest)
-
 -- a modifier, and the colon after it
 unfoldable pub modifier_at : {C : Type 0} → Grammar C → C → List ℕ → Result (C × List ℕ) ScriptFault
 modifier_at grammar clause text = do
   word ← word_at text
   between ← mark_at colon word.1
-  some_clause (grammar.modified clause word.0) between
+  modified ← ok_or (grammar.modified clause word.0) Syntax
+  Ok (modified, between)
 
 -- the first word is a modifier exactly where a colon follows it
 unfoldable pub modified_at : {C : Type 0} → Grammar C → C → List ℕ → Result (C × List ℕ) ScriptFault
@@ -70,8 +66,8 @@ nothing_read = record { items = []; has_option = false; queue = None }
 -- the items of the clause of a word, behind those before, if the word is one
 abbrev pub listed : {C : Type 0} → Option C → Grammar C → ArrayLayout → ClausesRead C → List ℕ
     → Result (ClausesRead C × List ℕ) ScriptFault
-listed None grammar layout before rest = Err Syntax
-listed (Some clause) grammar layout before rest = do
+listed named grammar layout before rest = do
+  clause ← ok_or named Syntax
   items ← group_at grammar clause layout before.items rest
   Ok (record before { items = items.0 }, items.1)
 

@@ -44,13 +44,10 @@ region_clause_of word = if bytes_eq word (codes "copy") then Some region.Copy
 
 -- a clause of `data` with a modifier; `readonly` changes nothing
 abbrev pub region_modified : RegionClause → List ℕ → Option RegionClause
-region_modified region.Copy word = None
 region_modified region.Copyin word = if bytes_eq word (codes "readonly") then Some region.Copyin else None
 region_modified (region.Copyout filled) word = if bytes_eq word (codes "zero") then Some (region.Copyout true) else None
 region_modified (region.Create filled) word = if bytes_eq word (codes "zero") then Some (region.Create true) else None
-region_modified region.NoCreate word = None
-region_modified region.Present word = None
-region_modified region.Attach word = None
+region_modified _ word = None
 
 -- what a clause of `data` lists
 abbrev pub region_lists : RegionClause → Kind

@@ -1,5 +1,5 @@
 -- Addresses and sections of host memory, said by the names of arrays.
-use Rattle.std.specs.Prelude.{ℕ, List, Option, Some, None, Result, Ok, Err, if◌then◌else◌}
+use Rattle.std.specs.Prelude.{ℕ, List, Result, Ok, Err, ok_or, if◌then◌else◌}
 use Rattle.acc_base.specs.declared.faults.ScriptFault.{ScriptFault}
 use Rattle.acc_base.specs.declared.faults.ScriptFault.TheVariants.{Syntax, UnknownName}
 use Rattle.acc_base.specs.declared.items.Section.{Section}
@@ -8,16 +8,12 @@ use Rattle.acc_read.specs.Reading.{◌>>=◌}
 use Rattle.acc_read.specs.Tokens.{name_at, number_at, number_limit, mark_at, is_mark_next, is_at_end, left_bracket, right_bracket, colon}
 use Rattle.acc_read.specs.Layout.{ArrayLayout, array_of, whole, part_of, byte_of}
 
--- an array, if its name is declared, and the text after the name
-abbrev pub known : Option Array → List ℕ → Result (Array × List ℕ) ScriptFault
-known None rest = Err UnknownName
-known (Some array) rest = Ok (array, rest)
-
--- the array that the next word names, and the text after it
+-- the array that the next word names, if it is declared, and the text after it
 unfoldable pub known_at : ArrayLayout → List ℕ → Result (Array × List ℕ) ScriptFault
 known_at layout text = do
   name ← name_at text
-  known (array_of name.0 layout) name.1
+  array ← ok_or (array_of name.0 layout) UnknownName
+  Ok (array, name.1)
 
 -- ---- an address
 

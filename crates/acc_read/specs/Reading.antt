@@ -1,5 +1,5 @@
 -- Reading that may fail: one step after the other, with the first fault that is met.
-use Rattle.std.specs.Prelude.{◌≡◌, Bool, true, false, Result, Ok, Err, IsOk}
+use Rattle.std.specs.Prelude.{◌≡◌, Bool, true, false, Result, Ok, Err}
 use Rattle.acc_base.specs.declared.faults.ScriptFault.{ScriptFault}
 use Rattle.acc_read.specs.declared.troubles.Trouble.{Trouble}
 use Rattle.acc_read.specs.declared.troubles.Trouble.TheVariants as trouble
@@ -17,7 +17,7 @@ Reads view (Err kind) read = read ≡ Err kind
 
 -- what a check answered is that reading meets no fault, or the fault
 abbrev pub Checks : {X Y : Type 0} → Result X ScriptFault → Result Y ScriptFault → Type 0
-Checks (Ok x) read = IsOk read
+Checks {X} {Y} (Ok x) read = (y : Y) × (read ≡ Ok y)
 Checks (Err kind) read = read ≡ Err kind
 
 -- reading meets no fault and gives what needs memory

@@ -1,5 +1,5 @@
 -- What a line says, or its first fault.
-use Rattle.std.specs.Prelude.{ℕ, ◌||◌, Bool, true, false, not, ◌&&◌, List, length, Option, Some, None, Result, Ok, Err, is_some, ◌==◌, nat_lt, nat_le, if◌then◌else◌, codes}
+use Rattle.std.specs.Prelude.{ℕ, ◌||◌, Bool, true, false, not, ◌&&◌, List, length, Option, Some, None, Result, Ok, Err, ok_or, is_some, ◌==◌, nat_lt, nat_le, if◌then◌else◌, codes}
 use Rattle.std.specs.List.{list_all, before_first}
 use Rattle.std.specs.Str.{bytes_eq}
 use Rattle.std.specs.Int.{to_le_bytes, w64}
@@ -46,10 +46,11 @@ takes_memory (Direct directive) = has_items directive
 takes_memory (Write addr bytes) = true
 takes_memory _ = false
 
--- a new array of a name, if host memory has room for it
-abbrev pub declared : List ℕ → Option Array → Result Meaning ScriptFault
-declared name None = Err HostFull
-declared name (Some array) = Ok (Declare name array)
+-- a new array of a name and a length, if host memory has room for it
+abbrev pub declared : List ℕ → ℕ → ArrayLayout → Result Meaning ScriptFault
+declared name len layout = do
+  array ← ok_or (next_array len layout) HostFull
+  Ok (Declare name array)
 
 -- the length of a new array
 unfoldable pub length_at : List ℕ → ArrayLayout → List ℕ → Result Meaning ScriptFault
@@ -57,7 +58,7 @@ length_at name layout text = do
   len ← number_at number_limit text
   if len.0 == 0 then Err Number
       else if not (is_at_end len.1) then Err Syntax
-      else declared name (next_array len.0 layout)
+      else declared name len.0 layout
 
 -- `array NAME N`
 unfoldable pub array_at : ArrayLayout → List ℕ → Result Meaning ScriptFault
@@ -75,8 +76,9 @@ data_at layout text = do
 
 -- the exit from the innermost open region, where one is open
 abbrev pub exited : Option ℕ → Result Meaning ScriptFault
-exited None = Err NoOpenRegion
-exited (Some number) = Ok (Direct (Exit number))
+exited innermost = do
+  number ← ok_or innermost NoOpenRegion
+  Ok (Direct (Exit number))
 
 -- `end data`, of the innermost open region; a fault of syntax is told before there is none
 unfoldable pub end_at : Option ℕ → List ℕ → Result Meaning ScriptFault
@@ -122,33 +124,23 @@ step_at text = do
 
 -- ---- kernels
 
--- a kernel and its section in the innermost open region, where one is open
-abbrev pub launch_said : Option ℕ → ScriptKernel × Section → Result Meaning ScriptFault
-launch_said None read = Err NoOpenRegion
-launch_said (Some region) read = Ok (Kernel region read.0 read.1)
-
 -- `kernel`, a kernel and its section, in the innermost open region; each other fault of the line is told before there
 -- is none (OpenACC 3.3, section 2.5, compute constructs)
 unfoldable pub kernel_at : ArrayLayout → Option ℕ → List ℕ → Result Meaning ScriptFault
 kernel_at layout innermost text = do
   read ← last_kernel_at layout text
-  launch_said innermost read
+  region ← ok_or innermost NoOpenRegion
+  Ok (Kernel region read.0 read.1)
 
 -- ---- writes
-
--- bytes, up to the end of the line
-unfoldable pub last_bytes_at : List ℕ → Result (List ℕ) ScriptFault
-last_bytes_at text = do
-  word ← word_at text
-  bytes ← bytes_said word.0
-  if is_at_end word.1 then Ok bytes else Err Syntax
 
 -- `write NAME[N] HEX`
 unfoldable pub write_at : ArrayLayout → List ℕ → Result Meaning ScriptFault
 write_at layout text = do
   addr ← address_at layout text
-  bytes ← last_bytes_at addr.1
-  Ok (Write addr.0 bytes)
+  word ← word_at addr.1
+  bytes ← bytes_said word.0
+  if is_at_end word.1 then Ok (Write addr.0 bytes) else Err Syntax
 
 -- `point PLACE to PLACE`: the eight bytes of the second address, lowest first, written at the first
 unfoldable pub point_at : ArrayLayout → List ℕ → Result Meaning ScriptFault

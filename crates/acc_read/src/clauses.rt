@@ -81,10 +81,8 @@ fn modifier_at<C: Clause>(clause: C, text: &[u8]) -> Result<(C, &[u8]), ScriptFa
 {
     let (word, rest) = word_at(text)?;
     let rest = mark_at(b':', rest)?;
-    match clause.with_modifier(word) {
-        None => Err(ScriptFault::Syntax),
-        Some(modified) => Ok((modified, rest)),
-    }
+    let modified = clause.with_modifier(word).ok_or(ScriptFault::Syntax)?;
+    Ok((modified, rest))
 }
 
 /// A clause with the modifier that stands next, if one does; the text after it. The first word is a modifier exactly
@@ -151,10 +149,8 @@ fn clause_at<'a, C: Clause>(
     if C::is_async(word) {
         return queued(unfinished, rest);
     }
-    match C::from_word(word) {
-        None => Err(ScriptFault::Syntax),
-        Some(clause) => group_at(clause, arrays, &mut unfinished.items, rest),
-    }
+    let clause = C::from_word(word).ok_or(ScriptFault::Syntax)?;
+    group_at(clause, arrays, &mut unfinished.items, rest)
 }
 
 /// The clauses and options up to the end of the line, behind those before; the text after them.

@@ -31,10 +31,8 @@ pub fn end_at(innermost: Option<u64>, text: &[u8]) -> Result<Statement<'static>,
     if !is_at_end(rest) {
         return Err(ScriptFault::Syntax);
     }
-    match innermost {
-        None => Err(ScriptFault::NoOpenRegion),
-        Some(number) => Ok(Statement::Direct(Directive::Exit { number })),
-    }
+    let number = innermost.ok_or(ScriptFault::NoOpenRegion)?;
+    Ok(Statement::Direct(Directive::Exit { number }))
 }
 
 /// The `enter data` directive.

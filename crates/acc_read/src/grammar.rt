@@ -65,25 +65,14 @@ impl Clause for RegionClause {
             RegionClause::Create { .. } if is_text(word, "zero") => {
                 Some(RegionClause::Create { zero: true })
             }
-            RegionClause::Copy
-            | RegionClause::Copyin
-            | RegionClause::Copyout { .. }
-            | RegionClause::Create { .. }
-            | RegionClause::NoCreate
-            | RegionClause::Present
-            | RegionClause::Attach => None,
+            _ => None,
         }
     }
 
     fn lists(self) -> Kind {
         match self {
             RegionClause::Attach => Kind::Pointers,
-            RegionClause::Copy
-            | RegionClause::Copyin
-            | RegionClause::Copyout { .. }
-            | RegionClause::Create { .. }
-            | RegionClause::NoCreate
-            | RegionClause::Present => Kind::Items,
+            _ => Kind::Items,
         }
     }
 
@@ -117,14 +106,14 @@ impl Clause for EnterClause {
             EnterClause::Create { .. } if is_text(word, "zero") => {
                 Some(EnterClause::Create { zero: true })
             }
-            EnterClause::Copyin | EnterClause::Create { .. } | EnterClause::Attach => None,
+            _ => None,
         }
     }
 
     fn lists(self) -> Kind {
         match self {
             EnterClause::Attach => Kind::Pointers,
-            EnterClause::Copyin | EnterClause::Create { .. } => Kind::Items,
+            _ => Kind::Items,
         }
     }
 
@@ -159,7 +148,7 @@ impl Clause for ExitClause {
     fn lists(self) -> Kind {
         match self {
             ExitClause::Detach => Kind::Pointers,
-            ExitClause::Copyout | ExitClause::Delete => Kind::Items,
+            _ => Kind::Items,
         }
     }
 

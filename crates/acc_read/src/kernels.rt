@@ -89,12 +89,10 @@ pub fn kernel_at(
     ensures { Reads meaning_of result (kernel_at arrays.now innermost text.now) }
 {
     let (kernel, section) = last_kernel_at(arrays, text)?;
-    match innermost {
-        None => Err(ScriptFault::NoOpenRegion),
-        Some(region) => Ok(Statement::Kernel {
-            region,
-            kernel,
-            section,
-        }),
-    }
+    let region = innermost.ok_or(ScriptFault::NoOpenRegion)?;
+    Ok(Statement::Kernel {
+        region,
+        kernel,
+        section,
+    })
 }

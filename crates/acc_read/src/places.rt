@@ -13,10 +13,8 @@ fn known_at<'a>(arrays: &Arrays, text: &'a [u8]) -> Result<(Array, &'a [u8]), Sc
     ensures { Reads (λ x. (x.0, x.1.now)) result (known_at arrays.now text.now) }
 {
     let (name, rest) = name_at(text)?;
-    match arrays.get(name) {
-        None => Err(ScriptFault::UnknownName),
-        Some(array) => Ok((array, rest)),
-    }
+    let array = arrays.get(name).ok_or(ScriptFault::UnknownName)?;
+    Ok((array, rest))
 }
 
 /// An offset of an array in brackets, as an address, and the text after it.

@@ -196,8 +196,6 @@ fn length_at<'a>(name: &'a [u8], arrays: &Arrays, text: &[u8]) -> Result<Stateme
     if !is_at_end(rest) {
         return Err(ScriptFault::Syntax);
     }
-    match arrays.next_array(len) {
-        None => Err(ScriptFault::HostFull),
-        Some(array) => Ok(Statement::Declare { name, array }),
-    }
+    let array = arrays.next_array(len).ok_or(ScriptFault::HostFull)?;
+    Ok(Statement::Declare { name, array })
 }

@@ -1,10 +1,9 @@
 //! The statements that write host memory.
 
-ghost use Rattle.std.specs.Prelude.{◌≡◌, IsOk, MatchResult};
+ghost use Rattle.std.specs.Prelude.{◌≡◌};
 ghost use Rattle.acc_read.specs.Reading.{Gives};
-ghost use Rattle.acc_read.specs.Statements.{write_at, last_bytes_at, point_at, takes_memory};
+ghost use Rattle.acc_read.specs.Statements.{write_at, point_at, takes_memory};
 ghost use Rattle.acc_read.specs.Meanings.{meaning_of};
-ghost use Rattle.acc_read.specs.Bytes.{bytes_said};
 
 use crate::arrays::Arrays;
 use crate::places::{address_at, last_address_at};
@@ -15,29 +14,18 @@ use acc_base::{List, ScriptFault};
 use std::alloc::Global;
 
 /// The address and the bytes of a `write`.
-#[tactic(auto, unfolding(crate::specs::Statements::write_at), using(crate::proofs::ByteWords::write_wants))]
+#[tactic(auto, unfolding(crate::specs::Statements::write_at))]
 pub fn write_at(alloc: Global, arrays: &Arrays, text: &[u8]) -> Result<Statement<'static>, Trouble>
     ensures { Gives takes_memory meaning_of result (write_at arrays.now text.now) }
 {
     let (addr, rest) = address_at(arrays, text)?;
-    let word = last_bytes_at(rest)?;
-    let bytes = bytes_said(alloc, word)?;
-    Ok(Statement::Write { addr, bytes })
-}
-
-/// A word that says bytes, up to the end of the line.
-#[tactic(auto, using(crate::proofs::ByteWords::last_word_laws))]
-fn last_bytes_at(text: &[u8]) -> Result<&[u8], ScriptFault>
-    ensures { MatchResult result
-        (λ word. IsOk (bytes_said word.now) × (last_bytes_at text.now ≡ bytes_said word.now))
-        (λ kind. last_bytes_at text.now ≡ Err kind) }
-{
-    let (word, rest) = word_at(text)?;
+    let (word, rest) = word_at(rest)?;
     check_bytes(word)?;
     if !is_at_end(rest) {
-        return Err(ScriptFault::Syntax);
+        return Err(Trouble::Line(ScriptFault::Syntax));
     }
-    Ok(word)
+    let bytes = bytes_said(alloc, word)?;
+    Ok(Statement::Write { addr, bytes })
 }
 
 /// The pointer of a `point` and the address that is written into it.

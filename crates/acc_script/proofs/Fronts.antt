@@ -1,5 +1,5 @@
 -- A sink that failed in one of several pieces took a front of all of them.
-use Rattle.std.proofs.Common.{Bool, true, false, ◌≡◌, ℕ, suc, ◌<◌, List, [], ◌++◌, length, get_or, take, drop, Option, Some, None, refl, sym, ap, ◌∙◌, append_assoc}
+use Rattle.std.proofs.Common.{Bool, true, false, ◌≡◌, ℕ, suc, ◌<◌, List, [], ◌++◌, length, get_or, take, drop, Option, Some, None, refl, sym, ap, ◌∙◌, append_assoc, rules}
 use Rattle.std.specs.List.{flat_map}
 use Rattle.std.proofs.lemmas.List.{take-append-drop, append-nil}
 use Rattle.std.proofs.lemmas.List.Concat.{flat_map-append, flat_map-cons}
@@ -10,9 +10,6 @@ use Rattle.acc_script.specs.Ends.{Wrote}
 -- a sink took one text, failed in the next, and others follow
 pub Took-then_front : (a b c : Option Taken) (xs ys more : List ℕ) → Took a b xs → TookFront b c ys
     → TookFront a c (xs ++ (ys ++ more))
-Took-then_front None b c xs ys more p q = tt
-Took-then_front (Some a) None c xs ys more p q = absurd p
-Took-then_front (Some a) (Some b) None xs ys more p q = absurd q
 Took-then_front (Some a) (Some b) (Some c) xs ys more p q = (
   xs ++ q.0,
   q.1 ++ more,
@@ -20,6 +17,7 @@ Took-then_front (Some a) (Some b) (Some c) xs ys more p q = (
   q.3 ∙ ap (λ (x : List ℕ). x ++ q.0) p.0 ∙ append_assoc a.bytes xs q.0,
   q.4 ∙ ap one_more p.1,
 )
+Took-then_front _ _ _ xs ys more p q = search rules
 
 -- a sink took some pieces and failed in the next
 pub front_of_pieces : {X : Type 0} (f : X → List ℕ) (a b c : Option Taken) (pieces : List X) (i : ℕ) (d : X)
@@ -33,24 +31,18 @@ front_of_pieces {X} f a b c pieces i d lt p q =
 
 -- a sink took one text, and then another
 pub Took_then : (a b c : Option Taken) (xs ys : List ℕ) → Took a b xs → Took b c ys → Took a c (xs ++ ys)
-Took_then None b c xs ys p q = tt
-Took_then (Some a) None c xs ys p q = absurd p
-Took_then (Some a) (Some b) None xs ys p q = absurd q
 Took_then (Some a) (Some b) (Some c) xs ys p q =
     (q.0 ∙ ap (λ (x : List ℕ). x ++ ys) p.0 ∙ append_assoc a.bytes xs ys, q.1 ∙ p.1)
+Took_then _ _ _ xs ys p q = search rules
 
 -- a front of a text is one of the text with more behind it
 pub front_more : (a b : Option Taken) (xs ys : List ℕ) → TookFront a b xs → TookFront a b (xs ++ ys)
-front_more None b xs ys p = tt
-front_more (Some a) None xs ys p = absurd p
 front_more (Some a) (Some b) xs ys p =
     (p.0, p.1 ++ ys, ap (λ (z : List ℕ). z ++ ys) p.2 ∙ append_assoc p.0 p.1 ys, p.3, p.4)
+front_more _ _ xs ys p = search rules
 
 -- a sink took one text and failed in the next
 pub front_then : (a b c : Option Taken) (xs ys : List ℕ) → Took a b xs → TookFront b c ys → TookFront a c (xs ++ ys)
-front_then None b c xs ys p q = tt
-front_then (Some a) None c xs ys p q = absurd p
-front_then (Some a) (Some b) None xs ys p q = absurd q
 front_then (Some a) (Some b) (Some c) xs ys p q = (
   xs ++ q.0,
   q.1,
@@ -58,6 +50,7 @@ front_then (Some a) (Some b) (Some c) xs ys p q = (
   q.3 ∙ ap (λ (x : List ℕ). x ++ q.0) p.0 ∙ append_assoc a.bytes xs q.0,
   q.4 ∙ ap one_more p.1,
 )
+front_then _ _ _ xs ys p q = search rules
 
 -- a text that was written, and what was then written of another
 pub wrote_then : (a b c : Option Taken) (xs ys : List ℕ) (done : Bool) → Took a b xs → Wrote b c ys done
@@ -69,3 +62,6 @@ wrote_then a b c xs ys false p q = front_then a b c xs ys p q
 pub took_nothing : (a : Option Taken) → Took a a []
 took_nothing None = tt
 took_nothing (Some a) = (sym (append-nil a.bytes), refl)
+
+-- a text that was written in parts
+pub ruleset writing_laws = (wrote_then, Took_then, front_more, front_then)

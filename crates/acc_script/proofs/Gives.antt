@@ -1,8 +1,8 @@
 -- What a source gives over several reads.
-use Rattle.std.proofs.Common.{◌≡◌, ℕ, ◌+◌, ◌≤◌, List, ◌++◌, length, take, drop, Option, Some, None, refl, sym, ap, ◌∙◌, append_assoc}
+use Rattle.std.proofs.Common.{◌≡◌, ℕ, ◌+◌, ◌≤◌, List, ◌++◌, length, take, drop, Option, Some, None, refl, sym, ap, ◌∙◌, append_assoc, rules}
 use Rattle.std.proofs.lemmas.List.{take_at, take-append-le, take-append-drop, drop-drop}
 use Rattle.std.proofs.Math.Seq.{take-add}
-use Rattle.acc_script.specs.Told.{Given, Gave, GaveAll, Becomes, after_read}
+use Rattle.acc_script.specs.Told.{Given, Gave, Becomes, after_read}
 
 -- the bytes up to a place and some more, as those before and those given
 pub given_further : (at n : ℕ) (bytes given rest : List ℕ) → given ≡ take n (drop at bytes) → length given ≡ n
@@ -12,19 +12,9 @@ given_further at n bytes given rest e len =
 
 -- bytes that a source gave, and then others
 pub Gave-then : (a b c : Option Given) (xs ys : List ℕ) → Gave a b xs → Gave b c ys → Gave a c (xs ++ ys)
-Gave-then None b c xs ys p q = tt
-Gave-then (Some a) None c xs ys p q = absurd p
-Gave-then (Some a) (Some b) None xs ys p q = absurd q
 Gave-then (Some a) (Some b) (Some c) xs ys p q =
     (q.0 ∙ ap (λ (x : List ℕ). x ++ ys) p.0 ∙ append_assoc a.bytes xs ys, q.1 ∙ p.1)
-
--- bytes that a source gave, and then the others up to its end
-pub Gave-then_all : (a b c : Option Given) (xs ys : List ℕ) → Gave a b xs → GaveAll b c ys → GaveAll a c (xs ++ ys)
-Gave-then_all None b c xs ys p q = tt
-Gave-then_all (Some a) None c xs ys p q = absurd p
-Gave-then_all (Some a) (Some b) None xs ys p q = absurd q
-Gave-then_all (Some a) (Some b) (Some c) xs ys p q =
-    (q.0 ∙ ap (λ (x : List ℕ). x ++ ys) p.0 ∙ append_assoc a.bytes xs ys, q.1, q.2 ∙ p.1)
+Gave-then _ _ _ xs ys p q = search rules
 
 -- a read into the front of a piece gave what is there
 pub gave_part : (a b : Option Given) (n : ℕ) (part rest : List ℕ) → n ≤ length part

@@ -8,6 +8,7 @@ pub mod Launched
 pub mod Digits
 pub mod Parts
 pub mod LineByLine
+pub mod Rising
 pub mod RisingRanges
 pub mod LeftToWrite
 pub mod AttachedWords

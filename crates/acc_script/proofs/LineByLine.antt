@@ -1,25 +1,24 @@
 -- One more line of a script.
-use Rattle.std.proofs.Common.{◌≡◌, ℕ, ◌+◌, ◌<◌, Bool, true, false, cond, List, [], ◌∷◌, ◌++◌, length, get_or, take, drop, Option, Result, Ok, Err, refl, sym, ap, subst, ◌∙◌, arith}
+use Rattle.std.proofs.Common.{◌≡◌, ℕ, suc, ◌+◌, ◌<◌, Bool, true, false, List, [], ◌∷◌, length, take, Option, Result, Ok, Err, refl, sym, ap, subst, arith}
 use Rattle.std.specs.Prelude.{◌||◌, ◌==◌}
 use Rattle.std.specs.List.{concat}
 use Rattle.std.proofs.lemmas.Bool.Decides.{nat_tests}
-use Rattle.std.proofs.lemmas.List.{append-nil, take-append-drop, drop-drop, nil_from_length, get_or-drop}
-use Rattle.std.proofs.lemmas.List.Folds.{concat-append}
-use Rattle.std.proofs.Math.Seq.{take-add}
+use Rattle.std.proofs.lemmas.List.{nil_from_length}
 use Rattle.acc_base.specs.declared.faults.Fault.{Fault}
 use Rattle.acc_base.specs.declared.faults.Fault.TheVariants.{Memory, Script, Write}
 use Rattle.acc_base.specs.declared.faults.ScriptFault.{ScriptFault}
 use Rattle.acc_base.specs.declared.faults.ScriptFault.TheVariants.{Unclosed}
 use Rattle.acc_base.specs.Calls.{open_regions}
 use Rattle.acc_script.specs.declared.print.effects.Effect.{Effect}
+use Rattle.acc_script.specs.declared.runs.Status.{Status}
 use Rattle.acc_script.specs.Told.{Taken, Took, TookFront}
 use Rattle.acc_read.specs.Lines.{lines_of}
 use Rattle.acc_read.specs.Reading.{◌>>=◌, wants}
 use Rattle.acc_read.specs.Statements.{Meaning, takes_memory}
 use Rattle.acc_script.specs.Sessions.{MayWant}
-use Rattle.acc_script.specs.Scripts.{SessionState, Turned, turned, is_refused, meaning_in, line_turned, needs_memory, line_wants, line_text, Transcript, Ended, Faulty, ended, noted, transcript_from}
+use Rattle.acc_script.specs.Scripts.{SessionState, Turned, turned, is_refused, meaning_in, line_turned, needs_memory, line_wants, line_text, Transcript, Faulty, noted, transcript_from, status_of}
 use Rattle.acc_script.specs.Runs.{RanLine, LostLine, LineRuns, LinesPlayed}
-use Rattle.acc_script.proofs.Fronts.{Took_then, Took-then_front}
+use Rattle.acc_script.proofs.Fronts.{Took_then, front_more, front_then, took_nothing}
 
 -- ---- a line
 
@@ -87,116 +86,72 @@ wanting_runs s line h = by (meaning_in s line) h
 not_zero : (n : ℕ) → 0 < n → (n == 0) ≡ false
 not_zero n some = grind (arith, nat_tests)
 
--- the transcript without the text of the first lines
-abbrev pub rest_of : ℕ → Transcript → Transcript
-rest_of done all = record { texts = drop done all.texts; wanting = drop done all.wanting; ending = all.ending }
+-- what the lines that are left come to is what all lines come to
+abbrev pub PlaysOn : Transcript → Transcript → Option Taken → Option Taken → Type 0
+PlaysOn all left old new = (last : Option Taken) (result : Result Status Fault) → LinesPlayed left new last result → LinesPlayed all old last result
 
--- the texts of the lines so far are all texts where none is left
-all_texts : (done : ℕ) (all : Transcript) → drop done all.texts ≡ [] → take done all.texts ≡ all.texts
-all_texts done all none = sym (append-nil (take done all.texts)) ∙ ap (λ (texts : List (List ℕ)). take done all.texts ++ texts) (sym none) ∙ take-append-drop done all.texts
+-- so is what follows a line that was run, behind that line
+behind_line : (number : ℕ) (wanting : Bool) (turn : Turned) (others : Turned → Transcript) (a b c : Option Taken)
+    (result : Result Status Fault) → Took a b (line_text number turn) → LinesPlayed (others turn) b c result
+    → LinesPlayed (noted number wanting (Ok turn) others) a c result
+behind_line number wanting turn others a b c (Ok status) p h =
+    (h.0, h.1, h.2, Took_then a b c (line_text number turn) (concat (others turn).texts) p h.3)
+behind_line number wanting turn others a b c (Err (Script at kind)) p h =
+    (h.0, Took_then a b c (line_text number turn) (concat (others turn).texts) p h.1)
+behind_line number wanting turn others a b c (Err Memory) p h =
+    (suc h.0, h.1, Took_then a b c (line_text number turn) (concat (take h.0 (others turn).texts)) p h.2)
+behind_line number wanting turn others a b c (Err Write) p h =
+    front_then a b c (line_text number turn) (concat (others turn).texts) p h
+behind_line number wanting turn others a b c (Err _) p h = absurd h
 
-module _ (done : ℕ) (s : SessionState) (refused : Bool) (lines : List (List ℕ)) (all : Transcript) (left : transcript_from (done + 1) s refused lines ≡ rest_of done all) where
-  -- no line is left
-  none_left : (a b : Option Taken) → lines ≡ [] → Took a b (concat (take done all.texts))
-      → (all.ending ≡ ended (done + 1) s refused) × Took a b (concat all.texts)
-  none_left a b none wrote =
-      let P : List (List ℕ) → Type 0 = λ ls. transcript_from (done + 1) s refused ls ≡ rest_of done all in
-      let now : record { texts = []; wanting = []; ending = ended (done + 1) s refused } ≡ rest_of done all = subst P none left in
-      (sym (ap (λ (t : Transcript). t.ending) now), subst (λ (texts : List (List ℕ)). Took a b (concat texts)) (all_texts done all (sym (ap (λ (t : Transcript). t.texts) now))) wrote)
+module _ (all : Transcript) (number : ℕ) (s : SessionState) (refused : Bool) (lines : List (List ℕ)) (a b : Option Taken) (plays : PlaysOn all (transcript_from number s refused lines) a b) where
+  -- what these lines come to, where they are others
+  comes_to : (same : List (List ℕ)) (c : Option Taken) (result : Result Status Fault) → lines ≡ same
+      → LinesPlayed (transcript_from number s refused same) b c result → LinesPlayed all a c result
+  comes_to same c result e h = plays c result (subst (λ (ls : List (List ℕ)). LinesPlayed (transcript_from number s refused ls) b c result) (sym e) h)
 
   -- no line is left, and no region is open
-  pub ends_well : (a b : Option Taken) → lines ≡ [] → open_regions s.world.state ≡ 0
-      → Took a b (concat (take done all.texts)) → (all.ending ≡ Ended refused) × Took a b (concat all.texts)
-  ends_well a b none no_region wrote =
-      let found = none_left a b none wrote in
-      let closed : (open_regions s.world.state == 0) ≡ true = rw no_region refl in
-      (found.0 ∙ ap (λ (b : Bool). cond b (Ended refused) (Faulty (done + 1) Unclosed)) closed, found.1)
+  pub ends_well : lines ≡ [] → open_regions s.world.state ≡ 0 → LinesPlayed all a b (Ok (status_of refused))
+  ends_well none no_region = comes_to [] b (Ok (status_of refused)) none (refused, rw no_region refl, refl, took_nothing b)
 
   -- no line is left, and a region is open
-  pub ends_unclosed : (a b : Option Taken) → lines ≡ [] → 0 < open_regions s.world.state
-      → Took a b (concat (take done all.texts))
-      → (all.ending ≡ Faulty (done + 1) Unclosed) × Took a b (concat all.texts)
-  ends_unclosed a b none some_region wrote =
-      let found = none_left a b none wrote in
-      (found.0 ∙ ap (λ (b : Bool). cond b (Ended refused) (Faulty (done + 1) Unclosed)) (not_zero (open_regions s.world.state) some_region), found.1)
+  pub ends_unclosed : lines ≡ [] → 0 < open_regions s.world.state
+      → LinesPlayed all a b (Err (Script number Unclosed))
+  ends_unclosed none some_region = comes_to [] b (Err (Script number Unclosed)) none (rw (not_zero (open_regions s.world.state) some_region) refl, took_nothing b)
 
-  module _ (line : List ℕ) (others : List (List ℕ)) (first : lines ≡ line ∷ others) where
+  module _ (line : List ℕ) (others : List (List ℕ)) (first : lines ≡ line ∷ others) (c : Option Taken) where
     -- what a line leaves of the transcript
     abbrev after_line : Turned → Transcript
-    after_line turn = transcript_from (done + 1 + 1) turn.state (refused || is_refused turn.effect) others
+    after_line turn = transcript_from (number + 1) turn.state (refused || is_refused turn.effect) others
 
-    left_is : (r : Result Turned ScriptFault) → line_turned s line ≡ r
-        → noted (done + 1) (line_wants s line) r after_line ≡ rest_of done all
-    left_is r is =
-        let P : Result Turned ScriptFault → Type 0 = λ r. noted (done + 1) (line_wants s line) r after_line ≡ rest_of done all in
-        let Q : List (List ℕ) → Type 0 = λ ls. transcript_from (done + 1) s refused ls ≡ rest_of done all in
-        subst P is (subst Q first left)
+    -- what these lines come to, by what the first of them does
+    comes_by : (did : Result Turned ScriptFault) (last : Option Taken) (result : Result Status Fault)
+        → line_turned s line ≡ did → LinesPlayed (noted number (line_wants s line) did after_line) b last result
+        → LinesPlayed all a last result
+    comes_by did last result is h = comes_to (line ∷ others) last result first (subst (λ (r : Result Turned ScriptFault). LinesPlayed (noted number (line_wants s line) r after_line) b last result) (sym is) h)
 
-    pub left_more : (turn : Turned) → line_turned s line ≡ Ok turn → after_line turn ≡ rest_of (done + 1) all
-    left_more turn is =
-        ap (λ (t : Transcript). rest_of 1 t) (left_is (Ok turn) is)
-        ∙ ap (λ (texts : List (List ℕ)). record {
-          texts =
-              texts;
-          wanting = drop 1 (drop done all.wanting);
-          ending = all.ending;
-        }) (drop-drop 1 done all.texts)
-        ∙ ap (λ (wanting : List Bool). record {
-          texts =
-              drop (done + 1) all.texts;
-          wanting = wanting;
-          ending = all.ending;
-        }) (drop-drop 1 done all.wanting)
+    -- the line was run
+    pub line_on : (after : SessionState) (is : Bool) → RanLine number s line b c after is
+        → PlaysOn all (transcript_from (number + 1) after (refused || is) others) a c
+    line_on after is ran last result h =
+        let said = subst (λ (x : Bool). LinesPlayed (transcript_from (number + 1) after (refused || x) others) c last result) ran.refused_is h in
+        let left = subst (λ (x : SessionState). LinesPlayed (transcript_from (number + 1) x (refused || is_refused ran.turn.effect) others) c last result) ran.state said in
+        comes_by (Ok ran.turn) last result ran.is (behind_line number (line_wants s line) ran.turn after_line b c last result ran.wrote left)
 
-    texts_more : (turn : Turned) → line_turned s line ≡ Ok turn
-        → take (done + 1) all.texts ≡ take done all.texts ++ line_text (done + 1) turn ∷ []
-    texts_more turn is = take-add done 1 all.texts ∙ ap (λ (t : Transcript). take done all.texts ++ take 1 t.texts) (sym (left_is (Ok turn) is))
+    -- nothing was written
+    nothing : c ≡ b → Took b c []
+    nothing same = subst (λ (x : Option Taken). Took b x []) (sym same) (took_nothing b)
 
-    pub took_line : (a b c : Option Taken) (turn : Turned) → line_turned s line ≡ Ok turn
-        → Took a b (concat (take done all.texts)) → Took b c (line_text (done + 1) turn)
-        → Took a c (concat (take (done + 1) all.texts))
-    took_line a b c turn is p q =
-        let text = line_text (done + 1) turn in
-        let joined : concat (take (done + 1) all.texts) ≡ concat (take done all.texts) ++ text =
-        ap concat (texts_more turn is) ∙ concat-append (take done all.texts) (text ∷ []) ∙ ap (λ (x : List ℕ). concat (take done all.texts) ++ x) (append-nil text) in
-        rw joined (Took_then a b c (concat (take done all.texts)) text p q)
-
-    -- the sink failed in the text of the line
-    lost_text : (a b c : Option Taken) (turn : Turned) → line_turned s line ≡ Ok turn
-        → Took a b (concat (take done all.texts)) → TookFront b c (line_text (done + 1) turn)
-        → TookFront a c (concat all.texts)
-    lost_text a b c turn is p q =
-        let text = line_text (done + 1) turn in
-        let next = after_line turn in
-        let whole : concat all.texts ≡ concat (take done all.texts) ++ (text ++ concat next.texts) =
-        ap concat (sym (take-append-drop done all.texts)) ∙ concat-append (take done all.texts) (drop done all.texts) ∙ ap (λ (t : Transcript). concat (take done all.texts) ++ concat t.texts) (sym (left_is (Ok turn) is)) in
-        rw whole (Took-then_front a b c (concat (take done all.texts)) text (concat next.texts) p q)
-
-    -- the line is at fault
-    ends_faulty : (a b : Option Taken) (kind : ScriptFault) → line_turned s line ≡ Err kind
-        → Took a b (concat (take done all.texts)) → (all.ending ≡ Faulty (done + 1) kind) × Took a b (concat all.texts)
-    ends_faulty a b kind is wrote =
-        let now : record { texts = []; wanting = []; ending = Faulty (done + 1) kind } ≡ rest_of done all = left_is (Err kind) is in
-        (sym (ap (λ (t : Transcript). t.ending) now), subst (λ (texts : List (List ℕ)). Took a b (concat texts)) (all_texts done all (sym (ap (λ (t : Transcript). t.texts) now))) wrote)
-
-    -- the transcript tells of the line whether it takes memory
-    tells_wanting : (turn : Turned) → line_turned s line ≡ Ok turn → line_wants s line ≡ true
-        → get_or all.wanting done false ≡ true
-    tells_wanting turn is wants =
-        let here : done ≡ done + 0 = omega arith in
-        ap (λ (n : ℕ). get_or all.wanting n false) here ∙ sym (get_or-drop done all.wanting 0 false) ∙ ap (λ (t : Transcript). get_or t.wanting 0 false) (sym (left_is (Ok turn) is)) ∙ wants
-
-    -- a line that ends the run
-    pub line_fails : (a b c : Option Taken) (after : SessionState) (e : Fault) → Took a b (concat (take done all.texts))
-        → LineRuns (done + 1) s line b c after (Err e) → LinesPlayed all a c (Err e)
-    line_fails a b c after Memory p f =
+    -- the line ends the run
+    pub line_ends : (after : SessionState) (e : Fault) → LineRuns number s line b c after (Err e)
+        → LinesPlayed all a c (Err e)
+    line_ends after Memory f =
         let ran = wanting_runs s line f.0 in
-        (done, tells_wanting ran.0 ran.1 f.0, subst (λ (x : Option Taken). Took a x (concat (take done all.texts))) (sym f.1) p)
-    line_fails a b c after (Script at kind) p f =
-        let ended = ends_faulty a b kind f.1 p in
-        (rw f.0 ended.0, subst (λ (x : Option Taken). Took a x (concat all.texts)) (sym f.2) ended.1)
-    line_fails a b c after Write p f = lost_text a b c f.turn f.is p f.wrote
-    line_fails a b c after _ p f = absurd f
+        comes_by (Ok ran.0) c (Err Memory) ran.1 (0, f.0, nothing f.1)
+    line_ends after (Script at kind) f =
+        comes_by (Err kind) c (Err (Script at kind)) f.1 (ap (λ (n : ℕ). Faulty n kind) (sym f.0), nothing f.2)
+    line_ends after Write f = comes_by (Ok f.turn) c (Err Write) f.is (front_more b c (line_text number f.turn) (concat (after_line f.turn).texts) f.wrote)
+    line_ends after _ f = absurd f
 
 -- an empty input has no line
 pub lines_none : (rest : List ℕ) → length rest ≡ 0 → lines_of rest ≡ []

@@ -1,5 +1,5 @@
 -- A reader of std gives what it had at first, less what is left.
-use Rattle.std.proofs.Common.{◌≡◌, ℕ, ◌-◌, Bool, List, ◌++◌, length, take, Option, Some, None, refl, sym, ap, ◌∙◌, append_assoc, arith, length-append}
+use Rattle.std.proofs.Common.{◌≡◌, ℕ, ◌-◌, Bool, List, ◌++◌, length, take, Option, Some, None, refl, sym, ap, ◌∙◌, append_assoc, arith, rules, length-append}
 use Rattle.std.proofs.lemmas.List.{take_at}
 use Rattle.std.proofs.lemmas.Bool.Decides.{nat_tests}
 use Rattle.std.specs.Io.KnownBytes.{Consumes, Keeps, IsAtEnd}
@@ -32,18 +32,14 @@ rejoins all left after bs whole e = rw (consumed all left after bs whole e) (app
 -- what was given and what is left make the whole, over a read
 pub follows_read : (start old new : Option (List ℕ)) (bs : List ℕ) → rejoined start old ≡ start → Consumes old new bs
     → rejoined start new ≡ start
-follows_read None old new bs h c = refl
-follows_read (Some all) None new bs h c = absurd cc
-follows_read (Some all) (Some left) None bs h c = absurd c
 follows_read (Some all) (Some left) (Some after) bs h c = ap some_list (rejoins all left after bs (list_is _ all h) c)
+follows_read _ _ _ bs h c = search rules
 
 -- what was given and what is left make the whole, where nothing was consumed
 pub follows_kept : (start old new : Option (List ℕ)) → rejoined start old ≡ start → Keeps old new
     → rejoined start new ≡ start
-follows_kept None old new h c = refl
-follows_kept (Some all) None new h c = absurd cc
-follows_kept (Some all) (Some left) None h c = absurd c
 follows_kept (Some all) (Some left) (Some after) h c = rw c h
+follows_kept _ _ _ h c = search rules
 
 -- what a source is known to have given
 abbrev some_given : Given → Option Given
@@ -54,47 +50,36 @@ pub gives_read : (start old new : Option (List ℕ)) (bs : List ℕ) (ended next
     → rejoined start old ≡ start → Consumes old new bs
     → Becomes (given_by (offered_of start old ended failures)) (given_by (offered_of start new next failures))
     (λ g. record { bytes = g.bytes ++ bs; ended = next; failures = g.failures })
-gives_read None old new bs ended next failures h c = tt
-gives_read (Some all) None new bs ended next failures h c = tt
-gives_read (Some all) (Some left) None bs ended next failures h c = absurd c
 gives_read (Some all) (Some left) (Some after) bs ended next failures h c = ap (λ (x : List ℕ). some_given (record { bytes = x; ended = next; failures = failures })) (consumed all left after bs (list_is _ all h) c)
+gives_read _ _ _ bs ended next failures h c = search rules
 
 -- a read that failed gives nothing, and is one more failure
 pub gives_nothing : (start old new : Option (List ℕ)) (ended : Bool) (failures more : ℕ) → Keeps old new
     → more ≡ one_more failures
     → Becomes (given_by (offered_of start old ended failures)) (given_by (offered_of start new ended more))
     (λ g. record g { failures = one_more g.failures })
-gives_nothing None old new ended failures more c e = tt
-gives_nothing (Some all) None new ended failures more c e = tt
-gives_nothing (Some all) (Some left) None ended failures more c e = absurd c
 gives_nothing (Some all) (Some left) (Some after) ended failures more c e = rw (c, e) refl
+gives_nothing _ _ _ ended failures more c e = search rules
 
 -- a read hands out the front of what was left
 pub hands_read : (start old new : Option (List ℕ)) (n : ℕ) (piece : List ℕ) (ended next : Bool) (failures more : ℕ)
     → rejoined start old ≡ start → Consumes old new (take n piece)
     → HandsOut (offered_of start old ended failures) (offered_of start new next more) (Some n) piece
-hands_read None old new n piece ended next failures more h c = tt
-hands_read (Some all) None new n piece ended next failures more h c = absurd cc
-hands_read (Some all) (Some left) None n piece ended next failures more h c = absurd c
 hands_read (Some all) (Some left) (Some after) n piece ended next failures more h c = c
+hands_read _ _ _ n piece ended next failures more h c = search rules
 
 -- a read that failed leaves what was left
 pub hands_nothing : (start old new : Option (List ℕ)) (piece : List ℕ) (ended next : Bool) (failures more : ℕ)
     → rejoined start old ≡ start → Keeps old new
     → HandsOut (offered_of start old ended failures) (offered_of start new next more) None piece
-hands_nothing None old new piece ended next failures more h c = tt
-hands_nothing (Some all) None new piece ended next failures more h c = absurd cc
-hands_nothing (Some all) (Some left) None piece ended next failures more h c = absurd c
 hands_nothing (Some all) (Some left) (Some after) piece ended next failures more h c = c
+hands_nothing _ _ _ piece ended next failures more h c = search rules
 
 -- what was told of the end stays true where nothing was consumed
 pub ends_kept : (start old new : Option (List ℕ)) (ended : Bool) → rejoined start old ≡ start → EndsAt start ended old
     → Keeps old new → EndsAt start ended new
-ends_kept None old new ended h e c = tt
-ends_kept (Some all) old new false h e c = tt
-ends_kept (Some all) None new true h e c = absurd cc
-ends_kept (Some all) (Some left) None true h e c = absurd c
 ends_kept (Some all) (Some left) (Some after) true h e c = rw c e
+ends_kept _ _ _ _ h e c = search rules
 
 -- a read that gave nothing, into a piece with room, was at the end
 pub ends_read : (start new : Option (List ℕ)) (n len : ℕ) → (n ≡ 0 → 0 < len → IsAtEnd new) → 0 < len
@@ -109,12 +94,9 @@ ends_read (Some all) (Some left) zero len h lt = h refl lt
 -- a read into a piece without room leaves what was told of the end
 pub ends_without_room : (start old new : Option (List ℕ)) (ended : Bool) (bs : List ℕ) → rejoined start old ≡ start
     → EndsAt start ended old → Consumes old new bs → length bs ≡ 0 → EndsAt start ended new
-ends_without_room None old new ended bs h e c l = tt
-ends_without_room (Some all) old new false bs h e c l = tt
-ends_without_room (Some all) None new true bs h e c l = absurd cc
-ends_without_room (Some all) (Some left) None true bs h e c l = absurd c
 ends_without_room (Some all) (Some left) (Some after) true [] h e c l = sym c ∙ e
 ends_without_room (Some all) (Some left) (Some after) true (b ∷ bs) h e c l = absurd (omega arith)
+ends_without_room _ _ _ _ bs h e c l = search rules
 
 -- what a reader is known to have left is nothing once its end was told
 pub ends_empty : (start left : Option (List ℕ)) (ended : Bool) (failures : ℕ) → EndsAt start ended left

@@ -48,6 +48,7 @@ pub fn write_report<W: Sink>(table: &Table, writer: &mut W) -> bool
 }
 
 /// The lines of mapped ranges, of blocks whose mapping has ended, and of queues; false where the sink failed.
+#[tactic(auto, using(crate::proofs::Fronts::writing_laws))]
 fn write_device<W: Sink>(table: &Table, writer: &mut W) -> bool
     ensures { Wrote (W.told writer.old) (W.told writer.new) (device_text table.now.state.records) result }
 {
@@ -76,6 +77,7 @@ fn write_ranges<W: Sink>(table: &Table, writer: &mut W) -> bool
 }
 
 /// The line of a mapped range, and those of the attached pointers in it; false where the sink failed.
+#[tactic(auto, using(crate::proofs::Fronts::writing_laws))]
 fn write_range<W: Sink>(table: &Table, writer: &mut W, mapped: Mapped) -> bool
     requires { mapped.start + mapped.len < 2 ^ 32 }
     ensures { Wrote (W.told writer.old) (W.told writer.new) (range_text table.now.state.records mapped) result }

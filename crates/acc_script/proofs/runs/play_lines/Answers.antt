@@ -1,35 +1,31 @@
-use Rattle.std.proofs.Common.{◌≡◌, ◌<◌, false, sym, ◌∙◌, arith}
+use Rattle.std.proofs.Common.{◌≡◌, ◌+◌, ◌<◌, false, sym, ◌∙◌, arith}
 use Rattle.std.proofs.lemmas.Result.{err_from_is_err_and}
 use Rattle.std.proofs.lemmas.Bool.{eqb-true}
 use Rattle.acc_base.specs.Calls.{open_regions}
 use Rattle.acc_read.specs.Lines.{lines_of}
 use Rattle.acc_script.specs.Sessions.{session_state}
 use Rattle.acc_script.specs.Scripts.{transcript_from}
-use Rattle.acc_script.proofs.LineByLine.{line_fails, left_more, took_line, ends_well, ends_unclosed, lines_none}
+use Rattle.acc_script.proofs.LineByLine.{line_on, line_ends, ends_well, ends_unclosed, lines_none}
 use Rattle.acc_script.proofs.runs.play_lines.Goals as goal
+
+pub lines-init : goal.lines-init
+lines-init g c = record { rest = λ last result h. h; count = omega arith }
 
 pub returns-in_err-is_refused : goal.returns-in_err-is_refused
 returns-in_err-is_refused g c =
     let told = g.W.Sink.told in
     let p = err_from_is_err_and c.from_residual.result c.from_residual.ensures.1 in
-    rw (p.1, p.2)
-    (line_fails c.lines.done (session_state c.lines.session) c.lines.refused (lines_of c.lines.rest.now) (transcript_from 1 (session_state c.args.session.now) false (lines_of c.args.input.now)) c.lines.invariant.left c.next_line.result.0.now (lines_of c.next_line.result.1.now) c.next_line.ensures.line
-    (told c.args.writer.now) (told c.lines.writer) (told c.run_line.new.writer) (session_state c.run_line.new.session) c.in_err-is_refused.field-0.0 c.lines.invariant.wrote c.in_err-is_refused.ensures)
+    let all = transcript_from 1 (session_state c.args.session.now) false (lines_of c.args.input.now) in
+    rw (p.1, p.2) (line_ends all (c.lines.done + 1) (session_state c.lines.session) c.lines.refused (lines_of c.lines.rest.now) (told c.args.writer.now) (told c.lines.writer) c.lines.invariant.rest c.next_line.result.0.now (lines_of c.next_line.result.1.now) c.next_line.ensures.line
+    (told c.run_line.new.writer) (session_state c.run_line.new.session) c.in_err-is_refused.field-0.0 c.in_err-is_refused.ensures)
 
 pub lines-preserved : goal.lines-preserved
 lines-preserved g c =
     let told = g.W.Sink.told in
-    let ran = c.in_ok-is_refused.ensures in
     let all = transcript_from 1 (session_state c.args.session.now) false (lines_of c.args.input.now) in
-    let s = session_state c.lines.session in
-    let lines = lines_of c.lines.rest.now in
-    let line = c.next_line.result.0.now in
-    let others = lines_of c.next_line.result.1.now in
-    let left = left_more c.lines.done s c.lines.refused lines all c.lines.invariant.left line others c.next_line.ensures.line ran.turn ran.is in
-    let wrote = took_line c.lines.done s c.lines.refused lines all c.lines.invariant.left line others c.next_line.ensures.line (told c.args.writer.now) (told c.lines.writer) (told c.run_line.new.writer) ran.turn ran.is c.lines.invariant.wrote ran.wrote in
     record {
-      wrote = wrote;
-      left = rw (ran.state, ran.refused_is) left;
+      rest = line_on all (c.lines.done + 1) (session_state c.lines.session) c.lines.refused (lines_of c.lines.rest.now) (told c.args.writer.now) (told c.lines.writer) c.lines.invariant.rest c.next_line.result.0.now (lines_of c.next_line.result.1.now) c.next_line.ensures.line
+          (told c.run_line.new.writer) (session_state c.run_line.new.session) c.in_ok-is_refused.is_refused c.in_ok-is_refused.ensures;
       count = omega (arith, c.lines.invariant.count, c.next_line.ensures.shorter);
     }
 
@@ -39,7 +35,7 @@ returns-then-regions-gt0 g c =
     let s = session_state c.lines.session in
     let empty = lines_none c.lines.rest.now (eqb-true _ _ (sym c.is_empty.ensures ∙ c.lines-test.false)) in
     let some_region : 0 < open_regions s.world.state = omega (arith, c.regions.ensures, c.if-regions-gt0.true) in
-    ends_unclosed c.lines.done s c.lines.refused (lines_of c.lines.rest.now) (transcript_from 1 (session_state c.args.session.now) false (lines_of c.args.input.now)) c.lines.invariant.left (told c.args.writer.now) (told c.lines.writer) empty some_region c.lines.invariant.wrote
+    ends_unclosed (transcript_from 1 (session_state c.args.session.now) false (lines_of c.args.input.now)) (c.lines.done + 1) s c.lines.refused (lines_of c.lines.rest.now) (told c.args.writer.now) (told c.lines.writer) c.lines.invariant.rest empty some_region
 
 pub returns : goal.returns
 returns g c =
@@ -47,5 +43,4 @@ returns g c =
     let s = session_state c.lines.session in
     let empty = lines_none c.lines.rest.now (eqb-true _ _ (sym c.is_empty.ensures ∙ c.lines-test.false)) in
     let no_region : open_regions s.world.state ≡ 0 = omega (arith, c.regions.ensures, c.if-regions-gt0.false) in
-    let ended = ends_well c.lines.done s c.lines.refused (lines_of c.lines.rest.now) (transcript_from 1 (session_state c.args.session.now) false (lines_of c.args.input.now)) c.lines.invariant.left (told c.args.writer.now) (told c.lines.writer) empty no_region c.lines.invariant.wrote in
-    (c.lines.refused, ended.0, c.status_of.ensures, ended.1)
+    rw c.status_of.ensures (ends_well (transcript_from 1 (session_state c.args.session.now) false (lines_of c.args.input.now)) (c.lines.done + 1) s c.lines.refused (lines_of c.lines.rest.now) (told c.args.writer.now) (told c.lines.writer) c.lines.invariant.rest empty no_region)

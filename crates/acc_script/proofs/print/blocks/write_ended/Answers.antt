@@ -42,4 +42,4 @@ pub returns : goal.returns
 returns g c =
     let told = g.W.Sink.told in
     let w = c.args.table.now.state.records in
-    leaves_none (told c.args.writer.now) (told c.each.writer) (ended_texts 0 w) (ended_texts c.each.from w) (ended_none c.each.from w c.in_default.ensures) c.each.invariant
+    leaves_none (told c.args.writer.now) (told c.each.writer) (ended_texts 0 w) (ended_texts c.each.from w) (ended_none (device_memory c.args.table.now.limits.device) w.births c.each.from w c.laws.ensures.accounted.sound.layout.records.blocks_apart c.in_default.ensures) c.each.invariant

@@ -5,13 +5,9 @@ use Rattle.acc_script.proofs.print.reports.write_mapped.Goals as goal
 pub returns-then-not-write_mapping : goal.returns-then-not-write_mapping
 unfolding mapped_text
 returns-then-not-write_mapping g c =
-    let told = g.W.Sink.told in
     let m = c.args.mapped in
-    front_more (told c.args.writer.now) (told c.write_mapping.new.writer) (mapping_text m.start m.len m.place) (counters_text m.structured m.dynamic m.lent) c.if-not-write_mapping.ensures
+    front_more _ _ (mapping_text m.start m.len m.place) (counters_text m.structured m.dynamic m.lent) c.if-not-write_mapping.ensures
 
 pub returns : goal.returns
 unfolding mapped_text
-returns g c =
-    let told = g.W.Sink.told in
-    let m = c.args.mapped in
-    wrote_then (told c.args.writer.now) (told c.write_mapping.new.writer) (told c.write_counters.new.writer) (mapping_text m.start m.len m.place) (counters_text m.structured m.dynamic m.lent) c.write_counters.result c.if-not-write_mapping.ensures c.write_counters.ensures
+returns g c = search (wrote_then, c.if-not-write_mapping.ensures, c.write_counters.ensures)

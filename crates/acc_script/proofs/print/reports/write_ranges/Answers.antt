@@ -1,71 +1,43 @@
-use Rattle.std.proofs.Common.{List, ◌+◌, ap, subst, arith}
-use Rattle.std.specs.List.{flat_map}
-use Rattle.acc_base.specs.declared.mappings.Range.{Range}
-use Rattle.acc_base.specs.Ranges.{range_from}
-use Rattle.acc_table.specs.declared.calls.Mapped.{Mapped}
-use Rattle.acc_table.specs.Queries.{mapped_as}
-use Rattle.acc_script.specs.Told.{Took}
-use Rattle.acc_script.specs.Texts.{range_text}
-use Rattle.acc_script.proofs.Fronts.{took_nothing}
-use Rattle.acc_script.proofs.RisingRanges.{below, none_below_zero, all_below, found_view, found_none, found_start, took_found, lost_found}
+use Rattle.std.proofs.Common.{◌+◌, arith}
+use Rattle.acc_script.specs.Texts.{range_text, ranges_text}
+use Rattle.acc_script.proofs.LeftToWrite.{leaves_all, leaves_less, leaves_lost, leaves_none}
+use Rattle.acc_script.proofs.RisingRanges.{ranges_texts, ranges_all, found_start, ranges_turn, ranges_none}
 use Rattle.acc_script.proofs.print.reports.write_ranges.Goals as goal
 
 pub each-init : goal.each-init
-each-init g c =
-    rw (none_below_zero c.args.table.now.state.records.ranges) (took_nothing (g.W.Sink.told c.args.writer.now))
+each-init g c = let w = c.args.table.now.state.records in rw (← ranges_all w) (leaves_all (g.W.Sink.told c.args.writer.now) (ranges_text w))
 
 pub returns-then-not-write_range : goal.returns-then-not-write_range
 returns-then-not-write_range g c =
     let told = g.W.Sink.told in
-    let w = c.args.table.now in
-    let ranges = w.state.records.ranges in
-    let view = mapped_as w.state.records.blocks w.state.records.loans in
-    let found = found_view view (range_from c.each.from ranges) c.in-Some.mapped c.in-Some.ensures.value in
-    lost_found w.limits c.each.from found.0 (λ r. range_text w.state.records (view r)) ranges (told c.args.writer.now) (told c.each.writer) (told c.write_range.new.writer) c.laws.ensures.accounted.sound.layout.records.ranges_apart.rising found.1 c.each.invariant (rw found.2 c.if-not-write_range.ensures)
+    let w = c.args.table.now.state.records in
+    let m = c.in-Some.mapped in
+    let turn = ranges_turn c.args.table.now.limits c.each.from w c.laws.ensures.accounted.sound.layout.records.ranges_apart m c.in-Some.ensures.value in
+    leaves_lost (told c.args.writer.now) (told c.each.writer) (told c.write_range.new.writer) (ranges_text w) (ranges_texts c.each.from w) (range_text w m) (ranges_texts (m.start + 1) w) turn c.each.invariant c.if-not-write_range.ensures
 
 pub write_range-requires : goal.write_range-requires
-write_range-requires g c =
-    let w = c.args.table.now in
-    let ranges = w.state.records.ranges in
-    let found = found_view (mapped_as w.state.records.blocks w.state.records.loans) (range_from c.each.from ranges) c.in-Some.mapped c.in-Some.ensures.value in
-    let start = found_start w.limits c.each.from found.0 ranges c.laws.ensures.bounds c.laws.ensures.accounted.sound.layout.records.ranges_apart.in_host found.1 in
-    let start_is = ap (λ (m : Mapped). m.start) found.2 in
-    let len_is = ap (λ (m : Mapped). m.len) found.2 in
-    omega (arith, start.2, start_is, len_is)
+write_range-requires g c = (found_start c.args.table.now.limits c.each.from c.args.table.now.state.records c.laws.ensures.accounted.sound.layout.records.ranges_apart c.in-Some.mapped c.in-Some.ensures.value c.laws.ensures.bounds).1
 
 pub overflow_add-from : goal.overflow_add-from
 overflow_add-from g c =
-    let w = c.args.table.now in
-    let ranges = w.state.records.ranges in
-    let found = found_view (mapped_as w.state.records.blocks w.state.records.loans) (range_from c.each.from ranges) c.in-Some.mapped c.in-Some.ensures.value in
-    let start = found_start w.limits c.each.from found.0 ranges c.laws.ensures.bounds c.laws.ensures.accounted.sound.layout.records.ranges_apart.in_host found.1 in
-    let same = ap (λ (m : Mapped). m.start) found.2 in
-    omega (arith, start.1, same)
+    let start = found_start c.args.table.now.limits c.each.from c.args.table.now.state.records c.laws.ensures.accounted.sound.layout.records.ranges_apart c.in-Some.mapped c.in-Some.ensures.value c.laws.ensures.bounds in
+    omega (arith, start.1)
 
 pub each-smaller : goal.each-smaller
 each-smaller g c =
-    let w = c.args.table.now in
-    let ranges = w.state.records.ranges in
-    let found = found_view (mapped_as w.state.records.blocks w.state.records.loans) (range_from c.each.from ranges) c.in-Some.mapped c.in-Some.ensures.value in
-    let start = found_start w.limits c.each.from found.0 ranges c.laws.ensures.bounds c.laws.ensures.accounted.sound.layout.records.ranges_apart.in_host found.1 in
-    let same = ap (λ (m : Mapped). m.start) found.2 in
-    omega (arith, start.0, start.1, same)
+    let start = found_start c.args.table.now.limits c.each.from c.args.table.now.state.records c.laws.ensures.accounted.sound.layout.records.ranges_apart c.in-Some.mapped c.in-Some.ensures.value c.laws.ensures.bounds in
+    omega (arith, start.0, start.1)
 
 pub each-preserved : goal.each-preserved
 each-preserved g c =
     let told = g.W.Sink.told in
-    let w = c.args.table.now in
-    let ranges = w.state.records.ranges in
-    let view = mapped_as w.state.records.blocks w.state.records.loans in
-    let found = found_view view (range_from c.each.from ranges) c.in-Some.mapped c.in-Some.ensures.value in
-    let took = took_found w.limits c.each.from found.0 (λ r. range_text w.state.records (view r)) ranges (told c.args.writer.now) (told c.each.writer) (told c.write_range.new.writer) c.laws.ensures.accounted.sound.layout.records.ranges_apart.in_host c.laws.ensures.accounted.sound.layout.records.ranges_apart.rising found.1 c.each.invariant (rw found.2 c.if-not-write_range.ensures) in
-    subst (λ (m : Mapped). Took (told c.args.writer.now) (told c.write_range.new.writer) (flat_map (λ r. range_text w.state.records (view r)) (below (m.start + 1) ranges))) found.2 took
+    let w = c.args.table.now.state.records in
+    let m = c.in-Some.mapped in
+    let turn = ranges_turn c.args.table.now.limits c.each.from w c.laws.ensures.accounted.sound.layout.records.ranges_apart m c.in-Some.ensures.value in
+    leaves_less (told c.args.writer.now) (told c.each.writer) (told c.write_range.new.writer) (ranges_text w) (ranges_texts c.each.from w) (range_text w m) (ranges_texts (m.start + 1) w) turn c.each.invariant c.if-not-write_range.ensures
 
 pub returns : goal.returns
 returns g c =
-    let w = c.args.table.now in
-    let ranges = w.state.records.ranges in
-    let none = found_none (mapped_as w.state.records.blocks w.state.records.loans) (range_from c.each.from ranges) c.in_default.ensures.value in
     let told = g.W.Sink.told in
-    let written : List Range → Type 0 = λ rs. Took (told c.args.writer.now) (told c.each.writer) (flat_map (λ r. range_text w.state.records (mapped_as w.state.records.blocks w.state.records.loans r)) rs) in
-    subst written (all_below c.each.from ranges none) c.each.invariant
+    let w = c.args.table.now.state.records in
+    leaves_none (told c.args.writer.now) (told c.each.writer) (ranges_text w) (ranges_texts c.each.from w) (ranges_none c.each.from w c.in_default.ensures.value) c.each.invariant

@@ -67,8 +67,7 @@ tasks_fit (Exit number) holdings few held = record { few = omega (arith, held, l
 tasks_fit (EnterData items queue) holdings few held = let f = enter_data_task queue in record { few = omega (arith, few, length-map items f); unmixed = inl (all_map f items (λ x. refl)); queues = queue_map f queue items (λ x. refl) }
 tasks_fit (ExitData items finalize queue) holdings few held = let f = exit_task finalize queue in record { few = omega (arith, few, length-map items f); unmixed = inr (none_map f items (λ x. refl)); queues = queue_map f queue items (λ x. refl) }
 tasks_fit (Update items if_present queue) holdings few held = let f = move_task if_present queue in record { few = omega (arith, few, length-map items f); unmixed = inr (none_map f items (λ x. refl)); queues = queue_map f queue items (λ x. refl) }
-tasks_fit (Wait queue) holdings few held = record { few = omega arith; unmixed = inl refl; queues = tt }
-tasks_fit (Step queue) holdings few held = record { few = omega arith; unmixed = inl refl; queues = tt }
+tasks_fit _ holdings few held = record { few = omega arith; unmixed = inl refl; queues = tt }
 
 -- an open region that is found holds few
 few_found : (number : ℕ) (regions : List Region) (o : Option Region) (holdings : List Holding) → AllByRecursion HasFewHoldings regions → region_at number regions ≡ o → ok_or (option_map (λ (r : Region). r.holdings) o) (NoRegion number) ≡ Ok holdings → length holdings ≤ 64
@@ -80,12 +79,7 @@ few_found number regions (Some r) holdings all is e =
 -- so does the one that a directive leaves
 few_left : (d : Directive) (g : Register) (holdings : List Holding) → AllByRecursion HasFewHoldings g.regions → holdings_left d g ≡ Ok holdings → length holdings ≤ 64
 few_left (Exit number) g holdings all e = few_found number g.regions (region_at number g.regions) holdings all refl e
-few_left (Enter items) g holdings all e = rw (← ok_same [] holdings e) (omega arith)
-few_left (EnterData items queue) g holdings all e = rw (← ok_same [] holdings e) (omega arith)
-few_left (ExitData items finalize queue) g holdings all e = rw (← ok_same [] holdings e) (omega arith)
-few_left (Update items if_present queue) g holdings all e = rw (← ok_same [] holdings e) (omega arith)
-few_left (Wait queue) g holdings all e = rw (← ok_same [] holdings e) (omega arith)
-few_left (Step queue) g holdings all e = rw (← ok_same [] holdings e) (omega arith)
+few_left _ g holdings all e = rw (← ok_same [] holdings e) (omega arith)
 
 -- a directive that does not name too many items names few
 few_checked : (d : Directive) → few_items d ≡ Ok tt → item_count d ≤ 64

@@ -85,8 +85,7 @@ known_with (directives.Exit number) holdings dids c bounds h left judged =
 known_with (directives.EnterData items queue) holdings dids c bounds h left judged = known_map (enter_data_task queue) items dids c.state.records (λ x v. tt)
 known_with (directives.ExitData items finalize queue) holdings dids c bounds h left judged = known_map (exit_task finalize queue) items dids c.state.records (λ x v. tt)
 known_with (directives.Update items if_present queue) holdings dids c bounds h left judged = known_map (move_task if_present queue) items dids c.state.records (λ x v. tt)
-known_with (directives.Wait queue) holdings dids c bounds h left judged = known_map enter_task [] dids c.state.records (λ x v. tt)
-known_with (directives.Step queue) holdings dids c bounds h left judged = known_map enter_task [] dids c.state.records (λ x v. tt)
+known_with _ holdings dids c bounds h left judged = known_map enter_task [] dids c.state.records (λ x v. tt)
 
 -- so does each task of a plan
 pub plan_known : (d : Directive) (c : Contents) (p : Planned) → IsWithinBounds c.limits → IsStoreSound c → IsPlanOf c.limits d c.state p → AreKnown p.tasks p.dids c.state.records
@@ -120,18 +119,13 @@ plan_can (directives.Enter items) c f p h planned next room acted same regions h
 plan_can (directives.Exit number) c f p h planned next room acted same regions holdings =
     let is : IsAskedWith (directives.Exit number) c.state.register p.tasks = asked_with (directives.Exit number) c.state.register p.tasks planned.asked in
     rw same (some_region (region_at number c.state.register.regions) is.holdings (open_left number _ is.holdings is.left))
-plan_can (directives.EnterData items queue) c f p h planned next room acted same regions holdings = refl
-plan_can (directives.ExitData items finalize queue) c f p h planned next room acted same regions holdings = refl
-plan_can (directives.Update items if_present queue) c f p h planned next room acted same regions holdings = refl
 plan_can (directives.Wait queue) c f p h planned next room acted same regions holdings = free_then (directives.Wait queue) c f p planned (asked_with (directives.Wait queue) c.state.register p.tasks planned.asked).are acted
 plan_can (directives.Step queue) c f p h planned next room acted same regions holdings = free_then (directives.Step queue) c f p planned (asked_with (directives.Step queue) c.state.register p.tasks planned.asked).are acted
+plan_can _ c f p h planned next room acted same regions holdings = refl
 
 one_holding : (task : Task) (did : Did) → length (holding_by task did) ≤ 1
 one_holding (Enter Structured item queue) did = omega arith
-one_holding (Enter Dynamic item queue) did = omega arith
-one_holding (Leave holding) did = omega arith
-one_holding (Exit finalize item queue) did = omega arith
-one_holding (Move if_present item queue) did = omega arith
+one_holding _ did = omega arith
 
 -- no more is held than there are tasks
 pub holdings_few : (tasks : List Task) (dids : List Did) → length (holdings_by tasks dids) ≤ length tasks
@@ -147,11 +141,7 @@ holdings_few (t ∷ ts) (d ∷ ds) =
 by_register : (P : Register → Type 0) (d : Directive) (holdings : List Holding) (g : Register) → P g → ((items : List (Item RegionClause)) → d ≡ directives.Enter items → P (opened holdings g)) → ((number : ℕ) → P (closed number g)) → P (register_by d holdings g)
 by_register P (directives.Enter items) holdings g same enter exit = enter items refl
 by_register P (directives.Exit number) holdings g same enter exit = exit number
-by_register P (directives.EnterData items queue) holdings g same enter exit = same
-by_register P (directives.ExitData items finalize queue) holdings g same enter exit = same
-by_register P (directives.Update items if_present queue) holdings g same enter exit = same
-by_register P (directives.Wait queue) holdings g same enter exit = same
-by_register P (directives.Step queue) holdings g same enter exit = same
+by_register P _ holdings g same enter exit = same
 
 -- no region holds too much after a plan
 few_after : (d : Directive) (c : Contents) (p : Planned) → IsStoreSound c → IsPlanOf c.limits d c.state p → AreFew (register_by d (holdings_by p.tasks p.dids) c.state.register)

@@ -34,37 +34,27 @@ use Rattle.acc_clauses.proofs.Steps.{is_some, without-changed}
 
 -- ---- after the copy to host memory
 
--- the copy changes no range and no block
-given_ranges : (task : Task) (k : ℕ) (s : State) → (given_state task k s).records.ranges ≡ s.records.ranges
-given_ranges task k s = go (gives_bytes task)
-  where
-    go : (b : Bool) → (cond b (moved_state (queue_of task) (transfer_at task k s.records.ranges) s) s).records.ranges ≡ s.records.ranges
-    go true = refl
-    go false = refl
-
-given_loans : (task : Task) (k : ℕ) (s : State) → (given_state task k s).records.loans ≡ s.records.loans
-given_loans task k s = go (gives_bytes task)
-  where
-    go : (b : Bool) → (cond b (moved_state (queue_of task) (transfer_at task k s.records.ranges) s) s).records.loans ≡ s.records.loans
-    go true = refl
-    go false = refl
-
-given_blocks : (task : Task) (k : ℕ) (s : State) → (given_state task k s).records.blocks ≡ s.records.blocks
-given_blocks task k s = go (gives_bytes task)
-  where
-    go : (b : Bool) → (cond b (moved_state (queue_of task) (transfer_at task k s.records.ranges) s) s).records.blocks ≡ s.records.blocks
-    go true = refl
-    go false = refl
+-- what the copy leaves, whether there is one or not
+given_is : (b : Bool) (o : Option ℕ) (t : Transfer) (s : State) → cond b (moved_state o t s) s ≡ record s {
+  records = record s.records { queues = queues_after o (cond b (Some t) None) s.records.queues };
+  host = host_made (at_once o (cond b (Some t) None)) s.records.attached s.memories s.host;
+  memories = memories_made (at_once o (cond b (Some t) None)) s.records.attached s.host s.memories;
+}
+given_is true o t s = refl
+given_is false None t s = refl
+given_is false (Some q) t s = refl
 
 pub same_ranges : (task : Task) (k : ℕ) (x y : Environment) → IsGivenBy task k x y → y.present.table.ranges ≡ x.present.table.ranges
-same_ranges task k x y given = ap (λ (s : State). s.records.ranges) (given.state bare_numbers) ∙ given_ranges task k (bare_state x)
+same_ranges task k x y given = ap (λ (s : State). s.records.ranges) (given.state bare_numbers ∙ given_is (gives_bytes task) (queue_of task) (transfer_at task k x.present.table.ranges) (bare_state x))
 
 pub same_blocks : (task : Task) (k : ℕ) (x y : Environment) → IsGivenBy task k x y → y.device.blocks ≡ x.device.blocks
-same_blocks task k x y given = ap (λ (s : State). s.records.blocks) (given.state bare_numbers) ∙ given_blocks task k (bare_state x)
+same_blocks task k x y given = ap (λ (s : State). s.records.blocks) (given.state bare_numbers ∙ given_is (gives_bytes task) (queue_of task) (transfer_at task k x.present.table.ranges) (bare_state x))
 
 -- no block more is lent
 pub same_loans : (task : Task) (k : ℕ) (x y : Environment) → IsGivenBy task k x y → is_lent k x.device.loans ≡ false → is_lent k y.device.loans ≡ false
-same_loans task k x y given free = let same : y.device.loans ≡ x.device.loans = ap (λ (s : State). s.records.loans) (given.state bare_numbers) ∙ given_loans task k (bare_state x) in rw same free
+same_loans task k x y given free =
+    let same : y.device.loans ≡ x.device.loans = ap (λ (s : State). s.records.loans) (given.state bare_numbers ∙ given_is (gives_bytes task) (queue_of task) (transfer_at task k x.present.table.ranges) (bare_state x)) in
+    rw same free
 
 -- the range is there still
 pub range_there : (task : Task) (k : ℕ) (ended : Bool) (x y : Environment) (can : CanDrop task k ended (bare_state x)) → IsGivenBy task k x y → range_of k y.present.table.ranges ≡ Some can.move.range
@@ -150,16 +140,6 @@ kept_changes task k y q r e marked mark counted room1 removed room2 some ended =
     }
 
 -- ---- both are the step
-
--- what the copy leaves, whether there is one or not
-given_is : (b : Bool) (o : Option ℕ) (t : Transfer) (s : State) → cond b (moved_state o t s) s ≡ record s {
-  records = record s.records { queues = queues_after o (cond b (Some t) None) s.records.queues };
-  host = host_made (at_once o (cond b (Some t) None)) s.records.attached s.memories s.host;
-  memories = memories_made (at_once o (cond b (Some t) None)) s.records.attached s.host s.memories;
-}
-given_is true o t s = refl
-given_is false None t s = refl
-given_is false (Some q) t s = refl
 
 ended_whole : (task : Task) (k : ℕ) (s : State) → ended_state k (given_state task k s) ≡ step_state task (Dropped k true) s
 unfolding step_state act_step act_row

@@ -82,36 +82,6 @@ event_of_plan l (Exit number) s p e h made =
     let is : IsAskedWith (Exit number) s.register p.tasks = asked_with (Exit number) s.register p.tasks h.asked in
     let asked : leave_tasks (unwrap_or (holdings_at number s.register.regions) []) ≡ p.tasks = rw (open_left number _ is.holdings is.left) is.are in
     subst (IsEventOf (Exit number) p s) (same_event _ _ made) (record { asked = asked; done = reverse-reverse p.dids; steps = refl; register = refl; host = λ bytes. refl; records = λ w. refl; memories = λ ms. refl; brought = λ w. tt })
-event_of_plan l (EnterData items queue) s p e h made = subst (IsEventOf (EnterData items queue) p s) (same_event _ _ made) (record {
-  asked = (asked_with (EnterData items queue) s.register p.tasks h.asked).are;
-  done = refl;
-  steps = refl;
-  register = refl;
-  host = λ bytes. refl;
-  records = λ w. refl;
-  memories = λ ms. refl;
-  brought = λ w. tt;
-})
-event_of_plan l (ExitData items finalize queue) s p e h made = subst (IsEventOf (ExitData items finalize queue) p s) (same_event _ _ made) (record {
-  asked = (asked_with (ExitData items finalize queue) s.register p.tasks h.asked).are;
-  done = refl;
-  steps = refl;
-  register = refl;
-  host = λ bytes. refl;
-  records = λ w. refl;
-  memories = λ ms. refl;
-  brought = λ w. tt;
-})
-event_of_plan l (Update items if_present queue) s p e h made = subst (IsEventOf (Update items if_present queue) p s) (same_event _ _ made) (record {
-  asked = (asked_with (Update items if_present queue) s.register p.tasks h.asked).are;
-  done = refl;
-  steps = refl;
-  register = refl;
-  host = λ bytes. refl;
-  records = λ w. refl;
-  memories = λ ms. refl;
-  brought = λ w. tt;
-})
 event_of_plan l (Wait queue) s p e h made =
     let none : [] ≡ p.tasks = (asked_with (Wait queue) s.register p.tasks h.asked).are in
     subst (IsEventOf (Wait queue) p s) (same_event _ _ made) (record {
@@ -125,6 +95,16 @@ event_of_plan l (Wait queue) s p e h made =
       brought = λ w. tt;
     })
 event_of_plan l (Step queue) s p e h made = step_event l queue s p e h (asked_with (Step queue) s.register p.tasks h.asked).are (head_of queue s.records.queues) made
+event_of_plan l d s p e h made = subst (IsEventOf d p s) (same_event _ _ made) (record {
+  asked = (asked_with d s.register p.tasks h.asked).are;
+  done = refl;
+  steps = refl;
+  register = refl;
+  host = λ bytes. refl;
+  records = λ w. refl;
+  memories = λ ms. refl;
+  brought = λ w. tt;
+})
 
 pub planned_asked : (l : Limits) (d : Directive) (s : State) (p : Planned) (e : Event) → IsPlanOf l d s p → verdict_of d s p.dids ≡ Makes e → asked_in e s.register ≡ p.tasks
 planned_asked l d s p e h made = (event_of_plan l d s p e h made).asked
@@ -154,10 +134,5 @@ step_idle l queue s p h (Some t) first idle = cc
 
 -- a plan without an event leaves the state
 pub idle_plan : (l : Limits) (d : Directive) (s : State) (p : Planned) → IsPlanOf l d s p → verdict_of d s p.dids ≡ Idle → finished d p (act_all_state p.tasks p.dids s) ≡ s
-idle_plan l (Enter items) s p h idle = cc
-idle_plan l (Exit number) s p h idle = cc
-idle_plan l (EnterData items queue) s p h idle = cc
-idle_plan l (ExitData items finalize queue) s p h idle = cc
-idle_plan l (Update items if_present queue) s p h idle = cc
-idle_plan l (Wait queue) s p h idle = cc
 idle_plan l (Step queue) s p h idle = step_idle l queue s p h (head_of queue s.records.queues) refl idle
+idle_plan l _ s p h idle = cc

@@ -31,6 +31,7 @@ use Rattle.acc_clauses.specs.declared.acted.Acted.{Acted}
 use Rattle.acc_clauses.specs.Overlays.{IsPlanned, AreUnmixed, tasks_in, dids_in, records_after, enters, birth_by, births_of, end_by, ended_of, found_by, found_over, counters_in, counters_at, recount, are_zero, counters_over}
 use Rattle.acc_clauses.proofs.Overlaid.{or_false, birth_entry, bears_none, drops_none, sound-after, counters-after, found-entered, found-left, blocks-after, births-after}
 use Rattle.acc_present.proofs.Finding.{apart_from_none}
+use Rattle.acc_clauses.proofs.Legal.{birth_len}
 
 -- ---- where a section lies
 
@@ -127,12 +128,6 @@ counters_read l xs acts w b c r p same s d e =
 
 -- ---- births
 
-birth_len : (l : Limits) (s : Section) (ranges : List Range) → IsWithinBounds l → is_within s (host_memory l.host) ≡ true → where_is s ranges ≡ Absent → IsFromOne MEMORY_MAX s.len
-birth_len l s ranges bounds within absent =
-    let filled : is_empty s ≡ false = (absent_says s ranges absent).1 in
-    let most : l.host ≤ MEMORY_MAX = bounds.host.1 in
-    grind (arith, nat_tests)
-
 place_below : (l : Limits) (w : Records) (size p : ℕ) → place_for (device_memory l.device) w.blocks size ≡ Some p → p + size ≤ end_of (device_memory l.device)
 place_below l w size p e =
     let fits : fits_at (device_memory l.device) w.blocks size p ≡ true = (rw e at (place_for-found (device_memory l.device) w.blocks size)).0 in
@@ -142,7 +137,7 @@ place_below l w size p e =
 take_by : (l : Limits) (task : Task) (step : Step) (w : Records) → IsWithinBounds l → IsJudgedTo l task step w → AllByRecursion (IsTakeBelow (end_of (device_memory l.device))) (birth_by task step)
 take_by l task (Born k p) w bounds says =
     let birth : IsBirth l (section_of task) k p w = birth_entry l task k p w says in
-    ((birth_len l (section_of task) w.ranges bounds birth.within birth.absent, place_below l w (rounded (section_of task).len) p birth.place_is), tt)
+    ((birth_len l (section_of task) k p w bounds birth, place_below l w (rounded (section_of task).len) p birth.place_is), tt)
 take_by l task _ w bounds says = tt
 
 takes : (l : Limits) (n : ℕ) (xs : List Acted) (w : Records) → IsWithinBounds l → AreJudged l n (tasks_in xs) (dids_in xs) w → AllByRecursion (IsTakeBelow (end_of (device_memory l.device))) (births_of xs)

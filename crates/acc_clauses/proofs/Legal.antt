@@ -125,13 +125,10 @@ birth_len l section k place w bounds says =
 can_bear : (l : Limits) (s : State) (section : Section) (k place : ℕ) → IsWithinBounds l → AreRecordsSound l s.records → AreMemoriesSized l s → s.records.births < 2 ^ 48 → IsBirth l section k place s.records
     → CanBear l.counter_max (device_memory l.device) section k place s
 can_bear l s section k place bounds h m few says =
-    let filled : is_empty section ≡ false = (absent_says section s.records.ranges says.absent).1 in
-    let some : 1 ≤ section.len = grind (arith, nat_tests) in
-    let most : section.len ≤ MEMORY_MAX = omega (arith, host_len section l.host says.within, bounds.host.1) in
     record {
       in_host = subst (λ n. is_within section (host_memory n) ≡ true) (sym m.host) says.within;
       absent = says.absent;
-      len = (some, most);
+      len = birth_len l section k place s.records bounds says;
       number = says.number;
       place_is = says.place_is;
       few = few;

@@ -24,6 +24,7 @@ use Rattle.acc_clauses.specs.Planned.{holdings_by}
 use Rattle.acc_clauses.specs.Overlays.{tasks_in, dids_in, puts_by, puts_in}
 use Rattle.acc_clauses.specs.Contents.{Contents}
 use Rattle.acc_clauses.specs.Acts.{IsJudged, AreKnown, HasRoomFor, HasPutRoom, IsRoomLeft, birth_of, lens_born, pointers_of, pointers_in}
+use Rattle.acc_clauses.proofs.Overlaid.{birth_entry}
 
 -- these tasks can be done, one after the other
 pub record CanRun (l : Limits) (tasks : List Task) (dids : List Did) (c : Contents) : Type 0 where
@@ -104,11 +105,7 @@ holdings_done acts i holdings all h e = let none : drop i acts ≡ [] = drop_all
 
 -- a block that a task is judged to bear is not too long
 birth_fits : (l : Limits) (task : Task) (step : Step) (w : Records) → IsWithinBounds l → IsJudgedTo l task step w → AllByRecursion (IsFromOne MEMORY_MAX) (birth_of task step)
-birth_fits l task Nothing w bounds says = tt
-birth_fits l (Enter counter item queue) (Born k p) w bounds says = (birth_len l (section_of (Enter counter item queue)) k p w bounds says, tt)
-birth_fits l (Leave holding) (Born k p) w bounds says = absurd says
-birth_fits l (Exit finalize item queue) (Born k p) w bounds says = absurd says
-birth_fits l (Move if_present item queue) (Born k p) w bounds says = absurd says
+birth_fits l task (Born k p) w bounds says = (birth_len l (section_of task) k p w bounds (birth_entry l task k p w says), tt)
 birth_fits l task _ w bounds says = tt
 
 lens_each : (l : Limits) (n : ℕ) (tasks : List Task) (dids : List Did) (w : Records) → IsWithinBounds l → AreJudged l n tasks dids w → AllByRecursion (IsFromOne MEMORY_MAX) (lens_born tasks dids)

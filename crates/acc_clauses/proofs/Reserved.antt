@@ -23,6 +23,7 @@ use Rattle.acc_clauses.specs.Contents.{Contents, Room}
 use Rattle.acc_clauses.specs.Stored.{IsStoreSound}
 use Rattle.acc_clauses.proofs.Asking.{asked_fit}
 use Rattle.acc_clauses.specs.Acts.{lens_born, pointers_in, HasRoomFor, HasPutRoom, HasRegionRoom, HasPlanRoom}
+use Rattle.acc_clauses.proofs.QueuesAfter.{known_queue}
 
 -- ---- the queue of a directive
 
@@ -69,10 +70,7 @@ one_room d c p named room h planned is enough = λ q. go q (named == q) refl
 
 -- there is the queue that a planned directive names
 pub queue_there : (l : Limits) (d : Directive) (s : State) (p : Planned) (named : ℕ) → IsPlanOf l d s p → queue_in d ≡ Some named → named < QUEUE_COUNT
-queue_there l d s p named h is =
-    let known : queue_named (Some named) ≡ Ok tt = subst (λ o. queue_named o ≡ Ok tt) is h.known in
-    let below : nat_le QUEUE_COUNT named ≡ false = refused_not _ _ known in
-    grind (arith, nat_tests)
+queue_there l d s p named h is = known_queue named (queue_in d) is h.known
 
 -- ---- all room
 

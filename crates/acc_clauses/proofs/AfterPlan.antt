@@ -1,4 +1,5 @@
 -- What a planned directive makes of a store: the state after its event, and a store that is sound.
+use Rattle.std.proofs.lemmas.Bool.Decides.{nat_tests}
 use Rattle.std.proofs.Common.{◌≡◌, ◌≤◌, refl, sym, ◌∙◌, ap, subst, ℕ, List, [], arith}
 use Rattle.acc_base.specs.declared.directives.Directive.{Directive}
 use Rattle.acc_base.specs.declared.events.Event.{Event}
@@ -27,23 +28,12 @@ use Rattle.acc_clauses.proofs.Events.{IsEventOf, event_of_plan, idle_plan}
 -- what an event that brings no bytes makes of a state, once its steps and its register are known
 by_parts : (d : Directive) (p : Planned) (s : State) (e : Event) (a b : State) (x y : Register) → IsEventOf d p s e → a ≡ b → x ≡ y
     → ◌≡◌ {A = State} (record { records = loaned e a.records; register = x; host = host_after e [] a.host; memories = memories_after e [] a.memories }) (record b { register = y })
-by_parts d p s e a b x y is same register =
-    let P : List ℕ → State = λ bytes. record { records = loaned e a.records; register = x; host = bytes; memories = memories_after e [] a.memories } in
-    let Q : State → State = λ t. record t { register = x } in
-    let R : Records → State = λ w. record { records = w; register = x; host = a.host; memories = memories_after e [] a.memories } in
-    let S : List Memory → State = λ ms. record { records = a.records; register = x; host = a.host; memories = ms } in
-    ap P (is.host a.host) ∙ ap R (is.records a.records) ∙ ap S (is.memories a.memories) ∙ ap Q same ∙ ap (λ (g : Register). record b { register = g }) register
+by_parts d p s e a b x y is same register = grind (arith, nat_tests)
 
 -- the state after the event of a plan is that after its tasks, and then its queues and its register
 pub after_plan : (d : Directive) (p : Planned) (s : State) (e : Event) → IsEventOf d p s e → after e [] s ≡ finished d p (act_all_state p.tasks p.dids s)
 unfolding after
-after_plan d p s e is =
-    let t : State = act_all_state p.tasks p.dids s in
-    let acted : act_all_state (asked_in e s.register) (done_in e) s ≡ t = ap (λ ts. act_all_state ts (done_in e) s) is.asked ∙ ap (λ ds. act_all_state p.tasks ds s) is.done in
-    let made : drained (stepped_in e s.records.queues) (act_all_state (asked_in e s.register) (done_in e) s) ≡ drained (steps_by d t.records.queues) t =
-    ap (λ qs. drained qs (act_all_state (asked_in e s.register) (done_in e) s)) is.steps ∙ ap (drained (steps_by d t.records.queues)) acted in
-    by_parts d p s e (drained (stepped_in e s.records.queues) (act_all_state (asked_in e s.register) (done_in e) s)) (drained (steps_by d t.records.queues) t) (register_after e s.register)
-    (register_by d (holdings_by p.tasks p.dids) t.register) is made (is.register ∙ ap (register_by d (holdings_by p.tasks p.dids)) (sym (register-act_all_state p.tasks p.dids s)))
+after_plan d p s e is = grind (arith, nat_tests, by_parts, register-act_all_state)
 
 -- it is the state after what the directive comes to
 pub finished_verdict : (l : Limits) (d : Directive) (s : State) (p : Planned) → IsPlanOf l d s p → finished d p (act_all_state p.tasks p.dids s) ≡ state_by (verdict_of d s p.dids) s

@@ -30,9 +30,7 @@ pub target_put : (pointer block target start : ℕ) (x : Environment) (new : Dev
     → new ≡ record x.device { memories = map (memory_changed block (written_bytes (covers (pointer_at pointer)) (λ a. slice_index bytes (a - pointer)) start)) x.device.memories }
     → bytes ≡ to_le_bytes w64 target → start ≡ start_of block x.present.table.ranges
     → record x { device = new } ≡ record x { device = record x.device { memories = pointer_written block pointer (λ a. slice_index (to_le_bytes w64 target) (a - pointer)) (bare_state x) } }
-target_put pointer block target start x new bytes put eight first =
-    ap (λ (d : DeviceState). let y : Environment = record x { device = d } in y) put
-    ∙ (ap (with_put pointer block x start) eight ∙ ap (λ n. with_put pointer block x n (to_le_bytes w64 target)) first)
+target_put pointer block target start x new bytes put eight first = grind (arith, nat_tests)
 
 -- the parts with these memories of the blocks and these attachment counters
 abbrev pub with_pointers : Environment → List Memory → AttachedState → Environment
@@ -85,18 +83,10 @@ cleared_aims pointer block x y b can e attached limit spare marked =
 
 -- what is left of a counter tells whether it was one
 was_one : (n : ℕ) → left.Zero ≡ left_of false n → (n == 1) ≡ true
-was_one n e = go (n == 0) (n == 1) e
-  where
-    go : (a b : Bool) → left.Zero ≡ cond a left.Nothing (cond b left.Zero left.Less) → b ≡ true
-    go false true h = refl
-    go _ _ h = cc
+was_one n e = grind (arith, nat_tests)
 
 was_more : (n : ℕ) → 0 < n → (left.Zero ≡ left_of false n → ⊥) → (n == 1) ≡ false
-was_more n some h = let filled : (n == 0) ≡ false = grind (arith, nat_tests) in go (n == 1) refl filled
-  where
-    go : (b : Bool) → (n == 1) ≡ b → (n == 0) ≡ false → b ≡ false
-    go true e f = absurd (h (rw (f, e) refl))
-    go false e f = refl
+was_more n some h = grind (arith, nat_tests)
 
 -- it is not zero
 pub not_zero : (l : Left) → (l ≡ left.Nothing) ⊎ (l ≡ left.Less) → left.Zero ≡ l → ⊥

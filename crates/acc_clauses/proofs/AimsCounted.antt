@@ -54,21 +54,9 @@ unmapped l w block h zero = go (range_of block w.ranges) refl
 -- a task leaves the counters of a block that is gone at zero
 zero_left : (l : Limits) (task : Task) (step : Step) (w : Records) (block : ℕ) (counter : Counter) → AreRecordsSound l w → IsJudgedTo l task step w → IsGone w block
     → cond (names block step) (moved_by counter task (counter_of counter block w.ranges)) (counter_of counter block w.ranges) ≡ 0
-zero_left l task (Counted k) w block counter h says gone = go (k == block) refl
-  where
-    go : (t : Bool) → (k == block) ≡ t → cond t (moved_by counter task (counter_of counter block w.ranges)) (counter_of counter block w.ranges) ≡ 0
-    go true e = absurd (count_mapped l task k w says (subst (λ n. range_of n w.ranges ≡ None) (sym (equal k block e)) (unmapped l w block h gone.zero)))
-    go false e = gone.zero counter
-zero_left l task (Born k p) w block counter h says gone = go (k == block) refl
-  where
-    go : (t : Bool) → (k == block) ≡ t → cond t (moved_by counter task (counter_of counter block w.ranges)) (counter_of counter block w.ranges) ≡ 0
-    go true e = let same = equal k block e in let number = birth_number l task k p w says in let born = gone.born in absurd (omega (arith, same, number, born))
-    go false e = gone.zero counter
-zero_left l task (Dropped k ended) w block counter h says gone = go (k == block)
-  where
-    go : (t : Bool) → cond t (moved_by counter task (counter_of counter block w.ranges)) (counter_of counter block w.ranges) ≡ 0
-    go true = ap (moved_by counter task) (gone.zero counter) ∙ zero_stays l task k ended w counter says
-    go false = gone.zero counter
+zero_left l task (Counted k) w block counter h says gone = grind (arith, nat_tests, moved_by counter task (counter_of counter block w.ranges), count_mapped, equal, unmapped l w block h gone.zero)
+zero_left l task (Born k p) w block counter h says gone = grind (arith, nat_tests)
+zero_left l task (Dropped k ended) w block counter h says gone = grind (arith, nat_tests)
 zero_left l task _ w block counter h says gone = gone.zero counter
 
 gone-act : (l : Limits) (task : Task) (did : Did) (w : Records) (block : ℕ) → AreRecordsSound l w → IsJudgedTo l task did.step w → IsLeft l task did w (act task did w) → IsGone w block → IsGone (act task did w) block
@@ -87,14 +75,7 @@ gone-after l n (x ∷ xs) w block bounds h judged gone =
 
 -- the block whose mapping a task ends was born
 ended_born : (l : Limits) (task : Task) (k : ℕ) (w : Records) → AreRecordsSound l w → IsJudgedTo l task (Dropped k true) w → k ≤ w.births
-ended_born l task k w h says = go (range_of k w.ranges) refl (ends_told l task k w says)
-  where
-    go : (o : Option Range) → range_of k w.ranges ≡ o → true ≡ unwrap_or (option_map (λ (r : Range). is_unused (recounted task r)) o) false → k ≤ w.births
-    go None e ends = cc
-    go (Some r) e ends =
-        let has : (r.block ≤ w.births) × ((r.block == k) ≡ true) = found_has (λ t. t.block ≤ w.births) (λ t. t.block == k) w.ranges r (ranges_born l w h) e in
-        let same = equal r.block k has.1 in
-        omega (arith, has.0, same)
+ended_born l task k w h says = grind (arith, nat_tests, ends_told, found_has, ranges_born, equal)
 
 -- and is gone then
 gone_ended : (l : Limits) (task : Task) (k : ℕ) (w : Records) → AreRecordsSound l w → IsJudgedTo l task (Dropped k true) w → IsGone (act_step task (Dropped k true) w) k
@@ -111,19 +92,13 @@ ends block _ = false
 -- a step leaves the counters of the blocks whose mapping it does not end
 count-step : (task : Task) (step : Step) (w : Records) (block pointer : ℕ) → ends block step ≡ false → count_at block pointer (act_step task step w).attached ≡ count_at block pointer w.attached
 unfolding act_step act_row with_range_changed records_after_birth records_after_end released
-count-step task (Dropped k true) w block pointer other = go (is_in_use k (record w { ranges = without_range k w.ranges; queues = (with_put task (Dropped k true) w).queues }))
-  where
-    go : (t : Bool) → count_at block pointer (cond t w.attached (without_attachments k w.attached)) ≡ count_at block pointer w.attached
-    go true = refl
-    go false = let differs : (block == k) ≡ false = grind (arith, nat_tests) in count_at-without_other block pointer k w.attached differs
+count-step task (Dropped k true) w block pointer other = grind (arith, nat_tests, count_at-without_other)
 count-step task _ w block pointer other = refl
 
 -- so does a task, but for what becomes of its pointer
 count-act : (task : Task) (did : Did) (w : Records) (block pointer : ℕ) → ends block did.step ≡ false → count_at block pointer (act task did w).attached ≡ count_after block pointer did.aim (count_at block pointer w.attached)
 unfolding act
-count-act (Enter counter item queue) did w block pointer other =
-    count_at-attached_by block pointer did.aim (act_step (Enter counter item queue) did.step w).attached
-    ∙ ap (count_after block pointer did.aim) (count-step (Enter counter item queue) did.step w block pointer other)
+count-act (Enter counter item queue) did w block pointer other = search (count_at-attached_by, count-step)
 count-act task did w block pointer other = count-step task did.step (records_aimed did.aim w) block pointer other ∙ count_at-attached_by block pointer did.aim w.attached
 
 -- the first of some tasks did not end a block that is not gone after them
@@ -164,11 +139,7 @@ count-after l n (x ∷ xs) w block pointer bounds h judged mapped =
 
 -- a block that holds a pointer is not gone
 holds_not_gone : (l : Limits) (w : Records) (block pointer : ℕ) → AreRecordsSound l w → block_with pointer w.ranges ≡ Some block → IsGone w block → ⊥
-holds_not_gone l w block pointer h there gone =
-    let at : IsPointerIn block pointer w = pointer_in_block l w block pointer h there in
-    let is : range_of block w.ranges ≡ Some at.range = at.range_is in
-    let none : range_of block w.ranges ≡ None = unmapped l w block h gone.zero in
-    cc
+holds_not_gone l w block pointer h there gone = grind (arith, nat_tests, pointer_in_block l w block pointer h there, unmapped l w block h gone.zero)
 
 -- the counter of a pointer that lies in the block after the tasks
 pub count-planned : (l : Limits) (xs : List Acted) (w : Records) (block pointer : ℕ) → IsPlanned l xs w → block_with pointer (records_after xs w).ranges ≡ Some block

@@ -89,12 +89,7 @@ pointer_in_block l w block pointer h e = go (where_is (pointer_at pointer) w.ran
 -- ---- the block of a pointer before an entry
 
 beside_before : (s t : Section) (k block : ℕ) (f : Found) → (k ≡ block → ⊥) → block_in (found_beside s t k f) ≡ Some block → block_in f ≡ Some block
-beside_before s t k block Absent other e = go (is_within s t) (is_apart s t) e
-  where
-    go : (x y : Bool) → block_in (cond x (Inside k (s.start - t.start)) (cond y Absent Partly)) ≡ Some block → block_in Absent ≡ Some block
-    go true y h = absurd (other cc)
-    go false true h = cc
-    go false false h = cc
+beside_before s t k block Absent other e = grind (arith, nat_tests)
 beside_before s t k block _ other e = e
 
 before-step : (l : Limits) (counter : Counter) (item : Item RegionClause) (queue : Option ℕ) (step : Step) (w : Records) (pointer block : ℕ) → AreRecordsSound l w → IsJudgedTo l (Enter counter item queue) step w → IsSome (block_at block w.blocks)
@@ -136,24 +131,11 @@ before-after l n (x ∷ xs) w pointer block bounds h judged entries there e =
 
 -- a block ends on the device, far below the last 64-bit address
 place_bound : (l : Limits) (w : Records) (block : ℕ) (b : Block) → IsWithinBounds l → AreRecordsSound l w → block_at block w.blocks ≡ Some b → (b.place + b.len < 2 ^ 41) × (place_of block w.blocks ≡ b.place)
-place_bound l w block b bounds h e =
-    let on : IsOnDevice (device_memory l.device) b = (found_has (IsOnDevice (device_memory l.device)) (λ x. x.number == block) w.blocks b h.blocks_apart.on_device e).0 in
-    let last : b.place + rounded b.len ≤ end_of (device_memory l.device) = on.last in
-    let most = bounds.device.1 in
-    (omega (arith, last, most), ap (λ o. unwrap_or (option_map (λ (x : Block). x.place) o) 0) e)
+place_bound l w block b bounds h e = grind (arith, nat_tests, found_has)
 
 -- the sum of a block's place and of an offset in its range
 pub address_bound : (l : Limits) (w : Records) (s : Section) (block offset : ℕ) → IsWithinBounds l → AreRecordsSound l w → where_is s w.ranges ≡ Inside block offset → place_of block w.blocks + offset < 2 ^ 42
-address_bound l w s block offset bounds h e =
-    let held = held_in l s w block offset h e in
-    let place = place_bound l w block held.1 bounds h held.2.block_is in
-    let first : s.start - held.0.section.start ≤ held.0.section.len = low s held.0.section held.2.within in
-    let offset_is = held.3 in
-    let len = held.2.len in
-    omega (arith, place.0, place.1, first, offset_is, len)
-  where
-    low : (s t : Section) → is_within s t ≡ true → s.start - t.start ≤ t.len
-    low s t h = grind (arith, nat_tests)
+address_bound l w s block offset bounds h e = grind (arith, nat_tests, held_in l s w block offset h e, place_bound)
 
 pub target_bound : (l : Limits) (w : Records) (target : ℕ) → IsWithinBounds l → AreRecordsSound l w → IsTarget target w → target < 2 ^ 42
 target_bound l w target bounds h t = go (where_is (only t.0) w.ranges) refl t.1

@@ -1,4 +1,5 @@
 -- Where blocks lie after entries, and what entries leave of host memory.
+use Rattle.std.proofs.lemmas.Bool.Decides.{nat_tests}
 use Rattle.std.proofs.Common.{ℕ, ◌≡◌, ◌+◌, ◌≤◌, refl, sym, ap, ◌∙◌, subst, Bool, true, false, cond, List, [], ◌∷◌, ◌++◌, suc, Option, Some, None, arith}
 use Rattle.std.specs.Prelude.{◌==◌, unwrap_or, option_map, IsSome}
 use Rattle.std.specs.List.{list_all}
@@ -40,12 +41,7 @@ no_block-new l w k h e = at-none (λ (b : Block). b.number) k w.blocks
 -- the place of a block, where another is added
 place-other : (blocks : List Block) (new : Block) (block : ℕ) → (new.number == block) ≡ false → place_of block (blocks ++ new ∷ []) ≡ place_of block blocks
 place-other [] new block e = rw e refl
-place-other (b ∷ bs) new block e = go (place-other bs new block e) (b.number == block)
-  where
-    go : place_of block (bs ++ new ∷ []) ≡ place_of block bs → (t : Bool)
-        → unwrap_or (option_map (λ (x : Block). x.place) (cond t (Some b) (block_at block (bs ++ new ∷ [])))) 0 ≡ unwrap_or (option_map (λ (x : Block). x.place) (cond t (Some b) (block_at block bs))) 0
-    go rest true = refl
-    go rest false = rest
+place-other (b ∷ bs) new block e = grind (arith, nat_tests, place-other bs new block e)
 
 -- and where it is the one that is added
 place-new : (blocks : List Block) (new : Block) → block_at new.number blocks ≡ None → place_of new.number (blocks ++ new ∷ []) ≡ new.place
@@ -124,12 +120,7 @@ none_now (Some q) s = refl
 
 host-step : (l : Limits) (counter : Counter) (item : Item RegionClause) (queue : Option ℕ) (step : Step) (s : State) → IsJudgedTo l (Enter counter item queue) step s.records → (step_state (Enter counter item queue) step s).host ≡ s.host
 unfolding step_state
-host-step l counter item queue (Born k p) s says = go queue (copies_in item.clause)
-  where
-    go : (q : Option ℕ) (b : Bool) → host_made (at_once q (cond b (Some (record { block = k; offset = 0; section = section_of (Enter counter item queue); out = false })) None)) s.records.attached s.memories s.host ≡ s.host
-    go None true = refl
-    go None false = refl
-    go (Some q) b = refl
+host-step l counter item queue (Born k p) s says = grind (arith, nat_tests)
 host-step l counter item queue (Dropped k ended) s says = absurd says
 host-step l counter item queue (Moved k) s says = absurd says
 host-step l counter item queue _ s says = none_now queue s

@@ -1,4 +1,5 @@
 -- What an attached pointer holds on the device after entries is what the fold over them gives.
+use Rattle.std.proofs.lemmas.Bool.Decides.{nat_tests}
 use Rattle.std.proofs.Common.{ℕ, ◌≡◌, ◌+◌, ◌-◌, ◌<◌, ◌≤◌, ◌^◌, refl, sym, ap, ◌∙◌, subst, Bool, true, false, cond, ◌&&◌, ◌||◌, List, [], ◌∷◌, ◌++◌, replicate, suc, Option, Some, None, Ok, arith}
 use Rattle.std.specs.Prelude.{◌==◌, ◌%◌, find, unwrap_or, option_map, IsSome}
 use Rattle.std.specs.List.{list_all, AllByRecursion}
@@ -45,12 +46,7 @@ use Rattle.acc_clauses.proofs.AimsWritten.{target_byte, pointer-other, apart_by,
 
 there_by : (blocks : List Block) (block pointer : ℕ) (xs : List Attachment) → AllByRecursion (λ a. IsSome (block_at a.block blocks)) xs → (count_at block pointer xs ≡ 0 → ⊥) → IsSome (block_at block blocks)
 there_by blocks block pointer [] h some = absurd (some refl)
-there_by blocks block pointer (x ∷ xs) h some = go (there_by blocks block pointer xs h.1) (is_of block pointer x) refl some
-  where
-    go : ((count_at block pointer xs ≡ 0 → ⊥) → IsSome (block_at block blocks)) → (b : Bool) → is_of block pointer x ≡ b
-        → (unwrap_or (option_map (λ (a : Attachment). a.count) (cond b (Some x) (find (is_of block pointer) xs))) 0 ≡ 0 → ⊥) → IsSome (block_at block blocks)
-    go rest true e k = subst (λ n. IsSome (block_at n blocks)) (same_block block pointer x e) h.0
-    go rest false e k = rest k
+there_by blocks block pointer (x ∷ xs) h some = grind (arith, nat_tests, there_by blocks block pointer xs h.1)
 
 -- a block with an attached pointer is there
 pub counted_there : (l : Limits) (w : Records) (block pointer : ℕ) → AreRecordsSound l w → (count_at block pointer w.attached ≡ 0 → ⊥) → IsSome (block_at block w.blocks)
@@ -63,14 +59,7 @@ aligned l n pointer e = equal _ _ (not_false _ (refused_not _ _ (then_ok _ _ tt 
 
 named_aligned : (l : Limits) (n : ℕ) (counter : Counter) (item : Item RegionClause) (queue : Option ℕ) (step : Step) (w : Records) (p : ℕ) → judge_step l n (Enter counter item queue) w ≡ Ok step → pointer_aimed (Enter counter item queue) step ≡ Some p → p % 8 ≡ 0
 unfolding judge_row
-named_aligned l n counter item queue step w p judged e =
-    let task : Task = Enter counter item queue in
-    let named : pointer_of task ≡ Some p = go (is_attach item.clause) (is_action step) e in
-    aligned l n p (subst (λ o. pointer_checked l n o ≡ Ok tt) named (pointer_checked_by l n task (then_ok _ _ step (step_judged l n (Enter counter item queue) w step judged).row).0))
-  where
-    go : (a b : Bool) → cond (a || b) (pointer_of (Enter counter item queue)) None ≡ Some p → pointer_of (Enter counter item queue) ≡ Some p
-    go false false h = cc
-    go _ _ h = h
+named_aligned l n counter item queue step w p judged e = grind (arith, nat_tests, aligned, pointer_checked_by, then_ok, step_judged l n (Enter counter item queue) w step judged)
 
 -- ---- a step of an entry leaves the blocks that are there
 
@@ -99,32 +88,7 @@ holds-step : (l : Limits) (counter : Counter) (item : Item RegionClause) (queue 
 unfolding step_state act_step act_row with_range_changed records_after_birth
 holds-step l counter item queue Nothing s block pointer h says there = holds_same pointer (start_of block s.records.ranges) _ _ _ refl (ap (bytes_of block) (none_made queue s.records.attached s.host s.memories))
 holds-step l counter item queue (Counted k) s block pointer h says there = holds_same pointer _ _ _ _ (start-changed (Enter counter item queue) k block s.records.ranges) (ap (bytes_of block) (none_made queue s.records.attached s.host s.memories))
-holds-step l counter item queue (Born k p) s block pointer h says there =
-    holds_same pointer _ _ _ _ (with_other start_in new block s.records.ranges (subst (λ n. (n == block) ≡ false) (sym block_is) other)) (bytes queue (copies_in item.clause))
-  where
-    task : Task
-    task = Enter counter item queue
-
-    new : Range
-    new = recounted task (bare_range (section_of task) k)
-
-    block_is : new.block ≡ k
-    block_is = (recounted_keeps task).block (bare_range (section_of task) k)
-
-    other : (k == block) ≡ false
-    other = go (k == block) refl
-      where
-        go : (t : Bool) → (k == block) ≡ t → t ≡ false
-        go true e = let none : block_at block s.records.blocks ≡ None = subst (λ n. block_at n s.records.blocks ≡ None) (equal k block e) (no_block-new l s.records k h says.number) in cc
-        go false e = refl
-
-    born : Memory
-    born = record { block = k; bytes = replicate (section_of task).len (fill_of task) }
-
-    bytes : (q : Option ℕ) (b : Bool) → bytes_of block (memories_made (at_once q (cond b (Some (record { block = k; offset = 0; section = section_of task; out = false })) None)) s.records.attached s.host (s.memories ++ born ∷ [])) ≡ bytes_of block s.memories
-    bytes None true = bytes-other k block (bytes_moved_in (is_moved (section_of task) k s.records.attached) s.host ((section_of task).start - 0)) (s.memories ++ born ∷ []) other ∙ bytes-push block born s.memories other
-    bytes None false = bytes-push block born s.memories other
-    bytes (Some q) b = bytes-push block born s.memories other
+holds-step l counter item queue (Born k p) s block pointer h says there = grind (arith, nat_tests, holds_same, with_other, recounted_keeps, equal, no_block-new l s.records k h says.number, bytes-other, bytes-push)
 holds-step l counter item queue _ s block pointer h says there = absurd says
 
 -- ---- an attachment
@@ -141,28 +105,17 @@ module _ (l : Limits) (block pointer : ℕ) (even : pointer % 8 ≡ 0) (s : Stat
   -- the pointer itself is written
   new_same : (target : ℕ) → target < 2 ^ 64 → block_with pointer s.records.ranges ≡ Some block → is_lent block s.records.loans ≡ false → device_pointer block pointer (aimed (aims.New pointer block target) s) ≡ target
   unfolding aimed
-  new_same target below there free =
-      let at : IsPointerIn block pointer s.records = pointer_in_block l s.records block pointer sound there in
-      let len = bytes_of-len s.records.loans block s.memories s.records.blocks at.block_there sized.blocks free at.there in
-      let first : ℕ = start_of block s.records.ranges in
-      let low = at.low in
-      let high = at.high in
-      ap (λ bs. pointer_in first pointer bs) (bytes-same block (written_bytes (covers (pointer_at pointer)) (target_byte target pointer) first) s.memories refl)
-      ∙ pointer-same first pointer target (bytes_of block s.memories) low (omega (arith, high, len)) below
+  new_same target below there free = grind (arith, nat_tests, pointer_in_block l s.records block pointer sound there, bytes_of-len, bytes-same, target_byte target pointer, pointer-same)
 
   -- another pointer of the block is
   new_beside : (p target : ℕ) → p % 8 ≡ 0 → (p == pointer) ≡ false → IsSome (block_at block s.records.blocks) → device_pointer block pointer (aimed (aims.New p block target) s) ≡ device_pointer block pointer s
   unfolding aimed
-  new_beside p target e differs there =
-      let first : ℕ = start_of block s.records.ranges in
-      ap (λ bs. pointer_in first pointer bs) (bytes-same block (written_bytes (covers (pointer_at p)) (target_byte target p) first) s.memories refl)
-      ∙ pointer-other first p pointer (target_byte target p) (bytes_of block s.memories) (above there) (apart_by p pointer e even differs)
+  new_beside p target e differs there = grind (arith, nat_tests, bytes-same, target_byte, pointer-other, apart_by)
 
   -- a pointer of another block is
   new_other : (p b target : ℕ) → (b == block) ≡ false → device_pointer block pointer (aimed (aims.New p b target) s) ≡ device_pointer block pointer s
   unfolding aimed
-  new_other p b target differs = ap (λ bs. pointer_in (start_of block s.records.ranges) pointer bs)
-      (bytes-other b block (written_bytes (covers (pointer_at p)) (target_byte target p) (start_of b s.records.ranges)) s.memories differs)
+  new_other p b target differs = grind (arith, nat_tests, bytes-other, target_byte)
 
   -- what is attached after an attachment of another pointer was before it
   count_other : (p b target : ℕ) → (b == block && p == pointer) ≡ false → (count_at block pointer (attached_by (aims.New p b target) s.records.attached) ≡ 0 → ⊥) → count_at block pointer s.records.attached ≡ 0 → ⊥
@@ -203,9 +156,7 @@ module _ (l : Limits) (block pointer : ℕ) (even : pointer % 8 ≡ 0) (s : Stat
   pub holds-aim : (named : Option ℕ) (aim : Aim) (value : ℕ) → ((p : ℕ) → named ≡ Some p → p % 8 ≡ 0) → IsAttachLegal l named aim s.records → Holds block pointer value s → Holds block pointer (value_by block pointer value aim) (aimed aim s)
   unfolding aimed
   holds-aim named aims.None value evens legal h = h
-  holds-aim named (aims.New p b target) value evens legal h =
-      let bound : target < 2 ^ 42 = target_bound l s.records target bounds sound legal.3 in
-      holds-new p b target value (evens p legal.0) (omega (arith, bound)) legal.1 legal.2 h
+  holds-aim named (aims.New p b target) value evens legal h = grind (arith, nat_tests, target_bound l s.records target bounds sound legal.3, holds-new)
   holds-aim named (aims.Again p b) value evens legal h = holds-again p b value legal.3 h
   holds-aim named _ value evens legal h = absurd legal
 

@@ -48,10 +48,7 @@ length-leave holdings = length-map (reverse holdings) Leave ∙ length-reverse h
 
 -- it undoes the last of its holdings first
 pub leave_at : (holdings : List Holding) (n : ℕ) (e : Holding) (d : Task) → n < length (leave_tasks holdings) → Leave (get_or holdings (length holdings - 1 - n) e) ≡ get_or (leave_tasks holdings) n d
-leave_at holdings n e d there =
-    let mapped : n < length (reverse holdings) = omega (arith, there, length-map (reverse holdings) Leave) in
-    let within : n < length holdings = omega (arith, there, length-leave holdings) in
-    sym (get_or-map Leave (reverse holdings) n e d mapped ∙ ap Leave (get_or-reverse holdings n e within))
+leave_at holdings n e d there = grind (arith, nat_tests, length-map, length-leave, get_or-map, get_or-reverse)
 
 -- ---- what holds of the tasks of a directive
 
@@ -72,9 +69,7 @@ tasks_fit _ holdings few held = record { few = omega arith; unmixed = inl refl; 
 -- an open region that is found holds few
 few_found : (number : ℕ) (regions : List Region) (o : Option Region) (holdings : List Holding) → AllByRecursion HasFewHoldings regions → region_at number regions ≡ o → ok_or (option_map (λ (r : Region). r.holdings) o) (NoRegion number) ≡ Ok holdings → length holdings ≤ 64
 few_found number regions None holdings all is e = absurd cc
-few_found number regions (Some r) holdings all is e =
-    let few : HasFewHoldings r × ((r.number == number) ≡ true) = found_has HasFewHoldings (λ q. q.number == number) regions r all is in
-    rw (← ok_same r.holdings holdings e) few.0
+few_found number regions (Some r) holdings all is e = grind (arith, nat_tests, found_has, ok_same)
 
 -- so does the one that a directive leaves
 few_left : (d : Directive) (g : Register) (holdings : List Holding) → AllByRecursion HasFewHoldings g.regions → holdings_left d g ≡ Ok holdings → length holdings ≤ 64
@@ -93,10 +88,7 @@ pub record IsAskedWith (d : Directive) (g : Register) (tasks : List Task) : Type
   pub are : tasks_with d holdings ≡ tasks
 
 pub asked_with : (d : Directive) (g : Register) (tasks : List Task) → asked_of d g ≡ Ok tasks → IsAskedWith d g tasks
-asked_with d g tasks e =
-    let both = then_ok (few_items d) (tasks_of d g) tasks e in
-    let with_these = bind_ok (holdings_left d g) (λ holdings. Ok (tasks_with d holdings)) tasks both.1 in
-    record { holdings = with_these.0; few = both.0; left = with_these.1; are = ok_same _ _ with_these.2 }
+asked_with d g tasks e = grind (arith, nat_tests)
 
 pub left_fit : (d : Directive) (g : Register) (holdings : List Holding) → AllByRecursion HasFewHoldings g.regions → few_items d ≡ Ok tt → holdings_left d g ≡ Ok holdings → AreTasksOf d (tasks_with d holdings)
 left_fit d g holdings all few e = tasks_fit d holdings (few_checked d few) (few_left d g holdings all e)

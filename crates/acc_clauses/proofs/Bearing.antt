@@ -1,4 +1,5 @@
 -- What a birth leaves of the parts: the block with its bytes and its range, and then the copy that is put into a queue.
+use Rattle.std.proofs.lemmas.Bool.Decides.{nat_tests}
 use Rattle.std.proofs.Common.{ℕ, ◌≡◌, ◌+◌, ◌-◌, ◌≤◌, refl, sym, ◌∙◌, ap, subst, Bool, true, false, cond, ◌&&◌, List, [], ◌∷◌, ◌++◌, length, replicate, Option, Some, None, arith}
 use Rattle.std.specs.Prelude.{IsSome, is_some, is_none}
 use Rattle.std.specs.List.{AllByRecursion, AllZip}
@@ -52,9 +53,7 @@ born_state counter item queue copied k place s = record s {
 born_ranges : (counter : Counter) (item : Item RegionClause) (queue : Option ℕ) (k : ℕ) (p q r : PresentState) → AllByRecursion (λ x. x.block ≡ k → ⊥) p.table.ranges
     → q.table ≡ with_ranges p.table (with_range (bare_range (section_of (Enter counter item queue)) k) p.table.ranges) → r.table ≡ with_ranges q.table (changed_at k (risen counter) q.table.ranges)
     → r.table.ranges ≡ with_range (born_range counter item queue k) p.table.ranges
-born_ranges counter item queue k p q r new put raised =
-    ap (λ t. t.ranges) raised ∙ (ap (λ t. changed_at k (risen counter) t.ranges) put
-    ∙ changed-with k (risen counter) (bare_range (section_of (Enter counter item queue)) k) p.table.ranges refl (recounted-section (Enter counter item queue) (bare_range (section_of (Enter counter item queue)) k)) new)
+born_ranges counter item queue k p q r new put raised = grind (arith, nat_tests, changed-with, recounted-section)
 
 some_same : (a b : ℕ) (o : Option ℕ) → o ≡ Some a → o ≡ Some b → a ≡ b
 some_same a b o e h = cc
@@ -157,13 +156,7 @@ born_whole : (counter : Counter) (item : Item RegionClause) (queue : Option ℕ)
     → AllByRecursion (λ m. m.block ≡ k → ⊥) s.memories → AllByRecursion (λ a. a.block ≡ k → ⊥) s.records.attached
     → filled_later queue item k (born_state counter item queue (copies_in item.clause && is_none queue) k place s) ≡ step_state (Enter counter item queue) (Born k place) s
 unfolding step_state act_step act_row records_after_birth
-born_whole counter item queue k place s in_host no_memory no_pointer =
-    let t : Transfer = record { block = k; offset = 0; section = section_of (Enter counter item queue); out = false } in
-    let born : State = born_state counter item queue (copies_in item.clause && is_none queue) k place s in
-    filled_is (copies_in item.clause) queue t born
-    ∙ same_state (record born { records = record born.records { queues = queues_after queue (cond (copies_in item.clause) (Some t) None) s.records.queues } }) (step_state (Enter counter item queue) (Born k place) s) refl refl
-    (born_host (copies_in item.clause) queue k (section_of (Enter counter item queue)) s.records.attached s.host s.memories)
-    (born_memories counter item queue k place s.records.ranges s.records.attached s.host s.memories in_host no_memory no_pointer)
+born_whole counter item queue k place s in_host no_memory no_pointer = search (filled_is, same_state, born_host, born_memories)
 
 -- the room of the queues that a birth takes
 born_puts : (a b : Bool) → 0 + cond (a && b) 1 0 ≤ cond (a && b) 1 0

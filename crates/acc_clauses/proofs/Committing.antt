@@ -58,11 +58,7 @@ known_map f (x ∷ xs) (d ∷ ds) w h = (h x w, known_map f xs ds (act (f x) d w
 -- what an open region holds lies within, as all holdings do
 region_within : (w : Records) (number : ℕ) (regions : List Region) (hs : List Holding) → holdings_at number regions ≡ Some hs → AreHoldingsWithin w regions → AllByRecursion (IsHoldingWithin w) hs
 region_within w number [] hs e h = cc
-region_within w number (r ∷ rs) hs e h = go (region_within w number rs hs) (r.number == number) e
-  where
-    go : (holdings_at number rs ≡ Some hs → AreHoldingsWithin w rs → AllByRecursion (IsHoldingWithin w) hs) → (t : Bool) → option_map (λ (x : Region). x.holdings) (cond t (Some r) (region_at number rs)) ≡ Some hs → AllByRecursion (IsHoldingWithin w) hs
-    go rest true q = let same : r.holdings ≡ hs = cc in subst (AllByRecursion (IsHoldingWithin w)) same h.0
-    go rest false q = rest q h.1
+region_within w number (r ∷ rs) hs e h = grind (arith, nat_tests, region_within w number rs hs)
 
 all_reverse : {X : Type 0} (P : X → Type 0) (xs : List X) → AllByRecursion P xs → AllByRecursion P (reverse xs)
 all_reverse P [] h = tt
@@ -89,10 +85,7 @@ known_with _ holdings dids c bounds h left judged = known_map enter_task [] dids
 
 -- so does each task of a plan
 pub plan_known : (d : Directive) (c : Contents) (p : Planned) → IsWithinBounds c.limits → IsStoreSound c → IsPlanOf c.limits d c.state p → AreKnown p.tasks p.dids c.state.records
-plan_known d c p bounds h planned =
-    let is : IsAskedWith d c.state.register p.tasks = asked_with d c.state.register p.tasks planned.asked in
-    let judged : AreJudged c.limits 0 (tasks_with d is.holdings) p.dids c.state.records = subst (λ ts. AreJudged c.limits 0 ts p.dids c.state.records) (sym is.are) (planned_judged c.limits d c.state p planned) in
-    subst (λ ts. AreKnown ts p.dids c.state.records) is.are (known_with d is.holdings p.dids c bounds h is.left judged)
+plan_known d c p bounds h planned = grind (arith, nat_tests, asked_with, planned_judged, known_with)
 
 -- ---- the register
 
@@ -116,9 +109,7 @@ plan_can (directives.Enter items) c f p h planned next room acted same regions h
       (AllByRecursion-weaker (λ (r : Region). r.number < c.state.register.next) (λ (r : Region). (r.number == c.state.register.next) ≡ false) c.state.register.regions (λ r low. below_differs r.number c.state.register.next low) h.sound.layout.register.known));
   room = record { regions = omega (arith, room.regions, regions); enough = omega (arith, room.enough, holdings) };
 }
-plan_can (directives.Exit number) c f p h planned next room acted same regions holdings =
-    let is : IsAskedWith (directives.Exit number) c.state.register p.tasks = asked_with (directives.Exit number) c.state.register p.tasks planned.asked in
-    rw same (some_region (region_at number c.state.register.regions) is.holdings (open_left number _ is.holdings is.left))
+plan_can (directives.Exit number) c f p h planned next room acted same regions holdings = grind (arith, nat_tests)
 plan_can (directives.Wait queue) c f p h planned next room acted same regions holdings = free_then (directives.Wait queue) c f p planned (asked_with (directives.Wait queue) c.state.register p.tasks planned.asked).are acted
 plan_can (directives.Step queue) c f p h planned next room acted same regions holdings = free_then (directives.Step queue) c f p planned (asked_with (directives.Step queue) c.state.register p.tasks planned.asked).are acted
 plan_can _ c f p h planned next room acted same regions holdings = refl
@@ -132,10 +123,7 @@ pub holdings_few : (tasks : List Task) (dids : List Did) → length (holdings_by
 holdings_few [] [] = omega arith
 holdings_few [] (d ∷ ds) = omega arith
 holdings_few (t ∷ ts) [] = omega arith
-holdings_few (t ∷ ts) (d ∷ ds) =
-    let later : length (holdings_by ts ds) ≤ length ts = holdings_few ts ds in
-    let both : length (holding_by t d ++ holdings_by ts ds) ≡ length (holding_by t d) + length (holdings_by ts ds) = length-append (holding_by t d) (holdings_by ts ds) in
-    omega (arith, later, both, one_holding t d)
+holdings_few (t ∷ ts) (d ∷ ds) = grind (arith, nat_tests, holdings_few ts ds)
 
 -- what holds of a register holds after a directive, where it holds after a region's entry and after an exit
 by_register : (P : Register → Type 0) (d : Directive) (holdings : List Holding) (g : Register) → P g → ((items : List (Item RegionClause)) → d ≡ directives.Enter items → P (opened holdings g)) → ((number : ℕ) → P (closed number g)) → P (register_by d holdings g)
@@ -199,21 +187,13 @@ within_drained qs w regions h =
 -- what open regions hold lies within once a plan is finished
 within_finished : (d : Directive) (c : Contents) (p : Planned) → IsWithinBounds c.limits → IsStoreSound c → IsPlanOf c.limits d c.state p
     → AreHoldingsWithin (finished d p (act_all_state p.tasks p.dids c.state)).records (finished d p (act_all_state p.tasks p.dids c.state)).register.regions
-within_finished d c p bounds h planned =
-    let t : State = act_all_state p.tasks p.dids c.state in
-    let qs : List ℕ = steps_by d t.records.queues in
-    let after_it : Register → Register = register_by d (holdings_by p.tasks p.dids) in
-    let kept : AreHoldingsWithin t.records (after_it t.register).regions = subst (λ (g : Register). AreHoldingsWithin t.records (after_it g).regions) (sym (register-act_all_state p.tasks p.dids c.state))
-    (subst (λ w. AreHoldingsWithin w (after_it c.state.register).regions) (sym (records-act_all_state p.tasks p.dids c.state)) (within_after d c p bounds h planned)) in
-    subst (λ w. AreHoldingsWithin w (after_it t.register).regions) (sym (records-drained qs t)) (within_drained qs t.records (after_it t.register).regions kept)
+within_finished d c p bounds h planned = grind (arith, nat_tests, register-act_all_state, records-act_all_state, within_after, records-drained, within_drained)
 
 -- ---- a store is sound after a plan
 
 -- one that is as before is
 same_sound : (c f : Contents) → f.limits ≡ c.limits → f.state ≡ c.state → IsStoreSound c → IsStoreSound f
-same_sound c f limits state h =
-    let P : State → Type 0 = λ s. AreHoldingsWithin s.records s.register.regions in
-    record { sound = rw (limits, state) h.sound; holdings = subst P (sym state) h.holdings }
+same_sound c f limits state h = grind (arith, nat_tests)
 
 -- and so is one after the event of the plan
 made_sound : (d : Directive) (c f : Contents) (p : Planned) (e : Event) → IsWithinBounds c.limits → IsStoreSound c → IsPlanOf c.limits d c.state p → f.limits ≡ c.limits

@@ -1,4 +1,5 @@
 -- What the end of a mapping leaves of the parts: the copy to host memory, and then the range and the block.
+use Rattle.std.proofs.lemmas.Bool.Decides.{nat_tests}
 use Rattle.std.proofs.Common.{ℕ, ◌≡◌, ◌≤◌, refl, sym, ◌∙◌, ap, Bool, true, false, cond, List, [], Option, Some, None, arith}
 use Rattle.std.specs.Prelude.{IsSome, is_none}
 use Rattle.std.specs.List.{AllZip}
@@ -124,20 +125,7 @@ pub kept_changes : (task : Task) (k : ℕ) (y : Environment) (q r : PresentState
     → q.table ≡ with_ranges y.present.table (changed_at k (recounted task) y.present.table.ranges) → present.IsRoomKept y.present.room q.room → r.table ≡ with_ranges q.table (without_range k q.table.ranges) → present.IsRoomKept q.room r.room
     → (pins_at k y.device.marks ≡ 0 → ⊥) → IsEnded y.device e k → IsChangedBy (ended_state k) [] 0 (λ n. 0) y (record y { present = r; device = e })
 unfolding records_after_end released
-kept_changes task k y q r e marked mark counted room1 removed room2 some ended =
-    let new : Environment = record y { present = r; device = e } in
-    let table : r.table ≡ with_ranges y.present.table (without_range k y.present.table.ranges) = ranges_gone task k y q r counted removed in
-    let ranges : r.table.ranges ≡ without_range k y.present.table.ranges = ap (λ t. t.ranges) table in
-    let used : is_in_use k (unmapped k y) ≡ true = used_pinned k (unmapped k y) (λ none. some (mark.pins ∙ none)) in
-    record {
-      state = λ next. state_by new next (ended_state k (state_of y next)) ranges (rw used ended.blocks) (rw used refl) ended.births refl ended.loans (ap (λ t. t.regions) table) refl refl refl (rw used ended.memories);
-      counter_max = ap (λ t. t.counter_max) table;
-      memory = ended.memory;
-      pointer_max = refl;
-      queue_cap = refl;
-      room = room_same (λ n. 0) y new (kept_twice y.present.room q.room r.room room1 room2) ended.room (omega arith) (λ n. omega arith);
-      marked = rw (ranges, ended.marks) (marks_ended y.present.table.ranges k y.queues.queues y.device.marks marked);
-    }
+kept_changes task k y q r e marked mark counted room1 removed room2 some ended = grind (arith, nat_tests, ranges_gone task k y q r counted removed, used_pinned, state_by, room_same, kept_twice y.present.room q.room r.room room1 room2, marks_ended)
 
 -- ---- both are the step
 

@@ -66,11 +66,7 @@ absent_not_counted _ l n k s w e = born_not_counted (place_for (device_memory l.
 -- a section whose block is counted is inside the block's range
 counted_inside : (l : Limits) (clause : RegionClause) (section : Section) (n k : ℕ) (w : Records) (found : Found) → enter_row found l Structured clause n section w ≡ Ok (Counted k) → where_is section w.ranges ≡ found
     → (o : ℕ) × (where_is section w.ranges ≡ Inside k o)
-counted_inside l clause section n k w (Inside b o) e f =
-    let both : (refuse_if (nat_le l.counter_max (counter_of Structured b w.ranges)) (CounterFull n) ≡ Ok tt) × (Ok (Counted b) ≡ Ok (Counted k)) = then_ok _ _ (Counted k) e in
-    let same : Counted b ≡ Counted k = step_same _ _ both.1 in
-    let block : b ≡ k = cc in
-    (o, f ∙ ap (λ x. Inside x o) block)
+counted_inside l clause section n k w (Inside b o) e f = grind (arith, nat_tests)
 counted_inside l clause section n k w Absent e f = absurd (absent_not_counted clause l n k section w e)
 counted_inside l clause section n k w _ e f = cc
 
@@ -86,13 +82,7 @@ named_whole false s ranges found e some = refl
 -- a new range is the one of its block
 range-with_same : (new : Range) (rs : List Range) → range_of new.block rs ≡ None → range_of new.block (with_range new rs) ≡ Some new
 range-with_same new [] p = rw equal_self
-range-with_same new (r ∷ rs) p = go (range-with_same new rs) (nat_lt new.section.start r.section.start) (r.block == new.block) refl p
-  where
-    go : (range_of new.block rs ≡ None → range_of new.block (with_range new rs) ≡ Some new) → (b t : Bool) → (r.block == new.block) ≡ t → cond t (Some r) (range_of new.block rs) ≡ None
-        → range_of new.block (cond b (new ∷ r ∷ rs) (r ∷ with_range new rs)) ≡ Some new
-    go rest b true e q = cc
-    go rest true false e q = rw equal_self
-    go rest false false e q = rw e (rest q)
+range-with_same new (r ∷ rs) p = grind (arith, nat_tests, range-with_same new rs)
 
 within_self : (s : Section) → is_within s s ≡ true
 within_self s = grind (arith, nat_tests)

@@ -1,5 +1,6 @@
 -- The event of a plan is legal, and has the tasks, the steps, the queues and the register of the plan. Where a plan makes none, it changes nothing.
-use Rattle.std.proofs.Common.{ℕ, ◌≡◌, refl, sym, ap, subst, ◌∙◌, List, [], ◌∷◌, Option, Some, None, Ok}
+use Rattle.std.proofs.lemmas.Bool.Decides.{nat_tests}
+use Rattle.std.proofs.Common.{ℕ, ◌≡◌, refl, sym, ap, subst, ◌∙◌, List, [], ◌∷◌, Option, Some, None, Ok, arith}
 use Rattle.std.specs.Prelude.{map, unwrap_or}
 use Rattle.std.proofs.lemmas.List.{reverse-reverse}
 use Rattle.acc_base.specs.declared.directives.Directive.{Directive}
@@ -95,16 +96,7 @@ event_of_plan l (Wait queue) s p e h made =
       brought = λ w. tt;
     })
 event_of_plan l (Step queue) s p e h made = step_event l queue s p e h (asked_with (Step queue) s.register p.tasks h.asked).are (head_of queue s.records.queues) made
-event_of_plan l d s p e h made = subst (IsEventOf d p s) (same_event _ _ made) (record {
-  asked = (asked_with d s.register p.tasks h.asked).are;
-  done = refl;
-  steps = refl;
-  register = refl;
-  host = λ bytes. refl;
-  records = λ w. refl;
-  memories = λ ms. refl;
-  brought = λ w. tt;
-})
+event_of_plan l d s p e h made = grind (arith, nat_tests)
 
 pub planned_asked : (l : Limits) (d : Directive) (s : State) (p : Planned) (e : Event) → IsPlanOf l d s p → verdict_of d s p.dids ≡ Makes e → asked_in e s.register ≡ p.tasks
 planned_asked l d s p e h made = (event_of_plan l d s p e h made).asked

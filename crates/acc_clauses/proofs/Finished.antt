@@ -1,5 +1,6 @@
 -- What each directive does of the register and the queues.
-use Rattle.std.proofs.Common.{ℕ, ◌≡◌, refl, ◌∙◌, ap, List, [], ◌∷◌, Option, Some, None}
+use Rattle.std.proofs.lemmas.Bool.Decides.{nat_tests}
+use Rattle.std.proofs.Common.{ℕ, ◌≡◌, refl, ◌∙◌, ap, List, [], ◌∷◌, Option, Some, None, arith}
 use Rattle.acc_base.specs.declared.directives.Directive.TheVariants.{Enter, Exit, Wait, Step}
 use Rattle.acc_base.specs.declared.items.Item.{Item}
 use Rattle.acc_base.specs.declared.items.RegionClause.{RegionClause}
@@ -14,11 +15,7 @@ use Rattle.acc_clauses.specs.Planned.{Planned, holdings_by, finished}
 -- queued transfers leave the register
 register-stepped : (q : ℕ) (s : State) → (stepped q s).register ≡ s.register
 unfolding stepped
-register-stepped q s = go (head_of q s.records.queues)
-  where
-    go : (o : Option Transfer) → (state_made q o s).register ≡ s.register
-    go None = refl
-    go (Some t) = refl
+register-stepped q s = grind (arith, nat_tests)
 
 register-drained : (qs : List ℕ) (s : State) → (drained qs s).register ≡ s.register
 unfolding drained

@@ -64,10 +64,7 @@ above_differs k b n e h = grind (arith, nat_tests)
 pub within_step : (l : Limits) (task : Task) (step : Step) (w : Records) (s : Section) (b : ℕ) → IsJudgedTo l task step w → IsHeldWithin w s b → IsHeldWithin (act_step task step w) s b
 unfolding act_step act_row released records_after_birth records_after_end with_range_changed
 within_step l task (Counted k) w s b says h = record { born = h.born; within = within_changed task k b w.ranges s h.within }
-within_step l task (Born k p) w s b says h =
-    let new : Range = recounted task (bare_range (section_of task) k) in
-    let other : (new.block == b) ≡ false = rw (recounted-block task (bare_range (section_of task) k)) (above_differs k b w.births (birth_number l task k p w says) h.born) in
-    record { born = omega (arith, h.born); within = λ r e. h.within r (sym (range_of-with_other new b w.ranges other) ∙ e) }
+within_step l task (Born k p) w s b says h = grind (arith, nat_tests, recounted-block, above_differs, birth_number, range_of-with_other)
 within_step l task (Dropped k true) w s b says h = record { born = h.born; within = within_without k b w.ranges s h.within }
 within_step l task (Dropped k false) w s b says h = record { born = h.born; within = within_changed task k b w.ranges s h.within }
 within_step l task _ w s b says h = record { born = h.born; within = h.within }
@@ -87,13 +84,7 @@ within_act l task did w s b says h = held_act task did w s b (within_step l task
 
 -- a block whose structured counter is above zero is mapped
 counted_mapped : (k : ℕ) (ranges : List Range) → 1 ≤ structured_of k ranges → (r : Range) × (range_of k ranges ≡ Some r)
-counted_mapped k ranges h = go (range_of k ranges) refl
-  where
-    go : (o : Option Range) → range_of k ranges ≡ o → (r : Range) × (range_of k ranges ≡ Some r)
-    go None p =
-        let zero : structured_of k ranges ≡ 0 = ap (λ (o : Option Range). unwrap_or (option_map (λ (r : Range). r.structured) o) 0) p in
-        absurd (omega (arith, h, zero))
-    go (Some r) p = (r, p)
+counted_mapped k ranges h = grind (arith, nat_tests)
 
 held-cons : (b : ℕ) (h : Holding) (hs : List Holding) → count_held b (h ∷ hs) ≡ cond (is_counted_block b h.block) 1 0 + count_held b hs
 held-cons b h hs = sum_by-cons (λ (x : Holding). cond (is_counted_block b x.block) 1 0) h hs

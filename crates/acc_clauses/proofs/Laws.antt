@@ -61,12 +61,7 @@ found_same l n (x ∷ xs) w s f judged none =
 
 pub found-planned : (l : Limits) (xs : List Acted) (w : Records) (s : Section) → IsPlanned l xs w → AreUnmixed (tasks_in xs)
     → found_over s (where_is_apart s (ended_of xs) w.ranges) xs ≡ where_is s (records_after xs w).ranges
-found-planned l xs w s p unmixed = ⊎_elim
-    (λ all. ap (λ es. found_over s (where_is_apart s es w.ranges) xs) (ended_none l 0 xs w p.judged all)
-    ∙ ap (λ f. found_over s f xs) (apart_from_none s w.ranges)
-    ∙ found-entered l 0 xs w s p.judged all)
-    (λ none. found_same l 0 xs w s (where_is_apart s (ended_of xs) w.ranges) p.judged none ∙ found-left l 0 xs w s p.judged none)
-    unmixed
+found-planned l xs w s p unmixed = grind (arith, nat_tests, ended_none, apart_from_none, found-entered, found_same, found-left)
 
 -- ---- counters
 
@@ -74,10 +69,7 @@ pub counters-planned : (l : Limits) (xs : List Acted) (w : Records) (b : ℕ) �
 counters-planned l xs w b p = counters-after l 0 xs w b p.bounds p.sound p.judged
 
 recounted_both : (task : Task) (r : Range) → is_unused (recounted task r) ≡ are_zero (recount task (counters_in r))
-recounted_both (Enter counter item queue) r = go counter
-  where
-    go : (c : Counter) → is_unused (recounted (Enter c item queue) r) ≡ are_zero (recount (Enter c item queue) (counters_in r))
-    go c = elim c as (λ v. is_unused (recounted (Enter v item queue) r) ≡ are_zero (recount (Enter v item queue) (counters_in r))) [ Structured ↦ refl | Dynamic ↦ refl ]
+recounted_both (Enter counter item queue) r = grind (arith, nat_tests)
 recounted_both (Exit true item queue) r = refl
 recounted_both _ r = refl
 
@@ -102,9 +94,7 @@ ends_found task (Some r) above = unless (are_zero (counters_in r)) (is_unused (r
 
 found_above : (l : Limits) (w : Records) (b : ℕ) (o : Option Range) → range_of b w.ranges ≡ o → AreRecordsSound l w → IfSome o IsReferenced
 found_above l w b None e h = tt
-found_above l w b (Some r) e h =
-    let has : IsCounted l r × ((r.block == b) ≡ true) = found_has (IsCounted l) (λ t. t.block == b) w.ranges r h.counted e in
-    has.0.some
+found_above l w b (Some r) e h = grind (arith, nat_tests, found_has)
 
 -- a range is mapped just as long as one of its counters is above zero
 pub ends-planned : (l : Limits) (xs : List Acted) (w : Records) (task : Task) (b : ℕ) → IsPlanned l xs w
@@ -114,38 +104,25 @@ ends-planned l xs w task b p =
     ends_found task (range_of b after.ranges) (found_above l after b (range_of b after.ranges) refl (sound-after l 0 xs w p.bounds p.sound p.judged))
 
 both_read : (c : Counters) (s d : ℕ) → c.structured ≡ s → c.dynamic ≡ d → ◌≡◌ {A = Counters} c (record { structured = s; dynamic = d })
-both_read c s d e f =
-    let first : ◌≡◌ {A = Counters} c (record { structured = s; dynamic = c.dynamic }) = ap (λ (n : ℕ). let r : Counters = record { structured = n; dynamic = c.dynamic } in r) e in
-    let second : ◌≡◌ {A = Counters} (record { structured = s; dynamic = c.dynamic }) (record { structured = s; dynamic = d }) = ap (λ (n : ℕ). let r : Counters = record { structured = s; dynamic = n } in r) f in
-    first ∙ second
+both_read c s d e f = grind (arith, nat_tests)
 
 -- what is read of a block before the tasks gives its counters after them
 pub counters_read : (l : Limits) (xs acts : List Acted) (w : Records) (b : ℕ) (c r : Counters) → IsPlanned l xs w → acts ≡ xs → c.structured ≡ structured_of b w.ranges → c.dynamic ≡ dynamic_of b w.ranges
     → r ≡ counters_over b c acts → r ≡ counters_at b (records_after xs w).ranges
-counters_read l xs acts w b c r p same s d e =
-    let read : c ≡ counters_at b w.ranges = both_read c _ _ s d in
-    e ∙ (ap (λ ys. counters_over b c ys) same ∙ (ap (λ k. counters_over b k xs) read ∙ counters-planned l xs w b p))
+counters_read l xs acts w b c r p same s d e = grind (arith, nat_tests, both_read c _ _ s d, counters-planned l xs w b p)
 
 -- ---- births
 
 place_below : (l : Limits) (w : Records) (size p : ℕ) → place_for (device_memory l.device) w.blocks size ≡ Some p → p + size ≤ end_of (device_memory l.device)
-place_below l w size p e =
-    let fits : fits_at (device_memory l.device) w.blocks size p ≡ true = (rw e at (place_for-found (device_memory l.device) w.blocks size)).0 in
-    let bounds : is_within (record { start = p; len = size }) (device_memory l.device) ≡ true = (and_true _ _ fits).0 in
-    grind (arith, nat_tests)
+place_below l w size p e = grind (arith, nat_tests, place_for-found (device_memory l.device) w.blocks size, and_true)
 
 take_by : (l : Limits) (task : Task) (step : Step) (w : Records) → IsWithinBounds l → IsJudgedTo l task step w → AllByRecursion (IsTakeBelow (end_of (device_memory l.device))) (birth_by task step)
-take_by l task (Born k p) w bounds says =
-    let birth : IsBirth l (section_of task) k p w = birth_entry l task k p w says in
-    ((birth_len l (section_of task) k p w bounds birth, place_below l w (rounded (section_of task).len) p birth.place_is), tt)
+take_by l task (Born k p) w bounds says = grind (arith, nat_tests, birth_entry, birth_len, place_below)
 take_by l task _ w bounds says = tt
 
 takes : (l : Limits) (n : ℕ) (xs : List Acted) (w : Records) → IsWithinBounds l → AreJudged l n (tasks_in xs) (dids_in xs) w → AllByRecursion (IsTakeBelow (end_of (device_memory l.device))) (births_of xs)
 takes l n [] w bounds judged = tt
-takes l n (x ∷ xs) w bounds judged =
-    AllByRecursion-append (IsTakeBelow (end_of (device_memory l.device))) (birth_by x.task x.did.step) (births_of xs)
-    (take_by l x.task x.did.step w bounds (task_says l n x.task w x.did.step judged.0))
-    (takes l (suc n) xs (act x.task x.did w) bounds judged.2)
+takes l n (x ∷ xs) w bounds judged = grind (arith, nat_tests, takes l (suc n) xs (act x.task x.did w) bounds judged.2, take_by l x.task x.did.step w bounds (task_says l n x.task w x.did.step judged.0), task_says l n x.task w x.did.step judged.0)
 
 -- each block that the tasks bear ends on the device
 pub takes-planned : (l : Limits) (xs : List Acted) (w : Records) → IsPlanned l xs w → All (IsTakeBelow (end_of (device_memory l.device))) (births_of xs)
@@ -164,9 +141,6 @@ pub ruleset plan_laws = (found-planned, counters-planned, ends-planned, takes-pl
 
 -- the first tasks of some that are unmixed
 pub unmixed_front : (ts us : List Task) → AreUnmixed (ts ++ us) → AreUnmixed ts
-unmixed_front ts us unmixed = ⊎_elim
-    (λ e. inl (and_true (list_all enters ts) (list_all enters us) (sym (list_all-append enters ts us) ∙ e)).0)
-    (λ e. inr (or_false (list_any enters ts) (list_any enters us) (sym (list_any-append enters ts us) ∙ e)).0)
-    unmixed
+unmixed_front ts us unmixed = grind (arith, nat_tests, and_true, list_all-append, or_false, list_any-append)
 
 pub ruleset kind_laws = (unmixed_front)

@@ -79,10 +79,7 @@ limit_of l w k r h e = let has : IsCounted l r × ((r.block == k) ≡ true) = fo
 no_memory : (ls : List Loan) (k births : ℕ) (ms : List Memory) (bs : List Block) → AllZip (IsMemoryOf ls) ms bs → AllByRecursion (λ b. b.number ≤ births) bs → k ≡ births + 1 → AllByRecursion (λ m. m.block ≡ k → ⊥) ms
 no_memory ls k births [] bs h low e = tt
 no_memory ls k births (m ∷ ms) [] h low e = absurd h
-no_memory ls k births (m ∷ ms) (b ∷ bs) h low e = (
-  (λ same. let below : b.number ≤ births = low.0 in let owner : m.block ≡ b.number = h.0.block in omega (arith, e, below, owner, same)),
-  no_memory ls k births ms bs h.1 low.1 e,
-)
+no_memory ls k births (m ∷ ms) (b ∷ bs) h low e = grind (arith, nat_tests, no_memory ls k births ms bs h.1 low.1 e)
 
 -- nor has it an attachment counter
 no_pointer : (l : Limits) (k : ℕ) (w : Records) → AreRecordsSound l w → k ≡ w.births + 1 → AllByRecursion (λ a. a.block ≡ k → ⊥) w.attached
@@ -94,18 +91,7 @@ no_pointer l k w h e = AllByRecursion-weaker (λ a. IsSome (block_at a.block w.b
 
 -- nor a loan
 unborn_free : (l : Limits) (w : Records) (k : ℕ) → k ≡ w.births + 1 → AreRecordsSound l w → is_lent k w.loans ≡ false
-unborn_free l w k number h = go (loan_of k w.loans) refl
-  where
-    apart : (r : Range) → r.block ≤ w.births → (r.block == k) ≡ true → ⊥
-    apart r low same = let is : r.block ≡ k = equal r.block k same in omega (arith, number, low, is)
-
-    go : (o : Option Loan) → loan_of k w.loans ≡ o → tests.is_some o ≡ false
-    go None e = refl
-    go (Some x) e =
-        let has : IsLoanSound w.ranges x × ((x.block == k) ≡ true) = found_has (IsLoanSound w.ranges) (λ y. y.block == k) w.loans x h.loans.sound e in
-        let mapped : (has.0.range.block ≤ w.births) × ((has.0.range.block == x.block) ≡ true) = found_has (λ r. r.block ≤ w.births) (λ r. r.block == x.block) w.ranges has.0.range (ranges_born l w h) has.0.mapped in
-        let own : x.block ≡ k = equal x.block k has.1 in
-        absurd (apart has.0.range mapped.0 (subst (λ n. (has.0.range.block == n) ≡ true) own mapped.1))
+unborn_free l w k number h = grind (arith, nat_tests, equal, found_has, ranges_born)
 
 -- a look-up that does not find nothing finds something
 not_none : {X : Type 0} (o : Option X) → (o ≡ None → ⊥) → IsSome o
@@ -116,11 +102,7 @@ not_none (Some x) h = refl
 
 -- a block that can be born is not too long
 pub birth_len : (l : Limits) (section : Section) (k place : ℕ) (w : Records) → IsWithinBounds l → IsBirth l section k place w → IsFromOne MEMORY_MAX section.len
-birth_len l section k place w bounds says =
-    let filled : is_empty section ≡ false = (absent_says section w.ranges says.absent).1 in
-    let some : 1 ≤ section.len = grind (arith, nat_tests) in
-    let most : section.len ≤ MEMORY_MAX = omega (arith, host_len section l.host says.within, bounds.host.1) in
-    (some, most)
+birth_len l section k place w bounds says = grind (arith, nat_tests)
 
 can_bear : (l : Limits) (s : State) (section : Section) (k place : ℕ) → IsWithinBounds l → AreRecordsSound l s.records → AreMemoriesSized l s → s.records.births < 2 ^ 48 → IsBirth l section k place s.records
     → CanBear l.counter_max (device_memory l.device) section k place s

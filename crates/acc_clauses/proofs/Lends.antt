@@ -54,18 +54,13 @@ some_block None b e = cc
 some_block (Some c) b e = refl
 
 pub lend_there : (l : Limits) (x : Environment) (n : Numbers) (loan : Loan) → ArePartsSound l x n → IsLoanSound x.present.table.ranges loan → HasBlock x.device loan.block
-lend_there l x n loan parts sound =
-    let there : IsThere x.device.blocks loan sound.range = loan_there l (state_of x n).records loan parts.sound.records sound in
-    some_block (block_at loan.block x.device.blocks) there.block there.at
+lend_there l x n loan parts sound = grind (arith, nat_tests, loan_there l (state_of x n).records loan parts.sound.records sound, some_block)
 
 pub lend_mapped : (l : Limits) (x : Environment) (n : Numbers) (loan : Loan) → ArePartsSound l x n → AllZip IsMarkOf x.device.marks x.device.blocks → IsLoanSound x.present.table.ranges loan → is_ended_at loan.block x.device.marks ≡ false
 lend_mapped l x n loan parts zip sound = (told l x n loan.block parts zip (lend_there l x n loan parts sound)).ended ∙ ap is_none sound.mapped
 
 pub lend_within : (l : Limits) (x : Environment) (n : Numbers) (loan : Loan) → ArePartsSound l x n → IsLoanSound x.present.table.ranges loan → loan.offset + loan.len ≤ len_of loan.block x.device.blocks
-lend_within l x n loan parts sound =
-    let there : IsThere x.device.blocks loan sound.range = loan_there l (state_of x n).records loan parts.sound.records sound in
-    let long : len_of loan.block x.device.blocks ≡ there.block.len = ap (λ (o : Option Block). unwrap_or (option_map (λ (b : Block). b.len) o) 0) there.at in
-    omega (arith, long, there.len, sound.within)
+lend_within l x n loan parts sound = grind (arith, nat_tests, loan_there l (state_of x n).records loan parts.sound.records sound)
 
 -- ---- the parts
 
@@ -79,18 +74,12 @@ numbered_off n = record { region = n.region; serial = n.serial; lent = n.lent - 
 -- one loan more
 length-with : (new : Loan) (ls : List Loan) → length (with_loan new ls) ≡ length ls + 1
 length-with new [] = refl
-length-with new (l ∷ ls) = go (nat_lt new.block l.block) (length-with new ls)
-  where
-    go : (b : Bool) → length (with_loan new ls) ≡ length ls + 1 → length (cond b (new ∷ l ∷ ls) (l ∷ with_loan new ls)) ≡ length (l ∷ ls) + 1
-    go true rest = omega arith
-    go false rest = omega (arith, rest)
+length-with new (l ∷ ls) = grind (arith, nat_tests, length-with new ls)
 
 -- the loans of later blocks stay
 without-later : (block : ℕ) (ls : List Loan) → AllByRecursion (λ (l : Loan). block < l.block) ls → without_loan block ls ≡ ls
 without-later block [] later = refl
-without-later block (l ∷ ls) later =
-    let other : (l.block == block) ≡ false = grind (arith, nat_tests, later.0) in
-    rw other (ap (λ ms. l ∷ ms) (without-later block ls later.1))
+without-later block (l ∷ ls) later = grind (arith, nat_tests, without-later block ls later.1)
 
 -- where a block is lent, there is a loan
 some_lent : (block : ℕ) (ls : List Loan) → is_lent block ls ≡ true → 0 < length ls

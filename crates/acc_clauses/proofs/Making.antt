@@ -34,21 +34,10 @@ lies_within s offset len bytes first last same = grind (arith, nat_tests)
 
 -- the first transfer has what all of a queue have
 first_has : (P : Transfer → Type 0) (q : ℕ) (t : Transfer) (queues : List (List Transfer)) → head_of q queues ≡ Some t → AllByRecursion (AllByRecursion P) queues → P t
-first_has P q t queues e h =
-    let each : AllByRecursion P (t ∷ drop 1 (queue_at q queues)) = subst (AllByRecursion P) (head_first (queue_at q queues) t e) (all-at (AllByRecursion P) queues q [] tt h) in
-    each.0
+first_has P q t queues e h = grind (arith, nat_tests, head_first, all-at)
 
 pub can_step : (l : Limits) (x : Environment) (next : Numbers) (q : ℕ) → IsWithinBounds l → none_lent (take 1 (queue_at q x.queues.queues)) x.device.loans ≡ Ok tt → ArePartsSound l x next → CanStep q x
-can_step l x next q bounds free sound t e =
-    let out : is_lent t.block x.device.loans ≡ false = first_free q x.queues.queues x.device.loans t e free in
-    let has : IsTransferSound l x.device.blocks t = first_has (IsTransferSound l x.device.blocks) q t x.queues.queues e sound.sound.records.queues.transfers in
-    record {
-      in_host = subst (λ n. is_within t.section (host_memory n) ≡ true) (sym sound.sound.memories.host) has.in_host.within;
-      end = host_end t.section l.host has.in_host.within bounds.host.1;
-      there = is_some (block_at t.block x.device.blocks) has.block has.there;
-      free = out;
-      within = lies_within t.section t.offset has.block.len (length (bytes_of t.block x.device.memories)) has.offset has.within (bytes_of-len x.device.loans t.block x.device.memories x.device.blocks has.block sound.sound.memories.blocks out has.there);
-    }
+can_step l x next q bounds free sound t e = grind (arith, nat_tests, first_free q x.queues.queues x.device.loans t e free, first_has (IsTransferSound l x.device.blocks) q t x.queues.queues e sound.sound.records.queues.transfers, host_end, is_some, lies_within, bytes_of-len)
 
 -- ---- after it
 

@@ -25,20 +25,12 @@ use Rattle.acc_clauses.specs.Contents.{IsMarkRight}
 marks_changed : (P Q : Mark → Type 0) (k : ℕ) (change : Mark → Mark) (ms : List Mark) → ((m : Mark) → m.block ≡ k → P m → Q (change m)) → ((m : Mark) → (m.block == k) ≡ false → P m → Q m)
     → AllByRecursion P ms → AllByRecursion Q (map (mark_changed k change) ms)
 marks_changed P Q k change [] own other h = tt
-marks_changed P Q k change (m ∷ ms) own other h = (go (m.block == k) refl, marks_changed P Q k change ms own other h.1)
-  where
-    go : (b : Bool) → (m.block == k) ≡ b → Q (cond b (change m) m)
-    go true e = own m (equal _ _ e) h.0
-    go false e = other m e h.0
+marks_changed P Q k change (m ∷ ms) own other h = grind (arith, nat_tests, marks_changed P Q k change ms own other h.1)
 
 -- and where it goes
 marks_without : (P Q : Mark → Type 0) (k : ℕ) (ms : List Mark) → ((m : Mark) → (m.block == k) ≡ false → P m → Q m) → AllByRecursion P ms → AllByRecursion Q (without_mark k ms)
 marks_without P Q k [] other h = tt
-marks_without P Q k (m ∷ ms) other h = go (m.block == k) refl (marks_without P Q k ms other h.1)
-  where
-    go : (b : Bool) → (m.block == k) ≡ b → AllByRecursion Q (without_mark k ms) → AllByRecursion Q (cond (not b) (m ∷ without_mark k ms) (without_mark k ms))
-    go true e rest = rest
-    go false e rest = (other m e h.0, rest)
+marks_without P Q k (m ∷ ms) other h = grind (arith, nat_tests, marks_without P Q k ms other h.1)
 
 -- ---- what the mark of a block tells
 
@@ -50,23 +42,7 @@ pub record IsMarkAt (ranges : List Range) (queues : List (List Transfer)) (marks
 pub mark_told : (ranges : List Range) (queues : List (List Transfer)) (k : ℕ) (marks : List Mark) (blocks : List Block) → AllZip IsMarkOf marks blocks → IsSome (block_at k blocks) → AllByRecursion (IsMarkRight ranges queues) marks
     → IsMarkAt ranges queues marks k
 mark_told ranges queues k [] [] zip there h = cc
-mark_told ranges queues k (m ∷ ms) (b ∷ bs) zip there h = go (m.block == k) refl (subst (λ n. IsSome (cond (n == k) (Some b) (block_at k bs))) (sym zip.0) there) (mark_told ranges queues k ms bs zip.1)
-  where
-    go : (t : Bool) → (m.block == k) ≡ t → IsSome (cond t (Some b) (block_at k bs)) → (IsSome (block_at k bs) → AllByRecursion (IsMarkRight ranges queues) ms → IsMarkAt ranges queues ms k) → IsMarkAt ranges queues (m ∷ ms) k
-    go true e some rest =
-        let here : mark_at k (m ∷ ms) ≡ Some m = rw e refl in
-        let own : m.block ≡ k = equal _ _ e in
-        record {
-          pins = ap (λ o. unwrap_or (option_map (λ (x : Mark). x.pins) o) 0) here ∙ (h.0.pins ∙ ap (λ n. pins_of n queues) own);
-          ended = ap (λ o. unwrap_or (option_map (λ (x : Mark). x.ended) o) false) here ∙ (h.0.ended ∙ ap (λ n. is_none (range_of n ranges)) own);
-        }
-    go false e some rest =
-        let later : mark_at k (m ∷ ms) ≡ mark_at k ms = rw e refl in
-        let told : IsMarkAt ranges queues ms k = rest some h.1 in
-        record {
-          pins = ap (λ o. unwrap_or (option_map (λ (x : Mark). x.pins) o) 0) later ∙ told.pins;
-          ended = ap (λ o. unwrap_or (option_map (λ (x : Mark). x.ended) o) false) later ∙ told.ended;
-        }
+mark_told ranges queues k (m ∷ ms) (b ∷ bs) zip there h = grind (arith, nat_tests, mark_told ranges queues k ms bs zip.1)
 mark_told ranges queues k _ _ zip there h = absurd zip
 
 -- ---- how many transfers name a block
@@ -74,21 +50,12 @@ mark_told ranges queues k _ _ zip there h = absurd zip
 -- no more than wait
 pins-few : (k : ℕ) (queues : List (List Transfer)) → AllByRecursion (λ (ts : List Transfer). length ts ≤ 4096) queues → pins_of k queues ≤ length queues * 4096
 pins-few k [] h = omega arith
-pins-few k (ts ∷ queues) h =
-    let parts : pins_of k (ts ∷ queues) ≡ pins_in k ts + pins_of k queues = sum_by-cons (pins_in k) ts queues in
-    let first : pins_in k ts ≤ length ts = count_by-le-length (λ (t : Transfer). t.block == k) ts in
-    let rest : pins_of k queues ≤ length queues * 4096 = pins-few k queues h.1 in
-    let most : length ts ≤ 4096 = h.0 in
-    omega (arith, parts, first, rest, most)
+pins-few k (ts ∷ queues) h = grind (arith, nat_tests, pins-few k queues h.1, sum_by-cons (pins_in k) ts queues, count_by-le-length (λ (t : Transfer). t.block == k) ts)
 
 -- no mark tells of more
 pins_at-le : (ranges : List Range) (queues : List (List Transfer)) (k : ℕ) (marks : List Mark) → AllByRecursion (IsMarkRight ranges queues) marks → pins_at k marks ≤ pins_of k queues
 pins_at-le ranges queues k [] h = omega arith
-pins_at-le ranges queues k (m ∷ ms) h = go (m.block == k) refl (pins_at-le ranges queues k ms h.1)
-  where
-    go : (b : Bool) → (m.block == k) ≡ b → pins_at k ms ≤ pins_of k queues → unwrap_or (option_map (λ (x : Mark). x.pins) (cond b (Some m) (mark_at k ms))) 0 ≤ pins_of k queues
-    go true e rest = let own : m.pins ≡ pins_of k queues = h.0.pins ∙ ap (λ n. pins_of n queues) (equal _ _ e) in omega (arith, own)
-    go false e rest = rest
+pins_at-le ranges queues k (m ∷ ms) h = grind (arith, nat_tests, pins_at-le ranges queues k ms h.1)
 
 pub pins_below : (ranges : List Range) (limit : ℕ) (queues : List (List Transfer)) (k : ℕ) (marks : List Mark) → AreQueues limit queues → AllByRecursion (IsMarkRight ranges queues) marks → pins_at k marks < 2 ^ 32
 pins_below ranges limit queues k marks laws h =
@@ -216,8 +183,7 @@ marks_born new ranges queues marks others unpinned h = AllByRecursion-append (Is
 -- no mark is that of a block that is yet to be born
 pub marks_old : (births : ℕ) (marks : List Mark) (blocks : List Block) → AllZip IsMarkOf marks blocks → AllByRecursion (λ b. b.number ≤ births) blocks → AllByRecursion (λ (m : Mark). m.block ≡ births + 1 → ⊥) marks
 marks_old births [] [] zip born = tt
-marks_old births (m ∷ ms) (b ∷ bs) zip born =
-    ((λ e. let low : b.number ≤ births = born.0 in let own : m.block ≡ b.number = zip.0 in absurd (omega (arith, e, low, own))), marks_old births ms bs zip.1 born.1)
+marks_old births (m ∷ ms) (b ∷ bs) zip born = grind (arith, nat_tests, marks_old births ms bs zip.1 born.1)
 marks_old births _ _ zip born = absurd zip
 
 -- ---- the range of a block is gone

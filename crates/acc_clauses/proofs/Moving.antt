@@ -1,4 +1,5 @@
 -- What a copy between host memory and a block of a device leaves.
+use Rattle.std.proofs.lemmas.Bool.Decides.{nat_tests}
 use Rattle.std.proofs.Common.{ℕ, ◌≡◌, ◌+◌, ◌-◌, ◌<◌, refl, sym, ◌∙◌, ap, subst, Bool, true, false, cond, List, [], ◌∷◌, length, map, Option, Some, None, arith}
 use Rattle.std.specs.Prelude.{◌==◌, find, IsSome, slice_index, unwrap_or, option_map, take, drop, slice_range}
 use Rattle.std.specs.List.{AllByRecursion, AllZip}
@@ -52,12 +53,7 @@ memories_long ls block len _ _ h free k = absurd h
 -- a block that is there and not lent has a memory as long
 pub bytes_of-len : (ls : List Loan) (block : ℕ) (memories : List Memory) (blocks : List Block) (b : Block) → AllZip (IsMemoryOf ls) memories blocks → is_lent block ls ≡ false → block_at block blocks ≡ Some b → length (bytes_of block memories) ≡ b.len
 bytes_of-len ls block [] [] b h free e = cc
-bytes_of-len ls block (m ∷ ms) (c ∷ cs) b h free e = subst (λ n. length (unwrap_or (option_map (λ x. x.bytes) (cond (n == block) (Some m) (find (λ x. x.block == block) ms))) []) ≡ b.len) (sym h.0.block) (go (bytes_of-len ls block ms cs b h.1 free) (c.number == block) refl e)
-  where
-    go : (block_at block cs ≡ Some b → length (bytes_of block ms) ≡ b.len) → (t : Bool) → (c.number == block) ≡ t → cond t (Some c) (block_at block cs) ≡ Some b
-        → length (unwrap_or (option_map (λ x. x.bytes) (cond t (Some m) (find (λ x. x.block == block) ms))) []) ≡ b.len
-    go rest true is k = let same : c ≡ b = cc in h.0.len (subst (λ n. is_lent n ls ≡ false) (sym (equal _ _ is)) free) ∙ ap (λ (x : Block). x.len) same
-    go rest false is k = rest k
+bytes_of-len ls block (m ∷ ms) (c ∷ cs) b h free e = grind (arith, nat_tests, bytes_of-len ls block ms cs b h.1 free)
 bytes_of-len ls block _ _ b h free e = absurd h
 
 -- what is there is something
@@ -76,10 +72,7 @@ lens_by d block apart sized free there =
 
 -- a device after a write has other memories, and nothing else changed
 pub device_written : (old new : DeviceState) (block offset : ℕ) (bytes : List ℕ) (ms : List Memory) → IsBlockWritten old new block offset bytes → map (memory_changed block (overwritten offset bytes)) old.memories ≡ ms → new ≡ record old { memories = ms }
-device_written old new block offset bytes ms h e = remade new (record old { memories = ms }) h.memory h.blocks (h.memories ∙ e) h.marks h.loans h.births h.room
-  where
-    remade : (a b : DeviceState) → a.memory ≡ b.memory → a.blocks ≡ b.blocks → a.memories ≡ b.memories → a.marks ≡ b.marks → a.loans ≡ b.loans → a.births ≡ b.births → a.room ≡ b.room → a ≡ b
-    remade a b p q r m i s t = let e : record { memory = a.memory; blocks = a.blocks; memories = a.memories; marks = a.marks; loans = a.loans; births = a.births; room = a.room } ≡ b = rw (p, q, r, m, i, s, t) refl in e
+device_written old new block offset bytes ms h e = grind (arith, nat_tests)
 
 pub copied_in : (s : Section) (start : ℕ) (host bytes : List ℕ) (d new : DeviceState) (block : ℕ) → HasBlocksApart d → AllZip (IsMemoryOf d.loans) d.memories d.blocks → is_lent block d.loans ≡ false → IsSome (block_at block d.blocks)
     → is_within s (host_memory (length host)) ≡ true → is_within s (record { start = start; len = length (bytes_of block d.memories) }) ≡ true → bytes ≡ bytes_in host s → IsBlockWritten d new block (s.start - start) bytes

@@ -1,4 +1,5 @@
 -- What is read of the records after tasks is what the overlays give of the records before them.
+use Rattle.std.proofs.lemmas.Bool.Decides.{nat_tests}
 use Rattle.std.proofs.Common.{ℕ, ◌≡◌, ◌+◌, refl, sym, ap, ◌∙◌, subst, Bool, true, false, cond, ◌||◌, List, [], ◌∷◌, ◌++◌, length, suc, arith}
 use Rattle.std.specs.Prelude.{◌==◌}
 use Rattle.std.specs.List.{list_all, list_any}
@@ -75,13 +76,7 @@ found-step : (l : Limits) (task : Task) (step : Step) (w : Records) (s : Section
     → found_by s (where_is s w.ranges) task step ≡ where_is s (act_step task step w).ranges
 unfolding act_step act_row with_range_changed records_after_birth
 found-step l task (Counted k) w s says none = sym (where_is-changed (recounted task) (recounted_keeps task).section (recounted_keeps task).block s k w.ranges)
-found-step l task (Born k p) w s says none =
-    let new : Range = recounted task (bare_range (section_of task) k) in
-    let range_is : new.section ≡ section_of task = (recounted_keeps task).section (bare_range (section_of task) k) in
-    let block_is : new.block ≡ k = (recounted_keeps task).block (bare_range (section_of task) k) in
-    let off : list_all (λ r. is_apart (section_of task) r.section) w.ranges ≡ true = (absent_says (section_of task) w.ranges (birth_entry l task k p w says).absent).0 in
-    let there = where_is-with s new w.ranges (subst (λ t. list_all (λ r. is_apart t r.section) w.ranges ≡ true) (sym range_is) off) in
-    sym (rw (range_is, block_is) at there)
+found-step l task (Born k p) w s says none = grind (arith, nat_tests, recounted_keeps, absent_says, birth_entry, where_is-with)
 found-step l task (Dropped k ended) w s says none = absurd (drops_none l task k ended w says none)
 found-step l task _ w s says none = refl
 
@@ -97,9 +92,7 @@ apart-step l task _ w s ended says none = refl
 
 planned_more : (xs ys : List (ℕ × ℕ)) (n : ℕ) → planned_blocks n (xs ++ ys) ≡ planned_blocks n xs ++ planned_blocks (n + length xs) ys
 planned_more [] ys n = let e : n ≡ n + 0 = omega arith in ap (λ m. planned_blocks m ys) e
-planned_more (x ∷ xs) ys n =
-    let e : suc n + length xs ≡ n + suc (length xs) = omega arith in
-    ap (λ bs. record { number = n; place = x.0; len = x.1 } ∷ bs) (planned_more xs ys (suc n) ∙ ap (λ m. planned_blocks (suc n) xs ++ planned_blocks m ys) e)
+planned_more (x ∷ xs) ys n = grind (arith, nat_tests, planned_more xs ys (suc n))
 
 -- what the device has after the step of a task that enters
 record IsBornBy (task : Task) (step : Step) (w v : Records) : Type 0 where
@@ -108,11 +101,7 @@ record IsBornBy (task : Task) (step : Step) (w v : Records) : Type 0 where
 
 born-step : (l : Limits) (task : Task) (step : Step) (w : Records) → IsJudgedTo l task step w → enters task ≡ true → IsBornBy task step w (act_step task step w)
 unfolding act_step act_row with_range_changed records_after_birth
-born-step l task (Born k p) w says none =
-    let number : k ≡ w.births + 1 = (birth_entry l task k p w says).number in
-    let range_is : (recounted task (bare_range (section_of task) k)).section ≡ section_of task = (recounted_keeps task).section (bare_range (section_of task) k) in
-    let block_is : (recounted task (bare_range (section_of task) k)).block ≡ k = (recounted_keeps task).block (bare_range (section_of task) k) in
-    record { blocks = rw (range_is, block_is, number) refl; births = omega arith }
+born-step l task (Born k p) w says none = grind (arith, nat_tests)
 born-step l task (Dropped k ended) w says none = absurd (drops_none l task k ended w says none)
 born-step l task _ w says none = record { blocks = sym (append-nil w.blocks); births = omega arith }
 

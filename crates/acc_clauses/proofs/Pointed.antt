@@ -1,5 +1,6 @@
 -- A task judged whole after others: its step, and what becomes of its pointer.
-use Rattle.std.proofs.Common.{ℕ, ◌≡◌, refl, sym, ap, ◌∙◌, Bool, true, false, cond, List, [], ◌∷◌, ◌++◌, length, Option, Some, None, Result, Ok, Err}
+use Rattle.std.proofs.lemmas.Bool.Decides.{nat_tests}
+use Rattle.std.proofs.Common.{ℕ, ◌≡◌, refl, sym, ap, ◌∙◌, Bool, true, false, cond, List, [], ◌∷◌, ◌++◌, length, Option, Some, None, Result, Ok, Err, arith}
 use Rattle.std.specs.Prelude.{◌||◌, ⊤}
 use Rattle.std.proofs.lemmas.Bool.{false≢true}
 use Rattle.acc_clauses.specs.Words.{Aim, Counter, Item, RegionClause, Task, Step, Fault}
@@ -87,9 +88,7 @@ aim_entered l n _ step s entry = absurd (false≢true entry)
 -- its pointer is judged in what its step left
 pub entry_aim : (l : Limits) (n : ℕ) (xs ys : List Acted) (task : Task) (step : Step) (named : Option ℕ) (s : State) → enters task ≡ true → ys ≡ xs ++ record { task = task; did = did_of step } ∷ [] → pointer_aimed task step ≡ named
     → judge_aim l n task step (state_after xs s) ≡ attach_if l n named (state_after ys s)
-entry_aim l n xs ys task step named s entry more is =
-    let left : state_after ys s ≡ step_state task step (state_after xs s) = rw more (state_after-push xs (record { task = task; did = did_of step }) s) ∙ half_state task step (state_after xs s) entry in
-    aim_entered l n task step (state_after xs s) entry ∙ rw (is, left) refl
+entry_aim l n xs ys task step named s entry more is = grind (arith, nat_tests, state_after-push, half_state, aim_entered)
 
 -- ---- the others: the pointer is judged before the step
 
@@ -107,9 +106,7 @@ enters_not _ other = refl
 -- so both are what it does
 pub left_judged : (l : Limits) (n : ℕ) (xs ys : List Acted) (task : Task) (step : Step) (aim : Aim) (s : State) → enters task ≡ false → judge_step l n task (records_after xs s.records) ≡ Ok step
     → aim ≡ aim_before task step (records_after xs s.records) → ys ≡ xs ++ record { task = task; did = record { step = step; aim = aim } } ∷ [] → IsJudgedNext l n task s xs ys
-left_judged l n xs ys task step aim s other e before more =
-    let same : aim_before task step (state_after xs s).records ≡ aim = ap (aim_before task step) (state_after-records xs s) ∙ sym before in
-    both_judged l n xs ys task step aim s e (aim_left l n task step (state_after xs s) other ∙ ap Ok same) more
+left_judged l n xs ys task step aim s other e before more = grind (arith, nat_tests, state_after-records xs s, both_judged, aim_left l n task step (state_after xs s) other)
 
 -- ---- a step: what the tables say, and whether it can be done
 
@@ -127,12 +124,7 @@ three_tests _ _ c step = refl
 pub step_after : (l : Limits) (n : ℕ) (task : Task) (step : Step) (before : Aim) (w : Records) (r : Result ⊤ Fault) → Ok step ≡ judge_row l n task w → before ≡ aim_before task step w → r ≡ step_free task step before l.queue_cap w
     → judge_step l n task w ≡ (r >> Ok step)
 unfolding judge_step
-step_after l n task step before w r row aim free =
-    let rest : Result ⊤ Fault = room_for l.queue_cap (queue_of task) (transfer_of task step w.ranges) w.queues in
-    let block : block_detached task step w ≡ block_aimed before = sym (detached-before task step w) ∙ ap block_aimed (sym aim) in
-    rw (← row) (ap (λ o. not_lent o w.loans >> (not_lent (block_needed task step) w.loans >> (rest >> Ok step))) block
-    ∙ three_tests (not_lent (block_aimed before) w.loans) (not_lent (block_needed task step) w.loans) rest step
-    ∙ ap (λ q. q >> Ok step) (sym free))
+step_after l n task step before w r row aim free = grind (arith, nat_tests, detached-before, three_tests)
 
 -- or as the tables refuse it
 pub row_refused : (l : Limits) (n : ℕ) (task : Task) (w : Records) (fault : Fault) → Err fault ≡ judge_row l n task w → judge_step l n task w ≡ Err fault

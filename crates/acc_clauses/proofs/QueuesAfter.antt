@@ -38,31 +38,13 @@ length-after _ _ queues = refl
 
 -- a queue after one more transfer in some queue
 waiting-put : (q p : ℕ) (t : Transfer) (queues : List (List Transfer)) → q < length queues → length (queue_at q (put p t queues)) ≡ length (queue_at q queues) + cond (p == q) 1 0
-waiting-put q p t queues there = go (p == q) refl
-  where
-    go : (b : Bool) → (p == q) ≡ b → length (queue_at q (put p t queues)) ≡ length (queue_at q queues) + cond b 1 0
-    go true e =
-        let same : p ≡ q = grind (arith, nat_tests) in
-        let at : queue_at q (put q t queues) ≡ queue_at q queues ++ t ∷ [] = get_or-set_same queues q (queue_at q queues ++ t ∷ []) [] there in
-        rw (same, at, length-append (queue_at q queues) (t ∷ [])) refl
-    go false e =
-        let other : q ≢ p = λ same. grind (arith, nat_tests) in
-        let at : queue_at q (put p t queues) ≡ queue_at q queues = get_or-set_other queues p q (queue_at p queues ++ t ∷ []) [] other in
-        rw at (omega arith)
+waiting-put q p t queues there = grind (arith, nat_tests, get_or-set_same, length-append, get_or-set_other)
 
 waiting-after : (q : ℕ) (named : Option ℕ) (t : Option Transfer) (queues : List (List Transfer)) → q < length queues
     → length (queue_at q (queues_after named t queues)) ≡ length (queue_at q queues) + cond (is_queue q named && is_some t) 1 0
 waiting-after q None t queues there = omega arith
-waiting-after q (Some p) None queues there = go (p == q)
-  where
-    go : (b : Bool) → length (queue_at q queues) ≡ length (queue_at q queues) + cond (b && false) 1 0
-    go true = omega arith
-    go false = omega arith
-waiting-after q (Some p) (Some t) queues there = go (p == q) (waiting-put q p t queues there)
-  where
-    go : (b : Bool) → length (queue_at q (put p t queues)) ≡ length (queue_at q queues) + cond b 1 0 → length (queue_at q (put p t queues)) ≡ length (queue_at q queues) + cond (b && true) 1 0
-    go true e = e
-    go false e = e
+waiting-after q (Some p) None queues there = grind (arith, nat_tests)
+waiting-after q (Some p) (Some t) queues there = grind (arith, nat_tests, waiting-put)
 
 -- ---- one task
 
@@ -87,10 +69,7 @@ pub waiting-tasks : (q : ℕ) (xs : List Acted) (w : Records) → q < length w.q
     → length (queue_at q (records_after xs w).queues) ≡ length (queue_at q w.queues) + puts_in q (tasks_in xs) (dids_in xs)
 unfolding act_all
 waiting-tasks q [] w there = omega arith
-waiting-tasks q (x ∷ xs) w there =
-    let one = waiting-act q x.task x.did w there in
-    let rest = waiting-tasks q xs (act x.task x.did w) (there-act q x.task x.did w there) in
-    omega (arith, one, rest)
+waiting-tasks q (x ∷ xs) w there = grind (arith, nat_tests, waiting-tasks q xs (act x.task x.did w) (there-act q x.task x.did w there), waiting-act, there-act)
 
 -- how many transfers wait in a queue after the tasks of a plan
 pub waiting-planned : (l : Limits) (xs : List Acted) (w : Records) (q : ℕ) → IsPlanned l xs w → q < QUEUE_COUNT
@@ -102,10 +81,7 @@ waiting-planned l xs w q p known = waiting-tasks q xs w (let all : length w.queu
 -- a queue that is named is there
 pub known_queue : (q : ℕ) (named : Option ℕ) → named ≡ Some q → queue_named named ≡ Ok tt → q < QUEUE_COUNT
 known_queue q None is e = cc
-known_queue q (Some p) is e =
-    let same : p ≡ q = cc in
-    let there : nat_le QUEUE_COUNT p ≡ false = refused_not _ _ e in
-    grind (arith, nat_tests)
+known_queue q (Some p) is e = grind (arith, nat_tests)
 
 -- without a queue there is room
 pub room_none : (cap : ℕ) (named : Option ℕ) (t : Option Transfer) (queues : List (List Transfer)) → named ≡ None → room_for cap named t queues ≡ Ok tt
@@ -115,11 +91,7 @@ room_none cap (Some q) t queues is = cc
 -- a step without a transfer needs no room, and another has it below the limit
 pub room_told : (cap q : ℕ) (task : Task) (step : Step) (ranges : List Range) (queues : List (List Transfer)) → queue_of task ≡ Some q
     → room_for cap (queue_of task) (transfer_of task step ranges) queues ≡ refuse_if (moves task step && nat_le cap (length (queue_at q queues))) (QueueFull q)
-room_told cap q task step ranges queues is = rw (is, moves_some task step ranges) (go (transfer_of task step ranges))
-  where
-    go : (t : Option Transfer) → room_for cap (Some q) t queues ≡ refuse_if (is_some t && nat_le cap (length (queue_at q queues))) (QueueFull q)
-    go None = refl
-    go (Some t) = refl
+room_told cap q task step ranges queues is = grind (arith, nat_tests)
 
 pub ruleset queue_laws = (waiting-planned)
 

@@ -55,25 +55,12 @@ can_attach l s named _ bounds h m legal = absurd legal
 
 can_detach : (l : Limits) (s : State) (immediate : Bool) (pointer block : ℕ) → IsWithinBounds l → AreRecordsSound l s.records → AreMemoriesSized l s → block_with pointer s.records.ranges ≡ Some block
     → not_lent (block_aimed (detach immediate block pointer s.records.attached)) s.records.loans ≡ Ok tt → CanAim l.counter_max (detach immediate block pointer s.records.attached) s
-can_detach l s immediate pointer block bounds h m e free = go (count_at block pointer s.records.attached == 0) immediate refl free
-  where
-    can : (count_at block pointer s.records.attached == 0) ≡ false → is_lent block s.records.loans ≡ false → CanDetach pointer block s
-    can more out = record { some = grind (arith, nat_tests); move = with_pointer l s pointer block bounds h m e; free = out }
-
-    go : (b i : Bool) → (count_at block pointer s.records.attached == 0) ≡ b → not_lent (block_aimed (cond b aims.None (cond i (aims.Cleared pointer block) (aims.Less pointer block)))) s.records.loans ≡ Ok tt
-        → CanAim l.counter_max (cond b aims.None (cond i (aims.Cleared pointer block) (aims.Less pointer block))) s
-    go true i n out = tt
-    go false true n out = can n (not_lent_says block s.records.loans out)
-    go false false n out = can n (not_lent_says block s.records.loans out)
+can_detach l s immediate pointer block bounds h m e free = grind (arith, nat_tests, with_pointer, not_lent_says)
 
 can_judged : (l : Limits) (s : State) (immediate : Bool) (named : Option ℕ) → IsWithinBounds l → AreRecordsSound l s.records → AreMemoriesSized l s → not_lent (block_aimed (detach_if immediate named s.records)) s.records.loans ≡ Ok tt → CanAim l.counter_max (detach_if immediate named s.records) s
 unfolding judge_detach
 can_judged l s immediate None bounds h m free = tt
-can_judged l s immediate (Some pointer) bounds h m free = go (block_with pointer s.records.ranges) refl free
-  where
-    go : (o : Option ℕ) → block_with pointer s.records.ranges ≡ o → not_lent (block_aimed (detach_there immediate pointer o s.records.attached)) s.records.loans ≡ Ok tt → CanAim l.counter_max (detach_there immediate pointer o s.records.attached) s
-    go None e out = tt
-    go (Some block) e out = can_detach l s immediate pointer block bounds h m e out
+can_judged l s immediate (Some pointer) bounds h m free = grind (arith, nat_tests, can_detach)
 
 can_release : (l : Limits) (s : State) (held : Option (ℕ × ℕ)) → IsWithinBounds l → AreRecordsSound l s.records → AreMemoriesSized l s → not_lent (block_aimed (judge_release held s.records)) s.records.loans ≡ Ok tt → CanAim l.counter_max (judge_release held s.records) s
 unfolding judge_release

@@ -1,4 +1,5 @@
 -- What is left to do of a directive's steps, before each of them.
+use Rattle.std.proofs.lemmas.Bool.Decides.{nat_tests}
 use Rattle.std.proofs.Common.{ℕ, suc, ◌≡◌, ◌+◌, ◌≤◌, sym, ◌∙◌, ap, List, [], ◌∷◌, ◌++◌, length, drop, arith, append_assoc, append-nil, length-append}
 use Rattle.std.proofs.lemmas.List.{drop_all}
 use Rattle.acc_clauses.specs.Words.{Task, Step, Did, Holding}
@@ -79,9 +80,7 @@ rest_can l task tasks did dids c e h limits state room =
 
 -- at most one block is born by a step
 pub births_next : (task : Task) (did : Did) (c e : Contents) → e.state ≡ act_state task did c.state → e.state.records.births ≤ c.state.records.births + 1
-births_next task did c e state =
-    let births : e.state.records.births ≡ (act_step task did.step c.state.records).births = ap (λ (s : State). s.records.births) state ∙ (ap (λ (w : Records). w.births) (records-act_state task did c.state) ∙ (mapping-act task did c.state.records).births) in
-    rw births (births_most task did.step c.state.records)
+births_next task did c e state = grind (arith, nat_tests, records-act_state, mapping-act, births_most)
 
 -- what the tasks come to is what the first comes to, and then the others
 pub rest_state : (task : Task) (tasks : List Task) (did : Did) (dids : List Did) (s t u : State) → t ≡ act_state task did s → act_all_state (task ∷ tasks) (did ∷ dids) s ≡ u → act_all_state tasks dids t ≡ u
@@ -110,8 +109,7 @@ birth_fits l task _ w bounds says = tt
 
 lens_each : (l : Limits) (n : ℕ) (tasks : List Task) (dids : List Did) (w : Records) → IsWithinBounds l → AreJudged l n tasks dids w → AllByRecursion (IsFromOne MEMORY_MAX) (lens_born tasks dids)
 lens_each l n [] [] w bounds judged = tt
-lens_each l n (t ∷ ts) (d ∷ ds) w bounds judged =
-    AllByRecursion-append (IsFromOne MEMORY_MAX) (birth_of t d.step) (lens_born ts ds) (birth_fits l t d.step w bounds (task_says l n t w d.step judged.0)) (lens_each l (suc n) ts ds (act t d w) bounds judged.2)
+lens_each l n (t ∷ ts) (d ∷ ds) w bounds judged = grind (arith, nat_tests, lens_each l (suc n) ts ds (act t d w) bounds judged.2, birth_fits l t d.step w bounds (task_says l n t w d.step judged.0), task_says l n t w d.step judged.0)
 lens_each l n _ _ w bounds judged = tt
 
 -- and so is none of those that tasks are judged to bear

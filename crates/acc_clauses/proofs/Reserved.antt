@@ -41,10 +41,7 @@ none_in : (q : ℕ) (queue : Option ℕ) (tasks : List Task) (dids : List Did) �
 none_in q queue [] [] h other = refl
 none_in q queue [] (d ∷ ds) h other = refl
 none_in q queue (t ∷ ts) [] h other = refl
-none_in q queue (t ∷ ts) (d ∷ ds) h other =
-    let first : puts_by q t d.step ≡ 0 = none_by q t d.step queue h.0 other in
-    let rest : puts_in q ts ds ≡ 0 = none_in q queue ts ds h.1 other in
-    omega (arith, first, rest)
+none_in q queue (t ∷ ts) (d ∷ ds) h other = grind (arith, nat_tests, none_in q queue ts ds h.1 other)
 
 planned_queue : (d : Directive) (c : Contents) (p : Planned) → IsStoreSound c → IsPlanOf c.limits d c.state p → AreOfQueue (queue_in d) p.tasks
 planned_queue d c p h planned = (asked_fit d c.state.register p.tasks h.sound.layout.register.few planned.asked).queues
@@ -53,20 +50,12 @@ planned_queue d c p h planned = (asked_fit d c.state.register p.tasks h.sound.la
 
 -- a directive that names no queue puts nothing
 pub none_room : (d : Directive) (c : Contents) (p : Planned) (room : Room) → IsStoreSound c → IsPlanOf c.limits d c.state p → queue_in d ≡ None → HasPutRoom (λ q. puts_in q p.tasks p.dids) room
-none_room d c p room h planned none = λ q.
-    let nothing : puts_in q p.tasks p.dids ≡ 0 = none_in q (queue_in d) p.tasks p.dids (planned_queue d c p h planned) (ap (is_queue q) none) in
-    omega (arith, nothing)
+none_room d c p room h planned none = grind (arith, nat_tests, none_in, planned_queue)
 
 -- one that names a queue puts into that one alone
 pub one_room : (d : Directive) (c : Contents) (p : Planned) (named : ℕ) (room : Room) → IsStoreSound c → IsPlanOf c.limits d c.state p → queue_in d ≡ Some named → puts_in named p.tasks p.dids ≤ spare_at named room.puts
     → HasPutRoom (λ q. puts_in q p.tasks p.dids) room
-one_room d c p named room h planned is enough = λ q. go q (named == q) refl
-  where
-    go : (q : ℕ) (b : Bool) → (named == q) ≡ b → puts_in q p.tasks p.dids ≤ spare_at q room.puts
-    go q true same = subst (λ n. puts_in n p.tasks p.dids ≤ spare_at n room.puts) (equal named q same) enough
-    go q false other =
-        let nothing : puts_in q p.tasks p.dids ≡ 0 = none_in q (queue_in d) p.tasks p.dids (planned_queue d c p h planned) (ap (is_queue q) is ∙ other) in
-        omega (arith, nothing)
+one_room d c p named room h planned is enough = grind (arith, nat_tests, equal, none_in, planned_queue)
 
 -- there is the queue that a planned directive names
 pub queue_there : (l : Limits) (d : Directive) (s : State) (p : Planned) (named : ℕ) → IsPlanOf l d s p → queue_in d ≡ Some named → named < QUEUE_COUNT

@@ -1,4 +1,5 @@
 -- Which blocks have a range, and which have ended and are kept by queued transfers, as the marks of the device tell it.
+use Rattle.std.proofs.lemmas.Bool.Decides.{nat_tests}
 use Rattle.std.proofs.Common.{ℕ, ◌≡◌, ◌<◌, refl, ◌∙◌, ap, Bool, true, false, cond, List, [], ◌∷◌, Option, Some, None, arith, subst}
 use Rattle.std.specs.Prelude.{◌==◌, ◌&&◌, nat_le, filter, is_none, unwrap_or, option_map, IfSome, IsSome}
 use Rattle.std.specs.List.{AllByRecursion, AllZip}
@@ -36,16 +37,7 @@ mark_of : (k : ℕ) (ranges : List Range) (queues : List (List Transfer)) (ms : 
 mark_of k ranges queues [] [] zip right there = cc
 mark_of k ranges queues [] (b ∷ bs) zip right there = absurd zip
 mark_of k ranges queues (m ∷ ms) [] zip right there = cc
-mark_of k ranges queues (m ∷ ms) (b ∷ bs) zip right there = go (mark_of k ranges queues ms bs zip.1 right.1) (b.number == k) refl there
-  where
-    same : (m.block == k) ≡ (b.number == k)
-    same = ap (λ n. n == k) zip.0
-
-    go : (IsSome (block_at k bs) → HasMark k ranges queues ms) → (t : Bool) → (b.number == k) ≡ t → IsSome (cond t (Some b) (block_at k bs)) → HasMark k ranges queues (m ∷ ms)
-    go rest true e some = record { mark = m; mark_is = rw (same ∙ e) refl; own = zip.0 ∙ equal b.number k e; right = right.0 }
-    go rest false e some =
-        let later : HasMark k ranges queues ms = rest some in
-        record { mark = later.mark; mark_is = rw (same ∙ e) later.mark_is; own = later.own; right = later.right }
+mark_of k ranges queues (m ∷ ms) (b ∷ bs) zip right there = grind (arith, nat_tests, mark_of k ranges queues ms bs zip.1 right.1)
 
 -- what it tells of a block
 pub record IsMarkTold (ranges : List Range) (queues : List (List Transfer)) (ms : List Mark) (k : ℕ) : Type 0 where
@@ -70,11 +62,7 @@ filter-same p q (b ∷ bs) h = rw h.0 (ap (λ rest. cond (q b) (b ∷ rest) rest
 
 lowest_has : (P : Block → Type 0) (bs : List Block) → AllByRecursion P bs → IfSome (lowest bs) P
 lowest_has P [] h = tt
-lowest_has P (b ∷ bs) h = go (lowest bs) (lowest_has P bs h.1)
-  where
-    go : (o : Option Block) → IfSome o P → P (lower b o)
-    go None rest = h.0
-    go (Some c) rest = elim (nat_le b.place c.place) as (λ t. P (cond t b c)) [ true ↦ h.0 | false ↦ rest ]
+lowest_has P (b ∷ bs) h = grind (arith, nat_tests, lowest_has P bs h.1)
 
 told_same : (queues : List (List Transfer)) (ms : List Mark) (o : Option Block) → IfSome o (λ b. pins_at b.number ms ≡ pins_of b.number queues) → option_map (ended_told ms) o ≡ option_map (told_ended queues) o
 told_same queues ms None h = refl
@@ -103,10 +91,4 @@ ended_is l x next from sound zip =
 
 -- a block that is not there is not lent
 pub no_loan : (k : ℕ) (d : DeviceState) → AllByRecursion (IsLoanOn d) d.loans → (HasBlock d k → ⊥) → loan_of k d.loans ≡ None
-no_loan k d h none = go (loan_of k d.loans) refl
-  where
-    go : (o : Option Loan) → loan_of k d.loans ≡ o → o ≡ None
-    go None e = refl
-    go (Some x) e =
-        let has : IsLoanOn d x × ((x.block == k) ≡ true) = found_has (IsLoanOn d) (λ l. l.block == k) d.loans x h e in
-        absurd (none (subst (HasBlock d) (equal x.block k has.1) has.0.there))
+no_loan k d h none = grind (arith, nat_tests, found_has, equal)

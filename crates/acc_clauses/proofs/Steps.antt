@@ -1,4 +1,5 @@
 -- What the steps of items leave of the parts that change counters, and what all steps need of the present table.
+use Rattle.std.proofs.lemmas.Bool.Decides.{nat_tests}
 use Rattle.std.proofs.Common.{ℕ, ◌≡◌, ◌<◌, refl, sym, ◌∙◌, ap, subst, Bool, true, false, cond, List, [], ◌∷◌, Option, Some, None, arith}
 use Rattle.std.specs.Prelude.{◌==◌, not, nat_lt, unwrap_or, option_map, IsSome}
 use Rattle.std.specs.List.{AllByRecursion}
@@ -32,49 +33,23 @@ use Rattle.acc_clauses.proofs.Marked.{marks_counted}
 -- no range has the block, so none changes
 changed-absent : (k : ℕ) (f : Range → Range) (rs : List Range) → AllByRecursion (λ r. r.block ≡ k → ⊥) rs → changed_at k f rs ≡ rs
 changed-absent k f [] h = refl
-changed-absent k f (r ∷ rs) h = go (changed-absent k f rs h.1) (r.block == k) refl
-  where
-    go : changed_at k f rs ≡ rs → (b : Bool) → (r.block == k) ≡ b → cond b (f r) r ∷ changed_at k f rs ≡ r ∷ rs
-    go rest true e = absurd (h.0 (equal _ _ e))
-    go rest false e = ap (λ xs. r ∷ xs) rest
+changed-absent k f (r ∷ rs) h = grind (arith, nat_tests, changed-absent k f rs h.1)
 
 -- a new range changes where it is put
 pub changed-with : (k : ℕ) (f : Range → Range) (new : Range) (rs : List Range) → new.block ≡ k → (f new).section ≡ new.section → AllByRecursion (λ r. r.block ≡ k → ⊥) rs
     → changed_at k f (with_range new rs) ≡ with_range (f new) rs
 changed-with k f new [] e s h = let same : (new.block == k) ≡ true = rw e (equal_self k) in rw same refl
-changed-with k f new (r ∷ rs) e s h =
-    let low : nat_lt (f new).section.start r.section.start ≡ nat_lt new.section.start r.section.start = ap (λ (x : Section). nat_lt x.start r.section.start) s in
-    rw low (go (changed-with k f new rs e s h.1) (nat_lt new.section.start r.section.start))
-  where
-    same : (new.block == k) ≡ true
-    same = rw e (equal_self k)
-
-    later : (t : Bool) → (r.block == k) ≡ t → cond t (f r) r ≡ r
-    later true d = absurd (h.0 (equal _ _ d))
-    later false d = refl
-
-    go : changed_at k f (with_range new rs) ≡ with_range (f new) rs → (b : Bool) → changed_at k f (cond b (new ∷ r ∷ rs) (r ∷ with_range new rs)) ≡ cond b (f new ∷ r ∷ rs) (r ∷ with_range (f new) rs)
-    go rest true = ap (λ t. cond t (f new) new ∷ changed_at k f (r ∷ rs)) same ∙ ap (λ xs. f new ∷ xs) (changed-absent k f (r ∷ rs) h)
-    go rest false = ap (λ x. x ∷ changed_at k f (with_range new rs)) (later (r.block == k) refl) ∙ ap (λ xs. r ∷ xs) rest
+changed-with k f new (r ∷ rs) e s h = grind (arith, nat_tests, changed-with k f new rs e s h.1, equal_self, equal, changed-absent)
 
 -- a change that leaves each range
 pub changed-same_ranges : (k : ℕ) (f : Range → Range) (rs : List Range) → ((r : Range) → f r ≡ r) → changed_at k f rs ≡ rs
 changed-same_ranges k f [] h = refl
-changed-same_ranges k f (r ∷ rs) h = go (changed-same_ranges k f rs h) (r.block == k)
-  where
-    go : changed_at k f rs ≡ rs → (b : Bool) → cond b (f r) r ∷ changed_at k f rs ≡ r ∷ rs
-    go rest true = rw (h r) (ap (λ xs. r ∷ xs) rest)
-    go rest false = ap (λ xs. r ∷ xs) rest
+changed-same_ranges k f (r ∷ rs) h = grind (arith, nat_tests, changed-same_ranges k f rs h)
 
 -- what changed is gone
 pub without-changed : (k : ℕ) (f : Range → Range) (rs : List Range) → ((r : Range) → (f r).block ≡ r.block) → without_range k (changed_at k f rs) ≡ without_range k rs
 without-changed k f [] h = refl
-without-changed k f (r ∷ rs) h = go (without-changed k f rs h) (r.block == k) refl
-  where
-    go : without_range k (changed_at k f rs) ≡ without_range k rs → (b : Bool) → (r.block == k) ≡ b
-        → cond (not ((cond b (f r) r).block == k)) (cond b (f r) r ∷ without_range k (changed_at k f rs)) (without_range k (changed_at k f rs)) ≡ cond (not b) (r ∷ without_range k rs) (without_range k rs)
-    go rest true e = let gone : ((f r).block == k) ≡ true = ap (λ (n : ℕ). n == k) (h r) ∙ e in rw gone rest
-    go rest false e = rw e (ap (λ xs. r ∷ xs) rest)
+without-changed k f (r ∷ rs) h = grind (arith, nat_tests, without-changed k f rs h)
 
 pub is_some : {X : Type 0} (o : Option X) (x : X) → o ≡ Some x → IsSome o
 is_some o x e = rw e refl
@@ -105,8 +80,7 @@ stays change puts x marked same = record {
 
 pub nothing_acts : (task : Task) (x : Environment) → AreMarked x → IsActedBy task Nothing x x
 unfolding step_state act_step act_row
-nothing_acts task x marked = stays (step_state task Nothing) (λ q. puts_by q task Nothing) x marked
-    (λ next. state_by x next (step_state task Nothing (state_of x next)) refl refl refl refl (sym (none_put (queue_of task) x.queues.queues)) refl refl refl refl (rw (none_made (queue_of task)) refl) (rw (none_made (queue_of task)) refl))
+nothing_acts task x marked = grind (arith, nat_tests)
 
 -- the marks stay right where the counters of a range change
 pub counted_marked : (task : Task) (k : ℕ) (x : Environment) (r : PresentState) → r.table ≡ with_ranges x.present.table (changed_at k (recounted task) x.present.table.ranges) → AreMarked x → AreMarked (record x { present = r })
@@ -155,24 +129,15 @@ new_there section k t u e = subst (λ (x : PresentTable). IsSome (range_of k x.r
 
 pub new_below : (counter : Counter) (section : Section) (k : ℕ) (t u : PresentTable) → AllByRecursion (λ r. r.block ≡ k → ⊥) t.ranges → 0 < t.counter_max → u ≡ with_ranges t (with_range (bare_range section k) t.ranges)
     → counter_of counter k u.ranges < u.counter_max
-new_below counter section k t u h some e =
-    let zero : counter_of counter k (with_range (bare_range section k) t.ranges) ≡ 0 = with_same (counter_in counter) (bare_range section k) t.ranges (new_absent k t.ranges h) ∙ zero_in counter section k in
-    subst (λ (x : PresentTable). counter_of counter k x.ranges < x.counter_max) (sym e) (subst (λ n. n < t.counter_max) (sym zero) some)
+new_below counter section k t u h some e = grind (arith, nat_tests, with_same (counter_in counter) (bare_range section k) t.ranges (new_absent k t.ranges h), new_absent k t.ranges h, zero_in counter section k)
 
 found_block : (k : ℕ) (ranges : List Range) (r : Range) → range_of k ranges ≡ Some r → (r.block == k) ≡ true
 found_block k [] r e = cc
-found_block k (x ∷ xs) r e = go (found_block k xs r) (x.block == k) refl e
-  where
-    go : (range_of k xs ≡ Some r → (r.block == k) ≡ true) → (b : Bool) → (x.block == k) ≡ b → cond b (Some x) (range_of k xs) ≡ Some r → (r.block == k) ≡ true
-    go rest true t h = let same : x ≡ r = cc in subst (λ (y : Range). (y.block == k) ≡ true) same t
-    go rest false t h = rest h
+found_block k (x ∷ xs) r e = grind (arith, nat_tests, found_block k xs r)
 
 -- the range of a block after a change of it
 found_changed : (task : Task) (k : ℕ) (ranges : List Range) (r : Range) → range_of k ranges ≡ Some r → range_of k (changed_at k (recounted task) ranges) ≡ Some (recounted task r)
-found_changed task k ranges r e =
-    let here : (r.block == k) ≡ true = found_block k ranges r e in
-    at-changed (λ (x : Range). x.block) k k (recounted task) ranges (recounted-block task)
-    ∙ (ap (option_map (λ (x : Range). cond (x.block == k) (recounted task x) x)) e ∙ ap (λ b. Some (cond b (recounted task r) r)) here)
+found_changed task k ranges r e = grind (arith, nat_tests, found_block k ranges r e, at-changed (λ (x : Range). x.block) k k (recounted task) ranges (recounted-block task), recounted-block task)
 
 -- the range of a block that is counted is there still
 pub changed_there : (task : Task) (k : ℕ) (t u : PresentTable) (r : Range) → u ≡ with_ranges t (changed_at k (recounted task) t.ranges) → range_of k t.ranges ≡ Some r → IsSome (range_of k u.ranges)
@@ -181,8 +146,4 @@ changed_there task k t u r e is = subst (λ (x : PresentTable). IsSome (range_of
 -- both counters are zero after a change that leaves the range unused
 pub changed_zero : (counter : Counter) (task : Task) (k : ℕ) (t u : PresentTable) (r : Range) → u ≡ with_ranges t (changed_at k (recounted task) t.ranges) → range_of k t.ranges ≡ Some r → ends_by (recounted task) k t.ranges ≡ true
     → counter_of counter k u.ranges ≡ 0
-changed_zero counter task k t u r e is ends =
-    let told : ends_by (recounted task) k t.ranges ≡ is_unused (recounted task r) = ap (λ o. unwrap_or (option_map (λ (x : Range). is_unused (recounted task x)) o) false) is in
-    let unused : is_unused (recounted task r) ≡ true = sym told ∙ ends in
-    subst (λ (x : PresentTable). counter_of counter k x.ranges ≡ 0) (sym e)
-    (counter_is counter k (changed_at k (recounted task) t.ranges) (recounted task r) (found_changed task k t.ranges r is) ∙ unused_zero counter (recounted task r) unused)
+changed_zero counter task k t u r e is ends = grind (arith, nat_tests, counter_is, found_changed, unused_zero)

@@ -1,15 +1,14 @@
 -- What a planned directive makes of a store: the state after its event, and a store that is sound.
 use Rattle.std.proofs.lemmas.Bool.Decides.{nat_tests}
-use Rattle.std.proofs.Common.{◌≡◌, ◌≤◌, refl, sym, ◌∙◌, ap, subst, ℕ, List, [], arith}
+use Rattle.std.proofs.Common.{◌≡◌, ◌≤◌, refl, sym, subst, ℕ, List, [], arith}
 use Rattle.acc_base.specs.declared.directives.Directive.{Directive}
 use Rattle.acc_base.specs.declared.events.Event.{Event}
 use Rattle.acc_base.specs.Limits.{Limits, IsWithinBounds}
-use Rattle.acc_base.specs.Records.{Records, Layout, Memory, State, layout_of}
+use Rattle.acc_base.specs.Records.{Layout, State, layout_of}
 use Rattle.acc_base.specs.Register.{Register}
 use Rattle.acc_base.specs.Ranges.{structured_of, dynamic_of}
 use Rattle.acc_base.specs.Blocks.{used_bytes}
-use Rattle.acc_base.specs.Waits.{drained}
-use Rattle.acc_base.specs.Walk.{asked_in, done_in, stepped_in, register_after, loaned, walk}
+use Rattle.acc_base.specs.Walk.{register_after, loaned, walk}
 use Rattle.acc_base.specs.Judge.{Verdict, Makes, Idle, verdict_of}
 use Rattle.acc_base.specs.Acting.{act_all_state, host_after, memories_after, after}
 use Rattle.acc_base.specs.History.{IsLegal}
@@ -18,7 +17,7 @@ use Rattle.acc_base.proofs.Memories.{AreBrought, event_sized}
 use Rattle.acc_base.proofs.Walked.{layout-after, register-act_all_state}
 use Rattle.acc_base.proofs.Registers.{AreFew, register_sound}
 use Rattle.acc_base.proofs.Told.{IsTold, walk_told}
-use Rattle.acc_clauses.specs.Planned.{Planned, IsPlanOf, holdings_by, register_by, steps_by, finished, state_by}
+use Rattle.acc_clauses.specs.Planned.{Planned, IsPlanOf, finished, state_by}
 use Rattle.acc_clauses.specs.Contents.{Contents}
 use Rattle.acc_clauses.specs.Stored.{IsStoreSound, AreHoldingsWithin}
 use Rattle.acc_clauses.proofs.Events.{IsEventOf, event_of_plan, idle_plan}

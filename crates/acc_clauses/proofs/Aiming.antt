@@ -1,5 +1,5 @@
 -- What attaching and detaching a pointer leaves of the parts.
-use Rattle.std.proofs.Common.{ℕ, ◌≡◌, ◌+◌, ◌<◌, ◌≤◌, refl, ◌∙◌, ap, Bool, true, false, cond, List, inl, inr, arith}
+use Rattle.std.proofs.Common.{ℕ, ◌≡◌, ◌+◌, ◌<◌, ◌≤◌, refl, ◌∙◌, ap, Bool, true, false, cond, List, arith}
 use Rattle.std.specs.Prelude.{◌==◌, ◌⊎◌, ◌-◌, map, slice_index}
 use Rattle.std.specs.Int.{w64, to_le_bytes}
 use Rattle.std.proofs.lemmas.Bool.Decides.{nat_tests}
@@ -90,8 +90,7 @@ was_more n some h = grind (arith, nat_tests)
 
 -- it is not zero
 pub not_zero : (l : Left) → (l ≡ left.Nothing) ⊎ (l ≡ left.Less) → left.Zero ≡ l → ⊥
-not_zero l (inl e) z = cc
-not_zero l (inr e) z = cc
+not_zero l h1 z = grind (arith, nat_tests)
 
 less_attached : (pointer block : ℕ) (x : Environment) (b : AttachedState) → CanDetach pointer block (bare_state x) → b.attached ≡ attached_by (detach false block pointer x.attached.attached) x.attached.attached
     → b.attached ≡ attached_by (aims.Less pointer block) x.attached.attached

@@ -4,21 +4,19 @@ use Rattle.std.specs.Prelude.{◌==◌, unwrap_or, option_map}
 use Rattle.std.proofs.lemmas.Bool.Decides.{nat_tests}
 use Rattle.acc_clauses.specs.Words.{Counter, Range, Task, Step, Did}
 use Rattle.acc_base.specs.declared.mappings.Counter.TheVariants.{Structured, Dynamic}
-use Rattle.acc_base.specs.declared.tasks.Task.TheVariants.{Enter}
 use Rattle.acc_base.specs.declared.events.Step.TheVariants.{Counted, Born, Dropped}
 use Rattle.acc_base.specs.Limits.{Limits, IsWithinBounds}
 use Rattle.acc_base.specs.Records.{Records}
-use Rattle.acc_base.specs.Ranges.{range_of, counter_in, counter_of, without_range, is_unused}
-use Rattle.acc_base.specs.Attachments.{count_at, count_after, without_attachments}
-use Rattle.acc_base.specs.Tasks.{recounted}
-use Rattle.acc_base.specs.Steps.{records_aimed, records_after_birth, records_after_end, released, is_in_use, with_range_changed, with_put, act_row, act_step, act, act_all}
+use Rattle.acc_base.specs.Ranges.{range_of, counter_in, counter_of}
+use Rattle.acc_base.specs.Attachments.{count_at, count_after}
+use Rattle.acc_base.specs.Steps.{records_after_birth, records_after_end, released, with_range_changed, act_row, act_step, act, act_all}
 use Rattle.acc_base.specs.Detaching.{block_with}
 use Rattle.acc_base.specs.History.{AreJudged}
 use Rattle.acc_base.specs.Accounts.{IsCounted, AreRecordsSound}
 use Rattle.acc_base.proofs.Results.{equal, equal_self}
 use Rattle.acc_base.proofs.Elements.{found_has}
 use Rattle.acc_base.proofs.Counting.{without_read}
-use Rattle.acc_base.proofs.Recounted.{moved_by, names, zero_stays, ends_told, count_mapped, birth_number}
+use Rattle.acc_base.proofs.Recounted.{moved_by, names, ends_told, count_mapped}
 use Rattle.acc_base.proofs.Judged.{IsJudgedTo, step_judged, task_says}
 use Rattle.acc_base.proofs.Sound.{ranges_born}
 use Rattle.acc_base.proofs.SameMapping.{mapping-act}
@@ -29,7 +27,7 @@ use Rattle.acc_base.proofs.Births.{births_least}
 use Rattle.acc_clauses.specs.declared.acted.Acted.{Acted}
 use Rattle.acc_clauses.specs.Overlays.{tasks_in, dids_in, records_after, IsPlanned}
 use Rattle.acc_clauses.specs.Aims.{count_over}
-use Rattle.acc_clauses.proofs.AimsFound.{IsPointerIn, pointer_in_block}
+use Rattle.acc_clauses.proofs.AimsFound.{pointer_in_block}
 
 -- ---- a block whose mapping has ended is never mapped again
 
@@ -92,14 +90,12 @@ ends block _ = false
 -- a step leaves the counters of the blocks whose mapping it does not end
 count-step : (task : Task) (step : Step) (w : Records) (block pointer : ℕ) → ends block step ≡ false → count_at block pointer (act_step task step w).attached ≡ count_at block pointer w.attached
 unfolding act_step act_row with_range_changed records_after_birth records_after_end released
-count-step task (Dropped k true) w block pointer other = grind (arith, nat_tests, count_at-without_other)
-count-step task _ w block pointer other = refl
+count-step task step w block pointer other = grind (arith, nat_tests, count_at-without_other)
 
 -- so does a task, but for what becomes of its pointer
 count-act : (task : Task) (did : Did) (w : Records) (block pointer : ℕ) → ends block did.step ≡ false → count_at block pointer (act task did w).attached ≡ count_after block pointer did.aim (count_at block pointer w.attached)
 unfolding act
-count-act (Enter counter item queue) did w block pointer other = search (count_at-attached_by, count-step)
-count-act task did w block pointer other = count-step task did.step (records_aimed did.aim w) block pointer other ∙ count_at-attached_by block pointer did.aim w.attached
+count-act task did w block pointer other = grind (arith, nat_tests, count_at-attached_by, count-step)
 
 -- the first of some tasks did not end a block that is not gone after them
 ends_none : (l : Limits) (n : ℕ) (x : Acted) (xs : List Acted) (w : Records) (block : ℕ) → IsWithinBounds l → AreRecordsSound l w → AreJudged l n (tasks_in (x ∷ xs)) (dids_in (x ∷ xs)) w

@@ -1,25 +1,25 @@
 -- Where pointers and their targets lie: before entries and after them.
-use Rattle.std.proofs.Common.{ℕ, ◌≡◌, ◌+◌, ◌-◌, ◌<◌, ◌≤◌, ◌^◌, refl, sym, ap, ◌∙◌, subst, Bool, true, false, cond, List, [], ◌∷◌, suc, Option, Some, None, arith}
-use Rattle.std.specs.Prelude.{◌==◌, unwrap_or, option_map, IsSome}
+use Rattle.std.proofs.Common.{ℕ, ◌≡◌, ◌+◌, ◌-◌, ◌<◌, ◌≤◌, ◌^◌, refl, sym, ap, ◌∙◌, subst, true, List, [], ◌∷◌, suc, Option, Some, None, arith}
+use Rattle.std.specs.Prelude.{unwrap_or, option_map, IsSome}
 use Rattle.std.specs.List.{list_all}
 use Rattle.std.proofs.lemmas.Bool.{false≢true}
 use Rattle.std.proofs.lemmas.Bool.Decides.{nat_tests}
 use Rattle.acc_clauses.specs.Words.{Item, RegionClause, Section, Counter, Range, Block, Found, Task, Step, Did}
-use Rattle.acc_base.specs.declared.mappings.Found.TheVariants.{Inside, Partly, Absent}
+use Rattle.acc_base.specs.declared.mappings.Found.TheVariants.{Inside}
 use Rattle.acc_base.specs.declared.tasks.Task.TheVariants.{Enter}
 use Rattle.acc_base.specs.declared.events.Step.TheVariants.{Counted, Born, Dropped}
 use Rattle.acc_base.specs.Limits.{Limits, IsWithinBounds}
-use Rattle.acc_base.specs.Section.{is_within, is_apart, end_of, only, device_memory}
+use Rattle.acc_base.specs.Section.{is_within, is_apart, only}
 use Rattle.acc_base.specs.Records.{Records}
 use Rattle.acc_base.specs.Ranges.{where_is, range_of, start_of, bare_range}
-use Rattle.acc_base.specs.Blocks.{rounded, block_at, place_of}
+use Rattle.acc_base.specs.Blocks.{block_at, place_of}
 use Rattle.acc_base.specs.Attachments.{pointer_at}
 use Rattle.acc_base.specs.Tasks.{section_of, recounted}
 use Rattle.acc_base.specs.Steps.{records_after_birth, with_range_changed, act_row, act_step, act, act_all}
 use Rattle.acc_base.specs.Detaching.{block_in, block_with}
 use Rattle.acc_base.specs.Pointers.{address_in}
 use Rattle.acc_base.specs.History.{IsTarget, AreJudged}
-use Rattle.acc_base.specs.Accounts.{IsOnDevice, IsMapped, AreRecordsSound}
+use Rattle.acc_base.specs.Accounts.{IsMapped, AreRecordsSound}
 use Rattle.acc_base.proofs.Results.{and_true}
 use Rattle.acc_base.proofs.Elements.{found_has}
 use Rattle.acc_base.proofs.Lookups.{at-own}
@@ -89,8 +89,7 @@ pointer_in_block l w block pointer h e = go (where_is (pointer_at pointer) w.ran
 -- ---- the block of a pointer before an entry
 
 beside_before : (s t : Section) (k block : ℕ) (f : Found) → (k ≡ block → ⊥) → block_in (found_beside s t k f) ≡ Some block → block_in f ≡ Some block
-beside_before s t k block Absent other e = grind (arith, nat_tests)
-beside_before s t k block _ other e = e
+beside_before s t k block f other e = grind (arith, nat_tests)
 
 before-step : (l : Limits) (counter : Counter) (item : Item RegionClause) (queue : Option ℕ) (step : Step) (w : Records) (pointer block : ℕ) → AreRecordsSound l w → IsJudgedTo l (Enter counter item queue) step w → IsSome (block_at block w.blocks)
     → block_with pointer (act_step (Enter counter item queue) step w).ranges ≡ Some block → block_with pointer w.ranges ≡ Some block
@@ -113,8 +112,7 @@ before-step l counter item queue _ w pointer block h says there e = e
 before-act : (l : Limits) (task : Task) (did : Did) (w : Records) (pointer block : ℕ) → AreRecordsSound l w → IsJudgedTo l task did.step w → enters task ≡ true → IsSome (block_at block w.blocks)
     → block_with pointer (act task did w).ranges ≡ Some block → block_with pointer w.ranges ≡ Some block
 unfolding act
-before-act l (Enter counter item queue) did w pointer block h says entry there e = before-step l counter item queue did.step w pointer block h says there e
-before-act l _ did w pointer block h says entry there e = absurd (false≢true entry)
+before-act l task did w pointer block h says entry there e = grind (arith, nat_tests, before-step, false≢true)
 
 -- a pointer that lies in a block after entries lay in it before them, where the block was there
 pub before-after : (l : Limits) (n : ℕ) (xs : List Acted) (w : Records) (pointer block : ℕ) → IsWithinBounds l → AreRecordsSound l w → AreJudged l n (tasks_in xs) (dids_in xs) w → list_all enters (tasks_in xs) ≡ true

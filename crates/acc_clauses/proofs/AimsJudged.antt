@@ -1,5 +1,5 @@
 -- What attaching a pointer does after entries, by what is read of them.
-use Rattle.std.proofs.Common.{ℕ, ◌≡◌, ◌+◌, ◌<◌, ◌≤◌, refl, sym, ap, ◌∙◌, Bool, true, false, ◌&&◌, List, length, Option, Some, None, Result, Ok, Err, arith, inl, inr}
+use Rattle.std.proofs.Common.{ℕ, ◌≡◌, ◌+◌, ◌<◌, ◌≤◌, refl, sym, ap, ◌∙◌, Bool, true, false, ◌&&◌, List, length, Some, None, Result, Ok, Err, arith}
 use Rattle.std.specs.Prelude.{◌⊎◌, ◌==◌, not, nat_le, IsSome}
 use Rattle.std.specs.List.{list_all}
 use Rattle.std.proofs.lemmas.Bool.Decides.{nat_tests}
@@ -8,7 +8,6 @@ use Rattle.acc_base.specs.declared.attachments.Aim.TheVariants as aims
 use Rattle.acc_base.specs.declared.faults.Fault.TheVariants.{CounterFull}
 use Rattle.acc_base.specs.Results.{◌>>◌, refuse_if}
 use Rattle.acc_base.specs.Limits.{Limits}
-use Rattle.acc_base.specs.Section.{host_base}
 use Rattle.acc_base.specs.Records.{Records, State}
 use Rattle.acc_base.specs.Ranges.{start_of}
 use Rattle.acc_base.specs.Blocks.{block_at}
@@ -16,12 +15,12 @@ use Rattle.acc_base.specs.Attachments.{count_at, attach}
 use Rattle.acc_base.specs.Bytes.{bytes_of}
 use Rattle.acc_base.specs.Detaching.{block_with}
 use Rattle.acc_base.specs.Loans.{is_lent, not_lent}
-use Rattle.acc_base.specs.Pointers.{pointer_in, host_pointer, device_pointer, device_address_of, attach_there, judge_attach}
+use Rattle.acc_base.specs.Pointers.{host_pointer, device_pointer, device_address_of, attach_there, judge_attach}
 use Rattle.acc_base.specs.Accounts.{AreRecordsSound, AreMemoriesSized}
 use Rattle.acc_base.proofs.Walked.{records-act_all_state}
 use Rattle.acc_base.proofs.Loaned.{loans-act_all}
 use Rattle.acc_clauses.specs.declared.acted.Acted.{Acted}
-use Rattle.acc_clauses.specs.Overlays.{tasks_in, dids_in, records_after, state_after, enters, IsPlanned}
+use Rattle.acc_clauses.specs.Overlays.{tasks_in, records_after, state_after, enters, IsPlanned}
 use Rattle.acc_clauses.proofs.Moving.{bytes_of-len}
 use Rattle.acc_clauses.proofs.AimsPlaced.{host-after}
 use Rattle.acc_clauses.proofs.AimsFound.{IsPointerIn, pointer_in_block}

@@ -6,12 +6,11 @@ use Rattle.std.specs.List.{list_all}
 use Rattle.std.proofs.lemmas.Bool.{false≢true}
 use Rattle.acc_clauses.specs.Words.{Item, RegionClause, Counter, Block, Task, Step, Did}
 use Rattle.acc_base.specs.declared.tasks.Task.TheVariants.{Enter}
-use Rattle.acc_base.specs.declared.events.Step.TheVariants.{Born, Dropped, Moved}
+use Rattle.acc_base.specs.declared.events.Step.TheVariants.{Born, Dropped}
 use Rattle.acc_base.specs.Limits.{Limits, IsWithinBounds}
 use Rattle.acc_base.specs.Records.{Records, State}
 use Rattle.acc_base.specs.Ranges.{bare_range}
 use Rattle.acc_base.specs.Blocks.{block_at, place_of}
-use Rattle.acc_base.specs.Clauses.{copies_in}
 use Rattle.acc_base.specs.Tasks.{section_of, recounted}
 use Rattle.acc_base.specs.Transfers.{at_once}
 use Rattle.acc_base.specs.Steps.{records_after_birth, with_range_changed, act_row, act_step, act, act_all}
@@ -76,8 +75,7 @@ place-step l counter item queue _ w block h says = refl
 place-act : (l : Limits) (task : Task) (did : Did) (w : Records) (block : ℕ) → AreRecordsSound l w → IsJudgedTo l task did.step w → enters task ≡ true
     → place_of block (act task did w).blocks ≡ place_by block (place_of block w.blocks) did.step
 unfolding act
-place-act l (Enter counter item queue) did w block h says entry = place-step l counter item queue did.step w block h says
-place-act l _ did w block h says entry = absurd (false≢true entry)
+place-act l task did w block h says entry = grind (arith, nat_tests, place-step, false≢true)
 
 pub place-after : (l : Limits) (n : ℕ) (xs : List Acted) (w : Records) (block : ℕ) → IsWithinBounds l → AreRecordsSound l w → AreJudged l n (tasks_in xs) (dids_in xs) w → list_all enters (tasks_in xs) ≡ true
     → place_over block (place_of block w.blocks) xs ≡ place_of block (records_after xs w).blocks
@@ -108,27 +106,21 @@ there-step l counter item queue _ w block says there = there
 pub there-act : (l : Limits) (task : Task) (did : Did) (w : Records) (block : ℕ) → IsJudgedTo l task did.step w → enters task ≡ true → IsSome (block_at block w.blocks)
     → IsSome (block_at block (act task did w).blocks)
 unfolding act
-there-act l (Enter counter item queue) did w block says entry there = there-step l counter item queue did.step w block says there
-there-act l _ did w block says entry there = absurd (false≢true entry)
+there-act l task did w block says entry there = grind (arith, nat_tests, there-step, false≢true)
 
 -- ---- the host after entries: what an entry copies goes to the device
 
 -- where nothing is moved, nothing is made
 none_now : (queue : Option ℕ) (s : State) → host_made (at_once queue None) s.records.attached s.memories s.host ≡ s.host
-none_now None s = refl
-none_now (Some q) s = refl
+none_now queue s = grind (arith, nat_tests)
 
 host-step : (l : Limits) (counter : Counter) (item : Item RegionClause) (queue : Option ℕ) (step : Step) (s : State) → IsJudgedTo l (Enter counter item queue) step s.records → (step_state (Enter counter item queue) step s).host ≡ s.host
 unfolding step_state
-host-step l counter item queue (Born k p) s says = grind (arith, nat_tests)
-host-step l counter item queue (Dropped k ended) s says = absurd says
-host-step l counter item queue (Moved k) s says = absurd says
-host-step l counter item queue _ s says = none_now queue s
+host-step l counter item queue step s says = grind (arith, nat_tests)
 
 host-act : (l : Limits) (task : Task) (did : Did) (s : State) → IsJudgedTo l task did.step s.records → enters task ≡ true → (act_state task did s).host ≡ s.host
 unfolding act_state aimed
-host-act l (Enter counter item queue) did s says entry = host-step l counter item queue did.step s says
-host-act l _ did s says entry = absurd (false≢true entry)
+host-act l task did s says entry = grind (arith, nat_tests, host-step, false≢true)
 
 pub host-after : (l : Limits) (n : ℕ) (xs : List Acted) (s : State) → AreJudged l n (tasks_in xs) (dids_in xs) s.records → list_all enters (tasks_in xs) ≡ true → (state_after xs s).host ≡ s.host
 unfolding act_all_state

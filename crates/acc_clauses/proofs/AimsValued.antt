@@ -1,24 +1,23 @@
 -- What an attached pointer holds on the device after entries is what the fold over them gives.
 use Rattle.std.proofs.lemmas.Bool.Decides.{nat_tests}
-use Rattle.std.proofs.Common.{ℕ, ◌≡◌, ◌+◌, ◌-◌, ◌<◌, ◌≤◌, ◌^◌, refl, sym, ap, ◌∙◌, subst, Bool, true, false, cond, ◌&&◌, ◌||◌, List, [], ◌∷◌, ◌++◌, replicate, suc, Option, Some, None, Ok, arith}
-use Rattle.std.specs.Prelude.{◌==◌, ◌%◌, find, unwrap_or, option_map, IsSome}
+use Rattle.std.proofs.Common.{ℕ, ◌≡◌, ◌+◌, ◌<◌, ◌≤◌, ◌^◌, refl, sym, ap, ◌∙◌, subst, Bool, true, false, cond, ◌&&◌, List, [], ◌∷◌, suc, Option, Some, None, Ok, arith}
+use Rattle.std.specs.Prelude.{◌==◌, ◌%◌, IsSome}
 use Rattle.std.specs.List.{list_all, AllByRecursion}
 use Rattle.std.proofs.lemmas.Bool.{false≢true}
 use Rattle.acc_clauses.specs.Words.{Item, RegionClause, Counter, Range, Block, Attachment, Aim, Task, Step, Did}
 use Rattle.acc_base.specs.declared.attachments.Aim.TheVariants as aims
 use Rattle.acc_base.specs.declared.tasks.Task.TheVariants.{Enter}
-use Rattle.acc_base.specs.declared.events.Step.TheVariants.{Nothing, Counted, Born, Dropped}
+use Rattle.acc_base.specs.declared.events.Step.TheVariants.{Nothing, Counted, Born}
 use Rattle.acc_base.specs.Limits.{Limits, IsWithinBounds}
-use Rattle.acc_base.specs.Section.{covers}
 use Rattle.acc_base.specs.Records.{Records, Memory, State}
-use Rattle.acc_base.specs.Ranges.{start_of, changed_at, bare_range}
+use Rattle.acc_base.specs.Ranges.{start_of, changed_at}
 use Rattle.acc_base.specs.Blocks.{block_at}
-use Rattle.acc_base.specs.Attachments.{pointer_at, is_of, count_at, attached_by}
-use Rattle.acc_base.specs.Clauses.{is_attach, copies_in, pointer_checked}
-use Rattle.acc_base.specs.Tasks.{section_of, pointer_of, recounted}
+use Rattle.acc_base.specs.Attachments.{count_at, attached_by}
+use Rattle.acc_base.specs.Clauses.{pointer_checked}
+use Rattle.acc_base.specs.Tasks.{recounted}
 use Rattle.acc_base.specs.Transfers.{at_once}
-use Rattle.acc_base.specs.Steps.{is_action, pointer_aimed, judge_row, judge_step, records_after_birth, with_range_changed, act_row, act_step, act, act_all}
-use Rattle.acc_base.specs.Bytes.{bytes_of, is_moved, bytes_moved_in, written_bytes, memories_made, fill_of, step_state}
+use Rattle.acc_base.specs.Steps.{pointer_aimed, judge_row, judge_step, records_after_birth, with_range_changed, act_row, act_step, act, act_all}
+use Rattle.acc_base.specs.Bytes.{bytes_of, memories_made, step_state}
 use Rattle.acc_base.specs.Detaching.{block_with}
 use Rattle.acc_base.specs.Loans.{is_lent}
 use Rattle.acc_base.specs.Pointers.{pointer_in, device_pointer, aimed}
@@ -30,7 +29,7 @@ use Rattle.acc_base.proofs.Counting.{read_of, changed_read, with_other}
 use Rattle.acc_base.proofs.Judged.{IsJudgedTo, step_judged, task_says, pointer_checked_by}
 use Rattle.acc_base.proofs.Sound.{recounted_keeps}
 use Rattle.acc_base.proofs.Puts.{acted_sound}
-use Rattle.acc_base.proofs.Attached.{same_block, count_at-attached_by, count_at-with_count_other}
+use Rattle.acc_base.proofs.Attached.{count_at-attached_by, count_at-with_count_other}
 use Rattle.acc_base.proofs.Memories.{step_sized, act_sized}
 use Rattle.acc_base.proofs.Aimed.{task_left}
 use Rattle.acc_base.proofs.Walked.{records-act_state, records-act_all_state}
@@ -39,7 +38,7 @@ use Rattle.acc_clauses.specs.Overlays.{tasks_in, dids_in, records_after, state_a
 use Rattle.acc_clauses.specs.Aims.{value_by, value_over}
 use Rattle.acc_clauses.proofs.Moving.{bytes_of-len}
 use Rattle.acc_clauses.proofs.AimsPlaced.{no_block-new}
-use Rattle.acc_clauses.proofs.AimsFound.{IsPointerIn, pointer_in_block, before-after, target_bound}
+use Rattle.acc_clauses.proofs.AimsFound.{pointer_in_block, before-after, target_bound}
 use Rattle.acc_clauses.proofs.AimsWritten.{target_byte, pointer-other, apart_by, pointer-same, bytes-other, bytes-same, bytes-push}
 
 -- ---- what is attached is there
@@ -80,8 +79,7 @@ holds_same pointer first second xs ys e f = rw (e, f) refl
 
 -- where nothing is moved, nothing is made
 none_made : (queue : Option ℕ) (attached : List Attachment) (host : List ℕ) (ms : List Memory) → memories_made (at_once queue None) attached host ms ≡ ms
-none_made None attached host ms = refl
-none_made (Some q) attached host ms = refl
+none_made queue attached host ms = grind (arith, nat_tests)
 
 holds-step : (l : Limits) (counter : Counter) (item : Item RegionClause) (queue : Option ℕ) (step : Step) (s : State) (block pointer : ℕ) → AreRecordsSound l s.records → IsJudgedTo l (Enter counter item queue) step s.records → IsSome (block_at block s.records.blocks)
     → device_pointer block pointer (step_state (Enter counter item queue) step s) ≡ device_pointer block pointer s
@@ -164,8 +162,7 @@ module _ (l : Limits) (block pointer : ℕ) (even : pointer % 8 ≡ 0) (s : Stat
 
 attached-step : (l : Limits) (counter : Counter) (item : Item RegionClause) (queue : Option ℕ) (step : Step) (w : Records) → IsJudgedTo l (Enter counter item queue) step w → (act_step (Enter counter item queue) step w).attached ≡ w.attached
 unfolding act_step act_row with_range_changed records_after_birth
-attached-step l counter item queue (Dropped k ended) w says = absurd says
-attached-step l counter item queue _ w says = refl
+attached-step l counter item queue step w says = grind (arith, nat_tests)
 
 holds-act : (l : Limits) (n block pointer value : ℕ) (task : Task) (did : Did) (s : State) → IsWithinBounds l → AreRecordsSound l s.records → AreMemoriesSized l s → judge_step l n task s.records ≡ Ok did.step → IsAimLegal l task did s.records → enters task ≡ true
     → pointer % 8 ≡ 0 → StartsBelow block pointer (act task did s.records) → Holds block pointer value s → Holds block pointer (value_by block pointer value did.aim) (act_state task did s)

@@ -1,5 +1,5 @@
 -- What the eight bytes of a pointer hold where those of a pointer are written.
-use Rattle.std.proofs.Common.{ℕ, zero, suc, ◌≡◌, ◌+◌, ◌-◌, ◌<◌, ◌≤◌, ◌^◌, refl, sym, ap, ◌∙◌, Bool, true, false, cond, List, [], ◌∷◌, ◌++◌, length, take, drop, map, Some, arith, inl, inr}
+use Rattle.std.proofs.Common.{ℕ, zero, suc, ◌≡◌, ◌+◌, ◌-◌, ◌<◌, ◌≤◌, ◌^◌, refl, sym, ap, ◌∙◌, Bool, false, cond, List, [], ◌∷◌, ◌++◌, length, take, drop, map, Some, arith}
 use Rattle.std.specs.Prelude.{◌⊎◌, ◌==◌, ◌%◌, find, unwrap_or, option_map, slice_index}
 use Rattle.std.specs.Int.{w64, to_le_bytes, from_le_bytes}
 use Rattle.std.proofs.lemmas.Bool.Decides.{nat_tests}
@@ -29,8 +29,7 @@ abbrev pub AreApart : ℕ → ℕ → Type 0
 AreApart p q = (p + 8 ≤ q) ⊎ (q + 8 ≤ p)
 
 not_covered : (p q a k : ℕ) → AreApart p q → a ≡ q → k < 8 → covers (pointer_at p) (a + k) ≡ false
-not_covered p q a k (inl h) e below = grind (arith, nat_tests)
-not_covered p q a k (inr h) e below = grind (arith, nat_tests)
+not_covered p q a k h4 e below = grind (arith, nat_tests)
 
 -- a pointer holds what it held where another is written
 pub pointer-other : (first p q : ℕ) (source : ℕ → ℕ) (bytes : List ℕ) → first ≤ q → AreApart p q → pointer_in first q (written_bytes (covers (pointer_at p)) source first bytes) ≡ pointer_in first q bytes

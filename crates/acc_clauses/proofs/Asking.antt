@@ -1,11 +1,11 @@
 -- What a directive asks, and the verdict that it comes to.
-use Rattle.std.proofs.Common.{ℕ, zero, suc, ◌≡◌, ◌-◌, ◌<◌, ◌≤◌, refl, sym, ap, subst, ◌∙◌, true, false, List, [], ◌∷◌, length, get_or, arith, Option, Some, None, Result, Ok, Err, inl, inr}
-use Rattle.std.specs.Prelude.{◌==◌, nat_lt, map, reverse, option_map, ok_or, ⊤, MatchResult}
+use Rattle.std.proofs.Common.{ℕ, zero, suc, ◌≡◌, ◌-◌, ◌<◌, ◌≤◌, refl, ap, subst, ◌∙◌, true, false, List, [], ◌∷◌, length, get_or, arith, Option, None, Result, Ok, Err, inl, inr}
+use Rattle.std.specs.Prelude.{nat_lt, map, reverse, option_map, ok_or, ⊤, MatchResult}
 use Rattle.std.proofs.lemmas.Bool.Decides.{nat_tests}
 use Rattle.std.proofs.lemmas.List.{length-map, length-reverse, get_or-map, get_or-reverse}
 use Rattle.std.specs.List.{list_all, list_any, AllByRecursion}
 use Rattle.acc_base.specs.declared.directives.Directive.{Directive}
-use Rattle.acc_base.specs.declared.directives.Directive.TheVariants.{Enter, Exit, EnterData, ExitData, Update, Wait, Step}
+use Rattle.acc_base.specs.declared.directives.Directive.TheVariants.{Enter, Exit, EnterData, ExitData, Update}
 use Rattle.acc_base.specs.declared.regions.Holding.{Holding}
 use Rattle.acc_base.specs.declared.tasks.Task.{Task}
 use Rattle.acc_base.specs.declared.tasks.Task.TheVariants.{Leave}
@@ -21,8 +21,8 @@ use Rattle.acc_base.specs.Walk.{enter_task, enter_data_task, exit_task, move_tas
 use Rattle.acc_base.specs.Queues.{queue_named}
 use Rattle.acc_base.specs.Tasks.{queue_of}
 use Rattle.acc_base.specs.Loans.{none_lent}
-use Rattle.acc_base.specs.Judge.{Verdict, item_limit, item_count, few_items, tasks_with, holdings_left, tasks_of, queue_in, transfers_in, verdict_of, directive_verdict, plan_of}
-use Rattle.acc_base.proofs.Results.{bind_ok, refused_not, then_ok, ok_same}
+use Rattle.acc_base.specs.Judge.{Verdict, item_limit, item_count, few_items, tasks_with, holdings_left, queue_in, transfers_in, verdict_of, directive_verdict, plan_of}
+use Rattle.acc_base.proofs.Results.{refused_not, ok_same}
 use Rattle.acc_base.proofs.Elements.{found_has}
 use Rattle.acc_clauses.specs.Overlays.{AreUnmixed, AreQueuesNamed, enters}
 use Rattle.acc_clauses.specs.Planned.{HasFewHoldings, asked_of}
@@ -68,13 +68,11 @@ tasks_fit _ holdings few held = record { few = omega arith; unmixed = inl refl; 
 
 -- an open region that is found holds few
 few_found : (number : ℕ) (regions : List Region) (o : Option Region) (holdings : List Holding) → AllByRecursion HasFewHoldings regions → region_at number regions ≡ o → ok_or (option_map (λ (r : Region). r.holdings) o) (NoRegion number) ≡ Ok holdings → length holdings ≤ 64
-few_found number regions None holdings all is e = absurd cc
-few_found number regions (Some r) holdings all is e = grind (arith, nat_tests, found_has, ok_same)
+few_found number regions o holdings all is e = grind (arith, nat_tests, found_has, ok_same)
 
 -- so does the one that a directive leaves
 few_left : (d : Directive) (g : Register) (holdings : List Holding) → AllByRecursion HasFewHoldings g.regions → holdings_left d g ≡ Ok holdings → length holdings ≤ 64
-few_left (Exit number) g holdings all e = few_found number g.regions (region_at number g.regions) holdings all refl e
-few_left _ g holdings all e = rw (← ok_same [] holdings e) (omega arith)
+few_left d g holdings all e = grind (arith, nat_tests, few_found, ok_same)
 
 -- a directive that does not name too many items names few
 few_checked : (d : Directive) → few_items d ≡ Ok tt → item_count d ≤ 64

@@ -141,15 +141,11 @@ born_memories counter item queue k place ranges attached host ms in_host new bar
 
 -- a birth leaves host memory
 born_host : (b : Bool) (o : Option ℕ) (k : ℕ) (section : Section) (attached : List Attachment) (host : List ℕ) (ms : List Memory) → host ≡ host_made (at_once o (cond b (Some (record { block = k; offset = 0; section = section; out = false })) None)) attached ms host
-born_host true None k section attached host ms = refl
-born_host false None k section attached host ms = refl
-born_host _ _ k section attached host ms = refl
+born_host b o k section attached host ms = grind (arith, nat_tests)
 
 -- a copy that is put changes the queues alone
 filled_is : (b : Bool) (o : Option ℕ) (t : Transfer) (s : State) → cond (b && is_some o) (moved_state o t s) s ≡ record s { records = record s.records { queues = queues_after o (cond b (Some t) None) s.records.queues } }
-filled_is true None t s = refl
-filled_is false None t s = refl
-filled_is _ _ t s = refl
+filled_is b o t s = grind (arith, nat_tests)
 
 -- both are the step of the birth
 born_whole : (counter : Counter) (item : Item RegionClause) (queue : Option ℕ) (k place : ℕ) (s : State) → is_within (section_of (Enter counter item queue)) (host_memory (length s.host)) ≡ true

@@ -1,23 +1,20 @@
 -- Before the tasks of a plan each that leaves a region finds what it held, and the register is ready for its directive; after them the store is sound.
-use Rattle.std.proofs.Common.{ℕ, ◌≡◌, ◌+◌, ◌<◌, ◌≤◌, ◌^◌, refl, sym, ◌∙◌, ap, subst, Bool, true, false, cond, List, [], ◌∷◌, ◌++◌, map, length, Option, Some, None, Ok, arith}
+use Rattle.std.proofs.Common.{ℕ, ◌≡◌, ◌<◌, ◌≤◌, ◌^◌, refl, sym, ◌∙◌, ap, subst, false, cond, List, [], ◌∷◌, map, length, Option, Some, Ok, arith}
 use Rattle.std.specs.Prelude.{◌==◌, reverse, option_map, IsSome, not}
 use Rattle.std.specs.List.{AllByRecursion}
 use Rattle.std.proofs.lemmas.Bool.Decides.{nat_tests}
 use Rattle.std.proofs.lemmas.Grind.{reverse_onto}
-use Rattle.std.proofs.lemmas.List.{length-append}
 use Rattle.acc_base.specs.Loans.{none_lent}
 use Rattle.acc_base.specs.declared.items.Item.{Item}
 use Rattle.acc_base.specs.declared.items.RegionClause.{RegionClause}
 use Rattle.acc_base.specs.declared.directives.Directive.{Directive}
 use Rattle.acc_base.specs.declared.directives.Directive.TheVariants as directives
 use Rattle.acc_base.specs.declared.regions.Holding.{Holding}
-use Rattle.acc_base.specs.declared.mappings.Counter.TheVariants.{Structured, Dynamic}
 use Rattle.acc_base.specs.declared.tasks.Task.{Task}
-use Rattle.acc_base.specs.declared.tasks.Task.TheVariants.{Enter, Leave, Exit, Move}
 use Rattle.acc_base.specs.declared.events.Did.{Did}
 use Rattle.acc_base.specs.Limits.{Limits, IsWithinBounds}
 use Rattle.acc_base.specs.Records.{Records, State}
-use Rattle.acc_base.specs.Register.{Region, Register, holdings_at, region_at, opened, closed, count_held, is_counted_block}
+use Rattle.acc_base.specs.Register.{Region, Register, holdings_at, opened, closed, count_held, is_counted_block}
 use Rattle.acc_base.specs.Ranges.{range_of}
 use Rattle.acc_base.specs.Blocks.{used_bytes}
 use Rattle.acc_base.specs.Steps.{act, act_all}
@@ -34,13 +31,13 @@ use Rattle.acc_base.proofs.Sound.{ranges-drained}
 use Rattle.acc_base.proofs.AllTasks.{sum_by-reverse}
 use Rattle.acc_base.proofs.LegalEvents.{open_left}
 use Rattle.acc_base.proofs.Registers.{IsNumbered, AreFew, next_region, opened_regions, opened_few, closed_few, closed_held}
-use Rattle.acc_clauses.specs.Planned.{Planned, IsPlanOf, holding_by, holdings_by, register_by, steps_by, finished}
+use Rattle.acc_clauses.specs.Planned.{Planned, IsPlanOf, holding_by, holdings_by, register_by, finished}
 use Rattle.acc_clauses.specs.Contents.{Contents}
 use Rattle.acc_clauses.specs.Acts.{IsKnown, AreKnown, HasRegionRoom, CanFinish}
 use Rattle.acc_clauses.specs.Stored.{IsHeldWithin, IsHoldingWithin, AreHoldingsWithin, IsStoreSound}
 use Rattle.acc_clauses.proofs.Holding.{leaves_known}
 use Rattle.acc_clauses.proofs.Entering.{regions_within, entered_within}
-use Rattle.acc_clauses.proofs.Asking.{IsAskedWith, asked_with}
+use Rattle.acc_clauses.proofs.Asking.{asked_with}
 use Rattle.acc_clauses.proofs.Events.{IsEventOf, held_asked, still, event_of_plan, planned_judged, planned_legal, idle_plan}
 use Rattle.acc_clauses.proofs.AfterPlan.{after_plan, event_sound}
 
@@ -93,8 +90,7 @@ below_differs : (a n : ℕ) → a < n → (a == n) ≡ false
 below_differs a n h = grind (arith, nat_tests)
 
 some_region : (o : Option Region) (hs : List Holding) → option_map (λ (r : Region). r.holdings) o ≡ Some hs → IsSome o
-some_region None hs e = cc
-some_region (Some r) hs e = refl
+some_region o hs e = grind (arith, nat_tests)
 
 -- the transfers that a plan without tasks makes are of no block that is lent
 free_then : (d : Directive) (c f : Contents) (p : Planned) → IsPlanOf c.limits d c.state p → [] ≡ p.tasks → f.state ≡ act_all_state p.tasks p.dids c.state → none_lent (transfers_in d f.state.records.queues) f.state.records.loans ≡ Ok tt
@@ -115,8 +111,7 @@ plan_can (directives.Step queue) c f p h planned next room acted same regions ho
 plan_can _ c f p h planned next room acted same regions holdings = refl
 
 one_holding : (task : Task) (did : Did) → length (holding_by task did) ≤ 1
-one_holding (Enter Structured item queue) did = omega arith
-one_holding _ did = omega arith
+one_holding task did = grind (arith, nat_tests)
 
 -- no more is held than there are tasks
 pub holdings_few : (tasks : List Task) (dids : List Did) → length (holdings_by tasks dids) ≤ length tasks
@@ -127,9 +122,7 @@ holdings_few (t ∷ ts) (d ∷ ds) = grind (arith, nat_tests, holdings_few ts ds
 
 -- what holds of a register holds after a directive, where it holds after a region's entry and after an exit
 by_register : (P : Register → Type 0) (d : Directive) (holdings : List Holding) (g : Register) → P g → ((items : List (Item RegionClause)) → d ≡ directives.Enter items → P (opened holdings g)) → ((number : ℕ) → P (closed number g)) → P (register_by d holdings g)
-by_register P (directives.Enter items) holdings g same enter exit = enter items refl
-by_register P (directives.Exit number) holdings g same enter exit = exit number
-by_register P _ holdings g same enter exit = same
+by_register P d holdings g same enter exit = grind (arith, nat_tests)
 
 -- no region holds too much after a plan
 few_after : (d : Directive) (c : Contents) (p : Planned) → IsStoreSound c → IsPlanOf c.limits d c.state p → AreFew (register_by d (holdings_by p.tasks p.dids) c.state.register)

@@ -1,6 +1,6 @@
 -- A copy is a part of a list that is replaced.
-use Rattle.std.proofs.Common.{ℕ, zero, suc, ◌≡◌, ◌+◌, ◌-◌, ◌<◌, ◌≤◌, refl, sym, ◌∙◌, ap, subst, Bool, true, false, cond, List, [], ◌∷◌, ◌++◌, ◌&&◌, length, take, drop, replicate, map, append-nil, arith}
-use Rattle.std.specs.Prelude.{◌==◌, slice_index}
+use Rattle.std.proofs.Common.{ℕ, zero, suc, ◌≡◌, ◌+◌, ◌-◌, ◌<◌, ◌≤◌, refl, ◌∙◌, ap, subst, true, false, List, [], ◌∷◌, ◌++◌, length, take, drop, replicate, map, append-nil, arith}
+use Rattle.std.specs.Prelude.{slice_index}
 use Rattle.std.specs.List.{AllByRecursion}
 use Rattle.std.proofs.lemmas.Bool.Decides.{nat_tests}
 use Rattle.std.proofs.lemmas.List.{get_or-take, get_or-drop, length-drop, length-take-le, length-replicate, take-append-drop}
@@ -8,8 +8,8 @@ use Rattle.acc_clauses.specs.Words.{Section, Attachment}
 use Rattle.acc_base.specs.Section.{covers, end_of, is_within, host_memory, host_base}
 use Rattle.acc_base.specs.Attachments.{is_skipped}
 use Rattle.acc_base.specs.Records.{Memory}
-use Rattle.acc_base.specs.Bytes.{written_bytes, host_byte, memory_changed, is_moved, bytes_moved_in, bytes_moved_out, host_after_write}
-use Rattle.acc_base.proofs.Results.{equal, equal_self}
+use Rattle.acc_base.specs.Bytes.{written_bytes, memory_changed, is_moved, bytes_moved_in, bytes_moved_out, host_after_write}
+use Rattle.acc_base.proofs.Results.{equal_self}
 use Rattle.acc_base.specs.Overwriting.{overwritten}
 use Rattle.acc_host.specs.Host.{bytes_in}
 

@@ -1,8 +1,8 @@
 -- The births and ends that a draft notes, after one more task.
+use Rattle.std.proofs.lemmas.Bool.Decides.{nat_tests}
 use Rattle.std.proofs.Common.{ℕ, ◌≡◌, ◌+◌, ◌<◌, ◌≤◌, refl, sym, ap, ◌∙◌, true, false, List, [], ◌∷◌, ◌++◌, length, arith}
 use Rattle.std.proofs.lemmas.List.{append-nil, append_assoc, length-append}
 use Rattle.acc_clauses.specs.Words.{Task, Aim, Step}
-use Rattle.acc_base.specs.declared.events.Step.TheVariants.{Nothing, Dropped}
 use Rattle.acc_clauses.specs.declared.acted.Acted.{Acted}
 use Rattle.acc_clauses.specs.Overlays.{IsDraft, birth_by, births_of, end_by, ended_of, with_aim}
 
@@ -22,12 +22,10 @@ pub ended_of-push : (xs : List Acted) (x : Acted) → ended_of (xs ++ x ∷ []) 
 ended_of-push xs x = ended_of-append xs (x ∷ []) ∙ ap (λ ps. ended_of xs ++ ps) (append-nil (end_by x.did.step))
 
 length-birth_by : (task : Task) (step : Step) → length (birth_by task step) ≤ 1
-length-birth_by task Nothing = omega arith
-length-birth_by task _ = omega arith
+length-birth_by task step = grind (arith, nat_tests)
 
 length-end_by : (step : Step) → length (end_by step) ≤ 1
-length-end_by (Dropped b true) = omega arith
-length-end_by _ = omega arith
+length-end_by step = grind (arith, nat_tests)
 
 -- a task bears one block at most
 pub length-births_of : (xs : List Acted) → length (births_of xs) ≤ length xs

@@ -1,13 +1,13 @@
 -- Queues that are emptied one after the other, from the first to the last.
 use Rattle.std.proofs.lemmas.Bool.Decides.{nat_tests}
-use Rattle.std.proofs.Common.{ℕ, zero, suc, ◌≡◌, ◌+◌, ◌≤◌, refl, sym, ◌∙◌, ap, List, [], ◌∷◌, ◌++◌, length, drop, replicate, Option, Some, None, add-one, arith, length-append}
+use Rattle.std.proofs.Common.{ℕ, zero, suc, ◌≡◌, ◌+◌, ◌≤◌, refl, sym, ◌∙◌, ap, List, [], ◌∷◌, ◌++◌, length, drop, replicate, add-one, arith, length-append}
 use Rattle.std.specs.Prelude.{slice_set}
 use Rattle.std.proofs.lemmas.List.{drop_all, length-replicate}
 use Rattle.acc_base.specs.declared.transfers.Transfer.{Transfer}
 use Rattle.acc_base.specs.Records.{State}
-use Rattle.acc_base.specs.Queues.{queue_at, head_of}
+use Rattle.acc_base.specs.Queues.{queue_at}
 use Rattle.acc_base.specs.Steps.{released}
-use Rattle.acc_base.specs.Waits.{state_made, stepped, drained, steps_from}
+use Rattle.acc_base.specs.Waits.{stepped, drained, steps_from}
 
 -- ---- one queue
 

@@ -1,6 +1,6 @@
 -- While a queue is emptied, none of the transfers that are left is of a block that is lent.
 use Rattle.std.proofs.lemmas.Bool.Decides.{nat_tests}
-use Rattle.std.proofs.Common.{ℕ, zero, suc, ◌+◌, ◌≡◌, refl, sym, ◌∙◌, ap, subst, List, [], ◌∷◌, Option, Some, None, Ok, take, drop, replicate, add-one, false, arith}
+use Rattle.std.proofs.Common.{ℕ, zero, suc, ◌+◌, ◌≡◌, refl, sym, ◌∙◌, ap, List, [], ◌∷◌, Some, None, Ok, take, drop, replicate, add-one, false, arith}
 use Rattle.std.specs.Prelude.{slice_get, slice_set}
 use Rattle.std.specs.List.{flat_map}
 use Rattle.acc_clauses.specs.Words.{Loan, Transfer}
@@ -8,9 +8,8 @@ use Rattle.acc_base.specs.Loans.{is_lent, not_lent, none_lent}
 use Rattle.acc_base.specs.Queues.{queue_at, head_of, popped}
 use Rattle.acc_base.specs.Records.{Records, State}
 use Rattle.acc_base.specs.Steps.{released}
-use Rattle.acc_base.specs.Waits.{state_made, stepped, drained}
+use Rattle.acc_base.specs.Waits.{stepped, drained}
 use Rattle.acc_base.proofs.Results.{then_ok}
-use Rattle.acc_base.proofs.Judged.{not_lent_says}
 use Rattle.acc_base.proofs.Walked.{records-drained}
 use Rattle.acc_base.proofs.Loaned.{loans-drained}
 use Rattle.acc_clauses.proofs.Emptied.{later-drained}

@@ -5,7 +5,6 @@ use Rattle.std.specs.Prelude.{IsSome, is_none}
 use Rattle.std.specs.List.{AllZip}
 use Rattle.acc_base.specs.Loans.{is_lent}
 use Rattle.acc_clauses.specs.Words.{Range, Task, Transfer}
-use Rattle.acc_base.specs.declared.tasks.Task.TheVariants.{Enter}
 use Rattle.acc_base.specs.declared.events.Step.TheVariants.{Dropped}
 use Rattle.acc_base.specs.Records.{Records, State}
 use Rattle.acc_base.specs.Ranges.{range_of, changed_at, without_range, ends_by}
@@ -31,7 +30,7 @@ use Rattle.acc_clauses.specs.Acts.{CanCount, CanDrop, IsEnter, given_state, move
 use Rattle.acc_clauses.proofs.Changes.{state_by, room_same, kept_twice, both}
 use Rattle.acc_clauses.proofs.Marked.{IsMarkAt, mark_told, marks_ended, marks_gone}
 use Rattle.acc_clauses.proofs.Putting.{unused, used_pinned}
-use Rattle.acc_clauses.proofs.Steps.{is_some, without-changed}
+use Rattle.acc_clauses.proofs.Steps.{without-changed}
 
 -- ---- after the copy to host memory
 
@@ -41,9 +40,7 @@ given_is : (b : Bool) (o : Option ℕ) (t : Transfer) (s : State) → cond b (mo
   host = host_made (at_once o (cond b (Some t) None)) s.records.attached s.memories s.host;
   memories = memories_made (at_once o (cond b (Some t) None)) s.records.attached s.host s.memories;
 }
-given_is true o t s = refl
-given_is false None t s = refl
-given_is false (Some q) t s = refl
+given_is b o t s = grind (arith, nat_tests)
 
 pub same_ranges : (task : Task) (k : ℕ) (x y : Environment) → IsGivenBy task k x y → y.present.table.ranges ≡ x.present.table.ranges
 same_ranges task k x y given = ap (λ (s : State). s.records.ranges) (given.state bare_numbers ∙ given_is (gives_bytes task) (queue_of task) (transfer_at task k x.present.table.ranges) (bare_state x))
@@ -67,8 +64,7 @@ range_ends task k ended x y can given = ap (ends_by (recounted task) k) (same_ra
 
 -- a task that does not enter raises no counter
 pub falls : (most : ℕ) (task : Task) (k : ℕ) (ranges : List Range) (r : Range) → (IsEnter task → ⊥) → range_of k ranges ≡ Some r → CanCount most task k ranges
-falls most (Enter counter item queue) k ranges r other is = absurd (other tt)
-falls most _ k ranges r other is = record { there = is_some (range_of k ranges) r is; below = tt }
+falls most task k ranges r other is = grind (arith, nat_tests)
 
 pub block_there : (task : Task) (k : ℕ) (ended : Bool) (x y : Environment) → CanDrop task k ended (bare_state x) → IsGivenBy task k x y → IsSome (block_at k y.device.blocks)
 block_there task k ended x y can given = rw (same_blocks task k x y given) can.move.there

@@ -1,21 +1,17 @@
 -- What an entry to a region counts lies within the ranges of the blocks that it counted, after all of its tasks.
-use Rattle.std.proofs.Common.{ℕ, suc, ◌≡◌, ◌+◌, ◌≤◌, refl, sym, ◌∙◌, ap, subst, Bool, true, false, cond, List, [], ◌∷◌, map, Option, Some, None, Result, Ok, arith}
-use Rattle.std.specs.Prelude.{◌==◌, nat_lt, nat_le}
+use Rattle.std.proofs.Common.{ℕ, suc, ◌≡◌, ◌+◌, ◌≤◌, refl, subst, Bool, true, false, cond, List, [], ◌∷◌, map, Option, Some, None, Result, Ok, arith}
+use Rattle.std.specs.Prelude.{◌==◌}
 use Rattle.std.specs.List.{AllByRecursion}
 use Rattle.std.proofs.lemmas.Bool.Decides.{nat_tests}
 use Rattle.acc_clauses.specs.Words.{Section, Item, RegionClause, Range, Found, Task, Step, Did, Fault}
-use Rattle.acc_base.specs.declared.items.RegionClause.TheVariants as region
 use Rattle.acc_base.specs.declared.mappings.Found.TheVariants.{Empty, Inside, Absent}
 use Rattle.acc_base.specs.declared.mappings.Counter.TheVariants.{Structured}
 use Rattle.acc_base.specs.declared.tasks.Task.TheVariants.{Enter}
 use Rattle.acc_base.specs.declared.events.Step.TheVariants.{Counted, Born}
-use Rattle.acc_base.specs.declared.faults.Fault.TheVariants.{CounterFull}
-use Rattle.acc_base.specs.Results.{refuse_if}
 use Rattle.acc_base.specs.Limits.{Limits, IsWithinBounds}
-use Rattle.acc_base.specs.Section.{is_within, device_memory}
+use Rattle.acc_base.specs.Section.{is_within}
 use Rattle.acc_base.specs.Records.{Records}
-use Rattle.acc_base.specs.Ranges.{where_is, range_of, counter_of, with_range, bare_range, risen}
-use Rattle.acc_base.specs.Blocks.{rounded, place_for}
+use Rattle.acc_base.specs.Ranges.{where_is, range_of, with_range, bare_range, risen}
 use Rattle.acc_base.specs.Register.{Region}
 use Rattle.acc_base.specs.Clauses.{is_attach, section_named, born_at, enter_absent, enter_row}
 use Rattle.acc_base.specs.Tasks.{section_of, checked}
@@ -54,21 +50,15 @@ step_same : (x y : Step) → ◌≡◌ {A = Result Step Fault} (Ok x) (Ok y) →
 step_same x y e = cc
 
 born_not_counted : (o : Option ℕ) (n k : ℕ) (s : Section) (w : Records) → born_at o n s w ≡ Ok (Counted k) → ⊥
-born_not_counted None n k s w e = cc
-born_not_counted (Some p) n k s w e = cc
+born_not_counted o n k s w e = grind (arith, nat_tests)
 
 absent_not_counted : (clause : RegionClause) (l : Limits) (n k : ℕ) (s : Section) (w : Records) → enter_absent clause l n s w ≡ Ok (Counted k) → ⊥
-absent_not_counted region.NoCreate l n k s w e = cc
-absent_not_counted region.Present l n k s w e = cc
-absent_not_counted region.Attach l n k s w e = cc
-absent_not_counted _ l n k s w e = born_not_counted (place_for (device_memory l.device) w.blocks (rounded s.len)) n k s w e
+absent_not_counted clause l n k s w e = grind (arith, nat_tests)
 
 -- a section whose block is counted is inside the block's range
 counted_inside : (l : Limits) (clause : RegionClause) (section : Section) (n k : ℕ) (w : Records) (found : Found) → enter_row found l Structured clause n section w ≡ Ok (Counted k) → where_is section w.ranges ≡ found
     → (o : ℕ) × (where_is section w.ranges ≡ Inside k o)
-counted_inside l clause section n k w (Inside b o) e f = grind (arith, nat_tests)
-counted_inside l clause section n k w Absent e f = absurd (absent_not_counted clause l n k section w e)
-counted_inside l clause section n k w _ e f = cc
+counted_inside l clause section n k w found e f = grind (arith, nat_tests)
 
 counted_says : (l : Limits) (item : Item RegionClause) (n k : ℕ) (w : Records) → judge_step l n (Enter Structured item None) w ≡ Ok (Counted k) → (o : ℕ) × (where_is (section_of (Enter Structured item None)) w.ranges ≡ Inside k o)
 unfolding judge_row
@@ -76,8 +66,7 @@ counted_says l item n k w e = counted_inside l item.clause (section_of (Enter St
 
 -- an item whose section is not empty has it whole: it names no pointer alone
 named_whole : (alone : Bool) (s : Section) (ranges : List Range) (found : Found) → where_is (section_named alone s) ranges ≡ found → (found ≡ Empty → ⊥) → section_named alone s ≡ s
-named_whole true s ranges found e some = absurd (some (sym e))
-named_whole false s ranges found e some = refl
+named_whole alone s ranges found e some = grind (arith, nat_tests)
 
 -- a new range is the one of its block
 range-with_same : (new : Range) (rs : List Range) → range_of new.block rs ≡ None → range_of new.block (with_range new rs) ≡ Some new

@@ -1,15 +1,13 @@
 -- What each directive does of the register and the queues.
 use Rattle.std.proofs.lemmas.Bool.Decides.{nat_tests}
-use Rattle.std.proofs.Common.{ℕ, ◌≡◌, refl, ◌∙◌, ap, List, [], ◌∷◌, Option, Some, None, arith}
+use Rattle.std.proofs.Common.{ℕ, ◌≡◌, refl, ◌∙◌, ap, List, [], ◌∷◌, Option, arith}
 use Rattle.acc_base.specs.declared.directives.Directive.TheVariants.{Enter, Exit, Wait, Step}
 use Rattle.acc_base.specs.declared.items.Item.{Item}
 use Rattle.acc_base.specs.declared.items.RegionClause.{RegionClause}
 use Rattle.acc_base.specs.declared.regions.Holding.{Holding}
-use Rattle.acc_base.specs.declared.transfers.Transfer.{Transfer}
 use Rattle.acc_base.specs.Records.{State}
 use Rattle.acc_base.specs.Register.{Register, opened, closed}
-use Rattle.acc_base.specs.Queues.{head_of}
-use Rattle.acc_base.specs.Waits.{state_made, stepped, drained, steps_of}
+use Rattle.acc_base.specs.Waits.{stepped, drained, steps_of}
 use Rattle.acc_clauses.specs.Planned.{Planned, holdings_by, finished}
 
 -- queued transfers leave the register

@@ -1,7 +1,7 @@
 -- Where a section lies after each change of the ranges.
 use Rattle.std.proofs.Common.{ℕ, ◌≡◌, refl, ap, ◌∙◌, Bool, true, false, cond, ◌&&◌, List, [], ◌∷◌, Option, Some, None, arith}
-use Rattle.std.specs.Prelude.{◌==◌, not, nat_lt, option_map}
-use Rattle.std.specs.List.{list_all, list_any}
+use Rattle.std.specs.Prelude.{◌==◌, nat_lt, option_map}
+use Rattle.std.specs.List.{list_all}
 use Rattle.std.proofs.lemmas.Bool.Decides.{nat_tests}
 use Rattle.acc_clauses.specs.Words.{Section, Range, Found}
 use Rattle.acc_base.specs.declared.mappings.Found.TheVariants.{Empty, Partly, Absent}
@@ -85,8 +85,7 @@ module _ (f : Range → Range) (stays : (r : Range) → (f r).section ≡ r.sect
   all_apart-changed s k (r ∷ rs) = ap (λ t. is_apart s t && all_apart s (changed_at k f rs)) (changed-section k r) ∙ ap (λ b. is_apart s r.section && b) (all_apart-changed s k rs)
 
   found_in-changed : (s : Section) (k : ℕ) (around : Option Range) (otherwise : Found) → found_in s (option_map (changed k) around) otherwise ≡ found_in s around otherwise
-  found_in-changed s k None otherwise = refl
-  found_in-changed s k (Some r) otherwise = rw (changed-section k r, changed-block k r) refl
+  found_in-changed s k around otherwise = grind (arith, nat_tests)
 
   pub where_is-changed : (s : Section) (k : ℕ) (ranges : List Range) → where_is s (changed_at k f ranges) ≡ where_is s ranges
   where_is-changed s k ranges = rw (around-changed s k ranges, all_apart-changed s k ranges) (ap (λ g. cond (is_empty s) Empty g) (found_in-changed s k (range_around s ranges) (cond (all_apart s ranges) Absent Partly)))

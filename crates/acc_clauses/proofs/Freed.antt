@@ -1,6 +1,6 @@
 -- Whether a step needs a block that is lent, and whether queued transfers are of one, told by the first that is.
 use Rattle.std.proofs.lemmas.Bool.Decides.{nat_tests}
-use Rattle.std.proofs.Common.{ℕ, zero, suc, ◌≡◌, ◌+◌, refl, sym, ◌∙◌, ap, List, [], ◌∷◌, ◌++◌, drop, add-one, Option, Some, Result, Ok, Err, length, arith}
+use Rattle.std.proofs.Common.{ℕ, zero, suc, ◌≡◌, ◌+◌, refl, sym, ◌∙◌, ap, List, [], ◌∷◌, ◌++◌, drop, add-one, Option, Result, Ok, Err, length, arith}
 use Rattle.std.specs.Prelude.{⊤, option_map, slice_get}
 use Rattle.std.specs.List.{flat_map}
 use Rattle.std.proofs.lemmas.List.Concat.{flat_map-cons}
@@ -15,20 +15,18 @@ use Rattle.acc_base.specs.Detaching.{block_aimed}
 use Rattle.acc_base.specs.Steps.{block_needed}
 use Rattle.acc_base.proofs.Loaned.{loans-act_all}
 use Rattle.acc_clauses.specs.declared.acted.Acted.{Acted}
-use Rattle.acc_clauses.specs.Overlays.{tasks_in, dids_in, records_after}
+use Rattle.acc_clauses.specs.Overlays.{records_after}
 use Rattle.acc_clauses.specs.Aims.{step_free}
 
 -- ---- tests in a row
 
 -- the first that refuses is told
 pub refused : (a b all : Result ⊤ Fault) (fault : Fault) → (a >> b) ≡ all → Err fault ≡ a → Err fault ≡ all
-refused (Ok x) b all fault e h = cc
-refused (Err other) b all fault e h = h ∙ e
+refused a b all fault e h = grind (arith, nat_tests)
 
 -- where it passes, the rest is told
 pub passed : (a b all : Result ⊤ Fault) (x : ⊤) → (a >> b) ≡ all → Ok x ≡ a → b ≡ all
-passed (Ok y) b all x e h = e
-passed (Err fault) b all x e h = cc
+passed a b all x e h = grind (arith, nat_tests)
 
 -- ---- a step
 

@@ -1,22 +1,20 @@
 -- What the copy of a task's section leaves of the parts, made at once or put into a queue.
-use Rattle.std.proofs.Common.{ℕ, ◌≡◌, ◌<◌, ◌≤◌, refl, sym, ap, subst, Bool, true, false, cond, ◌&&◌, [], length, Option, Some, None, Ok, arith}
-use Rattle.std.specs.Prelude.{nat_le, unwrap_or, option_map, IsSome, is_some}
+use Rattle.std.proofs.Common.{ℕ, ◌≡◌, ◌<◌, ◌≤◌, refl, subst, Bool, true, false, cond, ◌&&◌, [], length, Option, Some, None, arith}
+use Rattle.std.specs.Prelude.{IsSome, is_some}
 use Rattle.std.proofs.lemmas.Bool.Decides.{nat_tests}
-use Rattle.acc_base.proofs.Judged.{not_lent_says}
-use Rattle.acc_base.specs.Loans.{is_lent, not_lent}
-use Rattle.acc_clauses.specs.Words.{Section, Item, RegionClause, Range, Task, Transfer, Step}
+use Rattle.acc_base.specs.Loans.{is_lent}
+use Rattle.acc_clauses.specs.Words.{Section, Item, RegionClause, Task, Transfer, Step}
 use Rattle.acc_base.specs.declared.events.Step.TheVariants.{Dropped, Moved}
 use Rattle.acc_base.specs.Section.{is_within}
 use Rattle.acc_base.specs.Records.{State}
 use Rattle.acc_base.specs.Ranges.{start_of}
 use Rattle.acc_base.specs.Blocks.{block_at}
-use Rattle.acc_base.specs.Queues.{queue_at, queue_room}
+use Rattle.acc_base.specs.Queues.{queue_at}
 use Rattle.acc_base.specs.Clauses.{is_attach, section_named, copies_in}
 use Rattle.acc_base.specs.Tasks.{section_of, queue_of}
 use Rattle.acc_base.specs.Transfers.{gives_bytes, first_address, transfer_at, transfer_of}
 use Rattle.acc_base.specs.Steps.{act_row, act_step}
 use Rattle.acc_base.specs.Bytes.{bytes_of, step_state}
-use Rattle.acc_base.proofs.Results.{equal_self, refused_not}
 use Rattle.acc_queues.specs.Queued.{spare_at}
 use Rattle.acc_clauses.specs.declared.environments.Environment.{Environment}
 use Rattle.acc_clauses.specs.Contents.{room_of, bare_state}
@@ -73,8 +71,7 @@ moved_as x y queue other t u e f h = subst (λ (o : Option ℕ). IsMovedBy o u x
 
 -- a transfer that is put takes the room of one
 one_put : (a b : Bool) → b ≡ true → cond a 1 0 ≤ cond (a && b) 1 0
-one_put true b e = rw e (omega arith)
-one_put false b e = omega arith
+one_put a b e = grind (arith, nat_tests)
 
 pub given_acts : (task : Task) (k : ℕ) (x y : Environment) (queue : Option ℕ) (t : Transfer) → gives_bytes task ≡ true → queue ≡ queue_of task → t ≡ transfer_at task k x.present.table.ranges → IsMovedBy queue t x y → IsGivenBy task k x y
 given_acts task k x y queue t gives named is moved =

@@ -1,19 +1,19 @@
 -- What is held stays within the range of its block, whatever step is done; and each task that leaves finds what it held.
 use Rattle.std.proofs.Common.{ℕ, suc, ◌≡◌, ◌+◌, ◌-◌, ◌≤◌, refl, sym, ◌∙◌, ap, subst, Bool, true, false, cond, List, [], ◌∷◌, map, Option, Some, None, arith}
-use Rattle.std.specs.Prelude.{◌==◌, unwrap_or, option_map}
+use Rattle.std.specs.Prelude.{◌==◌, option_map}
 use Rattle.std.specs.List.{AllByRecursion}
 use Rattle.std.proofs.lemmas.Bool.Decides.{nat_tests}
 use Rattle.std.proofs.lemmas.List.Sums.{sum_by-cons}
 use Rattle.acc_clauses.specs.Words.{Section, Range, Holding, Task, Step, Did}
 use Rattle.acc_base.specs.declared.mappings.Counter.TheVariants.{Structured}
 use Rattle.acc_base.specs.declared.tasks.Task.TheVariants.{Leave}
-use Rattle.acc_base.specs.declared.events.Step.TheVariants.{Nothing, Counted, Born, Dropped}
+use Rattle.acc_base.specs.declared.events.Step.TheVariants.{Counted, Born, Dropped}
 use Rattle.acc_base.specs.Limits.{Limits, IsWithinBounds}
 use Rattle.acc_base.specs.Section.{is_within}
 use Rattle.acc_base.specs.Records.{Records}
-use Rattle.acc_base.specs.Ranges.{range_of, structured_of, changed_at, without_range, bare_range}
+use Rattle.acc_base.specs.Ranges.{range_of, structured_of, changed_at, without_range}
 use Rattle.acc_base.specs.Register.{is_counted_block, count_held}
-use Rattle.acc_base.specs.Tasks.{section_of, recounted}
+use Rattle.acc_base.specs.Tasks.{recounted}
 use Rattle.acc_base.specs.Steps.{act_row, act_step, act, released, records_after_birth, records_after_end, with_range_changed}
 use Rattle.acc_base.specs.History.{AreJudged}
 use Rattle.acc_base.specs.Accounts.{AreRecordsSound}
@@ -94,14 +94,11 @@ counted_self k block e = let same : (k == k) ≡ true = grind (arith, nat_tests)
 
 -- what a task that leaves makes of the structured counter of a block
 leave_names : (l : Limits) (b : ℕ) (h : Holding) (step : Step) (w : Records) → IsJudgedTo l (Leave h) step w → names b step ≡ is_counted_block b h.block
-leave_names l b h Nothing w says = rw says refl
-leave_names l b h (Dropped k ended) w says = rw says.0 refl
-leave_names l b h _ w says = absurd says
+leave_names l b h step w says = grind (arith, nat_tests)
 
 -- the counters still cover what is left to undo
 covers_next : (c : Bool) (m n k : ℕ) → cond c 1 0 + n ≤ m → k ≡ cond c (m - 1) m → n ≤ k
-covers_next true m n k h e = omega (arith, h, e)
-covers_next false m n k h e = omega (arith, h, e)
+covers_next c m n k h e = grind (arith, nat_tests)
 
 -- each task of the exit from a region finds the block that its entry counted
 pub leaves_known : (l : Limits) (n : ℕ) (hs : List Holding) (dids : List Did) (w : Records) → IsWithinBounds l → AreRecordsSound l w → AreJudged l n (map Leave hs) dids w → AllByRecursion (IsHoldingWithin w) hs

@@ -1,43 +1,37 @@
 -- What look-ups before the tasks of a plan say of the records after them.
-use Rattle.std.proofs.Common.{ℕ, ◌≡◌, ◌+◌, ◌<◌, ◌≤◌, refl, sym, ap, ◌∙◌, Bool, true, false, ◌&&◌, List, [], ◌∷◌, ◌++◌, length, suc, Option, Some, None, arith, ⊎_elim, inl, inr}
-use Rattle.std.specs.Prelude.{◌==◌, not, unwrap_or, option_map, All, IfSome}
+use Rattle.std.proofs.Common.{ℕ, ◌≡◌, ◌+◌, ◌<◌, ◌≤◌, refl, sym, ap, ◌∙◌, Bool, true, false, ◌&&◌, List, [], ◌∷◌, ◌++◌, length, suc, Option, Some, arith}
+use Rattle.std.specs.Prelude.{not, unwrap_or, option_map, All, IfSome}
 use Rattle.std.specs.List.{list_all, list_any, AllByRecursion}
 use Rattle.std.proofs.lemmas.List.Folds.{list_all-append, list_any-append}
 use Rattle.std.proofs.lemmas.List.Elements.{All-from_recursion}
 use Rattle.std.proofs.lemmas.Bool.Decides.{nat_tests}
-use Rattle.acc_base.specs.declared.addresses.TheConstants.{MEMORY_MAX}
-use Rattle.acc_clauses.specs.Words.{Section, Range, Counter, Counters, Found, Task, Step}
+use Rattle.acc_clauses.specs.Words.{Section, Range, Counters, Found, Task, Step}
 use Rattle.acc_base.specs.declared.mappings.Counter.TheVariants.{Structured, Dynamic}
-use Rattle.acc_base.specs.declared.mappings.Found.TheVariants.{Absent}
-use Rattle.acc_base.specs.declared.tasks.Task.TheVariants.{Enter, Exit}
-use Rattle.acc_base.specs.declared.events.Step.TheVariants.{Born, Dropped}
-use Rattle.acc_base.specs.Limits.{Limits, IsWithinBounds, IsFromOne}
-use Rattle.acc_base.specs.Section.{is_empty, is_within, end_of, host_memory, device_memory}
+use Rattle.acc_base.specs.Limits.{Limits, IsWithinBounds}
+use Rattle.acc_base.specs.Section.{end_of, device_memory}
 use Rattle.acc_base.specs.Records.{Records}
 use Rattle.acc_base.specs.Ranges.{where_is, where_is_apart, range_of, counter_in, structured_of, dynamic_of, is_unused, ends_by}
-use Rattle.acc_base.specs.Blocks.{rounded, place_for, fits_at}
-use Rattle.acc_base.specs.Tasks.{section_of, recounted}
+use Rattle.acc_base.specs.Blocks.{place_for}
+use Rattle.acc_base.specs.Tasks.{recounted}
 use Rattle.acc_base.specs.Steps.{act}
 use Rattle.acc_base.specs.History.{AreJudged}
-use Rattle.acc_base.specs.Accounts.{AreRecordsSound, IsCounted}
+use Rattle.acc_base.specs.Accounts.{AreRecordsSound}
 use Rattle.acc_base.proofs.Results.{and_true}
-use Rattle.acc_base.proofs.Elements.{found_has, AllByRecursion-append}
-use Rattle.acc_base.proofs.Where.{absent_says}
+use Rattle.acc_base.proofs.Elements.{found_has}
 use Rattle.acc_base.proofs.Places.{place_for-found}
-use Rattle.acc_base.proofs.Judged.{IsJudgedTo, IsBirth, task_says}
+use Rattle.acc_base.proofs.Judged.{IsJudgedTo, task_says}
 use Rattle.acc_placement.specs.Ranges.{IsTakeBelow}
 use Rattle.acc_dev.specs.Device.{planned_blocks}
 use Rattle.acc_clauses.specs.declared.acted.Acted.{Acted}
 use Rattle.acc_clauses.specs.Overlays.{IsPlanned, AreUnmixed, tasks_in, dids_in, records_after, enters, birth_by, births_of, end_by, ended_of, found_by, found_over, counters_in, counters_at, recount, are_zero, counters_over}
-use Rattle.acc_clauses.proofs.Overlaid.{or_false, birth_entry, bears_none, drops_none, sound-after, counters-after, found-entered, found-left, blocks-after, births-after}
+use Rattle.acc_clauses.proofs.Overlaid.{or_false, birth_entry, sound-after, counters-after, found-entered, found-left, blocks-after, births-after}
 use Rattle.acc_present.proofs.Finding.{apart_from_none}
 use Rattle.acc_clauses.proofs.Legal.{birth_len}
 
 -- ---- where a section lies
 
 end_none : (l : Limits) (task : Task) (step : Step) (w : Records) → IsJudgedTo l task step w → enters task ≡ true → end_by step ≡ []
-end_none l task (Dropped k ended) w says none = absurd (drops_none l task k ended w says none)
-end_none l task _ w says none = refl
+end_none l task step w says none = grind (arith, nat_tests)
 
 ended_none : (l : Limits) (n : ℕ) (xs : List Acted) (w : Records) → AreJudged l n (tasks_in xs) (dids_in xs) w → list_all enters (tasks_in xs) ≡ true → ended_of xs ≡ []
 ended_none l n [] w judged all = refl
@@ -49,8 +43,7 @@ ended_none l n (x ∷ xs) w judged all =
     rw (first, rest) refl
 
 found_stays : (l : Limits) (task : Task) (step : Step) (w : Records) (s : Section) (f : Found) → IsJudgedTo l task step w → enters task ≡ false → found_by s f task step ≡ f
-found_stays l task (Born k p) w s f says none = absurd (bears_none l task k p w says none)
-found_stays l task _ w s f says none = refl
+found_stays l task step w s f says none = grind (arith, nat_tests)
 
 found_same : (l : Limits) (n : ℕ) (xs : List Acted) (w : Records) (s : Section) (f : Found) → AreJudged l n (tasks_in xs) (dids_in xs) w → list_any enters (tasks_in xs) ≡ false → found_over s f xs ≡ f
 found_same l n [] w s f judged none = refl
@@ -69,9 +62,7 @@ pub counters-planned : (l : Limits) (xs : List Acted) (w : Records) (b : ℕ) �
 counters-planned l xs w b p = counters-after l 0 xs w b p.bounds p.sound p.judged
 
 recounted_both : (task : Task) (r : Range) → is_unused (recounted task r) ≡ are_zero (recount task (counters_in r))
-recounted_both (Enter counter item queue) r = grind (arith, nat_tests)
-recounted_both (Exit true item queue) r = refl
-recounted_both _ r = refl
+recounted_both task r = grind (arith, nat_tests)
 
 -- both counters of a range that is looked for; both are 0 where there is none
 abbrev counters_found : Option Range → Counters
@@ -85,16 +76,13 @@ above_not : (r : Range) → IsReferenced r → are_zero (counters_in r) ≡ fals
 above_not r above = grind (arith, nat_tests)
 
 unless : (z x y : Bool) → z ≡ false → x ≡ y → x ≡ (not z && y)
-unless true x y e f = cc
-unless false x y e f = f
+unless z x y e f = grind (arith, nat_tests)
 
 ends_found : (task : Task) (o : Option Range) → IfSome o IsReferenced → unwrap_or (option_map (λ r. is_unused (recounted task r)) o) false ≡ (not (are_zero (counters_found o)) && are_zero (recount task (counters_found o)))
-ends_found task None above = refl
-ends_found task (Some r) above = unless (are_zero (counters_in r)) (is_unused (recounted task r)) (are_zero (recount task (counters_in r))) (above_not r above) (recounted_both task r)
+ends_found task o above = grind (arith, nat_tests)
 
 found_above : (l : Limits) (w : Records) (b : ℕ) (o : Option Range) → range_of b w.ranges ≡ o → AreRecordsSound l w → IfSome o IsReferenced
-found_above l w b None e h = tt
-found_above l w b (Some r) e h = grind (arith, nat_tests, found_has)
+found_above l w b o e h = grind (arith, nat_tests, found_has)
 
 -- a range is mapped just as long as one of its counters is above zero
 pub ends-planned : (l : Limits) (xs : List Acted) (w : Records) (task : Task) (b : ℕ) → IsPlanned l xs w
@@ -117,8 +105,7 @@ place_below : (l : Limits) (w : Records) (size p : ℕ) → place_for (device_me
 place_below l w size p e = grind (arith, nat_tests, place_for-found (device_memory l.device) w.blocks size, and_true)
 
 take_by : (l : Limits) (task : Task) (step : Step) (w : Records) → IsWithinBounds l → IsJudgedTo l task step w → AllByRecursion (IsTakeBelow (end_of (device_memory l.device))) (birth_by task step)
-take_by l task (Born k p) w bounds says = grind (arith, nat_tests, birth_entry, birth_len, place_below)
-take_by l task _ w bounds says = tt
+take_by l task step w bounds says = grind (arith, nat_tests, birth_entry, birth_len, place_below)
 
 takes : (l : Limits) (n : ℕ) (xs : List Acted) (w : Records) → IsWithinBounds l → AreJudged l n (tasks_in xs) (dids_in xs) w → AllByRecursion (IsTakeBelow (end_of (device_memory l.device))) (births_of xs)
 takes l n [] w bounds judged = tt

@@ -1,27 +1,26 @@
 -- A step that a task is judged to do can be done.
-use Rattle.std.proofs.Common.{ℕ, ◌≡◌, ◌+◌, ◌<◌, ◌≤◌, ◌^◌, refl, sym, ◌∙◌, subst, true, false, List, [], ◌∷◌, Option, Some, None, arith}
+use Rattle.std.proofs.Common.{ℕ, ◌≡◌, ◌+◌, ◌<◌, ◌≤◌, ◌^◌, sym, ◌∙◌, subst, true, false, List, [], ◌∷◌, Option, Some, None, arith}
 use Rattle.std.specs.Prelude.{◌==◌, IsSome}
 use Rattle.std.specs.List.{AllByRecursion, AllZip}
 use Rattle.std.proofs.lemmas.Bool.Decides.{nat_tests}
 use Rattle.acc_base.specs.declared.addresses.TheConstants.{MEMORY_MAX}
 use Rattle.acc_clauses.specs.Words.{Section, Range, Block, Loan, Task, Step}
-use Rattle.acc_base.specs.Loans.{loan_of, is_lent}
-use Rattle.std.specs.Prelude as tests
+use Rattle.acc_base.specs.Loans.{is_lent}
 use Rattle.acc_base.specs.declared.mappings.Found.TheVariants.{Inside}
 use Rattle.acc_base.specs.declared.tasks.Task.TheVariants.{Enter, Leave, Exit, Move}
 use Rattle.acc_base.specs.declared.events.Step.TheVariants.{Nothing, Counted, Born, Dropped, Moved}
 use Rattle.acc_base.specs.Limits.{Limits, IsWithinBounds, IsFromOne}
-use Rattle.acc_base.specs.Section.{end_of, is_within, is_empty, host_memory, device_memory}
+use Rattle.acc_base.specs.Section.{end_of, is_within, host_memory, device_memory}
 use Rattle.acc_base.specs.Queues.{pins_of}
 use Rattle.acc_base.specs.Records.{Records, Memory, State}
 use Rattle.acc_base.specs.Ranges.{where_is, range_of}
 use Rattle.acc_base.specs.Blocks.{block_at}
 use Rattle.acc_base.specs.Tasks.{section_of}
-use Rattle.acc_base.specs.Accounts.{IsHostSection, IsMapped, IsCounted, IsMemoryOf, AreRecordsSound, AreMemoriesSized, IsLoanSound}
+use Rattle.acc_base.specs.Accounts.{IsHostSection, IsMapped, IsCounted, IsMemoryOf, AreRecordsSound, AreMemoriesSized}
 use Rattle.acc_base.proofs.Results.{equal}
 use Rattle.acc_base.proofs.Elements.{AllByRecursion-weaker, AllByRecursion-both, found_has}
 use Rattle.acc_base.proofs.Lookups.{at-own}
-use Rattle.acc_base.proofs.Where.{IsInsideOf, inside_says, absent_says}
+use Rattle.acc_base.proofs.Where.{IsInsideOf, inside_says}
 use Rattle.acc_base.proofs.Judged.{IsBirth, IsInRangeOf, IsJudgedTo}
 use Rattle.acc_base.proofs.Sound.{ranges_born}
 use Rattle.acc_clauses.specs.Acts.{IsMappedAround, IsKnown, CanMove, CanBear, CanAct}
@@ -95,8 +94,7 @@ unborn_free l w k number h = grind (arith, nat_tests, equal, found_has, ranges_b
 
 -- a look-up that does not find nothing finds something
 not_none : {X : Type 0} (o : Option X) → (o ≡ None → ⊥) → IsSome o
-not_none None h = absurd (h refl)
-not_none (Some x) h = refl
+not_none o h = grind (arith, nat_tests)
 
 -- ---- what each step needs
 

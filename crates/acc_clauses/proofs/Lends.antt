@@ -1,6 +1,6 @@
 -- A block is lent, and comes back: what the device needs for it, and what it leaves of the parts and of a store.
-use Rattle.std.proofs.Common.{ℕ, ◌≡◌, ◌+◌, ◌-◌, ◌<◌, ◌≤◌, refl, sym, ◌∙◌, ap, subst, Bool, true, false, cond, List, [], ◌∷◌, Option, Some, None, Ok, arith}
-use Rattle.std.specs.Prelude.{◌==◌, not, is_none, is_some, unwrap_or, option_map, IsSome, nat_lt, length}
+use Rattle.std.proofs.Common.{ℕ, ◌≡◌, ◌+◌, ◌-◌, ◌<◌, ◌≤◌, refl, sym, ◌∙◌, ap, subst, Bool, true, false, List, [], ◌∷◌, Option, Some, Ok, arith}
+use Rattle.std.specs.Prelude.{◌==◌, not, is_none, is_some, IsSome, length}
 use Rattle.std.proofs.lemmas.Bool.Decides.{nat_tests}
 use Rattle.std.specs.List.{AllByRecursion, AllZip}
 use Rattle.acc_clauses.specs.Words.{Section, Range, Block, Loan, Holding, Event}
@@ -50,8 +50,7 @@ loan_there l w loan h sound =
     record { block = has.0.0; at = subst (λ n. block_at n w.blocks ≡ Some has.0.0) (equal sound.range.block loan.block has.1) has.0.1; len = has.0.2 }
 
 some_block : (o : Option Block) (b : Block) → o ≡ Some b → IsSome o
-some_block None b e = cc
-some_block (Some c) b e = refl
+some_block o b e = grind (arith, nat_tests)
 
 pub lend_there : (l : Limits) (x : Environment) (n : Numbers) (loan : Loan) → ArePartsSound l x n → IsLoanSound x.present.table.ranges loan → HasBlock x.device loan.block
 lend_there l x n loan parts sound = grind (arith, nat_tests, loan_there l (state_of x n).records loan parts.sound.records sound, some_block)
@@ -103,8 +102,7 @@ length-without block (l ∷ ls) rising lent = go (l.block == block) refl (length
 
 -- what is a lease's is some loan
 loan_some : (lease : Leased) (o : Option Loan) → is_loan_of lease o ≡ true → is_some o ≡ true
-loan_some lease None e = cc
-loan_some lease (Some l) e = refl
+loan_some lease o e = grind (arith, nat_tests)
 
 -- the block of a lease that is returnable is lent
 returnable_lent : (lease : Leased) (w : Records) → is_returnable lease w.blocks w.loans ≡ true → is_lent lease.block w.loans ≡ true

@@ -1,15 +1,13 @@
 -- The first transfer of a queue can be made, and leaves the parts sound.
-use Rattle.std.proofs.Common.{ℕ, ◌≡◌, ◌+◌, ◌-◌, ◌≤◌, sym, ◌∙◌, subst, true, List, [], ◌∷◌, length, Some, arith, Ok, false, ap}
-use Rattle.std.specs.Prelude.{drop, take}
+use Rattle.std.proofs.Common.{ℕ, ◌≡◌, ◌+◌, ◌-◌, ◌≤◌, sym, ◌∙◌, subst, true, List, [], ◌∷◌, length, Some, arith, Ok, ap}
+use Rattle.std.specs.Prelude.{take}
 use Rattle.std.specs.List.{AllByRecursion}
 use Rattle.std.proofs.lemmas.Bool.Decides.{nat_tests}
-use Rattle.acc_base.specs.Loans.{is_lent, none_lent}
+use Rattle.acc_base.specs.Loans.{none_lent}
 use Rattle.acc_clauses.specs.Words.{Section, Transfer}
 use Rattle.acc_base.specs.Limits.{Limits, IsWithinBounds}
-use Rattle.acc_base.specs.Section.{is_within, host_memory}
+use Rattle.acc_base.specs.Section.{is_within}
 use Rattle.acc_base.specs.Records.{State}
-use Rattle.acc_base.specs.Blocks.{block_at}
-use Rattle.acc_base.specs.Bytes.{bytes_of}
 use Rattle.acc_base.specs.Queues.{queue_at, head_of}
 use Rattle.acc_base.specs.Waits.{stepped, records_drained, drained}
 use Rattle.acc_base.specs.Accounts.{IsTransferSound, AreRecordsSound, AreMemoriesSized}

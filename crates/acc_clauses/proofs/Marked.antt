@@ -1,6 +1,6 @@
 -- What the marks of blocks tell: how many queued transfers name each, and whether its mapping has ended. They do after each change.
-use Rattle.std.proofs.Common.{ℕ, ◌≡◌, ◌+◌, ◌*◌, ◌^◌, ◌<◌, ◌≤◌, refl, sym, ◌∙◌, ap, subst, Bool, true, false, cond, List, [], ◌∷◌, ◌++◌, length, Option, Some, None, arith}
-use Rattle.std.specs.Prelude.{◌==◌, not, map, is_none, IsSome, nat_lt, option_map, unwrap_or}
+use Rattle.std.proofs.Common.{ℕ, ◌≡◌, ◌+◌, ◌*◌, ◌^◌, ◌<◌, ◌≤◌, refl, sym, ◌∙◌, ap, Bool, true, false, cond, List, [], ◌∷◌, ◌++◌, length, Option, Some, None, arith}
+use Rattle.std.specs.Prelude.{◌==◌, map, is_none, IsSome, nat_lt, option_map}
 use Rattle.std.specs.List.{AllByRecursion, AllZip}
 use Rattle.std.proofs.lemmas.Bool.Decides.{nat_tests}
 use Rattle.std.proofs.lemmas.List.Sums.{sum_by-cons, count_by-le-length}
@@ -16,7 +16,7 @@ use Rattle.acc_base.proofs.Lookups.{at-changed, at-without_same, at-without_othe
 use Rattle.acc_base.proofs.Counting.{with_new}
 use Rattle.acc_base.proofs.Queued.{pins-put, pins-popped}
 use Rattle.acc_queues.specs.Queued.{AreQueues}
-use Rattle.acc_dev.specs.Marks.{Mark, new_mark, mark_at, pins_at, is_ended_at, mark_changed, with_pin, without_pin, with_end, without_mark, IsMarkOf}
+use Rattle.acc_dev.specs.Marks.{Mark, new_mark, pins_at, is_ended_at, mark_changed, with_pin, without_pin, with_end, without_mark, IsMarkOf}
 use Rattle.acc_clauses.specs.Contents.{IsMarkRight}
 
 -- ---- marks that change or go

@@ -1,7 +1,7 @@
 -- What a copy between host memory and a block of a device leaves.
 use Rattle.std.proofs.lemmas.Bool.Decides.{nat_tests}
-use Rattle.std.proofs.Common.{ℕ, ◌≡◌, ◌+◌, ◌-◌, ◌<◌, refl, sym, ◌∙◌, ap, subst, Bool, true, false, cond, List, [], ◌∷◌, length, map, Option, Some, None, arith}
-use Rattle.std.specs.Prelude.{◌==◌, find, IsSome, slice_index, unwrap_or, option_map, take, drop, slice_range}
+use Rattle.std.proofs.Common.{ℕ, ◌≡◌, ◌+◌, ◌-◌, ◌<◌, sym, ◌∙◌, ap, subst, true, false, List, [], ◌∷◌, length, map, Option, Some, arith}
+use Rattle.std.specs.Prelude.{IsSome, slice_index, take, drop, slice_range}
 use Rattle.std.specs.List.{AllByRecursion, AllZip}
 use Rattle.acc_clauses.specs.Words.{Section, Block, Loan}
 use Rattle.acc_base.specs.Loans.{is_lent}
@@ -10,7 +10,6 @@ use Rattle.acc_base.specs.Records.{Memory}
 use Rattle.acc_base.specs.Blocks.{block_at}
 use Rattle.acc_base.specs.Bytes.{bytes_of, written_bytes, memory_changed, bytes_moved_in, bytes_moved_out}
 use Rattle.acc_base.specs.Accounts.{EachPair, IsClearOf, IsMemoryOf}
-use Rattle.acc_base.proofs.Results.{equal}
 use Rattle.acc_base.proofs.Elements.{AllByRecursion-weaker, EachPair-weaker}
 use Rattle.acc_base.proofs.Lookups.{at-own}
 use Rattle.acc_base.specs.Overwriting.{overwritten}
@@ -58,8 +57,7 @@ bytes_of-len ls block _ _ b h free e = absurd h
 
 -- what is there is something
 pub some_of : {X : Type 0} (o : Option X) → IsSome o → (x : X) × (o ≡ Some x)
-some_of None h = cc
-some_of (Some x) h = (x, refl)
+some_of o h = grind (arith, nat_tests)
 
 -- each memory of a block that is there and not lent is as long as its bytes
 lens_by : (d : DeviceState) (block : ℕ) → HasBlocksApart d → AllZip (IsMemoryOf d.loans) d.memories d.blocks → is_lent block d.loans ≡ false → IsSome (block_at block d.blocks) → AllByRecursion (λ m. m.block ≡ block → length m.bytes ≡ length (bytes_of block d.memories)) d.memories

@@ -1,16 +1,12 @@
 -- What is read of the records after tasks is what the overlays give of the records before them.
 use Rattle.std.proofs.lemmas.Bool.Decides.{nat_tests}
-use Rattle.std.proofs.Common.{ℕ, ◌≡◌, ◌+◌, refl, sym, ap, ◌∙◌, subst, Bool, true, false, cond, ◌||◌, List, [], ◌∷◌, ◌++◌, length, suc, arith}
-use Rattle.std.specs.Prelude.{◌==◌}
+use Rattle.std.proofs.Common.{ℕ, ◌≡◌, ◌+◌, refl, sym, ap, ◌∙◌, Bool, true, false, cond, ◌||◌, List, [], ◌∷◌, ◌++◌, length, suc, arith}
 use Rattle.std.specs.List.{list_all, list_any}
 use Rattle.std.proofs.lemmas.List.{append-nil, append_assoc, length-append}
-use Rattle.std.proofs.lemmas.Bool.{false≢true}
 use Rattle.acc_clauses.specs.Words.{Section, Range, Counters, Counter, Task, Step, Did}
 use Rattle.acc_base.specs.declared.mappings.Counter.TheVariants.{Structured, Dynamic}
-use Rattle.acc_base.specs.declared.tasks.Task.TheVariants.{Enter, Exit}
-use Rattle.acc_base.specs.declared.events.Step.TheVariants.{Counted, Born, Dropped}
+use Rattle.acc_base.specs.declared.events.Step.TheVariants.{Born, Dropped}
 use Rattle.acc_base.specs.Limits.{Limits, IsWithinBounds}
-use Rattle.acc_base.specs.Section.{is_apart}
 use Rattle.acc_base.specs.Records.{Records}
 use Rattle.acc_base.specs.Ranges.{where_is, where_is_apart, counter_of, bare_range}
 use Rattle.acc_base.specs.Tasks.{section_of, recounted}
@@ -31,42 +27,32 @@ use Rattle.acc_clauses.proofs.Founds.{where_is-with, where_is-changed, apart-cha
 use Rattle.acc_present.proofs.Finding.{apart_from_none}
 
 pub or_false : (a b : Bool) → (a || b) ≡ false → (a ≡ false) × (b ≡ false)
-or_false true b e = cc
-or_false false b e = (refl, e)
+or_false a b e = grind (arith, nat_tests)
 
 -- ---- one task
 
 pub birth_entry : (l : Limits) (task : Task) (k p : ℕ) (w : Records) → IsJudgedTo l task (Born k p) w → IsBirth l (section_of task) k p w
-birth_entry l (Enter counter item queue) k p w says = says
-birth_entry l _ k p w says = absurd says
+birth_entry l task k p w says = grind (arith, nat_tests)
 
 -- a task that enters not bears no block
 pub bears_none : (l : Limits) (task : Task) (k p : ℕ) (w : Records) → IsJudgedTo l task (Born k p) w → enters task ≡ false → ⊥
-bears_none l (Enter counter item queue) k p w says e = false≢true (sym e)
-bears_none l _ k p w says e = says
+bears_none l task k p w says e = grind (arith, nat_tests)
 
 -- a task that enters drops none
 pub drops_none : (l : Limits) (task : Task) (k : ℕ) (ended : Bool) (w : Records) → IsJudgedTo l task (Dropped k ended) w → enters task ≡ true → ⊥
-drops_none l (Enter counter item queue) k ended w says e = says
-drops_none l _ k ended w says e = false≢true e
+drops_none l task k ended w says e = grind (arith, nat_tests)
 
 moved_both : (task : Task) (c : Counters) → ◌≡◌ {A = Counters} (record { structured = moved_by Structured task c.structured; dynamic = moved_by Dynamic task c.dynamic }) (recount task c)
-moved_both (Enter Structured item queue) c = refl
-moved_both (Exit true item queue) c = refl
-moved_both _ c = refl
+moved_both task c = grind (arith, nat_tests)
 
 both_by : (b : Bool) (task : Task) (s d s' d' : ℕ) → s' ≡ cond b (moved_by Structured task s) s → d' ≡ cond b (moved_by Dynamic task d) d
     → ◌≡◌ {A = Counters} (record { structured = s'; dynamic = d' }) (cond b (recount task (record { structured = s; dynamic = d })) (record { structured = s; dynamic = d }))
-both_by true task s d s' d' e f = rw (e, f) (moved_both task (record { structured = s; dynamic = d }))
-both_by false task s d s' d' e f = rw (e, f) refl
+both_by b task s d s' d' e f = grind (arith, nat_tests)
 
 -- both counters of a block after a task
 counters-left : (task : Task) (step : Step) (b : ℕ) (ranges left : List Range)
     → ((c : Counter) → counter_of c b left ≡ cond (names b step) (moved_by c task (counter_of c b ranges)) (counter_of c b ranges)) → counters_at b left ≡ counters_by b (counters_at b ranges) task step
-counters-left task (Counted k) b ranges left each = both_by (k == b) task _ _ _ _ (each Structured) (each Dynamic)
-counters-left task (Born k p) b ranges left each = both_by (k == b) task _ _ _ _ (each Structured) (each Dynamic)
-counters-left task (Dropped k ended) b ranges left each = both_by (k == b) task _ _ _ _ (each Structured) (each Dynamic)
-counters-left task _ b ranges left each = both_by false task _ _ _ _ (each Structured) (each Dynamic)
+counters-left task step b ranges left each = grind (arith, nat_tests)
 
 new_is : (task : Task) (k : ℕ) (s : Section) → (recounted task (bare_range s k)).section ≡ s
 new_is task k s = (recounted_keeps task).section (bare_range s k)
@@ -75,20 +61,13 @@ new_is task k s = (recounted_keeps task).section (bare_range s k)
 found-step : (l : Limits) (task : Task) (step : Step) (w : Records) (s : Section) → IsJudgedTo l task step w → enters task ≡ true
     → found_by s (where_is s w.ranges) task step ≡ where_is s (act_step task step w).ranges
 unfolding act_step act_row with_range_changed records_after_birth
-found-step l task (Counted k) w s says none = sym (where_is-changed (recounted task) (recounted_keeps task).section (recounted_keeps task).block s k w.ranges)
-found-step l task (Born k p) w s says none = grind (arith, nat_tests, recounted_keeps, absent_says, birth_entry, where_is-with)
-found-step l task (Dropped k ended) w s says none = absurd (drops_none l task k ended w says none)
-found-step l task _ w s says none = refl
+found-step l task step w s says none = grind (arith, nat_tests, where_is-changed, recounted_keeps, absent_says, birth_entry, where_is-with, drops_none)
 
 -- where a section lies apart from ended ranges, before the step of one that does not and after it
 apart-step : (l : Limits) (task : Task) (step : Step) (w : Records) (s : Section) (ended : List ℕ) → IsJudgedTo l task step w → enters task ≡ false
     → where_is_apart s (end_by step ++ ended) w.ranges ≡ where_is_apart s ended (act_step task step w).ranges
 unfolding act_step act_row with_range_changed records_after_end released
-apart-step l task (Counted k) w s ended says none = sym (apart-changed (recounted task) (recounted_keeps task).section (recounted_keeps task).block s ended k w.ranges)
-apart-step l task (Born k p) w s ended says none = absurd (bears_none l task k p w says none)
-apart-step l task (Dropped k true) w s ended says none = apart_more s ended k w.ranges
-apart-step l task (Dropped k false) w s ended says none = sym (apart-changed (recounted task) (recounted_keeps task).section (recounted_keeps task).block s ended k w.ranges)
-apart-step l task _ w s ended says none = refl
+apart-step l task step w s ended says none = grind (arith, nat_tests, apart-changed, recounted_keeps, bears_none, apart_more)
 
 planned_more : (xs ys : List (ℕ × ℕ)) (n : ℕ) → planned_blocks n (xs ++ ys) ≡ planned_blocks n xs ++ planned_blocks (n + length xs) ys
 planned_more [] ys n = let e : n ≡ n + 0 = omega arith in ap (λ m. planned_blocks m ys) e
@@ -101,9 +80,7 @@ record IsBornBy (task : Task) (step : Step) (w v : Records) : Type 0 where
 
 born-step : (l : Limits) (task : Task) (step : Step) (w : Records) → IsJudgedTo l task step w → enters task ≡ true → IsBornBy task step w (act_step task step w)
 unfolding act_step act_row with_range_changed records_after_birth
-born-step l task (Born k p) w says none = grind (arith, nat_tests)
-born-step l task (Dropped k ended) w says none = absurd (drops_none l task k ended w says none)
-born-step l task _ w says none = record { blocks = sym (append-nil w.blocks); births = omega arith }
+born-step l task step w says none = grind (arith, nat_tests, drops_none, append-nil)
 
 -- and the same of the whole task
 found-act : (l : Limits) (task : Task) (did : Did) (w : Records) (s : Section) → IsJudgedTo l task did.step w → enters task ≡ true → found_by s (where_is s w.ranges) task did.step ≡ where_is s (act task did w).ranges

@@ -1,6 +1,6 @@
 -- A task judged whole after others: its step, and what becomes of its pointer.
 use Rattle.std.proofs.lemmas.Bool.Decides.{nat_tests}
-use Rattle.std.proofs.Common.{ℕ, ◌≡◌, refl, sym, ap, ◌∙◌, Bool, true, false, cond, List, [], ◌∷◌, ◌++◌, length, Option, Some, None, Result, Ok, Err, arith}
+use Rattle.std.proofs.Common.{ℕ, ◌≡◌, refl, ap, ◌∙◌, Bool, true, false, cond, List, [], ◌∷◌, ◌++◌, length, Option, Some, None, Result, Ok, Err, arith}
 use Rattle.std.specs.Prelude.{◌||◌, ⊤}
 use Rattle.std.proofs.lemmas.Bool.{false≢true}
 use Rattle.acc_clauses.specs.Words.{Aim, Counter, Item, RegionClause, Task, Step, Fault}
@@ -9,10 +9,8 @@ use Rattle.acc_base.specs.Results.{◌>>=◌, ◌>>◌}
 use Rattle.acc_base.specs.Limits.{Limits}
 use Rattle.acc_base.specs.Records.{Records, State}
 use Rattle.acc_base.specs.Clauses.{is_attach, pointer_checked}
-use Rattle.acc_base.specs.Tasks.{pointer_of, queue_of, checked}
-use Rattle.acc_base.specs.Transfers.{transfer_of, room_for}
-use Rattle.acc_base.specs.Loans.{not_lent}
-use Rattle.acc_base.specs.Steps.{is_action, pointer_aimed, did_of, block_detached, block_needed, judge_row, judge_step}
+use Rattle.acc_base.specs.Tasks.{pointer_of, checked}
+use Rattle.acc_base.specs.Steps.{is_action, pointer_aimed, did_of, block_detached, judge_row, judge_step}
 use Rattle.acc_base.specs.Bytes.{step_state}
 use Rattle.acc_base.specs.Pointers.{aimed}
 use Rattle.acc_base.specs.Detaching.{block_aimed}
@@ -58,12 +56,10 @@ both_judged l n xs ys task step aim s e f more = record { did = record { step = 
 -- pointers are left alone so far
 half_state : (task : Task) (step : Step) (s : State) → enters task ≡ true → act_state task (did_of step) s ≡ step_state task step s
 unfolding act_state aimed
-half_state (Enter counter item queue) step s entry = refl
-half_state _ step s entry = absurd (false≢true entry)
+half_state task step s entry = grind (arith, nat_tests)
 
 half_legal : (l : Limits) (task : Task) (step : Step) (w : Records) → enters task ≡ true → IsAimLegal l task (did_of step) w
-half_legal l (Enter counter item queue) step w entry = tt
-half_legal l _ step w entry = absurd (false≢true entry)
+half_legal l task step w entry = grind (arith, nat_tests)
 
 pub half_planned : (l : Limits) (n : ℕ) (xs ys : List Acted) (task : Task) (step : Step) (w : Records) → enters task ≡ true → n ≡ length xs → IsPlanned l xs w
     → judge_step l n task (records_after xs w) ≡ Ok step → ys ≡ xs ++ record { task = task; did = did_of step } ∷ [] → IsPlanned l ys w
@@ -82,8 +78,7 @@ aimed_checked l n _ step w pointer entry e named = absurd (false≢true entry)
 
 aim_entered : (l : Limits) (n : ℕ) (task : Task) (step : Step) (s : State) → enters task ≡ true → judge_aim l n task step s ≡ attach_if l n (pointer_aimed task step) (step_state task step s)
 unfolding judge_aim
-aim_entered l n (Enter counter item queue) step s entry = refl
-aim_entered l n _ step s entry = absurd (false≢true entry)
+aim_entered l n task step s entry = grind (arith, nat_tests)
 
 -- its pointer is judged in what its step left
 pub entry_aim : (l : Limits) (n : ℕ) (xs ys : List Acted) (task : Task) (step : Step) (named : Option ℕ) (s : State) → enters task ≡ true → ys ≡ xs ++ record { task = task; did = did_of step } ∷ [] → pointer_aimed task step ≡ named
@@ -95,13 +90,11 @@ entry_aim l n xs ys task step named s entry more is = grind (arith, nat_tests, s
 -- it is detached in what was there before
 aim_left : (l : Limits) (n : ℕ) (task : Task) (step : Step) (s : State) → enters task ≡ false → judge_aim l n task step s ≡ Ok (aim_before task step s.records)
 unfolding judge_aim
-aim_left l n (Enter counter item queue) step s other = absurd (false≢true (sym other))
-aim_left l n _ step s other = refl
+aim_left l n task step s other = grind (arith, nat_tests)
 
 -- a task that is no entry
 pub enters_not : (task : Task) → ((counter : Counter) (item : Item RegionClause) (queue : Option ℕ) → task ≡ Enter counter item queue → ⊥) → enters task ≡ false
-enters_not (Enter counter item queue) other = absurd (other counter item queue refl)
-enters_not _ other = refl
+enters_not task other = grind (arith, nat_tests)
 
 -- so both are what it does
 pub left_judged : (l : Limits) (n : ℕ) (xs ys : List Acted) (task : Task) (step : Step) (aim : Aim) (s : State) → enters task ≡ false → judge_step l n task (records_after xs s.records) ≡ Ok step
@@ -112,13 +105,11 @@ left_judged l n xs ys task step aim s other e before more = grind (arith, nat_te
 
 -- the block in which a task detaches a pointer before its step
 detached-before : (task : Task) (step : Step) (w : Records) → block_aimed (aim_before task step w) ≡ block_detached task step w
-detached-before (Enter counter item queue) step w = refl
-detached-before _ step w = refl
+detached-before task step w = grind (arith, nat_tests)
 
 -- three tests in a row
 three_tests : (a b c : Result ⊤ Fault) (step : Step) → (a >> (b >> (c >> Ok step))) ≡ ((a >> (b >> c)) >> Ok step)
-three_tests (Ok x) (Ok y) c step = refl
-three_tests _ _ c step = refl
+three_tests a b c step = grind (arith, nat_tests)
 
 -- a step is refused as it cannot be done
 pub step_after : (l : Limits) (n : ℕ) (task : Task) (step : Step) (before : Aim) (w : Records) (r : Result ⊤ Fault) → Ok step ≡ judge_row l n task w → before ≡ aim_before task step w → r ≡ step_free task step before l.queue_cap w

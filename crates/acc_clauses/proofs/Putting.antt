@@ -1,29 +1,28 @@
 -- What a transfer leaves of the parts that is made at once, that is put into a queue, or that is the first one of a queue.
-use Rattle.std.proofs.Common.{ℕ, ◌≡◌, ◌+◌, ◌<◌, ◌≤◌, refl, sym, ◌∙◌, ap, subst, Bool, true, false, cond, List, length, Option, Some, None, arith}
-use Rattle.std.specs.Prelude.{◌==◌, not, ◌||◌, is_none, is_some, IsSome, nat_lt}
+use Rattle.std.proofs.Common.{ℕ, ◌≡◌, ◌+◌, ◌<◌, ◌≤◌, true, false, cond, List, length, Some, None, arith}
+use Rattle.std.specs.Prelude.{is_none, IsSome}
 use Rattle.std.specs.List.{AllZip}
 use Rattle.std.proofs.lemmas.Bool.Decides.{nat_tests}
 use Rattle.std.proofs.lemmas.List.{get_or_past}
-use Rattle.acc_clauses.specs.Words.{Transfer, Range}
+use Rattle.acc_clauses.specs.Words.{Transfer}
 use Rattle.acc_base.specs.Records.{Records}
 use Rattle.acc_base.specs.Ranges.{range_of}
 use Rattle.acc_base.specs.Blocks.{block_at}
 use Rattle.acc_base.specs.Attachments.{without_attachments}
 use Rattle.acc_base.specs.Queues.{head_of, put, popped, pins_of}
-use Rattle.acc_base.specs.Bytes.{host_made, memories_made, memories_kept}
+use Rattle.acc_base.specs.Bytes.{host_made, memories_made}
 use Rattle.acc_base.specs.Steps.{is_in_use, released}
-use Rattle.acc_base.specs.Waits.{state_made, stepped}
+use Rattle.acc_base.specs.Waits.{stepped}
 use Rattle.acc_base.specs.Accounts.{IsMemoryOf}
-use Rattle.acc_base.proofs.Results.{equal, equal_self}
 use Rattle.acc_base.proofs.KeptMemories.{memories_kept-without}
 use Rattle.acc_queues.specs.Queued.{QueuesState, AreRoomsKept, IsRoomTaken, spare_at}
 use Rattle.acc_dev.specs.Marks.{pins_at, is_ended_at, IsMarkOf}
 use Rattle.acc_dev.specs.Device.{DeviceState, IsPinned, IsUnpinned, IsRetired}
 use Rattle.acc_attach.specs.Attached.{AttachedState}
 use Rattle.acc_clauses.specs.declared.environments.Environment.{Environment}
-use Rattle.acc_clauses.specs.Contents.{AreMarked, state_of, bare_state}
+use Rattle.acc_clauses.specs.Contents.{AreMarked, bare_state}
 use Rattle.acc_clauses.specs.Overlays.{is_queue}
-use Rattle.acc_clauses.specs.Acts.{moved_state, IsMovedBy, IsSteppedBy}
+use Rattle.acc_clauses.specs.Acts.{IsMovedBy, IsSteppedBy}
 use Rattle.acc_clauses.proofs.Changes.{state_by, room_same, none_taken}
 use Rattle.acc_clauses.proofs.Marked.{IsMarkAt, mark_told, pins_popped, marks_put, marks_unpinned, marks_drained}
 

@@ -1,20 +1,18 @@
 -- How many transfers wait in a queue after tasks.
-use Rattle.std.proofs.Common.{ℕ, ◌≡◌, ◌+◌, ◌<◌, ◌≢◌, refl, ◌∙◌, Bool, true, false, cond, ◌&&◌, List, [], ◌∷◌, ◌++◌, length, Option, Some, None, Ok, arith}
+use Rattle.std.proofs.Common.{ℕ, ◌≡◌, ◌+◌, ◌<◌, ◌∙◌, Bool, cond, ◌&&◌, List, [], ◌∷◌, length, Option, Some, None, Ok, arith}
 use Rattle.std.specs.Prelude.{◌==◌, nat_le, is_some}
 use Rattle.std.proofs.lemmas.Bool.Decides.{nat_tests}
 use Rattle.std.proofs.lemmas.List.{length-set, length-append, get_or-set_same, get_or-set_other}
 use Rattle.acc_clauses.specs.Words.{Range, Transfer, Task, Step, Did}
 use Rattle.acc_base.specs.declared.transfers.TheConstants.{QUEUE_COUNT}
-use Rattle.acc_base.specs.declared.events.Step.TheVariants.{Born, Dropped}
 use Rattle.acc_base.specs.declared.faults.Fault.TheVariants.{QueueFull}
 use Rattle.acc_base.specs.Results.{refuse_if}
 use Rattle.acc_base.specs.Limits.{Limits}
 use Rattle.acc_base.specs.Records.{Records}
 use Rattle.acc_base.specs.Queues.{queue_at, put, queue_named}
 use Rattle.acc_base.specs.Tasks.{queue_of}
-use Rattle.acc_base.specs.Transfers.{gets_bytes, gives_bytes, transfer_of, room_for, queues_after}
+use Rattle.acc_base.specs.Transfers.{transfer_of, room_for, queues_after}
 use Rattle.acc_base.specs.Steps.{records_after_birth, records_after_end, released, with_range_changed, act_row, act_step, act, act_all}
-use Rattle.acc_base.proofs.Results.{refused_not}
 use Rattle.acc_base.proofs.SameMapping.{mapping-act}
 use Rattle.acc_clauses.specs.declared.acted.Acted.{Acted}
 use Rattle.acc_clauses.specs.Overlays.{IsPlanned, tasks_in, dids_in, records_after, moves, is_queue, puts_by, puts_in}
@@ -22,19 +20,15 @@ use Rattle.acc_clauses.specs.Overlays.{IsPlanned, tasks_in, dids_in, records_aft
 -- ---- one transfer
 
 if_some : {X : Type 0} (b : Bool) (x : X) → b ≡ is_some (cond b (Some x) None)
-if_some true x = refl
-if_some false x = refl
+if_some b x = grind (arith, nat_tests)
 
 -- the step has a transfer just as the tables say
 pub moves_some : (task : Task) (step : Step) (ranges : List Range) → moves task step ≡ is_some (transfer_of task step ranges)
-moves_some task (Born k p) ranges = if_some (gets_bytes task) _
-moves_some task (Dropped k true) ranges = if_some (gives_bytes task) _
-moves_some task _ ranges = refl
+moves_some task step ranges = grind (arith, nat_tests)
 
 -- there stay as many queues
 length-after : (named : Option ℕ) (t : Option Transfer) (queues : List (List Transfer)) → length (queues_after named t queues) ≡ length queues
-length-after (Some p) (Some t) queues = length-set queues p (queue_at p queues ++ t ∷ [])
-length-after _ _ queues = refl
+length-after named t queues = grind (arith, nat_tests, length-set)
 
 -- a queue after one more transfer in some queue
 waiting-put : (q p : ℕ) (t : Transfer) (queues : List (List Transfer)) → q < length queues → length (queue_at q (put p t queues)) ≡ length (queue_at q queues) + cond (p == q) 1 0
@@ -42,17 +36,14 @@ waiting-put q p t queues there = grind (arith, nat_tests, get_or-set_same, lengt
 
 waiting-after : (q : ℕ) (named : Option ℕ) (t : Option Transfer) (queues : List (List Transfer)) → q < length queues
     → length (queue_at q (queues_after named t queues)) ≡ length (queue_at q queues) + cond (is_queue q named && is_some t) 1 0
-waiting-after q None t queues there = omega arith
-waiting-after q (Some p) None queues there = grind (arith, nat_tests)
-waiting-after q (Some p) (Some t) queues there = grind (arith, nat_tests, waiting-put)
+waiting-after q named t queues there = grind (arith, nat_tests, waiting-put)
 
 -- ---- one task
 
 -- a step puts its transfer into the queue, and nothing else changes the queues
 queues-step : (task : Task) (step : Step) (w : Records) → (act_step task step w).queues ≡ queues_after (queue_of task) (transfer_of task step w.ranges) w.queues
 unfolding act_step act_row with_range_changed records_after_birth records_after_end released
-queues-step task (Dropped k true) w = refl
-queues-step task _ w = refl
+queues-step task step w = grind (arith, nat_tests)
 
 queues-act : (task : Task) (did : Did) (w : Records) → (act task did w).queues ≡ queues_after (queue_of task) (transfer_of task did.step w.ranges) w.queues
 queues-act task did w = (mapping-act task did w).queues ∙ queues-step task did.step w
@@ -80,13 +71,11 @@ waiting-planned l xs w q p known = waiting-tasks q xs w (let all : length w.queu
 
 -- a queue that is named is there
 pub known_queue : (q : ℕ) (named : Option ℕ) → named ≡ Some q → queue_named named ≡ Ok tt → q < QUEUE_COUNT
-known_queue q None is e = cc
-known_queue q (Some p) is e = grind (arith, nat_tests)
+known_queue q named is e = grind (arith, nat_tests)
 
 -- without a queue there is room
 pub room_none : (cap : ℕ) (named : Option ℕ) (t : Option Transfer) (queues : List (List Transfer)) → named ≡ None → room_for cap named t queues ≡ Ok tt
-room_none cap None t queues is = refl
-room_none cap (Some q) t queues is = cc
+room_none cap named t queues is = grind (arith, nat_tests)
 
 -- a step without a transfer needs no room, and another has it below the limit
 pub room_told : (cap q : ℕ) (task : Task) (step : Step) (ranges : List Range) (queues : List (List Transfer)) → queue_of task ≡ Some q

@@ -3,7 +3,7 @@ use Rattle.std.proofs.Common.{ℕ, ◌≡◌, ◌<◌, ◌^◌, refl, sym, ◌�
 use Rattle.std.specs.Prelude.{◌==◌, length}
 use Rattle.std.proofs.lemmas.Bool.Decides.{nat_tests}
 use Rattle.acc_base.specs.Section.{device_memory}
-use Rattle.acc_base.specs.Loans.{is_lent, not_lent}
+use Rattle.acc_base.specs.Loans.{not_lent}
 use Rattle.acc_clauses.specs.Words.{Found, Counter, Item, RegionClause, Aim, Did, Task, Step}
 use Rattle.acc_base.specs.declared.mappings.Found.TheVariants.{Inside}
 use Rattle.acc_base.specs.declared.attachments.Aim.TheVariants as aims
@@ -14,8 +14,8 @@ use Rattle.acc_base.specs.Ranges.{where_is}
 use Rattle.acc_base.specs.Tasks.{queue_of}
 use Rattle.acc_base.specs.Transfers.{transfer_of, room_for}
 use Rattle.acc_base.specs.Bytes.{step_state}
-use Rattle.acc_base.specs.Attachments.{pointer_at, count_at, detach}
-use Rattle.acc_base.specs.Detaching.{block_in, block_with, detach_there, judge_detach, release_there, judge_release, block_aimed}
+use Rattle.acc_base.specs.Attachments.{pointer_at, detach}
+use Rattle.acc_base.specs.Detaching.{block_in, block_with, judge_detach, release_there, judge_release, block_aimed}
 use Rattle.acc_base.specs.Pointers.{aimed}
 use Rattle.acc_base.specs.Steps.{pointer_aimed, records_aimed, block_detached}
 use Rattle.acc_base.specs.Detaching.{detach_if}
@@ -32,7 +32,7 @@ use Rattle.acc_base.proofs.Memories.{step_sized, aimed_sized, act_sized}
 use Rattle.acc_clauses.specs.declared.numbers.Numbers.{Numbers}
 use Rattle.acc_clauses.specs.declared.environments.Environment.{Environment}
 use Rattle.acc_clauses.specs.Contents.{state_of, AreSizedBy, ArePartsSound, bare_state}
-use Rattle.acc_clauses.specs.Acts.{IsJudged, IsMappedAround, IsKnown, CanMove, CanAct, CanDetach, CanAim, CanEnter, CanLeave, CanQueue, CanDo, IsDoneBy}
+use Rattle.acc_clauses.specs.Acts.{IsJudged, IsMappedAround, IsKnown, CanMove, CanAct, CanAim, CanEnter, CanLeave, CanQueue, CanDo, IsDoneBy}
 use Rattle.acc_clauses.proofs.Legal.{mapped_around, can_move, can_by}
 
 -- ---- what each attachment and each detachment needs
@@ -48,10 +48,7 @@ with_pointer l s pointer block bounds h m e = go (where_is (pointer_at pointer) 
     go _ is k = cc
 
 can_attach : (l : Limits) (s : State) (named : Option ℕ) (aim : Aim) → IsWithinBounds l → AreRecordsSound l s.records → AreMemoriesSized l s → IsAttachLegal l named aim s.records → CanAim l.counter_max aim s
-can_attach l s named aims.None bounds h m legal = tt
-can_attach l s named (aims.New pointer block target) bounds h m legal = record { move = with_pointer l s pointer block bounds h m legal.1; free = legal.2 }
-can_attach l s named (aims.Again pointer block) bounds h m legal = record { some = legal.3; below = legal.4 }
-can_attach l s named _ bounds h m legal = absurd legal
+can_attach l s named aim bounds h m legal = grind (arith, nat_tests, with_pointer)
 
 can_detach : (l : Limits) (s : State) (immediate : Bool) (pointer block : ℕ) → IsWithinBounds l → AreRecordsSound l s.records → AreMemoriesSized l s → block_with pointer s.records.ranges ≡ Some block
     → not_lent (block_aimed (detach immediate block pointer s.records.attached)) s.records.loans ≡ Ok tt → CanAim l.counter_max (detach immediate block pointer s.records.attached) s
@@ -59,8 +56,7 @@ can_detach l s immediate pointer block bounds h m e free = grind (arith, nat_tes
 
 can_judged : (l : Limits) (s : State) (immediate : Bool) (named : Option ℕ) → IsWithinBounds l → AreRecordsSound l s.records → AreMemoriesSized l s → not_lent (block_aimed (detach_if immediate named s.records)) s.records.loans ≡ Ok tt → CanAim l.counter_max (detach_if immediate named s.records) s
 unfolding judge_detach
-can_judged l s immediate None bounds h m free = tt
-can_judged l s immediate (Some pointer) bounds h m free = grind (arith, nat_tests, can_detach)
+can_judged l s immediate named bounds h m free = grind (arith, nat_tests, can_detach)
 
 can_release : (l : Limits) (s : State) (held : Option (ℕ × ℕ)) → IsWithinBounds l → AreRecordsSound l s.records → AreMemoriesSized l s → not_lent (block_aimed (judge_release held s.records)) s.records.loans ≡ Ok tt → CanAim l.counter_max (judge_release held s.records) s
 unfolding judge_release

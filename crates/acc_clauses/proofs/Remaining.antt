@@ -3,21 +3,16 @@ use Rattle.std.proofs.lemmas.Bool.Decides.{nat_tests}
 use Rattle.std.proofs.Common.{ℕ, suc, ◌≡◌, ◌+◌, ◌≤◌, sym, ◌∙◌, ap, List, [], ◌∷◌, ◌++◌, length, drop, arith, append_assoc, append-nil, length-append}
 use Rattle.std.proofs.lemmas.List.{drop_all}
 use Rattle.acc_clauses.specs.Words.{Task, Step, Did, Holding}
-use Rattle.acc_base.specs.declared.events.Step.TheVariants.{Nothing, Born}
 use Rattle.acc_base.specs.declared.addresses.TheConstants.{MEMORY_MAX}
-use Rattle.acc_base.specs.declared.tasks.Task.TheVariants.{Enter, Leave, Exit, Move}
 use Rattle.acc_base.specs.Limits.{Limits, IsWithinBounds, IsFromOne}
 use Rattle.std.specs.List.{All, AllByRecursion}
 use Rattle.std.proofs.lemmas.List.Elements.{All-from_recursion}
-use Rattle.acc_base.proofs.Elements.{AllByRecursion-append}
 use Rattle.acc_base.proofs.Judged.{IsJudgedTo, task_says}
 use Rattle.acc_base.proofs.Walked.{records-act_state}
 use Rattle.acc_base.proofs.SameMapping.{mapping-act}
 use Rattle.acc_base.proofs.Births.{births_most}
-use Rattle.acc_clauses.proofs.Legal.{birth_len}
 use Rattle.acc_base.specs.Records.{Records, State}
-use Rattle.acc_base.specs.Tasks.{section_of}
-use Rattle.acc_base.specs.Steps.{act_step, act}
+use Rattle.acc_base.specs.Steps.{act}
 use Rattle.acc_base.specs.Acting.{act_state, act_all_state}
 use Rattle.acc_base.specs.History.{AreJudged}
 use Rattle.acc_clauses.specs.declared.acted.Acted.{Acted}
@@ -25,7 +20,6 @@ use Rattle.acc_clauses.specs.Planned.{holdings_by}
 use Rattle.acc_clauses.specs.Overlays.{tasks_in, dids_in, puts_by, puts_in}
 use Rattle.acc_clauses.specs.Contents.{Contents}
 use Rattle.acc_clauses.specs.Acts.{IsJudged, AreKnown, HasRoomFor, HasPutRoom, IsRoomLeft, birth_of, lens_born, pointers_of, pointers_in}
-use Rattle.acc_clauses.proofs.Overlaid.{birth_entry}
 
 -- these tasks can be done, one after the other
 pub record CanRun (l : Limits) (tasks : List Task) (dids : List Did) (c : Contents) : Type 0 where
@@ -104,8 +98,7 @@ holdings_done acts i holdings all h e = let none : drop i acts ≡ [] = drop_all
 
 -- a block that a task is judged to bear is not too long
 birth_fits : (l : Limits) (task : Task) (step : Step) (w : Records) → IsWithinBounds l → IsJudgedTo l task step w → AllByRecursion (IsFromOne MEMORY_MAX) (birth_of task step)
-birth_fits l task (Born k p) w bounds says = (birth_len l (section_of task) k p w bounds (birth_entry l task k p w says), tt)
-birth_fits l task _ w bounds says = tt
+birth_fits l task step w bounds says = grind (arith, nat_tests)
 
 lens_each : (l : Limits) (n : ℕ) (tasks : List Task) (dids : List Did) (w : Records) → IsWithinBounds l → AreJudged l n tasks dids w → AllByRecursion (IsFromOne MEMORY_MAX) (lens_born tasks dids)
 lens_each l n [] [] w bounds judged = tt

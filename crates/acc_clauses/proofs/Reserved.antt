@@ -1,6 +1,5 @@
 -- All room that a plan needs is made: its tasks name one queue at most, that of its directive.
-use Rattle.std.proofs.Common.{ℕ, ◌≡◌, ◌<◌, ◌≤◌, refl, sym, ◌∙◌, ap, subst, Bool, true, false, List, [], ◌∷◌, length, Option, Some, None, Ok, arith}
-use Rattle.std.specs.Prelude.{◌==◌, nat_le}
+use Rattle.std.proofs.Common.{ℕ, ◌≡◌, ◌<◌, ◌≤◌, refl, sym, ◌∙◌, ap, subst, false, List, [], ◌∷◌, length, Option, Some, None, arith}
 use Rattle.std.specs.List.{AllByRecursion}
 use Rattle.std.proofs.lemmas.Bool.Decides.{nat_tests}
 use Rattle.std.proofs.lemmas.List.{length-map}
@@ -11,10 +10,9 @@ use Rattle.acc_base.specs.declared.events.Step.{Step}
 use Rattle.acc_base.specs.declared.transfers.TheConstants.{QUEUE_COUNT}
 use Rattle.acc_base.specs.Limits.{Limits}
 use Rattle.acc_base.specs.Records.{State}
-use Rattle.acc_base.specs.Queues.{queue_named}
 use Rattle.acc_base.specs.Tasks.{queue_of}
 use Rattle.acc_base.specs.Judge.{queue_in}
-use Rattle.acc_base.proofs.Results.{equal, refused_not}
+use Rattle.acc_base.proofs.Results.{equal}
 use Rattle.acc_queues.specs.Queued.{spare_at}
 use Rattle.acc_clauses.specs.declared.acted.Acted.{Acted}
 use Rattle.acc_clauses.specs.Planned.{Planned, IsPlanOf}

@@ -1,10 +1,10 @@
 -- A copy in runs, each up to the next attached pointer, leaves out the bytes of these pointers and copies all others.
-use Rattle.std.proofs.Common.{ℕ, suc, ◌≡◌, ◌+◌, ◌-◌, ◌<◌, ◌≤◌, refl, Bool, true, false, cond, List, [], ◌∷◌, map, Some, None, arith, ⊎_elim}
-use Rattle.std.specs.Prelude.{◌==◌, ◌⊎◌, ◌||◌, nat_lt}
+use Rattle.std.proofs.Common.{ℕ, suc, ◌≡◌, ◌+◌, ◌-◌, ◌<◌, ◌≤◌, refl, Bool, true, false, List, [], ◌∷◌, map, Some, None, arith, ⊎_elim}
+use Rattle.std.specs.Prelude.{◌⊎◌, ◌||◌}
 use Rattle.std.proofs.lemmas.Bool.Decides.{nat_tests}
 use Rattle.acc_clauses.specs.Words.{Section, Attachment}
 use Rattle.acc_base.specs.Section.{covers, end_of, is_within}
-use Rattle.acc_base.specs.Attachments.{IsBefore, is_skipped, next_pointer}
+use Rattle.acc_base.specs.Attachments.{IsBefore, next_pointer}
 use Rattle.acc_base.specs.Records.{Memory}
 use Rattle.acc_base.specs.Bytes.{written_bytes, memory_changed, is_moved}
 use Rattle.acc_base.specs.Accounts.{EachPair}

@@ -1,14 +1,14 @@
 -- Which blocks have a range, and which have ended and are kept by queued transfers, as the marks of the device tell it.
 use Rattle.std.proofs.lemmas.Bool.Decides.{nat_tests}
-use Rattle.std.proofs.Common.{ℕ, ◌≡◌, ◌<◌, refl, ◌∙◌, ap, Bool, true, false, cond, List, [], ◌∷◌, Option, Some, None, arith, subst}
-use Rattle.std.specs.Prelude.{◌==◌, ◌&&◌, nat_le, filter, is_none, unwrap_or, option_map, IfSome, IsSome}
+use Rattle.std.proofs.Common.{ℕ, ◌≡◌, ◌<◌, refl, ◌∙◌, ap, Bool, false, cond, List, [], ◌∷◌, Option, Some, None, arith}
+use Rattle.std.specs.Prelude.{◌&&◌, nat_le, filter, is_none, unwrap_or, option_map, IfSome, IsSome}
 use Rattle.std.specs.List.{AllByRecursion, AllZip}
-use Rattle.acc_clauses.specs.Words.{Loan, Range, Block, Transfer}
+use Rattle.acc_clauses.specs.Words.{Range, Block, Transfer}
 use Rattle.acc_base.specs.Loans.{loan_of}
 use Rattle.acc_dev.specs.Device.{DeviceState, HasBlock, IsLoanOn}
 use Rattle.acc_base.specs.Limits.{Limits}
 use Rattle.acc_base.specs.Ranges.{range_of}
-use Rattle.acc_base.specs.Blocks.{block_at, lower, lowest}
+use Rattle.acc_base.specs.Blocks.{block_at, lowest}
 use Rattle.acc_base.specs.Queues.{pins_of}
 use Rattle.acc_base.specs.Waits.{told_ended, ended_from}
 use Rattle.acc_base.specs.Accounts.{IsClearOf, EachPair}
@@ -65,8 +65,7 @@ lowest_has P [] h = tt
 lowest_has P (b ∷ bs) h = grind (arith, nat_tests, lowest_has P bs h.1)
 
 told_same : (queues : List (List Transfer)) (ms : List Mark) (o : Option Block) → IfSome o (λ b. pins_at b.number ms ≡ pins_of b.number queues) → option_map (ended_told ms) o ≡ option_map (told_ended queues) o
-told_same queues ms None h = refl
-told_same queues ms (Some b) h = rw h refl
+told_same queues ms o h = grind (arith, nat_tests)
 
 lowest_same : (from : ℕ) (ranges : List Range) (queues : List (List Transfer)) (ms : List Mark) (bs : List Block) → AllByRecursion (λ b. IsMarkTold ranges queues ms b.number) bs
     → lowest_ended from ms bs ≡ option_map (told_ended queues) (lowest (filter (λ b. is_none (range_of b.number ranges) && nat_le from b.place) bs))

@@ -1,13 +1,13 @@
 -- What the steps of items leave of the parts that change counters, and what all steps need of the present table.
 use Rattle.std.proofs.lemmas.Bool.Decides.{nat_tests}
-use Rattle.std.proofs.Common.{ℕ, ◌≡◌, ◌<◌, refl, sym, ◌∙◌, ap, subst, Bool, true, false, cond, List, [], ◌∷◌, Option, Some, None, arith}
-use Rattle.std.specs.Prelude.{◌==◌, not, nat_lt, unwrap_or, option_map, IsSome}
+use Rattle.std.proofs.Common.{ℕ, ◌≡◌, ◌<◌, refl, sym, ap, subst, Bool, true, false, List, [], ◌∷◌, Option, Some, None, arith}
+use Rattle.std.specs.Prelude.{◌==◌, IsSome}
 use Rattle.std.specs.List.{AllByRecursion}
 use Rattle.acc_clauses.specs.Words.{Section, Item, UpdateClause, Counter, Range, Task, Transfer}
 use Rattle.acc_base.specs.declared.tasks.Task.TheVariants.{Move}
 use Rattle.acc_base.specs.declared.events.Step.TheVariants.{Nothing, Counted, Dropped}
 use Rattle.acc_base.specs.Records.{State}
-use Rattle.acc_base.specs.Ranges.{range_of, changed_at, with_range, without_range, bare_range, counter_in, counter_of, is_unused, ends_by}
+use Rattle.acc_base.specs.Ranges.{range_of, changed_at, with_range, without_range, bare_range, counter_in, counter_of, ends_by}
 use Rattle.acc_base.specs.Tasks.{queue_of, recounted}
 use Rattle.acc_base.specs.Transfers.{at_once, queues_after}
 use Rattle.acc_base.specs.Steps.{act_row, act_step, with_range_changed}
@@ -58,13 +58,11 @@ is_some o x e = rw e refl
 
 -- nothing is put
 pub none_put : (o : Option ℕ) (queues : List (List Transfer)) → queues_after o None queues ≡ queues
-none_put None queues = refl
-none_put (Some q) queues = refl
+none_put o queues = grind (arith, nat_tests)
 
 -- nor made at once
 pub none_made : (o : Option ℕ) → at_once o None ≡ None
-none_made None = refl
-none_made (Some q) = refl
+none_made o = grind (arith, nat_tests)
 
 -- the parts stay
 pub stays : (change : State → State) (puts : ℕ → ℕ) (x : Environment) → AreMarked x → ((next : Numbers) → state_of x next ≡ change (state_of x next)) → IsChangedBy change [] 0 puts x x

@@ -1,12 +1,10 @@
 -- A store is sound after a write of the host.
 use Rattle.std.proofs.lemmas.Bool.Decides.{nat_tests}
-use Rattle.std.proofs.Common.{ℕ, ◌≡◌, sym, ◌∙◌, subst, List, length, arith}
-use Rattle.acc_base.specs.Records.{State}
+use Rattle.std.proofs.Common.{ℕ, ◌≡◌, List, length, arith}
 use Rattle.acc_base.specs.Bytes.{host_after_write}
-use Rattle.acc_base.specs.Accounts.{IsSound}
 use Rattle.acc_base.proofs.Memories.{length-host_after_write}
 use Rattle.acc_clauses.specs.Contents.{Contents}
-use Rattle.acc_clauses.specs.Stored.{IsStoreSound, AreHoldingsWithin}
+use Rattle.acc_clauses.specs.Stored.{IsStoreSound}
 
 -- one whose host memory alone changed, and is as long
 pub host_sound : (c e : Contents) (host : List ℕ) → IsStoreSound c → e.limits ≡ c.limits → e.state ≡ record c.state { host = host } → length host ≡ length c.state.host → IsStoreSound e

@@ -1,7 +1,7 @@
 -- A copy in runs, on the parts of a data environment: what holds before each run, and what one more run leaves.
 use Rattle.std.proofs.lemmas.Bool.Decides.{nat_tests}
-use Rattle.std.proofs.Common.{ℕ, ◌≡◌, ◌+◌, ◌-◌, ◌<◌, ◌≤◌, refl, sym, ◌∙◌, ap, Bool, true, false, cond, List, [], ◌∷◌, length, map, Some, arith}
-use Rattle.std.specs.Prelude.{◌==◌, find, unwrap_or, option_map, slice_index}
+use Rattle.std.proofs.Common.{ℕ, ◌≡◌, ◌+◌, ◌-◌, ◌<◌, ◌≤◌, refl, sym, ◌∙◌, ap, true, List, [], ◌∷◌, length, map, arith}
+use Rattle.std.specs.Prelude.{slice_index}
 use Rattle.acc_clauses.specs.Words.{Section, Attachment}
 use Rattle.acc_base.specs.Section.{covers, end_of, is_within, host_memory, host_base}
 use Rattle.acc_base.specs.Records.{Memory}
@@ -12,7 +12,7 @@ use Rattle.acc_clauses.specs.declared.environments.Environment.{Environment}
 use Rattle.acc_clauses.specs.Contents.{bare_state}
 use Rattle.acc_clauses.specs.Acts.{CanCopy}
 use Rattle.acc_clauses.specs.Copies.{moved_below, IsRunEnd}
-use Rattle.acc_clauses.proofs.Runs.{within_both, IsRun, run_within, written_next, written_start, written_end, changed-twice, changed-none, changed_same}
+use Rattle.acc_clauses.proofs.Runs.{within_both, IsRun, run_within, written_next, written_start, written_end, changed-twice, changed-none}
 
 -- ---- runs and blocks
 

@@ -54,12 +54,10 @@ IsPlanned-next l m xs ys task s at p next =
     rw next.more (IsPlanned-push l m xs (record { task = task; did = next.did }) s.records at p item)
 
 prefixed-push : (done : List Did) (did : Did) (r : Result (List Did) Fault) → prefixed (done ++ did ∷ []) r ≡ prefixed done (r >>= λ rest. Ok (did ∷ rest))
-prefixed-push done did (Ok rest) = ap (λ ds. Ok ds) (append_assoc done (did ∷ []) rest)
-prefixed-push done did (Err fault) = refl
+prefixed-push done did r = grind (arith, nat_tests, append_assoc)
 
 pub prefixed-nil : (r : Result (List Did) Fault) → prefixed [] r ≡ r
-prefixed-nil (Ok rest) = refl
-prefixed-nil (Err fault) = refl
+prefixed-nil r = grind (arith, nat_tests)
 
 -- before the first turn
 pub turns_begun : (l : Limits) (tasks : List Task) (s : State) → prefixed (dids_in []) (judge_all l 0 tasks (state_after [] s)) ≡ judge_all l 0 tasks s

@@ -5,12 +5,11 @@ use Rattle.acc_base.specs.declared.directives.Directive.{Directive}
 use Rattle.acc_base.specs.declared.events.Event.{Event}
 use Rattle.acc_base.specs.Limits.{Limits, IsWithinBounds}
 use Rattle.acc_base.specs.Records.{Layout, State, layout_of}
-use Rattle.acc_base.specs.Register.{Register}
 use Rattle.acc_base.specs.Ranges.{structured_of, dynamic_of}
 use Rattle.acc_base.specs.Blocks.{used_bytes}
-use Rattle.acc_base.specs.Walk.{register_after, loaned, walk}
+use Rattle.acc_base.specs.Walk.{register_after, walk}
 use Rattle.acc_base.specs.Judge.{Verdict, Makes, Idle, verdict_of}
-use Rattle.acc_base.specs.Acting.{act_all_state, host_after, memories_after, after}
+use Rattle.acc_base.specs.Acting.{act_all_state, after}
 use Rattle.acc_base.specs.History.{IsLegal}
 use Rattle.acc_base.specs.Accounts.{IsLayoutSound, IsSound}
 use Rattle.acc_base.proofs.Memories.{AreBrought, event_sized}
@@ -24,15 +23,10 @@ use Rattle.acc_clauses.proofs.Events.{IsEventOf, event_of_plan, idle_plan}
 
 -- ---- the state
 
--- what an event that brings no bytes makes of a state, once its steps and its register are known
-by_parts : (d : Directive) (p : Planned) (s : State) (e : Event) (a b : State) (x y : Register) → IsEventOf d p s e → a ≡ b → x ≡ y
-    → ◌≡◌ {A = State} (record { records = loaned e a.records; register = x; host = host_after e [] a.host; memories = memories_after e [] a.memories }) (record b { register = y })
-by_parts d p s e a b x y is same register = grind (arith, nat_tests)
-
 -- the state after the event of a plan is that after its tasks, and then its queues and its register
 pub after_plan : (d : Directive) (p : Planned) (s : State) (e : Event) → IsEventOf d p s e → after e [] s ≡ finished d p (act_all_state p.tasks p.dids s)
 unfolding after
-after_plan d p s e is = grind (arith, nat_tests, by_parts, register-act_all_state)
+after_plan d p s e is = grind (arith, nat_tests, register-act_all_state)
 
 -- it is the state after what the directive comes to
 pub finished_verdict : (l : Limits) (d : Directive) (s : State) (p : Planned) → IsPlanOf l d s p → finished d p (act_all_state p.tasks p.dids s) ≡ state_by (verdict_of d s p.dids) s

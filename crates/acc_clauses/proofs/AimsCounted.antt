@@ -18,7 +18,6 @@ use Rattle.acc_base.proofs.Elements.{found_has}
 use Rattle.acc_base.proofs.Counting.{without_read}
 use Rattle.acc_base.proofs.Recounted.{moved_by, names, ends_told, count_mapped}
 use Rattle.acc_base.proofs.Judged.{IsJudgedTo, step_judged, task_says}
-use Rattle.acc_base.proofs.Sound.{ranges_born}
 use Rattle.acc_base.proofs.SameMapping.{mapping-act}
 use Rattle.acc_base.proofs.Attached.{count_at-attached_by, count_at-without_other}
 use Rattle.acc_base.proofs.Aimed.{IsLeft, task_left}
@@ -52,7 +51,7 @@ unmapped l w block h zero = go (range_of block w.ranges) refl
 -- a task leaves the counters of a block that is gone at zero
 zero_left : (l : Limits) (task : Task) (step : Step) (w : Records) (block : ℕ) (counter : Counter) → AreRecordsSound l w → IsJudgedTo l task step w → IsGone w block
     → cond (names block step) (moved_by counter task (counter_of counter block w.ranges)) (counter_of counter block w.ranges) ≡ 0
-zero_left l task (Counted k) w block counter h says gone = grind (arith, nat_tests, moved_by counter task (counter_of counter block w.ranges), count_mapped, equal, unmapped l w block h gone.zero)
+zero_left l task (Counted k) w block counter h says gone = grind (arith, nat_tests, count_mapped, equal, unmapped l w block h gone.zero)
 zero_left l task (Born k p) w block counter h says gone = grind (arith, nat_tests)
 zero_left l task (Dropped k ended) w block counter h says gone = grind (arith, nat_tests)
 zero_left l task _ w block counter h says gone = gone.zero counter
@@ -73,7 +72,7 @@ gone-after l n (x ∷ xs) w block bounds h judged gone =
 
 -- the block whose mapping a task ends was born
 ended_born : (l : Limits) (task : Task) (k : ℕ) (w : Records) → AreRecordsSound l w → IsJudgedTo l task (Dropped k true) w → k ≤ w.births
-ended_born l task k w h says = grind (arith, nat_tests, ends_told, found_has, ranges_born, equal)
+ended_born l task k w h says = grind (arith, nat_tests, ends_told, found_has, equal)
 
 -- and is gone then
 gone_ended : (l : Limits) (task : Task) (k : ℕ) (w : Records) → AreRecordsSound l w → IsJudgedTo l task (Dropped k true) w → IsGone (act_step task (Dropped k true) w) k

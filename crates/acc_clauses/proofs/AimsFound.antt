@@ -127,13 +127,9 @@ before-after l n (x ∷ xs) w pointer block bounds h judged entries there e =
 
 -- ---- targets
 
--- a block ends on the device, far below the last 64-bit address
-place_bound : (l : Limits) (w : Records) (block : ℕ) (b : Block) → IsWithinBounds l → AreRecordsSound l w → block_at block w.blocks ≡ Some b → (b.place + b.len < 2 ^ 41) × (place_of block w.blocks ≡ b.place)
-place_bound l w block b bounds h e = grind (arith, nat_tests, found_has)
-
 -- the sum of a block's place and of an offset in its range
 pub address_bound : (l : Limits) (w : Records) (s : Section) (block offset : ℕ) → IsWithinBounds l → AreRecordsSound l w → where_is s w.ranges ≡ Inside block offset → place_of block w.blocks + offset < 2 ^ 42
-address_bound l w s block offset bounds h e = grind (arith, nat_tests, held_in l s w block offset h e, place_bound)
+address_bound l w s block offset bounds h e = grind (arith, nat_tests, held_in l s w block offset h e, found_has)
 
 pub target_bound : (l : Limits) (w : Records) (target : ℕ) → IsWithinBounds l → AreRecordsSound l w → IsTarget target w → target < 2 ^ 42
 target_bound l w target bounds h t = go (where_is (only t.0) w.ranges) refl t.1

@@ -12,9 +12,8 @@ use Rattle.acc_base.specs.Records.{Records, State}
 use Rattle.acc_base.specs.Ranges.{bare_range}
 use Rattle.acc_base.specs.Blocks.{block_at, place_of}
 use Rattle.acc_base.specs.Tasks.{section_of, recounted}
-use Rattle.acc_base.specs.Transfers.{at_once}
 use Rattle.acc_base.specs.Steps.{records_after_birth, with_range_changed, act_row, act_step, act, act_all}
-use Rattle.acc_base.specs.Bytes.{host_made, step_state}
+use Rattle.acc_base.specs.Bytes.{step_state}
 use Rattle.acc_base.specs.Pointers.{aimed}
 use Rattle.acc_base.specs.Acting.{act_state, act_all_state}
 use Rattle.acc_base.specs.History.{AreJudged}
@@ -109,10 +108,6 @@ unfolding act
 there-act l task did w block says entry there = grind (arith, nat_tests, there-step, false≢true)
 
 -- ---- the host after entries: what an entry copies goes to the device
-
--- where nothing is moved, nothing is made
-none_now : (queue : Option ℕ) (s : State) → host_made (at_once queue None) s.records.attached s.memories s.host ≡ s.host
-none_now queue s = grind (arith, nat_tests)
 
 host-step : (l : Limits) (counter : Counter) (item : Item RegionClause) (queue : Option ℕ) (step : Step) (s : State) → IsJudgedTo l (Enter counter item queue) step s.records → (step_state (Enter counter item queue) step s).host ≡ s.host
 unfolding step_state

@@ -26,7 +26,7 @@ use Rattle.acc_base.specs.History.{IsAttachLegal, IsAimLegal, AreJudged}
 use Rattle.acc_base.specs.Accounts.{AreRecordsSound, AreMemoriesSized}
 use Rattle.acc_base.proofs.Results.{and_true, equal, then_ok, refused_not, not_false}
 use Rattle.acc_base.proofs.Counting.{read_of, changed_read, with_other}
-use Rattle.acc_base.proofs.Judged.{IsJudgedTo, step_judged, task_says, pointer_checked_by}
+use Rattle.acc_base.proofs.Judged.{IsJudgedTo, step_judged, task_says}
 use Rattle.acc_base.proofs.Sound.{recounted_keeps}
 use Rattle.acc_base.proofs.Puts.{acted_sound}
 use Rattle.acc_base.proofs.Attached.{count_at-attached_by, count_at-with_count_other}
@@ -39,7 +39,7 @@ use Rattle.acc_clauses.specs.Aims.{value_by, value_over}
 use Rattle.acc_clauses.proofs.Moving.{bytes_of-len}
 use Rattle.acc_clauses.proofs.AimsPlaced.{no_block-new}
 use Rattle.acc_clauses.proofs.AimsFound.{pointer_in_block, before-after, target_bound}
-use Rattle.acc_clauses.proofs.AimsWritten.{target_byte, pointer-other, apart_by, pointer-same, bytes-other, bytes-same, bytes-push}
+use Rattle.acc_clauses.proofs.AimsWritten.{target_byte, pointer-other, pointer-same, bytes-other, bytes-same, bytes-push}
 
 -- ---- what is attached is there
 
@@ -58,7 +58,7 @@ aligned l n pointer e = equal _ _ (not_false _ (refused_not _ _ (then_ok _ _ tt 
 
 named_aligned : (l : Limits) (n : ℕ) (counter : Counter) (item : Item RegionClause) (queue : Option ℕ) (step : Step) (w : Records) (p : ℕ) → judge_step l n (Enter counter item queue) w ≡ Ok step → pointer_aimed (Enter counter item queue) step ≡ Some p → p % 8 ≡ 0
 unfolding judge_row
-named_aligned l n counter item queue step w p judged e = grind (arith, nat_tests, aligned, pointer_checked_by, then_ok, step_judged l n (Enter counter item queue) w step judged)
+named_aligned l n counter item queue step w p judged e = grind (arith, nat_tests, aligned, then_ok, step_judged l n (Enter counter item queue) w step judged)
 
 -- ---- a step of an entry leaves the blocks that are there
 
@@ -108,12 +108,12 @@ module _ (l : Limits) (block pointer : ℕ) (even : pointer % 8 ≡ 0) (s : Stat
   -- another pointer of the block is
   new_beside : (p target : ℕ) → p % 8 ≡ 0 → (p == pointer) ≡ false → IsSome (block_at block s.records.blocks) → device_pointer block pointer (aimed (aims.New p block target) s) ≡ device_pointer block pointer s
   unfolding aimed
-  new_beside p target e differs there = grind (arith, nat_tests, bytes-same, target_byte, pointer-other, apart_by)
+  new_beside p target e differs there = grind (arith, nat_tests, bytes-same, target_byte, pointer-other)
 
   -- a pointer of another block is
   new_other : (p b target : ℕ) → (b == block) ≡ false → device_pointer block pointer (aimed (aims.New p b target) s) ≡ device_pointer block pointer s
   unfolding aimed
-  new_other p b target differs = grind (arith, nat_tests, bytes-other, target_byte)
+  new_other p b target differs = grind (arith, nat_tests, bytes-other)
 
   -- what is attached after an attachment of another pointer was before it
   count_other : (p b target : ℕ) → (b == block && p == pointer) ≡ false → (count_at block pointer (attached_by (aims.New p b target) s.records.attached) ≡ 0 → ⊥) → count_at block pointer s.records.attached ≡ 0 → ⊥

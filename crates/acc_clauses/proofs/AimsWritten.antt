@@ -1,6 +1,6 @@
 -- What the eight bytes of a pointer hold where those of a pointer are written.
-use Rattle.std.proofs.Common.{ℕ, zero, suc, ◌≡◌, ◌+◌, ◌-◌, ◌<◌, ◌≤◌, ◌^◌, refl, sym, ap, ◌∙◌, Bool, false, cond, List, [], ◌∷◌, ◌++◌, length, take, drop, map, Some, arith}
-use Rattle.std.specs.Prelude.{◌⊎◌, ◌==◌, ◌%◌, find, unwrap_or, option_map, slice_index}
+use Rattle.std.proofs.Common.{ℕ, zero, suc, ◌≡◌, ◌+◌, ◌-◌, ◌<◌, ◌≤◌, ◌^◌, refl, sym, ap, ◌∙◌, Bool, false, List, [], ◌∷◌, ◌++◌, length, take, drop, map, arith}
+use Rattle.std.specs.Prelude.{◌⊎◌, ◌==◌, slice_index}
 use Rattle.std.specs.Int.{w64, to_le_bytes, from_le_bytes}
 use Rattle.std.proofs.lemmas.Bool.Decides.{nat_tests}
 use Rattle.std.proofs.lemmas.Nat.{from_le_bytes-to_le_bytes_8}
@@ -28,16 +28,9 @@ take-written taken source a _ _ h = refl
 abbrev pub AreApart : ℕ → ℕ → Type 0
 AreApart p q = (p + 8 ≤ q) ⊎ (q + 8 ≤ p)
 
-not_covered : (p q a k : ℕ) → AreApart p q → a ≡ q → k < 8 → covers (pointer_at p) (a + k) ≡ false
-not_covered p q a k h4 e below = grind (arith, nat_tests)
-
 -- a pointer holds what it held where another is written
 pub pointer-other : (first p q : ℕ) (source : ℕ → ℕ) (bytes : List ℕ) → first ≤ q → AreApart p q → pointer_in first q (written_bytes (covers (pointer_at p)) source first bytes) ≡ pointer_in first q bytes
-pointer-other first p q source bytes low apart = grind (arith, nat_tests, drop-written, take-written, not_covered)
-
--- pointers that lie at multiples of eight
-pub apart_by : (p q : ℕ) → p % 8 ≡ 0 → q % 8 ≡ 0 → (p == q) ≡ false → AreApart p q
-apart_by p q d e differs = grind (arith, nat_tests)
+pointer-other first p q source bytes low apart = grind (arith, nat_tests, drop-written, take-written)
 
 -- ---- bytes written there
 
@@ -69,9 +62,6 @@ pointer-same first pointer target bytes low high below =
     ap (from_le_bytes w64) (ap (take 8) there ∙ first_of eight rest) ∙ from_le_bytes-to_le_bytes_8 target below
 
 -- ---- the bytes of a block
-
-abbrev bytes_found : Bool → Memory → List Memory → ℕ → List ℕ
-bytes_found t m ms block = unwrap_or (option_map (λ (x : Memory). x.bytes) (cond t (Some m) (find (λ x. x.block == block) ms))) []
 
 -- another block's are not changed
 pub bytes-other : (k block : ℕ) (f : List ℕ → List ℕ) (ms : List Memory) → (k == block) ≡ false → bytes_of block (map (memory_changed k f) ms) ≡ bytes_of block ms

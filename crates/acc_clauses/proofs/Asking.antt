@@ -1,6 +1,6 @@
 -- What a directive asks, and the verdict that it comes to.
 use Rattle.std.proofs.Common.{ℕ, zero, suc, ◌≡◌, ◌-◌, ◌<◌, ◌≤◌, refl, ap, subst, ◌∙◌, true, false, List, [], ◌∷◌, length, get_or, arith, Option, None, Result, Ok, Err, inl, inr}
-use Rattle.std.specs.Prelude.{nat_lt, map, reverse, option_map, ok_or, ⊤, MatchResult}
+use Rattle.std.specs.Prelude.{nat_lt, map, reverse, ⊤, MatchResult}
 use Rattle.std.proofs.lemmas.Bool.Decides.{nat_tests}
 use Rattle.std.proofs.lemmas.List.{length-map, length-reverse, get_or-map, get_or-reverse}
 use Rattle.std.specs.List.{list_all, list_any, AllByRecursion}
@@ -11,11 +11,10 @@ use Rattle.acc_base.specs.declared.tasks.Task.{Task}
 use Rattle.acc_base.specs.declared.tasks.Task.TheVariants.{Leave}
 use Rattle.acc_base.specs.declared.events.Did.{Did}
 use Rattle.acc_base.specs.declared.faults.Fault.{Fault}
-use Rattle.acc_base.specs.declared.faults.Fault.TheVariants.{NoRegion}
 use Rattle.acc_base.specs.Results.{◌>>◌}
 use Rattle.acc_base.specs.Limits.{Limits}
 use Rattle.acc_base.specs.Records.{State}
-use Rattle.acc_base.specs.Register.{Region, Register, region_at}
+use Rattle.acc_base.specs.Register.{Register}
 use Rattle.acc_base.specs.Acting.{judge_all}
 use Rattle.acc_base.specs.Walk.{enter_task, enter_data_task, exit_task, move_task, leave_tasks}
 use Rattle.acc_base.specs.Queues.{queue_named}
@@ -66,13 +65,9 @@ tasks_fit (ExitData items finalize queue) holdings few held = let f = exit_task 
 tasks_fit (Update items if_present queue) holdings few held = let f = move_task if_present queue in record { few = omega (arith, few, length-map items f); unmixed = inr (none_map f items (λ x. refl)); queues = queue_map f queue items (λ x. refl) }
 tasks_fit _ holdings few held = record { few = omega arith; unmixed = inl refl; queues = tt }
 
--- an open region that is found holds few
-few_found : (number : ℕ) (regions : List Region) (o : Option Region) (holdings : List Holding) → AllByRecursion HasFewHoldings regions → region_at number regions ≡ o → ok_or (option_map (λ (r : Region). r.holdings) o) (NoRegion number) ≡ Ok holdings → length holdings ≤ 64
-few_found number regions o holdings all is e = grind (arith, nat_tests, found_has, ok_same)
-
 -- so does the one that a directive leaves
 few_left : (d : Directive) (g : Register) (holdings : List Holding) → AllByRecursion HasFewHoldings g.regions → holdings_left d g ≡ Ok holdings → length holdings ≤ 64
-few_left d g holdings all e = grind (arith, nat_tests, few_found, ok_same)
+few_left d g holdings all e = grind (arith, nat_tests, found_has, ok_same)
 
 -- a directive that does not name too many items names few
 few_checked : (d : Directive) → few_items d ≡ Ok tt → item_count d ≤ 64

@@ -31,7 +31,7 @@ use Rattle.acc_base.proofs.Sound.{ranges-drained}
 use Rattle.acc_base.proofs.AllTasks.{sum_by-reverse}
 use Rattle.acc_base.proofs.LegalEvents.{open_left}
 use Rattle.acc_base.proofs.Registers.{IsNumbered, AreFew, next_region, opened_regions, opened_few, closed_few, closed_held}
-use Rattle.acc_clauses.specs.Planned.{Planned, IsPlanOf, holding_by, holdings_by, register_by, finished}
+use Rattle.acc_clauses.specs.Planned.{Planned, IsPlanOf, holdings_by, register_by, finished}
 use Rattle.acc_clauses.specs.Contents.{Contents}
 use Rattle.acc_clauses.specs.Acts.{IsKnown, AreKnown, HasRegionRoom, CanFinish}
 use Rattle.acc_clauses.specs.Stored.{IsHeldWithin, IsHoldingWithin, AreHoldingsWithin, IsStoreSound}
@@ -109,9 +109,6 @@ plan_can (directives.Exit number) c f p h planned next room acted same regions h
 plan_can (directives.Wait queue) c f p h planned next room acted same regions holdings = free_then (directives.Wait queue) c f p planned (asked_with (directives.Wait queue) c.state.register p.tasks planned.asked).are acted
 plan_can (directives.Step queue) c f p h planned next room acted same regions holdings = free_then (directives.Step queue) c f p planned (asked_with (directives.Step queue) c.state.register p.tasks planned.asked).are acted
 plan_can _ c f p h planned next room acted same regions holdings = refl
-
-one_holding : (task : Task) (did : Did) → length (holding_by task did) ≤ 1
-one_holding task did = grind (arith, nat_tests)
 
 -- no more is held than there are tasks
 pub holdings_few : (tasks : List Task) (dids : List Did) → length (holdings_by tasks dids) ≤ length tasks

@@ -42,7 +42,7 @@ written-within : (s : Section) (source : ℕ → ℕ) (a : ℕ) (old bytes : Lis
     → written_bytes (covers s) source a old ≡ bytes ++ drop (length bytes) old
 written-within s source a old [] low ends fits is = written-behind s source a old (omega (arith, ends))
 written-within s source a [] (byte ∷ bytes) low ends fits is = absurd (omega (arith, fits))
-written-within s source a (x ∷ xs) (byte ∷ bytes) low ends fits is = grind (arith, nat_tests, written-within s source (suc a) xs bytes (omega (arith, low)) (omega (arith, ends)) (omega (arith, fits)) (from_next source a byte bytes is), from_next, covers_at, from_first)
+written-within s source a (x ∷ xs) (byte ∷ bytes) low ends fits is = grind (arith, nat_tests, written-within s source (suc a) xs bytes (omega (arith, low)) (omega (arith, ends)) (omega (arith, fits)) (from_next source a byte bytes is), covers_at, from_first)
 
 pub written-overwritten : (s : Section) (source : ℕ → ℕ) (n a : ℕ) (old bytes : List ℕ) → a + n ≡ s.start → end_of s ≤ a + length old → length bytes ≡ s.len → IsFrom source s.start bytes
     → written_bytes (covers s) source a old ≡ overwritten n bytes old
@@ -88,11 +88,11 @@ from_part s first xs low fits k below = grind (arith, nat_tests, part-length, pa
 
 pub moved_in : (s : Section) (host : List ℕ) (start : ℕ) (bytes : List ℕ) → is_within s (host_memory (length host)) ≡ true → is_within s (record { start = start; len = length bytes }) ≡ true
     → bytes_moved_in (covers s) host start bytes ≡ overwritten (s.start - start) (bytes_in host s) bytes
-moved_in s host start bytes in_host inside = grind (arith, nat_tests, part_at, written-overwritten, part-length, from_part)
+moved_in s host start bytes in_host inside = grind (arith, nat_tests, written-overwritten, part-length, from_part)
 
 pub moved_out : (s : Section) (bytes : List ℕ) (start : ℕ) (host : List ℕ) → is_within s (host_memory (length host)) ≡ true → is_within s (record { start = start; len = length bytes }) ≡ true
     → bytes_moved_out (covers s) bytes start host ≡ overwritten (s.start - host_base) (part bytes (s.start - start) s.len) host
-moved_out s bytes start host in_host inside = grind (arith, nat_tests, part_at, part-length, written-overwritten, from_part)
+moved_out s bytes start host in_host inside = grind (arith, nat_tests, part-length, written-overwritten, from_part)
 
 -- ---- a write of the host
 

@@ -69,7 +69,7 @@ all_drained q s u h e = let none : drop q s.records.queues ≡ [] = drop_all q s
 -- ---- how many wait
 
 pub more_wait : (q count here all : ℕ) (queues : List (List Transfer)) → here ≡ length (queue_at q queues) → count + length (steps_from q (drop q queues)) ≡ all → count + here + length (steps_from (q + 1) (drop (q + 1) queues)) ≡ all
-more_wait q count here all queues h e = grind (arith, nat_tests, steps-split, length-append, length-replicate, add-one)
+more_wait q count here all queues h e = grind (arith, nat_tests, steps-split, length-append, length-replicate)
 
 pub all_wait : (q count all : ℕ) (queues : List (List Transfer)) → length queues ≤ q → count + length (steps_from q (drop q queues)) ≡ all → count ≡ all
 all_wait q count all queues h e = grind (arith, nat_tests, drop_all)

@@ -1,7 +1,7 @@
 -- While a queue is emptied, none of the transfers that are left is of a block that is lent.
 use Rattle.std.proofs.lemmas.Bool.Decides.{nat_tests}
-use Rattle.std.proofs.Common.{ℕ, zero, suc, ◌+◌, ◌≡◌, refl, sym, ◌∙◌, ap, List, [], ◌∷◌, Some, None, Ok, take, drop, replicate, add-one, false, arith}
-use Rattle.std.specs.Prelude.{slice_get, slice_set}
+use Rattle.std.proofs.Common.{ℕ, zero, suc, ◌+◌, ◌≡◌, refl, sym, ◌∙◌, ap, List, [], ◌∷◌, Some, Ok, take, drop, replicate, false, arith}
+use Rattle.std.specs.Prelude.{slice_set}
 use Rattle.std.specs.List.{flat_map}
 use Rattle.acc_clauses.specs.Words.{Loan, Transfer}
 use Rattle.acc_base.specs.Loans.{is_lent, not_lent, none_lent}
@@ -43,13 +43,9 @@ queue-set queues q = go queues q (drop 1 (queue_at q queues)) refl
     go (x ∷ xs) zero ts e = refl
     go (x ∷ xs) (suc i) ts e = go xs i ts e
 
-none_first : (ts : List Transfer) → slice_get ts 0 ≡ None → ts ≡ drop 1 ts
-none_first [] e = refl
-none_first (t ∷ ts) e = cc
-
 queue-stepped : (q : ℕ) (s : State) → queue_at q (stepped q s).records.queues ≡ drop 1 (queue_at q s.records.queues)
 unfolding stepped released
-queue-stepped q s = grind (arith, nat_tests, none_first, queue-set)
+queue-stepped q s = grind (arith, nat_tests, queue-set)
 
 drop-one : (n : ℕ) (ts : List Transfer) → drop n (drop 1 ts) ≡ drop (suc n) ts
 drop-one zero [] = refl
@@ -79,4 +75,4 @@ queue_free q s h = (split_free q s.records.queues s.records.loans h).0
 
 -- once a queue is emptied, those behind it are as free as before
 pub rest_free : (q n : ℕ) (s t : State) → none_lent (flat_map (λ ts. ts) (drop q s.records.queues)) s.records.loans ≡ Ok tt → t ≡ drained (replicate n q) s → none_lent (flat_map (λ ts. ts) (drop (q + 1) t.records.queues)) t.records.loans ≡ Ok tt
-rest_free q n s t h e = grind (arith, nat_tests, split_free q s.records.queues s.records.loans h, later-drained q n s, same_loans (replicate n q) s, add-one q)
+rest_free q n s t h e = grind (arith, nat_tests, split_free q s.records.queues s.records.loans h, later-drained q n s, same_loans (replicate n q) s)

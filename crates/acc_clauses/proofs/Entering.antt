@@ -1,9 +1,9 @@
 -- What an entry to a region counts lies within the ranges of the blocks that it counted, after all of its tasks.
-use Rattle.std.proofs.Common.{ℕ, suc, ◌≡◌, ◌+◌, ◌≤◌, refl, subst, Bool, true, false, cond, List, [], ◌∷◌, map, Option, Some, None, Result, Ok, arith}
+use Rattle.std.proofs.Common.{ℕ, suc, ◌≡◌, ◌+◌, ◌≤◌, refl, subst, Bool, true, false, cond, List, [], ◌∷◌, map, Some, None, Ok, arith}
 use Rattle.std.specs.Prelude.{◌==◌}
 use Rattle.std.specs.List.{AllByRecursion}
 use Rattle.std.proofs.lemmas.Bool.Decides.{nat_tests}
-use Rattle.acc_clauses.specs.Words.{Section, Item, RegionClause, Range, Found, Task, Step, Did, Fault}
+use Rattle.acc_clauses.specs.Words.{Section, Item, RegionClause, Range, Found, Task, Step, Did}
 use Rattle.acc_base.specs.declared.mappings.Found.TheVariants.{Empty, Inside, Absent}
 use Rattle.acc_base.specs.declared.mappings.Counter.TheVariants.{Structured}
 use Rattle.acc_base.specs.declared.tasks.Task.TheVariants.{Enter}
@@ -13,7 +13,7 @@ use Rattle.acc_base.specs.Section.{is_within}
 use Rattle.acc_base.specs.Records.{Records}
 use Rattle.acc_base.specs.Ranges.{where_is, range_of, with_range, bare_range, risen}
 use Rattle.acc_base.specs.Register.{Region}
-use Rattle.acc_base.specs.Clauses.{is_attach, section_named, born_at, enter_absent, enter_row}
+use Rattle.acc_base.specs.Clauses.{is_attach, section_named, enter_row}
 use Rattle.acc_base.specs.Tasks.{section_of, checked}
 use Rattle.acc_base.specs.Steps.{judge_row, judge_step, act_row, act_step, act, act_all, records_after_birth}
 use Rattle.acc_base.specs.Walk.{enter_task, block_counted, holdings_of}
@@ -45,15 +45,6 @@ regions_within l n tasks dids w regions judged h =
     (λ r held. AllByRecursion-weaker (IsHoldingWithin w) (IsHoldingWithin (act_all tasks dids w)) r.holdings (λ x p k e. within_all l n tasks dids w x.item.section k judged (p k e)) held) h
 
 -- ---- what an entry counts
-
-step_same : (x y : Step) → ◌≡◌ {A = Result Step Fault} (Ok x) (Ok y) → x ≡ y
-step_same x y e = cc
-
-born_not_counted : (o : Option ℕ) (n k : ℕ) (s : Section) (w : Records) → born_at o n s w ≡ Ok (Counted k) → ⊥
-born_not_counted o n k s w e = grind (arith, nat_tests)
-
-absent_not_counted : (clause : RegionClause) (l : Limits) (n k : ℕ) (s : Section) (w : Records) → enter_absent clause l n s w ≡ Ok (Counted k) → ⊥
-absent_not_counted clause l n k s w e = grind (arith, nat_tests)
 
 -- a section whose block is counted is inside the block's range
 counted_inside : (l : Limits) (clause : RegionClause) (section : Section) (n k : ℕ) (w : Records) (found : Found) → enter_row found l Structured clause n section w ≡ Ok (Counted k) → where_is section w.ranges ≡ found

@@ -73,9 +73,6 @@ module _ (f : Range → Range) (stays : (r : Range) → (f r).section ≡ r.sect
   changed-section : (k : ℕ) (r : Range) → (changed k r).section ≡ r.section
   changed-section k r = grind (arith, nat_tests)
 
-  changed-block : (k : ℕ) (r : Range) → (changed k r).block ≡ r.block
-  changed-block k r = grind (arith, nat_tests)
-
   around-changed : (s : Section) (k : ℕ) (ranges : List Range) → range_around s (changed_at k f ranges) ≡ option_map (changed k) (range_around s ranges)
   around-changed s k [] = refl
   around-changed s k (r ∷ rs) = grind (arith, nat_tests, around-changed s k rs)

@@ -81,7 +81,7 @@ given_acts task k x y queue t gives named is moved =
 
 pub moved_acts : (task : Task) (k : ℕ) (x y : Environment) (queue : Option ℕ) (t : Transfer) → queue ≡ queue_of task → t ≡ transfer_at task k x.present.table.ranges → IsMovedBy queue t x y → IsActedBy task (Moved k) x y
 unfolding step_state act_step act_row
-moved_acts task k x y queue t named is moved = grind (arith, nat_tests, changed_to (moved_state (queue_of task) (transfer_at task k x.present.table.ranges)) (step_state task (Moved k)), one_put, moved_as x y queue (queue_of task) t (transfer_at task k x.present.table.ranges) named is moved)
+moved_acts task k x y queue t named is moved = grind (arith, nat_tests, one_put, moved_as x y queue (queue_of task) t (transfer_at task k x.present.table.ranges) named is moved)
 
 pub filled_acts : (queue : Option ℕ) (item : Item RegionClause) (k : ℕ) (section : Section) (x y : Environment) → is_some queue ≡ true → copies_in item.clause ≡ true → section ≡ section_named (is_attach item.clause) item.section
     → IsMovedBy queue (record { block = k; offset = 0; section = section; out = false }) x y → IsFilledLater queue item k x y

@@ -57,14 +57,11 @@ within_without k b rs s h r e = go (b == k) refl
         cc
     go false t = h r (sym (at-without_other block_of k b rs t) ∙ e)
 
-above_differs : (k b n : ℕ) → k ≡ n + 1 → b ≤ n → (k == b) ≡ false
-above_differs k b n e h = grind (arith, nat_tests)
-
 -- what is held stays within after a step
 pub within_step : (l : Limits) (task : Task) (step : Step) (w : Records) (s : Section) (b : ℕ) → IsJudgedTo l task step w → IsHeldWithin w s b → IsHeldWithin (act_step task step w) s b
 unfolding act_step act_row released records_after_birth records_after_end with_range_changed
 within_step l task (Counted k) w s b says h = record { born = h.born; within = within_changed task k b w.ranges s h.within }
-within_step l task (Born k p) w s b says h = grind (arith, nat_tests, recounted-block, above_differs, birth_number, range_of-with_other)
+within_step l task (Born k p) w s b says h = grind (arith, nat_tests, recounted-block, birth_number, range_of-with_other)
 within_step l task (Dropped k true) w s b says h = record { born = h.born; within = within_without k b w.ranges s h.within }
 within_step l task (Dropped k false) w s b says h = record { born = h.born; within = within_changed task k b w.ranges s h.within }
 within_step l task _ w s b says h = record { born = h.born; within = h.within }

@@ -23,7 +23,7 @@ use Rattle.acc_base.proofs.Judged.{IsJudgedTo, task_says}
 use Rattle.acc_placement.specs.Ranges.{IsTakeBelow}
 use Rattle.acc_dev.specs.Device.{planned_blocks}
 use Rattle.acc_clauses.specs.declared.acted.Acted.{Acted}
-use Rattle.acc_clauses.specs.Overlays.{IsPlanned, AreUnmixed, tasks_in, dids_in, records_after, enters, birth_by, births_of, end_by, ended_of, found_by, found_over, counters_in, counters_at, recount, are_zero, counters_over}
+use Rattle.acc_clauses.specs.Overlays.{IsPlanned, AreUnmixed, tasks_in, dids_in, records_after, enters, births_of, end_by, ended_of, found_by, found_over, counters_at, recount, are_zero, counters_over}
 use Rattle.acc_clauses.proofs.Overlaid.{or_false, birth_entry, sound-after, counters-after, found-entered, found-left, blocks-after, births-after}
 use Rattle.acc_present.proofs.Finding.{apart_from_none}
 use Rattle.acc_clauses.proofs.Legal.{birth_len}
@@ -61,9 +61,6 @@ found-planned l xs w s p unmixed = grind (arith, nat_tests, ended_none, apart_fr
 pub counters-planned : (l : Limits) (xs : List Acted) (w : Records) (b : ℕ) → IsPlanned l xs w → counters_over b (counters_at b w.ranges) xs ≡ counters_at b (records_after xs w).ranges
 counters-planned l xs w b p = counters-after l 0 xs w b p.bounds p.sound p.judged
 
-recounted_both : (task : Task) (r : Range) → is_unused (recounted task r) ≡ are_zero (recount task (counters_in r))
-recounted_both task r = grind (arith, nat_tests)
-
 -- both counters of a range that is looked for; both are 0 where there is none
 abbrev counters_found : Option Range → Counters
 counters_found o = record { structured = unwrap_or (option_map (counter_in Structured) o) 0; dynamic = unwrap_or (option_map (counter_in Dynamic) o) 0 }
@@ -71,9 +68,6 @@ counters_found o = record { structured = unwrap_or (option_map (counter_in Struc
 -- a counter of the range is above zero
 abbrev IsReferenced : Range → Type 0
 IsReferenced r = 0 < r.structured + r.dynamic
-
-above_not : (r : Range) → IsReferenced r → are_zero (counters_in r) ≡ false
-above_not r above = grind (arith, nat_tests)
 
 unless : (z x y : Bool) → z ≡ false → x ≡ y → x ≡ (not z && y)
 unless z x y e f = grind (arith, nat_tests)
@@ -91,25 +85,19 @@ ends-planned l xs w task b p =
     let after : Records = records_after xs w in
     ends_found task (range_of b after.ranges) (found_above l after b (range_of b after.ranges) refl (sound-after l 0 xs w p.bounds p.sound p.judged))
 
-both_read : (c : Counters) (s d : ℕ) → c.structured ≡ s → c.dynamic ≡ d → ◌≡◌ {A = Counters} c (record { structured = s; dynamic = d })
-both_read c s d e f = grind (arith, nat_tests)
-
 -- what is read of a block before the tasks gives its counters after them
 pub counters_read : (l : Limits) (xs acts : List Acted) (w : Records) (b : ℕ) (c r : Counters) → IsPlanned l xs w → acts ≡ xs → c.structured ≡ structured_of b w.ranges → c.dynamic ≡ dynamic_of b w.ranges
     → r ≡ counters_over b c acts → r ≡ counters_at b (records_after xs w).ranges
-counters_read l xs acts w b c r p same s d e = grind (arith, nat_tests, both_read c _ _ s d, counters-planned l xs w b p)
+counters_read l xs acts w b c r p same s d e = grind (arith, nat_tests, counters-planned l xs w b p)
 
 -- ---- births
 
 place_below : (l : Limits) (w : Records) (size p : ℕ) → place_for (device_memory l.device) w.blocks size ≡ Some p → p + size ≤ end_of (device_memory l.device)
-place_below l w size p e = grind (arith, nat_tests, place_for-found (device_memory l.device) w.blocks size, and_true)
-
-take_by : (l : Limits) (task : Task) (step : Step) (w : Records) → IsWithinBounds l → IsJudgedTo l task step w → AllByRecursion (IsTakeBelow (end_of (device_memory l.device))) (birth_by task step)
-take_by l task step w bounds says = grind (arith, nat_tests, birth_entry, birth_len, place_below)
+place_below l w size p e = grind (arith, nat_tests, place_for-found (device_memory l.device) w.blocks size)
 
 takes : (l : Limits) (n : ℕ) (xs : List Acted) (w : Records) → IsWithinBounds l → AreJudged l n (tasks_in xs) (dids_in xs) w → AllByRecursion (IsTakeBelow (end_of (device_memory l.device))) (births_of xs)
 takes l n [] w bounds judged = tt
-takes l n (x ∷ xs) w bounds judged = grind (arith, nat_tests, takes l (suc n) xs (act x.task x.did w) bounds judged.2, take_by l x.task x.did.step w bounds (task_says l n x.task w x.did.step judged.0), task_says l n x.task w x.did.step judged.0)
+takes l n (x ∷ xs) w bounds judged = grind (arith, nat_tests, takes l (suc n) xs (act x.task x.did w) bounds judged.2, birth_entry, birth_len, place_below, task_says l n x.task w x.did.step judged.0)
 
 -- each block that the tasks bear ends on the device
 pub takes-planned : (l : Limits) (xs : List Acted) (w : Records) → IsPlanned l xs w → All (IsTakeBelow (end_of (device_memory l.device))) (births_of xs)
@@ -128,6 +116,6 @@ pub ruleset plan_laws = (found-planned, counters-planned, ends-planned, takes-pl
 
 -- the first tasks of some that are unmixed
 pub unmixed_front : (ts us : List Task) → AreUnmixed (ts ++ us) → AreUnmixed ts
-unmixed_front ts us unmixed = grind (arith, nat_tests, and_true, list_all-append, or_false, list_any-append)
+unmixed_front ts us unmixed = grind (arith, nat_tests, list_all-append, or_false, list_any-append)
 
 pub ruleset kind_laws = (unmixed_front)

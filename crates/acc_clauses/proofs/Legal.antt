@@ -31,10 +31,6 @@ use Rattle.acc_clauses.proofs.Steps.{is_some}
 
 -- ---- sections
 
--- a section of host memory is no longer than it
-host_len : (s : Section) (n : ℕ) → is_within s (host_memory n) ≡ true → s.len ≤ n
-host_len s n h = grind (arith, nat_tests)
-
 -- and ends below it
 pub host_end : (s : Section) (n : ℕ) → is_within s (host_memory n) ≡ true → n ≤ MEMORY_MAX → end_of s ≤ 2 ^ 40
 host_end s n h most = grind (arith, nat_tests)
@@ -90,7 +86,7 @@ no_pointer l k w h e = AllByRecursion-weaker (λ a. IsSome (block_at a.block w.b
 
 -- nor a loan
 unborn_free : (l : Limits) (w : Records) (k : ℕ) → k ≡ w.births + 1 → AreRecordsSound l w → is_lent k w.loans ≡ false
-unborn_free l w k number h = grind (arith, nat_tests, equal, found_has, ranges_born)
+unborn_free l w k number h = grind (arith, nat_tests, equal, found_has)
 
 -- a look-up that does not find nothing finds something
 not_none : {X : Type 0} (o : Option X) → (o ≡ None → ⊥) → IsSome o

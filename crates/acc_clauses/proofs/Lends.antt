@@ -1,6 +1,6 @@
 -- A block is lent, and comes back: what the device needs for it, and what it leaves of the parts and of a store.
 use Rattle.std.proofs.Common.{ℕ, ◌≡◌, ◌+◌, ◌-◌, ◌<◌, ◌≤◌, refl, sym, ◌∙◌, ap, subst, Bool, true, false, List, [], ◌∷◌, Option, Some, Ok, arith}
-use Rattle.std.specs.Prelude.{◌==◌, not, is_none, is_some, IsSome, length}
+use Rattle.std.specs.Prelude.{◌==◌, not, is_none, is_some, length}
 use Rattle.std.proofs.lemmas.Bool.Decides.{nat_tests}
 use Rattle.std.specs.List.{AllByRecursion, AllZip}
 use Rattle.acc_clauses.specs.Words.{Section, Range, Block, Loan, Holding, Event}
@@ -49,11 +49,8 @@ loan_there l w loan h sound =
     let has : IsMapped w.blocks sound.range × ((sound.range.block == loan.block) ≡ true) = found_has (IsMapped w.blocks) (λ r. r.block == loan.block) w.ranges sound.range h.one_block_each.mapped sound.mapped in
     record { block = has.0.0; at = subst (λ n. block_at n w.blocks ≡ Some has.0.0) (equal sound.range.block loan.block has.1) has.0.1; len = has.0.2 }
 
-some_block : (o : Option Block) (b : Block) → o ≡ Some b → IsSome o
-some_block o b e = grind (arith, nat_tests)
-
 pub lend_there : (l : Limits) (x : Environment) (n : Numbers) (loan : Loan) → ArePartsSound l x n → IsLoanSound x.present.table.ranges loan → HasBlock x.device loan.block
-lend_there l x n loan parts sound = grind (arith, nat_tests, loan_there l (state_of x n).records loan parts.sound.records sound, some_block)
+lend_there l x n loan parts sound = grind (arith, nat_tests, loan_there l (state_of x n).records loan parts.sound.records sound)
 
 pub lend_mapped : (l : Limits) (x : Environment) (n : Numbers) (loan : Loan) → ArePartsSound l x n → AllZip IsMarkOf x.device.marks x.device.blocks → IsLoanSound x.present.table.ranges loan → is_ended_at loan.block x.device.marks ≡ false
 lend_mapped l x n loan parts zip sound = (told l x n loan.block parts zip (lend_there l x n loan parts sound)).ended ∙ ap is_none sound.mapped

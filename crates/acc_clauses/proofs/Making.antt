@@ -1,12 +1,11 @@
 -- The first transfer of a queue can be made, and leaves the parts sound.
-use Rattle.std.proofs.Common.{ℕ, ◌≡◌, ◌+◌, ◌-◌, ◌≤◌, sym, ◌∙◌, subst, true, List, [], ◌∷◌, length, Some, arith, Ok, ap}
+use Rattle.std.proofs.Common.{ℕ, ◌≡◌, sym, ◌∙◌, subst, List, [], ◌∷◌, length, Some, arith, Ok, ap}
 use Rattle.std.specs.Prelude.{take}
 use Rattle.std.specs.List.{AllByRecursion}
 use Rattle.std.proofs.lemmas.Bool.Decides.{nat_tests}
 use Rattle.acc_base.specs.Loans.{none_lent}
-use Rattle.acc_clauses.specs.Words.{Section, Transfer}
+use Rattle.acc_clauses.specs.Words.{Transfer}
 use Rattle.acc_base.specs.Limits.{Limits, IsWithinBounds}
-use Rattle.acc_base.specs.Section.{is_within}
 use Rattle.acc_base.specs.Records.{State}
 use Rattle.acc_base.specs.Queues.{queue_at, head_of}
 use Rattle.acc_base.specs.Waits.{stepped, records_drained, drained}
@@ -26,16 +25,12 @@ use Rattle.acc_clauses.proofs.Legal.{host_end}
 
 -- ---- before it
 
--- the section of a transfer lies among the bytes of its block
-lies_within : (s : Section) (offset len bytes : ℕ) → offset ≤ s.start → offset + s.len ≤ len → bytes ≡ len → is_within s (record { start = s.start - offset; len = bytes }) ≡ true
-lies_within s offset len bytes first last same = grind (arith, nat_tests)
-
 -- the first transfer has what all of a queue have
 first_has : (P : Transfer → Type 0) (q : ℕ) (t : Transfer) (queues : List (List Transfer)) → head_of q queues ≡ Some t → AllByRecursion (AllByRecursion P) queues → P t
 first_has P q t queues e h = grind (arith, nat_tests, head_first, all-at)
 
 pub can_step : (l : Limits) (x : Environment) (next : Numbers) (q : ℕ) → IsWithinBounds l → none_lent (take 1 (queue_at q x.queues.queues)) x.device.loans ≡ Ok tt → ArePartsSound l x next → CanStep q x
-can_step l x next q bounds free sound t e = grind (arith, nat_tests, first_free q x.queues.queues x.device.loans t e free, first_has (IsTransferSound l x.device.blocks) q t x.queues.queues e sound.sound.records.queues.transfers, host_end, is_some, lies_within, bytes_of-len)
+can_step l x next q bounds free sound t e = grind (arith, nat_tests, first_free q x.queues.queues x.device.loans t e free, first_has (IsTransferSound l x.device.blocks) q t x.queues.queues e sound.sound.records.queues.transfers, host_end, is_some, bytes_of-len)
 
 -- ---- after it
 

@@ -3,8 +3,7 @@ use Rattle.std.proofs.lemmas.Bool.Decides.{nat_tests}
 use Rattle.std.proofs.Common.{ℕ, ◌≡◌, ◌+◌, refl, sym, ap, ◌∙◌, Bool, true, false, cond, ◌||◌, List, [], ◌∷◌, ◌++◌, length, suc, arith}
 use Rattle.std.specs.List.{list_all, list_any}
 use Rattle.std.proofs.lemmas.List.{append-nil, append_assoc, length-append}
-use Rattle.acc_clauses.specs.Words.{Section, Range, Counters, Counter, Task, Step, Did}
-use Rattle.acc_base.specs.declared.mappings.Counter.TheVariants.{Structured, Dynamic}
+use Rattle.acc_clauses.specs.Words.{Section, Range, Counter, Task, Step, Did}
 use Rattle.acc_base.specs.declared.events.Step.TheVariants.{Born, Dropped}
 use Rattle.acc_base.specs.Limits.{Limits, IsWithinBounds}
 use Rattle.acc_base.specs.Records.{Records}
@@ -21,7 +20,7 @@ use Rattle.acc_base.proofs.Aimed.{task_left}
 use Rattle.acc_base.proofs.Where.{absent_says}
 use Rattle.acc_dev.specs.Device.{planned_blocks}
 use Rattle.acc_clauses.specs.declared.acted.Acted.{Acted}
-use Rattle.acc_clauses.specs.Overlays.{tasks_in, dids_in, records_after, enters, birth_by, births_of, end_by, ended_of, found_by, found_over, counters_at, recount, counters_by, counters_over}
+use Rattle.acc_clauses.specs.Overlays.{tasks_in, dids_in, records_after, enters, birth_by, births_of, end_by, ended_of, found_by, found_over, counters_at, counters_by, counters_over}
 use Rattle.acc_base.proofs.SameMapping.{mapping-act}
 use Rattle.acc_clauses.proofs.Founds.{where_is-with, where_is-changed, apart-changed, apart_more}
 use Rattle.acc_present.proofs.Finding.{apart_from_none}
@@ -34,20 +33,9 @@ or_false a b e = grind (arith, nat_tests)
 pub birth_entry : (l : Limits) (task : Task) (k p : ℕ) (w : Records) → IsJudgedTo l task (Born k p) w → IsBirth l (section_of task) k p w
 birth_entry l task k p w says = grind (arith, nat_tests)
 
--- a task that enters not bears no block
-pub bears_none : (l : Limits) (task : Task) (k p : ℕ) (w : Records) → IsJudgedTo l task (Born k p) w → enters task ≡ false → ⊥
-bears_none l task k p w says e = grind (arith, nat_tests)
-
 -- a task that enters drops none
 pub drops_none : (l : Limits) (task : Task) (k : ℕ) (ended : Bool) (w : Records) → IsJudgedTo l task (Dropped k ended) w → enters task ≡ true → ⊥
 drops_none l task k ended w says e = grind (arith, nat_tests)
-
-moved_both : (task : Task) (c : Counters) → ◌≡◌ {A = Counters} (record { structured = moved_by Structured task c.structured; dynamic = moved_by Dynamic task c.dynamic }) (recount task c)
-moved_both task c = grind (arith, nat_tests)
-
-both_by : (b : Bool) (task : Task) (s d s' d' : ℕ) → s' ≡ cond b (moved_by Structured task s) s → d' ≡ cond b (moved_by Dynamic task d) d
-    → ◌≡◌ {A = Counters} (record { structured = s'; dynamic = d' }) (cond b (recount task (record { structured = s; dynamic = d })) (record { structured = s; dynamic = d }))
-both_by b task s d s' d' e f = grind (arith, nat_tests)
 
 -- both counters of a block after a task
 counters-left : (task : Task) (step : Step) (b : ℕ) (ranges left : List Range)
@@ -61,13 +49,13 @@ new_is task k s = (recounted_keeps task).section (bare_range s k)
 found-step : (l : Limits) (task : Task) (step : Step) (w : Records) (s : Section) → IsJudgedTo l task step w → enters task ≡ true
     → found_by s (where_is s w.ranges) task step ≡ where_is s (act_step task step w).ranges
 unfolding act_step act_row with_range_changed records_after_birth
-found-step l task step w s says none = grind (arith, nat_tests, where_is-changed, recounted_keeps, absent_says, birth_entry, where_is-with, drops_none)
+found-step l task step w s says none = grind (arith, nat_tests, where_is-changed, absent_says, birth_entry, where_is-with, drops_none)
 
 -- where a section lies apart from ended ranges, before the step of one that does not and after it
 apart-step : (l : Limits) (task : Task) (step : Step) (w : Records) (s : Section) (ended : List ℕ) → IsJudgedTo l task step w → enters task ≡ false
     → where_is_apart s (end_by step ++ ended) w.ranges ≡ where_is_apart s ended (act_step task step w).ranges
 unfolding act_step act_row with_range_changed records_after_end released
-apart-step l task step w s ended says none = grind (arith, nat_tests, apart-changed, recounted_keeps, bears_none, apart_more)
+apart-step l task step w s ended says none = grind (arith, nat_tests, apart-changed, recounted_keeps, apart_more)
 
 planned_more : (xs ys : List (ℕ × ℕ)) (n : ℕ) → planned_blocks n (xs ++ ys) ≡ planned_blocks n xs ++ planned_blocks (n + length xs) ys
 planned_more [] ys n = let e : n ≡ n + 0 = omega arith in ap (λ m. planned_blocks m ys) e
@@ -80,7 +68,7 @@ record IsBornBy (task : Task) (step : Step) (w v : Records) : Type 0 where
 
 born-step : (l : Limits) (task : Task) (step : Step) (w : Records) → IsJudgedTo l task step w → enters task ≡ true → IsBornBy task step w (act_step task step w)
 unfolding act_step act_row with_range_changed records_after_birth
-born-step l task step w says none = grind (arith, nat_tests, drops_none, append-nil)
+born-step l task step w says none = grind (arith, nat_tests, append-nil)
 
 -- and the same of the whole task
 found-act : (l : Limits) (task : Task) (did : Did) (w : Records) (s : Section) → IsJudgedTo l task did.step w → enters task ≡ true → found_by s (where_is s w.ranges) task did.step ≡ where_is s (act task did w).ranges

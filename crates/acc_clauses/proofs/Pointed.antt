@@ -10,10 +10,9 @@ use Rattle.acc_base.specs.Limits.{Limits}
 use Rattle.acc_base.specs.Records.{Records, State}
 use Rattle.acc_base.specs.Clauses.{is_attach, pointer_checked}
 use Rattle.acc_base.specs.Tasks.{pointer_of, checked}
-use Rattle.acc_base.specs.Steps.{is_action, pointer_aimed, did_of, block_detached, judge_row, judge_step}
+use Rattle.acc_base.specs.Steps.{is_action, pointer_aimed, did_of, judge_row, judge_step}
 use Rattle.acc_base.specs.Bytes.{step_state}
 use Rattle.acc_base.specs.Pointers.{aimed}
-use Rattle.acc_base.specs.Detaching.{block_aimed}
 use Rattle.acc_base.specs.Acting.{attach_if, judge_aim, judge_task, act_state}
 use Rattle.acc_base.specs.History.{IsAimLegal}
 use Rattle.acc_base.proofs.Results.{then_ok}
@@ -103,10 +102,6 @@ left_judged l n xs ys task step aim s other e before more = grind (arith, nat_te
 
 -- ---- a step: what the tables say, and whether it can be done
 
--- the block in which a task detaches a pointer before its step
-detached-before : (task : Task) (step : Step) (w : Records) → block_aimed (aim_before task step w) ≡ block_detached task step w
-detached-before task step w = grind (arith, nat_tests)
-
 -- three tests in a row
 three_tests : (a b c : Result ⊤ Fault) (step : Step) → (a >> (b >> (c >> Ok step))) ≡ ((a >> (b >> c)) >> Ok step)
 three_tests a b c step = grind (arith, nat_tests)
@@ -115,7 +110,7 @@ three_tests a b c step = grind (arith, nat_tests)
 pub step_after : (l : Limits) (n : ℕ) (task : Task) (step : Step) (before : Aim) (w : Records) (r : Result ⊤ Fault) → Ok step ≡ judge_row l n task w → before ≡ aim_before task step w → r ≡ step_free task step before l.queue_cap w
     → judge_step l n task w ≡ (r >> Ok step)
 unfolding judge_step
-step_after l n task step before w r row aim free = grind (arith, nat_tests, detached-before, three_tests)
+step_after l n task step before w r row aim free = grind (arith, nat_tests, three_tests)
 
 -- or as the tables refuse it
 pub row_refused : (l : Limits) (n : ℕ) (task : Task) (w : Records) (fault : Fault) → Err fault ≡ judge_row l n task w → judge_step l n task w ≡ Err fault

@@ -1,5 +1,5 @@
 -- What a transfer leaves of the parts that is made at once, that is put into a queue, or that is the first one of a queue.
-use Rattle.std.proofs.Common.{ℕ, ◌≡◌, ◌+◌, ◌<◌, ◌≤◌, true, false, cond, List, length, Some, None, arith}
+use Rattle.std.proofs.Common.{ℕ, ◌≡◌, ◌<◌, ◌≤◌, true, false, List, length, Some, None, arith}
 use Rattle.std.specs.Prelude.{is_none, IsSome}
 use Rattle.std.specs.List.{AllZip}
 use Rattle.std.proofs.lemmas.Bool.Decides.{nat_tests}
@@ -21,7 +21,6 @@ use Rattle.acc_dev.specs.Device.{DeviceState, IsPinned, IsUnpinned, IsRetired}
 use Rattle.acc_attach.specs.Attached.{AttachedState}
 use Rattle.acc_clauses.specs.declared.environments.Environment.{Environment}
 use Rattle.acc_clauses.specs.Contents.{AreMarked, bare_state}
-use Rattle.acc_clauses.specs.Overlays.{is_queue}
 use Rattle.acc_clauses.specs.Acts.{IsMovedBy, IsSteppedBy}
 use Rattle.acc_clauses.proofs.Changes.{state_by, room_same, none_taken}
 use Rattle.acc_clauses.proofs.Marked.{IsMarkAt, mark_told, pins_popped, marks_put, marks_unpinned, marks_drained}
@@ -32,13 +31,9 @@ use Rattle.acc_clauses.proofs.Marked.{IsMarkAt, mark_told, pins_popped, marks_pu
 pub queue_there : (q : ℕ) (spare : List ℕ) → length spare ≡ 16 → 1 ≤ spare_at q spare → q < 16
 queue_there q spare all some = grind (arith, nat_tests, get_or_past)
 
--- the room that a transfer takes
-put_room : (q : ℕ) (old new : List ℕ) → IsRoomTaken q old new → (other : ℕ) → spare_at other old ≤ spare_at other new + cond (is_queue other (Some q)) 1 0
-put_room q old new h other = grind (arith, nat_tests)
-
 pub put_moves : (q : ℕ) (t : Transfer) (x : Environment) (queues : QueuesState) (device : DeviceState) → q < length x.queues.queues → AreMarked x
     → queues.queues ≡ put q t x.queues.queues → queues.cap ≡ x.queues.cap → IsRoomTaken q x.queues.spare queues.spare → IsPinned x.device device t.block → IsMovedBy (Some q) t x (record x { device = device; queues = queues })
-put_moves q t x queues device known marked more limit room pinned = grind (arith, nat_tests, state_by, room_same, none_taken, put_room, marks_put)
+put_moves q t x queues device known marked more limit room pinned = grind (arith, nat_tests, state_by, room_same, none_taken, marks_put)
 
 -- ---- made at once
 
@@ -85,26 +80,16 @@ head_mark q t x y queues marked is zip there =
 pub head_pinned : (q : ℕ) (t : Transfer) (x y : Environment) → head_of q x.queues.queues ≡ Some t → IsMarkAt x.present.table.ranges x.queues.queues y.device.marks t.block → 0 < pins_at t.block y.device.marks
 head_pinned q t x y first mark = grind (arith, nat_tests, pins_popped q t x.queues.queues first)
 
--- it was the last one that kept its block
-last_unused : (q : ℕ) (t : Transfer) (x y : Environment) → head_of q x.queues.queues ≡ Some t → IsMarkAt x.present.table.ranges x.queues.queues y.device.marks t.block
-    → (is_ended_at t.block y.device.marks ≡ true) × (pins_at t.block y.device.marks ≡ 1) → is_in_use t.block (left q x) ≡ false
-last_unused q t x y first mark last = grind (arith, nat_tests, pins_popped, unused)
-
--- and here it was not
-more_used : (q : ℕ) (t : Transfer) (x y : Environment) → head_of q x.queues.queues ≡ Some t → IsMarkAt x.present.table.ranges x.queues.queues y.device.marks t.block
-    → ((is_ended_at t.block y.device.marks ≡ true) × (pins_at t.block y.device.marks ≡ 1) → ⊥) → is_in_use t.block (left q x) ≡ true
-more_used q t x y first mark other = grind (arith, nat_tests, used_pinned, pins_popped, used_mapped)
-
 -- its block is given back, with its attachment counters
 pub last_steps : (q : ℕ) (t : Transfer) (x y : Environment) (queues : QueuesState) (e : DeviceState) (b : AttachedState) → head_of q x.queues.queues ≡ Some t → queues.queues ≡ popped q x.queues.queues → queues.cap ≡ x.queues.cap → AreRoomsKept x.queues.spare queues.spare → AreMarked x
     → y ≡ made t (taken queues x) → AllZip (IsMemoryOf y.device.loans) y.device.memories y.device.blocks → IsMarkAt x.present.table.ranges x.queues.queues y.device.marks t.block → (is_ended_at t.block y.device.marks ≡ true) × (pins_at t.block y.device.marks ≡ 1)
     → IsRetired y.device e t.block → b.attached ≡ without_attachments t.block y.attached.attached → b.counter_max ≡ y.attached.counter_max → y.attached.spare ≤ b.spare → IsSteppedBy q x (record y { device = e; attached = b })
 unfolding stepped released
-last_steps q t x y queues e b first gone limit room marked is sized mark last retired forgot forgot_max forgot_spare = grind (arith, nat_tests, last_unused, memories_kept-without, state_by, room_same, none_taken, marks_drained)
+last_steps q t x y queues e b first gone limit room marked is sized mark last retired forgot forgot_max forgot_spare = grind (arith, nat_tests, pins_popped, unused, memories_kept-without, state_by, room_same, none_taken, marks_drained)
 
 -- its block stays
 pub more_steps : (q : ℕ) (t : Transfer) (x y : Environment) (queues : QueuesState) (e : DeviceState) → head_of q x.queues.queues ≡ Some t → queues.queues ≡ popped q x.queues.queues → queues.cap ≡ x.queues.cap → AreRoomsKept x.queues.spare queues.spare → AreMarked x
     → y ≡ made t (taken queues x) → IsMarkAt x.present.table.ranges x.queues.queues y.device.marks t.block → ((is_ended_at t.block y.device.marks ≡ true) × (pins_at t.block y.device.marks ≡ 1) → ⊥)
     → IsUnpinned y.device e t.block → IsSteppedBy q x (record y { device = e })
 unfolding stepped released
-more_steps q t x y queues e first gone limit room marked is mark more unpinned = grind (arith, nat_tests, more_used, state_by, room_same, none_taken, marks_unpinned)
+more_steps q t x y queues e first gone limit room marked is mark more unpinned = grind (arith, nat_tests, used_pinned, pins_popped, used_mapped, state_by, room_same, none_taken, marks_unpinned)

@@ -1,6 +1,6 @@
 -- How many transfers wait in a queue after tasks.
-use Rattle.std.proofs.Common.{ℕ, ◌≡◌, ◌+◌, ◌<◌, ◌∙◌, Bool, cond, ◌&&◌, List, [], ◌∷◌, length, Option, Some, None, Ok, arith}
-use Rattle.std.specs.Prelude.{◌==◌, nat_le, is_some}
+use Rattle.std.proofs.Common.{ℕ, ◌≡◌, ◌+◌, ◌<◌, ◌∙◌, cond, ◌&&◌, List, [], ◌∷◌, length, Option, Some, None, Ok, arith}
+use Rattle.std.specs.Prelude.{nat_le, is_some}
 use Rattle.std.proofs.lemmas.Bool.Decides.{nat_tests}
 use Rattle.std.proofs.lemmas.List.{length-set, length-append, get_or-set_same, get_or-set_other}
 use Rattle.acc_clauses.specs.Words.{Range, Transfer, Task, Step, Did}
@@ -9,7 +9,7 @@ use Rattle.acc_base.specs.declared.faults.Fault.TheVariants.{QueueFull}
 use Rattle.acc_base.specs.Results.{refuse_if}
 use Rattle.acc_base.specs.Limits.{Limits}
 use Rattle.acc_base.specs.Records.{Records}
-use Rattle.acc_base.specs.Queues.{queue_at, put, queue_named}
+use Rattle.acc_base.specs.Queues.{queue_at, queue_named}
 use Rattle.acc_base.specs.Tasks.{queue_of}
 use Rattle.acc_base.specs.Transfers.{transfer_of, room_for, queues_after}
 use Rattle.acc_base.specs.Steps.{records_after_birth, records_after_end, released, with_range_changed, act_row, act_step, act, act_all}
@@ -19,9 +19,6 @@ use Rattle.acc_clauses.specs.Overlays.{IsPlanned, tasks_in, dids_in, records_aft
 
 -- ---- one transfer
 
-if_some : {X : Type 0} (b : Bool) (x : X) → b ≡ is_some (cond b (Some x) None)
-if_some b x = grind (arith, nat_tests)
-
 -- the step has a transfer just as the tables say
 pub moves_some : (task : Task) (step : Step) (ranges : List Range) → moves task step ≡ is_some (transfer_of task step ranges)
 moves_some task step ranges = grind (arith, nat_tests)
@@ -30,13 +27,9 @@ moves_some task step ranges = grind (arith, nat_tests)
 length-after : (named : Option ℕ) (t : Option Transfer) (queues : List (List Transfer)) → length (queues_after named t queues) ≡ length queues
 length-after named t queues = grind (arith, nat_tests, length-set)
 
--- a queue after one more transfer in some queue
-waiting-put : (q p : ℕ) (t : Transfer) (queues : List (List Transfer)) → q < length queues → length (queue_at q (put p t queues)) ≡ length (queue_at q queues) + cond (p == q) 1 0
-waiting-put q p t queues there = grind (arith, nat_tests, get_or-set_same, length-append, get_or-set_other)
-
 waiting-after : (q : ℕ) (named : Option ℕ) (t : Option Transfer) (queues : List (List Transfer)) → q < length queues
     → length (queue_at q (queues_after named t queues)) ≡ length (queue_at q queues) + cond (is_queue q named && is_some t) 1 0
-waiting-after q named t queues there = grind (arith, nat_tests, waiting-put)
+waiting-after q named t queues there = grind (arith, nat_tests, get_or-set_same, length-append, get_or-set_other)
 
 -- ---- one task
 

@@ -23,7 +23,7 @@ use Rattle.acc_base.specs.Acting.{act_state}
 use Rattle.acc_base.specs.History.{IsAttachLegal}
 use Rattle.acc_base.specs.Accounts.{AreRecordsSound, AreMemoriesSized}
 use Rattle.acc_base.proofs.Results.{equal}
-use Rattle.acc_base.proofs.Judged.{IsJudgedTo, task_says, step_judged, not_lent_says, IsStepFree}
+use Rattle.acc_base.proofs.Judged.{IsJudgedTo, task_says, step_judged, IsStepFree}
 use Rattle.acc_base.proofs.Puts.{acted_sound}
 use Rattle.acc_base.proofs.Aimed.{leave_sound, exit_sound, move_sound, says_aimed, task_left}
 use Rattle.acc_base.proofs.Walked.{records-act_state}
@@ -52,7 +52,7 @@ can_attach l s named aim bounds h m legal = grind (arith, nat_tests, with_pointe
 
 can_detach : (l : Limits) (s : State) (immediate : Bool) (pointer block : ℕ) → IsWithinBounds l → AreRecordsSound l s.records → AreMemoriesSized l s → block_with pointer s.records.ranges ≡ Some block
     → not_lent (block_aimed (detach immediate block pointer s.records.attached)) s.records.loans ≡ Ok tt → CanAim l.counter_max (detach immediate block pointer s.records.attached) s
-can_detach l s immediate pointer block bounds h m e free = grind (arith, nat_tests, with_pointer, not_lent_says)
+can_detach l s immediate pointer block bounds h m e free = grind (arith, nat_tests, with_pointer)
 
 can_judged : (l : Limits) (s : State) (immediate : Bool) (named : Option ℕ) → IsWithinBounds l → AreRecordsSound l s.records → AreMemoriesSized l s → not_lent (block_aimed (detach_if immediate named s.records)) s.records.loans ≡ Ok tt → CanAim l.counter_max (detach_if immediate named s.records) s
 unfolding judge_detach

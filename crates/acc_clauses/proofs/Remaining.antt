@@ -2,12 +2,12 @@
 use Rattle.std.proofs.lemmas.Bool.Decides.{nat_tests}
 use Rattle.std.proofs.Common.{ℕ, suc, ◌≡◌, ◌+◌, ◌≤◌, sym, ◌∙◌, ap, List, [], ◌∷◌, ◌++◌, length, drop, arith, append_assoc, append-nil, length-append}
 use Rattle.std.proofs.lemmas.List.{drop_all}
-use Rattle.acc_clauses.specs.Words.{Task, Step, Did, Holding}
+use Rattle.acc_clauses.specs.Words.{Task, Did, Holding}
 use Rattle.acc_base.specs.declared.addresses.TheConstants.{MEMORY_MAX}
 use Rattle.acc_base.specs.Limits.{Limits, IsWithinBounds, IsFromOne}
 use Rattle.std.specs.List.{All, AllByRecursion}
 use Rattle.std.proofs.lemmas.List.Elements.{All-from_recursion}
-use Rattle.acc_base.proofs.Judged.{IsJudgedTo, task_says}
+use Rattle.acc_base.proofs.Judged.{task_says}
 use Rattle.acc_base.proofs.Walked.{records-act_state}
 use Rattle.acc_base.proofs.SameMapping.{mapping-act}
 use Rattle.acc_base.proofs.Births.{births_most}
@@ -96,13 +96,9 @@ holdings_done acts i holdings all h e = let none : drop i acts ≡ [] = drop_all
 
 -- ---- the lengths of blocks
 
--- a block that a task is judged to bear is not too long
-birth_fits : (l : Limits) (task : Task) (step : Step) (w : Records) → IsWithinBounds l → IsJudgedTo l task step w → AllByRecursion (IsFromOne MEMORY_MAX) (birth_of task step)
-birth_fits l task step w bounds says = grind (arith, nat_tests)
-
 lens_each : (l : Limits) (n : ℕ) (tasks : List Task) (dids : List Did) (w : Records) → IsWithinBounds l → AreJudged l n tasks dids w → AllByRecursion (IsFromOne MEMORY_MAX) (lens_born tasks dids)
 lens_each l n [] [] w bounds judged = tt
-lens_each l n (t ∷ ts) (d ∷ ds) w bounds judged = grind (arith, nat_tests, lens_each l (suc n) ts ds (act t d w) bounds judged.2, birth_fits l t d.step w bounds (task_says l n t w d.step judged.0), task_says l n t w d.step judged.0)
+lens_each l n (t ∷ ts) (d ∷ ds) w bounds judged = grind (arith, nat_tests, lens_each l (suc n) ts ds (act t d w) bounds judged.2, task_says l n t w d.step judged.0)
 lens_each l n _ _ w bounds judged = tt
 
 -- and so is none of those that tasks are judged to bear

@@ -6,17 +6,15 @@ use Rattle.std.proofs.lemmas.List.{length-map}
 use Rattle.acc_base.specs.declared.directives.Directive.{Directive}
 use Rattle.acc_base.specs.declared.tasks.Task.{Task}
 use Rattle.acc_base.specs.declared.events.Did.{Did}
-use Rattle.acc_base.specs.declared.events.Step.{Step}
 use Rattle.acc_base.specs.declared.transfers.TheConstants.{QUEUE_COUNT}
 use Rattle.acc_base.specs.Limits.{Limits}
 use Rattle.acc_base.specs.Records.{State}
 use Rattle.acc_base.specs.Tasks.{queue_of}
 use Rattle.acc_base.specs.Judge.{queue_in}
-use Rattle.acc_base.proofs.Results.{equal}
 use Rattle.acc_queues.specs.Queued.{spare_at}
 use Rattle.acc_clauses.specs.declared.acted.Acted.{Acted}
 use Rattle.acc_clauses.specs.Planned.{Planned, IsPlanOf}
-use Rattle.acc_clauses.specs.Overlays.{tasks_in, dids_in, is_queue, puts_by, puts_in}
+use Rattle.acc_clauses.specs.Overlays.{tasks_in, dids_in, is_queue, puts_in}
 use Rattle.acc_clauses.specs.Contents.{Contents, Room}
 use Rattle.acc_clauses.specs.Stored.{IsStoreSound}
 use Rattle.acc_clauses.proofs.Asking.{asked_fit}
@@ -30,9 +28,6 @@ abbrev AreOfQueue : Option ℕ → List Task → Type 0
 AreOfQueue queue tasks = AllByRecursion (λ t. queue_of t ≡ queue) tasks
 
 -- ---- the other queues
-
-none_by : (q : ℕ) (task : Task) (step : Step) (queue : Option ℕ) → queue_of task ≡ queue → is_queue q queue ≡ false → puts_by q task step ≡ 0
-none_by q task step queue same other = rw (same, other) refl
 
 -- nothing is put into a queue that the tasks do not name
 none_in : (q : ℕ) (queue : Option ℕ) (tasks : List Task) (dids : List Did) → AreOfQueue queue tasks → is_queue q queue ≡ false → puts_in q tasks dids ≡ 0
@@ -53,7 +48,7 @@ none_room d c p room h planned none = grind (arith, nat_tests, none_in, planned_
 -- one that names a queue puts into that one alone
 pub one_room : (d : Directive) (c : Contents) (p : Planned) (named : ℕ) (room : Room) → IsStoreSound c → IsPlanOf c.limits d c.state p → queue_in d ≡ Some named → puts_in named p.tasks p.dids ≤ spare_at named room.puts
     → HasPutRoom (λ q. puts_in q p.tasks p.dids) room
-one_room d c p named room h planned is enough = grind (arith, nat_tests, equal, none_in, planned_queue)
+one_room d c p named room h planned is enough = grind (arith, nat_tests, none_in, planned_queue)
 
 -- there is the queue that a planned directive names
 pub queue_there : (l : Limits) (d : Directive) (s : State) (p : Planned) (named : ℕ) → IsPlanOf l d s p → queue_in d ≡ Some named → named < QUEUE_COUNT

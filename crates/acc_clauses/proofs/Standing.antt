@@ -12,7 +12,6 @@ use Rattle.acc_base.specs.Blocks.{block_at, lowest}
 use Rattle.acc_base.specs.Queues.{pins_of}
 use Rattle.acc_base.specs.Waits.{told_ended, ended_from}
 use Rattle.acc_base.specs.Accounts.{IsClearOf, EachPair}
-use Rattle.acc_base.proofs.Results.{equal}
 use Rattle.acc_base.proofs.Elements.{AllByRecursion-weaker, AllByRecursion-filter, EachPair-weaker, found_has}
 use Rattle.acc_base.proofs.Lookups.{at-own}
 use Rattle.acc_dev.specs.Marks.{Mark, mark_at, pins_at, is_ended_at, ended_told, lowest_ended, IsMarkOf}
@@ -90,4 +89,4 @@ ended_is l x next from sound zip =
 
 -- a block that is not there is not lent
 pub no_loan : (k : ℕ) (d : DeviceState) → AllByRecursion (IsLoanOn d) d.loans → (HasBlock d k → ⊥) → loan_of k d.loans ≡ None
-no_loan k d h none = grind (arith, nat_tests, found_has, equal)
+no_loan k d h none = grind (arith, nat_tests, found_has)

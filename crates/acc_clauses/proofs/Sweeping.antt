@@ -80,7 +80,7 @@ out_run section run block start at stop x y e low inside first len ends = record
 
 pub out_in_host : (section run : Section) (block start at stop : ℕ) (x y : Environment) → y ≡ swept_out section block start at x → IsRun section run block x.attached.attached at stop → CanCopy section block start (bare_state x)
     → is_within run (host_memory (length y.host)) ≡ true
-out_in_host section run block start at stop x y e h can = grind (arith, nat_tests, run_fits, length-moved_out)
+out_in_host section run block start at stop x y e h can = grind (arith, nat_tests, length-moved_out)
 
 pub out_within : (section run : Section) (block start at stop : ℕ) (x y : Environment) → y ≡ swept_out section block start at x → IsRun section run block x.attached.attached at stop → CanCopy section block start (bare_state x)
     → is_within run (record { start = start; len = length (bytes_of block y.device.memories) }) ≡ true

@@ -53,9 +53,6 @@ IsPlanned-next l m xs ys task s at p next =
     let item = rw (state_after-records xs s) at (item_judged l m task next.did (state_after xs s) next.judged) in
     rw next.more (IsPlanned-push l m xs (record { task = task; did = next.did }) s.records at p item)
 
-prefixed-push : (done : List Did) (did : Did) (r : Result (List Did) Fault) → prefixed (done ++ did ∷ []) r ≡ prefixed done (r >>= λ rest. Ok (did ∷ rest))
-prefixed-push done did r = grind (arith, nat_tests, append_assoc)
-
 pub prefixed-nil : (r : Result (List Did) Fault) → prefixed [] r ≡ r
 prefixed-nil r = grind (arith, nat_tests)
 
@@ -74,7 +71,7 @@ pub turn : (l : Limits) (n i : ℕ) (xs ys : List Acted) (task : Task) (tasks : 
     → i < length tasks → task ≡ get_or tasks i d → IsJudgedNext l n task s xs ys
     → prefixed (dids_in xs) (judge_all l n (drop i tasks) (state_after xs s)) ≡ all
     → prefixed (dids_in ys) (judge_all l (n + 1) (drop (i + 1) tasks) (state_after ys s)) ≡ all
-turn l n i xs ys task tasks d s all within item next so = grind (arith, nat_tests, drop_more, judge_all-cons, state_after-push, dids_in-push, add-one, prefixed-push)
+turn l n i xs ys task tasks d s all within item next so = grind (arith, nat_tests, drop_more, judge_all-cons, state_after-push, dids_in-push, add-one, append_assoc)
 
 -- a refused task is the answer
 pub turn_refused : (l : Limits) (n i : ℕ) (xs : List Acted) (task : Task) (tasks : List Task) (d : Task) (s : State) (fault : Fault) (all : Result (List Did) Fault)

@@ -1,8 +1,7 @@
 -- What a planned directive makes of a store: the state after its event, and a store that is sound.
 use Rattle.std.proofs.lemmas.Bool.Decides.{nat_tests}
 use Rattle.std.proofs.Common.{◌≡◌, ◌≤◌, refl, sym, subst, ℕ, List, [], arith}
-use Rattle.acc_base.specs.declared.directives.Directive.{Directive}
-use Rattle.acc_base.specs.declared.events.Event.{Event}
+use Rattle.acc_clauses.specs.Words.{Directive, Event}
 use Rattle.acc_base.specs.Limits.{Limits, IsWithinBounds}
 use Rattle.acc_base.specs.Records.{Layout, State, layout_of}
 use Rattle.acc_base.specs.Ranges.{structured_of, dynamic_of}
@@ -40,13 +39,7 @@ finished_verdict l d s p h = go (verdict_of d s p.dids) refl
 
 -- a layout that is sound, told by its own counters
 told : (l : Limits) (lay : Layout) → IsLayoutSound l lay → IsTold l lay (λ b. structured_of b lay.records.ranges) (λ b. 0) (λ b. dynamic_of b lay.records.ranges)
-told l lay h = record {
-  sound = h.records;
-  numbered = record { first = h.register.first; rising = h.register.rising; known = h.register.known };
-  held = h.held;
-  structured = λ b. omega arith;
-  dynamic = λ b. refl;
-}
+told l lay h = grind (arith, nat_tests)
 
 -- a legal event keeps a layout sound, if no region holds too much after it
 pub layout_kept : (l : Limits) (e : Event) (lay : Layout) → IsWithinBounds l → IsLayoutSound l lay → IsLegal l e lay → AreFew (register_after e lay.register) → IsLayoutSound l (walk e lay)

@@ -40,15 +40,7 @@ with_pointers x ms b = record x { device = record x.device { memories = ms }; at
 aims_by : (aim : Aim) (x : Environment) (ms : List Memory) (b : AttachedState) → ((next : Numbers) → ms ≡ memories_aimed aim (state_of x next)) → b.attached ≡ attached_by aim x.attached.attached → b.counter_max ≡ x.attached.counter_max
     → x.attached.spare ≤ b.spare + pointers_of aim → AreMarked x → IsAimedBy aim x (with_pointers x ms b)
 unfolding aimed
-aims_by aim x ms b memories attached limit spare marked = record {
-  state = λ next. state_by (with_pointers x ms b) next (aimed aim (state_of x next)) refl refl attached refl refl refl refl refl refl refl (memories next);
-  counter_max = refl;
-  memory = refl;
-  pointer_max = limit;
-  queue_cap = refl;
-  room = record { births_are = refl; ranges = omega arith; regions = omega arith; holdings = omega arith; attachments = spare; puts = λ q. omega arith };
-  marked = marked;
-}
+aims_by aim x ms b memories attached limit spare marked = grind (arith, nat_tests)
 
 pub none_aims : (x : Environment) → AreMarked x → IsAimedBy aims.None x x
 none_aims x marked = aims_by aims.None x x.device.memories x.attached (λ next. refl) refl refl (omega arith) marked

@@ -27,6 +27,7 @@ use Rattle.acc_clauses.specs.declared.acted.Acted.{Acted}
 use Rattle.acc_clauses.specs.Overlays.{tasks_in, dids_in, records_after, IsPlanned}
 use Rattle.acc_clauses.specs.Aims.{count_over}
 use Rattle.acc_clauses.proofs.AimsFound.{pointer_in_block}
+use Rattle.acc_clauses.proofs.Overlaid.{first_left}
 
 -- ---- a block whose mapping has ended is never mapped again
 
@@ -67,7 +68,7 @@ unfolding act_all
 gone-after l n [] w block bounds h judged gone = gone
 gone-after l n (x ∷ xs) w block bounds h judged gone =
     let says = task_says l n x.task w x.did.step judged.0 in
-    let left : IsLeft l x.task x.did w (act x.task x.did w) = task_left l x.task x.did w bounds h says (step_judged l n x.task w x.did.step judged.0).free judged.1 in
+    let left : IsLeft l x.task x.did w (act x.task x.did w) = first_left l n x xs w bounds h judged in
     gone-after l (suc n) xs (act x.task x.did w) block bounds left.sound judged.2 (gone-act l x.task x.did w block h says left gone)
 
 -- the block whose mapping a task ends was born
@@ -105,7 +106,7 @@ ends_none l n x xs w block bounds h judged mapped = go x.did.step refl
     says = task_says l n x.task w x.did.step judged.0
 
     sound : AreRecordsSound l (act x.task x.did w)
-    sound = (task_left l x.task x.did w bounds h says (step_judged l n x.task w x.did.step judged.0).free judged.1).sound
+    sound = (first_left l n x xs w bounds h judged).sound
 
     gone : (k : ℕ) → x.did.step ≡ Dropped k true → IsGone (act x.task x.did w) k
     gone k is =
@@ -128,7 +129,7 @@ unfolding act_all
 count-after l n [] w block pointer bounds h judged mapped = refl
 count-after l n (x ∷ xs) w block pointer bounds h judged mapped =
     let says = task_says l n x.task w x.did.step judged.0 in
-    let left : IsLeft l x.task x.did w (act x.task x.did w) = task_left l x.task x.did w bounds h says (step_judged l n x.task w x.did.step judged.0).free judged.1 in
+    let left : IsLeft l x.task x.did w (act x.task x.did w) = first_left l n x xs w bounds h judged in
     ap (λ c. count_over block pointer c xs) (sym (count-act x.task x.did w block pointer (ends_none l n x xs w block bounds h judged mapped)))
     ∙ count-after l (suc n) xs (act x.task x.did w) block pointer bounds left.sound judged.2 mapped
 

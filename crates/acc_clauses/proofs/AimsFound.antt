@@ -31,6 +31,7 @@ use Rattle.acc_clauses.specs.declared.acted.Acted.{Acted}
 use Rattle.acc_clauses.specs.Overlays.{tasks_in, dids_in, records_after, enters, found_beside}
 use Rattle.acc_clauses.proofs.Founds.{where_is-with, where_is-changed}
 use Rattle.acc_clauses.proofs.AimsPlaced.{no_block-new, there-act}
+use Rattle.acc_clauses.proofs.Overlaid.{first_left}
 
 -- ---- what lies in a block
 
@@ -123,7 +124,7 @@ before-after l n (x ∷ xs) w pointer block bounds h judged entries there e =
     let says = task_says l n x.task w x.did.step judged.0 in
     let kinds = and_true (enters x.task) (list_all enters (tasks_in xs)) entries in
     before-act l x.task x.did w pointer block h says kinds.0 there
-    (before-after l (suc n) xs (act x.task x.did w) pointer block bounds (task_left l x.task x.did w bounds h says (step_judged l n x.task w x.did.step judged.0).free judged.1).sound judged.2 kinds.1 (there-act l x.task x.did w block says kinds.0 there) e)
+    (before-after l (suc n) xs (act x.task x.did w) pointer block bounds (first_left l n x xs w bounds h judged).sound judged.2 kinds.1 (there-act l x.task x.did w block says kinds.0 there) e)
 
 -- ---- targets
 

@@ -28,6 +28,7 @@ use Rattle.acc_base.proofs.Walked.{records-act_state}
 use Rattle.acc_clauses.specs.declared.acted.Acted.{Acted}
 use Rattle.acc_clauses.specs.Overlays.{tasks_in, dids_in, records_after, state_after, enters, IsPlanned}
 use Rattle.acc_clauses.specs.Aims.{place_by, place_over}
+use Rattle.acc_clauses.proofs.Overlaid.{first_left}
 
 -- ---- one block more
 
@@ -84,7 +85,7 @@ place-after l n (x ∷ xs) w block bounds h judged entries =
     let says = task_says l n x.task w x.did.step judged.0 in
     let kinds = and_true (enters x.task) (list_all enters (tasks_in xs)) entries in
     ap (λ p. place_over block p xs) (sym (place-act l x.task x.did w block h says kinds.0))
-    ∙ place-after l (suc n) xs (act x.task x.did w) block bounds (task_left l x.task x.did w bounds h says (step_judged l n x.task w x.did.step judged.0).free judged.1).sound judged.2 kinds.1
+    ∙ place-after l (suc n) xs (act x.task x.did w) block bounds (first_left l n x xs w bounds h judged).sound judged.2 kinds.1
 
 pub place-planned : (l : Limits) (xs : List Acted) (w : Records) (block : ℕ) → IsPlanned l xs w → list_all enters (tasks_in xs) ≡ true
     → place_over block (place_of block w.blocks) xs ≡ place_of block (records_after xs w).blocks

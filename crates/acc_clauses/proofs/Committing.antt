@@ -5,13 +5,8 @@ use Rattle.std.specs.List.{AllByRecursion}
 use Rattle.std.proofs.lemmas.Bool.Decides.{nat_tests}
 use Rattle.std.proofs.lemmas.Grind.{reverse_onto}
 use Rattle.acc_base.specs.Loans.{none_lent}
-use Rattle.acc_base.specs.declared.items.Item.{Item}
-use Rattle.acc_base.specs.declared.items.RegionClause.{RegionClause}
-use Rattle.acc_base.specs.declared.directives.Directive.{Directive}
+use Rattle.acc_clauses.specs.Words.{Item, RegionClause, Directive, Holding, Task, Did, Event}
 use Rattle.acc_base.specs.declared.directives.Directive.TheVariants as directives
-use Rattle.acc_base.specs.declared.regions.Holding.{Holding}
-use Rattle.acc_base.specs.declared.tasks.Task.{Task}
-use Rattle.acc_base.specs.declared.events.Did.{Did}
 use Rattle.acc_base.specs.Limits.{Limits, IsWithinBounds}
 use Rattle.acc_base.specs.Records.{Records, State}
 use Rattle.acc_base.specs.Register.{Region, Register, holdings_at, opened, closed, count_held, is_counted_block}
@@ -19,7 +14,6 @@ use Rattle.acc_base.specs.Ranges.{range_of}
 use Rattle.acc_base.specs.Blocks.{used_bytes}
 use Rattle.acc_base.specs.Steps.{act, act_all}
 use Rattle.acc_base.specs.Waits.{records_drained}
-use Rattle.acc_base.specs.declared.events.Event.{Event}
 use Rattle.acc_base.specs.Walk.{enter_task, enter_data_task, exit_task, move_task}
 use Rattle.acc_base.specs.Acting.{act_all_state}
 use Rattle.acc_base.specs.Judge.{tasks_with, holdings_left, transfers_in, Verdict, Makes, Idle, verdict_of}
@@ -35,7 +29,7 @@ use Rattle.acc_clauses.specs.Planned.{Planned, IsPlanOf, holdings_by, register_b
 use Rattle.acc_clauses.specs.Contents.{Contents}
 use Rattle.acc_clauses.specs.Acts.{IsKnown, AreKnown, HasRegionRoom, CanFinish}
 use Rattle.acc_clauses.specs.Stored.{IsHeldWithin, IsHoldingWithin, AreHoldingsWithin, IsStoreSound}
-use Rattle.acc_clauses.proofs.Holding.{leaves_known}
+use Rattle.acc_clauses.proofs.Holding.{leaves_known, holdings_same}
 use Rattle.acc_clauses.proofs.Entering.{regions_within, entered_within}
 use Rattle.acc_clauses.proofs.Asking.{asked_with}
 use Rattle.acc_clauses.proofs.Events.{IsEventOf, held_asked, still, event_of_plan, planned_judged, planned_legal, idle_plan}
@@ -167,12 +161,7 @@ all_finished d p ts ds s t u a b e f = f ∙ ap (finished d p) (e ∙ ap (λ x. 
 -- ---- queued transfers leave what is held
 
 within_drained : (qs : List ℕ) (w : Records) (regions : List Region) → AreHoldingsWithin w regions → AreHoldingsWithin (records_drained qs w) regions
-within_drained qs w regions h =
-    AllByRecursion-weaker (λ (r : Region). AllByRecursion (IsHoldingWithin w) r.holdings) (λ (r : Region). AllByRecursion (IsHoldingWithin (records_drained qs w)) r.holdings) regions
-    (λ r held. AllByRecursion-weaker (IsHoldingWithin w) (IsHoldingWithin (records_drained qs w)) r.holdings (λ x p k e. one x k (p k e)) held) h
-  where
-    one : (x : Holding) (k : ℕ) → IsHeldWithin w x.item.section k → IsHeldWithin (records_drained qs w) x.item.section k
-    one x k p = record { born = subst (λ n. k ≤ n) (sym (births-drained qs w)) p.born; within = λ r e. p.within r (ap (range_of k) (sym (ranges-drained qs w)) ∙ e) }
+within_drained qs w regions h = holdings_same w (records_drained qs w) regions (ranges-drained qs w) (births-drained qs w) h
 
 -- what open regions hold lies within once a plan is finished
 within_finished : (d : Directive) (c : Contents) (p : Planned) → IsWithinBounds c.limits → IsStoreSound c → IsPlanOf c.limits d c.state p

@@ -40,18 +40,10 @@ length-ended_of (x ∷ xs) = omega (arith, length-ended_of xs, length-end_by x.d
 -- a draft with one more task
 pub drafted : (xs : List Acted) (x : Acted) (births births' : List (ℕ × ℕ)) (ended ended' : List ℕ) (step : Step) → IsDraft xs births ended → length xs < 64 → x.did.step ≡ step
     → births' ≡ births ++ birth_by x.task step → ended' ≡ ended ++ end_by step → IsDraft (xs ++ x ∷ []) births' ended'
-drafted xs x births births' ended ended' step draft few is b e = record {
-  births_are = b ∙ (ap (λ ps. ps ++ birth_by x.task step) draft.births_are ∙ (ap (λ t. births_of xs ++ birth_by x.task t) (sym is) ∙ sym (births_of-push xs x)));
-  ended_are = e ∙ (ap (λ ps. ps ++ end_by step) draft.ended_are ∙ (ap (λ t. ended_of xs ++ end_by t) (sym is) ∙ sym (ended_of-push xs x)));
-  few = omega (arith, length-append xs (x ∷ []));
-}
+drafted xs x births births' ended ended' step draft few is b e = grind (arith, nat_tests, births_of-push, ended_of-push, length-append)
 
 -- its births and ends are those of its steps, whatever became of the last pointer
 pub drafted_aimed : (xs : List Acted) (x : Acted) (aim : Aim) (births : List (ℕ × ℕ)) (ended : List ℕ) → IsDraft (xs ++ x ∷ []) births ended → IsDraft (xs ++ with_aim aim x ∷ []) births ended
-drafted_aimed xs x aim births ended draft = record {
-  births_are = draft.births_are ∙ (births_of-push xs x ∙ sym (births_of-push xs (with_aim aim x)));
-  ended_are = draft.ended_are ∙ (ended_of-push xs x ∙ sym (ended_of-push xs (with_aim aim x)));
-  few = omega (arith, draft.few, length-append xs (x ∷ []), length-append xs (with_aim aim x ∷ []));
-}
+drafted_aimed xs x aim births ended draft = grind (arith, nat_tests, births_of-push, ended_of-push, length-append)
 
 pub ruleset tally_laws = (births_of-push, ended_of-push, length-births_of, length-ended_of, append-nil)

@@ -27,7 +27,7 @@ use Rattle.acc_base.proofs.Aimed.{task_left}
 use Rattle.acc_clauses.specs.Acts.{IsMappedAround}
 use Rattle.acc_clauses.specs.Stored.{IsHeldWithin, IsHoldingWithin, AreHoldingsWithin}
 use Rattle.acc_clauses.proofs.Legal.{mapped_around}
-use Rattle.acc_clauses.proofs.Holding.{within_step, held_act, within_act}
+use Rattle.acc_clauses.proofs.Holding.{within_step, held_act, within_act, holdings_kept}
 
 -- ---- all tasks
 
@@ -40,9 +40,7 @@ within_all l n _ _ w s b judged h = absurd judged
 
 -- and so does what open regions hold
 pub regions_within : (l : Limits) (n : ℕ) (tasks : List Task) (dids : List Did) (w : Records) (regions : List Region) → AreJudged l n tasks dids w → AreHoldingsWithin w regions → AreHoldingsWithin (act_all tasks dids w) regions
-regions_within l n tasks dids w regions judged h =
-    AllByRecursion-weaker (λ (r : Region). AllByRecursion (IsHoldingWithin w) r.holdings) (λ (r : Region). AllByRecursion (IsHoldingWithin (act_all tasks dids w)) r.holdings) regions
-    (λ r held. AllByRecursion-weaker (IsHoldingWithin w) (IsHoldingWithin (act_all tasks dids w)) r.holdings (λ x p k e. within_all l n tasks dids w x.item.section k judged (p k e)) held) h
+regions_within l n tasks dids w regions judged h = holdings_kept w (act_all tasks dids w) regions (λ s k p. within_all l n tasks dids w s k judged p) h
 
 -- ---- what an entry counts
 

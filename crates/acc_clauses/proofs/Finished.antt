@@ -2,9 +2,7 @@
 use Rattle.std.proofs.lemmas.Bool.Decides.{nat_tests}
 use Rattle.std.proofs.Common.{ℕ, ◌≡◌, refl, ◌∙◌, ap, List, [], ◌∷◌, Option, arith}
 use Rattle.acc_base.specs.declared.directives.Directive.TheVariants.{Enter, Exit, Wait, Step}
-use Rattle.acc_base.specs.declared.items.Item.{Item}
-use Rattle.acc_base.specs.declared.items.RegionClause.{RegionClause}
-use Rattle.acc_base.specs.declared.regions.Holding.{Holding}
+use Rattle.acc_clauses.specs.Words.{Item, RegionClause, Holding}
 use Rattle.acc_base.specs.Records.{State}
 use Rattle.acc_base.specs.Register.{Register, opened, closed}
 use Rattle.acc_base.specs.Waits.{stepped, drained, steps_of}

@@ -48,11 +48,7 @@ queue_spare task step q x named moving puts = grind (arith, nat_tests)
 -- the transfer of a step can be put into the queue that its task names
 pub step_puts : (task : Task) (step : Step) (q : ℕ) (t : Transfer) (x y : Environment) → queue_of task ≡ Some q → transfer_of task step x.present.table.ranges ≡ Some t → moves task step ≡ true → CanQueue task step x → HasPutRoom (λ q. puts_by q task step) (room_of x)
     → y.queues ≡ x.queues → IsSome (block_at t.block y.device.blocks) → CanPut q t y
-step_puts task step q t x y named is moving can puts same there = record {
-  room = rw same (queue_below task step q t x named is can);
-  spare = rw same (queue_spare task step q x named moving puts);
-  there = there;
-}
+step_puts task step q t x y named is moving can puts same there = grind (arith, nat_tests)
 
 -- a copy of the section of a task to or from the block that it is mapped to can be made at once, or be put into the queue that the task names
 pub can_move_bytes : (task : Task) (step : Step) (k : ℕ) (x : Environment) (queue : Option ℕ) (t : Transfer) → CanMove (section_of task) k (bare_state x) → queue ≡ queue_of task → t ≡ transfer_at task k x.present.table.ranges

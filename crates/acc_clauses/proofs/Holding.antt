@@ -12,7 +12,7 @@ use Rattle.acc_base.specs.Limits.{Limits, IsWithinBounds}
 use Rattle.acc_base.specs.Section.{is_within}
 use Rattle.acc_base.specs.Records.{Records}
 use Rattle.acc_base.specs.Ranges.{range_of, structured_of, changed_at, without_range}
-use Rattle.acc_base.specs.Register.{is_counted_block, count_held}
+use Rattle.acc_base.specs.Register.{Region, is_counted_block, count_held}
 use Rattle.acc_base.specs.Tasks.{recounted}
 use Rattle.acc_base.specs.Steps.{act_row, act_step, act, released, records_after_birth, records_after_end, with_range_changed}
 use Rattle.acc_base.specs.History.{AreJudged}
@@ -26,7 +26,7 @@ use Rattle.acc_base.proofs.Recounted.{names, birth_number}
 use Rattle.acc_base.proofs.Aimed.{IsLeft, task_left}
 use Rattle.acc_base.proofs.Memories.{recounted-block, recounted-section}
 use Rattle.acc_clauses.specs.Acts.{IsKnown, AreKnown}
-use Rattle.acc_clauses.specs.Stored.{IsHeldWithin, IsHoldingWithin}
+use Rattle.acc_clauses.specs.Stored.{IsHeldWithin, IsHoldingWithin, AreHoldingsWithin}
 use Rattle.acc_base.proofs.SameMapping.{mapping-act}
 use Rattle.acc_base.proofs.Lending.{range_of-with_other}
 
@@ -66,12 +66,21 @@ within_step l task (Dropped k true) w s b says h = record { born = h.born; withi
 within_step l task (Dropped k false) w s b says h = record { born = h.born; within = within_changed task k b w.ranges s h.within }
 within_step l task _ w s b says h = record { born = h.born; within = h.within }
 
+-- what is held does not hang on other records than ranges and births
+held_same : (w v : Records) (s : Section) (b : ℕ) → v.ranges ≡ w.ranges → v.births ≡ w.births → IsHeldWithin w s b → IsHeldWithin v s b
+held_same w v s b ranges births h = record { born = subst (λ n. b ≤ n) (sym births) h.born; within = λ r e. h.within r (ap (range_of b) (sym ranges) ∙ e) }
+
+-- what open regions hold stays within where each section that is held does
+pub holdings_kept : (w v : Records) (regions : List Region) → ((s : Section) (k : ℕ) → IsHeldWithin w s k → IsHeldWithin v s k) → AreHoldingsWithin w regions → AreHoldingsWithin v regions
+holdings_kept w v regions keeps h = AllByRecursion-weaker (λ (r : Region). AllByRecursion (IsHoldingWithin w) r.holdings) (λ (r : Region). AllByRecursion (IsHoldingWithin v) r.holdings) regions
+    (λ r held. AllByRecursion-weaker (IsHoldingWithin w) (IsHoldingWithin v) r.holdings (λ x p k e. keeps x.item.section k (p k e)) held) h
+
+pub holdings_same : (w v : Records) (regions : List Region) → v.ranges ≡ w.ranges → v.births ≡ w.births → AreHoldingsWithin w regions → AreHoldingsWithin v regions
+holdings_same w v regions ranges births h = holdings_kept w v regions (λ s k p. held_same w v s k ranges births p) h
+
 -- the pointer of a task changes nothing of what is held
 pub held_act : (task : Task) (did : Did) (w : Records) (s : Section) (b : ℕ) → IsHeldWithin (act_step task did.step w) s b → IsHeldWithin (act task did w) s b
-held_act task did w s b h = record {
-  born = subst (λ n. b ≤ n) (sym (mapping-act task did w).births) h.born;
-  within = λ r e. h.within r (ap (range_of b) (sym (mapping-act task did w).ranges) ∙ e);
-}
+held_act task did w s b h = held_same (act_step task did.step w) (act task did w) s b (mapping-act task did w).ranges (mapping-act task did w).births h
 
 -- so it stays within after a task
 pub within_act : (l : Limits) (task : Task) (did : Did) (w : Records) (s : Section) (b : ℕ) → IsJudgedTo l task did.step w → IsHeldWithin w s b → IsHeldWithin (act task did w) s b

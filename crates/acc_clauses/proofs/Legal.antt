@@ -49,22 +49,7 @@ record IsWhole (l : Limits) (w : Records) (r : Range) : Type 0 where
   in_host : IsHostSection l r.section
 
 pub can_move : (l : Limits) (s : State) (section : Section) (k : ℕ) → IsWithinBounds l → AreRecordsSound l s.records → AreMemoriesSized l s → IsMappedAround s.records section k → CanMove section k s
-can_move l s section k bounds h m around =
-    let has : IsWhole l s.records around.range × ((around.range.block == k) ≡ true) =
-    found_has (IsWhole l s.records) (λ r. r.block == k) s.records.ranges around.range
-    (AllByRecursion-both (IsMapped s.records.blocks) (λ r. IsHostSection l r.section) (IsWhole l s.records) s.records.ranges (λ r a b. record { mapped = a; in_host = b }) h.one_block_each.mapped h.ranges_apart.in_host) around.range_is in
-    let b : Block = has.0.mapped.0 in
-    let there : block_at k s.records.blocks ≡ Some b = subst (λ n. block_at n s.records.blocks ≡ Some b) (equal around.range.block k has.1) has.0.mapped.1 in
-    let inside : is_within section (host_memory l.host) ≡ true = within_both section around.range.section (host_memory l.host) around.within has.0.in_host.within in
-    record {
-      in_host = subst (λ n. is_within section (host_memory n) ≡ true) (sym m.host) inside;
-      end = host_end section l.host inside bounds.host.1;
-      range = around.range;
-      range_is = around.range_is;
-      within = around.within;
-      there = is_some (block_at k s.records.blocks) b there;
-      len = λ free. bytes_of-len s.records.loans k s.memories s.records.blocks b m.blocks free there ∙ has.0.mapped.2;
-    }
+can_move l s section k bounds h m around = grind (arith, nat_tests, found_has, equal, within_both, host_end, is_some, bytes_of-len)
 
 -- the counters of the range of a block keep their limit
 pub limit_of : (l : Limits) (w : Records) (k : ℕ) (r : Range) → AreRecordsSound l w → range_of k w.ranges ≡ Some r → IsCounted l r

@@ -35,6 +35,7 @@ use Rattle.acc_clauses.specs.Lending.{IsLoanPlanned, lent_state, gathered_state}
 use Rattle.acc_clauses.proofs.Changes.{state_by}
 use Rattle.acc_clauses.proofs.Standing.{told}
 use Rattle.acc_clauses.proofs.AfterPlan.{event_sound}
+use Rattle.acc_clauses.proofs.Holding.{holdings_same}
 
 -- ---- what the device needs
 
@@ -45,9 +46,7 @@ record IsThere (blocks : List Block) (loan : Loan) (range : Range) : Type 0 wher
   len : block.len ≡ range.section.len
 
 loan_there : (l : Limits) (w : Records) (loan : Loan) → AreRecordsSound l w → (sound : IsLoanSound w.ranges loan) → IsThere w.blocks loan sound.range
-loan_there l w loan h sound =
-    let has : IsMapped w.blocks sound.range × ((sound.range.block == loan.block) ≡ true) = found_has (IsMapped w.blocks) (λ r. r.block == loan.block) w.ranges sound.range h.one_block_each.mapped sound.mapped in
-    record { block = has.0.0; at = subst (λ n. block_at n w.blocks ≡ Some has.0.0) (equal sound.range.block loan.block has.1) has.0.1; len = has.0.2 }
+loan_there l w loan h sound = grind (arith, nat_tests, found_has, equal)
 
 pub lend_there : (l : Limits) (x : Environment) (n : Numbers) (loan : Loan) → ArePartsSound l x n → IsLoanSound x.present.table.ranges loan → HasBlock x.device loan.block
 lend_there l x n loan parts sound = grind (arith, nat_tests, loan_there l (state_of x n).records loan parts.sound.records sound)
@@ -172,25 +171,16 @@ pub gathered_after : (lease : Leased) (s : State) → gathered_state lease s ≡
 unfolding after loaned drained act_all_state
 gathered_after lease s = refl
 
--- what open regions hold stays where it is
-kept_holdings : (s t : State) → t.records.ranges ≡ s.records.ranges → t.records.births ≡ s.records.births → t.register.regions ≡ s.register.regions → AreHoldingsWithin s.records s.register.regions → AreHoldingsWithin t.records t.register.regions
-kept_holdings s t ranges births regions h = subst (AreHoldingsWithin t.records) (sym regions)
-    (AllByRecursion-weaker (λ (r : Region). AllByRecursion (IsHoldingWithin s.records) r.holdings) (λ (r : Region). AllByRecursion (IsHoldingWithin t.records) r.holdings) s.register.regions
-    (λ r held. AllByRecursion-weaker (IsHoldingWithin s.records) (IsHoldingWithin t.records) r.holdings (λ x p k e. one x k (p k e)) held) h)
-  where
-    one : (x : Holding) (k : ℕ) → IsHeldWithin s.records x.item.section k → IsHeldWithin t.records x.item.section k
-    one x k p = record { born = subst (λ n. k ≤ n) (sym births) p.born; within = λ r e. p.within r (ap (range_of k) (sym ranges) ∙ e) }
-
 pub lent_store : (region : ℕ) (section : Section) (c f : Contents) (loan : Loan) → IsWithinBounds c.limits → IsStoreSound c → IsLoanPlanned c.limits region section c.state loan → f.limits ≡ c.limits → f.state ≡ lent_state loan c.state → IsStoreSound f
 lent_store region section c f loan bounds h p limits is =
     let says : IsLendable c.limits region section c.state loan = planned_says c.limits region section c.state loan h.sound.layout.records p in
     event_sound c.limits (Lent region section loan.block loan.serial) [] c f bounds refl limits h says.legal tt (is ∙ lent_after region section loan c.state p.loan_is) h.sound.layout.register.few
     (subst (λ (t : State). used_bytes t.records.blocks ≤ c.limits.device) (sym is) h.sound.bytes_accounted)
-    (subst (λ (t : State). AreHoldingsWithin t.records t.register.regions) (sym is) (kept_holdings c.state (lent_state loan c.state) refl refl refl h.holdings))
+    (subst (λ (t : State). AreHoldingsWithin t.records t.register.regions) (sym is) (holdings_same c.state.records (lent_state loan c.state).records c.state.register.regions refl refl h.holdings))
 
 pub gathered_store : (c f : Contents) (lease : Leased) → IsWithinBounds c.limits → IsStoreSound c → gather_event lease c.state.records ≡ Ok (Gathered lease.serial lease.block) → f.limits ≡ c.limits → f.state ≡ gathered_state lease c.state → IsStoreSound f
 gathered_store c f lease bounds h fits limits is =
     let says : IsGathered c.limits lease c.state (Gathered lease.serial lease.block) = gather_legal c.limits lease c.state (Gathered lease.serial lease.block) h.sound.layout.records fits in
     event_sound c.limits (Gathered lease.serial lease.block) lease.bytes c f bounds refl limits h says.legal says.fits (is ∙ gathered_after lease c.state) h.sound.layout.register.few
     (subst (λ (t : State). used_bytes t.records.blocks ≤ c.limits.device) (sym is) h.sound.bytes_accounted)
-    (subst (λ (t : State). AreHoldingsWithin t.records t.register.regions) (sym is) (kept_holdings c.state (gathered_state lease c.state) refl refl refl h.holdings))
+    (subst (λ (t : State). AreHoldingsWithin t.records t.register.regions) (sym is) (holdings_same c.state.records (gathered_state lease c.state).records c.state.register.regions refl refl h.holdings))

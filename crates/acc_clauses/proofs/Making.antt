@@ -22,6 +22,7 @@ use Rattle.acc_clauses.proofs.Emptying.{first_free, same_loans}
 use Rattle.acc_clauses.proofs.Moving.{bytes_of-len}
 use Rattle.acc_clauses.proofs.Steps.{is_some}
 use Rattle.acc_clauses.proofs.Legal.{host_end}
+use Rattle.acc_clauses.proofs.Changes.{changed_sound}
 
 -- ---- before it
 
@@ -45,14 +46,5 @@ step_loans q s = same_loans (q ∷ []) s
 
 pub stepped_parts : (l : Limits) (x y : Environment) (next : Numbers) (q : ℕ) → ArePartsSound l x next → IsSteppedBy q x y → ArePartsSound l y next
 stepped_parts l x y next q sound done =
-    let after : AreRecordsSound l (stepped q (state_of x next)).records × AreMemoriesSized l (stepped q (state_of x next)) = step_sound l q (state_of x next) sound.sound.records sound.sound.memories in
-    let there : AreRecordsSound l (state_of y next).records × AreMemoriesSized l (state_of y next) =
-    subst (λ (s : State). AreRecordsSound l s.records × AreMemoriesSized l s) (sym (done.state next)) after in
-    let loans : y.device.loans ≡ x.device.loans = ap (λ (s : State). s.records.loans) (done.state next) ∙ step_loans q (state_of x next) in
-    record {
-      sized = record { counters = done.counter_max ∙ sound.sized.counters; device = done.memory ∙ sound.sized.device; pointers = done.pointer_max ∙ sound.sized.pointers; queues = done.queue_cap ∙ sound.sized.queues };
-      sound = record { records = there.0; memories = there.1 };
-      marked = done.marked;
-      lent = sound.lent ∙ ap length (sym loans);
-      few = sound.few;
-    }
+    let after = step_sound l q (state_of x next) sound.sound.records sound.sound.memories in
+    changed_sound l (stepped q) _ _ _ x y next sound done after.0 after.1 (step_loans q (state_of x next))

@@ -112,10 +112,7 @@ marks_put ranges q t queues marks known h = marks_changed (IsMarkRight ranges qu
 
 -- the mark of another block than that of the first transfer stays right
 popped_other : (ranges : List Range) (q : ℕ) (t : Transfer) (queues : List (List Transfer)) → head_of q queues ≡ Some t → (m : Mark) → (m.block == t.block) ≡ false → IsMarkRight ranges queues m → IsMarkRight ranges (popped q queues) m
-popped_other ranges q t queues first m e r =
-    let same : pins_of m.block (popped q queues) + 0 ≡ pins_of m.block queues = ap (λ b. pins_of m.block (popped q queues) + cond b 1 0) (sym (turned m.block t.block e)) ∙ pins-popped m.block q t queues first in
-    let pins : m.pins ≡ pins_of m.block queues = r.pins in
-    record { pins = omega (arith, same, pins); ended = r.ended }
+popped_other ranges q t queues first m e r = grind (arith, nat_tests, turned m.block t.block e, pins-popped m.block q t queues first)
 
 -- the block of the first transfer has one pin fewer
 pub pins_popped : (q : ℕ) (t : Transfer) (queues : List (List Transfer)) → head_of q queues ≡ Some t → pins_of t.block (popped q queues) + 1 ≡ pins_of t.block queues

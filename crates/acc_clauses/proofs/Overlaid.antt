@@ -16,7 +16,7 @@ use Rattle.acc_base.proofs.Judged.{IsJudgedTo, IsBirth, step_judged, task_says}
 use Rattle.acc_base.proofs.Results.{and_true}
 use Rattle.acc_base.proofs.Recounted.{moved_by, names}
 use Rattle.acc_base.proofs.Sound.{recounted_keeps}
-use Rattle.acc_base.proofs.Aimed.{task_left}
+use Rattle.acc_base.proofs.Aimed.{task_left, IsLeft}
 use Rattle.acc_base.proofs.Where.{absent_says}
 use Rattle.acc_dev.specs.Device.{planned_blocks}
 use Rattle.acc_clauses.specs.declared.acted.Acted.{Acted}
@@ -79,20 +79,19 @@ apart-act : (l : Limits) (task : Task) (did : Did) (w : Records) (s : Section) (
 apart-act l task did w s ended says none = apart-step l task did.step w s ended says none ∙ ap (where_is_apart s ended) (sym (mapping-act task did w).ranges)
 
 born-act : (l : Limits) (task : Task) (did : Did) (w : Records) → IsJudgedTo l task did.step w → enters task ≡ true → IsBornBy task did.step w (act task did w)
-born-act l task did w says entry =
-    let one = born-step l task did.step w says entry in
-    let same = mapping-act task did w in
-    record { blocks = same.blocks ∙ one.blocks; births = same.births ∙ one.births }
+born-act l task did w says entry = grind (arith, nat_tests, born-step, mapping-act)
 
 -- ---- tasks
+
+-- what the first of some tasks leaves
+pub first_left : (l : Limits) (n : ℕ) (x : Acted) (xs : List Acted) (w : Records) → IsWithinBounds l → AreRecordsSound l w → AreJudged l n (tasks_in (x ∷ xs)) (dids_in (x ∷ xs)) w → IsLeft l x.task x.did w (act x.task x.did w)
+first_left l n x xs w bounds h judged = task_left l x.task x.did w bounds h (task_says l n x.task w x.did.step judged.0) (step_judged l n x.task w x.did.step judged.0).free judged.1
 
 -- tasks that were judged keep the records sound
 pub sound-after : (l : Limits) (n : ℕ) (xs : List Acted) (w : Records) → IsWithinBounds l → AreRecordsSound l w → AreJudged l n (tasks_in xs) (dids_in xs) w → AreRecordsSound l (records_after xs w)
 unfolding act_all
 sound-after l n [] w bounds h judged = h
-sound-after l n (x ∷ xs) w bounds h judged =
-    let left = task_left l x.task x.did w bounds h (task_says l n x.task w x.did.step judged.0) (step_judged l n x.task w x.did.step judged.0).free judged.1 in
-    sound-after l (suc n) xs (act x.task x.did w) bounds left.sound judged.2
+sound-after l n (x ∷ xs) w bounds h judged = grind (arith, nat_tests, sound-after l (suc n) xs (act x.task x.did w) bounds (first_left l n x xs w bounds h judged).sound judged.2)
 
 -- both counters of a block after tasks
 pub counters-after : (l : Limits) (n : ℕ) (xs : List Acted) (w : Records) (b : ℕ) → IsWithinBounds l → AreRecordsSound l w → AreJudged l n (tasks_in xs) (dids_in xs) w
@@ -100,7 +99,7 @@ pub counters-after : (l : Limits) (n : ℕ) (xs : List Acted) (w : Records) (b :
 unfolding act_all
 counters-after l n [] w b bounds h judged = refl
 counters-after l n (x ∷ xs) w b bounds h judged =
-    let left = task_left l x.task x.did w bounds h (task_says l n x.task w x.did.step judged.0) (step_judged l n x.task w x.did.step judged.0).free judged.1 in
+    let left = first_left l n x xs w bounds h judged in
     ap (λ c. counters_over b c xs) (sym (counters-left x.task x.did.step b w.ranges (act x.task x.did w).ranges (λ c. left.counter_is c b)))
     ∙ counters-after l (suc n) xs (act x.task x.did w) b bounds left.sound judged.2
 

@@ -34,6 +34,7 @@ use Rattle.acc_clauses.specs.declared.environments.Environment.{Environment}
 use Rattle.acc_clauses.specs.Contents.{state_of, AreSizedBy, ArePartsSound, bare_state}
 use Rattle.acc_clauses.specs.Acts.{IsJudged, IsMappedAround, IsKnown, CanMove, CanAct, CanAim, CanEnter, CanLeave, CanQueue, CanDo, IsDoneBy}
 use Rattle.acc_clauses.proofs.Legal.{mapped_around, can_move, can_by}
+use Rattle.acc_clauses.proofs.Changes.{changed_sound}
 
 -- ---- what each attachment and each detachment needs
 
@@ -145,14 +146,7 @@ can_of l x (Move if_present item queue) did sized h = can_leave l x (Move if_pre
 
 pub can_do : (l : Limits) (x : Environment) (next : Numbers) (task : Task) (did : Did) → IsWithinBounds l → ArePartsSound l x next → x.device.births < 2 ^ 48
     → IsKnown (state_of x next).records task → IsJudged l task did (state_of x next).records → CanDo x task did
-can_do l x next task did bounds sound few known judged = can_of l x task did sound.sized (record {
-  bounds = bounds;
-  sound = sound.sound.records;
-  sized = record { host = sound.sound.memories.host; blocks = sound.sound.memories.blocks };
-  few = few;
-  known = known;
-  judged = judged;
-})
+can_do l x next task did bounds sound few known judged = search can_of
 
 -- ---- what a task leaves
 
@@ -166,15 +160,5 @@ done_sound l s task did bounds h m judged = (
 
 pub parts_sound : (l : Limits) (x y : Environment) (next : Numbers) (task : Task) (did : Did) → IsWithinBounds l → ArePartsSound l x next → IsJudged l task did (state_of x next).records → IsDoneBy task did x y → ArePartsSound l y next
 parts_sound l x y next task did bounds sound judged done =
-    let after : AreRecordsSound l (act_state task did (state_of x next)).records × AreMemoriesSized l (act_state task did (state_of x next)) =
-    done_sound l (state_of x next) task did bounds sound.sound.records sound.sound.memories judged in
-    let there : AreRecordsSound l (state_of y next).records × AreMemoriesSized l (state_of y next) =
-    subst (λ (s : State). AreRecordsSound l s.records × AreMemoriesSized l s) (sym (done.state next)) after in
-    let loans : y.device.loans ≡ x.device.loans = ap (λ (s : State). s.records.loans) (done.state next) ∙ (ap (λ (w : Records). w.loans) (records-act_state task did (state_of x next)) ∙ loans-act task did (state_of x next).records) in
-    record {
-      sized = record { counters = done.counter_max ∙ sound.sized.counters; device = done.memory ∙ sound.sized.device; pointers = done.pointer_max ∙ sound.sized.pointers; queues = done.queue_cap ∙ sound.sized.queues };
-      sound = record { records = there.0; memories = there.1 };
-      marked = done.marked;
-      lent = sound.lent ∙ ap length (sym loans);
-      few = sound.few;
-    }
+    let after = done_sound l (state_of x next) task did bounds sound.sound.records sound.sound.memories judged in
+    changed_sound l (act_state task did) _ _ _ x y next sound done after.0 after.1 (ap (λ (w : Records). w.loans) (records-act_state task did (state_of x next)) ∙ loans-act task did (state_of x next).records)

@@ -39,11 +39,7 @@ pub first_pointers : (l : Limits) (task : Task) (tasks : List Task) (did : Did) 
 first_pointers l task tasks did dids c h = omega (arith, h.pointers)
 
 pub first_room : (l : Limits) (task : Task) (tasks : List Task) (did : Did) (dids : List Did) (c : Contents) → CanRun l (task ∷ tasks) (did ∷ dids) c → HasRoomFor (birth_of task did.step) c.room
-first_room l task tasks did dids c h = record {
-  rest = lens_born tasks dids ++ h.room.rest;
-  births_are = h.room.births_are ∙ append_assoc (birth_of task did.step) (lens_born tasks dids) h.room.rest;
-  ranges = omega (arith, h.room.ranges, length-append (birth_of task did.step) (lens_born tasks dids));
-}
+first_room l task tasks did dids c h = grind (arith, nat_tests, append_assoc, length-append)
 
 pub first_puts : (l : Limits) (task : Task) (tasks : List Task) (did : Did) (dids : List Did) (c : Contents) → CanRun l (task ∷ tasks) (did ∷ dids) c → HasPutRoom (λ q. puts_by q task did.step) c.room
 first_puts l task tasks did dids c h = λ q. omega (arith, h.puts q)
@@ -56,21 +52,7 @@ same_rest (x ∷ xs) ys zs e = same_rest xs ys zs (cc)
 -- the others, after the first
 pub rest_can : (l : Limits) (task : Task) (tasks : List Task) (did : Did) (dids : List Did) (c e : Contents) → CanRun l (task ∷ tasks) (did ∷ dids) c → e.limits ≡ c.limits → e.state ≡ act_state task did c.state
     → IsRoomLeft (birth_of task did.step) (pointers_of did.aim) (λ q. puts_by q task did.step) c.room e.room → CanRun l tasks dids e
-rest_can l task tasks did dids c e h limits state room =
-    let records : e.state.records ≡ act task did c.state.records = ap (λ (s : State). s.records) state ∙ records-act_state task did c.state in
-    record {
-      limits = limits ∙ h.limits;
-      item = suc h.item;
-      judged = rw records h.judged.2;
-      known = rw records h.known.1;
-      room = record {
-        rest = h.room.rest;
-        births_are = same_rest (birth_of task did.step) e.room.births (lens_born tasks dids ++ h.room.rest) (sym room.births_are ∙ (h.room.births_are ∙ append_assoc (birth_of task did.step) (lens_born tasks dids) h.room.rest));
-        ranges = omega (arith, h.room.ranges, room.ranges, length-append (birth_of task did.step) (lens_born tasks dids));
-      };
-      pointers = omega (arith, h.pointers, room.attachments);
-      puts = λ q. omega (arith, h.puts q, room.puts q);
-    }
+rest_can l task tasks did dids c e h limits state room = grind (arith, nat_tests, records-act_state, same_rest, append_assoc, length-append)
 
 -- at most one block is born by a step
 pub births_next : (task : Task) (did : Did) (c e : Contents) → e.state ≡ act_state task did c.state → e.state.records.births ≤ c.state.records.births + 1

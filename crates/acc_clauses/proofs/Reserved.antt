@@ -3,9 +3,7 @@ use Rattle.std.proofs.Common.{ℕ, ◌≡◌, ◌<◌, ◌≤◌, refl, sym, ◌
 use Rattle.std.specs.List.{AllByRecursion}
 use Rattle.std.proofs.lemmas.Bool.Decides.{nat_tests}
 use Rattle.std.proofs.lemmas.List.{length-map}
-use Rattle.acc_base.specs.declared.directives.Directive.{Directive}
-use Rattle.acc_base.specs.declared.tasks.Task.{Task}
-use Rattle.acc_base.specs.declared.events.Did.{Did}
+use Rattle.acc_clauses.specs.Words.{Directive, Task, Did}
 use Rattle.acc_base.specs.declared.transfers.TheConstants.{QUEUE_COUNT}
 use Rattle.acc_base.specs.Limits.{Limits}
 use Rattle.acc_base.specs.Records.{State}
@@ -75,13 +73,4 @@ pub record IsReserved (p : Planned) (acts : List Acted) (lens : List ℕ) (point
   pub enough : pointers ≤ room.attachments
 
 pub plan_room : (p : Planned) (acts : List Acted) (lens : List ℕ) (pointers : ℕ) (old new : Room) → IsReserved p acts lens pointers old → IsSameRoom old new → HasPutRoom (λ q. puts_in q p.tasks p.dids) new → HasPlanRoom p new
-plan_room p acts lens pointers old new h same puts =
-    let count : length p.tasks ≡ length acts = ap length (sym h.tasks) ∙ length-map acts (λ (x : Acted). x.task) in
-    let more : pointers ≡ pointers_in p.dids = h.pointers_are ∙ ap pointers_in h.dids in
-    let births : HasRoomFor (lens_born p.tasks p.dids) old = subst (λ ls. HasRoomFor ls old) h.lens_are h.births in
-    record {
-      births = record { rest = births.rest; births_are = same.births ∙ births.births_are; ranges = omega (arith, births.ranges, same.ranges) };
-      region = record { regions = omega (arith, h.region.regions, same.regions); enough = omega (arith, h.region.enough, same.holdings, count) };
-      pointers = omega (arith, h.enough, more, same.attachments);
-      puts = puts;
-    }
+plan_room p acts lens pointers old new h same puts = grind (arith, nat_tests, length-map)

@@ -29,12 +29,7 @@ ends_at_next block attached at end next stop rising e some below most is = recor
 
 -- and where there is none
 pub ends_without : (block : ℕ) (attached : List Attachment) (at end : ℕ) → next_pointer block (at - 7) attached ≡ None → at < end → IsRunEnd block attached at end end
-ends_without block attached at end e some = record {
-  most = omega arith;
-  more = omega arith;
-  clear = λ a low high. clear_to_end block at a attached e low;
-  skipped = λ a low first last inside. absurd (omega (arith, first, inside));
-}
+ends_without block attached at end e some = grind (arith, nat_tests, clear_to_end)
 
 -- ---- which addresses are copied
 

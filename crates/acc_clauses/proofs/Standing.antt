@@ -19,38 +19,15 @@ use Rattle.acc_clauses.specs.declared.numbers.Numbers.{Numbers}
 use Rattle.acc_clauses.specs.declared.environments.Environment.{Environment}
 use Rattle.acc_clauses.specs.Contents.{state_of, IsMarkRight, ArePartsSound}
 use Rattle.acc_clauses.proofs.Steps.{is_some}
+use Rattle.acc_clauses.proofs.Marked.{IsMarkAt, mark_told}
 
 -- ---- the mark of a block
 
 abbrev number_in : Block → ℕ
 number_in b = b.number
 
--- the block has a mark, which is right
-record HasMark (k : ℕ) (ranges : List Range) (queues : List (List Transfer)) (ms : List Mark) : Type 0 where
-  mark : Mark
-  mark_is : mark_at k ms ≡ Some mark
-  own : mark.block ≡ k
-  right : IsMarkRight ranges queues mark
-
-mark_of : (k : ℕ) (ranges : List Range) (queues : List (List Transfer)) (ms : List Mark) (bs : List Block) → AllZip IsMarkOf ms bs → AllByRecursion (IsMarkRight ranges queues) ms → IsSome (block_at k bs) → HasMark k ranges queues ms
-mark_of k ranges queues [] [] zip right there = cc
-mark_of k ranges queues [] (b ∷ bs) zip right there = absurd zip
-mark_of k ranges queues (m ∷ ms) [] zip right there = cc
-mark_of k ranges queues (m ∷ ms) (b ∷ bs) zip right there = grind (arith, nat_tests, mark_of k ranges queues ms bs zip.1 right.1)
-
--- what it tells of a block
-pub record IsMarkTold (ranges : List Range) (queues : List (List Transfer)) (ms : List Mark) (k : ℕ) : Type 0 where
-  pub pins : pins_at k ms ≡ pins_of k queues
-  pub ended : is_ended_at k ms ≡ is_none (range_of k ranges)
-
-told_by : (k : ℕ) (ranges : List Range) (queues : List (List Transfer)) (ms : List Mark) → HasMark k ranges queues ms → IsMarkTold ranges queues ms k
-told_by k ranges queues ms h = record {
-  pins = ap (λ (o : Option Mark). unwrap_or (option_map (λ (m : Mark). m.pins) o) 0) h.mark_is ∙ h.right.pins ∙ ap (λ n. pins_of n queues) h.own;
-  ended = ap (λ (o : Option Mark). unwrap_or (option_map (λ (m : Mark). m.ended) o) false) h.mark_is ∙ h.right.ended ∙ ap (λ n. is_none (range_of n ranges)) h.own;
-}
-
-pub told : (l : Limits) (x : Environment) (next : Numbers) (k : ℕ) → ArePartsSound l x next → AllZip IsMarkOf x.device.marks x.device.blocks → IsSome (block_at k x.device.blocks) → IsMarkTold x.present.table.ranges x.queues.queues x.device.marks k
-told l x next k sound zip there = told_by k x.present.table.ranges x.queues.queues x.device.marks (mark_of k x.present.table.ranges x.queues.queues x.device.marks x.device.blocks zip sound.marked there)
+pub told : (l : Limits) (x : Environment) (next : Numbers) (k : ℕ) → ArePartsSound l x next → AllZip IsMarkOf x.device.marks x.device.blocks → IsSome (block_at k x.device.blocks) → IsMarkAt x.present.table.ranges x.queues.queues x.device.marks k
+told l x next k sound zip there = mark_told x.present.table.ranges x.queues.queues k x.device.marks x.device.blocks zip there sound.marked
 
 -- ---- the lowest block that has ended
 
@@ -66,14 +43,14 @@ lowest_has P (b ∷ bs) h = grind (arith, nat_tests, lowest_has P bs h.1)
 told_same : (queues : List (List Transfer)) (ms : List Mark) (o : Option Block) → IfSome o (λ b. pins_at b.number ms ≡ pins_of b.number queues) → option_map (ended_told ms) o ≡ option_map (told_ended queues) o
 told_same queues ms o h = grind (arith, nat_tests)
 
-lowest_same : (from : ℕ) (ranges : List Range) (queues : List (List Transfer)) (ms : List Mark) (bs : List Block) → AllByRecursion (λ b. IsMarkTold ranges queues ms b.number) bs
+lowest_same : (from : ℕ) (ranges : List Range) (queues : List (List Transfer)) (ms : List Mark) (bs : List Block) → AllByRecursion (λ b. IsMarkAt ranges queues ms b.number) bs
     → lowest_ended from ms bs ≡ option_map (told_ended queues) (lowest (filter (λ b. is_none (range_of b.number ranges) && nat_le from b.place) bs))
 lowest_same from ranges queues ms bs h =
     let p : Block → Bool = λ b. is_ended_at b.number ms && nat_le from b.place in
     let q : Block → Bool = λ b. is_none (range_of b.number ranges) && nat_le from b.place in
-    let same : filter p bs ≡ filter q bs = filter-same p q bs (AllByRecursion-weaker (λ (b : Block). IsMarkTold ranges queues ms b.number) (λ b. p b ≡ q b) bs (λ b t. ap (λ e. e && nat_le from b.place) t.ended) h) in
+    let same : filter p bs ≡ filter q bs = filter-same p q bs (AllByRecursion-weaker (λ (b : Block). IsMarkAt ranges queues ms b.number) (λ b. p b ≡ q b) bs (λ b t. ap (λ e. e && nat_le from b.place) t.ended) h) in
     let pins : AllByRecursion (λ (b : Block). pins_at b.number ms ≡ pins_of b.number queues) (filter q bs) =
-    AllByRecursion-filter (λ (b : Block). pins_at b.number ms ≡ pins_of b.number queues) q bs (AllByRecursion-weaker (λ (b : Block). IsMarkTold ranges queues ms b.number) (λ (b : Block). pins_at b.number ms ≡ pins_of b.number queues) bs (λ b t. t.pins) h) in
+    AllByRecursion-filter (λ (b : Block). pins_at b.number ms ≡ pins_of b.number queues) q bs (AllByRecursion-weaker (λ (b : Block). IsMarkAt ranges queues ms b.number) (λ (b : Block). pins_at b.number ms ≡ pins_of b.number queues) bs (λ b t. t.pins) h) in
     ap (λ cs. option_map (ended_told ms) (lowest cs)) same ∙ told_same queues ms (lowest (filter q bs)) (lowest_has (λ b. pins_at b.number ms ≡ pins_of b.number queues) (filter q bs) pins)
 
 -- the device finds the block that the records say
@@ -82,7 +59,7 @@ ended_is l x next from sound zip =
     let distinct : EachPair (λ (b : Block) (c : Block). b.number ≡ c.number → ⊥) x.device.blocks =
     EachPair-weaker IsClearOf (λ (b : Block) (c : Block). b.number ≡ c.number → ⊥) x.device.blocks (λ b c clear same. let less : b.number < c.number = clear.numbers in omega arith) sound.sound.records.blocks_apart.apart in
     lowest_same from x.present.table.ranges x.queues.queues x.device.marks x.device.blocks
-    (AllByRecursion-weaker (λ (b : Block). block_at b.number x.device.blocks ≡ Some b) (λ (b : Block). IsMarkTold x.present.table.ranges x.queues.queues x.device.marks b.number) x.device.blocks
+    (AllByRecursion-weaker (λ (b : Block). block_at b.number x.device.blocks ≡ Some b) (λ (b : Block). IsMarkAt x.present.table.ranges x.queues.queues x.device.marks b.number) x.device.blocks
     (λ b own. told l x next b.number sound zip (is_some (block_at b.number x.device.blocks) b own)) (at-own number_in x.device.blocks distinct))
 
 -- ---- loans

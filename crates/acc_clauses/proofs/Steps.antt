@@ -65,15 +65,7 @@ none_made o = grind (arith, nat_tests)
 
 -- the parts stay
 pub stays : (change : State → State) (puts : ℕ → ℕ) (x : Environment) → AreMarked x → ((next : Numbers) → state_of x next ≡ change (state_of x next)) → IsChangedBy change [] 0 puts x x
-stays change puts x marked same = record {
-  state = same;
-  counter_max = refl;
-  memory = refl;
-  pointer_max = refl;
-  queue_cap = refl;
-  room = room_same puts x x (none_taken x.present.room) refl (omega arith) (λ q. omega arith);
-  marked = marked;
-}
+stays change puts x marked same = grind (arith, nat_tests)
 
 pub nothing_acts : (task : Task) (x : Environment) → AreMarked x → IsActedBy task Nothing x x
 unfolding step_state act_step act_row
@@ -86,15 +78,7 @@ counted_marked task k x r e marked = rw e (marks_counted x.present.table.ranges 
 -- the counters of a range change, and nothing else
 counter_acts : (change : State → State) (puts : ℕ → ℕ) (task : Task) (k : ℕ) (x : Environment) (r : PresentState) → r.table ≡ with_ranges x.present.table (changed_at k (recounted task) x.present.table.ranges) → present.IsRoomKept x.present.room r.room → AreMarked x
     → ((next : Numbers) → state_of (record x { present = r }) next ≡ change (state_of x next)) → IsChangedBy change [] 0 puts x (record x { present = r })
-counter_acts change puts task k x r e room marked same = record {
-  state = same;
-  counter_max = ap (λ t. t.counter_max) e;
-  memory = refl;
-  pointer_max = refl;
-  queue_cap = refl;
-  room = room_same puts x (record x { present = r }) room refl (omega arith) (λ q. omega arith);
-  marked = counted_marked task k x r e marked;
-}
+counter_acts change puts task k x r e room marked same = grind (arith, nat_tests, room_same puts x (record x { present = r }) room, counted_marked task k x r e marked)
 
 pub counted_acts : (task : Task) (k : ℕ) (x : Environment) (r : PresentState) → r.table ≡ with_ranges x.present.table (changed_at k (recounted task) x.present.table.ranges) → present.IsRoomKept x.present.room r.room → AreMarked x
     → IsActedBy task (Counted k) x (record x { present = r })

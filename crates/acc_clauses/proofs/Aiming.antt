@@ -19,7 +19,6 @@ use Rattle.acc_clauses.specs.declared.numbers.Numbers.{Numbers}
 use Rattle.acc_clauses.specs.declared.environments.Environment.{Environment}
 use Rattle.acc_clauses.specs.Contents.{AreMarked, state_of, bare_state}
 use Rattle.acc_clauses.specs.Acts.{CanDetach, pointers_of, IsAimedBy}
-use Rattle.acc_clauses.proofs.Changes.{state_by}
 
 -- the parts with eight bytes written over a pointer in a block that is mapped from an address on
 abbrev with_put : ℕ → ℕ → Environment → ℕ → List ℕ → Environment

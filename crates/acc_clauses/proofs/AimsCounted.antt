@@ -16,11 +16,11 @@ use Rattle.acc_base.specs.Accounts.{IsCounted, AreRecordsSound}
 use Rattle.acc_base.proofs.Results.{equal, equal_self}
 use Rattle.acc_base.proofs.Elements.{found_has}
 use Rattle.acc_base.proofs.Counting.{without_read}
-use Rattle.acc_base.proofs.Recounted.{moved_by, names, ends_told, count_mapped}
-use Rattle.acc_base.proofs.Judged.{IsJudgedTo, step_judged, task_says}
+use Rattle.acc_base.proofs.Recounted.{moved_by, names}
+use Rattle.acc_base.proofs.Judged.{IsJudgedTo, task_says}
 use Rattle.acc_base.proofs.SameMapping.{mapping-act}
 use Rattle.acc_base.proofs.Attached.{count_at-attached_by, count_at-without_other}
-use Rattle.acc_base.proofs.Aimed.{IsLeft, task_left}
+use Rattle.acc_base.proofs.Aimed.{IsLeft}
 use Rattle.acc_base.proofs.AllTasks.{all_left}
 use Rattle.acc_base.proofs.Births.{births_least}
 use Rattle.acc_clauses.specs.declared.acted.Acted.{Acted}
@@ -52,7 +52,7 @@ unmapped l w block h zero = go (range_of block w.ranges) refl
 -- a task leaves the counters of a block that is gone at zero
 zero_left : (l : Limits) (task : Task) (step : Step) (w : Records) (block : ℕ) (counter : Counter) → AreRecordsSound l w → IsJudgedTo l task step w → IsGone w block
     → cond (names block step) (moved_by counter task (counter_of counter block w.ranges)) (counter_of counter block w.ranges) ≡ 0
-zero_left l task (Counted k) w block counter h says gone = grind (arith, nat_tests, count_mapped, equal, unmapped l w block h gone.zero)
+zero_left l task (Counted k) w block counter h says gone = grind (arith, nat_tests, equal, unmapped l w block h gone.zero)
 zero_left l task (Born k p) w block counter h says gone = grind (arith, nat_tests)
 zero_left l task (Dropped k ended) w block counter h says gone = grind (arith, nat_tests)
 zero_left l task _ w block counter h says gone = gone.zero counter
@@ -73,7 +73,7 @@ gone-after l n (x ∷ xs) w block bounds h judged gone =
 
 -- the block whose mapping a task ends was born
 ended_born : (l : Limits) (task : Task) (k : ℕ) (w : Records) → AreRecordsSound l w → IsJudgedTo l task (Dropped k true) w → k ≤ w.births
-ended_born l task k w h says = grind (arith, nat_tests, ends_told, found_has, equal)
+ended_born l task k w h says = grind (arith, nat_tests, found_has, equal)
 
 -- and is gone then
 gone_ended : (l : Limits) (task : Task) (k : ℕ) (w : Records) → AreRecordsSound l w → IsJudgedTo l task (Dropped k true) w → IsGone (act_step task (Dropped k true) w) k
@@ -109,18 +109,14 @@ ends_none l n x xs w block bounds h judged mapped = go x.did.step refl
     sound = (first_left l n x xs w bounds h judged).sound
 
     gone : (k : ℕ) → x.did.step ≡ Dropped k true → IsGone (act x.task x.did w) k
-    gone k is =
-        let ended : IsGone (act_step x.task x.did.step w) k = rw is (gone_ended l x.task k w h (rw is at says)) in
-        let same = mapping-act x.task x.did w in
-        record { born = rw same.births ended.born; zero = λ counter. ap (λ rs. counter_of counter k rs) same.ranges ∙ ended.zero counter }
+    gone k is = grind (arith, nat_tests, gone_ended, says, mapping-act)
 
     last : (k : ℕ) → x.did.step ≡ Dropped k true → (t : Bool) → (k == block) ≡ t → t ≡ false
     last k is true e = absurd (mapped (gone-after l (suc n) xs (act x.task x.did w) block bounds sound judged.2 (subst (IsGone (act x.task x.did w)) (equal k block e) (gone k is))))
     last k is false e = refl
 
     go : (step : Step) → x.did.step ≡ step → ends block step ≡ false
-    go (Dropped k true) is = last k is (k == block) refl
-    go _ is = refl
+    go step is = grind (arith, nat_tests, last)
 
 -- the counter of a pointer in a block that is not gone after tasks
 count-after : (l : Limits) (n : ℕ) (xs : List Acted) (w : Records) (block pointer : ℕ) → IsWithinBounds l → AreRecordsSound l w → AreJudged l n (tasks_in xs) (dids_in xs) w → (IsGone (records_after xs w) block → ⊥)

@@ -24,9 +24,8 @@ use Rattle.acc_base.proofs.Results.{and_true}
 use Rattle.acc_base.proofs.Elements.{found_has}
 use Rattle.acc_base.proofs.Lookups.{at-own}
 use Rattle.acc_base.proofs.Where.{IsInsideOf, inside_says, absent_says}
-use Rattle.acc_base.proofs.Judged.{IsJudgedTo, step_judged, task_says}
+use Rattle.acc_base.proofs.Judged.{IsJudgedTo, task_says}
 use Rattle.acc_base.proofs.Sound.{recounted_keeps}
-use Rattle.acc_base.proofs.Aimed.{task_left}
 use Rattle.acc_clauses.specs.declared.acted.Acted.{Acted}
 use Rattle.acc_clauses.specs.Overlays.{tasks_in, dids_in, records_after, enters, found_beside}
 use Rattle.acc_clauses.proofs.Founds.{where_is-with, where_is-changed}
@@ -130,7 +129,7 @@ before-after l n (x ∷ xs) w pointer block bounds h judged entries there e =
 
 -- the sum of a block's place and of an offset in its range
 pub address_bound : (l : Limits) (w : Records) (s : Section) (block offset : ℕ) → IsWithinBounds l → AreRecordsSound l w → where_is s w.ranges ≡ Inside block offset → place_of block w.blocks + offset < 2 ^ 42
-address_bound l w s block offset bounds h e = grind (arith, nat_tests, held_in l s w block offset h e, found_has)
+address_bound l w s block offset bounds h e = grind (arith, nat_tests, found_has)
 
 pub target_bound : (l : Limits) (w : Records) (target : ℕ) → IsWithinBounds l → AreRecordsSound l w → IsTarget target w → target < 2 ^ 42
 target_bound l w target bounds h t = go (where_is (only t.0) w.ranges) refl t.1

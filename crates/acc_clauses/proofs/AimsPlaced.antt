@@ -21,9 +21,8 @@ use Rattle.acc_base.specs.Accounts.{AreRecordsSound}
 use Rattle.acc_base.proofs.Results.{and_true, equal}
 use Rattle.acc_base.proofs.Elements.{AllByRecursion-weaker}
 use Rattle.acc_base.proofs.Lookups.{at-push_new, at-push_there, at-none}
-use Rattle.acc_base.proofs.Judged.{IsJudgedTo, step_judged, task_says}
+use Rattle.acc_base.proofs.Judged.{IsJudgedTo, task_says}
 use Rattle.acc_base.proofs.Sound.{recounted_keeps}
-use Rattle.acc_base.proofs.Aimed.{task_left}
 use Rattle.acc_base.proofs.Walked.{records-act_state}
 use Rattle.acc_clauses.specs.declared.acted.Acted.{Acted}
 use Rattle.acc_clauses.specs.Overlays.{tasks_in, dids_in, records_after, state_after, enters, IsPlanned}

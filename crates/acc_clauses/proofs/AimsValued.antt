@@ -58,7 +58,7 @@ aligned l n pointer e = equal _ _ (not_false _ (refused_not _ _ (then_ok _ _ tt 
 
 named_aligned : (l : Limits) (n : ℕ) (counter : Counter) (item : Item RegionClause) (queue : Option ℕ) (step : Step) (w : Records) (p : ℕ) → judge_step l n (Enter counter item queue) w ≡ Ok step → pointer_aimed (Enter counter item queue) step ≡ Some p → p % 8 ≡ 0
 unfolding judge_row
-named_aligned l n counter item queue step w p judged e = grind (arith, nat_tests, aligned, then_ok, step_judged l n (Enter counter item queue) w step judged)
+named_aligned l n counter item queue step w p judged e = grind (arith, nat_tests, then_ok, step_judged l n (Enter counter item queue) w step judged)
 
 -- ---- a step of an entry leaves the blocks that are there
 
@@ -71,8 +71,7 @@ start-changed task k block ranges =
     ∙ go (k == block)
   where
     go : (t : Bool) → cond t (read_of start_in block ranges) (read_of start_in block ranges) ≡ start_of block ranges
-    go true = refl
-    go false = refl
+    go t = grind (arith, nat_tests)
 
 holds_same : (pointer first second : ℕ) (xs ys : List ℕ) → first ≡ second → xs ≡ ys → pointer_in first pointer xs ≡ pointer_in second pointer ys
 holds_same pointer first second xs ys e f = rw (e, f) refl
@@ -146,10 +145,7 @@ module _ (l : Limits) (block pointer : ℕ) (even : pointer % 8 ≡ 0) (s : Stat
   holds-again p b value more h some = h (λ none. some (count_at-attached_by block pointer (aims.Again p b) s.records.attached ∙ go (b == block) refl (p == pointer) refl none))
     where
       go : (t : Bool) → (b == block) ≡ t → (u : Bool) → (p == pointer) ≡ u → count_at block pointer s.records.attached ≡ 0 → cond (t && u) (count_at block pointer s.records.attached + 1) (count_at block pointer s.records.attached) ≡ 0
-      go true f true g none =
-          let same : count_at b p s.records.attached ≡ count_at block pointer s.records.attached = ap (λ n. count_at n p s.records.attached) (equal b block f) ∙ ap (λ n. count_at block n s.records.attached) (equal p pointer g) in
-          absurd (omega (arith, more, same, none))
-      go _ f _ g none = none
+      go t f u g none = grind (arith, nat_tests)
 
   pub holds-aim : (named : Option ℕ) (aim : Aim) (value : ℕ) → ((p : ℕ) → named ≡ Some p → p % 8 ≡ 0) → IsAttachLegal l named aim s.records → Holds block pointer value s → Holds block pointer (value_by block pointer value aim) (aimed aim s)
   unfolding aimed

@@ -17,7 +17,7 @@ use Rattle.acc_base.specs.Queues.{queue_named}
 use Rattle.acc_base.specs.Tasks.{queue_of}
 use Rattle.acc_base.specs.Loans.{none_lent}
 use Rattle.acc_base.specs.Judge.{Verdict, item_limit, item_count, few_items, tasks_with, holdings_left, queue_in, transfers_in, verdict_of, directive_verdict, plan_of}
-use Rattle.acc_base.proofs.Results.{refused_not, ok_same}
+use Rattle.acc_base.proofs.Results.{refused_not}
 use Rattle.acc_base.proofs.Elements.{found_has}
 use Rattle.acc_clauses.specs.Overlays.{AreUnmixed, AreQueuesNamed, enters}
 use Rattle.acc_clauses.specs.Planned.{HasFewHoldings, asked_of}
@@ -63,7 +63,7 @@ tasks_fit _ holdings few held = record { few = omega arith; unmixed = inl refl; 
 
 -- so does the one that a directive leaves
 few_left : (d : Directive) (g : Register) (holdings : List Holding) → AllByRecursion HasFewHoldings g.regions → holdings_left d g ≡ Ok holdings → length holdings ≤ 64
-few_left d g holdings all e = grind (arith, nat_tests, found_has, ok_same)
+few_left d g holdings all e = grind (arith, nat_tests, found_has)
 
 -- a directive that does not name too many items names few
 few_checked : (d : Directive) → few_items d ≡ Ok tt → item_count d ≤ 64

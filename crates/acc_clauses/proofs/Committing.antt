@@ -10,7 +10,6 @@ use Rattle.acc_base.specs.declared.directives.Directive.TheVariants as directive
 use Rattle.acc_base.specs.Limits.{Limits, IsWithinBounds}
 use Rattle.acc_base.specs.Records.{Records, State}
 use Rattle.acc_base.specs.Register.{Region, Register, holdings_at, opened, closed, count_held, is_counted_block}
-use Rattle.acc_base.specs.Ranges.{range_of}
 use Rattle.acc_base.specs.Blocks.{used_bytes}
 use Rattle.acc_base.specs.Steps.{act, act_all}
 use Rattle.acc_base.specs.Waits.{records_drained}
@@ -28,7 +27,7 @@ use Rattle.acc_base.proofs.Registers.{IsNumbered, AreFew, next_region, opened_re
 use Rattle.acc_clauses.specs.Planned.{Planned, IsPlanOf, holdings_by, register_by, finished}
 use Rattle.acc_clauses.specs.Contents.{Contents}
 use Rattle.acc_clauses.specs.Acts.{IsKnown, AreKnown, HasRegionRoom, CanFinish}
-use Rattle.acc_clauses.specs.Stored.{IsHeldWithin, IsHoldingWithin, AreHoldingsWithin, IsStoreSound}
+use Rattle.acc_clauses.specs.Stored.{IsHoldingWithin, AreHoldingsWithin, IsStoreSound}
 use Rattle.acc_clauses.proofs.Holding.{leaves_known, holdings_same}
 use Rattle.acc_clauses.proofs.Entering.{regions_within, entered_within}
 use Rattle.acc_clauses.proofs.Asking.{asked_with}
@@ -149,10 +148,7 @@ within_after d c p bounds h planned = by_register (λ x. AreHoldingsWithin v x.r
     asked items is = let asked = asked_with d g p.tasks planned.asked in ap (λ (x : Directive). tasks_with x asked.holdings) (sym is) ∙ asked.are
 
     entered : (items : List (Item RegionClause)) → d ≡ directives.Enter items → AllByRecursion (IsHoldingWithin v) (holdings_by p.tasks p.dids)
-    entered items is =
-        let these : AreJudged c.limits 0 (map enter_task items) p.dids w = subst (λ ts. AreJudged c.limits 0 ts p.dids w) (sym (asked items is)) judged in
-        subst (λ ts. AllByRecursion (IsHoldingWithin (act_all ts p.dids w)) (holdings_by ts p.dids)) (asked items is)
-        (subst (AllByRecursion (IsHoldingWithin (act_all (map enter_task items) p.dids w))) (held_asked items p.dids) (entered_within c.limits 0 items p.dids w bounds h.sound.layout.records these))
+    entered items is = grind (arith, nat_tests, w, asked, judged, held_asked, entered_within)
 
 -- what is done to the parts is what the plan says
 pub all_finished : (d : Directive) (p : Planned) (ts : List Task) (ds : List Did) (s t u : State) → ts ≡ p.tasks → ds ≡ p.dids → t ≡ act_all_state ts ds s → u ≡ finished d p t → u ≡ finished d p (act_all_state p.tasks p.dids s)

@@ -21,9 +21,6 @@ covers_not s a h = grind (arith, nat_tests)
 covers_before : (s : Section) (a : ℕ) → a < s.start → covers s a ≡ false
 covers_before s a h = grind (arith, nat_tests)
 
-covers_at : (s : Section) (a : ℕ) → s.start ≤ a → a < end_of s → covers s a ≡ true
-covers_at s a low high = grind (arith, nat_tests)
-
 -- these are the source's bytes from an address on
 abbrev pub IsFrom : (ℕ → ℕ) → ℕ → List ℕ → Type 0
 IsFrom source a bytes = (k : ℕ) → k < length bytes → slice_index bytes k ≡ source (a + k)
@@ -42,7 +39,7 @@ written-within : (s : Section) (source : ℕ → ℕ) (a : ℕ) (old bytes : Lis
     → written_bytes (covers s) source a old ≡ bytes ++ drop (length bytes) old
 written-within s source a old [] low ends fits is = written-behind s source a old (omega (arith, ends))
 written-within s source a [] (byte ∷ bytes) low ends fits is = absurd (omega (arith, fits))
-written-within s source a (x ∷ xs) (byte ∷ bytes) low ends fits is = grind (arith, nat_tests, written-within s source (suc a) xs bytes (omega (arith, low)) (omega (arith, ends)) (omega (arith, fits)) (from_next source a byte bytes is), covers_at, from_first)
+written-within s source a (x ∷ xs) (byte ∷ bytes) low ends fits is = grind (arith, nat_tests, written-within s source (suc a) xs bytes (omega (arith, low)) (omega (arith, ends)) (omega (arith, fits)) (from_next source a byte bytes is), from_first)
 
 pub written-overwritten : (s : Section) (source : ℕ → ℕ) (n a : ℕ) (old bytes : List ℕ) → a + n ≡ s.start → end_of s ≤ a + length old → length bytes ≡ s.len → IsFrom source s.start bytes
     → written_bytes (covers s) source a old ≡ overwritten n bytes old

@@ -48,8 +48,7 @@ step_after task did x y other can aims =
     (subst (CanAct x.present.table.counter_max x.device.memory task did.step) (sym (aims.state bare_numbers)) (go task other can)))
   where
     go : (t : Task) → (IsEnter t → ⊥) → CanDo x t did → CanAct x.present.table.counter_max x.device.memory t did.step (aimed did.aim (bare_state x))
-    go (Enter counter item queue) enters can = absurd (enters tt)
-    go _ enters can = can.step
+    go t enters can = grind (arith, nat_tests)
 
 -- what an attachment or a detachment leaves of the queues, and of the room in them
 pub queues_kept : (aim : Aim) (task : Task) (step : Step) (x y : Environment) → IsAimedBy aim x y → CanQueue task step x → CanQueue task step y

@@ -1,6 +1,5 @@
 -- What an entry to a region counts lies within the ranges of the blocks that it counted, after all of its tasks.
-use Rattle.std.proofs.Common.{ℕ, suc, ◌≡◌, ◌+◌, ◌≤◌, refl, subst, Bool, true, false, cond, List, [], ◌∷◌, map, Some, None, Ok, arith}
-use Rattle.std.specs.Prelude.{◌==◌}
+use Rattle.std.proofs.Common.{ℕ, suc, ◌≡◌, ◌+◌, ◌≤◌, refl, subst, Bool, true, List, [], ◌∷◌, map, Some, None, Ok, arith}
 use Rattle.std.specs.List.{AllByRecursion}
 use Rattle.std.proofs.lemmas.Bool.Decides.{nat_tests}
 use Rattle.acc_clauses.specs.Words.{Section, Item, RegionClause, Range, Found, Task, Step, Did}
@@ -20,7 +19,6 @@ use Rattle.acc_base.specs.Walk.{enter_task, block_counted, holdings_of}
 use Rattle.acc_base.specs.History.{AreJudged}
 use Rattle.acc_base.specs.Accounts.{AreRecordsSound}
 use Rattle.acc_base.proofs.Results.{equal_self, then_ok}
-use Rattle.acc_base.proofs.Elements.{AllByRecursion-weaker}
 use Rattle.acc_base.proofs.Judged.{IsJudgedTo, task_says, step_judged}
 use Rattle.acc_base.proofs.Sound.{ranges_born, fresh}
 use Rattle.acc_base.proofs.Aimed.{task_left}
@@ -85,11 +83,7 @@ counted_within l w section k o sound e =
   where
     born_of : (rs : List Range) (r : Range) → AllByRecursion (λ (x : Range). x.block ≤ w.births) rs → range_of k rs ≡ Some r → k ≤ w.births
     born_of [] r h f = cc
-    born_of (x ∷ xs) r h f = go (born_of xs r h.1) (x.block == k) refl f
-      where
-        go : (range_of k xs ≡ Some r → k ≤ w.births) → (t : Bool) → (x.block == k) ≡ t → cond t (Some x) (range_of k xs) ≡ Some r → k ≤ w.births
-        go rest true t q = let low : x.block ≤ w.births = h.0 in grind (arith, nat_tests)
-        go rest false t q = rest q
+    born_of (x ∷ xs) r h f = grind (arith, nat_tests, born_of xs r h.1)
 
 -- what one item's entry counts
 first_within : (l : Limits) (n : ℕ) (item : Item RegionClause) (step : Step) (w : Records) → AreRecordsSound l w → judge_step l n (Enter Structured item None) w ≡ Ok step → (k : ℕ) → block_counted step ≡ Some k

@@ -53,7 +53,7 @@ still l d s p h none = ap (λ ts. act_all_state ts p.dids s) (sym none) ∙ ap (
 
 pub event_of_plan : (l : Limits) (d : Directive) (s : State) (p : Planned) (e : Event) → IsPlanOf l d s p → verdict_of d s p.dids ≡ Makes e → IsEventOf d p s e
 unfolding loaned
-event_of_plan l d s p e h made = grind (arith, nat_tests, asked_with, held_asked, same_event, open_left, reverse-reverse, none_done, still)
+event_of_plan l d s p e h made = grind (arith, nat_tests, held_asked, same_event, open_left, reverse-reverse, none_done, still)
 
 pub planned_asked : (l : Limits) (d : Directive) (s : State) (p : Planned) (e : Event) → IsPlanOf l d s p → verdict_of d s p.dids ≡ Makes e → asked_in e s.register ≡ p.tasks
 planned_asked l d s p e h made = (event_of_plan l d s p e h made).asked

@@ -47,13 +47,7 @@ around-with s new (r ∷ rs) some off =
     go : range_around s (with_range new rs) ≡ cond (is_within s new.section) (Some new) (range_around s rs)
         → (first x : Bool) → is_within s new.section ≡ x → (y : Bool) → is_within s r.section ≡ y → is_apart new.section r.section ≡ true
         → range_around s (cond first (new ∷ r ∷ rs) (r ∷ with_range new rs)) ≡ cond x (Some new) (range_around s (r ∷ rs))
-    go rest true x e y f clear = rw e refl
-    go rest false true e true f clear =
-        let off : is_within s r.section ≡ false = around_touches s r.section some (apart_within s new.section r.section some e clear) in
-        cc
-    go rest false true e false f clear = rw f (rw e at rest)
-    go rest false false e true f clear = rw f refl
-    go rest false false e false f clear = rw f (rw e at rest)
+    go rest first x e y f clear = grind (arith, nat_tests)
 
 all_apart-with : (s : Section) (new : Range) (ranges : List Range) → all_apart s (with_range new ranges) ≡ (is_apart s new.section && all_apart s ranges)
 all_apart-with s new [] = refl

@@ -1,5 +1,5 @@
 -- What the copy of a task's section leaves of the parts, made at once or put into a queue.
-use Rattle.std.proofs.Common.{ℕ, ◌≡◌, ◌<◌, ◌≤◌, refl, subst, Bool, true, false, cond, ◌&&◌, [], length, Option, Some, None, arith}
+use Rattle.std.proofs.Common.{ℕ, ◌≡◌, ◌≤◌, refl, subst, Bool, true, false, cond, ◌&&◌, [], length, Option, Some, None, arith}
 use Rattle.std.specs.Prelude.{IsSome, is_some}
 use Rattle.std.proofs.lemmas.Bool.Decides.{nat_tests}
 use Rattle.acc_base.specs.Loans.{is_lent}
@@ -9,13 +9,11 @@ use Rattle.acc_base.specs.Section.{is_within}
 use Rattle.acc_base.specs.Records.{State}
 use Rattle.acc_base.specs.Ranges.{start_of}
 use Rattle.acc_base.specs.Blocks.{block_at}
-use Rattle.acc_base.specs.Queues.{queue_at}
 use Rattle.acc_base.specs.Clauses.{is_attach, section_named, copies_in}
 use Rattle.acc_base.specs.Tasks.{section_of, queue_of}
 use Rattle.acc_base.specs.Transfers.{gives_bytes, first_address, transfer_at, transfer_of}
 use Rattle.acc_base.specs.Steps.{act_row, act_step}
 use Rattle.acc_base.specs.Bytes.{bytes_of, step_state}
-use Rattle.acc_queues.specs.Queued.{spare_at}
 use Rattle.acc_clauses.specs.declared.environments.Environment.{Environment}
 use Rattle.acc_clauses.specs.Contents.{room_of, bare_state}
 use Rattle.acc_clauses.specs.Overlays.{moves, is_queue, puts_by}
@@ -36,14 +34,6 @@ pub within_block : (section : Section) (k start : ℕ) (x : State) → CanMove s
 within_block section k start x m free e = grind (arith, nat_tests)
 
 -- ---- the transfer can be made or put
-
--- a queue that a task names has room for the transfer of its step
-queue_below : (task : Task) (step : Step) (q : ℕ) (t : Transfer) (x : Environment) → queue_of task ≡ Some q → transfer_of task step x.present.table.ranges ≡ Some t → CanQueue task step x → length (queue_at q x.queues.queues) < x.queues.cap
-queue_below task step q t x named is can = grind (arith, nat_tests)
-
--- and the memory for it
-queue_spare : (task : Task) (step : Step) (q : ℕ) (x : Environment) → queue_of task ≡ Some q → moves task step ≡ true → HasPutRoom (λ q. puts_by q task step) (room_of x) → 1 ≤ spare_at q x.queues.spare
-queue_spare task step q x named moving puts = grind (arith, nat_tests)
 
 -- the transfer of a step can be put into the queue that its task names
 pub step_puts : (task : Task) (step : Step) (q : ℕ) (t : Transfer) (x y : Environment) → queue_of task ≡ Some q → transfer_of task step x.present.table.ranges ≡ Some t → moves task step ≡ true → CanQueue task step x → HasPutRoom (λ q. puts_by q task step) (room_of x)
@@ -77,7 +67,7 @@ given_acts task k x y queue t gives named is moved =
 
 pub moved_acts : (task : Task) (k : ℕ) (x y : Environment) (queue : Option ℕ) (t : Transfer) → queue ≡ queue_of task → t ≡ transfer_at task k x.present.table.ranges → IsMovedBy queue t x y → IsActedBy task (Moved k) x y
 unfolding step_state act_step act_row
-moved_acts task k x y queue t named is moved = grind (arith, nat_tests, one_put, moved_as x y queue (queue_of task) t (transfer_at task k x.present.table.ranges) named is moved)
+moved_acts task k x y queue t named is moved = grind (arith, nat_tests, moved_as x y queue (queue_of task) t (transfer_at task k x.present.table.ranges) named is moved)
 
 pub filled_acts : (queue : Option ℕ) (item : Item RegionClause) (k : ℕ) (section : Section) (x y : Environment) → is_some queue ≡ true → copies_in item.clause ≡ true → section ≡ section_named (is_attach item.clause) item.section
     → IsMovedBy queue (record { block = k; offset = 0; section = section; out = false }) x y → IsFilledLater queue item k x y

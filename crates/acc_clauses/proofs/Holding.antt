@@ -24,7 +24,7 @@ use Rattle.acc_base.proofs.Lookups.{at-changed, at-without_same, at-without_othe
 use Rattle.acc_base.proofs.Judged.{IsJudgedTo, task_says, step_judged}
 use Rattle.acc_base.proofs.Recounted.{names, birth_number}
 use Rattle.acc_base.proofs.Aimed.{IsLeft, task_left}
-use Rattle.acc_base.proofs.Memories.{recounted-block, recounted-section}
+use Rattle.acc_base.proofs.Memories.{recounted-block}
 use Rattle.acc_clauses.specs.Acts.{IsKnown, AreKnown}
 use Rattle.acc_clauses.specs.Stored.{IsHeldWithin, IsHoldingWithin, AreHoldingsWithin}
 use Rattle.acc_base.proofs.SameMapping.{mapping-act}
@@ -37,14 +37,10 @@ within_changed : (task : Task) (k b : ℕ) (rs : List Range) (s : Section) → (
 within_changed task k b rs s h r e = go (range_of b rs) refl (sym (at-changed block_of k b (recounted task) rs (recounted-block task)) ∙ e)
   where
     sect : (x : Range) → range_of b rs ≡ Some x → (t : Bool) → is_within s (cond t (recounted task x) x).section ≡ true
-    sect x p true = rw (recounted-section task x) (h x p)
-    sect x p false = h x p
+    sect x p t = grind (arith, nat_tests)
 
     go : (o : Option Range) → range_of b rs ≡ o → option_map (λ (x : Range). cond (x.block == k) (recounted task x) x) o ≡ Some r → is_within s r.section ≡ true
-    go None p q = cc
-    go (Some x) p q =
-        let same : cond (x.block == k) (recounted task x) x ≡ r = cc in
-        subst (λ (y : Range). is_within s y.section ≡ true) same (sect x p (x.block == k))
+    go o p q = grind (arith, nat_tests)
 
 -- an end leaves the ranges of other blocks
 within_without : (k b : ℕ) (rs : List Range) (s : Section) → ((r : Range) → range_of b rs ≡ Some r → is_within s r.section ≡ true) → (r : Range) → range_of b (without_range k rs) ≡ Some r → is_within s r.section ≡ true
@@ -61,7 +57,7 @@ within_without k b rs s h r e = go (b == k) refl
 pub within_step : (l : Limits) (task : Task) (step : Step) (w : Records) (s : Section) (b : ℕ) → IsJudgedTo l task step w → IsHeldWithin w s b → IsHeldWithin (act_step task step w) s b
 unfolding act_step act_row released records_after_birth records_after_end with_range_changed
 within_step l task (Counted k) w s b says h = record { born = h.born; within = within_changed task k b w.ranges s h.within }
-within_step l task (Born k p) w s b says h = grind (arith, nat_tests, recounted-block, birth_number, range_of-with_other)
+within_step l task (Born k p) w s b says h = grind (arith, nat_tests, birth_number, range_of-with_other)
 within_step l task (Dropped k true) w s b says h = record { born = h.born; within = within_without k b w.ranges s h.within }
 within_step l task (Dropped k false) w s b says h = record { born = h.born; within = within_changed task k b w.ranges s h.within }
 within_step l task _ w s b says h = record { born = h.born; within = h.within }

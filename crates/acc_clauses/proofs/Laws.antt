@@ -116,6 +116,6 @@ pub ruleset plan_laws = (found-planned, counters-planned, ends-planned, takes-pl
 
 -- the first tasks of some that are unmixed
 pub unmixed_front : (ts us : List Task) → AreUnmixed (ts ++ us) → AreUnmixed ts
-unmixed_front ts us unmixed = grind (arith, nat_tests, list_all-append, or_false, list_any-append)
+unmixed_front ts us unmixed = grind (arith, nat_tests, list_all-append, list_any-append)
 
 pub ruleset kind_laws = (unmixed_front)

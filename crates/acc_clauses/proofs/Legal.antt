@@ -1,5 +1,5 @@
 -- A step that a task is judged to do can be done.
-use Rattle.std.proofs.Common.{ℕ, ◌≡◌, ◌+◌, ◌<◌, ◌≤◌, ◌^◌, sym, ◌∙◌, subst, true, false, List, [], ◌∷◌, Option, Some, None, arith}
+use Rattle.std.proofs.Common.{ℕ, ◌≡◌, ◌+◌, ◌<◌, ◌≤◌, ◌^◌, sym, subst, true, false, List, [], ◌∷◌, Option, Some, None, arith}
 use Rattle.std.specs.Prelude.{◌==◌, IsSome}
 use Rattle.std.specs.List.{AllByRecursion, AllZip}
 use Rattle.std.proofs.lemmas.Bool.Decides.{nat_tests}
@@ -18,7 +18,7 @@ use Rattle.acc_base.specs.Blocks.{block_at}
 use Rattle.acc_base.specs.Tasks.{section_of}
 use Rattle.acc_base.specs.Accounts.{IsHostSection, IsMapped, IsCounted, IsMemoryOf, AreRecordsSound, AreMemoriesSized}
 use Rattle.acc_base.proofs.Results.{equal}
-use Rattle.acc_base.proofs.Elements.{AllByRecursion-weaker, AllByRecursion-both, found_has}
+use Rattle.acc_base.proofs.Elements.{AllByRecursion-weaker, found_has}
 use Rattle.acc_base.proofs.Lookups.{at-own}
 use Rattle.acc_base.proofs.Where.{IsInsideOf, inside_says}
 use Rattle.acc_base.proofs.Judged.{IsBirth, IsInRangeOf, IsJudgedTo}
@@ -26,7 +26,6 @@ use Rattle.acc_base.proofs.Sound.{ranges_born}
 use Rattle.acc_clauses.specs.Acts.{IsMappedAround, IsKnown, CanMove, CanBear, CanAct}
 use Rattle.acc_clauses.proofs.Marked.{unborn_unpinned}
 use Rattle.acc_clauses.proofs.Moving.{bytes_of-len, some_of}
-use Rattle.acc_clauses.proofs.Runs.{within_both}
 use Rattle.acc_clauses.proofs.Steps.{is_some}
 
 -- ---- sections
@@ -49,7 +48,7 @@ record IsWhole (l : Limits) (w : Records) (r : Range) : Type 0 where
   in_host : IsHostSection l r.section
 
 pub can_move : (l : Limits) (s : State) (section : Section) (k : ℕ) → IsWithinBounds l → AreRecordsSound l s.records → AreMemoriesSized l s → IsMappedAround s.records section k → CanMove section k s
-can_move l s section k bounds h m around = grind (arith, nat_tests, found_has, equal, within_both, host_end, is_some, bytes_of-len)
+can_move l s section k bounds h m around = grind (arith, nat_tests, found_has, equal, host_end, is_some, bytes_of-len)
 
 -- the counters of the range of a block keep their limit
 pub limit_of : (l : Limits) (w : Records) (k : ℕ) (r : Range) → AreRecordsSound l w → range_of k w.ranges ≡ Some r → IsCounted l r
@@ -71,7 +70,7 @@ no_pointer l k w h e = AllByRecursion-weaker (λ a. IsSome (block_at a.block w.b
 
 -- nor a loan
 unborn_free : (l : Limits) (w : Records) (k : ℕ) → k ≡ w.births + 1 → AreRecordsSound l w → is_lent k w.loans ≡ false
-unborn_free l w k number h = grind (arith, nat_tests, equal, found_has)
+unborn_free l w k number h = grind (arith, nat_tests, found_has)
 
 -- a look-up that does not find nothing finds something
 not_none : {X : Type 0} (o : Option X) → (o ≡ None → ⊥) → IsSome o

@@ -3,14 +3,12 @@ use Rattle.std.proofs.Common.{ℕ, ◌≡◌, ◌+◌, ◌-◌, ◌<◌, ◌≤�
 use Rattle.std.specs.Prelude.{◌==◌, not, is_none, is_some, length}
 use Rattle.std.proofs.lemmas.Bool.Decides.{nat_tests}
 use Rattle.std.specs.List.{AllByRecursion, AllZip}
-use Rattle.acc_clauses.specs.Words.{Section, Range, Block, Loan, Holding, Event}
+use Rattle.acc_clauses.specs.Words.{Section, Range, Block, Loan, Event}
 use Rattle.acc_base.specs.declared.faults.Fault.TheVariants.{NoLease}
 use Rattle.acc_base.specs.declared.events.Event.TheVariants.{Lent, Gathered}
 use Rattle.acc_base.specs.Results.{refuse_if}
 use Rattle.acc_base.specs.Limits.{Limits, IsWithinBounds}
 use Rattle.acc_base.specs.Records.{Records, State, layout_of}
-use Rattle.acc_base.specs.Register.{Region}
-use Rattle.acc_base.specs.Ranges.{range_of}
 use Rattle.acc_base.specs.Blocks.{block_at, used_bytes}
 use Rattle.acc_base.specs.Loans.{Leased, loan_of, is_loan_of, is_lent, with_loan, without_loan, len_of, is_returnable}
 use Rattle.acc_base.specs.Walk.{loan_at, loaned}
@@ -18,9 +16,9 @@ use Rattle.acc_base.specs.Waits.{drained}
 use Rattle.acc_base.specs.Acting.{act_all_state, after}
 use Rattle.acc_base.specs.Judge.{gather_event}
 use Rattle.acc_base.specs.History.{IsLegal}
-use Rattle.acc_base.specs.Accounts.{EachPair, IsMapped, IsLoanSound, AreRecordsSound, AreMemoriesSized}
+use Rattle.acc_base.specs.Accounts.{EachPair, IsLoanSound, AreRecordsSound, AreMemoriesSized}
 use Rattle.acc_base.proofs.Results.{equal, and_true, then_ok, refused_not, not_false}
-use Rattle.acc_base.proofs.Elements.{found_has, AllByRecursion-weaker}
+use Rattle.acc_base.proofs.Elements.{found_has}
 use Rattle.acc_base.proofs.Lending.{loans-with, loans-without}
 use Rattle.acc_base.proofs.Loaned.{with_loans, placed_loan}
 use Rattle.acc_base.proofs.Memories.{lent_sized, gathered_sized}
@@ -30,7 +28,7 @@ use Rattle.acc_dev.specs.Device.{DeviceState, HasBlock, IsTakenOut, IsPutBack}
 use Rattle.acc_clauses.specs.declared.environments.Environment.{Environment}
 use Rattle.acc_clauses.specs.declared.numbers.Numbers.{Numbers}
 use Rattle.acc_clauses.specs.Contents.{Contents, state_of, ArePartsSound}
-use Rattle.acc_clauses.specs.Stored.{IsStoreSound, AreHoldingsWithin, IsHeldWithin, IsHoldingWithin}
+use Rattle.acc_clauses.specs.Stored.{IsStoreSound, AreHoldingsWithin}
 use Rattle.acc_clauses.specs.Lending.{IsLoanPlanned, lent_state, gathered_state}
 use Rattle.acc_clauses.proofs.Changes.{state_by}
 use Rattle.acc_clauses.proofs.Standing.{told}
@@ -46,7 +44,7 @@ record IsThere (blocks : List Block) (loan : Loan) (range : Range) : Type 0 wher
   len : block.len ≡ range.section.len
 
 loan_there : (l : Limits) (w : Records) (loan : Loan) → AreRecordsSound l w → (sound : IsLoanSound w.ranges loan) → IsThere w.blocks loan sound.range
-loan_there l w loan h sound = grind (arith, nat_tests, found_has, equal)
+loan_there l w loan h sound = grind (arith, nat_tests, found_has)
 
 pub lend_there : (l : Limits) (x : Environment) (n : Numbers) (loan : Loan) → ArePartsSound l x n → IsLoanSound x.present.table.ranges loan → HasBlock x.device loan.block
 lend_there l x n loan parts sound = grind (arith, nat_tests, loan_there l (state_of x n).records loan parts.sound.records sound)
@@ -91,10 +89,7 @@ length-without block (l ∷ ls) rising lent = go (l.block == block) refl (length
         let own : AllByRecursion (λ (m : Loan). block < m.block) ls = subst (λ n. AllByRecursion (λ (m : Loan). n < m.block) ls) (equal l.block block e) rising.0 in
         let later : length (without_loan block ls) ≡ length ls = ap length (without-later block ls own) in
         rw e (omega (arith, later))
-    go false e rest =
-        let step : is_lent block (l ∷ ls) ≡ is_lent block ls = rw e refl in
-        let left : is_lent block ls ≡ true = sym step ∙ lent in
-        rw e (omega (arith, rest left, some_lent block ls left))
+    go false e rest = grind (arith, nat_tests, some_lent)
 
 -- what is a lease's is some loan
 loan_some : (lease : Leased) (o : Option Loan) → is_loan_of lease o ≡ true → is_some o ≡ true

@@ -1,5 +1,5 @@
 -- The first transfer of a queue can be made, and leaves the parts sound.
-use Rattle.std.proofs.Common.{ℕ, ◌≡◌, sym, ◌∙◌, subst, List, [], ◌∷◌, length, Some, arith, Ok, ap}
+use Rattle.std.proofs.Common.{ℕ, ◌≡◌, sym, subst, List, [], ◌∷◌, Some, arith, Ok}
 use Rattle.std.specs.Prelude.{take}
 use Rattle.std.specs.List.{AllByRecursion}
 use Rattle.std.proofs.lemmas.Bool.Decides.{nat_tests}
@@ -18,7 +18,7 @@ use Rattle.acc_clauses.specs.declared.numbers.Numbers.{Numbers}
 use Rattle.acc_clauses.specs.declared.environments.Environment.{Environment}
 use Rattle.acc_clauses.specs.Contents.{state_of, ArePartsSound}
 use Rattle.acc_clauses.specs.Acts.{CanStep, IsSteppedBy}
-use Rattle.acc_clauses.proofs.Emptying.{first_free, same_loans}
+use Rattle.acc_clauses.proofs.Emptying.{same_loans}
 use Rattle.acc_clauses.proofs.Moving.{bytes_of-len}
 use Rattle.acc_clauses.proofs.Steps.{is_some}
 use Rattle.acc_clauses.proofs.Legal.{host_end}
@@ -31,7 +31,7 @@ first_has : (P : Transfer → Type 0) (q : ℕ) (t : Transfer) (queues : List (L
 first_has P q t queues e h = grind (arith, nat_tests, head_first, all-at)
 
 pub can_step : (l : Limits) (x : Environment) (next : Numbers) (q : ℕ) → IsWithinBounds l → none_lent (take 1 (queue_at q x.queues.queues)) x.device.loans ≡ Ok tt → ArePartsSound l x next → CanStep q x
-can_step l x next q bounds free sound t e = grind (arith, nat_tests, first_free q x.queues.queues x.device.loans t e free, first_has (IsTransferSound l x.device.blocks) q t x.queues.queues e sound.sound.records.queues.transfers, host_end, is_some, bytes_of-len)
+can_step l x next q bounds free sound t e = grind (arith, nat_tests, first_has (IsTransferSound l x.device.blocks) q t x.queues.queues e sound.sound.records.queues.transfers, host_end, is_some, bytes_of-len)
 
 -- ---- after it
 

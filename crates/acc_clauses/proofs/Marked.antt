@@ -1,6 +1,6 @@
 -- What the marks of blocks tell: how many queued transfers name each, and whether its mapping has ended. They do after each change.
-use Rattle.std.proofs.Common.{ℕ, ◌≡◌, ◌+◌, ◌*◌, ◌^◌, ◌<◌, ◌≤◌, refl, sym, ◌∙◌, ap, Bool, true, false, cond, List, [], ◌∷◌, ◌++◌, length, Option, Some, None, arith}
-use Rattle.std.specs.Prelude.{◌==◌, map, is_none, IsSome, nat_lt, option_map}
+use Rattle.std.proofs.Common.{ℕ, ◌≡◌, ◌+◌, ◌*◌, ◌^◌, ◌<◌, ◌≤◌, refl, sym, ◌∙◌, ap, false, cond, List, [], ◌∷◌, ◌++◌, length, Option, Some, arith}
+use Rattle.std.specs.Prelude.{◌==◌, map, is_none, IsSome, option_map}
 use Rattle.std.specs.List.{AllByRecursion, AllZip}
 use Rattle.std.proofs.lemmas.Bool.Decides.{nat_tests}
 use Rattle.std.proofs.lemmas.List.Sums.{sum_by-cons, count_by-le-length}
@@ -71,23 +71,11 @@ unborn_unpinned l blocks births queues born h = all queues h.transfers
   where
     one : (ts : List Transfer) → AllByRecursion (IsTransferSound l blocks) ts → pins_in (births + 1) ts ≡ 0
     one [] p = refl
-    one (t ∷ ts) p =
-        let parts : pins_in (births + 1) (t ∷ ts) ≡ cond (t.block == births + 1) 1 0 + pins_in (births + 1) ts = sum_by-cons (λ (x : Transfer). cond (x.block == births + 1) 1 0) t ts in
-        let found : (p.0.block.number ≤ births) × ((p.0.block.number == t.block) ≡ true) = found_has (λ (b : Block). b.number ≤ births) (λ b. b.number == t.block) blocks p.0.block born p.0.there in
-        let same : p.0.block.number ≡ t.block = equal _ _ found.1 in
-        let low : p.0.block.number ≤ births = found.0 in
-        let other : (t.block == births + 1) ≡ false = grind (arith, nat_tests) in
-        let rest : pins_in (births + 1) ts ≡ 0 = one ts p.1 in
-        let none : pins_in (births + 1) (t ∷ ts) ≡ 0 + pins_in (births + 1) ts = parts ∙ ap (λ b. cond b 1 0 + pins_in (births + 1) ts) other in
-        omega (arith, none, rest)
+    one (t ∷ ts) p = grind (arith, nat_tests, one ts p.1, sum_by-cons, found_has, equal)
 
     all : (qs : List (List Transfer)) → AllByRecursion (AllByRecursion (IsTransferSound l blocks)) qs → pins_of (births + 1) qs ≡ 0
     all [] p = refl
-    all (ts ∷ qs) p =
-        let parts : pins_of (births + 1) (ts ∷ qs) ≡ pins_in (births + 1) ts + pins_of (births + 1) qs = sum_by-cons (pins_in (births + 1)) ts qs in
-        let first : pins_in (births + 1) ts ≡ 0 = one ts p.0 in
-        let rest : pins_of (births + 1) qs ≡ 0 = all qs p.1 in
-        omega (arith, parts, first, rest)
+    all (ts ∷ qs) p = grind (arith, nat_tests, all qs p.1, sum_by-cons, one)
 
 -- ---- a transfer is put, or the first one is gone
 
@@ -100,19 +88,14 @@ pub marks_put : (ranges : List Range) (q : ℕ) (t : Transfer) (queues : List (L
 marks_put ranges q t queues marks known h = marks_changed (IsMarkRight ranges queues) (IsMarkRight ranges (put q t queues)) t.block with_pin marks own other h
   where
     own : (m : Mark) → m.block ≡ t.block → IsMarkRight ranges queues m → IsMarkRight ranges (put q t queues) (with_pin m)
-    own m e r =
-        let here : (t.block == m.block) ≡ true = rw e (equal_self t.block) in
-        record { pins = ap (λ n. n + 1) r.pins ∙ sym (pins-put m.block q t queues known ∙ ap (λ b. pins_of m.block queues + cond b 1 0) here); ended = r.ended }
+    own m e r = grind (arith, nat_tests, equal_self, pins-put)
 
     other : (m : Mark) → (m.block == t.block) ≡ false → IsMarkRight ranges queues m → IsMarkRight ranges (put q t queues) m
-    other m e r =
-        let same : pins_of m.block (put q t queues) ≡ pins_of m.block queues + 0 = pins-put m.block q t queues known ∙ ap (λ b. pins_of m.block queues + cond b 1 0) (turned m.block t.block e) in
-        let pins : m.pins ≡ pins_of m.block queues = r.pins in
-        record { pins = omega (arith, same, pins); ended = r.ended }
+    other m e r = grind (arith, nat_tests, pins-put, turned)
 
 -- the mark of another block than that of the first transfer stays right
 popped_other : (ranges : List Range) (q : ℕ) (t : Transfer) (queues : List (List Transfer)) → head_of q queues ≡ Some t → (m : Mark) → (m.block == t.block) ≡ false → IsMarkRight ranges queues m → IsMarkRight ranges (popped q queues) m
-popped_other ranges q t queues first m e r = grind (arith, nat_tests, turned m.block t.block e, pins-popped m.block q t queues first)
+popped_other ranges q t queues first m e r = grind (arith, nat_tests, pins-popped m.block q t queues first)
 
 -- the block of the first transfer has one pin fewer
 pub pins_popped : (q : ℕ) (t : Transfer) (queues : List (List Transfer)) → head_of q queues ≡ Some t → pins_of t.block (popped q queues) + 1 ≡ pins_of t.block queues
@@ -123,10 +106,7 @@ pub marks_unpinned : (ranges : List Range) (q : ℕ) (t : Transfer) (queues : Li
 marks_unpinned ranges q t queues marks first h = marks_changed (IsMarkRight ranges queues) (IsMarkRight ranges (popped q queues)) t.block without_pin marks own (popped_other ranges q t queues first) h
   where
     own : (m : Mark) → m.block ≡ t.block → IsMarkRight ranges queues m → IsMarkRight ranges (popped q queues) (without_pin m)
-    own m e r =
-        let fewer : pins_of m.block (popped q queues) + 1 ≡ pins_of m.block queues = rw e (pins_popped q t queues first) in
-        let pins : m.pins ≡ pins_of m.block queues = r.pins in
-        record { pins = omega (arith, fewer, pins); ended = r.ended }
+    own m e r = grind (arith, nat_tests, pins_popped)
 
 pub marks_drained : (ranges : List Range) (q : ℕ) (t : Transfer) (queues : List (List Transfer)) (marks : List Mark) → head_of q queues ≡ Some t → AllByRecursion (IsMarkRight ranges queues) marks
     → AllByRecursion (IsMarkRight ranges (popped q queues)) (without_mark t.block marks)
@@ -141,8 +121,7 @@ marks_counted ranges k change queues marks keeps h = AllByRecursion-weaker (IsMa
     (λ m r. record { pins = r.pins; ended = r.ended ∙ sym (ap is_none (at-changed (λ (x : Range). x.block) k m.block change ranges keeps) ∙ none_of (λ (x : Range). cond (x.block == k) (change x) x) (range_of m.block ranges)) }) h
   where
     none_of : (f : Range → Range) (o : Option Range) → is_none (option_map f o) ≡ is_none o
-    none_of f None = refl
-    none_of f (Some r) = refl
+    none_of f o = grind (arith, nat_tests)
 
 -- a new range for a new block
 pub marks_born : (new : Range) (ranges : List Range) (queues : List (List Transfer)) (marks : List Mark) → AllByRecursion (λ (m : Mark). m.block ≡ new.block → ⊥) marks → pins_of new.block queues ≡ 0 → AllByRecursion (IsMarkRight ranges queues) marks
@@ -151,27 +130,14 @@ marks_born new ranges queues marks others unpinned h = AllByRecursion-append (Is
     (record { pins = sym unpinned; ended = sym (none_not (range_of new.block (with_range new ranges)) (with_new new ranges)) }, tt)
   where
     none_not : (o : Option Range) → IsSome o → is_none o ≡ false
-    none_not None some = cc
-    none_not (Some r) some = refl
+    none_not o some = grind (arith, nat_tests)
 
     skipped : (m : Mark) → (new.block == m.block) ≡ false → (rs : List Range) → is_none (range_of m.block (with_range new rs)) ≡ is_none (range_of m.block rs)
     skipped m e [] = rw e refl
-    skipped m e (r ∷ rs) = go (skipped m e rs) (nat_lt new.section.start r.section.start)
-      where
-        go : is_none (range_of m.block (with_range new rs)) ≡ is_none (range_of m.block rs) → (b : Bool) → is_none (range_of m.block (cond b (new ∷ r ∷ rs) (r ∷ with_range new rs))) ≡ is_none (range_of m.block (r ∷ rs))
-        go rest true = rw e refl
-        go rest false = step (r.block == m.block)
-          where
-            step : (b : Bool) → is_none (cond b (Some r) (range_of m.block (with_range new rs))) ≡ is_none (cond b (Some r) (range_of m.block rs))
-            step true = refl
-            step false = rest
+    skipped m e (r ∷ rs) = grind (arith, nat_tests, skipped m e rs)
 
     apart : (a b : ℕ) → (a ≡ b → ⊥) → (b == a) ≡ false
-    apart a b differs = go (b == a) refl
-      where
-        go : (t : Bool) → (b == a) ≡ t → t ≡ false
-        go true e = absurd (differs (sym (equal _ _ e)))
-        go false e = refl
+    apart a b differs = grind (arith, nat_tests)
 
     olds : (ms : List Mark) → AllByRecursion (λ (m : Mark). m.block ≡ new.block → ⊥) ms → AllByRecursion (IsMarkRight ranges queues) ms → AllByRecursion (IsMarkRight (with_range new ranges) queues) ms
     olds [] o p = tt

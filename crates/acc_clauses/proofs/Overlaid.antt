@@ -4,7 +4,7 @@ use Rattle.std.proofs.Common.{ℕ, ◌≡◌, ◌+◌, refl, sym, ap, ◌∙◌,
 use Rattle.std.specs.List.{list_all, list_any}
 use Rattle.std.proofs.lemmas.List.{append-nil, append_assoc, length-append}
 use Rattle.acc_clauses.specs.Words.{Section, Range, Counter, Task, Step, Did}
-use Rattle.acc_base.specs.declared.events.Step.TheVariants.{Born, Dropped}
+use Rattle.acc_base.specs.declared.events.Step.TheVariants.{Born}
 use Rattle.acc_base.specs.Limits.{Limits, IsWithinBounds}
 use Rattle.acc_base.specs.Records.{Records}
 use Rattle.acc_base.specs.Ranges.{where_is, where_is_apart, counter_of, bare_range}
@@ -33,10 +33,6 @@ or_false a b e = grind (arith, nat_tests)
 pub birth_entry : (l : Limits) (task : Task) (k p : ℕ) (w : Records) → IsJudgedTo l task (Born k p) w → IsBirth l (section_of task) k p w
 birth_entry l task k p w says = grind (arith, nat_tests)
 
--- a task that enters drops none
-pub drops_none : (l : Limits) (task : Task) (k : ℕ) (ended : Bool) (w : Records) → IsJudgedTo l task (Dropped k ended) w → enters task ≡ true → ⊥
-drops_none l task k ended w says e = grind (arith, nat_tests)
-
 -- both counters of a block after a task
 counters-left : (task : Task) (step : Step) (b : ℕ) (ranges left : List Range)
     → ((c : Counter) → counter_of c b left ≡ cond (names b step) (moved_by c task (counter_of c b ranges)) (counter_of c b ranges)) → counters_at b left ≡ counters_by b (counters_at b ranges) task step
@@ -49,7 +45,7 @@ new_is task k s = (recounted_keeps task).section (bare_range s k)
 found-step : (l : Limits) (task : Task) (step : Step) (w : Records) (s : Section) → IsJudgedTo l task step w → enters task ≡ true
     → found_by s (where_is s w.ranges) task step ≡ where_is s (act_step task step w).ranges
 unfolding act_step act_row with_range_changed records_after_birth
-found-step l task step w s says none = grind (arith, nat_tests, where_is-changed, absent_says, birth_entry, where_is-with, drops_none)
+found-step l task step w s says none = grind (arith, nat_tests, where_is-changed, absent_says, birth_entry, where_is-with)
 
 -- where a section lies apart from ended ranges, before the step of one that does not and after it
 apart-step : (l : Limits) (task : Task) (step : Step) (w : Records) (s : Section) (ended : List ℕ) → IsJudgedTo l task step w → enters task ≡ false

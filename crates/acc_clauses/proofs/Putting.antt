@@ -59,9 +59,6 @@ unused k w ended none = grind (arith, nat_tests)
 pub used_pinned : (k : ℕ) (w : Records) → (pins_of k w.queues ≡ 0 → ⊥) → is_in_use k w ≡ true
 used_pinned k w some = grind (arith, nat_tests)
 
-pub used_mapped : (k : ℕ) (w : Records) → is_none (range_of k w.ranges) ≡ false → is_in_use k w ≡ true
-used_mapped k w mapped = grind (arith, nat_tests)
-
 -- the queues after the first one is gone, with the parts of which it is made
 abbrev pub taken : QueuesState → Environment → Environment
 taken queues x = record x { queues = queues }
@@ -92,4 +89,4 @@ pub more_steps : (q : ℕ) (t : Transfer) (x y : Environment) (queues : QueuesSt
     → y ≡ made t (taken queues x) → IsMarkAt x.present.table.ranges x.queues.queues y.device.marks t.block → ((is_ended_at t.block y.device.marks ≡ true) × (pins_at t.block y.device.marks ≡ 1) → ⊥)
     → IsUnpinned y.device e t.block → IsSteppedBy q x (record y { device = e })
 unfolding stepped released
-more_steps q t x y queues e first gone limit room marked is mark more unpinned = grind (arith, nat_tests, used_pinned, pins_popped, used_mapped, state_by, room_same, none_taken, marks_unpinned)
+more_steps q t x y queues e first gone limit room marked is mark more unpinned = grind (arith, nat_tests, used_pinned, pins_popped, state_by, room_same, none_taken, marks_unpinned)

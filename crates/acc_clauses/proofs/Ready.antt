@@ -1,6 +1,6 @@
 -- What a task is judged to do, its step and what becomes of its pointer, can be done, and leaves the parts sound.
 use Rattle.std.proofs.Common.{ℕ, ◌≡◌, ◌<◌, ◌^◌, refl, sym, ◌∙◌, ap, subst, Bool, true, false, cond, Option, Some, None, Ok, arith}
-use Rattle.std.specs.Prelude.{◌==◌, length}
+use Rattle.std.specs.Prelude.{◌==◌}
 use Rattle.std.proofs.lemmas.Bool.Decides.{nat_tests}
 use Rattle.acc_base.specs.Section.{device_memory}
 use Rattle.acc_base.specs.Loans.{not_lent}
@@ -69,8 +69,7 @@ can_release l s (Some held) bounds h m free = go (block_with held.0 s.records.ra
     here now e false same out = tt
 
     go : (o : Option ℕ) → block_with held.0 s.records.ranges ≡ o → not_lent (block_aimed (release_there held.0 held.1 o s.records.attached)) s.records.loans ≡ Ok tt → CanAim l.counter_max (release_there held.0 held.1 o s.records.attached) s
-    go None e out = tt
-    go (Some now) e out = here now e (now == held.1) refl out
+    go o e out = grind (arith, nat_tests, here)
 
 -- ---- what each task needs
 

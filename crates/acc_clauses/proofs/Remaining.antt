@@ -39,20 +39,15 @@ pub first_pointers : (l : Limits) (task : Task) (tasks : List Task) (did : Did) 
 first_pointers l task tasks did dids c h = omega (arith, h.pointers)
 
 pub first_room : (l : Limits) (task : Task) (tasks : List Task) (did : Did) (dids : List Did) (c : Contents) → CanRun l (task ∷ tasks) (did ∷ dids) c → HasRoomFor (birth_of task did.step) c.room
-first_room l task tasks did dids c h = grind (arith, nat_tests, append_assoc, length-append)
+first_room l task tasks did dids c h = grind (arith, nat_tests, append_assoc)
 
 pub first_puts : (l : Limits) (task : Task) (tasks : List Task) (did : Did) (dids : List Did) (c : Contents) → CanRun l (task ∷ tasks) (did ∷ dids) c → HasPutRoom (λ q. puts_by q task did.step) c.room
 first_puts l task tasks did dids c h = λ q. omega (arith, h.puts q)
 
--- what comes first in both is the same
-same_rest : (xs ys zs : List ℕ) → xs ++ ys ≡ xs ++ zs → ys ≡ zs
-same_rest [] ys zs e = e
-same_rest (x ∷ xs) ys zs e = same_rest xs ys zs (cc)
-
 -- the others, after the first
 pub rest_can : (l : Limits) (task : Task) (tasks : List Task) (did : Did) (dids : List Did) (c e : Contents) → CanRun l (task ∷ tasks) (did ∷ dids) c → e.limits ≡ c.limits → e.state ≡ act_state task did c.state
     → IsRoomLeft (birth_of task did.step) (pointers_of did.aim) (λ q. puts_by q task did.step) c.room e.room → CanRun l tasks dids e
-rest_can l task tasks did dids c e h limits state room = grind (arith, nat_tests, records-act_state, same_rest, append_assoc, length-append)
+rest_can l task tasks did dids c e h limits state room = grind (arith, nat_tests, records-act_state, append_assoc, length-append)
 
 -- at most one block is born by a step
 pub births_next : (task : Task) (did : Did) (c e : Contents) → e.state ≡ act_state task did c.state → e.state.records.births ≤ c.state.records.births + 1

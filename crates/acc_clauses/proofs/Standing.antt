@@ -1,7 +1,7 @@
 -- Which blocks have a range, and which have ended and are kept by queued transfers, as the marks of the device tell it.
 use Rattle.std.proofs.lemmas.Bool.Decides.{nat_tests}
-use Rattle.std.proofs.Common.{ℕ, ◌≡◌, ◌<◌, refl, ◌∙◌, ap, Bool, false, cond, List, [], ◌∷◌, Option, Some, None, arith}
-use Rattle.std.specs.Prelude.{◌&&◌, nat_le, filter, is_none, unwrap_or, option_map, IfSome, IsSome}
+use Rattle.std.proofs.Common.{ℕ, ◌≡◌, ◌<◌, refl, ◌∙◌, ap, Bool, cond, List, [], ◌∷◌, Option, Some, None, arith}
+use Rattle.std.specs.Prelude.{◌&&◌, nat_le, filter, is_none, option_map, IfSome, IsSome}
 use Rattle.std.specs.List.{AllByRecursion, AllZip}
 use Rattle.acc_clauses.specs.Words.{Range, Block, Transfer}
 use Rattle.acc_base.specs.Loans.{loan_of}
@@ -14,10 +14,10 @@ use Rattle.acc_base.specs.Waits.{told_ended, ended_from}
 use Rattle.acc_base.specs.Accounts.{IsClearOf, EachPair}
 use Rattle.acc_base.proofs.Elements.{AllByRecursion-weaker, AllByRecursion-filter, EachPair-weaker, found_has}
 use Rattle.acc_base.proofs.Lookups.{at-own}
-use Rattle.acc_dev.specs.Marks.{Mark, mark_at, pins_at, is_ended_at, ended_told, lowest_ended, IsMarkOf}
+use Rattle.acc_dev.specs.Marks.{Mark, pins_at, is_ended_at, ended_told, lowest_ended, IsMarkOf}
 use Rattle.acc_clauses.specs.declared.numbers.Numbers.{Numbers}
 use Rattle.acc_clauses.specs.declared.environments.Environment.{Environment}
-use Rattle.acc_clauses.specs.Contents.{state_of, IsMarkRight, ArePartsSound}
+use Rattle.acc_clauses.specs.Contents.{state_of, ArePartsSound}
 use Rattle.acc_clauses.proofs.Steps.{is_some}
 use Rattle.acc_clauses.proofs.Marked.{IsMarkAt, mark_told}
 

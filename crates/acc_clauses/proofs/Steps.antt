@@ -15,7 +15,6 @@ use Rattle.acc_base.specs.Bytes.{step_state}
 use Rattle.acc_base.proofs.Results.{equal, equal_self}
 use Rattle.acc_base.proofs.Lookups.{at-none, at-changed}
 use Rattle.acc_base.proofs.Counting.{with_same, with_new}
-use Rattle.acc_base.proofs.Sound.{counter_is}
 use Rattle.acc_base.proofs.Memories.{recounted-block}
 use Rattle.acc_present.specs.Present.{PresentTable, PresentState, with_ranges}
 use Rattle.acc_present.specs.Present as present
@@ -24,7 +23,7 @@ use Rattle.acc_clauses.specs.declared.environments.Environment.{Environment}
 use Rattle.acc_clauses.specs.Contents.{AreMarked, state_of}
 use Rattle.acc_clauses.specs.Overlays.{puts_by}
 use Rattle.acc_clauses.specs.Acts.{IsChangedBy, IsActedBy}
-use Rattle.acc_clauses.proofs.Changes.{state_by, room_same, none_taken}
+use Rattle.acc_clauses.proofs.Changes.{state_by, room_same}
 use Rattle.acc_clauses.proofs.Marked.{marks_counted}
 
 -- ---- ranges
@@ -110,7 +109,7 @@ new_there section k t u e = subst (λ (x : PresentTable). IsSome (range_of k x.r
 
 pub new_below : (counter : Counter) (section : Section) (k : ℕ) (t u : PresentTable) → AllByRecursion (λ r. r.block ≡ k → ⊥) t.ranges → 0 < t.counter_max → u ≡ with_ranges t (with_range (bare_range section k) t.ranges)
     → counter_of counter k u.ranges < u.counter_max
-new_below counter section k t u h some e = grind (arith, nat_tests, with_same (counter_in counter) (bare_range section k) t.ranges (new_absent k t.ranges h), new_absent k t.ranges h)
+new_below counter section k t u h some e = grind (arith, nat_tests, with_same (counter_in counter) (bare_range section k) t.ranges (new_absent k t.ranges h))
 
 found_block : (k : ℕ) (ranges : List Range) (r : Range) → range_of k ranges ≡ Some r → (r.block == k) ≡ true
 found_block k [] r e = cc
@@ -127,4 +126,4 @@ changed_there task k t u r e is = subst (λ (x : PresentTable). IsSome (range_of
 -- both counters are zero after a change that leaves the range unused
 pub changed_zero : (counter : Counter) (task : Task) (k : ℕ) (t u : PresentTable) (r : Range) → u ≡ with_ranges t (changed_at k (recounted task) t.ranges) → range_of k t.ranges ≡ Some r → ends_by (recounted task) k t.ranges ≡ true
     → counter_of counter k u.ranges ≡ 0
-changed_zero counter task k t u r e is ends = grind (arith, nat_tests, counter_is, found_changed)
+changed_zero counter task k t u r e is ends = grind (arith, nat_tests, found_changed)

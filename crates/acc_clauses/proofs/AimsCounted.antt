@@ -1,8 +1,8 @@
 -- The attachment counter of a pointer after tasks is what the fold over them gives, where the pointer lies in a block then.
-use Rattle.std.proofs.Common.{ℕ, ◌≡◌, ◌≤◌, refl, sym, ap, ◌∙◌, subst, Bool, true, false, cond, List, [], ◌∷◌, suc, Option, Some, None, arith}
-use Rattle.std.specs.Prelude.{◌==◌, unwrap_or, option_map}
+use Rattle.std.proofs.Common.{ℕ, ◌≡◌, ◌≤◌, refl, sym, ap, ◌∙◌, subst, Bool, true, false, cond, List, [], ◌∷◌, suc, Some, None, arith}
+use Rattle.std.specs.Prelude.{◌==◌}
 use Rattle.std.proofs.lemmas.Bool.Decides.{nat_tests}
-use Rattle.acc_clauses.specs.Words.{Counter, Range, Task, Step, Did}
+use Rattle.acc_clauses.specs.Words.{Counter, Task, Step, Did}
 use Rattle.acc_base.specs.declared.mappings.Counter.TheVariants.{Structured, Dynamic}
 use Rattle.acc_base.specs.declared.events.Step.TheVariants.{Counted, Born, Dropped}
 use Rattle.acc_base.specs.Limits.{Limits, IsWithinBounds}
@@ -12,7 +12,7 @@ use Rattle.acc_base.specs.Attachments.{count_at, count_after}
 use Rattle.acc_base.specs.Steps.{records_after_birth, records_after_end, released, with_range_changed, act_row, act_step, act, act_all}
 use Rattle.acc_base.specs.Detaching.{block_with}
 use Rattle.acc_base.specs.History.{AreJudged}
-use Rattle.acc_base.specs.Accounts.{IsCounted, AreRecordsSound}
+use Rattle.acc_base.specs.Accounts.{AreRecordsSound}
 use Rattle.acc_base.proofs.Results.{equal, equal_self}
 use Rattle.acc_base.proofs.Elements.{found_has}
 use Rattle.acc_base.proofs.Counting.{without_read}
@@ -38,16 +38,7 @@ record IsGone (w : Records) (block : ℕ) : Type 0 where
 
 -- no range has both counters at zero
 unmapped : (l : Limits) (w : Records) (block : ℕ) → AreRecordsSound l w → ((counter : Counter) → counter_of counter block w.ranges ≡ 0) → range_of block w.ranges ≡ None
-unmapped l w block h zero = go (range_of block w.ranges) refl
-  where
-    go : (o : Option Range) → range_of block w.ranges ≡ o → o ≡ None
-    go None e = refl
-    go (Some r) e =
-        let has : IsCounted l r × ((r.block == block) ≡ true) = found_has (IsCounted l) (λ t. t.block == block) w.ranges r h.counted e in
-        let structured : r.structured ≡ 0 = sym (ap (λ (o : Option Range). unwrap_or (option_map (counter_in Structured) o) 0) e) ∙ zero Structured in
-        let dynamic : r.dynamic ≡ 0 = sym (ap (λ (o : Option Range). unwrap_or (option_map (counter_in Dynamic) o) 0) e) ∙ zero Dynamic in
-        let some = has.0.some in
-        absurd (omega (arith, some, structured, dynamic))
+unmapped l w block h zero = grind (arith, nat_tests, found_has, zero Structured, zero Dynamic)
 
 -- a task leaves the counters of a block that is gone at zero
 zero_left : (l : Limits) (task : Task) (step : Step) (w : Records) (block : ℕ) (counter : Counter) → AreRecordsSound l w → IsJudgedTo l task step w → IsGone w block
@@ -124,10 +115,8 @@ count-after : (l : Limits) (n : ℕ) (xs : List Acted) (w : Records) (block poin
 unfolding act_all
 count-after l n [] w block pointer bounds h judged mapped = refl
 count-after l n (x ∷ xs) w block pointer bounds h judged mapped =
-    let says = task_says l n x.task w x.did.step judged.0 in
-    let left : IsLeft l x.task x.did w (act x.task x.did w) = first_left l n x xs w bounds h judged in
     ap (λ c. count_over block pointer c xs) (sym (count-act x.task x.did w block pointer (ends_none l n x xs w block bounds h judged mapped)))
-    ∙ count-after l (suc n) xs (act x.task x.did w) block pointer bounds left.sound judged.2 mapped
+    ∙ count-after l (suc n) xs (act x.task x.did w) block pointer bounds (first_left l n x xs w bounds h judged).sound judged.2 mapped
 
 -- a block that holds a pointer is not gone
 holds_not_gone : (l : Limits) (w : Records) (block pointer : ℕ) → AreRecordsSound l w → block_with pointer w.ranges ≡ Some block → IsGone w block → ⊥

@@ -17,10 +17,8 @@ use Rattle.acc_base.specs.Attachments.{pointer_at}
 use Rattle.acc_base.specs.Tasks.{section_of, recounted}
 use Rattle.acc_base.specs.Steps.{records_after_birth, with_range_changed, act_row, act_step, act, act_all}
 use Rattle.acc_base.specs.Detaching.{block_in, block_with}
-use Rattle.acc_base.specs.Pointers.{address_in}
 use Rattle.acc_base.specs.History.{IsTarget, AreJudged}
 use Rattle.acc_base.specs.Accounts.{IsMapped, AreRecordsSound}
-use Rattle.acc_base.proofs.Results.{and_true}
 use Rattle.acc_base.proofs.Elements.{found_has}
 use Rattle.acc_base.proofs.Lookups.{at-own}
 use Rattle.acc_base.proofs.Where.{IsInsideOf, inside_says, absent_says}
@@ -30,7 +28,7 @@ use Rattle.acc_clauses.specs.declared.acted.Acted.{Acted}
 use Rattle.acc_clauses.specs.Overlays.{tasks_in, dids_in, records_after, enters, found_beside}
 use Rattle.acc_clauses.proofs.Founds.{where_is-with, where_is-changed}
 use Rattle.acc_clauses.proofs.AimsPlaced.{no_block-new, there-act}
-use Rattle.acc_clauses.proofs.Overlaid.{first_left}
+use Rattle.acc_clauses.proofs.Overlaid.{first_left, first_enters}
 
 -- ---- what lies in a block
 
@@ -121,9 +119,8 @@ unfolding act_all
 before-after l n [] w pointer block bounds h judged entries there e = e
 before-after l n (x ∷ xs) w pointer block bounds h judged entries there e =
     let says = task_says l n x.task w x.did.step judged.0 in
-    let kinds = and_true (enters x.task) (list_all enters (tasks_in xs)) entries in
-    before-act l x.task x.did w pointer block h says kinds.0 there
-    (before-after l (suc n) xs (act x.task x.did w) pointer block bounds (first_left l n x xs w bounds h judged).sound judged.2 kinds.1 (there-act l x.task x.did w block says kinds.0 there) e)
+    before-act l x.task x.did w pointer block h says (first_enters x xs entries).0 there
+    (before-after l (suc n) xs (act x.task x.did w) pointer block bounds (first_left l n x xs w bounds h judged).sound judged.2 (first_enters x xs entries).1 (there-act l x.task x.did w block says (first_enters x xs entries).0 there) e)
 
 -- ---- targets
 
@@ -132,10 +129,4 @@ pub address_bound : (l : Limits) (w : Records) (s : Section) (block offset : ℕ
 address_bound l w s block offset bounds h e = grind (arith, nat_tests, found_has)
 
 pub target_bound : (l : Limits) (w : Records) (target : ℕ) → IsWithinBounds l → AreRecordsSound l w → IsTarget target w → target < 2 ^ 42
-target_bound l w target bounds h t = go (where_is (only t.0) w.ranges) refl t.1
-  where
-    go : (f : Found) → where_is (only t.0) w.ranges ≡ f → address_in f w.blocks ≡ Some target → target < 2 ^ 42
-    go (Inside block offset) is e =
-        let same : place_of block w.blocks + offset ≡ target = cc in
-        subst (λ n. n < 2 ^ 42) same (address_bound l w (only t.0) block offset bounds h is)
-    go _ is e = cc
+target_bound l w target bounds h t = grind (arith, nat_tests, address_bound l w (only t.0))

@@ -1,6 +1,6 @@
 -- Where blocks lie after entries, and what entries leave of host memory.
 use Rattle.std.proofs.lemmas.Bool.Decides.{nat_tests}
-use Rattle.std.proofs.Common.{ℕ, ◌≡◌, ◌+◌, ◌≤◌, refl, sym, ap, ◌∙◌, subst, Bool, true, false, cond, List, [], ◌∷◌, ◌++◌, suc, Option, Some, None, arith}
+use Rattle.std.proofs.Common.{ℕ, ◌≡◌, ◌+◌, ◌≤◌, refl, sym, ap, ◌∙◌, subst, true, false, cond, List, [], ◌∷◌, ◌++◌, suc, Option, None, arith}
 use Rattle.std.specs.Prelude.{◌==◌, unwrap_or, option_map, IsSome}
 use Rattle.std.specs.List.{list_all}
 use Rattle.std.proofs.lemmas.Bool.{false≢true}
@@ -18,7 +18,6 @@ use Rattle.acc_base.specs.Pointers.{aimed}
 use Rattle.acc_base.specs.Acting.{act_state, act_all_state}
 use Rattle.acc_base.specs.History.{AreJudged}
 use Rattle.acc_base.specs.Accounts.{AreRecordsSound}
-use Rattle.acc_base.proofs.Results.{and_true, equal}
 use Rattle.acc_base.proofs.Elements.{AllByRecursion-weaker}
 use Rattle.acc_base.proofs.Lookups.{at-push_new, at-push_there, at-none}
 use Rattle.acc_base.proofs.Judged.{IsJudgedTo, task_says}
@@ -27,7 +26,7 @@ use Rattle.acc_base.proofs.Walked.{records-act_state}
 use Rattle.acc_clauses.specs.declared.acted.Acted.{Acted}
 use Rattle.acc_clauses.specs.Overlays.{tasks_in, dids_in, records_after, state_after, enters, IsPlanned}
 use Rattle.acc_clauses.specs.Aims.{place_by, place_over}
-use Rattle.acc_clauses.proofs.Overlaid.{first_left}
+use Rattle.acc_clauses.proofs.Overlaid.{first_left, first_enters}
 
 -- ---- one block more
 
@@ -53,14 +52,7 @@ new_number : (task : Task) (k p : ℕ) → (new_block task k p).number ≡ k
 new_number task k p = (recounted_keeps task).block (bare_range (section_of task) k)
 
 place-born : (task : Task) (k p block : ℕ) (blocks : List Block) → block_at k blocks ≡ None → place_of block (blocks ++ new_block task k p ∷ []) ≡ cond (k == block) p (place_of block blocks)
-place-born task k p block blocks none = go (k == block) refl
-  where
-    go : (t : Bool) → (k == block) ≡ t → place_of block (blocks ++ new_block task k p ∷ []) ≡ cond t p (place_of block blocks)
-    go true e =
-        let is : (new_block task k p).number ≡ block = new_number task k p ∙ equal k block e in
-        let absent : block_at (new_block task k p).number blocks ≡ None = subst (λ n. block_at n blocks ≡ None) (sym (new_number task k p)) none in
-        subst (λ n. place_of n (blocks ++ new_block task k p ∷ []) ≡ p) is (place-new blocks (new_block task k p) absent)
-    go false e = place-other blocks (new_block task k p) block (subst (λ n. (n == block) ≡ false) (sym (new_number task k p)) e)
+place-born task k p block blocks none = grind (arith, nat_tests, place-new blocks (new_block task k p), place-other blocks (new_block task k p) block, new_number task k p)
 
 -- ---- places after entries
 
@@ -80,11 +72,7 @@ pub place-after : (l : Limits) (n : ℕ) (xs : List Acted) (w : Records) (block 
     → place_over block (place_of block w.blocks) xs ≡ place_of block (records_after xs w).blocks
 unfolding act_all
 place-after l n [] w block bounds h judged entries = refl
-place-after l n (x ∷ xs) w block bounds h judged entries =
-    let says = task_says l n x.task w x.did.step judged.0 in
-    let kinds = and_true (enters x.task) (list_all enters (tasks_in xs)) entries in
-    ap (λ p. place_over block p xs) (sym (place-act l x.task x.did w block h says kinds.0))
-    ∙ place-after l (suc n) xs (act x.task x.did w) block bounds (first_left l n x xs w bounds h judged).sound judged.2 kinds.1
+place-after l n (x ∷ xs) w block bounds h judged entries = grind (arith, nat_tests, place-after l (suc n) xs (act x.task x.did w) block bounds (first_left l n x xs w bounds h judged).sound judged.2 (first_enters x xs entries).1, place-act, task_says l n x.task w x.did.step judged.0)
 
 pub place-planned : (l : Limits) (xs : List Acted) (w : Records) (block : ℕ) → IsPlanned l xs w → list_all enters (tasks_in xs) ≡ true
     → place_over block (place_of block w.blocks) xs ≡ place_of block (records_after xs w).blocks
@@ -94,11 +82,7 @@ place-planned l xs w block p entries = place-after l 0 xs w block p.bounds p.sou
 there-step : (l : Limits) (counter : Counter) (item : Item RegionClause) (queue : Option ℕ) (step : Step) (w : Records) (block : ℕ) → IsJudgedTo l (Enter counter item queue) step w → IsSome (block_at block w.blocks)
     → IsSome (block_at block (act_step (Enter counter item queue) step w).blocks)
 unfolding act_step act_row with_range_changed records_after_birth
-there-step l counter item queue (Born k p) w block says there = go (block_at block w.blocks) refl there
-  where
-    go : (o : Option Block) → block_at block w.blocks ≡ o → IsSome o → IsSome (block_at block (w.blocks ++ new_block (Enter counter item queue) k p ∷ []))
-    go None e t = cc
-    go (Some b) e t = rw (at-push_there (λ (b : Block). b.number) block w.blocks (new_block (Enter counter item queue) k p) b e) refl
+there-step l counter item queue (Born k p) w block says there = grind (arith, nat_tests, at-push_there (λ (b : Block). b.number) block w.blocks (new_block (Enter counter item queue) k p))
 there-step l counter item queue (Dropped k ended) w block says there = absurd says
 there-step l counter item queue _ w block says there = there
 
@@ -121,6 +105,5 @@ pub host-after : (l : Limits) (n : ℕ) (xs : List Acted) (s : State) → AreJud
 unfolding act_all_state
 host-after l n [] s judged entries = refl
 host-after l n (x ∷ xs) s judged entries =
-    let kinds = and_true (enters x.task) (list_all enters (tasks_in xs)) entries in
-    host-after l (suc n) xs (act_state x.task x.did s) (subst (AreJudged l (suc n) (tasks_in xs) (dids_in xs)) (sym (records-act_state x.task x.did s)) judged.2) kinds.1
-    ∙ host-act l x.task x.did s (task_says l n x.task s.records x.did.step judged.0) kinds.0
+    host-after l (suc n) xs (act_state x.task x.did s) (subst (AreJudged l (suc n) (tasks_in xs) (dids_in xs)) (sym (records-act_state x.task x.did s)) judged.2) (first_enters x xs entries).1
+    ∙ host-act l x.task x.did s (task_says l n x.task s.records x.did.step judged.0) (first_enters x xs entries).0

@@ -16,7 +16,6 @@ use Rattle.acc_base.specs.Tasks.{recounted}
 use Rattle.acc_base.specs.Steps.{act}
 use Rattle.acc_base.specs.History.{AreJudged}
 use Rattle.acc_base.specs.Accounts.{AreRecordsSound}
-use Rattle.acc_base.proofs.Results.{and_true}
 use Rattle.acc_base.proofs.Elements.{found_has}
 use Rattle.acc_base.proofs.Places.{place_for-found}
 use Rattle.acc_base.proofs.Judged.{IsJudgedTo, task_says}
@@ -24,7 +23,7 @@ use Rattle.acc_placement.specs.Ranges.{IsTakeBelow}
 use Rattle.acc_dev.specs.Device.{planned_blocks}
 use Rattle.acc_clauses.specs.declared.acted.Acted.{Acted}
 use Rattle.acc_clauses.specs.Overlays.{IsPlanned, AreUnmixed, tasks_in, dids_in, records_after, enters, births_of, end_by, ended_of, found_by, found_over, counters_at, recount, are_zero, counters_over}
-use Rattle.acc_clauses.proofs.Overlaid.{or_false, birth_entry, sound-after, counters-after, found-entered, found-left, blocks-after, births-after}
+use Rattle.acc_clauses.proofs.Overlaid.{or_false, birth_entry, sound-after, counters-after, found-entered, found-left, blocks-after, births-after, first_enters}
 use Rattle.acc_present.proofs.Finding.{apart_from_none}
 use Rattle.acc_clauses.proofs.Legal.{birth_len}
 
@@ -36,11 +35,7 @@ end_none l task step w says none = grind (arith, nat_tests)
 ended_none : (l : Limits) (n : ℕ) (xs : List Acted) (w : Records) → AreJudged l n (tasks_in xs) (dids_in xs) w → list_all enters (tasks_in xs) ≡ true → ended_of xs ≡ []
 ended_none l n [] w judged all = refl
 ended_none l n (x ∷ xs) w judged all =
-    let says = task_says l n x.task w x.did.step judged.0 in
-    let parts : (enters x.task ≡ true) × (list_all enters (tasks_in xs) ≡ true) = and_true _ _ all in
-    let first : end_by x.did.step ≡ [] = end_none l x.task x.did.step w says parts.0 in
-    let rest : ended_of xs ≡ [] = ended_none l (suc n) xs (act x.task x.did w) judged.2 parts.1 in
-    rw (first, rest) refl
+    rw (end_none l x.task x.did.step w (task_says l n x.task w x.did.step judged.0) (first_enters x xs all).0, ended_none l (suc n) xs (act x.task x.did w) judged.2 (first_enters x xs all).1) refl
 
 found_stays : (l : Limits) (task : Task) (step : Step) (w : Records) (s : Section) (f : Found) → IsJudgedTo l task step w → enters task ≡ false → found_by s f task step ≡ f
 found_stays l task step w s f says none = grind (arith, nat_tests)
@@ -48,9 +43,8 @@ found_stays l task step w s f says none = grind (arith, nat_tests)
 found_same : (l : Limits) (n : ℕ) (xs : List Acted) (w : Records) (s : Section) (f : Found) → AreJudged l n (tasks_in xs) (dids_in xs) w → list_any enters (tasks_in xs) ≡ false → found_over s f xs ≡ f
 found_same l n [] w s f judged none = refl
 found_same l n (x ∷ xs) w s f judged none =
-    let says = task_says l n x.task w x.did.step judged.0 in
-    let parts : (enters x.task ≡ false) × (list_any enters (tasks_in xs) ≡ false) = or_false _ _ none in
-    ap (λ g. found_over s g xs) (found_stays l x.task x.did.step w s f says parts.0) ∙ found_same l (suc n) xs (act x.task x.did w) s f judged.2 parts.1
+    ap (λ g. found_over s g xs) (found_stays l x.task x.did.step w s f (task_says l n x.task w x.did.step judged.0) (or_false (enters x.task) (list_any enters (tasks_in xs)) none).0)
+    ∙ found_same l (suc n) xs (act x.task x.did w) s f judged.2 (or_false (enters x.task) (list_any enters (tasks_in xs)) none).1
 
 pub found-planned : (l : Limits) (xs : List Acted) (w : Records) (s : Section) → IsPlanned l xs w → AreUnmixed (tasks_in xs)
     → found_over s (where_is_apart s (ended_of xs) w.ranges) xs ≡ where_is s (records_after xs w).ranges

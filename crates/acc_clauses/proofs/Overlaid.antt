@@ -95,20 +95,19 @@ pub counters-after : (l : Limits) (n : ℕ) (xs : List Acted) (w : Records) (b :
 unfolding act_all
 counters-after l n [] w b bounds h judged = refl
 counters-after l n (x ∷ xs) w b bounds h judged =
-    let left = first_left l n x xs w bounds h judged in
-    ap (λ c. counters_over b c xs) (sym (counters-left x.task x.did.step b w.ranges (act x.task x.did w).ranges (λ c. left.counter_is c b)))
-    ∙ counters-after l (suc n) xs (act x.task x.did w) b bounds left.sound judged.2
+    ap (λ c. counters_over b c xs) (sym (counters-left x.task x.did.step b w.ranges (act x.task x.did w).ranges (λ c. (first_left l n x xs w bounds h judged).counter_is c b)))
+    ∙ counters-after l (suc n) xs (act x.task x.did w) b bounds (first_left l n x xs w bounds h judged).sound judged.2
+
+-- where all of some tasks enter, so does the first, and so do the others
+pub first_enters : (x : Acted) (xs : List Acted) → list_all enters (tasks_in (x ∷ xs)) ≡ true → (enters x.task ≡ true) × (list_all enters (tasks_in xs) ≡ true)
+first_enters x xs all = and_true (enters x.task) (list_all enters (tasks_in xs)) all
 
 -- where a section lies after tasks that all enter
 pub found-entered : (l : Limits) (n : ℕ) (xs : List Acted) (w : Records) (s : Section) → AreJudged l n (tasks_in xs) (dids_in xs) w → list_all enters (tasks_in xs) ≡ true
     → found_over s (where_is s w.ranges) xs ≡ where_is s (records_after xs w).ranges
 unfolding act_all
 found-entered l n [] w s judged all = refl
-found-entered l n (x ∷ xs) w s judged all =
-    let says = task_says l n x.task w x.did.step judged.0 in
-    let parts : (enters x.task ≡ true) × (list_all enters (tasks_in xs) ≡ true) = and_true _ _ all in
-    ap (λ f. found_over s f xs) (found-act l x.task x.did w s says parts.0)
-    ∙ found-entered l (suc n) xs (act x.task x.did w) s judged.2 parts.1
+found-entered l n (x ∷ xs) w s judged all = grind (arith, nat_tests, found-entered l (suc n) xs (act x.task x.did w) s judged.2 (first_enters x xs all).1, found-act, task_says l n x.task w x.did.step judged.0)
 
 -- where it lies after tasks of which none enters
 pub found-left : (l : Limits) (n : ℕ) (xs : List Acted) (w : Records) (s : Section) → AreJudged l n (tasks_in xs) (dids_in xs) w → list_any enters (tasks_in xs) ≡ false
@@ -116,10 +115,8 @@ pub found-left : (l : Limits) (n : ℕ) (xs : List Acted) (w : Records) (s : Sec
 unfolding act_all
 found-left l n [] w s judged none = apart_from_none s w.ranges
 found-left l n (x ∷ xs) w s judged none =
-    let says = task_says l n x.task w x.did.step judged.0 in
-    let parts : (enters x.task ≡ false) × (list_any enters (tasks_in xs) ≡ false) = or_false _ _ none in
-    apart-act l x.task x.did w s (ended_of xs) says parts.0
-    ∙ found-left l (suc n) xs (act x.task x.did w) s judged.2 parts.1
+    apart-act l x.task x.did w s (ended_of xs) (task_says l n x.task w x.did.step judged.0) (or_false (enters x.task) (list_any enters (tasks_in xs)) none).0
+    ∙ found-left l (suc n) xs (act x.task x.did w) s judged.2 (or_false (enters x.task) (list_any enters (tasks_in xs)) none).1
 
 -- the device after tasks that all enter
 pub blocks-after : (l : Limits) (n : ℕ) (xs : List Acted) (w : Records) → AreJudged l n (tasks_in xs) (dids_in xs) w → list_all enters (tasks_in xs) ≡ true
@@ -127,24 +124,15 @@ pub blocks-after : (l : Limits) (n : ℕ) (xs : List Acted) (w : Records) → Ar
 unfolding act_all
 blocks-after l n [] w judged all = sym (append-nil w.blocks)
 blocks-after l n (x ∷ xs) w judged all =
-    let says = task_says l n x.task w x.did.step judged.0 in
-    let parts : (enters x.task ≡ true) × (list_all enters (tasks_in xs) ≡ true) = and_true _ _ all in
-    let one = born-act l x.task x.did w says parts.0 in
-    let rest = blocks-after l (suc n) xs (act x.task x.did w) judged.2 parts.1 in
-    let number : (act x.task x.did w).births + 1 ≡ w.births + 1 + length (birth_by x.task x.did.step) = omega (arith, one.births) in
-    rest
-    ∙ ap (λ bs. bs ++ planned_blocks ((act x.task x.did w).births + 1) (births_of xs)) one.blocks
-    ∙ append_assoc w.blocks (planned_blocks (w.births + 1) (birth_by x.task x.did.step)) (planned_blocks ((act x.task x.did w).births + 1) (births_of xs))
-    ∙ ap (λ bs. w.blocks ++ bs) (ap (λ m. planned_blocks (w.births + 1) (birth_by x.task x.did.step) ++ planned_blocks m (births_of xs)) number ∙ sym (planned_more (birth_by x.task x.did.step) (births_of xs) (w.births + 1)))
+    let one = born-act l x.task x.did w (task_says l n x.task w x.did.step judged.0) (first_enters x xs all).0 in
+    let rest = blocks-after l (suc n) xs (act x.task x.did w) judged.2 (first_enters x xs all).1 in
+    grind (arith, nat_tests, append_assoc, planned_more)
 
 pub births-after : (l : Limits) (n : ℕ) (xs : List Acted) (w : Records) → AreJudged l n (tasks_in xs) (dids_in xs) w → list_all enters (tasks_in xs) ≡ true
     → (records_after xs w).births ≡ w.births + length (births_of xs)
 unfolding act_all
 births-after l n [] w judged all = omega arith
 births-after l n (x ∷ xs) w judged all =
-    let says = task_says l n x.task w x.did.step judged.0 in
-    let parts : (enters x.task ≡ true) × (list_all enters (tasks_in xs) ≡ true) = and_true _ _ all in
-    let one = born-act l x.task x.did w says parts.0 in
-    let rest = births-after l (suc n) xs (act x.task x.did w) judged.2 parts.1 in
-    let both = length-append (birth_by x.task x.did.step) (births_of xs) in
-    omega (arith, rest, one.births, both)
+    let one = born-act l x.task x.did w (task_says l n x.task w x.did.step judged.0) (first_enters x xs all).0 in
+    let rest = births-after l (suc n) xs (act x.task x.did w) judged.2 (first_enters x xs all).1 in
+    omega (arith, rest, one.births, length-append (birth_by x.task x.did.step) (births_of xs))

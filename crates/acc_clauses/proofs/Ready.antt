@@ -4,18 +4,16 @@ use Rattle.std.specs.Prelude.{◌==◌}
 use Rattle.std.proofs.lemmas.Bool.Decides.{nat_tests}
 use Rattle.acc_base.specs.Section.{device_memory}
 use Rattle.acc_base.specs.Loans.{not_lent}
-use Rattle.acc_clauses.specs.Words.{Found, Counter, Item, RegionClause, Aim, Did, Task, Step}
-use Rattle.acc_base.specs.declared.mappings.Found.TheVariants.{Inside}
+use Rattle.acc_clauses.specs.Words.{Counter, Item, RegionClause, Aim, Did, Task, Step}
 use Rattle.acc_base.specs.declared.attachments.Aim.TheVariants as aims
 use Rattle.acc_base.specs.declared.tasks.Task.TheVariants.{Enter, Leave, Exit, Move}
 use Rattle.acc_base.specs.Limits.{Limits, IsWithinBounds}
 use Rattle.acc_base.specs.Records.{Records, State}
-use Rattle.acc_base.specs.Ranges.{where_is}
 use Rattle.acc_base.specs.Tasks.{queue_of}
 use Rattle.acc_base.specs.Transfers.{transfer_of, room_for}
 use Rattle.acc_base.specs.Bytes.{step_state}
 use Rattle.acc_base.specs.Attachments.{pointer_at, detach}
-use Rattle.acc_base.specs.Detaching.{block_in, block_with, judge_detach, release_there, judge_release, block_aimed}
+use Rattle.acc_base.specs.Detaching.{block_with, judge_detach, release_there, judge_release, block_aimed}
 use Rattle.acc_base.specs.Pointers.{aimed}
 use Rattle.acc_base.specs.Steps.{pointer_aimed, records_aimed, block_detached}
 use Rattle.acc_base.specs.Detaching.{detach_if}
@@ -40,13 +38,7 @@ use Rattle.acc_clauses.proofs.Changes.{changed_sound}
 
 -- the block that has a pointer
 with_pointer : (l : Limits) (s : State) (pointer block : ℕ) → IsWithinBounds l → AreRecordsSound l s.records → AreMemoriesSized l s → block_with pointer s.records.ranges ≡ Some block → CanMove (pointer_at pointer) block s
-with_pointer l s pointer block bounds h m e = go (where_is (pointer_at pointer) s.records.ranges) refl e
-  where
-    go : (f : Found) → where_is (pointer_at pointer) s.records.ranges ≡ f → block_in f ≡ Some block → CanMove (pointer_at pointer) block s
-    go (Inside b offset) is k =
-        let same : b ≡ block = cc in
-        subst (λ n. CanMove (pointer_at pointer) n s) same (can_move l s (pointer_at pointer) b bounds h m (mapped_around l s.records (pointer_at pointer) b offset h is))
-    go _ is k = cc
+with_pointer l s pointer block bounds h m e = grind (arith, nat_tests, can_move l s (pointer_at pointer) block, mapped_around l s.records (pointer_at pointer) block)
 
 can_attach : (l : Limits) (s : State) (named : Option ℕ) (aim : Aim) → IsWithinBounds l → AreRecordsSound l s.records → AreMemoriesSized l s → IsAttachLegal l named aim s.records → CanAim l.counter_max aim s
 can_attach l s named aim bounds h m legal = grind (arith, nat_tests, with_pointer)

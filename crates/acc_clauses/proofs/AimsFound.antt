@@ -39,9 +39,9 @@ pub record IsHeldIn (s : Section) (block : ℕ) (w : Records) (r : Range) (b : B
   pub len : b.len ≡ r.section.len
   pub within : is_within s r.section ≡ true
 
-pub held_in : (l : Limits) (s : Section) (w : Records) (block offset : ℕ) → AreRecordsSound l w → where_is s w.ranges ≡ Inside block offset
+pub held_in_block : (l : Limits) (s : Section) (w : Records) (block offset : ℕ) → AreRecordsSound l w → where_is s w.ranges ≡ Inside block offset
     → (r : Range) × (b : Block) × IsHeldIn s block w r b × (offset ≡ s.start - r.section.start)
-held_in l s w block offset h e =
+held_in_block l s w block offset h e =
     let found : (r : Range) × IsInsideOf s w.ranges block offset r = inside_says s w.ranges block offset e in
     let r : Range = found.0 in
     let own : (range_of r.block w.ranges ≡ Some r) × (is_within s r.section ≡ true)
@@ -75,7 +75,7 @@ pointer_in_block l w block pointer h e = go (where_is (pointer_at pointer) w.ran
     go : (f : Found) → where_is (pointer_at pointer) w.ranges ≡ f → block_in f ≡ Some block → IsPointerIn block pointer w
     go (Inside b offset) is k =
         let same : b ≡ block = cc in
-        let held = held_in l (pointer_at pointer) w block offset h (is ∙ ap (λ n. Inside n offset) same) in
+        let held = held_in_block l (pointer_at pointer) w block offset h (is ∙ ap (λ n. Inside n offset) same) in
         let start : start_of block w.ranges ≡ held.0.section.start = ap (λ o. unwrap_or (option_map (λ (r : Range). r.section.start) o) 0) held.2.range_is in
         let bounds : (held.0.section.start ≤ pointer) × (pointer + 8 ≤ held.0.section.start + held.0.section.len) = inside held.0.section held.2.within in
         record { range = held.0; range_is = held.2.range_is; block_there = held.1; there = held.2.block_is; low = omega (arith, start, bounds.0); high = let len = held.2.len in omega (arith, start, bounds.1, len) }

@@ -66,12 +66,7 @@ abbrev start_in : Range → ℕ
 start_in r = r.section.start
 
 start-changed : (task : Task) (k block : ℕ) (ranges : List Range) → start_of block (changed_at k (recounted task) ranges) ≡ start_of block ranges
-start-changed task k block ranges =
-    changed_read start_in (recounted task) (λ n. n) (recounted_keeps task).block (λ r. ap (λ s. s.start) ((recounted_keeps task).section r)) k block ranges (λ none. refl)
-    ∙ go (k == block)
-  where
-    go : (t : Bool) → cond t (read_of start_in block ranges) (read_of start_in block ranges) ≡ start_of block ranges
-    go t = grind (arith, nat_tests)
+start-changed task k block ranges = grind (arith, nat_tests, changed_read start_in (recounted task) (λ n. n) (recounted_keeps task).block (λ r. ap (λ s. s.start) ((recounted_keeps task).section r)) k block ranges (λ none. refl))
 
 holds_same : (pointer first second : ℕ) (xs ys : List ℕ) → first ≡ second → xs ≡ ys → pointer_in first pointer xs ≡ pointer_in second pointer ys
 holds_same pointer first second xs ys e f = rw (e, f) refl

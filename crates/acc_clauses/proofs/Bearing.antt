@@ -59,9 +59,9 @@ some_same : (a b : ℕ) (o : Option ℕ) → o ≡ Some a → o ≡ Some b → a
 some_same a b o e h = cc
 
 -- the block that a birth adds is the one that the definitions name
-born_block : (counter : Counter) (item : Item RegionClause) (queue : Option ℕ) (k n p q : ℕ) → k ≡ n → p ≡ q
+born_as_named : (counter : Counter) (item : Item RegionClause) (queue : Option ℕ) (k n p q : ℕ) → k ≡ n → p ≡ q
     → ◌≡◌ {A = Block} (record { number = n; place = q; len = (section_of (Enter counter item queue)).len }) (record { number = (born_range counter item queue k).block; place = p; len = (born_range counter item queue k).section.len })
-born_block counter item queue k n p q e h = rw (recounted-block (Enter counter item queue) (bare_range (section_of (Enter counter item queue)) k), recounted-section (Enter counter item queue) (bare_range (section_of (Enter counter item queue)) k), e, h) refl
+born_as_named counter item queue k n p q e h = rw (recounted-block (Enter counter item queue) (bare_range (section_of (Enter counter item queue)) k), recounted-section (Enter counter item queue) (bare_range (section_of (Enter counter item queue)) k), e, h) refl
 
 -- the marks are right with that of the new block
 born_marked : (counter : Counter) (item : Item RegionClause) (queue : Option ℕ) (k births : ℕ) (x : Environment) → k ≡ births + 1 → pins_of k x.queues.queues ≡ 0 → AllZip IsMarkOf x.device.marks x.device.blocks → AllByRecursion (λ b. b.number ≤ births) x.device.blocks → AreMarked x
@@ -84,7 +84,7 @@ born_changes counter item queue copied k place x q r e can made put ranges regio
     let new : Environment = record x { present = r; device = e } in
     let where_it_is : place ≡ made.place = some_same place made.place _ can.place_is made.place_is in
     let all : r.table.ranges ≡ with_range (born_range counter item queue k) x.present.table.ranges = born_ranges counter item queue k x.present q r can.no_range put raised in
-    let blocks : e.blocks ≡ (records_after_birth (born_range counter item queue k) place (bare_state x).records).blocks = made.blocks ∙ ap (λ b. x.device.blocks ++ b ∷ []) (born_block counter item queue k (x.device.births + 1) place made.place can.number where_it_is) in
+    let blocks : e.blocks ≡ (records_after_birth (born_range counter item queue k) place (bare_state x).records).blocks = made.blocks ∙ ap (λ b. x.device.blocks ++ b ∷ []) (born_as_named counter item queue k (x.device.births + 1) place made.place can.number where_it_is) in
     let memories : e.memories ≡ x.device.memories ++ record { block = k; bytes = bytes_made copied (section_of (Enter counter item queue)) item.clause x.host } ∷ [] =
     made.memories ∙ ap (λ n. x.device.memories ++ record { block = n; bytes = bytes_made copied (section_of (Enter counter item queue)) item.clause x.host } ∷ []) (sym can.number) in
     record {

@@ -66,12 +66,12 @@ range_ends task k ended x y can given = ap (ends_by (recounted task) k) (same_ra
 pub falls : (most : ℕ) (task : Task) (k : ℕ) (ranges : List Range) (r : Range) → (IsEnter task → ⊥) → range_of k ranges ≡ Some r → CanCount most task k ranges
 falls most task k ranges r other is = grind (arith, nat_tests)
 
-pub block_there : (task : Task) (k : ℕ) (ended : Bool) (x y : Environment) → CanDrop task k ended (bare_state x) → IsGivenBy task k x y → IsSome (block_at k y.device.blocks)
-block_there task k ended x y can given = rw (same_blocks task k x y given) can.move.there
+pub end_there : (task : Task) (k : ℕ) (ended : Bool) (x y : Environment) → CanDrop task k ended (bare_state x) → IsGivenBy task k x y → IsSome (block_at k y.device.blocks)
+end_there task k ended x y can given = rw (same_blocks task k x y given) can.move.there
 
 -- the block has a mark, by which its mapping has not ended
 pub end_mark : (task : Task) (k : ℕ) (ended : Bool) (x y : Environment) → CanDrop task k ended (bare_state x) → IsGivenBy task k x y → AllZip IsMarkOf y.device.marks y.device.blocks → IsMarkAt y.present.table.ranges y.queues.queues y.device.marks k
-end_mark task k ended x y can given zip = mark_told y.present.table.ranges y.queues.queues k y.device.marks y.device.blocks zip (block_there task k ended x y can given) given.marked
+end_mark task k ended x y can given zip = mark_told y.present.table.ranges y.queues.queues k y.device.marks y.device.blocks zip (end_there task k ended x y can given) given.marked
 
 pub end_mapped : (task : Task) (k : ℕ) (ended : Bool) (x y : Environment) → CanDrop task k ended (bare_state x) → IsGivenBy task k x y → AllZip IsMarkOf y.device.marks y.device.blocks → is_ended_at k y.device.marks ≡ false
 end_mapped task k ended x y can given zip = (end_mark task k ended x y can given zip).ended ∙ ap is_none (range_there task k ended x y can given)

@@ -40,14 +40,7 @@ all_apart-within s t (r ∷ rs) some inside off =
 -- the range that has the section is the new one, or the one that had it
 around-with : (s : Section) (new : Range) (ranges : List Range) → is_empty s ≡ false → all_apart new.section ranges ≡ true → range_around s (with_range new ranges) ≡ cond (is_within s new.section) (Some new) (range_around s ranges)
 around-with s new [] some off = refl
-around-with s new (r ∷ rs) some off =
-    let parts : (is_apart new.section r.section ≡ true) × (all_apart new.section rs ≡ true) = and_true _ _ off in
-    go (around-with s new rs some parts.1) (nat_lt new.section.start r.section.start) (is_within s new.section) refl (is_within s r.section) refl parts.0
-  where
-    go : range_around s (with_range new rs) ≡ cond (is_within s new.section) (Some new) (range_around s rs)
-        → (first x : Bool) → is_within s new.section ≡ x → (y : Bool) → is_within s r.section ≡ y → is_apart new.section r.section ≡ true
-        → range_around s (cond first (new ∷ r ∷ rs) (r ∷ with_range new rs)) ≡ cond x (Some new) (range_around s (r ∷ rs))
-    go rest first x e y f clear = grind (arith, nat_tests)
+around-with s new (r ∷ rs) some off = grind (arith, nat_tests, around-with s new rs some, and_true)
 
 all_apart-with : (s : Section) (new : Range) (ranges : List Range) → all_apart s (with_range new ranges) ≡ (is_apart s new.section && all_apart s ranges)
 all_apart-with s new [] = refl

@@ -24,7 +24,7 @@ use Rattle.acc_base.proofs.Lookups.{at-changed, at-without_same, at-without_othe
 use Rattle.acc_base.proofs.Judged.{IsJudgedTo, task_says, step_judged}
 use Rattle.acc_base.proofs.Recounted.{names, birth_number}
 use Rattle.acc_base.proofs.Aimed.{IsLeft, task_left}
-use Rattle.acc_base.proofs.Memories.{recounted-block}
+use Rattle.acc_base.proofs.Memories.{recounted-block, recounted-section}
 use Rattle.acc_clauses.specs.Acts.{IsKnown, AreKnown}
 use Rattle.acc_clauses.specs.Stored.{IsHeldWithin, IsHoldingWithin, AreHoldingsWithin}
 use Rattle.acc_base.proofs.SameMapping.{mapping-act}
@@ -34,24 +34,11 @@ use Rattle.acc_base.proofs.Lending.{range_of-with_other}
 
 -- a change of counters leaves sections
 within_changed : (task : Task) (k b : ℕ) (rs : List Range) (s : Section) → ((r : Range) → range_of b rs ≡ Some r → is_within s r.section ≡ true) → (r : Range) → range_of b (changed_at k (recounted task) rs) ≡ Some r → is_within s r.section ≡ true
-within_changed task k b rs s h r e = go (range_of b rs) refl (sym (at-changed block_of k b (recounted task) rs (recounted-block task)) ∙ e)
-  where
-    sect : (x : Range) → range_of b rs ≡ Some x → (t : Bool) → is_within s (cond t (recounted task x) x).section ≡ true
-    sect x p t = grind (arith, nat_tests)
-
-    go : (o : Option Range) → range_of b rs ≡ o → option_map (λ (x : Range). cond (x.block == k) (recounted task x) x) o ≡ Some r → is_within s r.section ≡ true
-    go o p q = grind (arith, nat_tests)
+within_changed task k b rs s h r e = grind (arith, nat_tests, at-changed block_of k b (recounted task) rs (recounted-block task), recounted-section task)
 
 -- an end leaves the ranges of other blocks
 within_without : (k b : ℕ) (rs : List Range) (s : Section) → ((r : Range) → range_of b rs ≡ Some r → is_within s r.section ≡ true) → (r : Range) → range_of b (without_range k rs) ≡ Some r → is_within s r.section ≡ true
-within_without k b rs s h r e = go (b == k) refl
-  where
-    go : (t : Bool) → (b == k) ≡ t → is_within s r.section ≡ true
-    go true t =
-        let there : range_of k (without_range k rs) ≡ Some r = subst (λ n. range_of n (without_range k rs) ≡ Some r) (equal b k t) e in
-        let gone : range_of k (without_range k rs) ≡ None = at-without_same block_of k rs in
-        cc
-    go false t = h r (sym (at-without_other block_of k b rs t) ∙ e)
+within_without k b rs s h r e = grind (arith, nat_tests, at-without_same block_of k rs, at-without_other block_of k b rs)
 
 -- what is held stays within after a step
 pub within_step : (l : Limits) (task : Task) (step : Step) (w : Records) (s : Section) (b : ℕ) → IsJudgedTo l task step w → IsHeldWithin w s b → IsHeldWithin (act_step task step w) s b

@@ -62,11 +62,7 @@ no_memory ls k births (m ∷ ms) (b ∷ bs) h low e = grind (arith, nat_tests, n
 
 -- nor has it an attachment counter
 no_pointer : (l : Limits) (k : ℕ) (w : Records) → AreRecordsSound l w → k ≡ w.births + 1 → AllByRecursion (λ a. a.block ≡ k → ⊥) w.attached
-no_pointer l k w h e = AllByRecursion-weaker (λ a. IsSome (block_at a.block w.blocks)) (λ a. a.block ≡ k → ⊥) w.attached (λ a there same.
-    let b : (b : Block) × (block_at a.block w.blocks ≡ Some b) = some_of (block_at a.block w.blocks) there in
-    let has : (b.0.number ≤ w.births) × ((b.0.number == a.block) ≡ true) = found_has (λ b. b.number ≤ w.births) (λ b. b.number == a.block) w.blocks b.0 h.blocks_apart.born b.1 in
-    let own : b.0.number ≡ a.block = equal b.0.number a.block has.1 in
-    omega (arith, e, own, same, has.0)) h.attached.there
+no_pointer l k w h e = AllByRecursion-weaker (λ a. IsSome (block_at a.block w.blocks)) (λ a. a.block ≡ k → ⊥) w.attached (λ a there same. grind (arith, nat_tests, found_has)) h.attached.there
 
 -- nor a loan
 unborn_free : (l : Limits) (w : Records) (k : ℕ) → k ≡ w.births + 1 → AreRecordsSound l w → is_lent k w.loans ≡ false

@@ -46,11 +46,11 @@ record IsThere (blocks : List Block) (loan : Loan) (range : Range) : Type 0 wher
 loan_there : (l : Limits) (w : Records) (loan : Loan) → AreRecordsSound l w → (sound : IsLoanSound w.ranges loan) → IsThere w.blocks loan sound.range
 loan_there l w loan h sound = grind (arith, nat_tests, found_has)
 
-pub lend_there : (l : Limits) (x : Environment) (n : Numbers) (loan : Loan) → ArePartsSound l x n → IsLoanSound x.present.table.ranges loan → HasBlock x.device loan.block
-lend_there l x n loan parts sound = grind (arith, nat_tests, loan_there l (state_of x n).records loan parts.sound.records sound)
+pub loan_has_block : (l : Limits) (x : Environment) (n : Numbers) (loan : Loan) → ArePartsSound l x n → IsLoanSound x.present.table.ranges loan → HasBlock x.device loan.block
+loan_has_block l x n loan parts sound = grind (arith, nat_tests, loan_there l (state_of x n).records loan parts.sound.records sound)
 
 pub lend_mapped : (l : Limits) (x : Environment) (n : Numbers) (loan : Loan) → ArePartsSound l x n → AllZip IsMarkOf x.device.marks x.device.blocks → IsLoanSound x.present.table.ranges loan → is_ended_at loan.block x.device.marks ≡ false
-lend_mapped l x n loan parts zip sound = (told l x n loan.block parts zip (lend_there l x n loan parts sound)).ended ∙ ap is_none sound.mapped
+lend_mapped l x n loan parts zip sound = (told l x n loan.block parts zip (loan_has_block l x n loan parts sound)).ended ∙ ap is_none sound.mapped
 
 pub lend_within : (l : Limits) (x : Environment) (n : Numbers) (loan : Loan) → ArePartsSound l x n → IsLoanSound x.present.table.ranges loan → loan.offset + loan.len ≤ len_of loan.block x.device.blocks
 lend_within l x n loan parts sound = grind (arith, nat_tests, loan_there l (state_of x n).records loan parts.sound.records sound)

@@ -26,9 +26,9 @@ slice s start bytes = slice_range bytes (s.start - start) (s.start - start + s.l
 slice_is : (s : Section) (start : ℕ) (bytes : List ℕ) → slice s start bytes ≡ part bytes (s.start - start) s.len
 slice_is s start bytes = ap (λ n. take n (drop (s.start - start) bytes)) (let same : s.start - start + s.len - (s.start - start) ≡ s.len = omega arith in same)
 
-pub copied_out : (s : Section) (start : ℕ) (bytes host : List ℕ) → is_within s (host_memory (length host)) ≡ true → is_within s (record { start = start; len = length bytes }) ≡ true
+pub run_copied_out : (s : Section) (start : ℕ) (bytes host : List ℕ) → is_within s (host_memory (length host)) ≡ true → is_within s (record { start = start; len = length bytes }) ≡ true
     → overwritten (s.start - host_base) (slice s start bytes) host ≡ bytes_moved_out (covers s) bytes start host
-copied_out s start bytes host in_host within = rw (slice_is s start bytes) (sym (moved_out s bytes start host in_host within))
+run_copied_out s start bytes host in_host within = rw (slice_is s start bytes) (sym (moved_out s bytes start host in_host within))
 
 -- ---- the memory of a block
 
@@ -72,10 +72,10 @@ lens_by d block apart sized free there =
 pub device_written : (old new : DeviceState) (block offset : ℕ) (bytes : List ℕ) (ms : List Memory) → IsBlockWritten old new block offset bytes → map (memory_changed block (overwritten offset bytes)) old.memories ≡ ms → new ≡ record old { memories = ms }
 device_written old new block offset bytes ms h e = grind (arith, nat_tests)
 
-pub copied_in : (s : Section) (start : ℕ) (host bytes : List ℕ) (d new : DeviceState) (block : ℕ) → HasBlocksApart d → AllZip (IsMemoryOf d.loans) d.memories d.blocks → is_lent block d.loans ≡ false → IsSome (block_at block d.blocks)
+pub run_copied_in : (s : Section) (start : ℕ) (host bytes : List ℕ) (d new : DeviceState) (block : ℕ) → HasBlocksApart d → AllZip (IsMemoryOf d.loans) d.memories d.blocks → is_lent block d.loans ≡ false → IsSome (block_at block d.blocks)
     → is_within s (host_memory (length host)) ≡ true → is_within s (record { start = start; len = length (bytes_of block d.memories) }) ≡ true → bytes ≡ bytes_in host s → IsBlockWritten d new block (s.start - start) bytes
     → new ≡ record d { memories = map (memory_changed block (bytes_moved_in (covers s) host start)) d.memories }
-copied_in s start host bytes d new block apart sized free there in_host within bytes_are h =
+run_copied_in s start host bytes d new block apart sized free there in_host within bytes_are h =
     device_written d new block (s.start - start) bytes _ h (rw bytes_are (changed-same block (overwritten (s.start - start) (bytes_in host s)) (bytes_moved_in (covers s) host start) d.memories
     (AllByRecursion-weaker (λ y. y.block ≡ block → length y.bytes ≡ length (bytes_of block d.memories)) (λ y. y.block ≡ block → overwritten (s.start - start) (bytes_in host s) y.bytes ≡ bytes_moved_in (covers s) host start y.bytes) d.memories
     (λ y len e. sym (moved_in s host start y.bytes in_host (rw (len e) within))) (lens_by d block apart sized free there))))

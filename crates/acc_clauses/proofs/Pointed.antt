@@ -68,11 +68,7 @@ half_planned l n xs ys task step w entry at p e more =
 -- the pointer to be attached was checked
 pub aimed_checked : (l : Limits) (n : ℕ) (task : Task) (step : Step) (w : Records) (pointer : ℕ) → enters task ≡ true → judge_step l n task w ≡ Ok step → pointer_aimed task step ≡ Some pointer → pointer_checked l n (Some pointer) ≡ Ok tt
 unfolding judge_row
-aimed_checked l n (Enter counter item queue) step w pointer entry e named = go (is_attach item.clause || is_action step) named
-  where
-    go : (b : Bool) → cond b (pointer_of (Enter counter item queue)) None ≡ Some pointer → pointer_checked l n (Some pointer) ≡ Ok tt
-    go true is = let all = pointer_checked_by l n (Enter counter item queue) (then_ok (checked l n (Enter counter item queue)) _ step (step_judged l n (Enter counter item queue) w step e).row).0 in rw is at all
-    go false is = cc
+aimed_checked l n (Enter counter item queue) step w pointer entry e named = grind (arith, nat_tests, pointer_checked_by l n (Enter counter item queue) (then_ok (checked l n (Enter counter item queue)) _ step (step_judged l n (Enter counter item queue) w step e).row).0)
 aimed_checked l n _ step w pointer entry e named = absurd (false≢true entry)
 
 aim_entered : (l : Limits) (n : ℕ) (task : Task) (step : Step) (s : State) → enters task ≡ true → judge_aim l n task step s ≡ attach_if l n (pointer_aimed task step) (step_state task step s)

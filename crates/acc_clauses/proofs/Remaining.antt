@@ -1,7 +1,7 @@
 -- What is left to do of a directive's steps, before each of them.
 use Rattle.std.proofs.lemmas.Bool.Decides.{nat_tests}
-use Rattle.std.proofs.Common.{ℕ, suc, ◌≡◌, ◌+◌, ◌≤◌, sym, ◌∙◌, ap, List, [], ◌∷◌, ◌++◌, length, drop, arith, append_assoc, append-nil, length-append}
-use Rattle.std.proofs.lemmas.List.{drop_all}
+use Rattle.std.proofs.Common.{ℕ, suc, ◌≡◌, ◌+◌, ◌≤◌, sym, ◌∙◌, ap, List, [], ◌∷◌, ◌++◌, length, drop, arith, append_assoc, append-nil, length-append, get_or, ◌<◌}
+use Rattle.std.proofs.lemmas.List.{drop_all, drop_more}
 use Rattle.acc_clauses.specs.Words.{Task, Did, Holding}
 use Rattle.acc_base.specs.declared.addresses.TheConstants.{MEMORY_MAX}
 use Rattle.acc_base.specs.Limits.{Limits, IsWithinBounds, IsFromOne}
@@ -30,6 +30,11 @@ pub record CanRun (l : Limits) (tasks : List Task) (dids : List Did) (c : Conten
   pub room : HasRoomFor (lens_born tasks dids) c.room
   pub pointers : pointers_in dids ≤ c.room.attachments
   pub puts : HasPutRoom (λ q. puts_in q tasks dids) c.room
+
+-- those that are left from a place on are the one there, and those behind it
+pub turn_can : (l : Limits) (acts : List Acted) (n : ℕ) (d : Acted) (c : Contents) → n < length acts → CanRun l (tasks_in (drop n acts)) (dids_in (drop n acts)) c
+    → CanRun l ((get_or acts n d).task ∷ tasks_in (drop (n + 1) acts)) ((get_or acts n d).did ∷ dids_in (drop (n + 1) acts)) c
+turn_can l acts n d c within can = rw (drop_more acts n d within) at can
 
 -- the first of them
 pub first_judged : (l : Limits) (task : Task) (tasks : List Task) (did : Did) (dids : List Did) (c : Contents) → CanRun l (task ∷ tasks) (did ∷ dids) c → IsJudged c.limits task did c.state.records

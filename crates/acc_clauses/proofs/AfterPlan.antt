@@ -1,49 +1,31 @@
 -- What a planned directive makes of a store: the state after its event, and a store that is sound.
-use Rattle.std.proofs.Common.{◌≡◌, ◌≤◌, refl, sym, ◌∙◌, ap, subst, ℕ, List, [], arith}
-use Rattle.acc_base.specs.declared.directives.Directive.{Directive}
-use Rattle.acc_base.specs.declared.events.Event.{Event}
+use Rattle.std.proofs.lemmas.Bool.Decides.{nat_tests}
+use Rattle.std.proofs.Common.{◌≡◌, ◌≤◌, refl, sym, subst, ℕ, List, [], arith}
+use Rattle.acc_clauses.specs.Words.{Directive, Event}
 use Rattle.acc_base.specs.Limits.{Limits, IsWithinBounds}
-use Rattle.acc_base.specs.Records.{Records, Layout, Memory, State, layout_of}
-use Rattle.acc_base.specs.Register.{Register}
+use Rattle.acc_base.specs.Records.{Layout, State, layout_of}
 use Rattle.acc_base.specs.Ranges.{structured_of, dynamic_of}
 use Rattle.acc_base.specs.Blocks.{used_bytes}
-use Rattle.acc_base.specs.Waits.{drained}
-use Rattle.acc_base.specs.Walk.{asked_in, done_in, stepped_in, register_after, loaned, walk}
+use Rattle.acc_base.specs.Walk.{register_after, walk}
 use Rattle.acc_base.specs.Judge.{Verdict, Makes, Idle, verdict_of}
-use Rattle.acc_base.specs.Acting.{act_all_state, host_after, memories_after, after}
+use Rattle.acc_base.specs.Acting.{act_all_state, after}
 use Rattle.acc_base.specs.History.{IsLegal}
 use Rattle.acc_base.specs.Accounts.{IsLayoutSound, IsSound}
 use Rattle.acc_base.proofs.Memories.{AreBrought, event_sized}
 use Rattle.acc_base.proofs.Walked.{layout-after, register-act_all_state}
 use Rattle.acc_base.proofs.Registers.{AreFew, register_sound}
 use Rattle.acc_base.proofs.Told.{IsTold, walk_told}
-use Rattle.acc_clauses.specs.Planned.{Planned, IsPlanOf, holdings_by, register_by, steps_by, finished, state_by}
+use Rattle.acc_clauses.specs.Planned.{Planned, IsPlanOf, finished, state_by}
 use Rattle.acc_clauses.specs.Contents.{Contents}
 use Rattle.acc_clauses.specs.Stored.{IsStoreSound, AreHoldingsWithin}
 use Rattle.acc_clauses.proofs.Events.{IsEventOf, event_of_plan, idle_plan}
 
 -- ---- the state
 
--- what an event that brings no bytes makes of a state, once its steps and its register are known
-by_parts : (d : Directive) (p : Planned) (s : State) (e : Event) (a b : State) (x y : Register) → IsEventOf d p s e → a ≡ b → x ≡ y
-    → ◌≡◌ {A = State} (record { records = loaned e a.records; register = x; host = host_after e [] a.host; memories = memories_after e [] a.memories }) (record b { register = y })
-by_parts d p s e a b x y is same register =
-    let P : List ℕ → State = λ bytes. record { records = loaned e a.records; register = x; host = bytes; memories = memories_after e [] a.memories } in
-    let Q : State → State = λ t. record t { register = x } in
-    let R : Records → State = λ w. record { records = w; register = x; host = a.host; memories = memories_after e [] a.memories } in
-    let S : List Memory → State = λ ms. record { records = a.records; register = x; host = a.host; memories = ms } in
-    ap P (is.host a.host) ∙ ap R (is.records a.records) ∙ ap S (is.memories a.memories) ∙ ap Q same ∙ ap (λ (g : Register). record b { register = g }) register
-
 -- the state after the event of a plan is that after its tasks, and then its queues and its register
 pub after_plan : (d : Directive) (p : Planned) (s : State) (e : Event) → IsEventOf d p s e → after e [] s ≡ finished d p (act_all_state p.tasks p.dids s)
 unfolding after
-after_plan d p s e is =
-    let t : State = act_all_state p.tasks p.dids s in
-    let acted : act_all_state (asked_in e s.register) (done_in e) s ≡ t = ap (λ ts. act_all_state ts (done_in e) s) is.asked ∙ ap (λ ds. act_all_state p.tasks ds s) is.done in
-    let made : drained (stepped_in e s.records.queues) (act_all_state (asked_in e s.register) (done_in e) s) ≡ drained (steps_by d t.records.queues) t =
-    ap (λ qs. drained qs (act_all_state (asked_in e s.register) (done_in e) s)) is.steps ∙ ap (drained (steps_by d t.records.queues)) acted in
-    by_parts d p s e (drained (stepped_in e s.records.queues) (act_all_state (asked_in e s.register) (done_in e) s)) (drained (steps_by d t.records.queues) t) (register_after e s.register)
-    (register_by d (holdings_by p.tasks p.dids) t.register) is made (is.register ∙ ap (register_by d (holdings_by p.tasks p.dids)) (sym (register-act_all_state p.tasks p.dids s)))
+after_plan d p s e is = grind (arith, nat_tests, register-act_all_state)
 
 -- it is the state after what the directive comes to
 pub finished_verdict : (l : Limits) (d : Directive) (s : State) (p : Planned) → IsPlanOf l d s p → finished d p (act_all_state p.tasks p.dids s) ≡ state_by (verdict_of d s p.dids) s
@@ -57,13 +39,7 @@ finished_verdict l d s p h = go (verdict_of d s p.dids) refl
 
 -- a layout that is sound, told by its own counters
 told : (l : Limits) (lay : Layout) → IsLayoutSound l lay → IsTold l lay (λ b. structured_of b lay.records.ranges) (λ b. 0) (λ b. dynamic_of b lay.records.ranges)
-told l lay h = record {
-  sound = h.records;
-  numbered = record { first = h.register.first; rising = h.register.rising; known = h.register.known };
-  held = h.held;
-  structured = λ b. omega arith;
-  dynamic = λ b. refl;
-}
+told l lay h = grind (arith, nat_tests)
 
 -- a legal event keeps a layout sound, if no region holds too much after it
 pub layout_kept : (l : Limits) (e : Event) (lay : Layout) → IsWithinBounds l → IsLayoutSound l lay → IsLegal l e lay → AreFew (register_after e lay.register) → IsLayoutSound l (walk e lay)

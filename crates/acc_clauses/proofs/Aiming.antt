@@ -1,5 +1,5 @@
 -- What attaching and detaching a pointer leaves of the parts.
-use Rattle.std.proofs.Common.{ℕ, ◌≡◌, ◌+◌, ◌<◌, ◌≤◌, refl, ◌∙◌, ap, Bool, true, false, cond, List, inl, inr, arith}
+use Rattle.std.proofs.Common.{ℕ, ◌≡◌, ◌+◌, ◌<◌, ◌≤◌, refl, ◌∙◌, ap, Bool, true, false, cond, List, arith}
 use Rattle.std.specs.Prelude.{◌==◌, ◌⊎◌, ◌-◌, map, slice_index}
 use Rattle.std.specs.Int.{w64, to_le_bytes}
 use Rattle.std.proofs.lemmas.Bool.Decides.{nat_tests}
@@ -19,7 +19,6 @@ use Rattle.acc_clauses.specs.declared.numbers.Numbers.{Numbers}
 use Rattle.acc_clauses.specs.declared.environments.Environment.{Environment}
 use Rattle.acc_clauses.specs.Contents.{AreMarked, state_of, bare_state}
 use Rattle.acc_clauses.specs.Acts.{CanDetach, pointers_of, IsAimedBy}
-use Rattle.acc_clauses.proofs.Changes.{state_by}
 
 -- the parts with eight bytes written over a pointer in a block that is mapped from an address on
 abbrev with_put : ℕ → ℕ → Environment → ℕ → List ℕ → Environment
@@ -30,9 +29,7 @@ pub target_put : (pointer block target start : ℕ) (x : Environment) (new : Dev
     → new ≡ record x.device { memories = map (memory_changed block (written_bytes (covers (pointer_at pointer)) (λ a. slice_index bytes (a - pointer)) start)) x.device.memories }
     → bytes ≡ to_le_bytes w64 target → start ≡ start_of block x.present.table.ranges
     → record x { device = new } ≡ record x { device = record x.device { memories = pointer_written block pointer (λ a. slice_index (to_le_bytes w64 target) (a - pointer)) (bare_state x) } }
-target_put pointer block target start x new bytes put eight first =
-    ap (λ (d : DeviceState). let y : Environment = record x { device = d } in y) put
-    ∙ (ap (with_put pointer block x start) eight ∙ ap (λ n. with_put pointer block x n (to_le_bytes w64 target)) first)
+target_put pointer block target start x new bytes put eight first = grind (arith, nat_tests)
 
 -- the parts with these memories of the blocks and these attachment counters
 abbrev pub with_pointers : Environment → List Memory → AttachedState → Environment
@@ -42,15 +39,7 @@ with_pointers x ms b = record x { device = record x.device { memories = ms }; at
 aims_by : (aim : Aim) (x : Environment) (ms : List Memory) (b : AttachedState) → ((next : Numbers) → ms ≡ memories_aimed aim (state_of x next)) → b.attached ≡ attached_by aim x.attached.attached → b.counter_max ≡ x.attached.counter_max
     → x.attached.spare ≤ b.spare + pointers_of aim → AreMarked x → IsAimedBy aim x (with_pointers x ms b)
 unfolding aimed
-aims_by aim x ms b memories attached limit spare marked = record {
-  state = λ next. state_by (with_pointers x ms b) next (aimed aim (state_of x next)) refl refl attached refl refl refl refl refl refl refl (memories next);
-  counter_max = refl;
-  memory = refl;
-  pointer_max = limit;
-  queue_cap = refl;
-  room = record { births_are = refl; ranges = omega arith; regions = omega arith; holdings = omega arith; attachments = spare; puts = λ q. omega arith };
-  marked = marked;
-}
+aims_by aim x ms b memories attached limit spare marked = grind (arith, nat_tests)
 
 pub none_aims : (x : Environment) → AreMarked x → IsAimedBy aims.None x x
 none_aims x marked = aims_by aims.None x x.device.memories x.attached (λ next. refl) refl refl (omega arith) marked
@@ -85,23 +74,14 @@ cleared_aims pointer block x y b can e attached limit spare marked =
 
 -- what is left of a counter tells whether it was one
 was_one : (n : ℕ) → left.Zero ≡ left_of false n → (n == 1) ≡ true
-was_one n e = go (n == 0) (n == 1) e
-  where
-    go : (a b : Bool) → left.Zero ≡ cond a left.Nothing (cond b left.Zero left.Less) → b ≡ true
-    go false true h = refl
-    go _ _ h = cc
+was_one n e = grind (arith, nat_tests)
 
 was_more : (n : ℕ) → 0 < n → (left.Zero ≡ left_of false n → ⊥) → (n == 1) ≡ false
-was_more n some h = let filled : (n == 0) ≡ false = grind (arith, nat_tests) in go (n == 1) refl filled
-  where
-    go : (b : Bool) → (n == 1) ≡ b → (n == 0) ≡ false → b ≡ false
-    go true e f = absurd (h (rw (f, e) refl))
-    go false e f = refl
+was_more n some h = grind (arith, nat_tests)
 
 -- it is not zero
 pub not_zero : (l : Left) → (l ≡ left.Nothing) ⊎ (l ≡ left.Less) → left.Zero ≡ l → ⊥
-not_zero l (inl e) z = cc
-not_zero l (inr e) z = cc
+not_zero l h1 z = grind (arith, nat_tests)
 
 less_attached : (pointer block : ℕ) (x : Environment) (b : AttachedState) → CanDetach pointer block (bare_state x) → b.attached ≡ attached_by (detach false block pointer x.attached.attached) x.attached.attached
     → b.attached ≡ attached_by (aims.Less pointer block) x.attached.attached

@@ -1,35 +1,33 @@
 -- The attachment counter of a pointer after tasks is what the fold over them gives, where the pointer lies in a block then.
-use Rattle.std.proofs.Common.{ℕ, ◌≡◌, ◌≤◌, refl, sym, ap, ◌∙◌, subst, Bool, true, false, cond, List, [], ◌∷◌, suc, Option, Some, None, arith}
-use Rattle.std.specs.Prelude.{◌==◌, unwrap_or, option_map}
+use Rattle.std.proofs.Common.{ℕ, ◌≡◌, ◌≤◌, refl, sym, ap, ◌∙◌, subst, Bool, true, false, cond, List, [], ◌∷◌, suc, Some, None, arith}
+use Rattle.std.specs.Prelude.{◌==◌}
 use Rattle.std.proofs.lemmas.Bool.Decides.{nat_tests}
-use Rattle.acc_clauses.specs.Words.{Counter, Range, Task, Step, Did}
+use Rattle.acc_clauses.specs.Words.{Counter, Task, Step, Did}
 use Rattle.acc_base.specs.declared.mappings.Counter.TheVariants.{Structured, Dynamic}
-use Rattle.acc_base.specs.declared.tasks.Task.TheVariants.{Enter}
 use Rattle.acc_base.specs.declared.events.Step.TheVariants.{Counted, Born, Dropped}
 use Rattle.acc_base.specs.Limits.{Limits, IsWithinBounds}
 use Rattle.acc_base.specs.Records.{Records}
-use Rattle.acc_base.specs.Ranges.{range_of, counter_in, counter_of, without_range, is_unused}
-use Rattle.acc_base.specs.Attachments.{count_at, count_after, without_attachments}
-use Rattle.acc_base.specs.Tasks.{recounted}
-use Rattle.acc_base.specs.Steps.{records_aimed, records_after_birth, records_after_end, released, is_in_use, with_range_changed, with_put, act_row, act_step, act, act_all}
+use Rattle.acc_base.specs.Ranges.{range_of, counter_in, counter_of}
+use Rattle.acc_base.specs.Attachments.{count_at, count_after}
+use Rattle.acc_base.specs.Steps.{records_after_birth, records_after_end, released, with_range_changed, act_row, act_step, act, act_all}
 use Rattle.acc_base.specs.Detaching.{block_with}
 use Rattle.acc_base.specs.History.{AreJudged}
-use Rattle.acc_base.specs.Accounts.{IsCounted, AreRecordsSound}
+use Rattle.acc_base.specs.Accounts.{AreRecordsSound}
 use Rattle.acc_base.proofs.Results.{equal, equal_self}
 use Rattle.acc_base.proofs.Elements.{found_has}
 use Rattle.acc_base.proofs.Counting.{without_read}
-use Rattle.acc_base.proofs.Recounted.{moved_by, names, zero_stays, ends_told, count_mapped, birth_number}
-use Rattle.acc_base.proofs.Judged.{IsJudgedTo, step_judged, task_says}
-use Rattle.acc_base.proofs.Sound.{ranges_born}
+use Rattle.acc_base.proofs.Recounted.{moved_by, names}
+use Rattle.acc_base.proofs.Judged.{IsJudgedTo, task_says}
 use Rattle.acc_base.proofs.SameMapping.{mapping-act}
 use Rattle.acc_base.proofs.Attached.{count_at-attached_by, count_at-without_other}
-use Rattle.acc_base.proofs.Aimed.{IsLeft, task_left}
+use Rattle.acc_base.proofs.Aimed.{IsLeft}
 use Rattle.acc_base.proofs.AllTasks.{all_left}
 use Rattle.acc_base.proofs.Births.{births_least}
 use Rattle.acc_clauses.specs.declared.acted.Acted.{Acted}
 use Rattle.acc_clauses.specs.Overlays.{tasks_in, dids_in, records_after, IsPlanned}
 use Rattle.acc_clauses.specs.Aims.{count_over}
-use Rattle.acc_clauses.proofs.AimsFound.{IsPointerIn, pointer_in_block}
+use Rattle.acc_clauses.proofs.AimsFound.{pointer_in_block}
+use Rattle.acc_clauses.proofs.Overlaid.{first_left}
 
 -- ---- a block whose mapping has ended is never mapped again
 
@@ -40,35 +38,14 @@ record IsGone (w : Records) (block : ℕ) : Type 0 where
 
 -- no range has both counters at zero
 unmapped : (l : Limits) (w : Records) (block : ℕ) → AreRecordsSound l w → ((counter : Counter) → counter_of counter block w.ranges ≡ 0) → range_of block w.ranges ≡ None
-unmapped l w block h zero = go (range_of block w.ranges) refl
-  where
-    go : (o : Option Range) → range_of block w.ranges ≡ o → o ≡ None
-    go None e = refl
-    go (Some r) e =
-        let has : IsCounted l r × ((r.block == block) ≡ true) = found_has (IsCounted l) (λ t. t.block == block) w.ranges r h.counted e in
-        let structured : r.structured ≡ 0 = sym (ap (λ (o : Option Range). unwrap_or (option_map (counter_in Structured) o) 0) e) ∙ zero Structured in
-        let dynamic : r.dynamic ≡ 0 = sym (ap (λ (o : Option Range). unwrap_or (option_map (counter_in Dynamic) o) 0) e) ∙ zero Dynamic in
-        let some = has.0.some in
-        absurd (omega (arith, some, structured, dynamic))
+unmapped l w block h zero = grind (arith, nat_tests, found_has, zero Structured, zero Dynamic)
 
 -- a task leaves the counters of a block that is gone at zero
 zero_left : (l : Limits) (task : Task) (step : Step) (w : Records) (block : ℕ) (counter : Counter) → AreRecordsSound l w → IsJudgedTo l task step w → IsGone w block
     → cond (names block step) (moved_by counter task (counter_of counter block w.ranges)) (counter_of counter block w.ranges) ≡ 0
-zero_left l task (Counted k) w block counter h says gone = go (k == block) refl
-  where
-    go : (t : Bool) → (k == block) ≡ t → cond t (moved_by counter task (counter_of counter block w.ranges)) (counter_of counter block w.ranges) ≡ 0
-    go true e = absurd (count_mapped l task k w says (subst (λ n. range_of n w.ranges ≡ None) (sym (equal k block e)) (unmapped l w block h gone.zero)))
-    go false e = gone.zero counter
-zero_left l task (Born k p) w block counter h says gone = go (k == block) refl
-  where
-    go : (t : Bool) → (k == block) ≡ t → cond t (moved_by counter task (counter_of counter block w.ranges)) (counter_of counter block w.ranges) ≡ 0
-    go true e = let same = equal k block e in let number = birth_number l task k p w says in let born = gone.born in absurd (omega (arith, same, number, born))
-    go false e = gone.zero counter
-zero_left l task (Dropped k ended) w block counter h says gone = go (k == block)
-  where
-    go : (t : Bool) → cond t (moved_by counter task (counter_of counter block w.ranges)) (counter_of counter block w.ranges) ≡ 0
-    go true = ap (moved_by counter task) (gone.zero counter) ∙ zero_stays l task k ended w counter says
-    go false = gone.zero counter
+zero_left l task (Counted k) w block counter h says gone = grind (arith, nat_tests, equal, unmapped l w block h gone.zero)
+zero_left l task (Born k p) w block counter h says gone = grind (arith, nat_tests)
+zero_left l task (Dropped k ended) w block counter h says gone = grind (arith, nat_tests)
 zero_left l task _ w block counter h says gone = gone.zero counter
 
 gone-act : (l : Limits) (task : Task) (did : Did) (w : Records) (block : ℕ) → AreRecordsSound l w → IsJudgedTo l task did.step w → IsLeft l task did w (act task did w) → IsGone w block → IsGone (act task did w) block
@@ -82,19 +59,12 @@ unfolding act_all
 gone-after l n [] w block bounds h judged gone = gone
 gone-after l n (x ∷ xs) w block bounds h judged gone =
     let says = task_says l n x.task w x.did.step judged.0 in
-    let left : IsLeft l x.task x.did w (act x.task x.did w) = task_left l x.task x.did w bounds h says (step_judged l n x.task w x.did.step judged.0).free judged.1 in
+    let left : IsLeft l x.task x.did w (act x.task x.did w) = first_left l n x xs w bounds h judged in
     gone-after l (suc n) xs (act x.task x.did w) block bounds left.sound judged.2 (gone-act l x.task x.did w block h says left gone)
 
 -- the block whose mapping a task ends was born
 ended_born : (l : Limits) (task : Task) (k : ℕ) (w : Records) → AreRecordsSound l w → IsJudgedTo l task (Dropped k true) w → k ≤ w.births
-ended_born l task k w h says = go (range_of k w.ranges) refl (ends_told l task k w says)
-  where
-    go : (o : Option Range) → range_of k w.ranges ≡ o → true ≡ unwrap_or (option_map (λ (r : Range). is_unused (recounted task r)) o) false → k ≤ w.births
-    go None e ends = cc
-    go (Some r) e ends =
-        let has : (r.block ≤ w.births) × ((r.block == k) ≡ true) = found_has (λ t. t.block ≤ w.births) (λ t. t.block == k) w.ranges r (ranges_born l w h) e in
-        let same = equal r.block k has.1 in
-        omega (arith, has.0, same)
+ended_born l task k w h says = grind (arith, nat_tests, found_has, equal)
 
 -- and is gone then
 gone_ended : (l : Limits) (task : Task) (k : ℕ) (w : Records) → AreRecordsSound l w → IsJudgedTo l task (Dropped k true) w → IsGone (act_step task (Dropped k true) w) k
@@ -111,20 +81,12 @@ ends block _ = false
 -- a step leaves the counters of the blocks whose mapping it does not end
 count-step : (task : Task) (step : Step) (w : Records) (block pointer : ℕ) → ends block step ≡ false → count_at block pointer (act_step task step w).attached ≡ count_at block pointer w.attached
 unfolding act_step act_row with_range_changed records_after_birth records_after_end released
-count-step task (Dropped k true) w block pointer other = go (is_in_use k (record w { ranges = without_range k w.ranges; queues = (with_put task (Dropped k true) w).queues }))
-  where
-    go : (t : Bool) → count_at block pointer (cond t w.attached (without_attachments k w.attached)) ≡ count_at block pointer w.attached
-    go true = refl
-    go false = let differs : (block == k) ≡ false = grind (arith, nat_tests) in count_at-without_other block pointer k w.attached differs
-count-step task _ w block pointer other = refl
+count-step task step w block pointer other = grind (arith, nat_tests, count_at-without_other)
 
 -- so does a task, but for what becomes of its pointer
 count-act : (task : Task) (did : Did) (w : Records) (block pointer : ℕ) → ends block did.step ≡ false → count_at block pointer (act task did w).attached ≡ count_after block pointer did.aim (count_at block pointer w.attached)
 unfolding act
-count-act (Enter counter item queue) did w block pointer other =
-    count_at-attached_by block pointer did.aim (act_step (Enter counter item queue) did.step w).attached
-    ∙ ap (count_after block pointer did.aim) (count-step (Enter counter item queue) did.step w block pointer other)
-count-act task did w block pointer other = count-step task did.step (records_aimed did.aim w) block pointer other ∙ count_at-attached_by block pointer did.aim w.attached
+count-act task did w block pointer other = grind (arith, nat_tests, count_at-attached_by, count-step)
 
 -- the first of some tasks did not end a block that is not gone after them
 ends_none : (l : Limits) (n : ℕ) (x : Acted) (xs : List Acted) (w : Records) (block : ℕ) → IsWithinBounds l → AreRecordsSound l w → AreJudged l n (tasks_in (x ∷ xs)) (dids_in (x ∷ xs)) w
@@ -135,21 +97,17 @@ ends_none l n x xs w block bounds h judged mapped = go x.did.step refl
     says = task_says l n x.task w x.did.step judged.0
 
     sound : AreRecordsSound l (act x.task x.did w)
-    sound = (task_left l x.task x.did w bounds h says (step_judged l n x.task w x.did.step judged.0).free judged.1).sound
+    sound = (first_left l n x xs w bounds h judged).sound
 
     gone : (k : ℕ) → x.did.step ≡ Dropped k true → IsGone (act x.task x.did w) k
-    gone k is =
-        let ended : IsGone (act_step x.task x.did.step w) k = rw is (gone_ended l x.task k w h (rw is at says)) in
-        let same = mapping-act x.task x.did w in
-        record { born = rw same.births ended.born; zero = λ counter. ap (λ rs. counter_of counter k rs) same.ranges ∙ ended.zero counter }
+    gone k is = grind (arith, nat_tests, gone_ended, says, mapping-act)
 
     last : (k : ℕ) → x.did.step ≡ Dropped k true → (t : Bool) → (k == block) ≡ t → t ≡ false
     last k is true e = absurd (mapped (gone-after l (suc n) xs (act x.task x.did w) block bounds sound judged.2 (subst (IsGone (act x.task x.did w)) (equal k block e) (gone k is))))
     last k is false e = refl
 
     go : (step : Step) → x.did.step ≡ step → ends block step ≡ false
-    go (Dropped k true) is = last k is (k == block) refl
-    go _ is = refl
+    go step is = grind (arith, nat_tests, last)
 
 -- the counter of a pointer in a block that is not gone after tasks
 count-after : (l : Limits) (n : ℕ) (xs : List Acted) (w : Records) (block pointer : ℕ) → IsWithinBounds l → AreRecordsSound l w → AreJudged l n (tasks_in xs) (dids_in xs) w → (IsGone (records_after xs w) block → ⊥)
@@ -157,18 +115,12 @@ count-after : (l : Limits) (n : ℕ) (xs : List Acted) (w : Records) (block poin
 unfolding act_all
 count-after l n [] w block pointer bounds h judged mapped = refl
 count-after l n (x ∷ xs) w block pointer bounds h judged mapped =
-    let says = task_says l n x.task w x.did.step judged.0 in
-    let left : IsLeft l x.task x.did w (act x.task x.did w) = task_left l x.task x.did w bounds h says (step_judged l n x.task w x.did.step judged.0).free judged.1 in
     ap (λ c. count_over block pointer c xs) (sym (count-act x.task x.did w block pointer (ends_none l n x xs w block bounds h judged mapped)))
-    ∙ count-after l (suc n) xs (act x.task x.did w) block pointer bounds left.sound judged.2 mapped
+    ∙ count-after l (suc n) xs (act x.task x.did w) block pointer bounds (first_left l n x xs w bounds h judged).sound judged.2 mapped
 
 -- a block that holds a pointer is not gone
 holds_not_gone : (l : Limits) (w : Records) (block pointer : ℕ) → AreRecordsSound l w → block_with pointer w.ranges ≡ Some block → IsGone w block → ⊥
-holds_not_gone l w block pointer h there gone =
-    let at : IsPointerIn block pointer w = pointer_in_block l w block pointer h there in
-    let is : range_of block w.ranges ≡ Some at.range = at.range_is in
-    let none : range_of block w.ranges ≡ None = unmapped l w block h gone.zero in
-    cc
+holds_not_gone l w block pointer h there gone = grind (arith, nat_tests, pointer_in_block l w block pointer h there, unmapped l w block h gone.zero)
 
 -- the counter of a pointer that lies in the block after the tasks
 pub count-planned : (l : Limits) (xs : List Acted) (w : Records) (block pointer : ℕ) → IsPlanned l xs w → block_with pointer (records_after xs w).ranges ≡ Some block

@@ -1,36 +1,34 @@
 -- Where pointers and their targets lie: before entries and after them.
-use Rattle.std.proofs.Common.{ℕ, ◌≡◌, ◌+◌, ◌-◌, ◌<◌, ◌≤◌, ◌^◌, refl, sym, ap, ◌∙◌, subst, Bool, true, false, cond, List, [], ◌∷◌, suc, Option, Some, None, arith}
-use Rattle.std.specs.Prelude.{◌==◌, unwrap_or, option_map, IsSome}
+use Rattle.std.proofs.Common.{ℕ, ◌≡◌, ◌+◌, ◌-◌, ◌<◌, ◌≤◌, ◌^◌, refl, sym, ap, ◌∙◌, subst, true, List, [], ◌∷◌, suc, Option, Some, None, arith}
+use Rattle.std.specs.Prelude.{unwrap_or, option_map, IsSome}
 use Rattle.std.specs.List.{list_all}
 use Rattle.std.proofs.lemmas.Bool.{false≢true}
 use Rattle.std.proofs.lemmas.Bool.Decides.{nat_tests}
 use Rattle.acc_clauses.specs.Words.{Item, RegionClause, Section, Counter, Range, Block, Found, Task, Step, Did}
-use Rattle.acc_base.specs.declared.mappings.Found.TheVariants.{Inside, Partly, Absent}
+use Rattle.acc_base.specs.declared.mappings.Found.TheVariants.{Inside}
 use Rattle.acc_base.specs.declared.tasks.Task.TheVariants.{Enter}
 use Rattle.acc_base.specs.declared.events.Step.TheVariants.{Counted, Born, Dropped}
 use Rattle.acc_base.specs.Limits.{Limits, IsWithinBounds}
-use Rattle.acc_base.specs.Section.{is_within, is_apart, end_of, only, device_memory}
+use Rattle.acc_base.specs.Section.{is_within, is_apart, only}
 use Rattle.acc_base.specs.Records.{Records}
 use Rattle.acc_base.specs.Ranges.{where_is, range_of, start_of, bare_range}
-use Rattle.acc_base.specs.Blocks.{rounded, block_at, place_of}
+use Rattle.acc_base.specs.Blocks.{block_at, place_of}
 use Rattle.acc_base.specs.Attachments.{pointer_at}
 use Rattle.acc_base.specs.Tasks.{section_of, recounted}
 use Rattle.acc_base.specs.Steps.{records_after_birth, with_range_changed, act_row, act_step, act, act_all}
 use Rattle.acc_base.specs.Detaching.{block_in, block_with}
-use Rattle.acc_base.specs.Pointers.{address_in}
 use Rattle.acc_base.specs.History.{IsTarget, AreJudged}
-use Rattle.acc_base.specs.Accounts.{IsOnDevice, IsMapped, AreRecordsSound}
-use Rattle.acc_base.proofs.Results.{and_true}
+use Rattle.acc_base.specs.Accounts.{IsMapped, AreRecordsSound}
 use Rattle.acc_base.proofs.Elements.{found_has}
 use Rattle.acc_base.proofs.Lookups.{at-own}
 use Rattle.acc_base.proofs.Where.{IsInsideOf, inside_says, absent_says}
-use Rattle.acc_base.proofs.Judged.{IsJudgedTo, step_judged, task_says}
+use Rattle.acc_base.proofs.Judged.{IsJudgedTo, task_says}
 use Rattle.acc_base.proofs.Sound.{recounted_keeps}
-use Rattle.acc_base.proofs.Aimed.{task_left}
 use Rattle.acc_clauses.specs.declared.acted.Acted.{Acted}
 use Rattle.acc_clauses.specs.Overlays.{tasks_in, dids_in, records_after, enters, found_beside}
 use Rattle.acc_clauses.proofs.Founds.{where_is-with, where_is-changed}
 use Rattle.acc_clauses.proofs.AimsPlaced.{no_block-new, there-act}
+use Rattle.acc_clauses.proofs.Overlaid.{first_left, first_enters}
 
 -- ---- what lies in a block
 
@@ -41,9 +39,9 @@ pub record IsHeldIn (s : Section) (block : ℕ) (w : Records) (r : Range) (b : B
   pub len : b.len ≡ r.section.len
   pub within : is_within s r.section ≡ true
 
-pub held_in : (l : Limits) (s : Section) (w : Records) (block offset : ℕ) → AreRecordsSound l w → where_is s w.ranges ≡ Inside block offset
+pub held_in_block : (l : Limits) (s : Section) (w : Records) (block offset : ℕ) → AreRecordsSound l w → where_is s w.ranges ≡ Inside block offset
     → (r : Range) × (b : Block) × IsHeldIn s block w r b × (offset ≡ s.start - r.section.start)
-held_in l s w block offset h e =
+held_in_block l s w block offset h e =
     let found : (r : Range) × IsInsideOf s w.ranges block offset r = inside_says s w.ranges block offset e in
     let r : Range = found.0 in
     let own : (range_of r.block w.ranges ≡ Some r) × (is_within s r.section ≡ true)
@@ -77,7 +75,7 @@ pointer_in_block l w block pointer h e = go (where_is (pointer_at pointer) w.ran
     go : (f : Found) → where_is (pointer_at pointer) w.ranges ≡ f → block_in f ≡ Some block → IsPointerIn block pointer w
     go (Inside b offset) is k =
         let same : b ≡ block = cc in
-        let held = held_in l (pointer_at pointer) w block offset h (is ∙ ap (λ n. Inside n offset) same) in
+        let held = held_in_block l (pointer_at pointer) w block offset h (is ∙ ap (λ n. Inside n offset) same) in
         let start : start_of block w.ranges ≡ held.0.section.start = ap (λ o. unwrap_or (option_map (λ (r : Range). r.section.start) o) 0) held.2.range_is in
         let bounds : (held.0.section.start ≤ pointer) × (pointer + 8 ≤ held.0.section.start + held.0.section.len) = inside held.0.section held.2.within in
         record { range = held.0; range_is = held.2.range_is; block_there = held.1; there = held.2.block_is; low = omega (arith, start, bounds.0); high = let len = held.2.len in omega (arith, start, bounds.1, len) }
@@ -89,13 +87,7 @@ pointer_in_block l w block pointer h e = go (where_is (pointer_at pointer) w.ran
 -- ---- the block of a pointer before an entry
 
 beside_before : (s t : Section) (k block : ℕ) (f : Found) → (k ≡ block → ⊥) → block_in (found_beside s t k f) ≡ Some block → block_in f ≡ Some block
-beside_before s t k block Absent other e = go (is_within s t) (is_apart s t) e
-  where
-    go : (x y : Bool) → block_in (cond x (Inside k (s.start - t.start)) (cond y Absent Partly)) ≡ Some block → block_in Absent ≡ Some block
-    go true y h = absurd (other cc)
-    go false true h = cc
-    go false false h = cc
-beside_before s t k block _ other e = e
+beside_before s t k block f other e = grind (arith, nat_tests)
 
 before-step : (l : Limits) (counter : Counter) (item : Item RegionClause) (queue : Option ℕ) (step : Step) (w : Records) (pointer block : ℕ) → AreRecordsSound l w → IsJudgedTo l (Enter counter item queue) step w → IsSome (block_at block w.blocks)
     → block_with pointer (act_step (Enter counter item queue) step w).ranges ≡ Some block → block_with pointer w.ranges ≡ Some block
@@ -118,8 +110,7 @@ before-step l counter item queue _ w pointer block h says there e = e
 before-act : (l : Limits) (task : Task) (did : Did) (w : Records) (pointer block : ℕ) → AreRecordsSound l w → IsJudgedTo l task did.step w → enters task ≡ true → IsSome (block_at block w.blocks)
     → block_with pointer (act task did w).ranges ≡ Some block → block_with pointer w.ranges ≡ Some block
 unfolding act
-before-act l (Enter counter item queue) did w pointer block h says entry there e = before-step l counter item queue did.step w pointer block h says there e
-before-act l _ did w pointer block h says entry there e = absurd (false≢true entry)
+before-act l task did w pointer block h says entry there e = grind (arith, nat_tests, before-step, false≢true)
 
 -- a pointer that lies in a block after entries lay in it before them, where the block was there
 pub before-after : (l : Limits) (n : ℕ) (xs : List Acted) (w : Records) (pointer block : ℕ) → IsWithinBounds l → AreRecordsSound l w → AreJudged l n (tasks_in xs) (dids_in xs) w → list_all enters (tasks_in xs) ≡ true
@@ -128,38 +119,14 @@ unfolding act_all
 before-after l n [] w pointer block bounds h judged entries there e = e
 before-after l n (x ∷ xs) w pointer block bounds h judged entries there e =
     let says = task_says l n x.task w x.did.step judged.0 in
-    let kinds = and_true (enters x.task) (list_all enters (tasks_in xs)) entries in
-    before-act l x.task x.did w pointer block h says kinds.0 there
-    (before-after l (suc n) xs (act x.task x.did w) pointer block bounds (task_left l x.task x.did w bounds h says (step_judged l n x.task w x.did.step judged.0).free judged.1).sound judged.2 kinds.1 (there-act l x.task x.did w block says kinds.0 there) e)
+    before-act l x.task x.did w pointer block h says (first_enters x xs entries).0 there
+    (before-after l (suc n) xs (act x.task x.did w) pointer block bounds (first_left l n x xs w bounds h judged).sound judged.2 (first_enters x xs entries).1 (there-act l x.task x.did w block says (first_enters x xs entries).0 there) e)
 
 -- ---- targets
 
--- a block ends on the device, far below the last 64-bit address
-place_bound : (l : Limits) (w : Records) (block : ℕ) (b : Block) → IsWithinBounds l → AreRecordsSound l w → block_at block w.blocks ≡ Some b → (b.place + b.len < 2 ^ 41) × (place_of block w.blocks ≡ b.place)
-place_bound l w block b bounds h e =
-    let on : IsOnDevice (device_memory l.device) b = (found_has (IsOnDevice (device_memory l.device)) (λ x. x.number == block) w.blocks b h.blocks_apart.on_device e).0 in
-    let last : b.place + rounded b.len ≤ end_of (device_memory l.device) = on.last in
-    let most = bounds.device.1 in
-    (omega (arith, last, most), ap (λ o. unwrap_or (option_map (λ (x : Block). x.place) o) 0) e)
-
 -- the sum of a block's place and of an offset in its range
 pub address_bound : (l : Limits) (w : Records) (s : Section) (block offset : ℕ) → IsWithinBounds l → AreRecordsSound l w → where_is s w.ranges ≡ Inside block offset → place_of block w.blocks + offset < 2 ^ 42
-address_bound l w s block offset bounds h e =
-    let held = held_in l s w block offset h e in
-    let place = place_bound l w block held.1 bounds h held.2.block_is in
-    let first : s.start - held.0.section.start ≤ held.0.section.len = low s held.0.section held.2.within in
-    let offset_is = held.3 in
-    let len = held.2.len in
-    omega (arith, place.0, place.1, first, offset_is, len)
-  where
-    low : (s t : Section) → is_within s t ≡ true → s.start - t.start ≤ t.len
-    low s t h = grind (arith, nat_tests)
+address_bound l w s block offset bounds h e = grind (arith, nat_tests, found_has)
 
 pub target_bound : (l : Limits) (w : Records) (target : ℕ) → IsWithinBounds l → AreRecordsSound l w → IsTarget target w → target < 2 ^ 42
-target_bound l w target bounds h t = go (where_is (only t.0) w.ranges) refl t.1
-  where
-    go : (f : Found) → where_is (only t.0) w.ranges ≡ f → address_in f w.blocks ≡ Some target → target < 2 ^ 42
-    go (Inside block offset) is e =
-        let same : place_of block w.blocks + offset ≡ target = cc in
-        subst (λ n. n < 2 ^ 42) same (address_bound l w (only t.0) block offset bounds h is)
-    go _ is e = cc
+target_bound l w target bounds h t = grind (arith, nat_tests, address_bound l w (only t.0))

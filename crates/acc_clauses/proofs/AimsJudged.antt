@@ -1,5 +1,5 @@
 -- What attaching a pointer does after entries, by what is read of them.
-use Rattle.std.proofs.Common.{ℕ, ◌≡◌, ◌+◌, ◌<◌, ◌≤◌, refl, sym, ap, ◌∙◌, Bool, true, false, ◌&&◌, List, length, Option, Some, None, Result, Ok, Err, arith, inl, inr}
+use Rattle.std.proofs.Common.{ℕ, ◌≡◌, ◌+◌, ◌<◌, ◌≤◌, refl, sym, ap, ◌∙◌, Bool, true, false, ◌&&◌, List, length, Some, None, Result, Ok, Err, arith}
 use Rattle.std.specs.Prelude.{◌⊎◌, ◌==◌, not, nat_le, IsSome}
 use Rattle.std.specs.List.{list_all}
 use Rattle.std.proofs.lemmas.Bool.Decides.{nat_tests}
@@ -8,7 +8,6 @@ use Rattle.acc_base.specs.declared.attachments.Aim.TheVariants as aims
 use Rattle.acc_base.specs.declared.faults.Fault.TheVariants.{CounterFull}
 use Rattle.acc_base.specs.Results.{◌>>◌, refuse_if}
 use Rattle.acc_base.specs.Limits.{Limits}
-use Rattle.acc_base.specs.Section.{host_base}
 use Rattle.acc_base.specs.Records.{Records, State}
 use Rattle.acc_base.specs.Ranges.{start_of}
 use Rattle.acc_base.specs.Blocks.{block_at}
@@ -16,12 +15,12 @@ use Rattle.acc_base.specs.Attachments.{count_at, attach}
 use Rattle.acc_base.specs.Bytes.{bytes_of}
 use Rattle.acc_base.specs.Detaching.{block_with}
 use Rattle.acc_base.specs.Loans.{is_lent, not_lent}
-use Rattle.acc_base.specs.Pointers.{pointer_in, host_pointer, device_pointer, device_address_of, attach_there, judge_attach}
+use Rattle.acc_base.specs.Pointers.{host_pointer, device_pointer, device_address_of, attach_there, judge_attach}
 use Rattle.acc_base.specs.Accounts.{AreRecordsSound, AreMemoriesSized}
 use Rattle.acc_base.proofs.Walked.{records-act_all_state}
 use Rattle.acc_base.proofs.Loaned.{loans-act_all}
 use Rattle.acc_clauses.specs.declared.acted.Acted.{Acted}
-use Rattle.acc_clauses.specs.Overlays.{tasks_in, dids_in, records_after, state_after, enters, IsPlanned}
+use Rattle.acc_clauses.specs.Overlays.{tasks_in, records_after, state_after, enters, IsPlanned}
 use Rattle.acc_clauses.proofs.Moving.{bytes_of-len}
 use Rattle.acc_clauses.proofs.AimsPlaced.{host-after}
 use Rattle.acc_clauses.proofs.AimsFound.{IsPointerIn, pointer_in_block}
@@ -35,11 +34,7 @@ pointer_there l w block pointer h e = let at : IsPointerIn block pointer w = poi
 -- and has its eight bytes, where it is not lent
 pub pointer_fits : (l : Limits) (s : State) (block pointer : ℕ) → AreRecordsSound l s.records → AreMemoriesSized l s → block_with pointer s.records.ranges ≡ Some block → is_lent block s.records.loans ≡ false
     → (start_of block s.records.ranges ≤ pointer) × (pointer + 8 ≤ start_of block s.records.ranges + length (bytes_of block s.memories))
-pointer_fits l s block pointer h sized e free =
-    let at : IsPointerIn block pointer s.records = pointer_in_block l s.records block pointer h e in
-    let len = bytes_of-len s.records.loans block s.memories s.records.blocks at.block_there sized.blocks free at.there in
-    let high = at.high in
-    (at.low, omega (arith, high, len))
+pointer_fits l s block pointer h sized e free = grind (arith, nat_tests, pointer_in_block l s.records block pointer h e, bytes_of-len)
 
 -- ---- attaching
 
@@ -47,13 +42,7 @@ pointer_fits l s block pointer h sized e free =
 pub attach-read : (l : Limits) (n pointer : ℕ) (xs : List Acted) (s : State) → IsPlanned l xs s.records → list_all enters (tasks_in xs) ≡ true
     → judge_attach l n pointer (state_after xs s) ≡ attach_there l n pointer (block_with pointer (records_after xs s.records).ranges) (device_address_of (host_pointer pointer s) (records_after xs s.records)) (state_after xs s)
 unfolding judge_attach
-attach-read l n pointer xs s p entries =
-    let t : State = state_after xs s in
-    let w : Records = records_after xs s.records in
-    let records : t.records ≡ w = records-act_all_state (tasks_in xs) (dids_in xs) s in
-    let host : t.host ≡ s.host = host-after l 0 xs s p.judged entries in
-    ap (λ (v : Records). attach_there l n pointer (block_with pointer v.ranges) (device_address_of (host_pointer pointer t) v) t) records
-    ∙ ap (λ h. attach_there l n pointer (block_with pointer w.ranges) (device_address_of (pointer_in host_base pointer h) w) t) host
+attach-read l n pointer xs s p entries = grind (arith, nat_tests, records-act_all_state, host-after)
 
 module _ (l : Limits) (n pointer : ℕ) (xs : List Acted) (s : State) (p : IsPlanned l xs s.records) (entries : list_all enters (tasks_in xs) ≡ true) where
   -- the pointer lies in no block
@@ -62,62 +51,30 @@ module _ (l : Limits) (n pointer : ℕ) (xs : List Acted) (s : State) (p : IsPla
 
   -- what it points to is not mapped
   pub attach-untargeted : (address : ℕ) → address ≡ host_pointer pointer s → None ≡ device_address_of address (records_after xs s.records) → ◌≡◌ {A = Result Aim Fault} (Ok aims.None) (judge_attach l n pointer (state_after xs s))
-  attach-untargeted address read e =
-      let none : None ≡ device_address_of (host_pointer pointer s) (records_after xs s.records) = e ∙ ap (λ a. device_address_of a (records_after xs s.records)) read in
-      sym (attach-read l n pointer xs s p entries ∙ (ap (λ t. attach_there l n pointer (block_with pointer (records_after xs s.records).ranges) t (state_after xs s)) (sym none) ∙ go (block_with pointer (records_after xs s.records).ranges)))
-    where
-      go : (b : Option ℕ) → ◌≡◌ {A = Result Aim Fault} (attach_there l n pointer b None (state_after xs s)) (Ok aims.None)
-      go None = refl
-      go (Some block) = refl
+  attach-untargeted address read e = grind (arith, nat_tests, attach-read)
 
   -- it is aimed at a target, where its block is not lent
   attach-there : (block target address : ℕ) → Some block ≡ block_with pointer (records_after xs s.records).ranges → address ≡ host_pointer pointer s → Some target ≡ device_address_of address (records_after xs s.records)
       → judge_attach l n pointer (state_after xs s) ≡ (not_lent (Some block) s.records.loans >> attach l.counter_max n block pointer target (device_pointer block pointer (state_after xs s)) (records_after xs s.records).attached)
-  attach-there block target address e read f =
-      let t : State = state_after xs s in
-      let w : Records = records_after xs s.records in
-      let some : Some target ≡ device_address_of (host_pointer pointer s) w = f ∙ ap (λ a. device_address_of a w) read in
-      attach-read l n pointer xs s p entries
-      ∙ (ap (λ b. attach_there l n pointer b (device_address_of (host_pointer pointer s) w) t) (sym e)
-      ∙ (ap (λ a. attach_there l n pointer (Some block) a t) (sym some)
-      ∙ (ap (λ (v : Records). not_lent (Some block) v.loans >> attach l.counter_max n block pointer target (device_pointer block pointer t) v.attached) (records-act_all_state (tasks_in xs) (dids_in xs) s)
-      ∙ ap (λ loans. not_lent (Some block) loans >> attach l.counter_max n block pointer target (device_pointer block pointer t) w.attached) (loans-act_all (tasks_in xs) (dids_in xs) s.records))))
+  attach-there block target address e read f = grind (arith, nat_tests, attach-read, records-act_all_state, loans-act_all)
 
   pub attach-targeted : (block target address : ℕ) → Some block ≡ block_with pointer (records_after xs s.records).ranges → address ≡ host_pointer pointer s → Some target ≡ device_address_of address (records_after xs s.records)
       → Ok tt ≡ not_lent (Some block) s.records.loans
       → judge_attach l n pointer (state_after xs s) ≡ attach l.counter_max n block pointer target (device_pointer block pointer (state_after xs s)) (records_after xs s.records).attached
-  attach-targeted block target address e read f free =
-      attach-there block target address e read f
-      ∙ ap (λ r. r >> attach l.counter_max n block pointer target (device_pointer block pointer (state_after xs s)) (records_after xs s.records).attached) (sym free)
+  attach-targeted block target address e read f free = grind (arith, nat_tests, attach-there block target address e read f)
 
   -- it lies in a block that is lent
   pub attach-lent : (block target address : ℕ) (fault : Fault) → Some block ≡ block_with pointer (records_after xs s.records).ranges → address ≡ host_pointer pointer s → Some target ≡ device_address_of address (records_after xs s.records)
       → Err fault ≡ not_lent (Some block) s.records.loans → ◌≡◌ {A = Result Aim Fault} (Err fault) (judge_attach l n pointer (state_after xs s))
-  attach-lent block target address fault e read f lent =
-      sym (attach-there block target address e read f
-      ∙ ap (λ r. r >> attach l.counter_max n block pointer target (device_pointer block pointer (state_after xs s)) (records_after xs s.records).attached) (sym lent))
+  attach-lent block target address fault e read f lent = grind (arith, nat_tests, attach-there block target address e read f)
 
 -- a pointer that is not attached, or holds another address
 pub attach-new : (most n block pointer target now : ℕ) (attached : List Attachment) → (count_at block pointer attached ≡ 0) ⊎ (now ≡ target → ⊥) → ◌≡◌ {A = Result Aim Fault} (Ok (aims.New pointer block target)) (attach most n block pointer target now attached)
-attach-new most n block pointer target now attached h = sym (rw (test h) refl)
-  where
-    test : (count_at block pointer attached ≡ 0) ⊎ (now ≡ target → ⊥) → (not (count_at block pointer attached == 0) && (now == target)) ≡ false
-    test (inl e) = rw e refl
-    test (inr e) = let no : (now == target) ≡ false = grind (arith, nat_tests) in rw no (last (not (count_at block pointer attached == 0)))
-      where
-        last : (b : Bool) → (b && false) ≡ false
-        last true = refl
-        last false = refl
+attach-new most n block pointer target now attached h = grind (arith, nat_tests)
 
 -- one that is attached there already
 held : (block pointer target now : ℕ) (attached : List Attachment) → (count_at block pointer attached ≡ 0 → ⊥) → now ≡ target → (not (count_at block pointer attached == 0) && (now == target)) ≡ true
-held block pointer target now attached some same =
-    let yes : (now == target) ≡ true = grind (arith, nat_tests) in
-    rw yes (go (count_at block pointer attached == 0) refl)
-  where
-    go : (b : Bool) → (count_at block pointer attached == 0) ≡ b → (not b && true) ≡ true
-    go true e = absurd (some (grind (arith, nat_tests)))
-    go false e = refl
+held block pointer target now attached some same = grind (arith, nat_tests)
 
 attach-held : (most n block pointer target now : ℕ) (attached : List Attachment) (full : Bool) → (count_at block pointer attached ≡ 0 → ⊥) → now ≡ target → nat_le most (count_at block pointer attached) ≡ full
     → attach most n block pointer target now attached ≡ (refuse_if full (CounterFull n) >> Ok (aims.Again pointer block))

@@ -1,34 +1,32 @@
 -- Where blocks lie after entries, and what entries leave of host memory.
-use Rattle.std.proofs.Common.{ℕ, ◌≡◌, ◌+◌, ◌≤◌, refl, sym, ap, ◌∙◌, subst, Bool, true, false, cond, List, [], ◌∷◌, ◌++◌, suc, Option, Some, None, arith}
+use Rattle.std.proofs.lemmas.Bool.Decides.{nat_tests}
+use Rattle.std.proofs.Common.{ℕ, ◌≡◌, ◌+◌, ◌≤◌, refl, sym, ap, ◌∙◌, subst, true, false, cond, List, [], ◌∷◌, ◌++◌, suc, Option, None, arith}
 use Rattle.std.specs.Prelude.{◌==◌, unwrap_or, option_map, IsSome}
 use Rattle.std.specs.List.{list_all}
 use Rattle.std.proofs.lemmas.Bool.{false≢true}
 use Rattle.acc_clauses.specs.Words.{Item, RegionClause, Counter, Block, Task, Step, Did}
 use Rattle.acc_base.specs.declared.tasks.Task.TheVariants.{Enter}
-use Rattle.acc_base.specs.declared.events.Step.TheVariants.{Born, Dropped, Moved}
+use Rattle.acc_base.specs.declared.events.Step.TheVariants.{Born, Dropped}
 use Rattle.acc_base.specs.Limits.{Limits, IsWithinBounds}
 use Rattle.acc_base.specs.Records.{Records, State}
 use Rattle.acc_base.specs.Ranges.{bare_range}
 use Rattle.acc_base.specs.Blocks.{block_at, place_of}
-use Rattle.acc_base.specs.Clauses.{copies_in}
 use Rattle.acc_base.specs.Tasks.{section_of, recounted}
-use Rattle.acc_base.specs.Transfers.{at_once}
 use Rattle.acc_base.specs.Steps.{records_after_birth, with_range_changed, act_row, act_step, act, act_all}
-use Rattle.acc_base.specs.Bytes.{host_made, step_state}
+use Rattle.acc_base.specs.Bytes.{step_state}
 use Rattle.acc_base.specs.Pointers.{aimed}
 use Rattle.acc_base.specs.Acting.{act_state, act_all_state}
 use Rattle.acc_base.specs.History.{AreJudged}
 use Rattle.acc_base.specs.Accounts.{AreRecordsSound}
-use Rattle.acc_base.proofs.Results.{and_true, equal}
 use Rattle.acc_base.proofs.Elements.{AllByRecursion-weaker}
 use Rattle.acc_base.proofs.Lookups.{at-push_new, at-push_there, at-none}
-use Rattle.acc_base.proofs.Judged.{IsJudgedTo, step_judged, task_says}
+use Rattle.acc_base.proofs.Judged.{IsJudgedTo, task_says}
 use Rattle.acc_base.proofs.Sound.{recounted_keeps}
-use Rattle.acc_base.proofs.Aimed.{task_left}
 use Rattle.acc_base.proofs.Walked.{records-act_state}
 use Rattle.acc_clauses.specs.declared.acted.Acted.{Acted}
 use Rattle.acc_clauses.specs.Overlays.{tasks_in, dids_in, records_after, state_after, enters, IsPlanned}
 use Rattle.acc_clauses.specs.Aims.{place_by, place_over}
+use Rattle.acc_clauses.proofs.Overlaid.{first_left, first_enters}
 
 -- ---- one block more
 
@@ -40,12 +38,7 @@ no_block-new l w k h e = at-none (λ (b : Block). b.number) k w.blocks
 -- the place of a block, where another is added
 place-other : (blocks : List Block) (new : Block) (block : ℕ) → (new.number == block) ≡ false → place_of block (blocks ++ new ∷ []) ≡ place_of block blocks
 place-other [] new block e = rw e refl
-place-other (b ∷ bs) new block e = go (place-other bs new block e) (b.number == block)
-  where
-    go : place_of block (bs ++ new ∷ []) ≡ place_of block bs → (t : Bool)
-        → unwrap_or (option_map (λ (x : Block). x.place) (cond t (Some b) (block_at block (bs ++ new ∷ [])))) 0 ≡ unwrap_or (option_map (λ (x : Block). x.place) (cond t (Some b) (block_at block bs))) 0
-    go rest true = refl
-    go rest false = rest
+place-other (b ∷ bs) new block e = grind (arith, nat_tests, place-other bs new block e)
 
 -- and where it is the one that is added
 place-new : (blocks : List Block) (new : Block) → block_at new.number blocks ≡ None → place_of new.number (blocks ++ new ∷ []) ≡ new.place
@@ -59,14 +52,7 @@ new_number : (task : Task) (k p : ℕ) → (new_block task k p).number ≡ k
 new_number task k p = (recounted_keeps task).block (bare_range (section_of task) k)
 
 place-born : (task : Task) (k p block : ℕ) (blocks : List Block) → block_at k blocks ≡ None → place_of block (blocks ++ new_block task k p ∷ []) ≡ cond (k == block) p (place_of block blocks)
-place-born task k p block blocks none = go (k == block) refl
-  where
-    go : (t : Bool) → (k == block) ≡ t → place_of block (blocks ++ new_block task k p ∷ []) ≡ cond t p (place_of block blocks)
-    go true e =
-        let is : (new_block task k p).number ≡ block = new_number task k p ∙ equal k block e in
-        let absent : block_at (new_block task k p).number blocks ≡ None = subst (λ n. block_at n blocks ≡ None) (sym (new_number task k p)) none in
-        subst (λ n. place_of n (blocks ++ new_block task k p ∷ []) ≡ p) is (place-new blocks (new_block task k p) absent)
-    go false e = place-other blocks (new_block task k p) block (subst (λ n. (n == block) ≡ false) (sym (new_number task k p)) e)
+place-born task k p block blocks none = grind (arith, nat_tests, place-new blocks (new_block task k p), place-other blocks (new_block task k p) block, new_number task k p)
 
 -- ---- places after entries
 
@@ -80,18 +66,13 @@ place-step l counter item queue _ w block h says = refl
 place-act : (l : Limits) (task : Task) (did : Did) (w : Records) (block : ℕ) → AreRecordsSound l w → IsJudgedTo l task did.step w → enters task ≡ true
     → place_of block (act task did w).blocks ≡ place_by block (place_of block w.blocks) did.step
 unfolding act
-place-act l (Enter counter item queue) did w block h says entry = place-step l counter item queue did.step w block h says
-place-act l _ did w block h says entry = absurd (false≢true entry)
+place-act l task did w block h says entry = grind (arith, nat_tests, place-step, false≢true)
 
 pub place-after : (l : Limits) (n : ℕ) (xs : List Acted) (w : Records) (block : ℕ) → IsWithinBounds l → AreRecordsSound l w → AreJudged l n (tasks_in xs) (dids_in xs) w → list_all enters (tasks_in xs) ≡ true
     → place_over block (place_of block w.blocks) xs ≡ place_of block (records_after xs w).blocks
 unfolding act_all
 place-after l n [] w block bounds h judged entries = refl
-place-after l n (x ∷ xs) w block bounds h judged entries =
-    let says = task_says l n x.task w x.did.step judged.0 in
-    let kinds = and_true (enters x.task) (list_all enters (tasks_in xs)) entries in
-    ap (λ p. place_over block p xs) (sym (place-act l x.task x.did w block h says kinds.0))
-    ∙ place-after l (suc n) xs (act x.task x.did w) block bounds (task_left l x.task x.did w bounds h says (step_judged l n x.task w x.did.step judged.0).free judged.1).sound judged.2 kinds.1
+place-after l n (x ∷ xs) w block bounds h judged entries = grind (arith, nat_tests, place-after l (suc n) xs (act x.task x.did w) block bounds (first_left l n x xs w bounds h judged).sound judged.2 (first_enters x xs entries).1, place-act, task_says l n x.task w x.did.step judged.0)
 
 pub place-planned : (l : Limits) (xs : List Acted) (w : Records) (block : ℕ) → IsPlanned l xs w → list_all enters (tasks_in xs) ≡ true
     → place_over block (place_of block w.blocks) xs ≡ place_of block (records_after xs w).blocks
@@ -101,48 +82,28 @@ place-planned l xs w block p entries = place-after l 0 xs w block p.bounds p.sou
 there-step : (l : Limits) (counter : Counter) (item : Item RegionClause) (queue : Option ℕ) (step : Step) (w : Records) (block : ℕ) → IsJudgedTo l (Enter counter item queue) step w → IsSome (block_at block w.blocks)
     → IsSome (block_at block (act_step (Enter counter item queue) step w).blocks)
 unfolding act_step act_row with_range_changed records_after_birth
-there-step l counter item queue (Born k p) w block says there = go (block_at block w.blocks) refl there
-  where
-    go : (o : Option Block) → block_at block w.blocks ≡ o → IsSome o → IsSome (block_at block (w.blocks ++ new_block (Enter counter item queue) k p ∷ []))
-    go None e t = cc
-    go (Some b) e t = rw (at-push_there (λ (b : Block). b.number) block w.blocks (new_block (Enter counter item queue) k p) b e) refl
+there-step l counter item queue (Born k p) w block says there = grind (arith, nat_tests, at-push_there (λ (b : Block). b.number) block w.blocks (new_block (Enter counter item queue) k p))
 there-step l counter item queue (Dropped k ended) w block says there = absurd says
 there-step l counter item queue _ w block says there = there
 
 pub there-act : (l : Limits) (task : Task) (did : Did) (w : Records) (block : ℕ) → IsJudgedTo l task did.step w → enters task ≡ true → IsSome (block_at block w.blocks)
     → IsSome (block_at block (act task did w).blocks)
 unfolding act
-there-act l (Enter counter item queue) did w block says entry there = there-step l counter item queue did.step w block says there
-there-act l _ did w block says entry there = absurd (false≢true entry)
+there-act l task did w block says entry there = grind (arith, nat_tests, there-step, false≢true)
 
 -- ---- the host after entries: what an entry copies goes to the device
 
--- where nothing is moved, nothing is made
-none_now : (queue : Option ℕ) (s : State) → host_made (at_once queue None) s.records.attached s.memories s.host ≡ s.host
-none_now None s = refl
-none_now (Some q) s = refl
-
 host-step : (l : Limits) (counter : Counter) (item : Item RegionClause) (queue : Option ℕ) (step : Step) (s : State) → IsJudgedTo l (Enter counter item queue) step s.records → (step_state (Enter counter item queue) step s).host ≡ s.host
 unfolding step_state
-host-step l counter item queue (Born k p) s says = go queue (copies_in item.clause)
-  where
-    go : (q : Option ℕ) (b : Bool) → host_made (at_once q (cond b (Some (record { block = k; offset = 0; section = section_of (Enter counter item queue); out = false })) None)) s.records.attached s.memories s.host ≡ s.host
-    go None true = refl
-    go None false = refl
-    go (Some q) b = refl
-host-step l counter item queue (Dropped k ended) s says = absurd says
-host-step l counter item queue (Moved k) s says = absurd says
-host-step l counter item queue _ s says = none_now queue s
+host-step l counter item queue step s says = grind (arith, nat_tests)
 
 host-act : (l : Limits) (task : Task) (did : Did) (s : State) → IsJudgedTo l task did.step s.records → enters task ≡ true → (act_state task did s).host ≡ s.host
 unfolding act_state aimed
-host-act l (Enter counter item queue) did s says entry = host-step l counter item queue did.step s says
-host-act l _ did s says entry = absurd (false≢true entry)
+host-act l task did s says entry = grind (arith, nat_tests, host-step, false≢true)
 
 pub host-after : (l : Limits) (n : ℕ) (xs : List Acted) (s : State) → AreJudged l n (tasks_in xs) (dids_in xs) s.records → list_all enters (tasks_in xs) ≡ true → (state_after xs s).host ≡ s.host
 unfolding act_all_state
 host-after l n [] s judged entries = refl
 host-after l n (x ∷ xs) s judged entries =
-    let kinds = and_true (enters x.task) (list_all enters (tasks_in xs)) entries in
-    host-after l (suc n) xs (act_state x.task x.did s) (subst (AreJudged l (suc n) (tasks_in xs) (dids_in xs)) (sym (records-act_state x.task x.did s)) judged.2) kinds.1
-    ∙ host-act l x.task x.did s (task_says l n x.task s.records x.did.step judged.0) kinds.0
+    host-after l (suc n) xs (act_state x.task x.did s) (subst (AreJudged l (suc n) (tasks_in xs) (dids_in xs)) (sym (records-act_state x.task x.did s)) judged.2) (first_enters x xs entries).1
+    ∙ host-act l x.task x.did s (task_says l n x.task s.records x.did.step judged.0) (first_enters x xs entries).0

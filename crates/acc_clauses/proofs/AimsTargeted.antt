@@ -1,5 +1,6 @@
 -- What is read of blocks and pointers before entries gives what they are after them.
-use Rattle.std.proofs.Common.{ℕ, ◌≡◌, ◌+◌, ◌<◌, ◌^◌, ◌∙◌, ap, true, List, Some, arith}
+use Rattle.std.proofs.lemmas.Bool.Decides.{nat_tests}
+use Rattle.std.proofs.Common.{ℕ, ◌≡◌, ◌+◌, ◌<◌, ◌^◌, true, List, Some, arith}
 use Rattle.std.specs.Prelude.{◌%◌}
 use Rattle.std.specs.List.{list_all}
 use Rattle.acc_base.specs.declared.mappings.Found.TheVariants.{Inside}
@@ -23,8 +24,7 @@ use Rattle.acc_clauses.proofs.AimsValued.{value-planned}
 -- the place of a block
 pub place_read : (l : Limits) (xs acts : List Acted) (w : Records) (block place result : ℕ) → IsPlanned l xs w → list_all enters (tasks_in xs) ≡ true → acts ≡ xs → place ≡ place_of block w.blocks → result ≡ place_over block place acts
     → result ≡ place_of block (records_after xs w).blocks
-place_read l xs acts w block place result p entries same read e =
-    e ∙ (ap (λ ys. place_over block place ys) same ∙ (ap (λ n. place_over block n xs) read ∙ place-planned l xs w block p entries))
+place_read l xs acts w block place result p entries same read e = grind (arith, nat_tests, place-planned)
 
 -- and an address in it
 pub sum_bound : (l : Limits) (xs : List Acted) (w : Records) (address block offset : ℕ) → IsPlanned l xs w → where_is (only address) (records_after xs w).ranges ≡ Inside block offset
@@ -35,5 +35,4 @@ sum_bound l xs w address block offset p inside = address_bound l (records_after 
 pub value_read : (l : Limits) (block pointer value result : ℕ) (xs acts : List Acted) (s : State) → IsPlanned l xs s.records → AreMemoriesSized l s → list_all enters (tasks_in xs) ≡ true → pointer % 8 ≡ 0
     → block_with pointer (records_after xs s.records).ranges ≡ Some block → (block_with pointer s.records.ranges ≡ Some block → value ≡ device_pointer block pointer s)
     → 0 < count_at block pointer (records_after xs s.records).attached → acts ≡ xs → result ≡ value_over block pointer value acts → result ≡ device_pointer block pointer (state_after xs s)
-value_read l block pointer value result xs acts s p sized entries even there read some same e =
-    e ∙ (ap (λ ys. value_over block pointer value ys) same ∙ value-planned l block pointer value xs s p sized entries even there read (λ none. omega (arith, some, none)))
+value_read l block pointer value result xs acts s p sized entries even there read some same e = grind (arith, nat_tests, value-planned)

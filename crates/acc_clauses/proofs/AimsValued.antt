@@ -1,23 +1,23 @@
 -- What an attached pointer holds on the device after entries is what the fold over them gives.
-use Rattle.std.proofs.Common.{ℕ, ◌≡◌, ◌+◌, ◌-◌, ◌<◌, ◌≤◌, ◌^◌, refl, sym, ap, ◌∙◌, subst, Bool, true, false, cond, ◌&&◌, ◌||◌, List, [], ◌∷◌, ◌++◌, replicate, suc, Option, Some, None, Ok, arith}
-use Rattle.std.specs.Prelude.{◌==◌, ◌%◌, find, unwrap_or, option_map, IsSome}
+use Rattle.std.proofs.lemmas.Bool.Decides.{nat_tests}
+use Rattle.std.proofs.Common.{ℕ, ◌≡◌, ◌+◌, ◌<◌, ◌≤◌, ◌^◌, refl, sym, ap, ◌∙◌, subst, Bool, true, false, cond, ◌&&◌, List, [], ◌∷◌, suc, Option, Some, None, Ok, arith}
+use Rattle.std.specs.Prelude.{◌==◌, ◌%◌, IsSome}
 use Rattle.std.specs.List.{list_all, AllByRecursion}
 use Rattle.std.proofs.lemmas.Bool.{false≢true}
 use Rattle.acc_clauses.specs.Words.{Item, RegionClause, Counter, Range, Block, Attachment, Aim, Task, Step, Did}
 use Rattle.acc_base.specs.declared.attachments.Aim.TheVariants as aims
 use Rattle.acc_base.specs.declared.tasks.Task.TheVariants.{Enter}
-use Rattle.acc_base.specs.declared.events.Step.TheVariants.{Nothing, Counted, Born, Dropped}
+use Rattle.acc_base.specs.declared.events.Step.TheVariants.{Nothing, Counted, Born}
 use Rattle.acc_base.specs.Limits.{Limits, IsWithinBounds}
-use Rattle.acc_base.specs.Section.{covers}
 use Rattle.acc_base.specs.Records.{Records, Memory, State}
-use Rattle.acc_base.specs.Ranges.{start_of, changed_at, bare_range}
+use Rattle.acc_base.specs.Ranges.{start_of, changed_at}
 use Rattle.acc_base.specs.Blocks.{block_at}
-use Rattle.acc_base.specs.Attachments.{pointer_at, is_of, count_at, attached_by}
-use Rattle.acc_base.specs.Clauses.{is_attach, copies_in, pointer_checked}
-use Rattle.acc_base.specs.Tasks.{section_of, pointer_of, recounted}
+use Rattle.acc_base.specs.Attachments.{count_at, attached_by}
+use Rattle.acc_base.specs.Clauses.{pointer_checked}
+use Rattle.acc_base.specs.Tasks.{recounted}
 use Rattle.acc_base.specs.Transfers.{at_once}
-use Rattle.acc_base.specs.Steps.{is_action, pointer_aimed, judge_row, judge_step, records_after_birth, with_range_changed, act_row, act_step, act, act_all}
-use Rattle.acc_base.specs.Bytes.{bytes_of, is_moved, bytes_moved_in, written_bytes, memories_made, fill_of, step_state}
+use Rattle.acc_base.specs.Steps.{pointer_aimed, judge_row, judge_step, records_after_birth, with_range_changed, act_row, act_step, act, act_all}
+use Rattle.acc_base.specs.Bytes.{bytes_of, memories_made, step_state}
 use Rattle.acc_base.specs.Detaching.{block_with}
 use Rattle.acc_base.specs.Loans.{is_lent}
 use Rattle.acc_base.specs.Pointers.{pointer_in, device_pointer, aimed}
@@ -26,10 +26,10 @@ use Rattle.acc_base.specs.History.{IsAttachLegal, IsAimLegal, AreJudged}
 use Rattle.acc_base.specs.Accounts.{AreRecordsSound, AreMemoriesSized}
 use Rattle.acc_base.proofs.Results.{and_true, equal, then_ok, refused_not, not_false}
 use Rattle.acc_base.proofs.Counting.{read_of, changed_read, with_other}
-use Rattle.acc_base.proofs.Judged.{IsJudgedTo, step_judged, task_says, pointer_checked_by}
+use Rattle.acc_base.proofs.Judged.{IsJudgedTo, step_judged, task_says}
 use Rattle.acc_base.proofs.Sound.{recounted_keeps}
 use Rattle.acc_base.proofs.Puts.{acted_sound}
-use Rattle.acc_base.proofs.Attached.{same_block, count_at-attached_by, count_at-with_count_other}
+use Rattle.acc_base.proofs.Attached.{count_at-attached_by, count_at-with_count_other}
 use Rattle.acc_base.proofs.Memories.{step_sized, act_sized}
 use Rattle.acc_base.proofs.Aimed.{task_left}
 use Rattle.acc_base.proofs.Walked.{records-act_state, records-act_all_state}
@@ -38,19 +38,14 @@ use Rattle.acc_clauses.specs.Overlays.{tasks_in, dids_in, records_after, state_a
 use Rattle.acc_clauses.specs.Aims.{value_by, value_over}
 use Rattle.acc_clauses.proofs.Moving.{bytes_of-len}
 use Rattle.acc_clauses.proofs.AimsPlaced.{no_block-new}
-use Rattle.acc_clauses.proofs.AimsFound.{IsPointerIn, pointer_in_block, before-after, target_bound}
-use Rattle.acc_clauses.proofs.AimsWritten.{target_byte, pointer-other, apart_by, pointer-same, bytes-other, bytes-same, bytes-push}
+use Rattle.acc_clauses.proofs.AimsFound.{pointer_in_block, before-after, target_bound}
+use Rattle.acc_clauses.proofs.AimsWritten.{target_byte, pointer-other, pointer-same, bytes-other, bytes-same, bytes-push}
 
 -- ---- what is attached is there
 
 there_by : (blocks : List Block) (block pointer : ℕ) (xs : List Attachment) → AllByRecursion (λ a. IsSome (block_at a.block blocks)) xs → (count_at block pointer xs ≡ 0 → ⊥) → IsSome (block_at block blocks)
 there_by blocks block pointer [] h some = absurd (some refl)
-there_by blocks block pointer (x ∷ xs) h some = go (there_by blocks block pointer xs h.1) (is_of block pointer x) refl some
-  where
-    go : ((count_at block pointer xs ≡ 0 → ⊥) → IsSome (block_at block blocks)) → (b : Bool) → is_of block pointer x ≡ b
-        → (unwrap_or (option_map (λ (a : Attachment). a.count) (cond b (Some x) (find (is_of block pointer) xs))) 0 ≡ 0 → ⊥) → IsSome (block_at block blocks)
-    go rest true e k = subst (λ n. IsSome (block_at n blocks)) (same_block block pointer x e) h.0
-    go rest false e k = rest k
+there_by blocks block pointer (x ∷ xs) h some = grind (arith, nat_tests, there_by blocks block pointer xs h.1)
 
 -- a block with an attached pointer is there
 pub counted_there : (l : Limits) (w : Records) (block pointer : ℕ) → AreRecordsSound l w → (count_at block pointer w.attached ≡ 0 → ⊥) → IsSome (block_at block w.blocks)
@@ -63,14 +58,7 @@ aligned l n pointer e = equal _ _ (not_false _ (refused_not _ _ (then_ok _ _ tt 
 
 named_aligned : (l : Limits) (n : ℕ) (counter : Counter) (item : Item RegionClause) (queue : Option ℕ) (step : Step) (w : Records) (p : ℕ) → judge_step l n (Enter counter item queue) w ≡ Ok step → pointer_aimed (Enter counter item queue) step ≡ Some p → p % 8 ≡ 0
 unfolding judge_row
-named_aligned l n counter item queue step w p judged e =
-    let task : Task = Enter counter item queue in
-    let named : pointer_of task ≡ Some p = go (is_attach item.clause) (is_action step) e in
-    aligned l n p (subst (λ o. pointer_checked l n o ≡ Ok tt) named (pointer_checked_by l n task (then_ok _ _ step (step_judged l n (Enter counter item queue) w step judged).row).0))
-  where
-    go : (a b : Bool) → cond (a || b) (pointer_of (Enter counter item queue)) None ≡ Some p → pointer_of (Enter counter item queue) ≡ Some p
-    go false false h = cc
-    go _ _ h = h
+named_aligned l n counter item queue step w p judged e = grind (arith, nat_tests, then_ok, step_judged l n (Enter counter item queue) w step judged)
 
 -- ---- a step of an entry leaves the blocks that are there
 
@@ -78,53 +66,21 @@ abbrev start_in : Range → ℕ
 start_in r = r.section.start
 
 start-changed : (task : Task) (k block : ℕ) (ranges : List Range) → start_of block (changed_at k (recounted task) ranges) ≡ start_of block ranges
-start-changed task k block ranges =
-    changed_read start_in (recounted task) (λ n. n) (recounted_keeps task).block (λ r. ap (λ s. s.start) ((recounted_keeps task).section r)) k block ranges (λ none. refl)
-    ∙ go (k == block)
-  where
-    go : (t : Bool) → cond t (read_of start_in block ranges) (read_of start_in block ranges) ≡ start_of block ranges
-    go true = refl
-    go false = refl
+start-changed task k block ranges = grind (arith, nat_tests, changed_read start_in (recounted task) (λ n. n) (recounted_keeps task).block (λ r. ap (λ s. s.start) ((recounted_keeps task).section r)) k block ranges (λ none. refl))
 
 holds_same : (pointer first second : ℕ) (xs ys : List ℕ) → first ≡ second → xs ≡ ys → pointer_in first pointer xs ≡ pointer_in second pointer ys
 holds_same pointer first second xs ys e f = rw (e, f) refl
 
 -- where nothing is moved, nothing is made
 none_made : (queue : Option ℕ) (attached : List Attachment) (host : List ℕ) (ms : List Memory) → memories_made (at_once queue None) attached host ms ≡ ms
-none_made None attached host ms = refl
-none_made (Some q) attached host ms = refl
+none_made queue attached host ms = grind (arith, nat_tests)
 
 holds-step : (l : Limits) (counter : Counter) (item : Item RegionClause) (queue : Option ℕ) (step : Step) (s : State) (block pointer : ℕ) → AreRecordsSound l s.records → IsJudgedTo l (Enter counter item queue) step s.records → IsSome (block_at block s.records.blocks)
     → device_pointer block pointer (step_state (Enter counter item queue) step s) ≡ device_pointer block pointer s
 unfolding step_state act_step act_row with_range_changed records_after_birth
 holds-step l counter item queue Nothing s block pointer h says there = holds_same pointer (start_of block s.records.ranges) _ _ _ refl (ap (bytes_of block) (none_made queue s.records.attached s.host s.memories))
 holds-step l counter item queue (Counted k) s block pointer h says there = holds_same pointer _ _ _ _ (start-changed (Enter counter item queue) k block s.records.ranges) (ap (bytes_of block) (none_made queue s.records.attached s.host s.memories))
-holds-step l counter item queue (Born k p) s block pointer h says there =
-    holds_same pointer _ _ _ _ (with_other start_in new block s.records.ranges (subst (λ n. (n == block) ≡ false) (sym block_is) other)) (bytes queue (copies_in item.clause))
-  where
-    task : Task
-    task = Enter counter item queue
-
-    new : Range
-    new = recounted task (bare_range (section_of task) k)
-
-    block_is : new.block ≡ k
-    block_is = (recounted_keeps task).block (bare_range (section_of task) k)
-
-    other : (k == block) ≡ false
-    other = go (k == block) refl
-      where
-        go : (t : Bool) → (k == block) ≡ t → t ≡ false
-        go true e = let none : block_at block s.records.blocks ≡ None = subst (λ n. block_at n s.records.blocks ≡ None) (equal k block e) (no_block-new l s.records k h says.number) in cc
-        go false e = refl
-
-    born : Memory
-    born = record { block = k; bytes = replicate (section_of task).len (fill_of task) }
-
-    bytes : (q : Option ℕ) (b : Bool) → bytes_of block (memories_made (at_once q (cond b (Some (record { block = k; offset = 0; section = section_of task; out = false })) None)) s.records.attached s.host (s.memories ++ born ∷ [])) ≡ bytes_of block s.memories
-    bytes None true = bytes-other k block (bytes_moved_in (is_moved (section_of task) k s.records.attached) s.host ((section_of task).start - 0)) (s.memories ++ born ∷ []) other ∙ bytes-push block born s.memories other
-    bytes None false = bytes-push block born s.memories other
-    bytes (Some q) b = bytes-push block born s.memories other
+holds-step l counter item queue (Born k p) s block pointer h says there = grind (arith, nat_tests, holds_same, with_other, recounted_keeps, equal, no_block-new l s.records k h says.number, bytes-other, bytes-push)
 holds-step l counter item queue _ s block pointer h says there = absurd says
 
 -- ---- an attachment
@@ -141,28 +97,17 @@ module _ (l : Limits) (block pointer : ℕ) (even : pointer % 8 ≡ 0) (s : Stat
   -- the pointer itself is written
   new_same : (target : ℕ) → target < 2 ^ 64 → block_with pointer s.records.ranges ≡ Some block → is_lent block s.records.loans ≡ false → device_pointer block pointer (aimed (aims.New pointer block target) s) ≡ target
   unfolding aimed
-  new_same target below there free =
-      let at : IsPointerIn block pointer s.records = pointer_in_block l s.records block pointer sound there in
-      let len = bytes_of-len s.records.loans block s.memories s.records.blocks at.block_there sized.blocks free at.there in
-      let first : ℕ = start_of block s.records.ranges in
-      let low = at.low in
-      let high = at.high in
-      ap (λ bs. pointer_in first pointer bs) (bytes-same block (written_bytes (covers (pointer_at pointer)) (target_byte target pointer) first) s.memories refl)
-      ∙ pointer-same first pointer target (bytes_of block s.memories) low (omega (arith, high, len)) below
+  new_same target below there free = grind (arith, nat_tests, pointer_in_block l s.records block pointer sound there, bytes_of-len, bytes-same, target_byte target pointer, pointer-same)
 
   -- another pointer of the block is
   new_beside : (p target : ℕ) → p % 8 ≡ 0 → (p == pointer) ≡ false → IsSome (block_at block s.records.blocks) → device_pointer block pointer (aimed (aims.New p block target) s) ≡ device_pointer block pointer s
   unfolding aimed
-  new_beside p target e differs there =
-      let first : ℕ = start_of block s.records.ranges in
-      ap (λ bs. pointer_in first pointer bs) (bytes-same block (written_bytes (covers (pointer_at p)) (target_byte target p) first) s.memories refl)
-      ∙ pointer-other first p pointer (target_byte target p) (bytes_of block s.memories) (above there) (apart_by p pointer e even differs)
+  new_beside p target e differs there = grind (arith, nat_tests, bytes-same, target_byte, pointer-other)
 
   -- a pointer of another block is
   new_other : (p b target : ℕ) → (b == block) ≡ false → device_pointer block pointer (aimed (aims.New p b target) s) ≡ device_pointer block pointer s
   unfolding aimed
-  new_other p b target differs = ap (λ bs. pointer_in (start_of block s.records.ranges) pointer bs)
-      (bytes-other b block (written_bytes (covers (pointer_at p)) (target_byte target p) (start_of b s.records.ranges)) s.memories differs)
+  new_other p b target differs = grind (arith, nat_tests, bytes-other)
 
   -- what is attached after an attachment of another pointer was before it
   count_other : (p b target : ℕ) → (b == block && p == pointer) ≡ false → (count_at block pointer (attached_by (aims.New p b target) s.records.attached) ≡ 0 → ⊥) → count_at block pointer s.records.attached ≡ 0 → ⊥
@@ -195,17 +140,12 @@ module _ (l : Limits) (block pointer : ℕ) (even : pointer % 8 ≡ 0) (s : Stat
   holds-again p b value more h some = h (λ none. some (count_at-attached_by block pointer (aims.Again p b) s.records.attached ∙ go (b == block) refl (p == pointer) refl none))
     where
       go : (t : Bool) → (b == block) ≡ t → (u : Bool) → (p == pointer) ≡ u → count_at block pointer s.records.attached ≡ 0 → cond (t && u) (count_at block pointer s.records.attached + 1) (count_at block pointer s.records.attached) ≡ 0
-      go true f true g none =
-          let same : count_at b p s.records.attached ≡ count_at block pointer s.records.attached = ap (λ n. count_at n p s.records.attached) (equal b block f) ∙ ap (λ n. count_at block n s.records.attached) (equal p pointer g) in
-          absurd (omega (arith, more, same, none))
-      go _ f _ g none = none
+      go t f u g none = grind (arith, nat_tests)
 
   pub holds-aim : (named : Option ℕ) (aim : Aim) (value : ℕ) → ((p : ℕ) → named ≡ Some p → p % 8 ≡ 0) → IsAttachLegal l named aim s.records → Holds block pointer value s → Holds block pointer (value_by block pointer value aim) (aimed aim s)
   unfolding aimed
   holds-aim named aims.None value evens legal h = h
-  holds-aim named (aims.New p b target) value evens legal h =
-      let bound : target < 2 ^ 42 = target_bound l s.records target bounds sound legal.3 in
-      holds-new p b target value (evens p legal.0) (omega (arith, bound)) legal.1 legal.2 h
+  holds-aim named (aims.New p b target) value evens legal h = grind (arith, nat_tests, target_bound l s.records target bounds sound legal.3, holds-new)
   holds-aim named (aims.Again p b) value evens legal h = holds-again p b value legal.3 h
   holds-aim named _ value evens legal h = absurd legal
 
@@ -213,8 +153,7 @@ module _ (l : Limits) (block pointer : ℕ) (even : pointer % 8 ≡ 0) (s : Stat
 
 attached-step : (l : Limits) (counter : Counter) (item : Item RegionClause) (queue : Option ℕ) (step : Step) (w : Records) → IsJudgedTo l (Enter counter item queue) step w → (act_step (Enter counter item queue) step w).attached ≡ w.attached
 unfolding act_step act_row with_range_changed records_after_birth
-attached-step l counter item queue (Dropped k ended) w says = absurd says
-attached-step l counter item queue _ w says = refl
+attached-step l counter item queue step w says = grind (arith, nat_tests)
 
 holds-act : (l : Limits) (n block pointer value : ℕ) (task : Task) (did : Did) (s : State) → IsWithinBounds l → AreRecordsSound l s.records → AreMemoriesSized l s → judge_step l n task s.records ≡ Ok did.step → IsAimLegal l task did s.records → enters task ≡ true
     → pointer % 8 ≡ 0 → StartsBelow block pointer (act task did s.records) → Holds block pointer value s → Holds block pointer (value_by block pointer value did.aim) (act_state task did s)

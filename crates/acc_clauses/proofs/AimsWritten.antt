@@ -1,6 +1,6 @@
 -- What the eight bytes of a pointer hold where those of a pointer are written.
-use Rattle.std.proofs.Common.{ℕ, zero, suc, ◌≡◌, ◌+◌, ◌-◌, ◌<◌, ◌≤◌, ◌^◌, refl, sym, ap, ◌∙◌, Bool, true, false, cond, List, [], ◌∷◌, ◌++◌, length, take, drop, map, Some, arith, inl, inr}
-use Rattle.std.specs.Prelude.{◌⊎◌, ◌==◌, ◌%◌, find, unwrap_or, option_map, slice_index}
+use Rattle.std.proofs.Common.{ℕ, zero, suc, ◌≡◌, ◌+◌, ◌-◌, ◌<◌, ◌≤◌, ◌^◌, refl, sym, ap, ◌∙◌, Bool, false, List, [], ◌∷◌, ◌++◌, length, take, drop, map, arith}
+use Rattle.std.specs.Prelude.{◌⊎◌, ◌==◌, slice_index}
 use Rattle.std.specs.Int.{w64, to_le_bytes, from_le_bytes}
 use Rattle.std.proofs.lemmas.Bool.Decides.{nat_tests}
 use Rattle.std.proofs.lemmas.Nat.{from_le_bytes-to_le_bytes_8}
@@ -28,20 +28,9 @@ take-written taken source a _ _ h = refl
 abbrev pub AreApart : ℕ → ℕ → Type 0
 AreApart p q = (p + 8 ≤ q) ⊎ (q + 8 ≤ p)
 
-not_covered : (p q a k : ℕ) → AreApart p q → a ≡ q → k < 8 → covers (pointer_at p) (a + k) ≡ false
-not_covered p q a k (inl h) e below = grind (arith, nat_tests)
-not_covered p q a k (inr h) e below = grind (arith, nat_tests)
-
 -- a pointer holds what it held where another is written
 pub pointer-other : (first p q : ℕ) (source : ℕ → ℕ) (bytes : List ℕ) → first ≤ q → AreApart p q → pointer_in first q (written_bytes (covers (pointer_at p)) source first bytes) ≡ pointer_in first q bytes
-pointer-other first p q source bytes low apart =
-    let at : first + (q - first) ≡ q = omega (arith, low) in
-    ap (from_le_bytes w64) (ap (take 8) (drop-written (covers (pointer_at p)) source first (q - first) bytes)
-    ∙ take-written (covers (pointer_at p)) source (first + (q - first)) 8 (drop (q - first) bytes) (λ k below. not_covered p q (first + (q - first)) k apart at below))
-
--- pointers that lie at multiples of eight
-pub apart_by : (p q : ℕ) → p % 8 ≡ 0 → q % 8 ≡ 0 → (p == q) ≡ false → AreApart p q
-apart_by p q d e differs = grind (arith, nat_tests)
+pointer-other first p q source bytes low apart = grind (arith, nat_tests, drop-written, take-written)
 
 -- ---- bytes written there
 
@@ -74,36 +63,17 @@ pointer-same first pointer target bytes low high below =
 
 -- ---- the bytes of a block
 
-abbrev bytes_found : Bool → Memory → List Memory → ℕ → List ℕ
-bytes_found t m ms block = unwrap_or (option_map (λ (x : Memory). x.bytes) (cond t (Some m) (find (λ x. x.block == block) ms))) []
-
 -- another block's are not changed
 pub bytes-other : (k block : ℕ) (f : List ℕ → List ℕ) (ms : List Memory) → (k == block) ≡ false → bytes_of block (map (memory_changed k f) ms) ≡ bytes_of block ms
 bytes-other k block f [] e = refl
-bytes-other k block f (m ∷ ms) e = go (bytes-other k block f ms e) (m.block == k) refl (m.block == block) refl
-  where
-    go : bytes_of block (map (memory_changed k f) ms) ≡ bytes_of block ms → (x : Bool) → (m.block == k) ≡ x → (y : Bool) → (m.block == block) ≡ y
-        → bytes_of block (cond x (record m { bytes = f m.bytes }) m ∷ map (memory_changed k f) ms) ≡ bytes_found y m ms block
-    go rest true d true g = absurd (grind (arith, nat_tests))
-    go rest true d false g = rw g rest
-    go rest false d true g = rw g refl
-    go rest false d false g = rw g rest
+bytes-other k block f (m ∷ ms) e = grind (arith, nat_tests, bytes-other k block f ms e)
 
 -- the block's own are, where the change leaves no bytes as they are
 pub bytes-same : (block : ℕ) (f : List ℕ → List ℕ) (ms : List Memory) → f [] ≡ [] → bytes_of block (map (memory_changed block f) ms) ≡ f (bytes_of block ms)
 bytes-same block f [] e = sym e
-bytes-same block f (m ∷ ms) e = go (bytes-same block f ms e) (m.block == block) refl
-  where
-    go : bytes_of block (map (memory_changed block f) ms) ≡ f (bytes_of block ms) → (x : Bool) → (m.block == block) ≡ x
-        → bytes_of block (cond x (record m { bytes = f m.bytes }) m ∷ map (memory_changed block f) ms) ≡ f (bytes_found x m ms block)
-    go rest true d = rw d refl
-    go rest false d = rw d rest
+bytes-same block f (m ∷ ms) e = grind (arith, nat_tests, bytes-same block f ms e)
 
 -- and those of another block that is new are not the block's
 pub bytes-push : (block : ℕ) (new : Memory) (ms : List Memory) → (new.block == block) ≡ false → bytes_of block (ms ++ new ∷ []) ≡ bytes_of block ms
 bytes-push block new [] e = rw e refl
-bytes-push block new (m ∷ ms) e = go (bytes-push block new ms e) (m.block == block)
-  where
-    go : bytes_of block (ms ++ new ∷ []) ≡ bytes_of block ms → (x : Bool) → bytes_found x m (ms ++ new ∷ []) block ≡ bytes_found x m ms block
-    go rest true = refl
-    go rest false = rest
+bytes-push block new (m ∷ ms) e = grind (arith, nat_tests, bytes-push block new ms e)

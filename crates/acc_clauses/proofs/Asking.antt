@@ -1,28 +1,23 @@
 -- What a directive asks, and the verdict that it comes to.
-use Rattle.std.proofs.Common.{ℕ, zero, suc, ◌≡◌, ◌-◌, ◌<◌, ◌≤◌, refl, sym, ap, subst, ◌∙◌, true, false, List, [], ◌∷◌, length, get_or, arith, Option, Some, None, Result, Ok, Err, inl, inr}
-use Rattle.std.specs.Prelude.{◌==◌, nat_lt, map, reverse, option_map, ok_or, ⊤, MatchResult}
+use Rattle.std.proofs.Common.{ℕ, zero, suc, ◌≡◌, ◌-◌, ◌<◌, ◌≤◌, refl, ap, subst, ◌∙◌, true, false, List, [], ◌∷◌, length, get_or, arith, Option, None, Result, Ok, Err, inl, inr}
+use Rattle.std.specs.Prelude.{nat_lt, map, reverse, ⊤, MatchResult}
 use Rattle.std.proofs.lemmas.Bool.Decides.{nat_tests}
 use Rattle.std.proofs.lemmas.List.{length-map, length-reverse, get_or-map, get_or-reverse}
 use Rattle.std.specs.List.{list_all, list_any, AllByRecursion}
-use Rattle.acc_base.specs.declared.directives.Directive.{Directive}
-use Rattle.acc_base.specs.declared.directives.Directive.TheVariants.{Enter, Exit, EnterData, ExitData, Update, Wait, Step}
-use Rattle.acc_base.specs.declared.regions.Holding.{Holding}
-use Rattle.acc_base.specs.declared.tasks.Task.{Task}
+use Rattle.acc_clauses.specs.Words.{Directive, Holding, Task, Did, Fault}
+use Rattle.acc_base.specs.declared.directives.Directive.TheVariants.{Enter, Exit, EnterData, ExitData, Update}
 use Rattle.acc_base.specs.declared.tasks.Task.TheVariants.{Leave}
-use Rattle.acc_base.specs.declared.events.Did.{Did}
-use Rattle.acc_base.specs.declared.faults.Fault.{Fault}
-use Rattle.acc_base.specs.declared.faults.Fault.TheVariants.{NoRegion}
 use Rattle.acc_base.specs.Results.{◌>>◌}
 use Rattle.acc_base.specs.Limits.{Limits}
 use Rattle.acc_base.specs.Records.{State}
-use Rattle.acc_base.specs.Register.{Region, Register, region_at}
+use Rattle.acc_base.specs.Register.{Register}
 use Rattle.acc_base.specs.Acting.{judge_all}
 use Rattle.acc_base.specs.Walk.{enter_task, enter_data_task, exit_task, move_task, leave_tasks}
 use Rattle.acc_base.specs.Queues.{queue_named}
 use Rattle.acc_base.specs.Tasks.{queue_of}
 use Rattle.acc_base.specs.Loans.{none_lent}
-use Rattle.acc_base.specs.Judge.{Verdict, item_limit, item_count, few_items, tasks_with, holdings_left, tasks_of, queue_in, transfers_in, verdict_of, directive_verdict, plan_of}
-use Rattle.acc_base.proofs.Results.{bind_ok, refused_not, then_ok, ok_same}
+use Rattle.acc_base.specs.Judge.{Verdict, item_limit, item_count, few_items, tasks_with, holdings_left, queue_in, transfers_in, verdict_of, directive_verdict, plan_of}
+use Rattle.acc_base.proofs.Results.{refused_not}
 use Rattle.acc_base.proofs.Elements.{found_has}
 use Rattle.acc_clauses.specs.Overlays.{AreUnmixed, AreQueuesNamed, enters}
 use Rattle.acc_clauses.specs.Planned.{HasFewHoldings, asked_of}
@@ -48,10 +43,7 @@ length-leave holdings = length-map (reverse holdings) Leave ∙ length-reverse h
 
 -- it undoes the last of its holdings first
 pub leave_at : (holdings : List Holding) (n : ℕ) (e : Holding) (d : Task) → n < length (leave_tasks holdings) → Leave (get_or holdings (length holdings - 1 - n) e) ≡ get_or (leave_tasks holdings) n d
-leave_at holdings n e d there =
-    let mapped : n < length (reverse holdings) = omega (arith, there, length-map (reverse holdings) Leave) in
-    let within : n < length holdings = omega (arith, there, length-leave holdings) in
-    sym (get_or-map Leave (reverse holdings) n e d mapped ∙ ap Leave (get_or-reverse holdings n e within))
+leave_at holdings n e d there = grind (arith, nat_tests, length-map, length-leave, get_or-map, get_or-reverse)
 
 -- ---- what holds of the tasks of a directive
 
@@ -67,25 +59,11 @@ tasks_fit (Exit number) holdings few held = record { few = omega (arith, held, l
 tasks_fit (EnterData items queue) holdings few held = let f = enter_data_task queue in record { few = omega (arith, few, length-map items f); unmixed = inl (all_map f items (λ x. refl)); queues = queue_map f queue items (λ x. refl) }
 tasks_fit (ExitData items finalize queue) holdings few held = let f = exit_task finalize queue in record { few = omega (arith, few, length-map items f); unmixed = inr (none_map f items (λ x. refl)); queues = queue_map f queue items (λ x. refl) }
 tasks_fit (Update items if_present queue) holdings few held = let f = move_task if_present queue in record { few = omega (arith, few, length-map items f); unmixed = inr (none_map f items (λ x. refl)); queues = queue_map f queue items (λ x. refl) }
-tasks_fit (Wait queue) holdings few held = record { few = omega arith; unmixed = inl refl; queues = tt }
-tasks_fit (Step queue) holdings few held = record { few = omega arith; unmixed = inl refl; queues = tt }
-
--- an open region that is found holds few
-few_found : (number : ℕ) (regions : List Region) (o : Option Region) (holdings : List Holding) → AllByRecursion HasFewHoldings regions → region_at number regions ≡ o → ok_or (option_map (λ (r : Region). r.holdings) o) (NoRegion number) ≡ Ok holdings → length holdings ≤ 64
-few_found number regions None holdings all is e = absurd cc
-few_found number regions (Some r) holdings all is e =
-    let few : HasFewHoldings r × ((r.number == number) ≡ true) = found_has HasFewHoldings (λ q. q.number == number) regions r all is in
-    rw (← ok_same r.holdings holdings e) few.0
+tasks_fit _ holdings few held = record { few = omega arith; unmixed = inl refl; queues = tt }
 
 -- so does the one that a directive leaves
 few_left : (d : Directive) (g : Register) (holdings : List Holding) → AllByRecursion HasFewHoldings g.regions → holdings_left d g ≡ Ok holdings → length holdings ≤ 64
-few_left (Exit number) g holdings all e = few_found number g.regions (region_at number g.regions) holdings all refl e
-few_left (Enter items) g holdings all e = rw (← ok_same [] holdings e) (omega arith)
-few_left (EnterData items queue) g holdings all e = rw (← ok_same [] holdings e) (omega arith)
-few_left (ExitData items finalize queue) g holdings all e = rw (← ok_same [] holdings e) (omega arith)
-few_left (Update items if_present queue) g holdings all e = rw (← ok_same [] holdings e) (omega arith)
-few_left (Wait queue) g holdings all e = rw (← ok_same [] holdings e) (omega arith)
-few_left (Step queue) g holdings all e = rw (← ok_same [] holdings e) (omega arith)
+few_left d g holdings all e = grind (arith, nat_tests, found_has)
 
 -- a directive that does not name too many items names few
 few_checked : (d : Directive) → few_items d ≡ Ok tt → item_count d ≤ 64
@@ -99,10 +77,7 @@ pub record IsAskedWith (d : Directive) (g : Register) (tasks : List Task) : Type
   pub are : tasks_with d holdings ≡ tasks
 
 pub asked_with : (d : Directive) (g : Register) (tasks : List Task) → asked_of d g ≡ Ok tasks → IsAskedWith d g tasks
-asked_with d g tasks e =
-    let both = then_ok (few_items d) (tasks_of d g) tasks e in
-    let with_these = bind_ok (holdings_left d g) (λ holdings. Ok (tasks_with d holdings)) tasks both.1 in
-    record { holdings = with_these.0; few = both.0; left = with_these.1; are = ok_same _ _ with_these.2 }
+asked_with d g tasks e = grind (arith, nat_tests)
 
 pub left_fit : (d : Directive) (g : Register) (holdings : List Holding) → AllByRecursion HasFewHoldings g.regions → few_items d ≡ Ok tt → holdings_left d g ≡ Ok holdings → AreTasksOf d (tasks_with d holdings)
 left_fit d g holdings all few e = tasks_fit d holdings (few_checked d few) (few_left d g holdings all e)

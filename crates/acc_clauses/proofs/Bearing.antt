@@ -1,4 +1,5 @@
 -- What a birth leaves of the parts: the block with its bytes and its range, and then the copy that is put into a queue.
+use Rattle.std.proofs.lemmas.Bool.Decides.{nat_tests}
 use Rattle.std.proofs.Common.{ℕ, ◌≡◌, ◌+◌, ◌-◌, ◌≤◌, refl, sym, ◌∙◌, ap, subst, Bool, true, false, cond, ◌&&◌, List, [], ◌∷◌, ◌++◌, length, replicate, Option, Some, None, arith}
 use Rattle.std.specs.Prelude.{IsSome, is_some, is_none}
 use Rattle.std.specs.List.{AllByRecursion, AllZip}
@@ -52,17 +53,15 @@ born_state counter item queue copied k place s = record s {
 born_ranges : (counter : Counter) (item : Item RegionClause) (queue : Option ℕ) (k : ℕ) (p q r : PresentState) → AllByRecursion (λ x. x.block ≡ k → ⊥) p.table.ranges
     → q.table ≡ with_ranges p.table (with_range (bare_range (section_of (Enter counter item queue)) k) p.table.ranges) → r.table ≡ with_ranges q.table (changed_at k (risen counter) q.table.ranges)
     → r.table.ranges ≡ with_range (born_range counter item queue k) p.table.ranges
-born_ranges counter item queue k p q r new put raised =
-    ap (λ t. t.ranges) raised ∙ (ap (λ t. changed_at k (risen counter) t.ranges) put
-    ∙ changed-with k (risen counter) (bare_range (section_of (Enter counter item queue)) k) p.table.ranges refl (recounted-section (Enter counter item queue) (bare_range (section_of (Enter counter item queue)) k)) new)
+born_ranges counter item queue k p q r new put raised = grind (arith, nat_tests, changed-with, recounted-section)
 
 some_same : (a b : ℕ) (o : Option ℕ) → o ≡ Some a → o ≡ Some b → a ≡ b
 some_same a b o e h = cc
 
 -- the block that a birth adds is the one that the definitions name
-born_block : (counter : Counter) (item : Item RegionClause) (queue : Option ℕ) (k n p q : ℕ) → k ≡ n → p ≡ q
+born_as_named : (counter : Counter) (item : Item RegionClause) (queue : Option ℕ) (k n p q : ℕ) → k ≡ n → p ≡ q
     → ◌≡◌ {A = Block} (record { number = n; place = q; len = (section_of (Enter counter item queue)).len }) (record { number = (born_range counter item queue k).block; place = p; len = (born_range counter item queue k).section.len })
-born_block counter item queue k n p q e h = rw (recounted-block (Enter counter item queue) (bare_range (section_of (Enter counter item queue)) k), recounted-section (Enter counter item queue) (bare_range (section_of (Enter counter item queue)) k), e, h) refl
+born_as_named counter item queue k n p q e h = rw (recounted-block (Enter counter item queue) (bare_range (section_of (Enter counter item queue)) k), recounted-section (Enter counter item queue) (bare_range (section_of (Enter counter item queue)) k), e, h) refl
 
 -- the marks are right with that of the new block
 born_marked : (counter : Counter) (item : Item RegionClause) (queue : Option ℕ) (k births : ℕ) (x : Environment) → k ≡ births + 1 → pins_of k x.queues.queues ≡ 0 → AllZip IsMarkOf x.device.marks x.device.blocks → AllByRecursion (λ b. b.number ≤ births) x.device.blocks → AreMarked x
@@ -85,7 +84,7 @@ born_changes counter item queue copied k place x q r e can made put ranges regio
     let new : Environment = record x { present = r; device = e } in
     let where_it_is : place ≡ made.place = some_same place made.place _ can.place_is made.place_is in
     let all : r.table.ranges ≡ with_range (born_range counter item queue k) x.present.table.ranges = born_ranges counter item queue k x.present q r can.no_range put raised in
-    let blocks : e.blocks ≡ (records_after_birth (born_range counter item queue k) place (bare_state x).records).blocks = made.blocks ∙ ap (λ b. x.device.blocks ++ b ∷ []) (born_block counter item queue k (x.device.births + 1) place made.place can.number where_it_is) in
+    let blocks : e.blocks ≡ (records_after_birth (born_range counter item queue k) place (bare_state x).records).blocks = made.blocks ∙ ap (λ b. x.device.blocks ++ b ∷ []) (born_as_named counter item queue k (x.device.births + 1) place made.place can.number where_it_is) in
     let memories : e.memories ≡ x.device.memories ++ record { block = k; bytes = bytes_made copied (section_of (Enter counter item queue)) item.clause x.host } ∷ [] =
     made.memories ∙ ap (λ n. x.device.memories ++ record { block = n; bytes = bytes_made copied (section_of (Enter counter item queue)) item.clause x.host } ∷ []) (sym can.number) in
     record {
@@ -142,28 +141,18 @@ born_memories counter item queue k place ranges attached host ms in_host new bar
 
 -- a birth leaves host memory
 born_host : (b : Bool) (o : Option ℕ) (k : ℕ) (section : Section) (attached : List Attachment) (host : List ℕ) (ms : List Memory) → host ≡ host_made (at_once o (cond b (Some (record { block = k; offset = 0; section = section; out = false })) None)) attached ms host
-born_host true None k section attached host ms = refl
-born_host false None k section attached host ms = refl
-born_host _ _ k section attached host ms = refl
+born_host b o k section attached host ms = grind (arith, nat_tests)
 
 -- a copy that is put changes the queues alone
 filled_is : (b : Bool) (o : Option ℕ) (t : Transfer) (s : State) → cond (b && is_some o) (moved_state o t s) s ≡ record s { records = record s.records { queues = queues_after o (cond b (Some t) None) s.records.queues } }
-filled_is true None t s = refl
-filled_is false None t s = refl
-filled_is _ _ t s = refl
+filled_is b o t s = grind (arith, nat_tests)
 
 -- both are the step of the birth
 born_whole : (counter : Counter) (item : Item RegionClause) (queue : Option ℕ) (k place : ℕ) (s : State) → is_within (section_of (Enter counter item queue)) (host_memory (length s.host)) ≡ true
     → AllByRecursion (λ m. m.block ≡ k → ⊥) s.memories → AllByRecursion (λ a. a.block ≡ k → ⊥) s.records.attached
     → filled_later queue item k (born_state counter item queue (copies_in item.clause && is_none queue) k place s) ≡ step_state (Enter counter item queue) (Born k place) s
 unfolding step_state act_step act_row records_after_birth
-born_whole counter item queue k place s in_host no_memory no_pointer =
-    let t : Transfer = record { block = k; offset = 0; section = section_of (Enter counter item queue); out = false } in
-    let born : State = born_state counter item queue (copies_in item.clause && is_none queue) k place s in
-    filled_is (copies_in item.clause) queue t born
-    ∙ same_state (record born { records = record born.records { queues = queues_after queue (cond (copies_in item.clause) (Some t) None) s.records.queues } }) (step_state (Enter counter item queue) (Born k place) s) refl refl
-    (born_host (copies_in item.clause) queue k (section_of (Enter counter item queue)) s.records.attached s.host s.memories)
-    (born_memories counter item queue k place s.records.ranges s.records.attached s.host s.memories in_host no_memory no_pointer)
+born_whole counter item queue k place s in_host no_memory no_pointer = search (filled_is, same_state, born_host, born_memories)
 
 -- the room of the queues that a birth takes
 born_puts : (a b : Bool) → 0 + cond (a && b) 1 0 ≤ cond (a && b) 1 0

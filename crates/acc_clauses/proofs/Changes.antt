@@ -1,12 +1,15 @@
 -- The parts were changed so: the state that they come to, and the room that was taken. And two changes, one after the other.
-use Rattle.std.proofs.Common.{ℕ, ◌≡◌, ◌+◌, ◌≤◌, refl, sym, ◌∙◌, ap, List, [], ◌++◌, length, arith, append_assoc, length-append}
+use Rattle.std.proofs.lemmas.Bool.Decides.{nat_tests}
+use Rattle.std.proofs.Common.{ℕ, ◌≡◌, ◌+◌, ◌≤◌, refl, sym, ◌∙◌, ap, List, [], ◌++◌, length, arith, append_assoc, length-append, subst}
 use Rattle.acc_base.specs.Records.{State}
 use Rattle.acc_present.specs.Present as present
 use Rattle.acc_queues.specs.Queued.{spare_at}
 use Rattle.acc_clauses.specs.declared.numbers.Numbers.{Numbers}
 use Rattle.acc_clauses.specs.declared.environments.Environment.{Environment}
-use Rattle.acc_clauses.specs.Contents.{state_of, room_of}
+use Rattle.acc_clauses.specs.Contents.{state_of, room_of, ArePartsSound}
 use Rattle.acc_clauses.specs.Acts.{IsRoomLeft, IsChangedBy}
+use Rattle.acc_base.specs.Limits.{Limits}
+use Rattle.acc_base.specs.Accounts.{AreRecordsSound, AreMemoriesSized}
 
 -- the parts come to a state that has the same fields
 pub state_by : (x : Environment) (next : Numbers) (s : State) → x.present.table.ranges ≡ s.records.ranges → x.device.blocks ≡ s.records.blocks → x.attached.attached ≡ s.records.attached → x.device.births ≡ s.records.births → x.queues.queues ≡ s.records.queues → x.device.loans ≡ s.records.loans
@@ -28,15 +31,7 @@ kept_twice a b c h k = record { ranges = omega (arith, h.ranges, k.ranges); regi
 
 -- a change that comes to the same, and takes no more room
 pub changed_to : (f g : State → State) (bs : List ℕ) (m : ℕ) (u v : ℕ → ℕ) (x y : Environment) → ((next : Numbers) → f (state_of x next) ≡ g (state_of x next)) → ((q : ℕ) → u q ≤ v q) → IsChangedBy f bs m u x y → IsChangedBy g bs m v x y
-changed_to f g bs m u v x y same less a = record {
-  state = λ next. a.state next ∙ same next;
-  counter_max = a.counter_max;
-  memory = a.memory;
-  pointer_max = a.pointer_max;
-  queue_cap = a.queue_cap;
-  room = record { births_are = a.room.births_are; ranges = a.room.ranges; regions = a.room.regions; holdings = a.room.holdings; attachments = a.room.attachments; puts = λ q. omega (arith, a.room.puts q, less q) };
-  marked = a.marked;
-}
+changed_to f g bs m u v x y same less a = grind (arith, nat_tests)
 
 -- two states with the same parts
 pub same_state : (s t : State) → s.records ≡ t.records → s.register ≡ t.register → s.host ≡ t.host → s.memories ≡ t.memories → s ≡ t
@@ -45,19 +40,15 @@ same_state s t a b c d = let e : record { records = s.records; register = s.regi
 -- two changes, of which both may take room
 pub both : (f g h : State → State) (bs cs ds : List ℕ) (m n k : ℕ) (u v w : ℕ → ℕ) (x y z : Environment) → ((next : Numbers) → g (f (state_of x next)) ≡ h (state_of x next)) → bs ++ cs ≡ ds → m + n ≡ k → ((q : ℕ) → u q + v q ≤ w q)
     → IsChangedBy f bs m u x y → IsChangedBy g cs n v y z → IsChangedBy h ds k w x z
-both f g h bs cs ds m n k u v w x y z whole births pointers puts a b = record {
-  state = λ next. b.state next ∙ (ap g (a.state next) ∙ whole next);
-  counter_max = b.counter_max ∙ a.counter_max;
-  memory = b.memory ∙ a.memory;
-  pointer_max = b.pointer_max ∙ a.pointer_max;
-  queue_cap = b.queue_cap ∙ a.queue_cap;
-  room = record {
-    births_are = a.room.births_are ∙ (ap (λ rs. bs ++ rs) b.room.births_are ∙ (sym (append_assoc bs cs (room_of z).births) ∙ ap (λ rs. rs ++ (room_of z).births) births));
-    ranges = let len : length ds ≡ length bs + length cs = ap length (sym births) ∙ length-append bs cs in omega (arith, a.room.ranges, b.room.ranges, len);
-    regions = omega (arith, a.room.regions, b.room.regions);
-    holdings = omega (arith, a.room.holdings, b.room.holdings);
-    attachments = omega (arith, a.room.attachments, b.room.attachments, pointers);
-    puts = λ q. omega (arith, a.room.puts q, b.room.puts q, puts q);
-  };
-  marked = b.marked;
+both f g h bs cs ds m n k u v w x y z whole births pointers puts a b = grind (arith, nat_tests, append_assoc, length-append)
+
+-- the parts are sound after a change that keeps the records and the memories sound, and the loans
+pub changed_sound : (l : Limits) (change : State → State) (bs : List ℕ) (m : ℕ) (u : ℕ → ℕ) (x y : Environment) (next : Numbers) → ArePartsSound l x next → IsChangedBy change bs m u x y
+    → AreRecordsSound l (change (state_of x next)).records → AreMemoriesSized l (change (state_of x next)) → (change (state_of x next)).records.loans ≡ x.device.loans → ArePartsSound l y next
+changed_sound l change bs m u x y next sound done records memories loans = record {
+  sized = record { counters = done.counter_max ∙ sound.sized.counters; device = done.memory ∙ sound.sized.device; pointers = done.pointer_max ∙ sound.sized.pointers; queues = done.queue_cap ∙ sound.sized.queues };
+  sound = record { records = subst (λ (s : State). AreRecordsSound l s.records) (sym (done.state next)) records; memories = subst (AreMemoriesSized l) (sym (done.state next)) memories };
+  marked = done.marked;
+  lent = sound.lent ∙ ap length (sym (ap (λ (s : State). s.records.loans) (done.state next) ∙ loans));
+  few = sound.few;
 }

@@ -1,28 +1,18 @@
 -- Before the tasks of a plan each that leaves a region finds what it held, and the register is ready for its directive; after them the store is sound.
-use Rattle.std.proofs.Common.{ℕ, ◌≡◌, ◌+◌, ◌<◌, ◌≤◌, ◌^◌, refl, sym, ◌∙◌, ap, subst, Bool, true, false, cond, List, [], ◌∷◌, ◌++◌, map, length, Option, Some, None, Ok, arith}
+use Rattle.std.proofs.Common.{ℕ, ◌≡◌, ◌<◌, ◌≤◌, ◌^◌, refl, sym, ◌∙◌, ap, subst, false, cond, List, [], ◌∷◌, map, length, Option, Some, Ok, arith}
 use Rattle.std.specs.Prelude.{◌==◌, reverse, option_map, IsSome, not}
 use Rattle.std.specs.List.{AllByRecursion}
 use Rattle.std.proofs.lemmas.Bool.Decides.{nat_tests}
 use Rattle.std.proofs.lemmas.Grind.{reverse_onto}
-use Rattle.std.proofs.lemmas.List.{length-append}
 use Rattle.acc_base.specs.Loans.{none_lent}
-use Rattle.acc_base.specs.declared.items.Item.{Item}
-use Rattle.acc_base.specs.declared.items.RegionClause.{RegionClause}
-use Rattle.acc_base.specs.declared.directives.Directive.{Directive}
+use Rattle.acc_clauses.specs.Words.{Item, RegionClause, Directive, Holding, Task, Did, Event}
 use Rattle.acc_base.specs.declared.directives.Directive.TheVariants as directives
-use Rattle.acc_base.specs.declared.regions.Holding.{Holding}
-use Rattle.acc_base.specs.declared.mappings.Counter.TheVariants.{Structured, Dynamic}
-use Rattle.acc_base.specs.declared.tasks.Task.{Task}
-use Rattle.acc_base.specs.declared.tasks.Task.TheVariants.{Enter, Leave, Exit, Move}
-use Rattle.acc_base.specs.declared.events.Did.{Did}
 use Rattle.acc_base.specs.Limits.{Limits, IsWithinBounds}
 use Rattle.acc_base.specs.Records.{Records, State}
-use Rattle.acc_base.specs.Register.{Region, Register, holdings_at, region_at, opened, closed, count_held, is_counted_block}
-use Rattle.acc_base.specs.Ranges.{range_of}
+use Rattle.acc_base.specs.Register.{Region, Register, holdings_at, opened, closed, count_held, is_counted_block}
 use Rattle.acc_base.specs.Blocks.{used_bytes}
 use Rattle.acc_base.specs.Steps.{act, act_all}
 use Rattle.acc_base.specs.Waits.{records_drained}
-use Rattle.acc_base.specs.declared.events.Event.{Event}
 use Rattle.acc_base.specs.Walk.{enter_task, enter_data_task, exit_task, move_task}
 use Rattle.acc_base.specs.Acting.{act_all_state}
 use Rattle.acc_base.specs.Judge.{tasks_with, holdings_left, transfers_in, Verdict, Makes, Idle, verdict_of}
@@ -34,13 +24,13 @@ use Rattle.acc_base.proofs.Sound.{ranges-drained}
 use Rattle.acc_base.proofs.AllTasks.{sum_by-reverse}
 use Rattle.acc_base.proofs.LegalEvents.{open_left}
 use Rattle.acc_base.proofs.Registers.{IsNumbered, AreFew, next_region, opened_regions, opened_few, closed_few, closed_held}
-use Rattle.acc_clauses.specs.Planned.{Planned, IsPlanOf, holding_by, holdings_by, register_by, steps_by, finished}
+use Rattle.acc_clauses.specs.Planned.{Planned, IsPlanOf, holdings_by, register_by, finished}
 use Rattle.acc_clauses.specs.Contents.{Contents}
 use Rattle.acc_clauses.specs.Acts.{IsKnown, AreKnown, HasRegionRoom, regions_entered, CanFinish}
-use Rattle.acc_clauses.specs.Stored.{IsHeldWithin, IsHoldingWithin, AreHoldingsWithin, IsStoreSound}
-use Rattle.acc_clauses.proofs.Holding.{leaves_known}
+use Rattle.acc_clauses.specs.Stored.{IsHoldingWithin, AreHoldingsWithin, IsStoreSound}
+use Rattle.acc_clauses.proofs.Holding.{leaves_known, holdings_same}
 use Rattle.acc_clauses.proofs.Entering.{regions_within, entered_within}
-use Rattle.acc_clauses.proofs.Asking.{IsAskedWith, asked_with}
+use Rattle.acc_clauses.proofs.Asking.{asked_with}
 use Rattle.acc_clauses.proofs.Events.{IsEventOf, held_asked, still, event_of_plan, planned_judged, planned_legal, idle_plan}
 use Rattle.acc_clauses.proofs.AfterPlan.{after_plan, event_sound}
 
@@ -58,11 +48,7 @@ known_map f (x ∷ xs) (d ∷ ds) w h = (h x w, known_map f xs ds (act (f x) d w
 -- what an open region holds lies within, as all holdings do
 region_within : (w : Records) (number : ℕ) (regions : List Region) (hs : List Holding) → holdings_at number regions ≡ Some hs → AreHoldingsWithin w regions → AllByRecursion (IsHoldingWithin w) hs
 region_within w number [] hs e h = cc
-region_within w number (r ∷ rs) hs e h = go (region_within w number rs hs) (r.number == number) e
-  where
-    go : (holdings_at number rs ≡ Some hs → AreHoldingsWithin w rs → AllByRecursion (IsHoldingWithin w) hs) → (t : Bool) → option_map (λ (x : Region). x.holdings) (cond t (Some r) (region_at number rs)) ≡ Some hs → AllByRecursion (IsHoldingWithin w) hs
-    go rest true q = let same : r.holdings ≡ hs = cc in subst (AllByRecursion (IsHoldingWithin w)) same h.0
-    go rest false q = rest q h.1
+region_within w number (r ∷ rs) hs e h = grind (arith, nat_tests, region_within w number rs hs)
 
 all_reverse : {X : Type 0} (P : X → Type 0) (xs : List X) → AllByRecursion P xs → AllByRecursion P (reverse xs)
 all_reverse P [] h = tt
@@ -85,15 +71,11 @@ known_with (directives.Exit number) holdings dids c bounds h left judged =
 known_with (directives.EnterData items queue) holdings dids c bounds h left judged = known_map (enter_data_task queue) items dids c.state.records (λ x v. tt)
 known_with (directives.ExitData items finalize queue) holdings dids c bounds h left judged = known_map (exit_task finalize queue) items dids c.state.records (λ x v. tt)
 known_with (directives.Update items if_present queue) holdings dids c bounds h left judged = known_map (move_task if_present queue) items dids c.state.records (λ x v. tt)
-known_with (directives.Wait queue) holdings dids c bounds h left judged = known_map enter_task [] dids c.state.records (λ x v. tt)
-known_with (directives.Step queue) holdings dids c bounds h left judged = known_map enter_task [] dids c.state.records (λ x v. tt)
+known_with _ holdings dids c bounds h left judged = known_map enter_task [] dids c.state.records (λ x v. tt)
 
 -- so does each task of a plan
 pub plan_known : (d : Directive) (c : Contents) (p : Planned) → IsWithinBounds c.limits → IsStoreSound c → IsPlanOf c.limits d c.state p → AreKnown p.tasks p.dids c.state.records
-plan_known d c p bounds h planned =
-    let is : IsAskedWith d c.state.register p.tasks = asked_with d c.state.register p.tasks planned.asked in
-    let judged : AreJudged c.limits 0 (tasks_with d is.holdings) p.dids c.state.records = subst (λ ts. AreJudged c.limits 0 ts p.dids c.state.records) (sym is.are) (planned_judged c.limits d c.state p planned) in
-    subst (λ ts. AreKnown ts p.dids c.state.records) is.are (known_with d is.holdings p.dids c bounds h is.left judged)
+plan_known d c p bounds h planned = grind (arith, nat_tests, asked_with, planned_judged, known_with)
 
 -- ---- the register
 
@@ -101,8 +83,7 @@ below_differs : (a n : ℕ) → a < n → (a == n) ≡ false
 below_differs a n h = grind (arith, nat_tests)
 
 some_region : (o : Option Region) (hs : List Holding) → option_map (λ (r : Region). r.holdings) o ≡ Some hs → IsSome o
-some_region None hs e = cc
-some_region (Some r) hs e = refl
+some_region o hs e = grind (arith, nat_tests)
 
 -- the transfers that a plan without tasks makes are of no block that is lent
 free_then : (d : Directive) (c f : Contents) (p : Planned) → IsPlanOf c.limits d c.state p → [] ≡ p.tasks → f.state ≡ act_all_state p.tasks p.dids c.state → none_lent (transfers_in d f.state.records.queues) f.state.records.loans ≡ Ok tt
@@ -117,41 +98,21 @@ plan_can (directives.Enter items) c f p h planned next room acted same regions h
       (AllByRecursion-weaker (λ (r : Region). r.number < c.state.register.next) (λ (r : Region). (r.number == c.state.register.next) ≡ false) c.state.register.regions (λ r low. below_differs r.number c.state.register.next low) h.sound.layout.register.known));
   room = record { regions_fit = omega (arith, room.regions_fit, regions); holdings_fit = omega (arith, room.holdings_fit, holdings) };
 }
-plan_can (directives.Exit number) c f p h planned next room acted same regions holdings =
-    let is : IsAskedWith (directives.Exit number) c.state.register p.tasks = asked_with (directives.Exit number) c.state.register p.tasks planned.asked in
-    rw same (some_region (region_at number c.state.register.regions) is.holdings (open_left number _ is.holdings is.left))
-plan_can (directives.EnterData items queue) c f p h planned next room acted same regions holdings = refl
-plan_can (directives.ExitData items finalize queue) c f p h planned next room acted same regions holdings = refl
-plan_can (directives.Update items if_present queue) c f p h planned next room acted same regions holdings = refl
+plan_can (directives.Exit number) c f p h planned next room acted same regions holdings = grind (arith, nat_tests)
 plan_can (directives.Wait queue) c f p h planned next room acted same regions holdings = free_then (directives.Wait queue) c f p planned (asked_with (directives.Wait queue) c.state.register p.tasks planned.asked).are acted
 plan_can (directives.Step queue) c f p h planned next room acted same regions holdings = free_then (directives.Step queue) c f p planned (asked_with (directives.Step queue) c.state.register p.tasks planned.asked).are acted
-
-one_holding : (task : Task) (did : Did) → length (holding_by task did) ≤ 1
-one_holding (Enter Structured item queue) did = omega arith
-one_holding (Enter Dynamic item queue) did = omega arith
-one_holding (Leave holding) did = omega arith
-one_holding (Exit finalize item queue) did = omega arith
-one_holding (Move if_present item queue) did = omega arith
+plan_can _ c f p h planned next room acted same regions holdings = refl
 
 -- no more is held than there are tasks
 pub holdings_few : (tasks : List Task) (dids : List Did) → length (holdings_by tasks dids) ≤ length tasks
 holdings_few [] [] = omega arith
 holdings_few [] (d ∷ ds) = omega arith
 holdings_few (t ∷ ts) [] = omega arith
-holdings_few (t ∷ ts) (d ∷ ds) =
-    let later : length (holdings_by ts ds) ≤ length ts = holdings_few ts ds in
-    let both : length (holding_by t d ++ holdings_by ts ds) ≡ length (holding_by t d) + length (holdings_by ts ds) = length-append (holding_by t d) (holdings_by ts ds) in
-    omega (arith, later, both, one_holding t d)
+holdings_few (t ∷ ts) (d ∷ ds) = grind (arith, nat_tests, holdings_few ts ds)
 
 -- what holds of a register holds after a directive, where it holds after a region's entry and after an exit
 by_register : (P : Register → Type 0) (d : Directive) (holdings : List Holding) (g : Register) → P g → ((items : List (Item RegionClause)) → d ≡ directives.Enter items → P (opened holdings g)) → ((number : ℕ) → P (closed number g)) → P (register_by d holdings g)
-by_register P (directives.Enter items) holdings g same enter exit = enter items refl
-by_register P (directives.Exit number) holdings g same enter exit = exit number
-by_register P (directives.EnterData items queue) holdings g same enter exit = same
-by_register P (directives.ExitData items finalize queue) holdings g same enter exit = same
-by_register P (directives.Update items if_present queue) holdings g same enter exit = same
-by_register P (directives.Wait queue) holdings g same enter exit = same
-by_register P (directives.Step queue) holdings g same enter exit = same
+by_register P d holdings g same enter exit = grind (arith, nat_tests)
 
 -- no region holds too much after a plan
 few_after : (d : Directive) (c : Contents) (p : Planned) → IsStoreSound c → IsPlanOf c.limits d c.state p → AreFew (register_by d (holdings_by p.tasks p.dids) c.state.register)
@@ -187,10 +148,7 @@ within_after d c p bounds h planned = by_register (λ x. AreHoldingsWithin v x.r
     asked items is = let asked = asked_with d g p.tasks planned.asked in ap (λ (x : Directive). tasks_with x asked.holdings) (sym is) ∙ asked.are
 
     entered : (items : List (Item RegionClause)) → d ≡ directives.Enter items → AllByRecursion (IsHoldingWithin v) (holdings_by p.tasks p.dids)
-    entered items is =
-        let these : AreJudged c.limits 0 (map enter_task items) p.dids w = subst (λ ts. AreJudged c.limits 0 ts p.dids w) (sym (asked items is)) judged in
-        subst (λ ts. AllByRecursion (IsHoldingWithin (act_all ts p.dids w)) (holdings_by ts p.dids)) (asked items is)
-        (subst (AllByRecursion (IsHoldingWithin (act_all (map enter_task items) p.dids w))) (held_asked items p.dids) (entered_within c.limits 0 items p.dids w bounds h.sound.layout.records these))
+    entered items is = grind (arith, nat_tests, w, asked, judged, held_asked, entered_within)
 
 -- what is done to the parts is what the plan says
 pub all_finished : (d : Directive) (p : Planned) (ts : List Task) (ds : List Did) (s t u : State) → ts ≡ p.tasks → ds ≡ p.dids → t ≡ act_all_state ts ds s → u ≡ finished d p t → u ≡ finished d p (act_all_state p.tasks p.dids s)
@@ -199,31 +157,18 @@ all_finished d p ts ds s t u a b e f = f ∙ ap (finished d p) (e ∙ ap (λ x. 
 -- ---- queued transfers leave what is held
 
 within_drained : (qs : List ℕ) (w : Records) (regions : List Region) → AreHoldingsWithin w regions → AreHoldingsWithin (records_drained qs w) regions
-within_drained qs w regions h =
-    AllByRecursion-weaker (λ (r : Region). AllByRecursion (IsHoldingWithin w) r.holdings) (λ (r : Region). AllByRecursion (IsHoldingWithin (records_drained qs w)) r.holdings) regions
-    (λ r held. AllByRecursion-weaker (IsHoldingWithin w) (IsHoldingWithin (records_drained qs w)) r.holdings (λ x p k e. one x k (p k e)) held) h
-  where
-    one : (x : Holding) (k : ℕ) → IsHeldWithin w x.item.section k → IsHeldWithin (records_drained qs w) x.item.section k
-    one x k p = record { born = subst (λ n. k ≤ n) (sym (births-drained qs w)) p.born; within = λ r e. p.within r (ap (range_of k) (sym (ranges-drained qs w)) ∙ e) }
+within_drained qs w regions h = holdings_same w (records_drained qs w) regions (ranges-drained qs w) (births-drained qs w) h
 
 -- what open regions hold lies within once a plan is finished
 within_finished : (d : Directive) (c : Contents) (p : Planned) → IsWithinBounds c.limits → IsStoreSound c → IsPlanOf c.limits d c.state p
     → AreHoldingsWithin (finished d p (act_all_state p.tasks p.dids c.state)).records (finished d p (act_all_state p.tasks p.dids c.state)).register.regions
-within_finished d c p bounds h planned =
-    let t : State = act_all_state p.tasks p.dids c.state in
-    let qs : List ℕ = steps_by d t.records.queues in
-    let after_it : Register → Register = register_by d (holdings_by p.tasks p.dids) in
-    let kept : AreHoldingsWithin t.records (after_it t.register).regions = subst (λ (g : Register). AreHoldingsWithin t.records (after_it g).regions) (sym (register-act_all_state p.tasks p.dids c.state))
-    (subst (λ w. AreHoldingsWithin w (after_it c.state.register).regions) (sym (records-act_all_state p.tasks p.dids c.state)) (within_after d c p bounds h planned)) in
-    subst (λ w. AreHoldingsWithin w (after_it t.register).regions) (sym (records-drained qs t)) (within_drained qs t.records (after_it t.register).regions kept)
+within_finished d c p bounds h planned = grind (arith, nat_tests, register-act_all_state, records-act_all_state, within_after, records-drained, within_drained)
 
 -- ---- a store is sound after a plan
 
 -- one that is as before is
 same_sound : (c f : Contents) → f.limits ≡ c.limits → f.state ≡ c.state → IsStoreSound c → IsStoreSound f
-same_sound c f limits state h =
-    let P : State → Type 0 = λ s. AreHoldingsWithin s.records s.register.regions in
-    record { sound = rw (limits, state) h.sound; holdings = subst P (sym state) h.holdings }
+same_sound c f limits state h = grind (arith, nat_tests)
 
 -- and so is one after the event of the plan
 made_sound : (d : Directive) (c f : Contents) (p : Planned) (e : Event) → IsWithinBounds c.limits → IsStoreSound c → IsPlanOf c.limits d c.state p → f.limits ≡ c.limits

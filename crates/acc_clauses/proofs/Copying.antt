@@ -1,6 +1,6 @@
 -- A copy is a part of a list that is replaced.
-use Rattle.std.proofs.Common.{ℕ, zero, suc, ◌≡◌, ◌+◌, ◌-◌, ◌<◌, ◌≤◌, refl, sym, ◌∙◌, ap, subst, Bool, true, false, cond, List, [], ◌∷◌, ◌++◌, ◌&&◌, length, take, drop, replicate, map, append-nil, arith}
-use Rattle.std.specs.Prelude.{◌==◌, slice_index}
+use Rattle.std.proofs.Common.{ℕ, zero, suc, ◌≡◌, ◌+◌, ◌-◌, ◌<◌, ◌≤◌, refl, ◌∙◌, ap, subst, true, false, List, [], ◌∷◌, ◌++◌, length, take, drop, replicate, map, append-nil, arith}
+use Rattle.std.specs.Prelude.{slice_index}
 use Rattle.std.specs.List.{AllByRecursion}
 use Rattle.std.proofs.lemmas.Bool.Decides.{nat_tests}
 use Rattle.std.proofs.lemmas.List.{get_or-take, get_or-drop, length-drop, length-take-le, length-replicate, take-append-drop}
@@ -8,8 +8,8 @@ use Rattle.acc_clauses.specs.Words.{Section, Attachment}
 use Rattle.acc_base.specs.Section.{covers, end_of, is_within, host_memory, host_base}
 use Rattle.acc_base.specs.Attachments.{is_skipped}
 use Rattle.acc_base.specs.Records.{Memory}
-use Rattle.acc_base.specs.Bytes.{written_bytes, host_byte, memory_changed, is_moved, bytes_moved_in, bytes_moved_out, host_after_write}
-use Rattle.acc_base.proofs.Results.{equal, equal_self}
+use Rattle.acc_base.specs.Bytes.{written_bytes, memory_changed, is_moved, bytes_moved_in, bytes_moved_out, host_after_write}
+use Rattle.acc_base.proofs.Results.{equal_self}
 use Rattle.acc_base.specs.Overwriting.{overwritten}
 use Rattle.acc_host.specs.Host.{bytes_in}
 
@@ -20,9 +20,6 @@ covers_not s a h = grind (arith, nat_tests)
 
 covers_before : (s : Section) (a : ℕ) → a < s.start → covers s a ≡ false
 covers_before s a h = grind (arith, nat_tests)
-
-covers_at : (s : Section) (a : ℕ) → s.start ≤ a → a < end_of s → covers s a ≡ true
-covers_at s a low high = grind (arith, nat_tests)
 
 -- these are the source's bytes from an address on
 abbrev pub IsFrom : (ℕ → ℕ) → ℕ → List ℕ → Type 0
@@ -42,9 +39,7 @@ written-within : (s : Section) (source : ℕ → ℕ) (a : ℕ) (old bytes : Lis
     → written_bytes (covers s) source a old ≡ bytes ++ drop (length bytes) old
 written-within s source a old [] low ends fits is = written-behind s source a old (omega (arith, ends))
 written-within s source a [] (byte ∷ bytes) low ends fits is = absurd (omega (arith, fits))
-written-within s source a (x ∷ xs) (byte ∷ bytes) low ends fits is =
-    let rest : written_bytes (covers s) source (suc a) xs ≡ bytes ++ drop (length bytes) xs = written-within s source (suc a) xs bytes (omega (arith, low)) (omega (arith, ends)) (omega (arith, fits)) (from_next source a byte bytes is) in
-    rw (covers_at s a low (omega (arith, ends)), rest, ← from_first source a byte bytes is) refl
+written-within s source a (x ∷ xs) (byte ∷ bytes) low ends fits is = grind (arith, nat_tests, written-within s source (suc a) xs bytes (omega (arith, low)) (omega (arith, ends)) (omega (arith, fits)) (from_next source a byte bytes is), from_first)
 
 pub written-overwritten : (s : Section) (source : ℕ → ℕ) (n a : ℕ) (old bytes : List ℕ) → a + n ≡ s.start → end_of s ≤ a + length old → length bytes ≡ s.len → IsFrom source s.start bytes
     → written_bytes (covers s) source a old ≡ overwritten n bytes old
@@ -60,11 +55,7 @@ written-overwritten s source (suc n) a (x ∷ xs) bytes at fits len is =
 
 -- no attached pointer has the address
 pub moved-clear : (s : Section) (block : ℕ) (attached : List Attachment) (a : ℕ) → is_skipped block attached a ≡ false → is_moved s block attached a ≡ covers s a
-moved-clear s block attached a e = rw e (and-true (covers s a))
-  where
-    and-true : (b : Bool) → (b && true) ≡ b
-    and-true true = refl
-    and-true false = refl
+moved-clear s block attached a e = grind (arith, nat_tests)
 
 -- ---- a part of a list
 
@@ -87,32 +78,18 @@ pub record IsPartAt (s : Section) (first size at : ℕ) : Type 0 where
   pub index_is : s.start - first ≡ at
 
 pub part_at : (s t : Section) → is_within s t ≡ true → IsPartAt s t.start t.len (s.start - t.start)
-part_at s t h =
-    let bounds : (t.start ≤ s.start) × (end_of s ≤ end_of t) = grind (arith, nat_tests) in
-    record { at_is = omega (arith, bounds.0); fits = bounds.1; index_is = refl }
+part_at s t h = grind (arith, nat_tests)
 
 from_part : (s : Section) (first : ℕ) (xs : List ℕ) → first ≤ s.start → end_of s ≤ first + length xs → IsFrom (λ a. slice_index xs (a - first)) s.start (part xs (s.start - first) s.len)
-from_part s first xs low fits k below =
-    let len : length (part xs (s.start - first) s.len) ≡ s.len = part-length xs (s.start - first) s.len (omega (arith, low, fits)) in
-    part-each xs (s.start - first) s.len k (omega (arith, below, len))
-    ∙ ap (slice_index xs) (let same : s.start - first + k ≡ s.start + k - first = omega (arith, low) in same)
+from_part s first xs low fits k below = grind (arith, nat_tests, part-length, part-each)
 
 pub moved_in : (s : Section) (host : List ℕ) (start : ℕ) (bytes : List ℕ) → is_within s (host_memory (length host)) ≡ true → is_within s (record { start = start; len = length bytes }) ≡ true
     → bytes_moved_in (covers s) host start bytes ≡ overwritten (s.start - start) (bytes_in host s) bytes
-moved_in s host start bytes in_host inside =
-    let from : IsPartAt s host_base (length host) (s.start - host_base) = part_at s (host_memory (length host)) in_host in
-    let to : IsPartAt s start (length bytes) (s.start - start) = part_at s (record { start = start; len = length bytes }) inside in
-    written-overwritten s (host_byte host) (s.start - start) start bytes (bytes_in host s) to.at_is to.fits
-    (part-length host (s.start - host_base) s.len (omega (arith, from.at_is, from.fits)))
-    (from_part s host_base host (omega (arith, from.at_is)) from.fits)
+moved_in s host start bytes in_host inside = grind (arith, nat_tests, written-overwritten, part-length, from_part)
 
 pub moved_out : (s : Section) (bytes : List ℕ) (start : ℕ) (host : List ℕ) → is_within s (host_memory (length host)) ≡ true → is_within s (record { start = start; len = length bytes }) ≡ true
     → bytes_moved_out (covers s) bytes start host ≡ overwritten (s.start - host_base) (part bytes (s.start - start) s.len) host
-moved_out s bytes start host in_host inside =
-    let to : IsPartAt s host_base (length host) (s.start - host_base) = part_at s (host_memory (length host)) in_host in
-    let from : IsPartAt s start (length bytes) (s.start - start) = part_at s (record { start = start; len = length bytes }) inside in
-    let len : length (part bytes (s.start - start) s.len) ≡ s.len = part-length bytes (s.start - start) s.len (omega (arith, from.at_is, from.fits)) in
-    written-overwritten s (λ a. slice_index bytes (a - start)) (s.start - host_base) host_base host (part bytes (s.start - start) s.len) to.at_is to.fits len (from_part s start bytes (omega (arith, from.at_is)) from.fits)
+moved_out s bytes start host in_host inside = grind (arith, nat_tests, part-length, written-overwritten, from_part)
 
 -- ---- a write of the host
 
@@ -121,10 +98,7 @@ from_all addr bytes k below = ap (slice_index bytes) (let same : k ≡ addr + k 
 
 written-none : (s : Section) (source : ℕ → ℕ) (a : ℕ) (old : List ℕ) → s.len ≡ 0 → written_bytes (covers s) source a old ≡ old
 written-none s source a [] h = refl
-written-none s source a (x ∷ xs) h = rw (covers_none s a h, written-none s source (suc a) xs h) refl
-  where
-    covers_none : (s : Section) (a : ℕ) → s.len ≡ 0 → covers s a ≡ false
-    covers_none s a h = grind (arith, nat_tests)
+written-none s source a (x ∷ xs) h = grind (arith, nat_tests, written-none s source (suc a) xs h)
 
 overwritten-none : (offset : ℕ) (host bytes : List ℕ) → length bytes ≡ 0 → overwritten offset bytes host ≡ host
 overwritten-none offset host [] e = rw (append-nil (take offset host)) (ap (λ n. take offset host ++ drop n host) (let same : offset + 0 ≡ offset = omega arith in same) ∙ take-append-drop offset host)
@@ -132,16 +106,7 @@ overwritten-none offset host (x ∷ xs) e = absurd (omega (arith, e))
 
 pub host_written : (addr : ℕ) (bytes host : List ℕ) → (0 < length bytes → is_within (record { start = addr; len = length bytes }) (host_memory (length host)) ≡ true)
     → host_after_write addr (length bytes) bytes host ≡ overwritten (addr - host_base) bytes host
-host_written addr bytes host inside = go bytes refl
-  where
-    s : Section
-    s = record { start = addr; len = length bytes }
-
-    go : (xs : List ℕ) → bytes ≡ xs → host_after_write addr (length bytes) bytes host ≡ overwritten (addr - host_base) bytes host
-    go [] e = let none : length bytes ≡ 0 = ap length e in written-none s (λ a. slice_index bytes (a - addr)) host_base host none ∙ sym (overwritten-none (addr - host_base) host bytes none)
-    go (x ∷ xs) e =
-        let to : IsPartAt s host_base (length host) (addr - host_base) = part_at s (host_memory (length host)) (inside (let len : length bytes ≡ length (x ∷ xs) = ap length e in omega (arith, len))) in
-        written-overwritten s (λ a. slice_index bytes (a - addr)) (addr - host_base) host_base host bytes to.at_is to.fits refl (from_all addr bytes)
+host_written addr bytes host inside = grind (arith, nat_tests, written-none, overwritten-none, part_at, written-overwritten, from_all)
 
 -- ---- the bytes of a new block
 
@@ -151,35 +116,17 @@ drop-replicate (suc n) fill = drop-replicate n fill
 
 -- a new block that is copied whole has the host's bytes, whatever filled it
 pub born_copied : (s : Section) (start fill : ℕ) (host : List ℕ) → is_within s (host_memory (length host)) ≡ true → start ≡ s.start → bytes_moved_in (covers s) host start (replicate s.len fill) ≡ bytes_in host s
-born_copied s start fill host in_host e =
-    let len : length (replicate s.len fill) ≡ s.len = length-replicate s.len fill in
-    let from : IsPartAt s host_base (length host) (s.start - host_base) = part_at s (host_memory (length host)) in_host in
-    let bytes_len : length (bytes_in host s) ≡ s.len = part-length host (s.start - host_base) s.len (omega (arith, from.at_is, from.fits)) in
-    let whole : is_within s (record { start = start; len = length (replicate s.len fill) }) ≡ true = rw (e, len) (grind (arith, nat_tests)) in
-    moved_in s host start (replicate s.len fill) in_host whole
-    ∙ (ap (λ n. overwritten n (bytes_in host s) (replicate s.len fill)) (let same : s.start - start ≡ 0 = omega (arith, e) in same)
-    ∙ (ap (λ n. bytes_in host s ++ drop n (replicate s.len fill)) (let same : 0 + length (bytes_in host s) ≡ s.len = omega (arith, bytes_len) in same)
-    ∙ (ap (λ xs. bytes_in host s ++ xs) (drop-replicate s.len fill) ∙ append-nil (bytes_in host s))))
+born_copied s start fill host in_host e = grind (arith, nat_tests, length-replicate, part_at, part-length, moved_in, drop-replicate, append-nil)
 
 -- ---- memories
 
 -- only the block's memory matters
 pub changed-same : (block : ℕ) (f g : List ℕ → List ℕ) (memories : List Memory) → AllByRecursion (λ m. m.block ≡ block → f m.bytes ≡ g m.bytes) memories → map (memory_changed block f) memories ≡ map (memory_changed block g) memories
 changed-same block f g [] h = refl
-changed-same block f g (m ∷ ms) h = go (m.block == block) refl (changed-same block f g ms h.1)
-  where
-    go : (b : Bool) → (m.block == block) ≡ b → map (memory_changed block f) ms ≡ map (memory_changed block g) ms
-        → cond b (record m { bytes = f m.bytes }) m ∷ map (memory_changed block f) ms ≡ cond b (record m { bytes = g m.bytes }) m ∷ map (memory_changed block g) ms
-    go true e rest = rw (h.0 (equal m.block block e), rest) refl
-    go false e rest = ap (λ xs. m ∷ xs) rest
+changed-same block f g (m ∷ ms) h = grind (arith, nat_tests, changed-same block f g ms h.1)
 
 -- a new block's memory is the last one
 pub changed-last : (block : ℕ) (f : List ℕ → List ℕ) (bytes : List ℕ) (memories : List Memory) → AllByRecursion (λ m. m.block ≡ block → ⊥) memories
     → map (memory_changed block f) (memories ++ record { block = block; bytes = bytes } ∷ []) ≡ memories ++ record { block = block; bytes = f bytes } ∷ []
 changed-last block f bytes [] h = rw (equal_self block) refl
-changed-last block f bytes (m ∷ ms) h = go (m.block == block) refl (changed-last block f bytes ms h.1)
-  where
-    go : (b : Bool) → (m.block == block) ≡ b → map (memory_changed block f) (ms ++ record { block = block; bytes = bytes } ∷ []) ≡ ms ++ record { block = block; bytes = f bytes } ∷ []
-        → cond b (record m { bytes = f m.bytes }) m ∷ map (memory_changed block f) (ms ++ record { block = block; bytes = bytes } ∷ []) ≡ m ∷ ms ++ record { block = block; bytes = f bytes } ∷ []
-    go true e rest = absurd (h.0 (equal m.block block e))
-    go false e rest = ap (λ xs. m ∷ xs) rest
+changed-last block f bytes (m ∷ ms) h = grind (arith, nat_tests, changed-last block f bytes ms h.1)

@@ -1,5 +1,6 @@
 -- A step and an attachment or a detachment, one after the other.
-use Rattle.std.proofs.Common.{ℕ, ◌≡◌, refl, ap, [], Option, arith, append-nil, Bool, inl, inr, subst, sym}
+use Rattle.std.proofs.lemmas.Bool.Decides.{nat_tests}
+use Rattle.std.proofs.Common.{ℕ, ◌≡◌, refl, ap, [], Option, arith, append-nil, Bool, subst, sym}
 use Rattle.std.specs.Prelude.{◌⊎◌}
 use Rattle.acc_clauses.specs.Words.{Item, ExitClause, UpdateClause, Holding, Task, Did, Step, Aim}
 use Rattle.acc_base.specs.declared.tasks.Task.TheVariants.{Enter, Leave, Exit, Move}
@@ -15,15 +16,12 @@ use Rattle.acc_clauses.proofs.Changes.{both}
 
 -- the task is no entry
 pub not_entry : (task : Task) → ((h : Holding) × (task ≡ Leave h)) ⊎ ((finalize : Bool) × (item : Item ExitClause) × (queue : Option ℕ) × (task ≡ Exit finalize item queue)) ⊎ ((if_present : Bool) × (item : Item UpdateClause) × (queue : Option ℕ) × (task ≡ Move if_present item queue)) → IsEnter task → ⊥
-not_entry task (inl h) entry = rw h.1 at entry
-not_entry task (inr (inl h)) entry = rw h.3 at entry
-not_entry task (inr (inr h)) entry = rw h.3 at entry
+not_entry task h1 entry = grind (arith, nat_tests)
 
 -- entry attaches after its step
 enter_whole : (task : Task) (did : Did) (s : State) → IsEnter task → aimed did.aim (step_state task did.step s) ≡ act_state task did s
 unfolding act_state
-enter_whole (Enter counter item queue) did s entry = refl
-enter_whole _ did s entry = absurd entry
+enter_whole task did s entry = grind (arith, nat_tests)
 
 pub entry_done : (task : Task) (did : Did) (x y z : Environment) → IsEnter task → IsActedBy task did.step x y → IsAimedBy did.aim y z → IsDoneBy task did x z
 entry_done task did x y z entry acted aims = both (step_state task did.step) (aimed did.aim) (act_state task did) (birth_of task did.step) [] (birth_of task did.step) 0 (pointers_of did.aim) (pointers_of did.aim) (λ q. puts_by q task did.step) (λ q. 0) (λ q. puts_by q task did.step) x y z
@@ -32,8 +30,7 @@ entry_done task did x y z entry acted aims = both (step_state task did.step) (ai
 -- and exit detaches before it
 leave_whole : (task : Task) (did : Did) (s : State) → (IsEnter task → ⊥) → step_state task did.step (aimed did.aim s) ≡ act_state task did s
 unfolding act_state
-leave_whole (Enter counter item queue) did s other = absurd (other tt)
-leave_whole _ did s other = refl
+leave_whole task did s other = grind (arith, nat_tests)
 
 pub leaves : (task : Task) (did : Did) (x y z : Environment) → (IsEnter task → ⊥) → IsAimedBy did.aim x y → IsActedBy task did.step y z → IsDoneBy task did x z
 leaves task did x y z other aims acted = both (aimed did.aim) (step_state task did.step) (act_state task did) [] (birth_of task did.step) (birth_of task did.step) (pointers_of did.aim) 0 (pointers_of did.aim) (λ q. 0) (λ q. puts_by q task did.step) (λ q. puts_by q task did.step) x y z
@@ -51,8 +48,7 @@ step_after task did x y other can aims =
     (subst (CanAct x.present.table.counter_max x.device.memory task did.step) (sym (aims.state bare_numbers)) (go task other can)))
   where
     go : (t : Task) → (IsEnter t → ⊥) → CanDo x t did → CanAct x.present.table.counter_max x.device.memory t did.step (aimed did.aim (bare_state x))
-    go (Enter counter item queue) enters can = absurd (enters tt)
-    go _ enters can = can.step
+    go t enters can = grind (arith, nat_tests)
 
 -- what an attachment or a detachment leaves of the queues, and of the room in them
 pub queues_kept : (aim : Aim) (task : Task) (step : Step) (x y : Environment) → IsAimedBy aim x y → CanQueue task step x → CanQueue task step y
@@ -74,9 +70,7 @@ puts_kept aim puts x y h room q = omega (arith, h.room.puts q, room q)
 
 -- what a task can do has room in its queue
 pub do_needed : (x : Environment) (task : Task) (did : Did) → CanDo x task did → CanNeed task did.step x
-do_needed x (Enter counter item queue) did can = can.needed
-do_needed x _ did can = can.needed
+do_needed x task did can = grind (arith, nat_tests)
 
 pub do_queue : (x : Environment) (task : Task) (did : Did) → CanDo x task did → CanQueue task did.step x
-do_queue x (Enter counter item queue) did can = can.queue
-do_queue x _ did can = can.queue
+do_queue x task did can = grind (arith, nat_tests)

@@ -1,8 +1,8 @@
 -- The births and ends that a draft notes, after one more task.
+use Rattle.std.proofs.lemmas.Bool.Decides.{nat_tests}
 use Rattle.std.proofs.Common.{ℕ, ◌≡◌, ◌+◌, ◌<◌, ◌≤◌, refl, sym, ap, ◌∙◌, true, false, List, [], ◌∷◌, ◌++◌, length, arith}
 use Rattle.std.proofs.lemmas.List.{append-nil, append_assoc, length-append}
 use Rattle.acc_clauses.specs.Words.{Task, Aim, Step}
-use Rattle.acc_base.specs.declared.events.Step.TheVariants.{Nothing, Dropped}
 use Rattle.acc_clauses.specs.declared.acted.Acted.{Acted}
 use Rattle.acc_clauses.specs.Overlays.{IsDraft, birth_by, births_of, end_by, ended_of, with_aim}
 
@@ -22,12 +22,10 @@ pub ended_of-push : (xs : List Acted) (x : Acted) → ended_of (xs ++ x ∷ []) 
 ended_of-push xs x = ended_of-append xs (x ∷ []) ∙ ap (λ ps. ended_of xs ++ ps) (append-nil (end_by x.did.step))
 
 length-birth_by : (task : Task) (step : Step) → length (birth_by task step) ≤ 1
-length-birth_by task Nothing = omega arith
-length-birth_by task _ = omega arith
+length-birth_by task step = grind (arith, nat_tests)
 
 length-end_by : (step : Step) → length (end_by step) ≤ 1
-length-end_by (Dropped b true) = omega arith
-length-end_by _ = omega arith
+length-end_by step = grind (arith, nat_tests)
 
 -- a task bears one block at most
 pub length-births_of : (xs : List Acted) → length (births_of xs) ≤ length xs
@@ -42,18 +40,10 @@ length-ended_of (x ∷ xs) = omega (arith, length-ended_of xs, length-end_by x.d
 -- a draft with one more task
 pub drafted : (xs : List Acted) (x : Acted) (births births' : List (ℕ × ℕ)) (ended ended' : List ℕ) (step : Step) → IsDraft xs births ended → length xs < 64 → x.did.step ≡ step
     → births' ≡ births ++ birth_by x.task step → ended' ≡ ended ++ end_by step → IsDraft (xs ++ x ∷ []) births' ended'
-drafted xs x births births' ended ended' step draft few is b e = record {
-  births_are = b ∙ (ap (λ ps. ps ++ birth_by x.task step) draft.births_are ∙ (ap (λ t. births_of xs ++ birth_by x.task t) (sym is) ∙ sym (births_of-push xs x)));
-  ended_are = e ∙ (ap (λ ps. ps ++ end_by step) draft.ended_are ∙ (ap (λ t. ended_of xs ++ end_by t) (sym is) ∙ sym (ended_of-push xs x)));
-  few = omega (arith, length-append xs (x ∷ []));
-}
+drafted xs x births births' ended ended' step draft few is b e = grind (arith, nat_tests, births_of-push, ended_of-push, length-append)
 
 -- its births and ends are those of its steps, whatever became of the last pointer
 pub drafted_aimed : (xs : List Acted) (x : Acted) (aim : Aim) (births : List (ℕ × ℕ)) (ended : List ℕ) → IsDraft (xs ++ x ∷ []) births ended → IsDraft (xs ++ with_aim aim x ∷ []) births ended
-drafted_aimed xs x aim births ended draft = record {
-  births_are = draft.births_are ∙ (births_of-push xs x ∙ sym (births_of-push xs (with_aim aim x)));
-  ended_are = draft.ended_are ∙ (ended_of-push xs x ∙ sym (ended_of-push xs (with_aim aim x)));
-  few = omega (arith, draft.few, length-append xs (x ∷ []), length-append xs (with_aim aim x ∷ []));
-}
+drafted_aimed xs x aim births ended draft = grind (arith, nat_tests, births_of-push, ended_of-push, length-append)
 
 pub ruleset tally_laws = (births_of-push, ended_of-push, length-births_of, length-ended_of, append-nil)

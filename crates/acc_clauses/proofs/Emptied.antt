@@ -1,12 +1,13 @@
 -- Queues that are emptied one after the other, from the first to the last.
-use Rattle.std.proofs.Common.{ℕ, zero, suc, ◌≡◌, ◌+◌, ◌≤◌, refl, sym, ◌∙◌, ap, List, [], ◌∷◌, ◌++◌, length, drop, replicate, Option, Some, None, add-one, arith, length-append}
+use Rattle.std.proofs.lemmas.Bool.Decides.{nat_tests}
+use Rattle.std.proofs.Common.{ℕ, zero, suc, ◌≡◌, ◌+◌, ◌≤◌, refl, sym, ◌∙◌, ap, List, [], ◌∷◌, ◌++◌, length, drop, replicate, add-one, arith, length-append}
 use Rattle.std.specs.Prelude.{slice_set}
 use Rattle.std.proofs.lemmas.List.{drop_all, length-replicate}
 use Rattle.acc_base.specs.declared.transfers.Transfer.{Transfer}
 use Rattle.acc_base.specs.Records.{State}
-use Rattle.acc_base.specs.Queues.{queue_at, head_of}
+use Rattle.acc_base.specs.Queues.{queue_at}
 use Rattle.acc_base.specs.Steps.{released}
-use Rattle.acc_base.specs.Waits.{state_made, stepped, drained, steps_from}
+use Rattle.acc_base.specs.Waits.{stepped, drained, steps_from}
 
 -- ---- one queue
 
@@ -40,11 +41,7 @@ drop-set _ _ x = refl
 -- a step of a queue leaves the queues behind it
 later-stepped : (q : ℕ) (s : State) → drop (suc q) (stepped q s).records.queues ≡ drop (suc q) s.records.queues
 unfolding stepped released
-later-stepped q s = go (head_of q s.records.queues)
-  where
-    go : (o : Option Transfer) → drop (suc q) (state_made q o s).records.queues ≡ drop (suc q) s.records.queues
-    go None = refl
-    go (Some t) = drop-set s.records.queues q (drop 1 (queue_at q s.records.queues))
+later-stepped q s = grind (arith, nat_tests, drop-set)
 
 -- so do many
 pub later-drained : (q n : ℕ) (s : State) → drop (suc q) (drained (replicate n q) s).records.queues ≡ drop (suc q) s.records.queues
@@ -62,13 +59,7 @@ steps-split _ q _ = refl
 
 -- once a queue is emptied, those behind it are left
 pub rest_drained : (q : ℕ) (s t u : State) → t ≡ drained (replicate (length (queue_at q s.records.queues)) q) s → drained (steps_from q (drop q s.records.queues)) s ≡ u → drained (steps_from (q + 1) (drop (q + 1) t.records.queues)) t ≡ u
-rest_drained q s t u e h =
-    let n : ℕ = length (queue_at q s.records.queues) in
-    let split : drained (steps_from q (drop q s.records.queues)) s ≡ drained (steps_from (suc q) (drop (suc q) s.records.queues)) (drained (replicate n q) s) =
-    ap (λ qs. drained qs s) (steps-split q q s.records.queues) ∙ drained-append (replicate n q) (steps_from (suc q) (drop (suc q) s.records.queues)) s in
-    let after : drained (steps_from (suc q) (drop (suc q) t.records.queues)) t ≡ drained (steps_from (suc q) (drop (suc q) s.records.queues)) (drained (replicate n q) s) =
-    ap (λ (x : State). drained (steps_from (suc q) (drop (suc q) x.records.queues)) x) e ∙ ap (λ queues. drained (steps_from (suc q) queues) (drained (replicate n q) s)) (later-drained q n s) in
-    ap (λ m. drained (steps_from m (drop m t.records.queues)) t) (add-one q) ∙ after ∙ sym split ∙ h
+rest_drained q s t u e h = grind (arith, nat_tests, steps-split, drained-append, later-drained, add-one)
 
 -- behind the last one nothing is left
 pub all_drained : (q : ℕ) (s u : State) → length s.records.queues ≤ q → drained (steps_from q (drop q s.records.queues)) s ≡ u → s ≡ u
@@ -78,16 +69,7 @@ all_drained q s u h e = let none : drop q s.records.queues ≡ [] = drop_all q s
 -- ---- how many wait
 
 pub more_wait : (q count here all : ℕ) (queues : List (List Transfer)) → here ≡ length (queue_at q queues) → count + length (steps_from q (drop q queues)) ≡ all → count + here + length (steps_from (q + 1) (drop (q + 1) queues)) ≡ all
-more_wait q count here all queues h e =
-    let n : ℕ = length (queue_at q queues) in
-    let rest : List ℕ = steps_from (suc q) (drop (suc q) queues) in
-    let split : length (steps_from q (drop q queues)) ≡ length (replicate n q) + length rest = ap length (steps-split q q queues) ∙ length-append (replicate n q) rest in
-    let first : length (replicate n q) ≡ n = length-replicate n q in
-    let same : length (steps_from (q + 1) (drop (q + 1) queues)) ≡ length rest = ap (λ m. length (steps_from m (drop m queues))) (add-one q) in
-    omega arith
+more_wait q count here all queues h e = grind (arith, nat_tests, steps-split, length-append, length-replicate)
 
 pub all_wait : (q count all : ℕ) (queues : List (List Transfer)) → length queues ≤ q → count + length (steps_from q (drop q queues)) ≡ all → count ≡ all
-all_wait q count all queues h e =
-    let none : drop q queues ≡ [] = drop_all q queues h in
-    let same : length (steps_from q (drop q queues)) ≡ 0 = rw none refl in
-    omega arith
+all_wait q count all queues h e = grind (arith, nat_tests, drop_all)

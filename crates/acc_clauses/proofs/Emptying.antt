@@ -1,15 +1,15 @@
 -- While a queue is emptied, none of the transfers that are left is of a block that is lent.
-use Rattle.std.proofs.Common.{ℕ, zero, suc, ◌+◌, ◌≡◌, refl, sym, ◌∙◌, ap, subst, List, [], ◌∷◌, Option, Some, None, Ok, take, drop, replicate, add-one, false}
-use Rattle.std.specs.Prelude.{slice_get, slice_set}
+use Rattle.std.proofs.lemmas.Bool.Decides.{nat_tests}
+use Rattle.std.proofs.Common.{ℕ, zero, suc, ◌+◌, ◌≡◌, refl, sym, ◌∙◌, ap, List, [], ◌∷◌, Some, Ok, take, drop, replicate, false, arith}
+use Rattle.std.specs.Prelude.{slice_set}
 use Rattle.std.specs.List.{flat_map}
 use Rattle.acc_clauses.specs.Words.{Loan, Transfer}
 use Rattle.acc_base.specs.Loans.{is_lent, not_lent, none_lent}
 use Rattle.acc_base.specs.Queues.{queue_at, head_of, popped}
 use Rattle.acc_base.specs.Records.{Records, State}
 use Rattle.acc_base.specs.Steps.{released}
-use Rattle.acc_base.specs.Waits.{state_made, stepped, drained}
+use Rattle.acc_base.specs.Waits.{stepped, drained}
 use Rattle.acc_base.proofs.Results.{then_ok}
-use Rattle.acc_base.proofs.Judged.{not_lent_says}
 use Rattle.acc_base.proofs.Walked.{records-drained}
 use Rattle.acc_base.proofs.Loaned.{loans-drained}
 use Rattle.acc_clauses.proofs.Emptied.{later-drained}
@@ -30,13 +30,7 @@ free-first (t ∷ ts) loans h = rw (then_ok (not_lent (Some t.block) loans) (non
 
 -- the first transfer of a queue is not of a block that is lent
 pub first_free : (q : ℕ) (queues : List (List Transfer)) (loans : List Loan) (t : Transfer) → head_of q queues ≡ Some t → none_lent (take 1 (queue_at q queues)) loans ≡ Ok tt → is_lent t.block loans ≡ false
-first_free q queues loans t = go (queue_at q queues)
-  where
-    go : (ts : List Transfer) → slice_get ts 0 ≡ Some t → AreFree (take 1 ts) loans → is_lent t.block loans ≡ false
-    go [] first free = cc
-    go (x ∷ ts) first free =
-        let same : x ≡ t = cc in
-        subst (λ (y : Transfer). is_lent y.block loans ≡ false) same (not_lent_says x.block loans (then_ok (not_lent (Some x.block) loans) (none_lent [] loans) tt free).0)
+first_free q queues loans t = grind (arith, nat_tests)
 
 -- ---- a queue after some of its steps
 
@@ -49,17 +43,9 @@ queue-set queues q = go queues q (drop 1 (queue_at q queues)) refl
     go (x ∷ xs) zero ts e = refl
     go (x ∷ xs) (suc i) ts e = go xs i ts e
 
-none_first : (ts : List Transfer) → slice_get ts 0 ≡ None → ts ≡ drop 1 ts
-none_first [] e = refl
-none_first (t ∷ ts) e = cc
-
 queue-stepped : (q : ℕ) (s : State) → queue_at q (stepped q s).records.queues ≡ drop 1 (queue_at q s.records.queues)
 unfolding stepped released
-queue-stepped q s = go (head_of q s.records.queues) refl
-  where
-    go : (o : Option Transfer) → head_of q s.records.queues ≡ o → queue_at q (state_made q o s).records.queues ≡ drop 1 (queue_at q s.records.queues)
-    go None e = none_first (queue_at q s.records.queues) e
-    go (Some t) e = queue-set s.records.queues q
+queue-stepped q s = grind (arith, nat_tests, queue-set)
 
 drop-one : (n : ℕ) (ts : List Transfer) → drop n (drop 1 ts) ≡ drop (suc n) ts
 drop-one zero [] = refl
@@ -76,10 +62,7 @@ same_loans qs s = ap (λ (w : Records). w.loans) (records-drained qs s) ∙ loan
 
 -- the next step of a queue makes a transfer whose block is not lent, where none that waited there is of such a block
 pub next_free : (q n : ℕ) (s t : State) → none_lent (queue_at q s.records.queues) s.records.loans ≡ Ok tt → t ≡ drained (replicate n q) s → none_lent (take 1 (queue_at q t.records.queues)) t.records.loans ≡ Ok tt
-next_free q n s t free e =
-    let left : AreFree (take 1 (drop n (queue_at q s.records.queues))) s.records.loans = free-first (drop n (queue_at q s.records.queues)) s.records.loans (free-drop n (queue_at q s.records.queues) s.records.loans free) in
-    let at : AreFree (take 1 (queue_at q (drained (replicate n q) s).records.queues)) (drained (replicate n q) s).records.loans = rw (queue-drained q n s, same_loans (replicate n q) s) left in
-    subst (λ (x : State). AreFree (take 1 (queue_at q x.records.queues)) x.records.loans) (sym e) at
+next_free q n s t free e = grind (arith, nat_tests, free-first, free-drop, queue-drained, same_loans)
 
 -- ---- all queues
 
@@ -92,7 +75,4 @@ queue_free q s h = (split_free q s.records.queues s.records.loans h).0
 
 -- once a queue is emptied, those behind it are as free as before
 pub rest_free : (q n : ℕ) (s t : State) → none_lent (flat_map (λ ts. ts) (drop q s.records.queues)) s.records.loans ≡ Ok tt → t ≡ drained (replicate n q) s → none_lent (flat_map (λ ts. ts) (drop (q + 1) t.records.queues)) t.records.loans ≡ Ok tt
-rest_free q n s t h e =
-    let behind : AreFree (flat_map (λ ts. ts) (drop (suc q) s.records.queues)) s.records.loans = (split_free q s.records.queues s.records.loans h).1 in
-    let after : AreFree (flat_map (λ ts. ts) (drop (suc q) (drained (replicate n q) s).records.queues)) (drained (replicate n q) s).records.loans = rw (later-drained q n s, same_loans (replicate n q) s) behind in
-    subst (λ m. AreFree (flat_map (λ ts. ts) (drop m t.records.queues)) t.records.loans) (sym (add-one q)) (subst (λ (x : State). AreFree (flat_map (λ ts. ts) (drop (suc q) x.records.queues)) x.records.loans) (sym e) after)
+rest_free q n s t h e = grind (arith, nat_tests, split_free q s.records.queues s.records.loans h, later-drained q n s, same_loans (replicate n q) s)

@@ -1,10 +1,10 @@
 -- What the end of a mapping leaves of the parts: the copy to host memory, and then the range and the block.
+use Rattle.std.proofs.lemmas.Bool.Decides.{nat_tests}
 use Rattle.std.proofs.Common.{ℕ, ◌≡◌, ◌≤◌, refl, sym, ◌∙◌, ap, Bool, true, false, cond, List, [], Option, Some, None, arith}
 use Rattle.std.specs.Prelude.{IsSome, is_none}
 use Rattle.std.specs.List.{AllZip}
 use Rattle.acc_base.specs.Loans.{is_lent}
 use Rattle.acc_clauses.specs.Words.{Range, Task, Transfer}
-use Rattle.acc_base.specs.declared.tasks.Task.TheVariants.{Enter}
 use Rattle.acc_base.specs.declared.events.Step.TheVariants.{Dropped}
 use Rattle.acc_base.specs.Records.{Records, State}
 use Rattle.acc_base.specs.Ranges.{range_of, changed_at, without_range, ends_by}
@@ -30,41 +30,29 @@ use Rattle.acc_clauses.specs.Acts.{CanCount, CanDrop, IsEnter, given_state, move
 use Rattle.acc_clauses.proofs.Changes.{state_by, room_same, kept_twice, both}
 use Rattle.acc_clauses.proofs.Marked.{IsMarkAt, mark_told, marks_ended, marks_gone}
 use Rattle.acc_clauses.proofs.Putting.{unused, used_pinned}
-use Rattle.acc_clauses.proofs.Steps.{is_some, without-changed}
+use Rattle.acc_clauses.proofs.Steps.{without-changed}
 
 -- ---- after the copy to host memory
 
--- the copy changes no range and no block
-given_ranges : (task : Task) (k : ℕ) (s : State) → (given_state task k s).records.ranges ≡ s.records.ranges
-given_ranges task k s = go (gives_bytes task)
-  where
-    go : (b : Bool) → (cond b (moved_state (queue_of task) (transfer_at task k s.records.ranges) s) s).records.ranges ≡ s.records.ranges
-    go true = refl
-    go false = refl
-
-given_loans : (task : Task) (k : ℕ) (s : State) → (given_state task k s).records.loans ≡ s.records.loans
-given_loans task k s = go (gives_bytes task)
-  where
-    go : (b : Bool) → (cond b (moved_state (queue_of task) (transfer_at task k s.records.ranges) s) s).records.loans ≡ s.records.loans
-    go true = refl
-    go false = refl
-
-given_blocks : (task : Task) (k : ℕ) (s : State) → (given_state task k s).records.blocks ≡ s.records.blocks
-given_blocks task k s = go (gives_bytes task)
-  where
-    go : (b : Bool) → (cond b (moved_state (queue_of task) (transfer_at task k s.records.ranges) s) s).records.blocks ≡ s.records.blocks
-    go true = refl
-    go false = refl
+-- what the copy leaves, whether there is one or not
+given_is : (b : Bool) (o : Option ℕ) (t : Transfer) (s : State) → cond b (moved_state o t s) s ≡ record s {
+  records = record s.records { queues = queues_after o (cond b (Some t) None) s.records.queues };
+  host = host_made (at_once o (cond b (Some t) None)) s.records.attached s.memories s.host;
+  memories = memories_made (at_once o (cond b (Some t) None)) s.records.attached s.host s.memories;
+}
+given_is b o t s = grind (arith, nat_tests)
 
 pub same_ranges : (task : Task) (k : ℕ) (x y : Environment) → IsGivenBy task k x y → y.present.table.ranges ≡ x.present.table.ranges
-same_ranges task k x y given = ap (λ (s : State). s.records.ranges) (given.state bare_numbers) ∙ given_ranges task k (bare_state x)
+same_ranges task k x y given = ap (λ (s : State). s.records.ranges) (given.state bare_numbers ∙ given_is (gives_bytes task) (queue_of task) (transfer_at task k x.present.table.ranges) (bare_state x))
 
 pub same_blocks : (task : Task) (k : ℕ) (x y : Environment) → IsGivenBy task k x y → y.device.blocks ≡ x.device.blocks
-same_blocks task k x y given = ap (λ (s : State). s.records.blocks) (given.state bare_numbers) ∙ given_blocks task k (bare_state x)
+same_blocks task k x y given = ap (λ (s : State). s.records.blocks) (given.state bare_numbers ∙ given_is (gives_bytes task) (queue_of task) (transfer_at task k x.present.table.ranges) (bare_state x))
 
 -- no block more is lent
 pub same_loans : (task : Task) (k : ℕ) (x y : Environment) → IsGivenBy task k x y → is_lent k x.device.loans ≡ false → is_lent k y.device.loans ≡ false
-same_loans task k x y given free = let same : y.device.loans ≡ x.device.loans = ap (λ (s : State). s.records.loans) (given.state bare_numbers) ∙ given_loans task k (bare_state x) in rw same free
+same_loans task k x y given free =
+    let same : y.device.loans ≡ x.device.loans = ap (λ (s : State). s.records.loans) (given.state bare_numbers ∙ given_is (gives_bytes task) (queue_of task) (transfer_at task k x.present.table.ranges) (bare_state x)) in
+    rw same free
 
 -- the range is there still
 pub range_there : (task : Task) (k : ℕ) (ended : Bool) (x y : Environment) (can : CanDrop task k ended (bare_state x)) → IsGivenBy task k x y → range_of k y.present.table.ranges ≡ Some can.move.range
@@ -76,15 +64,14 @@ range_ends task k ended x y can given = ap (ends_by (recounted task) k) (same_ra
 
 -- a task that does not enter raises no counter
 pub falls : (most : ℕ) (task : Task) (k : ℕ) (ranges : List Range) (r : Range) → (IsEnter task → ⊥) → range_of k ranges ≡ Some r → CanCount most task k ranges
-falls most (Enter counter item queue) k ranges r other is = absurd (other tt)
-falls most _ k ranges r other is = record { there = is_some (range_of k ranges) r is; below = tt }
+falls most task k ranges r other is = grind (arith, nat_tests)
 
-pub block_there : (task : Task) (k : ℕ) (ended : Bool) (x y : Environment) → CanDrop task k ended (bare_state x) → IsGivenBy task k x y → IsSome (block_at k y.device.blocks)
-block_there task k ended x y can given = rw (same_blocks task k x y given) can.move.there
+pub end_there : (task : Task) (k : ℕ) (ended : Bool) (x y : Environment) → CanDrop task k ended (bare_state x) → IsGivenBy task k x y → IsSome (block_at k y.device.blocks)
+end_there task k ended x y can given = rw (same_blocks task k x y given) can.move.there
 
 -- the block has a mark, by which its mapping has not ended
 pub end_mark : (task : Task) (k : ℕ) (ended : Bool) (x y : Environment) → CanDrop task k ended (bare_state x) → IsGivenBy task k x y → AllZip IsMarkOf y.device.marks y.device.blocks → IsMarkAt y.present.table.ranges y.queues.queues y.device.marks k
-end_mark task k ended x y can given zip = mark_told y.present.table.ranges y.queues.queues k y.device.marks y.device.blocks zip (block_there task k ended x y can given) given.marked
+end_mark task k ended x y can given zip = mark_told y.present.table.ranges y.queues.queues k y.device.marks y.device.blocks zip (end_there task k ended x y can given) given.marked
 
 pub end_mapped : (task : Task) (k : ℕ) (ended : Bool) (x y : Environment) → CanDrop task k ended (bare_state x) → IsGivenBy task k x y → AllZip IsMarkOf y.device.marks y.device.blocks → is_ended_at k y.device.marks ≡ false
 end_mapped task k ended x y can given zip = (end_mark task k ended x y can given zip).ended ∙ ap is_none (range_there task k ended x y can given)
@@ -134,32 +121,9 @@ pub kept_changes : (task : Task) (k : ℕ) (y : Environment) (q r : PresentState
     → q.table ≡ with_ranges y.present.table (changed_at k (recounted task) y.present.table.ranges) → present.IsRoomKept y.present.room q.room → r.table ≡ with_ranges q.table (without_range k q.table.ranges) → present.IsRoomKept q.room r.room
     → (pins_at k y.device.marks ≡ 0 → ⊥) → IsEnded y.device e k → IsChangedBy (ended_state k) [] 0 (λ n. 0) y (record y { present = r; device = e })
 unfolding records_after_end released
-kept_changes task k y q r e marked mark counted room1 removed room2 some ended =
-    let new : Environment = record y { present = r; device = e } in
-    let table : r.table ≡ with_ranges y.present.table (without_range k y.present.table.ranges) = ranges_gone task k y q r counted removed in
-    let ranges : r.table.ranges ≡ without_range k y.present.table.ranges = ap (λ t. t.ranges) table in
-    let used : is_in_use k (unmapped k y) ≡ true = used_pinned k (unmapped k y) (λ none. some (mark.pins ∙ none)) in
-    record {
-      state = λ next. state_by new next (ended_state k (state_of y next)) ranges (rw used ended.blocks) (rw used refl) ended.births refl ended.loans (ap (λ t. t.regions) table) refl refl refl (rw used ended.memories);
-      counter_max = ap (λ t. t.counter_max) table;
-      memory = ended.memory;
-      pointer_max = refl;
-      queue_cap = refl;
-      room = room_same (λ n. 0) y new (kept_twice y.present.room q.room r.room room1 room2) ended.room (omega arith) (λ n. omega arith);
-      marked = rw (ranges, ended.marks) (marks_ended y.present.table.ranges k y.queues.queues y.device.marks marked);
-    }
+kept_changes task k y q r e marked mark counted room1 removed room2 some ended = grind (arith, nat_tests, ranges_gone task k y q r counted removed, used_pinned, state_by, room_same, kept_twice y.present.room q.room r.room room1 room2, marks_ended)
 
 -- ---- both are the step
-
--- what the copy leaves, whether there is one or not
-given_is : (b : Bool) (o : Option ℕ) (t : Transfer) (s : State) → cond b (moved_state o t s) s ≡ record s {
-  records = record s.records { queues = queues_after o (cond b (Some t) None) s.records.queues };
-  host = host_made (at_once o (cond b (Some t) None)) s.records.attached s.memories s.host;
-  memories = memories_made (at_once o (cond b (Some t) None)) s.records.attached s.host s.memories;
-}
-given_is true o t s = refl
-given_is false None t s = refl
-given_is false (Some q) t s = refl
 
 ended_whole : (task : Task) (k : ℕ) (s : State) → ended_state k (given_state task k s) ≡ step_state task (Dropped k true) s
 unfolding step_state act_step act_row

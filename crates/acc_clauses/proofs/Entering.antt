@@ -1,37 +1,31 @@
 -- What an entry to a region counts lies within the ranges of the blocks that it counted, after all of its tasks.
-use Rattle.std.proofs.Common.{ℕ, suc, ◌≡◌, ◌+◌, ◌≤◌, refl, sym, ◌∙◌, ap, subst, Bool, true, false, cond, List, [], ◌∷◌, map, Option, Some, None, Result, Ok, arith}
-use Rattle.std.specs.Prelude.{◌==◌, nat_lt, nat_le}
+use Rattle.std.proofs.Common.{ℕ, suc, ◌≡◌, ◌+◌, ◌≤◌, refl, subst, Bool, true, List, [], ◌∷◌, map, Some, None, Ok, arith}
 use Rattle.std.specs.List.{AllByRecursion}
 use Rattle.std.proofs.lemmas.Bool.Decides.{nat_tests}
-use Rattle.acc_clauses.specs.Words.{Section, Item, RegionClause, Range, Found, Task, Step, Did, Fault}
-use Rattle.acc_base.specs.declared.items.RegionClause.TheVariants as region
+use Rattle.acc_clauses.specs.Words.{Section, Item, RegionClause, Range, Found, Task, Step, Did}
 use Rattle.acc_base.specs.declared.mappings.Found.TheVariants.{Empty, Inside, Absent}
 use Rattle.acc_base.specs.declared.mappings.Counter.TheVariants.{Structured}
 use Rattle.acc_base.specs.declared.tasks.Task.TheVariants.{Enter}
 use Rattle.acc_base.specs.declared.events.Step.TheVariants.{Counted, Born}
-use Rattle.acc_base.specs.declared.faults.Fault.TheVariants.{CounterFull}
-use Rattle.acc_base.specs.Results.{refuse_if}
 use Rattle.acc_base.specs.Limits.{Limits, IsWithinBounds}
-use Rattle.acc_base.specs.Section.{is_within, device_memory}
+use Rattle.acc_base.specs.Section.{is_within}
 use Rattle.acc_base.specs.Records.{Records}
-use Rattle.acc_base.specs.Ranges.{where_is, range_of, counter_of, with_range, bare_range, risen}
-use Rattle.acc_base.specs.Blocks.{rounded, place_for}
+use Rattle.acc_base.specs.Ranges.{where_is, range_of, with_range, bare_range, risen}
 use Rattle.acc_base.specs.Register.{Region}
-use Rattle.acc_base.specs.Clauses.{is_attach, section_named, born_at, enter_absent, enter_row}
+use Rattle.acc_base.specs.Clauses.{is_attach, section_named, enter_row}
 use Rattle.acc_base.specs.Tasks.{section_of, checked}
 use Rattle.acc_base.specs.Steps.{judge_row, judge_step, act_row, act_step, act, act_all, records_after_birth}
 use Rattle.acc_base.specs.Walk.{enter_task, block_counted, holdings_of}
 use Rattle.acc_base.specs.History.{AreJudged}
 use Rattle.acc_base.specs.Accounts.{AreRecordsSound}
 use Rattle.acc_base.proofs.Results.{equal_self, then_ok}
-use Rattle.acc_base.proofs.Elements.{AllByRecursion-weaker}
 use Rattle.acc_base.proofs.Judged.{IsJudgedTo, task_says, step_judged}
 use Rattle.acc_base.proofs.Sound.{ranges_born, fresh}
 use Rattle.acc_base.proofs.Aimed.{task_left}
 use Rattle.acc_clauses.specs.Acts.{IsMappedAround}
 use Rattle.acc_clauses.specs.Stored.{IsHeldWithin, IsHoldingWithin, AreHoldingsWithin}
 use Rattle.acc_clauses.proofs.Legal.{mapped_around}
-use Rattle.acc_clauses.proofs.Holding.{within_step, held_act, within_act}
+use Rattle.acc_clauses.proofs.Holding.{within_step, held_act, within_act, holdings_kept}
 
 -- ---- all tasks
 
@@ -44,35 +38,14 @@ within_all l n _ _ w s b judged h = absurd judged
 
 -- and so does what open regions hold
 pub regions_within : (l : Limits) (n : ℕ) (tasks : List Task) (dids : List Did) (w : Records) (regions : List Region) → AreJudged l n tasks dids w → AreHoldingsWithin w regions → AreHoldingsWithin (act_all tasks dids w) regions
-regions_within l n tasks dids w regions judged h =
-    AllByRecursion-weaker (λ (r : Region). AllByRecursion (IsHoldingWithin w) r.holdings) (λ (r : Region). AllByRecursion (IsHoldingWithin (act_all tasks dids w)) r.holdings) regions
-    (λ r held. AllByRecursion-weaker (IsHoldingWithin w) (IsHoldingWithin (act_all tasks dids w)) r.holdings (λ x p k e. within_all l n tasks dids w x.item.section k judged (p k e)) held) h
+regions_within l n tasks dids w regions judged h = holdings_kept w (act_all tasks dids w) regions (λ s k p. within_all l n tasks dids w s k judged p) h
 
 -- ---- what an entry counts
-
-step_same : (x y : Step) → ◌≡◌ {A = Result Step Fault} (Ok x) (Ok y) → x ≡ y
-step_same x y e = cc
-
-born_not_counted : (o : Option ℕ) (n k : ℕ) (s : Section) (w : Records) → born_at o n s w ≡ Ok (Counted k) → ⊥
-born_not_counted None n k s w e = cc
-born_not_counted (Some p) n k s w e = cc
-
-absent_not_counted : (clause : RegionClause) (l : Limits) (n k : ℕ) (s : Section) (w : Records) → enter_absent clause l n s w ≡ Ok (Counted k) → ⊥
-absent_not_counted region.NoCreate l n k s w e = cc
-absent_not_counted region.Present l n k s w e = cc
-absent_not_counted region.Attach l n k s w e = cc
-absent_not_counted _ l n k s w e = born_not_counted (place_for (device_memory l.device) w.blocks (rounded s.len)) n k s w e
 
 -- a section whose block is counted is inside the block's range
 counted_inside : (l : Limits) (clause : RegionClause) (section : Section) (n k : ℕ) (w : Records) (found : Found) → enter_row found l Structured clause n section w ≡ Ok (Counted k) → where_is section w.ranges ≡ found
     → (o : ℕ) × (where_is section w.ranges ≡ Inside k o)
-counted_inside l clause section n k w (Inside b o) e f =
-    let both : (refuse_if (nat_le l.counter_max (counter_of Structured b w.ranges)) (CounterFull n) ≡ Ok tt) × (Ok (Counted b) ≡ Ok (Counted k)) = then_ok _ _ (Counted k) e in
-    let same : Counted b ≡ Counted k = step_same _ _ both.1 in
-    let block : b ≡ k = cc in
-    (o, f ∙ ap (λ x. Inside x o) block)
-counted_inside l clause section n k w Absent e f = absurd (absent_not_counted clause l n k section w e)
-counted_inside l clause section n k w _ e f = cc
+counted_inside l clause section n k w found e f = grind (arith, nat_tests)
 
 counted_says : (l : Limits) (item : Item RegionClause) (n k : ℕ) (w : Records) → judge_step l n (Enter Structured item None) w ≡ Ok (Counted k) → (o : ℕ) × (where_is (section_of (Enter Structured item None)) w.ranges ≡ Inside k o)
 unfolding judge_row
@@ -80,19 +53,12 @@ counted_says l item n k w e = counted_inside l item.clause (section_of (Enter St
 
 -- an item whose section is not empty has it whole: it names no pointer alone
 named_whole : (alone : Bool) (s : Section) (ranges : List Range) (found : Found) → where_is (section_named alone s) ranges ≡ found → (found ≡ Empty → ⊥) → section_named alone s ≡ s
-named_whole true s ranges found e some = absurd (some (sym e))
-named_whole false s ranges found e some = refl
+named_whole alone s ranges found e some = grind (arith, nat_tests)
 
 -- a new range is the one of its block
 range-with_same : (new : Range) (rs : List Range) → range_of new.block rs ≡ None → range_of new.block (with_range new rs) ≡ Some new
 range-with_same new [] p = rw equal_self
-range-with_same new (r ∷ rs) p = go (range-with_same new rs) (nat_lt new.section.start r.section.start) (r.block == new.block) refl p
-  where
-    go : (range_of new.block rs ≡ None → range_of new.block (with_range new rs) ≡ Some new) → (b t : Bool) → (r.block == new.block) ≡ t → cond t (Some r) (range_of new.block rs) ≡ None
-        → range_of new.block (cond b (new ∷ r ∷ rs) (r ∷ with_range new rs)) ≡ Some new
-    go rest b true e q = cc
-    go rest true false e q = rw equal_self
-    go rest false false e q = rw e (rest q)
+range-with_same new (r ∷ rs) p = grind (arith, nat_tests, range-with_same new rs)
 
 within_self : (s : Section) → is_within s s ≡ true
 within_self s = grind (arith, nat_tests)
@@ -117,11 +83,7 @@ counted_within l w section k o sound e =
   where
     born_of : (rs : List Range) (r : Range) → AllByRecursion (λ (x : Range). x.block ≤ w.births) rs → range_of k rs ≡ Some r → k ≤ w.births
     born_of [] r h f = cc
-    born_of (x ∷ xs) r h f = go (born_of xs r h.1) (x.block == k) refl f
-      where
-        go : (range_of k xs ≡ Some r → k ≤ w.births) → (t : Bool) → (x.block == k) ≡ t → cond t (Some x) (range_of k xs) ≡ Some r → k ≤ w.births
-        go rest true t q = let low : x.block ≤ w.births = h.0 in grind (arith, nat_tests)
-        go rest false t q = rest q
+    born_of (x ∷ xs) r h f = grind (arith, nat_tests, born_of xs r h.1)
 
 -- what one item's entry counts
 first_within : (l : Limits) (n : ℕ) (item : Item RegionClause) (step : Step) (w : Records) → AreRecordsSound l w → judge_step l n (Enter Structured item None) w ≡ Ok step → (k : ℕ) → block_counted step ≡ Some k

@@ -1,21 +1,15 @@
 -- The event of a plan is legal, and has the tasks, the steps, the queues and the register of the plan. Where a plan makes none, it changes nothing.
-use Rattle.std.proofs.Common.{ℕ, ◌≡◌, refl, sym, ap, subst, ◌∙◌, List, [], ◌∷◌, Option, Some, None, Ok}
-use Rattle.std.specs.Prelude.{map, unwrap_or}
+use Rattle.std.proofs.lemmas.Bool.Decides.{nat_tests}
+use Rattle.std.proofs.Common.{ℕ, ◌≡◌, refl, sym, ap, subst, ◌∙◌, List, [], ◌∷◌, Option, Some, None, Ok, arith}
+use Rattle.std.specs.Prelude.{map}
 use Rattle.std.proofs.lemmas.List.{reverse-reverse}
-use Rattle.acc_base.specs.declared.directives.Directive.{Directive}
-use Rattle.acc_base.specs.declared.directives.Directive.TheVariants.{Enter, Exit, EnterData, ExitData, Update, Wait, Step}
-use Rattle.acc_base.specs.declared.items.Item.{Item}
-use Rattle.acc_base.specs.declared.items.RegionClause.{RegionClause}
-use Rattle.acc_base.specs.declared.tasks.Task.{Task}
-use Rattle.acc_base.specs.declared.transfers.Transfer.{Transfer}
-use Rattle.acc_base.specs.declared.events.Did.{Did}
-use Rattle.acc_base.specs.declared.events.Event.{Event}
+use Rattle.acc_clauses.specs.Words.{Directive, Item, RegionClause, Task, Transfer, Did, Event}
+use Rattle.acc_base.specs.declared.directives.Directive.TheVariants.{Step}
 use Rattle.acc_base.specs.Limits.{Limits}
 use Rattle.acc_base.specs.Records.{Records, Memory, State, layout_of}
-use Rattle.acc_base.specs.Register.{holdings_at, opened}
 use Rattle.acc_base.specs.Queues.{head_of}
-use Rattle.acc_base.specs.Waits.{state_made, stepped, drained, steps_of}
-use Rattle.acc_base.specs.Walk.{enter_task, leave_tasks, asked_in, done_in, stepped_in, holdings_of, register_after, loaned, block_counted, pointer_attached}
+use Rattle.acc_base.specs.Waits.{state_made, stepped, drained}
+use Rattle.acc_base.specs.Walk.{enter_task, asked_in, done_in, stepped_in, holdings_of, register_after, loaned, block_counted, pointer_attached}
 use Rattle.acc_base.specs.Acting.{judge_all, act_all_state, host_after, memories_after}
 use Rattle.acc_base.specs.Judge.{Makes, Idle, step_verdict, verdict_of}
 use Rattle.acc_base.specs.History.{AreJudged, IsLegal}
@@ -57,74 +51,9 @@ still l d s p h none = ap (λ ts. act_all_state ts p.dids s) (sym none) ∙ ap (
 
 -- ---- the event
 
--- the first transfer of a queue is made
-step_event : (l : Limits) (queue : ℕ) (s : State) (p : Planned) (e : Event) → IsPlanOf l (Step queue) s p → [] ≡ p.tasks → (o : Option Transfer) → step_verdict queue o ≡ Makes e → IsEventOf (Step queue) p s e
-unfolding loaned
-step_event l queue s p e h none None made = cc
-step_event l queue s p e h none (Some t) made = subst (IsEventOf (Step queue) p s) (same_event _ _ made) (record {
-  asked = none;
-  done = none_done l p.tasks p.dids s none h.judged;
-  steps = refl;
-  register = refl;
-  host = λ bytes. refl;
-  records = λ w. refl;
-  memories = λ ms. refl;
-  brought = λ w. tt;
-})
-
 pub event_of_plan : (l : Limits) (d : Directive) (s : State) (p : Planned) (e : Event) → IsPlanOf l d s p → verdict_of d s p.dids ≡ Makes e → IsEventOf d p s e
 unfolding loaned
-event_of_plan l (Enter items) s p e h made =
-    let same : map enter_task items ≡ p.tasks = (asked_with (Enter items) s.register p.tasks h.asked).are in
-    let held = ap (λ hs. opened hs s.register) (held_asked items p.dids ∙ ap (λ us. holdings_by us p.dids) same) in
-    subst (IsEventOf (Enter items) p s) (same_event _ _ made) (record { asked = same; done = refl; steps = refl; register = held; host = λ bytes. refl; records = λ w. refl; memories = λ ms. refl; brought = λ w. tt })
-event_of_plan l (Exit number) s p e h made =
-    let is : IsAskedWith (Exit number) s.register p.tasks = asked_with (Exit number) s.register p.tasks h.asked in
-    let asked : leave_tasks (unwrap_or (holdings_at number s.register.regions) []) ≡ p.tasks = rw (open_left number _ is.holdings is.left) is.are in
-    subst (IsEventOf (Exit number) p s) (same_event _ _ made) (record { asked = asked; done = reverse-reverse p.dids; steps = refl; register = refl; host = λ bytes. refl; records = λ w. refl; memories = λ ms. refl; brought = λ w. tt })
-event_of_plan l (EnterData items queue) s p e h made = subst (IsEventOf (EnterData items queue) p s) (same_event _ _ made) (record {
-  asked = (asked_with (EnterData items queue) s.register p.tasks h.asked).are;
-  done = refl;
-  steps = refl;
-  register = refl;
-  host = λ bytes. refl;
-  records = λ w. refl;
-  memories = λ ms. refl;
-  brought = λ w. tt;
-})
-event_of_plan l (ExitData items finalize queue) s p e h made = subst (IsEventOf (ExitData items finalize queue) p s) (same_event _ _ made) (record {
-  asked = (asked_with (ExitData items finalize queue) s.register p.tasks h.asked).are;
-  done = refl;
-  steps = refl;
-  register = refl;
-  host = λ bytes. refl;
-  records = λ w. refl;
-  memories = λ ms. refl;
-  brought = λ w. tt;
-})
-event_of_plan l (Update items if_present queue) s p e h made = subst (IsEventOf (Update items if_present queue) p s) (same_event _ _ made) (record {
-  asked = (asked_with (Update items if_present queue) s.register p.tasks h.asked).are;
-  done = refl;
-  steps = refl;
-  register = refl;
-  host = λ bytes. refl;
-  records = λ w. refl;
-  memories = λ ms. refl;
-  brought = λ w. tt;
-})
-event_of_plan l (Wait queue) s p e h made =
-    let none : [] ≡ p.tasks = (asked_with (Wait queue) s.register p.tasks h.asked).are in
-    subst (IsEventOf (Wait queue) p s) (same_event _ _ made) (record {
-      asked = none;
-      done = none_done l p.tasks p.dids s none h.judged;
-      steps = ap (λ (t : State). steps_of queue t.records.queues) (sym (still l (Wait queue) s p h none));
-      register = refl;
-      host = λ bytes. refl;
-      records = λ w. refl;
-      memories = λ ms. refl;
-      brought = λ w. tt;
-    })
-event_of_plan l (Step queue) s p e h made = step_event l queue s p e h (asked_with (Step queue) s.register p.tasks h.asked).are (head_of queue s.records.queues) made
+event_of_plan l d s p e h made = grind (arith, nat_tests, held_asked, same_event, open_left, reverse-reverse, none_done, still)
 
 pub planned_asked : (l : Limits) (d : Directive) (s : State) (p : Planned) (e : Event) → IsPlanOf l d s p → verdict_of d s p.dids ≡ Makes e → asked_in e s.register ≡ p.tasks
 planned_asked l d s p e h made = (event_of_plan l d s p e h made).asked
@@ -154,10 +83,4 @@ step_idle l queue s p h (Some t) first idle = cc
 
 -- a plan without an event leaves the state
 pub idle_plan : (l : Limits) (d : Directive) (s : State) (p : Planned) → IsPlanOf l d s p → verdict_of d s p.dids ≡ Idle → finished d p (act_all_state p.tasks p.dids s) ≡ s
-idle_plan l (Enter items) s p h idle = cc
-idle_plan l (Exit number) s p h idle = cc
-idle_plan l (EnterData items queue) s p h idle = cc
-idle_plan l (ExitData items finalize queue) s p h idle = cc
-idle_plan l (Update items if_present queue) s p h idle = cc
-idle_plan l (Wait queue) s p h idle = cc
-idle_plan l (Step queue) s p h idle = step_idle l queue s p h (head_of queue s.records.queues) refl idle
+idle_plan l d s p h idle = grind (arith, nat_tests, step_idle)

@@ -1,24 +1,17 @@
 -- What each directive does of the register and the queues.
-use Rattle.std.proofs.Common.{ℕ, ◌≡◌, refl, ◌∙◌, ap, List, [], ◌∷◌, Option, Some, None}
+use Rattle.std.proofs.lemmas.Bool.Decides.{nat_tests}
+use Rattle.std.proofs.Common.{ℕ, ◌≡◌, refl, ◌∙◌, ap, List, [], ◌∷◌, Option, arith}
 use Rattle.acc_base.specs.declared.directives.Directive.TheVariants.{Enter, Exit, Wait, Step}
-use Rattle.acc_base.specs.declared.items.Item.{Item}
-use Rattle.acc_base.specs.declared.items.RegionClause.{RegionClause}
-use Rattle.acc_base.specs.declared.regions.Holding.{Holding}
-use Rattle.acc_base.specs.declared.transfers.Transfer.{Transfer}
+use Rattle.acc_clauses.specs.Words.{Item, RegionClause, Holding}
 use Rattle.acc_base.specs.Records.{State}
 use Rattle.acc_base.specs.Register.{Register, opened, closed}
-use Rattle.acc_base.specs.Queues.{head_of}
-use Rattle.acc_base.specs.Waits.{state_made, stepped, drained, steps_of}
+use Rattle.acc_base.specs.Waits.{stepped, drained, steps_of}
 use Rattle.acc_clauses.specs.Planned.{Planned, holdings_by, finished}
 
 -- queued transfers leave the register
 register-stepped : (q : ℕ) (s : State) → (stepped q s).register ≡ s.register
 unfolding stepped
-register-stepped q s = go (head_of q s.records.queues)
-  where
-    go : (o : Option Transfer) → (state_made q o s).register ≡ s.register
-    go None = refl
-    go (Some t) = refl
+register-stepped q s = grind (arith, nat_tests)
 
 register-drained : (qs : List ℕ) (s : State) → (drained qs s).register ≡ s.register
 unfolding drained

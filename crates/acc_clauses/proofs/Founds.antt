@@ -1,7 +1,7 @@
 -- Where a section lies after each change of the ranges.
 use Rattle.std.proofs.Common.{ℕ, ◌≡◌, refl, ap, ◌∙◌, Bool, true, false, cond, ◌&&◌, List, [], ◌∷◌, Option, Some, None, arith}
-use Rattle.std.specs.Prelude.{◌==◌, not, nat_lt, option_map}
-use Rattle.std.specs.List.{list_all, list_any}
+use Rattle.std.specs.Prelude.{◌==◌, nat_lt, option_map}
+use Rattle.std.specs.List.{list_all}
 use Rattle.std.proofs.lemmas.Bool.Decides.{nat_tests}
 use Rattle.acc_clauses.specs.Words.{Section, Range, Found}
 use Rattle.acc_base.specs.declared.mappings.Found.TheVariants.{Empty, Partly, Absent}
@@ -40,58 +40,15 @@ all_apart-within s t (r ∷ rs) some inside off =
 -- the range that has the section is the new one, or the one that had it
 around-with : (s : Section) (new : Range) (ranges : List Range) → is_empty s ≡ false → all_apart new.section ranges ≡ true → range_around s (with_range new ranges) ≡ cond (is_within s new.section) (Some new) (range_around s ranges)
 around-with s new [] some off = refl
-around-with s new (r ∷ rs) some off =
-    let parts : (is_apart new.section r.section ≡ true) × (all_apart new.section rs ≡ true) = and_true _ _ off in
-    go (around-with s new rs some parts.1) (nat_lt new.section.start r.section.start) (is_within s new.section) refl (is_within s r.section) refl parts.0
-  where
-    go : range_around s (with_range new rs) ≡ cond (is_within s new.section) (Some new) (range_around s rs)
-        → (first x : Bool) → is_within s new.section ≡ x → (y : Bool) → is_within s r.section ≡ y → is_apart new.section r.section ≡ true
-        → range_around s (cond first (new ∷ r ∷ rs) (r ∷ with_range new rs)) ≡ cond x (Some new) (range_around s (r ∷ rs))
-    go rest true x e y f clear = rw e refl
-    go rest false true e true f clear =
-        let off : is_within s r.section ≡ false = around_touches s r.section some (apart_within s new.section r.section some e clear) in
-        cc
-    go rest false true e false f clear = rw f (rw e at rest)
-    go rest false false e true f clear = rw f refl
-    go rest false false e false f clear = rw f (rw e at rest)
+around-with s new (r ∷ rs) some off = grind (arith, nat_tests, around-with s new rs some, and_true)
 
 all_apart-with : (s : Section) (new : Range) (ranges : List Range) → all_apart s (with_range new ranges) ≡ (is_apart s new.section && all_apart s ranges)
 all_apart-with s new [] = refl
-all_apart-with s new (r ∷ rs) = go (all_apart-with s new rs) (nat_lt new.section.start r.section.start)
-  where
-    swap : (x y z : Bool) → (x && (y && z)) ≡ (y && (x && z))
-    swap true true z = refl
-    swap false true z = refl
-    swap _ _ z = refl
-
-    go : all_apart s (with_range new rs) ≡ (is_apart s new.section && all_apart s rs) → (first : Bool)
-        → all_apart s (cond first (new ∷ r ∷ rs) (r ∷ with_range new rs)) ≡ (is_apart s new.section && all_apart s (r ∷ rs))
-    go rest true = refl
-    go rest false = ap (λ b. is_apart s r.section && b) rest ∙ swap (is_apart s r.section) (is_apart s new.section) (all_apart s rs)
+all_apart-with s new (r ∷ rs) = grind (arith, nat_tests, all_apart-with s new rs)
 
 -- a section after a range was added that was absent
 pub where_is-with : (s : Section) (new : Range) (ranges : List Range) → all_apart new.section ranges ≡ true → where_is s (with_range new ranges) ≡ found_beside s new.section new.block (where_is s ranges)
-where_is-with s new ranges off = go (is_empty s) refl
-  where
-    inner : is_empty s ≡ false → (around : Option Range) → range_around s ranges ≡ around → (clear : Bool) → all_apart s ranges ≡ clear → (x : Bool) → is_within s new.section ≡ x → (y : Bool) → is_apart s new.section ≡ y
-        → found_in s (cond x (Some new) around) (cond (y && clear) Absent Partly) ≡ found_beside s new.section new.block (found_in s around (cond clear Absent Partly))
-    inner some (Some r) f clear g true e y h =
-        let none : range_around s ranges ≡ None = around_none s ranges some (all_apart-within s new.section ranges some e off) in
-        cc
-    inner some None f true g true e y h = rw e refl
-    inner some None f true g false e true h = rw (e, h) refl
-    inner some None f true g false e false h = rw (e, h) refl
-    inner some None f false g true e y h =
-        let all : all_apart s ranges ≡ true = all_apart-within s new.section ranges some e off in
-        cc
-    inner some None f false g false e true h = refl
-    inner some _ f _ g false e _ h = refl
-
-    go : (b : Bool) → is_empty s ≡ b
-        → cond b Empty (found_in s (range_around s (with_range new ranges)) (cond (all_apart s (with_range new ranges)) Absent Partly))
-        ≡ found_beside s new.section new.block (cond b Empty (found_in s (range_around s ranges) (cond (all_apart s ranges) Absent Partly)))
-    go true e = refl
-    go false e = rw (around-with s new ranges e off, all_apart-with s new ranges) (inner e (range_around s ranges) refl (all_apart s ranges) refl (is_within s new.section) refl (is_apart s new.section) refl)
+where_is-with s new ranges off = grind (arith, nat_tests, around_none, all_apart-within, around-with, all_apart-with)
 
 -- ---- a change of one range that keeps its addresses and its block
 
@@ -101,47 +58,25 @@ module _ (f : Range → Range) (stays : (r : Range) → (f r).section ≡ r.sect
   changed k r = cond (r.block == k) (f r) r
 
   changed-section : (k : ℕ) (r : Range) → (changed k r).section ≡ r.section
-  changed-section k r = go (r.block == k)
-    where
-      go : (b : Bool) → (cond b (f r) r).section ≡ r.section
-      go true = stays r
-      go false = refl
-
-  changed-block : (k : ℕ) (r : Range) → (changed k r).block ≡ r.block
-  changed-block k r = go (r.block == k)
-    where
-      go : (b : Bool) → (cond b (f r) r).block ≡ r.block
-      go true = keeps r
-      go false = refl
+  changed-section k r = grind (arith, nat_tests)
 
   around-changed : (s : Section) (k : ℕ) (ranges : List Range) → range_around s (changed_at k f ranges) ≡ option_map (changed k) (range_around s ranges)
   around-changed s k [] = refl
-  around-changed s k (r ∷ rs) = ap (λ t. cond (is_within s t) (Some (changed k r)) (range_around s (changed_at k f rs))) (changed-section k r) ∙ go (around-changed s k rs) (is_within s r.section)
-    where
-      go : range_around s (changed_at k f rs) ≡ option_map (changed k) (range_around s rs) → (b : Bool)
-          → cond b (Some (changed k r)) (range_around s (changed_at k f rs)) ≡ option_map (changed k) (cond b (Some r) (range_around s rs))
-      go rest true = refl
-      go rest false = rest
+  around-changed s k (r ∷ rs) = grind (arith, nat_tests, around-changed s k rs)
 
   all_apart-changed : (s : Section) (k : ℕ) (ranges : List Range) → all_apart s (changed_at k f ranges) ≡ all_apart s ranges
   all_apart-changed s k [] = refl
   all_apart-changed s k (r ∷ rs) = ap (λ t. is_apart s t && all_apart s (changed_at k f rs)) (changed-section k r) ∙ ap (λ b. is_apart s r.section && b) (all_apart-changed s k rs)
 
   found_in-changed : (s : Section) (k : ℕ) (around : Option Range) (otherwise : Found) → found_in s (option_map (changed k) around) otherwise ≡ found_in s around otherwise
-  found_in-changed s k None otherwise = refl
-  found_in-changed s k (Some r) otherwise = rw (changed-section k r, changed-block k r) refl
+  found_in-changed s k around otherwise = grind (arith, nat_tests)
 
   pub where_is-changed : (s : Section) (k : ℕ) (ranges : List Range) → where_is s (changed_at k f ranges) ≡ where_is s ranges
   where_is-changed s k ranges = rw (around-changed s k ranges, all_apart-changed s k ranges) (ap (λ g. cond (is_empty s) Empty g) (found_in-changed s k (range_around s ranges) (cond (all_apart s ranges) Absent Partly)))
 
   without-changed : (blocks : List ℕ) (k : ℕ) (ranges : List Range) → without_ranges blocks (changed_at k f ranges) ≡ changed_at k f (without_ranges blocks ranges)
   without-changed blocks k [] = refl
-  without-changed blocks k (r ∷ rs) = ap (λ n. cond (not (list_any (λ b. b == n) blocks)) (changed k r ∷ without_ranges blocks (changed_at k f rs)) (without_ranges blocks (changed_at k f rs))) (changed-block k r) ∙ go (without-changed blocks k rs) (list_any (λ b. b == r.block) blocks)
-    where
-      go : without_ranges blocks (changed_at k f rs) ≡ changed_at k f (without_ranges blocks rs) → (b : Bool)
-          → cond (not b) (changed k r ∷ without_ranges blocks (changed_at k f rs)) (without_ranges blocks (changed_at k f rs)) ≡ changed_at k f (cond (not b) (r ∷ without_ranges blocks rs) (without_ranges blocks rs))
-      go rest true = rest
-      go rest false = ap (λ ts. changed k r ∷ ts) rest
+  without-changed blocks k (r ∷ rs) = grind (arith, nat_tests, without-changed blocks k rs)
 
   -- a section apart from some blocks' ranges lies where it lay
   pub apart-changed : (s : Section) (blocks : List ℕ) (k : ℕ) (ranges : List Range) → where_is_apart s blocks (changed_at k f ranges) ≡ where_is_apart s blocks ranges
@@ -151,13 +86,7 @@ module _ (f : Range → Range) (stays : (r : Range) → (f r).section ≡ r.sect
 
 without_both : (blocks : List ℕ) (k : ℕ) (ranges : List Range) → without_ranges (k ∷ blocks) ranges ≡ without_ranges blocks (without_range k ranges)
 without_both blocks k [] = refl
-without_both blocks k (r ∷ rs) = go (without_both blocks k rs) (list_any (λ b. b == r.block) blocks) refl (r.block == k) refl
-  where
-    go : without_ranges (k ∷ blocks) rs ≡ without_ranges blocks (without_range k rs) → (x : Bool) → list_any (λ b. b == r.block) blocks ≡ x → (y : Bool) → (r.block == k) ≡ y
-        → without_ranges (k ∷ blocks) (r ∷ rs) ≡ without_ranges blocks (cond (not y) (r ∷ without_range k rs) (without_range k rs))
-    go rest x e true f = let g : (k == r.block) ≡ true = grind (arith, nat_tests) in rw g rest
-    go rest true e false f = let g : (k == r.block) ≡ false = grind (arith, nat_tests) in rw (g, e) rest
-    go rest false e false f = let g : (k == r.block) ≡ false = grind (arith, nat_tests) in rw (g, e) (ap (λ ts. r ∷ ts) rest)
+without_both blocks k (r ∷ rs) = grind (arith, nat_tests, without_both blocks k rs)
 
 -- apart from one more block's range
 pub apart_more : (s : Section) (blocks : List ℕ) (k : ℕ) (ranges : List Range) → where_is_apart s (k ∷ blocks) ranges ≡ where_is_apart s blocks (without_range k ranges)

@@ -1,5 +1,6 @@
 -- Whether a step needs a block that is lent, and whether queued transfers are of one, told by the first that is.
-use Rattle.std.proofs.Common.{ℕ, zero, suc, ◌≡◌, ◌+◌, refl, sym, ◌∙◌, ap, List, [], ◌∷◌, ◌++◌, drop, add-one, Option, Some, Result, Ok, Err, length, arith}
+use Rattle.std.proofs.lemmas.Bool.Decides.{nat_tests}
+use Rattle.std.proofs.Common.{ℕ, zero, suc, ◌≡◌, ◌+◌, refl, sym, ◌∙◌, ap, List, [], ◌∷◌, ◌++◌, drop, add-one, Option, Result, Ok, Err, length, arith}
 use Rattle.std.specs.Prelude.{⊤, option_map, slice_get}
 use Rattle.std.specs.List.{flat_map}
 use Rattle.std.proofs.lemmas.List.Concat.{flat_map-cons}
@@ -14,31 +15,25 @@ use Rattle.acc_base.specs.Detaching.{block_aimed}
 use Rattle.acc_base.specs.Steps.{block_needed}
 use Rattle.acc_base.proofs.Loaned.{loans-act_all}
 use Rattle.acc_clauses.specs.declared.acted.Acted.{Acted}
-use Rattle.acc_clauses.specs.Overlays.{tasks_in, dids_in, records_after}
+use Rattle.acc_clauses.specs.Overlays.{records_after}
 use Rattle.acc_clauses.specs.Aims.{step_free}
 
 -- ---- tests in a row
 
 -- the first that refuses is told
 pub refused : (a b all : Result ⊤ Fault) (fault : Fault) → (a >> b) ≡ all → Err fault ≡ a → Err fault ≡ all
-refused (Ok x) b all fault e h = cc
-refused (Err other) b all fault e h = h ∙ e
+refused a b all fault e h = grind (arith, nat_tests)
 
 -- where it passes, the rest is told
 pub passed : (a b all : Result ⊤ Fault) (x : ⊤) → (a >> b) ≡ all → Ok x ≡ a → b ≡ all
-passed (Ok y) b all x e h = e
-passed (Err fault) b all x e h = cc
+passed a b all x e h = grind (arith, nat_tests)
 
 -- ---- a step
 
 -- after tasks the same blocks are lent
 pub free_after : (xs : List Acted) (task : Task) (step : Step) (before : Aim) (cap : ℕ) (w : Records) (aimed needed : Option ℕ) → aimed ≡ block_aimed before → needed ≡ block_needed task step
     → (not_lent aimed w.loans >> (not_lent needed w.loans >> room_for cap (queue_of task) (transfer_of task step (records_after xs w).ranges) (records_after xs w).queues)) ≡ step_free task step before cap (records_after xs w)
-free_after xs task step before cap w aimed needed e f =
-    let room : Result ⊤ Fault = room_for cap (queue_of task) (transfer_of task step (records_after xs w).ranges) (records_after xs w).queues in
-    ap (λ o. not_lent o w.loans >> (not_lent needed w.loans >> room)) e
-    ∙ ap (λ o. not_lent (block_aimed before) w.loans >> (not_lent o w.loans >> room)) f
-    ∙ ap (λ loans. not_lent (block_aimed before) loans >> (not_lent (block_needed task step) loans >> room)) (sym (loans-act_all (tasks_in xs) (dids_in xs) w))
+free_after xs task step before cap w aimed needed e f = grind (arith, nat_tests, loans-act_all)
 
 -- the block in which a pointer is detached is lent
 pub detached_lent : (xs : List Acted) (task : Task) (step : Step) (before : Aim) (cap : ℕ) (w : Records) (aimed : Option ℕ) (fault : Fault) → aimed ≡ block_aimed before → Err fault ≡ not_lent aimed w.loans → Err fault ≡ step_free task step before cap (records_after xs w)
@@ -82,11 +77,7 @@ all_of queues = flat_map (λ transfers. transfers) queues
 -- two lists
 none_lent-append : (xs ys : List Transfer) (loans : List Loan) → none_lent (xs ++ ys) loans ≡ (none_lent xs loans >> none_lent ys loans)
 none_lent-append [] ys loans = refl
-none_lent-append (x ∷ xs) ys loans = go (not_lent (Some x.block) loans) (none_lent-append xs ys loans)
-  where
-    go : (r : Result ⊤ Fault) → none_lent (xs ++ ys) loans ≡ (none_lent xs loans >> none_lent ys loans) → (r >> none_lent (xs ++ ys) loans) ≡ ((r >> none_lent xs loans) >> none_lent ys loans)
-    go (Ok x) rest = rest
-    go (Err fault) rest = refl
+none_lent-append (x ∷ xs) ys loans = grind (arith, nat_tests, none_lent-append xs ys loans)
 
 -- those from a queue on are its own, and those of the queues behind it
 pub queues-split : (q : ℕ) (queues : List (List Transfer)) (loans : List Loan) → none_lent (all_of (drop q queues)) loans ≡ (none_lent (queue_at q queues) loans >> none_lent (all_of (drop (suc q) queues)) loans)

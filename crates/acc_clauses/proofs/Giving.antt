@@ -1,23 +1,19 @@
 -- What the copy of a task's section leaves of the parts, made at once or put into a queue.
-use Rattle.std.proofs.Common.{ℕ, ◌≡◌, ◌<◌, ◌≤◌, refl, sym, ap, subst, Bool, true, false, cond, ◌&&◌, [], length, Option, Some, None, Ok, arith}
-use Rattle.std.specs.Prelude.{nat_le, unwrap_or, option_map, IsSome, is_some}
+use Rattle.std.proofs.Common.{ℕ, ◌≡◌, ◌≤◌, refl, subst, Bool, true, false, cond, ◌&&◌, [], length, Option, Some, None, arith}
+use Rattle.std.specs.Prelude.{IsSome, is_some}
 use Rattle.std.proofs.lemmas.Bool.Decides.{nat_tests}
-use Rattle.acc_base.proofs.Judged.{not_lent_says}
-use Rattle.acc_base.specs.Loans.{is_lent, not_lent}
-use Rattle.acc_clauses.specs.Words.{Section, Item, RegionClause, Range, Task, Transfer, Step}
+use Rattle.acc_base.specs.Loans.{is_lent}
+use Rattle.acc_clauses.specs.Words.{Section, Item, RegionClause, Task, Transfer, Step}
 use Rattle.acc_base.specs.declared.events.Step.TheVariants.{Dropped, Moved}
 use Rattle.acc_base.specs.Section.{is_within}
 use Rattle.acc_base.specs.Records.{State}
 use Rattle.acc_base.specs.Ranges.{start_of}
 use Rattle.acc_base.specs.Blocks.{block_at}
-use Rattle.acc_base.specs.Queues.{queue_at, queue_room}
 use Rattle.acc_base.specs.Clauses.{is_attach, section_named, copies_in}
 use Rattle.acc_base.specs.Tasks.{section_of, queue_of}
 use Rattle.acc_base.specs.Transfers.{gives_bytes, first_address, transfer_at, transfer_of}
 use Rattle.acc_base.specs.Steps.{act_row, act_step}
 use Rattle.acc_base.specs.Bytes.{bytes_of, step_state}
-use Rattle.acc_base.proofs.Results.{equal_self, refused_not}
-use Rattle.acc_queues.specs.Queued.{spare_at}
 use Rattle.acc_clauses.specs.declared.environments.Environment.{Environment}
 use Rattle.acc_clauses.specs.Contents.{room_of, bare_state}
 use Rattle.acc_clauses.specs.Overlays.{moves, is_queue, puts_by}
@@ -28,66 +24,30 @@ use Rattle.acc_clauses.proofs.Changes.{changed_to}
 
 -- the range of the block begins at or below the section
 first_low : (section : Section) (k : ℕ) (x : State) → CanMove section k x → start_of k x.records.ranges ≤ section.start
-first_low section k x m =
-    let at : start_of k x.records.ranges ≡ m.range.section.start = ap (λ o. unwrap_or (option_map (λ (t : Range). t.section.start) o) 0) m.range_is in
-    let inside : is_within section m.range.section ≡ true = m.within in
-    grind (arith, nat_tests)
+first_low section k x m = grind (arith, nat_tests)
 
 first_is : (task : Task) (k : ℕ) (x : State) → CanMove (section_of task) k x → first_address (transfer_at task k x.records.ranges) ≡ start_of k x.records.ranges
 first_is task k x m = let low : start_of k x.records.ranges ≤ (section_of task).start = first_low (section_of task) k x m in omega (arith, low)
 
 -- the section is within the bytes of a block that is not lent
 pub within_block : (section : Section) (k start : ℕ) (x : State) → CanMove section k x → is_lent k x.records.loans ≡ false → start ≡ start_of k x.records.ranges → is_within section (record { start = start; len = length (bytes_of k x.memories) }) ≡ true
-within_block section k start x m free e =
-    let at : start_of k x.records.ranges ≡ m.range.section.start = ap (λ o. unwrap_or (option_map (λ (t : Range). t.section.start) o) 0) m.range_is in
-    rw (e, at, m.len free) m.within
+within_block section k start x m free e = grind (arith, nat_tests)
 
 -- ---- the transfer can be made or put
-
--- a queue that a task names has room for the transfer of its step
-queue_below : (task : Task) (step : Step) (q : ℕ) (t : Transfer) (x : Environment) → queue_of task ≡ Some q → transfer_of task step x.present.table.ranges ≡ Some t → CanQueue task step x → length (queue_at q x.queues.queues) < x.queues.cap
-queue_below task step q t x named is can =
-    let room : queue_room x.queues.cap q x.queues.queues ≡ Ok tt = rw (named, is) at can in
-    let free : nat_le x.queues.cap (length (queue_at q x.queues.queues)) ≡ false = refused_not _ _ room in
-    grind (arith, nat_tests)
-
--- and the memory for it
-queue_spare : (task : Task) (step : Step) (q : ℕ) (x : Environment) → queue_of task ≡ Some q → moves task step ≡ true → HasPutRoom (λ q. puts_by q task step) (room_of x) → 1 ≤ spare_at q x.queues.spare
-queue_spare task step q x named moving puts =
-    let one : puts_by q task step ≡ 1 = rw (named, moving, equal_self q) refl in
-    let enough : puts_by q task step ≤ spare_at q x.queues.spare = puts q in
-    omega (arith, one, enough)
 
 -- the transfer of a step can be put into the queue that its task names
 pub step_puts : (task : Task) (step : Step) (q : ℕ) (t : Transfer) (x y : Environment) → queue_of task ≡ Some q → transfer_of task step x.present.table.ranges ≡ Some t → moves task step ≡ true → CanQueue task step x → HasPutRoom (λ q. puts_by q task step) (room_of x)
     → y.queues ≡ x.queues → IsSome (block_at t.block y.device.blocks) → CanPut q t y
-step_puts task step q t x y named is moving can puts same there = record {
-  room = rw same (queue_below task step q t x named is can);
-  spare = rw same (queue_spare task step q x named moving puts);
-  there = there;
-}
+step_puts task step q t x y named is moving can puts same there = grind (arith, nat_tests)
 
 -- a copy of the section of a task to or from the block that it is mapped to can be made at once, or be put into the queue that the task names
 pub can_move_bytes : (task : Task) (step : Step) (k : ℕ) (x : Environment) (queue : Option ℕ) (t : Transfer) → CanMove (section_of task) k (bare_state x) → queue ≡ queue_of task → t ≡ transfer_at task k x.present.table.ranges
     → transfer_of task step x.present.table.ranges ≡ Some (transfer_at task k x.present.table.ranges) → moves task step ≡ true → (queue_of task ≡ None → is_lent k x.device.loans ≡ false) → CanQueue task step x → HasPutRoom (λ q. puts_by q task step) (room_of x) → CanMoveBytes queue t x
-can_move_bytes task step k x queue t can named is moves_so moving free room puts =
-    subst (λ (u : Transfer). CanMoveBytes queue u x) (sym is) (go queue named)
-  where
-    go : (o : Option ℕ) → o ≡ queue_of task → CanMoveBytes o (transfer_at task k x.present.table.ranges) x
-    go None e = record {
-      in_host = can.in_host;
-      end = can.end;
-      there = can.there;
-      free = free (sym e);
-      within = within_block (section_of task) k (first_address (transfer_at task k x.present.table.ranges)) (bare_state x) can (free (sym e)) (first_is task k (bare_state x) can);
-    }
-    go (Some q) e = step_puts task step q (transfer_at task k x.present.table.ranges) x x (sym e) moves_so moving room puts refl can.there
+can_move_bytes task step k x queue t can named is moves_so moving free room puts = grind (arith, nat_tests)
 
 -- a block that an update needs is not lent
 pub needed_free : (task : Task) (k : ℕ) (x : Environment) → CanNeed task (Moved k) x → queue_of task ≡ None → is_lent k x.device.loans ≡ false
-needed_free task k x needed none =
-    let one : not_lent (Some k) x.device.loans ≡ Ok tt = rw none at needed in
-    not_lent_says k x.device.loans one
+needed_free task k x needed none = grind (arith, nat_tests)
 
 -- ---- what it leaves
 
@@ -97,8 +57,7 @@ moved_as x y queue other t u e f h = subst (λ (o : Option ℕ). IsMovedBy o u x
 
 -- a transfer that is put takes the room of one
 one_put : (a b : Bool) → b ≡ true → cond a 1 0 ≤ cond (a && b) 1 0
-one_put true b e = rw e (omega arith)
-one_put false b e = omega arith
+one_put a b e = grind (arith, nat_tests)
 
 pub given_acts : (task : Task) (k : ℕ) (x y : Environment) (queue : Option ℕ) (t : Transfer) → gives_bytes task ≡ true → queue ≡ queue_of task → t ≡ transfer_at task k x.present.table.ranges → IsMovedBy queue t x y → IsGivenBy task k x y
 given_acts task k x y queue t gives named is moved =
@@ -108,10 +67,7 @@ given_acts task k x y queue t gives named is moved =
 
 pub moved_acts : (task : Task) (k : ℕ) (x y : Environment) (queue : Option ℕ) (t : Transfer) → queue ≡ queue_of task → t ≡ transfer_at task k x.present.table.ranges → IsMovedBy queue t x y → IsActedBy task (Moved k) x y
 unfolding step_state act_step act_row
-moved_acts task k x y queue t named is moved =
-    changed_to (moved_state (queue_of task) (transfer_at task k x.present.table.ranges)) (step_state task (Moved k)) [] 0 (λ q. cond (is_queue q (queue_of task)) 1 0) (λ q. puts_by q task (Moved k)) x y
-    (λ next. refl) (λ q. one_put (is_queue q (queue_of task)) true refl)
-    (moved_as x y queue (queue_of task) t (transfer_at task k x.present.table.ranges) named is moved)
+moved_acts task k x y queue t named is moved = grind (arith, nat_tests, moved_as x y queue (queue_of task) t (transfer_at task k x.present.table.ranges) named is moved)
 
 pub filled_acts : (queue : Option ℕ) (item : Item RegionClause) (k : ℕ) (section : Section) (x y : Environment) → is_some queue ≡ true → copies_in item.clause ≡ true → section ≡ section_named (is_attach item.clause) item.section
     → IsMovedBy queue (record { block = k; offset = 0; section = section; out = false }) x y → IsFilledLater queue item k x y

@@ -1,19 +1,19 @@
 -- What is held stays within the range of its block, whatever step is done; and each task that leaves finds what it held.
 use Rattle.std.proofs.Common.{ℕ, suc, ◌≡◌, ◌+◌, ◌-◌, ◌≤◌, refl, sym, ◌∙◌, ap, subst, Bool, true, false, cond, List, [], ◌∷◌, map, Option, Some, None, arith}
-use Rattle.std.specs.Prelude.{◌==◌, unwrap_or, option_map}
+use Rattle.std.specs.Prelude.{◌==◌, option_map}
 use Rattle.std.specs.List.{AllByRecursion}
 use Rattle.std.proofs.lemmas.Bool.Decides.{nat_tests}
 use Rattle.std.proofs.lemmas.List.Sums.{sum_by-cons}
 use Rattle.acc_clauses.specs.Words.{Section, Range, Holding, Task, Step, Did}
 use Rattle.acc_base.specs.declared.mappings.Counter.TheVariants.{Structured}
 use Rattle.acc_base.specs.declared.tasks.Task.TheVariants.{Leave}
-use Rattle.acc_base.specs.declared.events.Step.TheVariants.{Nothing, Counted, Born, Dropped}
+use Rattle.acc_base.specs.declared.events.Step.TheVariants.{Counted, Born, Dropped}
 use Rattle.acc_base.specs.Limits.{Limits, IsWithinBounds}
 use Rattle.acc_base.specs.Section.{is_within}
 use Rattle.acc_base.specs.Records.{Records}
-use Rattle.acc_base.specs.Ranges.{range_of, structured_of, changed_at, without_range, bare_range}
-use Rattle.acc_base.specs.Register.{is_counted_block, count_held}
-use Rattle.acc_base.specs.Tasks.{section_of, recounted}
+use Rattle.acc_base.specs.Ranges.{range_of, structured_of, changed_at, without_range}
+use Rattle.acc_base.specs.Register.{Region, is_counted_block, count_held}
+use Rattle.acc_base.specs.Tasks.{recounted}
 use Rattle.acc_base.specs.Steps.{act_row, act_step, act, released, records_after_birth, records_after_end, with_range_changed}
 use Rattle.acc_base.specs.History.{AreJudged}
 use Rattle.acc_base.specs.Accounts.{AreRecordsSound}
@@ -26,7 +26,7 @@ use Rattle.acc_base.proofs.Recounted.{names, birth_number}
 use Rattle.acc_base.proofs.Aimed.{IsLeft, task_left}
 use Rattle.acc_base.proofs.Memories.{recounted-block, recounted-section}
 use Rattle.acc_clauses.specs.Acts.{IsKnown, AreKnown}
-use Rattle.acc_clauses.specs.Stored.{IsHeldWithin, IsHoldingWithin}
+use Rattle.acc_clauses.specs.Stored.{IsHeldWithin, IsHoldingWithin, AreHoldingsWithin}
 use Rattle.acc_base.proofs.SameMapping.{mapping-act}
 use Rattle.acc_base.proofs.Lending.{range_of-with_other}
 
@@ -34,50 +34,36 @@ use Rattle.acc_base.proofs.Lending.{range_of-with_other}
 
 -- a change of counters leaves sections
 within_changed : (task : Task) (k b : ℕ) (rs : List Range) (s : Section) → ((r : Range) → range_of b rs ≡ Some r → is_within s r.section ≡ true) → (r : Range) → range_of b (changed_at k (recounted task) rs) ≡ Some r → is_within s r.section ≡ true
-within_changed task k b rs s h r e = go (range_of b rs) refl (sym (at-changed block_of k b (recounted task) rs (recounted-block task)) ∙ e)
-  where
-    sect : (x : Range) → range_of b rs ≡ Some x → (t : Bool) → is_within s (cond t (recounted task x) x).section ≡ true
-    sect x p true = rw (recounted-section task x) (h x p)
-    sect x p false = h x p
-
-    go : (o : Option Range) → range_of b rs ≡ o → option_map (λ (x : Range). cond (x.block == k) (recounted task x) x) o ≡ Some r → is_within s r.section ≡ true
-    go None p q = cc
-    go (Some x) p q =
-        let same : cond (x.block == k) (recounted task x) x ≡ r = cc in
-        subst (λ (y : Range). is_within s y.section ≡ true) same (sect x p (x.block == k))
+within_changed task k b rs s h r e = grind (arith, nat_tests, at-changed block_of k b (recounted task) rs (recounted-block task), recounted-section task)
 
 -- an end leaves the ranges of other blocks
 within_without : (k b : ℕ) (rs : List Range) (s : Section) → ((r : Range) → range_of b rs ≡ Some r → is_within s r.section ≡ true) → (r : Range) → range_of b (without_range k rs) ≡ Some r → is_within s r.section ≡ true
-within_without k b rs s h r e = go (b == k) refl
-  where
-    go : (t : Bool) → (b == k) ≡ t → is_within s r.section ≡ true
-    go true t =
-        let there : range_of k (without_range k rs) ≡ Some r = subst (λ n. range_of n (without_range k rs) ≡ Some r) (equal b k t) e in
-        let gone : range_of k (without_range k rs) ≡ None = at-without_same block_of k rs in
-        cc
-    go false t = h r (sym (at-without_other block_of k b rs t) ∙ e)
-
-above_differs : (k b n : ℕ) → k ≡ n + 1 → b ≤ n → (k == b) ≡ false
-above_differs k b n e h = grind (arith, nat_tests)
+within_without k b rs s h r e = grind (arith, nat_tests, at-without_same block_of k rs, at-without_other block_of k b rs)
 
 -- what is held stays within after a step
 pub within_step : (l : Limits) (task : Task) (step : Step) (w : Records) (s : Section) (b : ℕ) → IsJudgedTo l task step w → IsHeldWithin w s b → IsHeldWithin (act_step task step w) s b
 unfolding act_step act_row released records_after_birth records_after_end with_range_changed
 within_step l task (Counted k) w s b says h = record { born = h.born; within = within_changed task k b w.ranges s h.within }
-within_step l task (Born k p) w s b says h =
-    let new : Range = recounted task (bare_range (section_of task) k) in
-    let other : (new.block == b) ≡ false = rw (recounted-block task (bare_range (section_of task) k)) (above_differs k b w.births (birth_number l task k p w says) h.born) in
-    record { born = omega (arith, h.born); within = λ r e. h.within r (sym (range_of-with_other new b w.ranges other) ∙ e) }
+within_step l task (Born k p) w s b says h = grind (arith, nat_tests, birth_number, range_of-with_other)
 within_step l task (Dropped k true) w s b says h = record { born = h.born; within = within_without k b w.ranges s h.within }
 within_step l task (Dropped k false) w s b says h = record { born = h.born; within = within_changed task k b w.ranges s h.within }
 within_step l task _ w s b says h = record { born = h.born; within = h.within }
 
+-- what is held does not hang on other records than ranges and births
+held_same : (w v : Records) (s : Section) (b : ℕ) → v.ranges ≡ w.ranges → v.births ≡ w.births → IsHeldWithin w s b → IsHeldWithin v s b
+held_same w v s b ranges births h = record { born = subst (λ n. b ≤ n) (sym births) h.born; within = λ r e. h.within r (ap (range_of b) (sym ranges) ∙ e) }
+
+-- what open regions hold stays within where each section that is held does
+pub holdings_kept : (w v : Records) (regions : List Region) → ((s : Section) (k : ℕ) → IsHeldWithin w s k → IsHeldWithin v s k) → AreHoldingsWithin w regions → AreHoldingsWithin v regions
+holdings_kept w v regions keeps h = AllByRecursion-weaker (λ (r : Region). AllByRecursion (IsHoldingWithin w) r.holdings) (λ (r : Region). AllByRecursion (IsHoldingWithin v) r.holdings) regions
+    (λ r held. AllByRecursion-weaker (IsHoldingWithin w) (IsHoldingWithin v) r.holdings (λ x p k e. keeps x.item.section k (p k e)) held) h
+
+pub holdings_same : (w v : Records) (regions : List Region) → v.ranges ≡ w.ranges → v.births ≡ w.births → AreHoldingsWithin w regions → AreHoldingsWithin v regions
+holdings_same w v regions ranges births h = holdings_kept w v regions (λ s k p. held_same w v s k ranges births p) h
+
 -- the pointer of a task changes nothing of what is held
 pub held_act : (task : Task) (did : Did) (w : Records) (s : Section) (b : ℕ) → IsHeldWithin (act_step task did.step w) s b → IsHeldWithin (act task did w) s b
-held_act task did w s b h = record {
-  born = subst (λ n. b ≤ n) (sym (mapping-act task did w).births) h.born;
-  within = λ r e. h.within r (ap (range_of b) (sym (mapping-act task did w).ranges) ∙ e);
-}
+held_act task did w s b h = held_same (act_step task did.step w) (act task did w) s b (mapping-act task did w).ranges (mapping-act task did w).births h
 
 -- so it stays within after a task
 pub within_act : (l : Limits) (task : Task) (did : Did) (w : Records) (s : Section) (b : ℕ) → IsJudgedTo l task did.step w → IsHeldWithin w s b → IsHeldWithin (act task did w) s b
@@ -87,13 +73,7 @@ within_act l task did w s b says h = held_act task did w s b (within_step l task
 
 -- a block whose structured counter is above zero is mapped
 counted_mapped : (k : ℕ) (ranges : List Range) → 1 ≤ structured_of k ranges → (r : Range) × (range_of k ranges ≡ Some r)
-counted_mapped k ranges h = go (range_of k ranges) refl
-  where
-    go : (o : Option Range) → range_of k ranges ≡ o → (r : Range) × (range_of k ranges ≡ Some r)
-    go None p =
-        let zero : structured_of k ranges ≡ 0 = ap (λ (o : Option Range). unwrap_or (option_map (λ (r : Range). r.structured) o) 0) p in
-        absurd (omega (arith, h, zero))
-    go (Some r) p = (r, p)
+counted_mapped k ranges h = grind (arith, nat_tests)
 
 held-cons : (b : ℕ) (h : Holding) (hs : List Holding) → count_held b (h ∷ hs) ≡ cond (is_counted_block b h.block) 1 0 + count_held b hs
 held-cons b h hs = sum_by-cons (λ (x : Holding). cond (is_counted_block b x.block) 1 0) h hs
@@ -103,14 +83,11 @@ counted_self k block e = let same : (k == k) ≡ true = grind (arith, nat_tests)
 
 -- what a task that leaves makes of the structured counter of a block
 leave_names : (l : Limits) (b : ℕ) (h : Holding) (step : Step) (w : Records) → IsJudgedTo l (Leave h) step w → names b step ≡ is_counted_block b h.block
-leave_names l b h Nothing w says = rw says refl
-leave_names l b h (Dropped k ended) w says = rw says.0 refl
-leave_names l b h _ w says = absurd says
+leave_names l b h step w says = grind (arith, nat_tests)
 
 -- the counters still cover what is left to undo
 covers_next : (c : Bool) (m n k : ℕ) → cond c 1 0 + n ≤ m → k ≡ cond c (m - 1) m → n ≤ k
-covers_next true m n k h e = omega (arith, h, e)
-covers_next false m n k h e = omega (arith, h, e)
+covers_next c m n k h e = grind (arith, nat_tests)
 
 -- each task of the exit from a region finds the block that its entry counted
 pub leaves_known : (l : Limits) (n : ℕ) (hs : List Holding) (dids : List Did) (w : Records) → IsWithinBounds l → AreRecordsSound l w → AreJudged l n (map Leave hs) dids w → AllByRecursion (IsHoldingWithin w) hs

@@ -1,84 +1,59 @@
 -- What look-ups before the tasks of a plan say of the records after them.
-use Rattle.std.proofs.Common.{ℕ, ◌≡◌, ◌+◌, ◌<◌, ◌≤◌, refl, sym, ap, ◌∙◌, Bool, true, false, ◌&&◌, List, [], ◌∷◌, ◌++◌, length, suc, Option, Some, None, arith, ⊎_elim, inl, inr}
-use Rattle.std.specs.Prelude.{◌==◌, not, unwrap_or, option_map, All, IfSome}
+use Rattle.std.proofs.Common.{ℕ, ◌≡◌, ◌+◌, ◌<◌, ◌≤◌, refl, sym, ap, ◌∙◌, Bool, true, false, ◌&&◌, List, [], ◌∷◌, ◌++◌, length, suc, Option, Some, arith}
+use Rattle.std.specs.Prelude.{not, unwrap_or, option_map, All, IfSome}
 use Rattle.std.specs.List.{list_all, list_any, AllByRecursion}
 use Rattle.std.proofs.lemmas.List.Folds.{list_all-append, list_any-append}
 use Rattle.std.proofs.lemmas.List.Elements.{All-from_recursion}
 use Rattle.std.proofs.lemmas.Bool.Decides.{nat_tests}
-use Rattle.acc_base.specs.declared.addresses.TheConstants.{MEMORY_MAX}
-use Rattle.acc_clauses.specs.Words.{Section, Range, Counter, Counters, Found, Task, Step}
+use Rattle.acc_clauses.specs.Words.{Section, Range, Counters, Found, Task, Step}
 use Rattle.acc_base.specs.declared.mappings.Counter.TheVariants.{Structured, Dynamic}
-use Rattle.acc_base.specs.declared.mappings.Found.TheVariants.{Absent}
-use Rattle.acc_base.specs.declared.tasks.Task.TheVariants.{Enter, Exit}
-use Rattle.acc_base.specs.declared.events.Step.TheVariants.{Born, Dropped}
-use Rattle.acc_base.specs.Limits.{Limits, IsWithinBounds, IsFromOne}
-use Rattle.acc_base.specs.Section.{is_empty, is_within, end_of, host_memory, device_memory}
+use Rattle.acc_base.specs.Limits.{Limits, IsWithinBounds}
+use Rattle.acc_base.specs.Section.{end_of, device_memory}
 use Rattle.acc_base.specs.Records.{Records}
 use Rattle.acc_base.specs.Ranges.{where_is, where_is_apart, range_of, counter_in, structured_of, dynamic_of, is_unused, ends_by}
-use Rattle.acc_base.specs.Blocks.{rounded, place_for, fits_at}
-use Rattle.acc_base.specs.Tasks.{section_of, recounted}
+use Rattle.acc_base.specs.Blocks.{place_for}
+use Rattle.acc_base.specs.Tasks.{recounted}
 use Rattle.acc_base.specs.Steps.{act}
 use Rattle.acc_base.specs.History.{AreJudged}
-use Rattle.acc_base.specs.Accounts.{AreRecordsSound, IsCounted}
-use Rattle.acc_base.proofs.Results.{and_true}
-use Rattle.acc_base.proofs.Elements.{found_has, AllByRecursion-append}
-use Rattle.acc_base.proofs.Where.{absent_says}
+use Rattle.acc_base.specs.Accounts.{AreRecordsSound}
+use Rattle.acc_base.proofs.Elements.{found_has}
 use Rattle.acc_base.proofs.Places.{place_for-found}
-use Rattle.acc_base.proofs.Judged.{IsJudgedTo, IsBirth, task_says}
+use Rattle.acc_base.proofs.Judged.{IsJudgedTo, task_says}
 use Rattle.acc_placement.specs.Ranges.{IsTakeBelow}
 use Rattle.acc_dev.specs.Device.{planned_blocks}
 use Rattle.acc_clauses.specs.declared.acted.Acted.{Acted}
-use Rattle.acc_clauses.specs.Overlays.{IsPlanned, AreUnmixed, tasks_in, dids_in, records_after, enters, birth_by, births_of, end_by, ended_of, found_by, found_over, counters_in, counters_at, recount, are_zero, counters_over}
-use Rattle.acc_clauses.proofs.Overlaid.{or_false, birth_entry, bears_none, drops_none, sound-after, counters-after, found-entered, found-left, blocks-after, births-after}
+use Rattle.acc_clauses.specs.Overlays.{IsPlanned, AreUnmixed, tasks_in, dids_in, records_after, enters, births_of, end_by, ended_of, found_by, found_over, counters_at, recount, are_zero, counters_over}
+use Rattle.acc_clauses.proofs.Overlaid.{or_false, birth_entry, sound-after, counters-after, found-entered, found-left, blocks-after, births-after, first_enters}
 use Rattle.acc_present.proofs.Finding.{apart_from_none}
+use Rattle.acc_clauses.proofs.Legal.{birth_len}
 
 -- ---- where a section lies
 
 end_none : (l : Limits) (task : Task) (step : Step) (w : Records) → IsJudgedTo l task step w → enters task ≡ true → end_by step ≡ []
-end_none l task (Dropped k ended) w says none = absurd (drops_none l task k ended w says none)
-end_none l task _ w says none = refl
+end_none l task step w says none = grind (arith, nat_tests)
 
 ended_none : (l : Limits) (n : ℕ) (xs : List Acted) (w : Records) → AreJudged l n (tasks_in xs) (dids_in xs) w → list_all enters (tasks_in xs) ≡ true → ended_of xs ≡ []
 ended_none l n [] w judged all = refl
 ended_none l n (x ∷ xs) w judged all =
-    let says = task_says l n x.task w x.did.step judged.0 in
-    let parts : (enters x.task ≡ true) × (list_all enters (tasks_in xs) ≡ true) = and_true _ _ all in
-    let first : end_by x.did.step ≡ [] = end_none l x.task x.did.step w says parts.0 in
-    let rest : ended_of xs ≡ [] = ended_none l (suc n) xs (act x.task x.did w) judged.2 parts.1 in
-    rw (first, rest) refl
+    rw (end_none l x.task x.did.step w (task_says l n x.task w x.did.step judged.0) (first_enters x xs all).0, ended_none l (suc n) xs (act x.task x.did w) judged.2 (first_enters x xs all).1) refl
 
 found_stays : (l : Limits) (task : Task) (step : Step) (w : Records) (s : Section) (f : Found) → IsJudgedTo l task step w → enters task ≡ false → found_by s f task step ≡ f
-found_stays l task (Born k p) w s f says none = absurd (bears_none l task k p w says none)
-found_stays l task _ w s f says none = refl
+found_stays l task step w s f says none = grind (arith, nat_tests)
 
 found_same : (l : Limits) (n : ℕ) (xs : List Acted) (w : Records) (s : Section) (f : Found) → AreJudged l n (tasks_in xs) (dids_in xs) w → list_any enters (tasks_in xs) ≡ false → found_over s f xs ≡ f
 found_same l n [] w s f judged none = refl
 found_same l n (x ∷ xs) w s f judged none =
-    let says = task_says l n x.task w x.did.step judged.0 in
-    let parts : (enters x.task ≡ false) × (list_any enters (tasks_in xs) ≡ false) = or_false _ _ none in
-    ap (λ g. found_over s g xs) (found_stays l x.task x.did.step w s f says parts.0) ∙ found_same l (suc n) xs (act x.task x.did w) s f judged.2 parts.1
+    ap (λ g. found_over s g xs) (found_stays l x.task x.did.step w s f (task_says l n x.task w x.did.step judged.0) (or_false (enters x.task) (list_any enters (tasks_in xs)) none).0)
+    ∙ found_same l (suc n) xs (act x.task x.did w) s f judged.2 (or_false (enters x.task) (list_any enters (tasks_in xs)) none).1
 
 pub found-planned : (l : Limits) (xs : List Acted) (w : Records) (s : Section) → IsPlanned l xs w → AreUnmixed (tasks_in xs)
     → found_over s (where_is_apart s (ended_of xs) w.ranges) xs ≡ where_is s (records_after xs w).ranges
-found-planned l xs w s p unmixed = ⊎_elim
-    (λ all. ap (λ es. found_over s (where_is_apart s es w.ranges) xs) (ended_none l 0 xs w p.judged all)
-    ∙ ap (λ f. found_over s f xs) (apart_from_none s w.ranges)
-    ∙ found-entered l 0 xs w s p.judged all)
-    (λ none. found_same l 0 xs w s (where_is_apart s (ended_of xs) w.ranges) p.judged none ∙ found-left l 0 xs w s p.judged none)
-    unmixed
+found-planned l xs w s p unmixed = grind (arith, nat_tests, ended_none, apart_from_none, found-entered, found_same, found-left)
 
 -- ---- counters
 
 pub counters-planned : (l : Limits) (xs : List Acted) (w : Records) (b : ℕ) → IsPlanned l xs w → counters_over b (counters_at b w.ranges) xs ≡ counters_at b (records_after xs w).ranges
 counters-planned l xs w b p = counters-after l 0 xs w b p.bounds p.sound p.judged
-
-recounted_both : (task : Task) (r : Range) → is_unused (recounted task r) ≡ are_zero (recount task (counters_in r))
-recounted_both (Enter counter item queue) r = go counter
-  where
-    go : (c : Counter) → is_unused (recounted (Enter c item queue) r) ≡ are_zero (recount (Enter c item queue) (counters_in r))
-    go c = elim c as (λ v. is_unused (recounted (Enter v item queue) r) ≡ are_zero (recount (Enter v item queue) (counters_in r))) [ Structured ↦ refl | Dynamic ↦ refl ]
-recounted_both (Exit true item queue) r = refl
-recounted_both _ r = refl
 
 -- both counters of a range that is looked for; both are 0 where there is none
 abbrev counters_found : Option Range → Counters
@@ -88,22 +63,14 @@ counters_found o = record { structured = unwrap_or (option_map (counter_in Struc
 abbrev IsReferenced : Range → Type 0
 IsReferenced r = 0 < r.structured + r.dynamic
 
-above_not : (r : Range) → IsReferenced r → are_zero (counters_in r) ≡ false
-above_not r above = grind (arith, nat_tests)
-
 unless : (z x y : Bool) → z ≡ false → x ≡ y → x ≡ (not z && y)
-unless true x y e f = cc
-unless false x y e f = f
+unless z x y e f = grind (arith, nat_tests)
 
 ends_found : (task : Task) (o : Option Range) → IfSome o IsReferenced → unwrap_or (option_map (λ r. is_unused (recounted task r)) o) false ≡ (not (are_zero (counters_found o)) && are_zero (recount task (counters_found o)))
-ends_found task None above = refl
-ends_found task (Some r) above = unless (are_zero (counters_in r)) (is_unused (recounted task r)) (are_zero (recount task (counters_in r))) (above_not r above) (recounted_both task r)
+ends_found task o above = grind (arith, nat_tests)
 
 found_above : (l : Limits) (w : Records) (b : ℕ) (o : Option Range) → range_of b w.ranges ≡ o → AreRecordsSound l w → IfSome o IsReferenced
-found_above l w b None e h = tt
-found_above l w b (Some r) e h =
-    let has : IsCounted l r × ((r.block == b) ≡ true) = found_has (IsCounted l) (λ t. t.block == b) w.ranges r h.counted e in
-    has.0.some
+found_above l w b o e h = grind (arith, nat_tests, found_has)
 
 -- a range is mapped just as long as one of its counters is above zero
 pub ends-planned : (l : Limits) (xs : List Acted) (w : Records) (task : Task) (b : ℕ) → IsPlanned l xs w
@@ -112,45 +79,19 @@ ends-planned l xs w task b p =
     let after : Records = records_after xs w in
     ends_found task (range_of b after.ranges) (found_above l after b (range_of b after.ranges) refl (sound-after l 0 xs w p.bounds p.sound p.judged))
 
-both_read : (c : Counters) (s d : ℕ) → c.structured ≡ s → c.dynamic ≡ d → ◌≡◌ {A = Counters} c (record { structured = s; dynamic = d })
-both_read c s d e f =
-    let first : ◌≡◌ {A = Counters} c (record { structured = s; dynamic = c.dynamic }) = ap (λ (n : ℕ). let r : Counters = record { structured = n; dynamic = c.dynamic } in r) e in
-    let second : ◌≡◌ {A = Counters} (record { structured = s; dynamic = c.dynamic }) (record { structured = s; dynamic = d }) = ap (λ (n : ℕ). let r : Counters = record { structured = s; dynamic = n } in r) f in
-    first ∙ second
-
 -- what is read of a block before the tasks gives its counters after them
 pub counters_read : (l : Limits) (xs acts : List Acted) (w : Records) (b : ℕ) (c r : Counters) → IsPlanned l xs w → acts ≡ xs → c.structured ≡ structured_of b w.ranges → c.dynamic ≡ dynamic_of b w.ranges
     → r ≡ counters_over b c acts → r ≡ counters_at b (records_after xs w).ranges
-counters_read l xs acts w b c r p same s d e =
-    let read : c ≡ counters_at b w.ranges = both_read c _ _ s d in
-    e ∙ (ap (λ ys. counters_over b c ys) same ∙ (ap (λ k. counters_over b k xs) read ∙ counters-planned l xs w b p))
+counters_read l xs acts w b c r p same s d e = grind (arith, nat_tests, counters-planned l xs w b p)
 
 -- ---- births
 
-birth_len : (l : Limits) (s : Section) (ranges : List Range) → IsWithinBounds l → is_within s (host_memory l.host) ≡ true → where_is s ranges ≡ Absent → IsFromOne MEMORY_MAX s.len
-birth_len l s ranges bounds within absent =
-    let filled : is_empty s ≡ false = (absent_says s ranges absent).1 in
-    let most : l.host ≤ MEMORY_MAX = bounds.host.1 in
-    grind (arith, nat_tests)
-
 place_below : (l : Limits) (w : Records) (size p : ℕ) → place_for (device_memory l.device) w.blocks size ≡ Some p → p + size ≤ end_of (device_memory l.device)
-place_below l w size p e =
-    let fits : fits_at (device_memory l.device) w.blocks size p ≡ true = (rw e at (place_for-found (device_memory l.device) w.blocks size)).0 in
-    let bounds : is_within (record { start = p; len = size }) (device_memory l.device) ≡ true = (and_true _ _ fits).0 in
-    grind (arith, nat_tests)
-
-take_by : (l : Limits) (task : Task) (step : Step) (w : Records) → IsWithinBounds l → IsJudgedTo l task step w → AllByRecursion (IsTakeBelow (end_of (device_memory l.device))) (birth_by task step)
-take_by l task (Born k p) w bounds says =
-    let birth : IsBirth l (section_of task) k p w = birth_entry l task k p w says in
-    ((birth_len l (section_of task) w.ranges bounds birth.within birth.absent, place_below l w (rounded (section_of task).len) p birth.place_is), tt)
-take_by l task _ w bounds says = tt
+place_below l w size p e = grind (arith, nat_tests, place_for-found (device_memory l.device) w.blocks size)
 
 takes : (l : Limits) (n : ℕ) (xs : List Acted) (w : Records) → IsWithinBounds l → AreJudged l n (tasks_in xs) (dids_in xs) w → AllByRecursion (IsTakeBelow (end_of (device_memory l.device))) (births_of xs)
 takes l n [] w bounds judged = tt
-takes l n (x ∷ xs) w bounds judged =
-    AllByRecursion-append (IsTakeBelow (end_of (device_memory l.device))) (birth_by x.task x.did.step) (births_of xs)
-    (take_by l x.task x.did.step w bounds (task_says l n x.task w x.did.step judged.0))
-    (takes l (suc n) xs (act x.task x.did w) bounds judged.2)
+takes l n (x ∷ xs) w bounds judged = grind (arith, nat_tests, takes l (suc n) xs (act x.task x.did w) bounds judged.2, birth_entry, birth_len, place_below, task_says l n x.task w x.did.step judged.0)
 
 -- each block that the tasks bear ends on the device
 pub takes-planned : (l : Limits) (xs : List Acted) (w : Records) → IsPlanned l xs w → All (IsTakeBelow (end_of (device_memory l.device))) (births_of xs)
@@ -169,9 +110,6 @@ pub ruleset plan_laws = (found-planned, counters-planned, ends-planned, takes-pl
 
 -- the first tasks of some that are unmixed
 pub unmixed_front : (ts us : List Task) → AreUnmixed (ts ++ us) → AreUnmixed ts
-unmixed_front ts us unmixed = ⊎_elim
-    (λ e. inl (and_true (list_all enters ts) (list_all enters us) (sym (list_all-append enters ts us) ∙ e)).0)
-    (λ e. inr (or_false (list_any enters ts) (list_any enters us) (sym (list_any-append enters ts us) ∙ e)).0)
-    unmixed
+unmixed_front ts us unmixed = grind (arith, nat_tests, list_all-append, list_any-append)
 
 pub ruleset kind_laws = (unmixed_front)

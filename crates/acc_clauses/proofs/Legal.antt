@@ -1,40 +1,34 @@
 -- A step that a task is judged to do can be done.
-use Rattle.std.proofs.Common.{ℕ, ◌≡◌, ◌+◌, ◌<◌, ◌≤◌, ◌^◌, refl, sym, ◌∙◌, subst, true, false, List, [], ◌∷◌, Option, Some, None, arith}
+use Rattle.std.proofs.Common.{ℕ, ◌≡◌, ◌+◌, ◌<◌, ◌≤◌, ◌^◌, sym, subst, true, false, List, [], ◌∷◌, Option, Some, None, arith}
 use Rattle.std.specs.Prelude.{◌==◌, IsSome}
 use Rattle.std.specs.List.{AllByRecursion, AllZip}
 use Rattle.std.proofs.lemmas.Bool.Decides.{nat_tests}
 use Rattle.acc_base.specs.declared.addresses.TheConstants.{MEMORY_MAX}
 use Rattle.acc_clauses.specs.Words.{Section, Range, Block, Loan, Task, Step}
-use Rattle.acc_base.specs.Loans.{loan_of, is_lent}
-use Rattle.std.specs.Prelude as tests
+use Rattle.acc_base.specs.Loans.{is_lent}
 use Rattle.acc_base.specs.declared.mappings.Found.TheVariants.{Inside}
 use Rattle.acc_base.specs.declared.tasks.Task.TheVariants.{Enter, Leave, Exit, Move}
 use Rattle.acc_base.specs.declared.events.Step.TheVariants.{Nothing, Counted, Born, Dropped, Moved}
 use Rattle.acc_base.specs.Limits.{Limits, IsWithinBounds, IsFromOne}
-use Rattle.acc_base.specs.Section.{end_of, is_within, is_empty, host_memory, device_memory}
+use Rattle.acc_base.specs.Section.{end_of, is_within, host_memory, device_memory}
 use Rattle.acc_base.specs.Queues.{pins_of}
 use Rattle.acc_base.specs.Records.{Records, Memory, State}
 use Rattle.acc_base.specs.Ranges.{where_is, range_of}
 use Rattle.acc_base.specs.Blocks.{block_at}
 use Rattle.acc_base.specs.Tasks.{section_of}
-use Rattle.acc_base.specs.Accounts.{IsHostSection, IsMapped, IsCounted, IsMemoryOf, AreRecordsSound, AreMemoriesSized, IsLoanSound}
+use Rattle.acc_base.specs.Accounts.{IsHostSection, IsMapped, IsCounted, IsMemoryOf, AreRecordsSound, AreMemoriesSized}
 use Rattle.acc_base.proofs.Results.{equal}
-use Rattle.acc_base.proofs.Elements.{AllByRecursion-weaker, AllByRecursion-both, found_has}
+use Rattle.acc_base.proofs.Elements.{AllByRecursion-weaker, found_has}
 use Rattle.acc_base.proofs.Lookups.{at-own}
-use Rattle.acc_base.proofs.Where.{IsInsideOf, inside_says, absent_says}
+use Rattle.acc_base.proofs.Where.{IsInsideOf, inside_says}
 use Rattle.acc_base.proofs.Judged.{IsBirth, IsInRangeOf, IsJudgedTo}
 use Rattle.acc_base.proofs.Sound.{ranges_born}
 use Rattle.acc_clauses.specs.Acts.{IsMappedAround, IsKnown, CanMove, CanBear, CanAct}
 use Rattle.acc_clauses.proofs.Marked.{unborn_unpinned}
 use Rattle.acc_clauses.proofs.Moving.{bytes_of-len, some_of}
-use Rattle.acc_clauses.proofs.Runs.{within_both}
 use Rattle.acc_clauses.proofs.Steps.{is_some}
 
 -- ---- sections
-
--- a section of host memory is no longer than it
-host_len : (s : Section) (n : ℕ) → is_within s (host_memory n) ≡ true → s.len ≤ n
-host_len s n h = grind (arith, nat_tests)
 
 -- and ends below it
 pub host_end : (s : Section) (n : ℕ) → is_within s (host_memory n) ≡ true → n ≤ MEMORY_MAX → end_of s ≤ 2 ^ 40
@@ -54,22 +48,7 @@ record IsWhole (l : Limits) (w : Records) (r : Range) : Type 0 where
   in_host : IsHostSection l r.section
 
 pub can_move : (l : Limits) (s : State) (section : Section) (k : ℕ) → IsWithinBounds l → AreRecordsSound l s.records → AreMemoriesSized l s → IsMappedAround s.records section k → CanMove section k s
-can_move l s section k bounds h m around =
-    let has : IsWhole l s.records around.range × ((around.range.block == k) ≡ true) =
-    found_has (IsWhole l s.records) (λ r. r.block == k) s.records.ranges around.range
-    (AllByRecursion-both (IsMapped s.records.blocks) (λ r. IsHostSection l r.section) (IsWhole l s.records) s.records.ranges (λ r a b. record { mapped = a; in_host = b }) h.one_block_each.mapped h.ranges_apart.in_host) around.range_is in
-    let b : Block = has.0.mapped.0 in
-    let there : block_at k s.records.blocks ≡ Some b = subst (λ n. block_at n s.records.blocks ≡ Some b) (equal around.range.block k has.1) has.0.mapped.1 in
-    let inside : is_within section (host_memory l.host) ≡ true = within_both section around.range.section (host_memory l.host) around.within has.0.in_host.within in
-    record {
-      in_host = subst (λ n. is_within section (host_memory n) ≡ true) (sym m.host) inside;
-      end = host_end section l.host inside bounds.host.1;
-      range = around.range;
-      range_is = around.range_is;
-      within = around.within;
-      there = is_some (block_at k s.records.blocks) b there;
-      len = λ free. bytes_of-len s.records.loans k s.memories s.records.blocks b m.blocks free there ∙ has.0.mapped.2;
-    }
+can_move l s section k bounds h m around = grind (arith, nat_tests, found_has, equal, host_end, is_some, bytes_of-len)
 
 -- the counters of the range of a block keep their limit
 pub limit_of : (l : Limits) (w : Records) (k : ℕ) (r : Range) → AreRecordsSound l w → range_of k w.ranges ≡ Some r → IsCounted l r
@@ -79,59 +58,33 @@ limit_of l w k r h e = let has : IsCounted l r × ((r.block == k) ≡ true) = fo
 no_memory : (ls : List Loan) (k births : ℕ) (ms : List Memory) (bs : List Block) → AllZip (IsMemoryOf ls) ms bs → AllByRecursion (λ b. b.number ≤ births) bs → k ≡ births + 1 → AllByRecursion (λ m. m.block ≡ k → ⊥) ms
 no_memory ls k births [] bs h low e = tt
 no_memory ls k births (m ∷ ms) [] h low e = absurd h
-no_memory ls k births (m ∷ ms) (b ∷ bs) h low e = (
-  (λ same. let below : b.number ≤ births = low.0 in let owner : m.block ≡ b.number = h.0.block in omega (arith, e, below, owner, same)),
-  no_memory ls k births ms bs h.1 low.1 e,
-)
+no_memory ls k births (m ∷ ms) (b ∷ bs) h low e = grind (arith, nat_tests, no_memory ls k births ms bs h.1 low.1 e)
 
 -- nor has it an attachment counter
 no_pointer : (l : Limits) (k : ℕ) (w : Records) → AreRecordsSound l w → k ≡ w.births + 1 → AllByRecursion (λ a. a.block ≡ k → ⊥) w.attached
-no_pointer l k w h e = AllByRecursion-weaker (λ a. IsSome (block_at a.block w.blocks)) (λ a. a.block ≡ k → ⊥) w.attached (λ a there same.
-    let b : (b : Block) × (block_at a.block w.blocks ≡ Some b) = some_of (block_at a.block w.blocks) there in
-    let has : (b.0.number ≤ w.births) × ((b.0.number == a.block) ≡ true) = found_has (λ b. b.number ≤ w.births) (λ b. b.number == a.block) w.blocks b.0 h.blocks_apart.born b.1 in
-    let own : b.0.number ≡ a.block = equal b.0.number a.block has.1 in
-    omega (arith, e, own, same, has.0)) h.attached.there
+no_pointer l k w h e = AllByRecursion-weaker (λ a. IsSome (block_at a.block w.blocks)) (λ a. a.block ≡ k → ⊥) w.attached (λ a there same. grind (arith, nat_tests, found_has)) h.attached.there
 
 -- nor a loan
 unborn_free : (l : Limits) (w : Records) (k : ℕ) → k ≡ w.births + 1 → AreRecordsSound l w → is_lent k w.loans ≡ false
-unborn_free l w k number h = go (loan_of k w.loans) refl
-  where
-    apart : (r : Range) → r.block ≤ w.births → (r.block == k) ≡ true → ⊥
-    apart r low same = let is : r.block ≡ k = equal r.block k same in omega (arith, number, low, is)
-
-    go : (o : Option Loan) → loan_of k w.loans ≡ o → tests.is_some o ≡ false
-    go None e = refl
-    go (Some x) e =
-        let has : IsLoanSound w.ranges x × ((x.block == k) ≡ true) = found_has (IsLoanSound w.ranges) (λ y. y.block == k) w.loans x h.loans.sound e in
-        let mapped : (has.0.range.block ≤ w.births) × ((has.0.range.block == x.block) ≡ true) = found_has (λ r. r.block ≤ w.births) (λ r. r.block == x.block) w.ranges has.0.range (ranges_born l w h) has.0.mapped in
-        let own : x.block ≡ k = equal x.block k has.1 in
-        absurd (apart has.0.range mapped.0 (subst (λ n. (has.0.range.block == n) ≡ true) own mapped.1))
+unborn_free l w k number h = grind (arith, nat_tests, found_has)
 
 -- a look-up that does not find nothing finds something
 not_none : {X : Type 0} (o : Option X) → (o ≡ None → ⊥) → IsSome o
-not_none None h = absurd (h refl)
-not_none (Some x) h = refl
+not_none o h = grind (arith, nat_tests)
 
 -- ---- what each step needs
 
 -- a block that can be born is not too long
 pub birth_len : (l : Limits) (section : Section) (k place : ℕ) (w : Records) → IsWithinBounds l → IsBirth l section k place w → IsFromOne MEMORY_MAX section.len
-birth_len l section k place w bounds says =
-    let filled : is_empty section ≡ false = (absent_says section w.ranges says.absent).1 in
-    let some : 1 ≤ section.len = grind (arith, nat_tests) in
-    let most : section.len ≤ MEMORY_MAX = omega (arith, host_len section l.host says.within, bounds.host.1) in
-    (some, most)
+birth_len l section k place w bounds says = grind (arith, nat_tests)
 
 can_bear : (l : Limits) (s : State) (section : Section) (k place : ℕ) → IsWithinBounds l → AreRecordsSound l s.records → AreMemoriesSized l s → s.records.births < 2 ^ 48 → IsBirth l section k place s.records
     → CanBear l.counter_max (device_memory l.device) section k place s
 can_bear l s section k place bounds h m few says =
-    let filled : is_empty section ≡ false = (absent_says section s.records.ranges says.absent).1 in
-    let some : 1 ≤ section.len = grind (arith, nat_tests) in
-    let most : section.len ≤ MEMORY_MAX = omega (arith, host_len section l.host says.within, bounds.host.1) in
     record {
       in_host = subst (λ n. is_within section (host_memory n) ≡ true) (sym m.host) says.within;
       absent = says.absent;
-      len = (some, most);
+      len = birth_len l section k place s.records bounds says;
       number = says.number;
       place_is = says.place_is;
       few = few;

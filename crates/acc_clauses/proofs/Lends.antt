@@ -1,16 +1,14 @@
 -- A block is lent, and comes back: what the device needs for it, and what it leaves of the parts and of a store.
-use Rattle.std.proofs.Common.{ℕ, ◌≡◌, ◌+◌, ◌-◌, ◌<◌, ◌≤◌, refl, sym, ◌∙◌, ap, subst, Bool, true, false, cond, List, [], ◌∷◌, Option, Some, None, Ok, arith}
-use Rattle.std.specs.Prelude.{◌==◌, not, is_none, is_some, unwrap_or, option_map, IsSome, nat_lt, length}
+use Rattle.std.proofs.Common.{ℕ, ◌≡◌, ◌+◌, ◌-◌, ◌<◌, ◌≤◌, refl, sym, ◌∙◌, ap, subst, Bool, true, false, List, [], ◌∷◌, Option, Some, Ok, arith}
+use Rattle.std.specs.Prelude.{◌==◌, not, is_none, is_some, length}
 use Rattle.std.proofs.lemmas.Bool.Decides.{nat_tests}
 use Rattle.std.specs.List.{AllByRecursion, AllZip}
-use Rattle.acc_clauses.specs.Words.{Section, Range, Block, Loan, Holding, Event}
+use Rattle.acc_clauses.specs.Words.{Section, Range, Block, Loan, Event}
 use Rattle.acc_base.specs.declared.faults.Fault.TheVariants.{NoLease}
 use Rattle.acc_base.specs.declared.events.Event.TheVariants.{Lent, Gathered}
 use Rattle.acc_base.specs.Results.{refuse_if}
 use Rattle.acc_base.specs.Limits.{Limits, IsWithinBounds}
 use Rattle.acc_base.specs.Records.{Records, State, layout_of}
-use Rattle.acc_base.specs.Register.{Region}
-use Rattle.acc_base.specs.Ranges.{range_of}
 use Rattle.acc_base.specs.Blocks.{block_at, used_bytes}
 use Rattle.acc_base.specs.Loans.{Leased, loan_of, is_loan_of, is_lent, with_loan, without_loan, len_of, is_returnable}
 use Rattle.acc_base.specs.Walk.{loan_at, loaned}
@@ -18,9 +16,9 @@ use Rattle.acc_base.specs.Waits.{drained}
 use Rattle.acc_base.specs.Acting.{act_all_state, after}
 use Rattle.acc_base.specs.Judge.{gather_event}
 use Rattle.acc_base.specs.History.{IsLegal}
-use Rattle.acc_base.specs.Accounts.{EachPair, IsMapped, IsLoanSound, AreRecordsSound, AreMemoriesSized}
+use Rattle.acc_base.specs.Accounts.{EachPair, IsLoanSound, AreRecordsSound, AreMemoriesSized}
 use Rattle.acc_base.proofs.Results.{equal, and_true, then_ok, refused_not, not_false}
-use Rattle.acc_base.proofs.Elements.{found_has, AllByRecursion-weaker}
+use Rattle.acc_base.proofs.Elements.{found_has}
 use Rattle.acc_base.proofs.Lending.{loans-with, loans-without}
 use Rattle.acc_base.proofs.Loaned.{with_loans, placed_loan}
 use Rattle.acc_base.proofs.Memories.{lent_sized, gathered_sized}
@@ -30,11 +28,12 @@ use Rattle.acc_dev.specs.Device.{DeviceState, HasBlock, IsTakenOut, IsPutBack}
 use Rattle.acc_clauses.specs.declared.environments.Environment.{Environment}
 use Rattle.acc_clauses.specs.declared.numbers.Numbers.{Numbers}
 use Rattle.acc_clauses.specs.Contents.{Contents, state_of, ArePartsSound}
-use Rattle.acc_clauses.specs.Stored.{IsStoreSound, AreHoldingsWithin, IsHeldWithin, IsHoldingWithin}
+use Rattle.acc_clauses.specs.Stored.{IsStoreSound, AreHoldingsWithin}
 use Rattle.acc_clauses.specs.Lending.{IsLoanPlanned, lent_state, gathered_state}
 use Rattle.acc_clauses.proofs.Changes.{state_by}
 use Rattle.acc_clauses.proofs.Standing.{told}
 use Rattle.acc_clauses.proofs.AfterPlan.{event_sound}
+use Rattle.acc_clauses.proofs.Holding.{holdings_same}
 
 -- ---- what the device needs
 
@@ -45,27 +44,16 @@ record IsThere (blocks : List Block) (loan : Loan) (range : Range) : Type 0 wher
   len : block.len ≡ range.section.len
 
 loan_there : (l : Limits) (w : Records) (loan : Loan) → AreRecordsSound l w → (sound : IsLoanSound w.ranges loan) → IsThere w.blocks loan sound.range
-loan_there l w loan h sound =
-    let has : IsMapped w.blocks sound.range × ((sound.range.block == loan.block) ≡ true) = found_has (IsMapped w.blocks) (λ r. r.block == loan.block) w.ranges sound.range h.one_block_each.mapped sound.mapped in
-    record { block = has.0.0; at = subst (λ n. block_at n w.blocks ≡ Some has.0.0) (equal sound.range.block loan.block has.1) has.0.1; len = has.0.2 }
+loan_there l w loan h sound = grind (arith, nat_tests, found_has)
 
-some_block : (o : Option Block) (b : Block) → o ≡ Some b → IsSome o
-some_block None b e = cc
-some_block (Some c) b e = refl
-
-pub lend_there : (l : Limits) (x : Environment) (n : Numbers) (loan : Loan) → ArePartsSound l x n → IsLoanSound x.present.table.ranges loan → HasBlock x.device loan.block
-lend_there l x n loan parts sound =
-    let there : IsThere x.device.blocks loan sound.range = loan_there l (state_of x n).records loan parts.sound.records sound in
-    some_block (block_at loan.block x.device.blocks) there.block there.at
+pub loan_has_block : (l : Limits) (x : Environment) (n : Numbers) (loan : Loan) → ArePartsSound l x n → IsLoanSound x.present.table.ranges loan → HasBlock x.device loan.block
+loan_has_block l x n loan parts sound = grind (arith, nat_tests, loan_there l (state_of x n).records loan parts.sound.records sound)
 
 pub lend_mapped : (l : Limits) (x : Environment) (n : Numbers) (loan : Loan) → ArePartsSound l x n → AllZip IsMarkOf x.device.marks x.device.blocks → IsLoanSound x.present.table.ranges loan → is_ended_at loan.block x.device.marks ≡ false
-lend_mapped l x n loan parts zip sound = (told l x n loan.block parts zip (lend_there l x n loan parts sound)).ended ∙ ap is_none sound.mapped
+lend_mapped l x n loan parts zip sound = (told l x n loan.block parts zip (loan_has_block l x n loan parts sound)).ended ∙ ap is_none sound.mapped
 
 pub lend_within : (l : Limits) (x : Environment) (n : Numbers) (loan : Loan) → ArePartsSound l x n → IsLoanSound x.present.table.ranges loan → loan.offset + loan.len ≤ len_of loan.block x.device.blocks
-lend_within l x n loan parts sound =
-    let there : IsThere x.device.blocks loan sound.range = loan_there l (state_of x n).records loan parts.sound.records sound in
-    let long : len_of loan.block x.device.blocks ≡ there.block.len = ap (λ (o : Option Block). unwrap_or (option_map (λ (b : Block). b.len) o) 0) there.at in
-    omega (arith, long, there.len, sound.within)
+lend_within l x n loan parts sound = grind (arith, nat_tests, loan_there l (state_of x n).records loan parts.sound.records sound)
 
 -- ---- the parts
 
@@ -79,18 +67,12 @@ numbered_off n = record { region = n.region; serial = n.serial; lent = n.lent - 
 -- one loan more
 length-with : (new : Loan) (ls : List Loan) → length (with_loan new ls) ≡ length ls + 1
 length-with new [] = refl
-length-with new (l ∷ ls) = go (nat_lt new.block l.block) (length-with new ls)
-  where
-    go : (b : Bool) → length (with_loan new ls) ≡ length ls + 1 → length (cond b (new ∷ l ∷ ls) (l ∷ with_loan new ls)) ≡ length (l ∷ ls) + 1
-    go true rest = omega arith
-    go false rest = omega (arith, rest)
+length-with new (l ∷ ls) = grind (arith, nat_tests, length-with new ls)
 
 -- the loans of later blocks stay
 without-later : (block : ℕ) (ls : List Loan) → AllByRecursion (λ (l : Loan). block < l.block) ls → without_loan block ls ≡ ls
 without-later block [] later = refl
-without-later block (l ∷ ls) later =
-    let other : (l.block == block) ≡ false = grind (arith, nat_tests, later.0) in
-    rw other (ap (λ ms. l ∷ ms) (without-later block ls later.1))
+without-later block (l ∷ ls) later = grind (arith, nat_tests, without-later block ls later.1)
 
 -- where a block is lent, there is a loan
 some_lent : (block : ℕ) (ls : List Loan) → is_lent block ls ≡ true → 0 < length ls
@@ -107,15 +89,11 @@ length-without block (l ∷ ls) rising lent = go (l.block == block) refl (length
         let own : AllByRecursion (λ (m : Loan). block < m.block) ls = subst (λ n. AllByRecursion (λ (m : Loan). n < m.block) ls) (equal l.block block e) rising.0 in
         let later : length (without_loan block ls) ≡ length ls = ap length (without-later block ls own) in
         rw e (omega (arith, later))
-    go false e rest =
-        let step : is_lent block (l ∷ ls) ≡ is_lent block ls = rw e refl in
-        let left : is_lent block ls ≡ true = sym step ∙ lent in
-        rw e (omega (arith, rest left, some_lent block ls left))
+    go false e rest = grind (arith, nat_tests, some_lent)
 
 -- what is a lease's is some loan
 loan_some : (lease : Leased) (o : Option Loan) → is_loan_of lease o ≡ true → is_some o ≡ true
-loan_some lease None e = cc
-loan_some lease (Some l) e = refl
+loan_some lease o e = grind (arith, nat_tests)
 
 -- the block of a lease that is returnable is lent
 returnable_lent : (lease : Leased) (w : Records) → is_returnable lease w.blocks w.loans ≡ true → is_lent lease.block w.loans ≡ true
@@ -188,25 +166,16 @@ pub gathered_after : (lease : Leased) (s : State) → gathered_state lease s ≡
 unfolding after loaned drained act_all_state
 gathered_after lease s = refl
 
--- what open regions hold stays where it is
-kept_holdings : (s t : State) → t.records.ranges ≡ s.records.ranges → t.records.births ≡ s.records.births → t.register.regions ≡ s.register.regions → AreHoldingsWithin s.records s.register.regions → AreHoldingsWithin t.records t.register.regions
-kept_holdings s t ranges births regions h = subst (AreHoldingsWithin t.records) (sym regions)
-    (AllByRecursion-weaker (λ (r : Region). AllByRecursion (IsHoldingWithin s.records) r.holdings) (λ (r : Region). AllByRecursion (IsHoldingWithin t.records) r.holdings) s.register.regions
-    (λ r held. AllByRecursion-weaker (IsHoldingWithin s.records) (IsHoldingWithin t.records) r.holdings (λ x p k e. one x k (p k e)) held) h)
-  where
-    one : (x : Holding) (k : ℕ) → IsHeldWithin s.records x.item.section k → IsHeldWithin t.records x.item.section k
-    one x k p = record { born = subst (λ n. k ≤ n) (sym births) p.born; within = λ r e. p.within r (ap (range_of k) (sym ranges) ∙ e) }
-
 pub lent_store : (region : ℕ) (section : Section) (c f : Contents) (loan : Loan) → IsWithinBounds c.limits → IsStoreSound c → IsLoanPlanned c.limits region section c.state loan → f.limits ≡ c.limits → f.state ≡ lent_state loan c.state → IsStoreSound f
 lent_store region section c f loan bounds h p limits is =
     let says : IsLendable c.limits region section c.state loan = planned_says c.limits region section c.state loan h.sound.layout.records p in
     event_sound c.limits (Lent region section loan.block loan.serial) [] c f bounds refl limits h says.legal tt (is ∙ lent_after region section loan c.state p.loan_is) h.sound.layout.register.few
     (subst (λ (t : State). used_bytes t.records.blocks ≤ c.limits.device) (sym is) h.sound.bytes_accounted)
-    (subst (λ (t : State). AreHoldingsWithin t.records t.register.regions) (sym is) (kept_holdings c.state (lent_state loan c.state) refl refl refl h.holdings))
+    (subst (λ (t : State). AreHoldingsWithin t.records t.register.regions) (sym is) (holdings_same c.state.records (lent_state loan c.state).records c.state.register.regions refl refl h.holdings))
 
 pub gathered_store : (c f : Contents) (lease : Leased) → IsWithinBounds c.limits → IsStoreSound c → gather_event lease c.state.records ≡ Ok (Gathered lease.serial lease.block) → f.limits ≡ c.limits → f.state ≡ gathered_state lease c.state → IsStoreSound f
 gathered_store c f lease bounds h fits limits is =
     let says : IsGathered c.limits lease c.state (Gathered lease.serial lease.block) = gather_legal c.limits lease c.state (Gathered lease.serial lease.block) h.sound.layout.records fits in
     event_sound c.limits (Gathered lease.serial lease.block) lease.bytes c f bounds refl limits h says.legal says.fits (is ∙ gathered_after lease c.state) h.sound.layout.register.few
     (subst (λ (t : State). used_bytes t.records.blocks ≤ c.limits.device) (sym is) h.sound.bytes_accounted)
-    (subst (λ (t : State). AreHoldingsWithin t.records t.register.regions) (sym is) (kept_holdings c.state (gathered_state lease c.state) refl refl refl h.holdings))
+    (subst (λ (t : State). AreHoldingsWithin t.records t.register.regions) (sym is) (holdings_same c.state.records (gathered_state lease c.state).records c.state.register.regions refl refl h.holdings))

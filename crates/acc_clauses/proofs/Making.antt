@@ -1,15 +1,12 @@
 -- The first transfer of a queue can be made, and leaves the parts sound.
-use Rattle.std.proofs.Common.{ℕ, ◌≡◌, ◌+◌, ◌-◌, ◌≤◌, sym, ◌∙◌, subst, true, List, [], ◌∷◌, length, Some, arith, Ok, false, ap}
-use Rattle.std.specs.Prelude.{drop, take}
+use Rattle.std.proofs.Common.{ℕ, ◌≡◌, sym, subst, List, [], ◌∷◌, Some, arith, Ok}
+use Rattle.std.specs.Prelude.{take}
 use Rattle.std.specs.List.{AllByRecursion}
 use Rattle.std.proofs.lemmas.Bool.Decides.{nat_tests}
-use Rattle.acc_base.specs.Loans.{is_lent, none_lent}
-use Rattle.acc_clauses.specs.Words.{Section, Transfer}
+use Rattle.acc_base.specs.Loans.{none_lent}
+use Rattle.acc_clauses.specs.Words.{Transfer}
 use Rattle.acc_base.specs.Limits.{Limits, IsWithinBounds}
-use Rattle.acc_base.specs.Section.{is_within, host_memory}
 use Rattle.acc_base.specs.Records.{State}
-use Rattle.acc_base.specs.Blocks.{block_at}
-use Rattle.acc_base.specs.Bytes.{bytes_of}
 use Rattle.acc_base.specs.Queues.{queue_at, head_of}
 use Rattle.acc_base.specs.Waits.{stepped, records_drained, drained}
 use Rattle.acc_base.specs.Accounts.{IsTransferSound, AreRecordsSound, AreMemoriesSized}
@@ -21,34 +18,20 @@ use Rattle.acc_clauses.specs.declared.numbers.Numbers.{Numbers}
 use Rattle.acc_clauses.specs.declared.environments.Environment.{Environment}
 use Rattle.acc_clauses.specs.Contents.{state_of, ArePartsSound}
 use Rattle.acc_clauses.specs.Acts.{CanStep, IsSteppedBy}
-use Rattle.acc_clauses.proofs.Emptying.{first_free, same_loans}
+use Rattle.acc_clauses.proofs.Emptying.{same_loans}
 use Rattle.acc_clauses.proofs.Moving.{bytes_of-len}
 use Rattle.acc_clauses.proofs.Steps.{is_some}
 use Rattle.acc_clauses.proofs.Legal.{host_end}
+use Rattle.acc_clauses.proofs.Changes.{changed_sound}
 
 -- ---- before it
 
--- the section of a transfer lies among the bytes of its block
-lies_within : (s : Section) (offset len bytes : ℕ) → offset ≤ s.start → offset + s.len ≤ len → bytes ≡ len → is_within s (record { start = s.start - offset; len = bytes }) ≡ true
-lies_within s offset len bytes first last same = grind (arith, nat_tests)
-
 -- the first transfer has what all of a queue have
 first_has : (P : Transfer → Type 0) (q : ℕ) (t : Transfer) (queues : List (List Transfer)) → head_of q queues ≡ Some t → AllByRecursion (AllByRecursion P) queues → P t
-first_has P q t queues e h =
-    let each : AllByRecursion P (t ∷ drop 1 (queue_at q queues)) = subst (AllByRecursion P) (head_first (queue_at q queues) t e) (all-at (AllByRecursion P) queues q [] tt h) in
-    each.0
+first_has P q t queues e h = grind (arith, nat_tests, head_first, all-at)
 
 pub can_step : (l : Limits) (x : Environment) (next : Numbers) (q : ℕ) → IsWithinBounds l → none_lent (take 1 (queue_at q x.queues.queues)) x.device.loans ≡ Ok tt → ArePartsSound l x next → CanStep q x
-can_step l x next q bounds free sound t e =
-    let out : is_lent t.block x.device.loans ≡ false = first_free q x.queues.queues x.device.loans t e free in
-    let has : IsTransferSound l x.device.blocks t = first_has (IsTransferSound l x.device.blocks) q t x.queues.queues e sound.sound.records.queues.transfers in
-    record {
-      in_host = subst (λ n. is_within t.section (host_memory n) ≡ true) (sym sound.sound.memories.host) has.in_host.within;
-      end = host_end t.section l.host has.in_host.within bounds.host.1;
-      there = is_some (block_at t.block x.device.blocks) has.block has.there;
-      free = out;
-      within = lies_within t.section t.offset has.block.len (length (bytes_of t.block x.device.memories)) has.offset has.within (bytes_of-len x.device.loans t.block x.device.memories x.device.blocks has.block sound.sound.memories.blocks out has.there);
-    }
+can_step l x next q bounds free sound t e = grind (arith, nat_tests, first_has (IsTransferSound l x.device.blocks) q t x.queues.queues e sound.sound.records.queues.transfers, host_end, is_some, bytes_of-len)
 
 -- ---- after it
 
@@ -63,14 +46,5 @@ step_loans q s = same_loans (q ∷ []) s
 
 pub stepped_parts : (l : Limits) (x y : Environment) (next : Numbers) (q : ℕ) → ArePartsSound l x next → IsSteppedBy q x y → ArePartsSound l y next
 stepped_parts l x y next q sound done =
-    let after : AreRecordsSound l (stepped q (state_of x next)).records × AreMemoriesSized l (stepped q (state_of x next)) = step_sound l q (state_of x next) sound.sound.records sound.sound.memories in
-    let there : AreRecordsSound l (state_of y next).records × AreMemoriesSized l (state_of y next) =
-    subst (λ (s : State). AreRecordsSound l s.records × AreMemoriesSized l s) (sym (done.state next)) after in
-    let loans : y.device.loans ≡ x.device.loans = ap (λ (s : State). s.records.loans) (done.state next) ∙ step_loans q (state_of x next) in
-    record {
-      sized = record { counters = done.counter_max ∙ sound.sized.counters; device = done.memory ∙ sound.sized.device; pointers = done.pointer_max ∙ sound.sized.pointers; queues = done.queue_cap ∙ sound.sized.queues };
-      sound = record { records = there.0; memories = there.1 };
-      marked = done.marked;
-      lent = sound.lent ∙ ap length (sym loans);
-      few = sound.few;
-    }
+    let after = step_sound l q (state_of x next) sound.sound.records sound.sound.memories in
+    changed_sound l (stepped q) _ _ _ x y next sound done after.0 after.1 (step_loans q (state_of x next))

@@ -1,6 +1,6 @@
 -- What the marks of blocks tell: how many queued transfers name each, and whether its mapping has ended. They do after each change.
-use Rattle.std.proofs.Common.{ℕ, ◌≡◌, ◌+◌, ◌*◌, ◌^◌, ◌<◌, ◌≤◌, refl, sym, ◌∙◌, ap, subst, Bool, true, false, cond, List, [], ◌∷◌, ◌++◌, length, Option, Some, None, arith}
-use Rattle.std.specs.Prelude.{◌==◌, not, map, is_none, IsSome, nat_lt, option_map, unwrap_or}
+use Rattle.std.proofs.Common.{ℕ, ◌≡◌, ◌+◌, ◌*◌, ◌^◌, ◌<◌, ◌≤◌, refl, sym, ◌∙◌, ap, false, cond, List, [], ◌∷◌, ◌++◌, length, Option, Some, arith}
+use Rattle.std.specs.Prelude.{◌==◌, map, is_none, IsSome, option_map}
 use Rattle.std.specs.List.{AllByRecursion, AllZip}
 use Rattle.std.proofs.lemmas.Bool.Decides.{nat_tests}
 use Rattle.std.proofs.lemmas.List.Sums.{sum_by-cons, count_by-le-length}
@@ -16,7 +16,7 @@ use Rattle.acc_base.proofs.Lookups.{at-changed, at-without_same, at-without_othe
 use Rattle.acc_base.proofs.Counting.{with_new}
 use Rattle.acc_base.proofs.Queued.{pins-put, pins-popped}
 use Rattle.acc_queues.specs.Queued.{AreQueues}
-use Rattle.acc_dev.specs.Marks.{Mark, new_mark, mark_at, pins_at, is_ended_at, mark_changed, with_pin, without_pin, with_end, without_mark, IsMarkOf}
+use Rattle.acc_dev.specs.Marks.{Mark, new_mark, pins_at, is_ended_at, mark_changed, with_pin, without_pin, with_end, without_mark, IsMarkOf}
 use Rattle.acc_clauses.specs.Contents.{IsMarkRight}
 
 -- ---- marks that change or go
@@ -25,20 +25,12 @@ use Rattle.acc_clauses.specs.Contents.{IsMarkRight}
 marks_changed : (P Q : Mark → Type 0) (k : ℕ) (change : Mark → Mark) (ms : List Mark) → ((m : Mark) → m.block ≡ k → P m → Q (change m)) → ((m : Mark) → (m.block == k) ≡ false → P m → Q m)
     → AllByRecursion P ms → AllByRecursion Q (map (mark_changed k change) ms)
 marks_changed P Q k change [] own other h = tt
-marks_changed P Q k change (m ∷ ms) own other h = (go (m.block == k) refl, marks_changed P Q k change ms own other h.1)
-  where
-    go : (b : Bool) → (m.block == k) ≡ b → Q (cond b (change m) m)
-    go true e = own m (equal _ _ e) h.0
-    go false e = other m e h.0
+marks_changed P Q k change (m ∷ ms) own other h = grind (arith, nat_tests, marks_changed P Q k change ms own other h.1)
 
 -- and where it goes
 marks_without : (P Q : Mark → Type 0) (k : ℕ) (ms : List Mark) → ((m : Mark) → (m.block == k) ≡ false → P m → Q m) → AllByRecursion P ms → AllByRecursion Q (without_mark k ms)
 marks_without P Q k [] other h = tt
-marks_without P Q k (m ∷ ms) other h = go (m.block == k) refl (marks_without P Q k ms other h.1)
-  where
-    go : (b : Bool) → (m.block == k) ≡ b → AllByRecursion Q (without_mark k ms) → AllByRecursion Q (cond (not b) (m ∷ without_mark k ms) (without_mark k ms))
-    go true e rest = rest
-    go false e rest = (other m e h.0, rest)
+marks_without P Q k (m ∷ ms) other h = grind (arith, nat_tests, marks_without P Q k ms other h.1)
 
 -- ---- what the mark of a block tells
 
@@ -50,23 +42,7 @@ pub record IsMarkAt (ranges : List Range) (queues : List (List Transfer)) (marks
 pub mark_told : (ranges : List Range) (queues : List (List Transfer)) (k : ℕ) (marks : List Mark) (blocks : List Block) → AllZip IsMarkOf marks blocks → IsSome (block_at k blocks) → AllByRecursion (IsMarkRight ranges queues) marks
     → IsMarkAt ranges queues marks k
 mark_told ranges queues k [] [] zip there h = cc
-mark_told ranges queues k (m ∷ ms) (b ∷ bs) zip there h = go (m.block == k) refl (subst (λ n. IsSome (cond (n == k) (Some b) (block_at k bs))) (sym zip.0) there) (mark_told ranges queues k ms bs zip.1)
-  where
-    go : (t : Bool) → (m.block == k) ≡ t → IsSome (cond t (Some b) (block_at k bs)) → (IsSome (block_at k bs) → AllByRecursion (IsMarkRight ranges queues) ms → IsMarkAt ranges queues ms k) → IsMarkAt ranges queues (m ∷ ms) k
-    go true e some rest =
-        let here : mark_at k (m ∷ ms) ≡ Some m = rw e refl in
-        let own : m.block ≡ k = equal _ _ e in
-        record {
-          pins = ap (λ o. unwrap_or (option_map (λ (x : Mark). x.pins) o) 0) here ∙ (h.0.pins ∙ ap (λ n. pins_of n queues) own);
-          ended = ap (λ o. unwrap_or (option_map (λ (x : Mark). x.ended) o) false) here ∙ (h.0.ended ∙ ap (λ n. is_none (range_of n ranges)) own);
-        }
-    go false e some rest =
-        let later : mark_at k (m ∷ ms) ≡ mark_at k ms = rw e refl in
-        let told : IsMarkAt ranges queues ms k = rest some h.1 in
-        record {
-          pins = ap (λ o. unwrap_or (option_map (λ (x : Mark). x.pins) o) 0) later ∙ told.pins;
-          ended = ap (λ o. unwrap_or (option_map (λ (x : Mark). x.ended) o) false) later ∙ told.ended;
-        }
+mark_told ranges queues k (m ∷ ms) (b ∷ bs) zip there h = grind (arith, nat_tests, mark_told ranges queues k ms bs zip.1)
 mark_told ranges queues k _ _ zip there h = absurd zip
 
 -- ---- how many transfers name a block
@@ -74,21 +50,12 @@ mark_told ranges queues k _ _ zip there h = absurd zip
 -- no more than wait
 pins-few : (k : ℕ) (queues : List (List Transfer)) → AllByRecursion (λ (ts : List Transfer). length ts ≤ 4096) queues → pins_of k queues ≤ length queues * 4096
 pins-few k [] h = omega arith
-pins-few k (ts ∷ queues) h =
-    let parts : pins_of k (ts ∷ queues) ≡ pins_in k ts + pins_of k queues = sum_by-cons (pins_in k) ts queues in
-    let first : pins_in k ts ≤ length ts = count_by-le-length (λ (t : Transfer). t.block == k) ts in
-    let rest : pins_of k queues ≤ length queues * 4096 = pins-few k queues h.1 in
-    let most : length ts ≤ 4096 = h.0 in
-    omega (arith, parts, first, rest, most)
+pins-few k (ts ∷ queues) h = grind (arith, nat_tests, pins-few k queues h.1, sum_by-cons (pins_in k) ts queues, count_by-le-length (λ (t : Transfer). t.block == k) ts)
 
 -- no mark tells of more
 pins_at-le : (ranges : List Range) (queues : List (List Transfer)) (k : ℕ) (marks : List Mark) → AllByRecursion (IsMarkRight ranges queues) marks → pins_at k marks ≤ pins_of k queues
 pins_at-le ranges queues k [] h = omega arith
-pins_at-le ranges queues k (m ∷ ms) h = go (m.block == k) refl (pins_at-le ranges queues k ms h.1)
-  where
-    go : (b : Bool) → (m.block == k) ≡ b → pins_at k ms ≤ pins_of k queues → unwrap_or (option_map (λ (x : Mark). x.pins) (cond b (Some m) (mark_at k ms))) 0 ≤ pins_of k queues
-    go true e rest = let own : m.pins ≡ pins_of k queues = h.0.pins ∙ ap (λ n. pins_of n queues) (equal _ _ e) in omega (arith, own)
-    go false e rest = rest
+pins_at-le ranges queues k (m ∷ ms) h = grind (arith, nat_tests, pins_at-le ranges queues k ms h.1)
 
 pub pins_below : (ranges : List Range) (limit : ℕ) (queues : List (List Transfer)) (k : ℕ) (marks : List Mark) → AreQueues limit queues → AllByRecursion (IsMarkRight ranges queues) marks → pins_at k marks < 2 ^ 32
 pins_below ranges limit queues k marks laws h =
@@ -104,23 +71,11 @@ unborn_unpinned l blocks births queues born h = all queues h.transfers
   where
     one : (ts : List Transfer) → AllByRecursion (IsTransferSound l blocks) ts → pins_in (births + 1) ts ≡ 0
     one [] p = refl
-    one (t ∷ ts) p =
-        let parts : pins_in (births + 1) (t ∷ ts) ≡ cond (t.block == births + 1) 1 0 + pins_in (births + 1) ts = sum_by-cons (λ (x : Transfer). cond (x.block == births + 1) 1 0) t ts in
-        let found : (p.0.block.number ≤ births) × ((p.0.block.number == t.block) ≡ true) = found_has (λ (b : Block). b.number ≤ births) (λ b. b.number == t.block) blocks p.0.block born p.0.there in
-        let same : p.0.block.number ≡ t.block = equal _ _ found.1 in
-        let low : p.0.block.number ≤ births = found.0 in
-        let other : (t.block == births + 1) ≡ false = grind (arith, nat_tests) in
-        let rest : pins_in (births + 1) ts ≡ 0 = one ts p.1 in
-        let none : pins_in (births + 1) (t ∷ ts) ≡ 0 + pins_in (births + 1) ts = parts ∙ ap (λ b. cond b 1 0 + pins_in (births + 1) ts) other in
-        omega (arith, none, rest)
+    one (t ∷ ts) p = grind (arith, nat_tests, one ts p.1, sum_by-cons, found_has, equal)
 
     all : (qs : List (List Transfer)) → AllByRecursion (AllByRecursion (IsTransferSound l blocks)) qs → pins_of (births + 1) qs ≡ 0
     all [] p = refl
-    all (ts ∷ qs) p =
-        let parts : pins_of (births + 1) (ts ∷ qs) ≡ pins_in (births + 1) ts + pins_of (births + 1) qs = sum_by-cons (pins_in (births + 1)) ts qs in
-        let first : pins_in (births + 1) ts ≡ 0 = one ts p.0 in
-        let rest : pins_of (births + 1) qs ≡ 0 = all qs p.1 in
-        omega (arith, parts, first, rest)
+    all (ts ∷ qs) p = grind (arith, nat_tests, all qs p.1, sum_by-cons, one)
 
 -- ---- a transfer is put, or the first one is gone
 
@@ -133,22 +88,14 @@ pub marks_put : (ranges : List Range) (q : ℕ) (t : Transfer) (queues : List (L
 marks_put ranges q t queues marks known h = marks_changed (IsMarkRight ranges queues) (IsMarkRight ranges (put q t queues)) t.block with_pin marks own other h
   where
     own : (m : Mark) → m.block ≡ t.block → IsMarkRight ranges queues m → IsMarkRight ranges (put q t queues) (with_pin m)
-    own m e r =
-        let here : (t.block == m.block) ≡ true = rw e (equal_self t.block) in
-        record { pins = ap (λ n. n + 1) r.pins ∙ sym (pins-put m.block q t queues known ∙ ap (λ b. pins_of m.block queues + cond b 1 0) here); ended = r.ended }
+    own m e r = grind (arith, nat_tests, equal_self, pins-put)
 
     other : (m : Mark) → (m.block == t.block) ≡ false → IsMarkRight ranges queues m → IsMarkRight ranges (put q t queues) m
-    other m e r =
-        let same : pins_of m.block (put q t queues) ≡ pins_of m.block queues + 0 = pins-put m.block q t queues known ∙ ap (λ b. pins_of m.block queues + cond b 1 0) (turned m.block t.block e) in
-        let pins : m.pins ≡ pins_of m.block queues = r.pins in
-        record { pins = omega (arith, same, pins); ended = r.ended }
+    other m e r = grind (arith, nat_tests, pins-put, turned)
 
 -- the mark of another block than that of the first transfer stays right
 popped_other : (ranges : List Range) (q : ℕ) (t : Transfer) (queues : List (List Transfer)) → head_of q queues ≡ Some t → (m : Mark) → (m.block == t.block) ≡ false → IsMarkRight ranges queues m → IsMarkRight ranges (popped q queues) m
-popped_other ranges q t queues first m e r =
-    let same : pins_of m.block (popped q queues) + 0 ≡ pins_of m.block queues = ap (λ b. pins_of m.block (popped q queues) + cond b 1 0) (sym (turned m.block t.block e)) ∙ pins-popped m.block q t queues first in
-    let pins : m.pins ≡ pins_of m.block queues = r.pins in
-    record { pins = omega (arith, same, pins); ended = r.ended }
+popped_other ranges q t queues first m e r = grind (arith, nat_tests, pins-popped m.block q t queues first)
 
 -- the block of the first transfer has one pin fewer
 pub pins_popped : (q : ℕ) (t : Transfer) (queues : List (List Transfer)) → head_of q queues ≡ Some t → pins_of t.block (popped q queues) + 1 ≡ pins_of t.block queues
@@ -159,10 +106,7 @@ pub marks_unpinned : (ranges : List Range) (q : ℕ) (t : Transfer) (queues : Li
 marks_unpinned ranges q t queues marks first h = marks_changed (IsMarkRight ranges queues) (IsMarkRight ranges (popped q queues)) t.block without_pin marks own (popped_other ranges q t queues first) h
   where
     own : (m : Mark) → m.block ≡ t.block → IsMarkRight ranges queues m → IsMarkRight ranges (popped q queues) (without_pin m)
-    own m e r =
-        let fewer : pins_of m.block (popped q queues) + 1 ≡ pins_of m.block queues = rw e (pins_popped q t queues first) in
-        let pins : m.pins ≡ pins_of m.block queues = r.pins in
-        record { pins = omega (arith, fewer, pins); ended = r.ended }
+    own m e r = grind (arith, nat_tests, pins_popped)
 
 pub marks_drained : (ranges : List Range) (q : ℕ) (t : Transfer) (queues : List (List Transfer)) (marks : List Mark) → head_of q queues ≡ Some t → AllByRecursion (IsMarkRight ranges queues) marks
     → AllByRecursion (IsMarkRight ranges (popped q queues)) (without_mark t.block marks)
@@ -177,8 +121,7 @@ marks_counted ranges k change queues marks keeps h = AllByRecursion-weaker (IsMa
     (λ m r. record { pins = r.pins; ended = r.ended ∙ sym (ap is_none (at-changed (λ (x : Range). x.block) k m.block change ranges keeps) ∙ none_of (λ (x : Range). cond (x.block == k) (change x) x) (range_of m.block ranges)) }) h
   where
     none_of : (f : Range → Range) (o : Option Range) → is_none (option_map f o) ≡ is_none o
-    none_of f None = refl
-    none_of f (Some r) = refl
+    none_of f o = grind (arith, nat_tests)
 
 -- a new range for a new block
 pub marks_born : (new : Range) (ranges : List Range) (queues : List (List Transfer)) (marks : List Mark) → AllByRecursion (λ (m : Mark). m.block ≡ new.block → ⊥) marks → pins_of new.block queues ≡ 0 → AllByRecursion (IsMarkRight ranges queues) marks
@@ -187,27 +130,14 @@ marks_born new ranges queues marks others unpinned h = AllByRecursion-append (Is
     (record { pins = sym unpinned; ended = sym (none_not (range_of new.block (with_range new ranges)) (with_new new ranges)) }, tt)
   where
     none_not : (o : Option Range) → IsSome o → is_none o ≡ false
-    none_not None some = cc
-    none_not (Some r) some = refl
+    none_not o some = grind (arith, nat_tests)
 
     skipped : (m : Mark) → (new.block == m.block) ≡ false → (rs : List Range) → is_none (range_of m.block (with_range new rs)) ≡ is_none (range_of m.block rs)
     skipped m e [] = rw e refl
-    skipped m e (r ∷ rs) = go (skipped m e rs) (nat_lt new.section.start r.section.start)
-      where
-        go : is_none (range_of m.block (with_range new rs)) ≡ is_none (range_of m.block rs) → (b : Bool) → is_none (range_of m.block (cond b (new ∷ r ∷ rs) (r ∷ with_range new rs))) ≡ is_none (range_of m.block (r ∷ rs))
-        go rest true = rw e refl
-        go rest false = step (r.block == m.block)
-          where
-            step : (b : Bool) → is_none (cond b (Some r) (range_of m.block (with_range new rs))) ≡ is_none (cond b (Some r) (range_of m.block rs))
-            step true = refl
-            step false = rest
+    skipped m e (r ∷ rs) = grind (arith, nat_tests, skipped m e rs)
 
     apart : (a b : ℕ) → (a ≡ b → ⊥) → (b == a) ≡ false
-    apart a b differs = go (b == a) refl
-      where
-        go : (t : Bool) → (b == a) ≡ t → t ≡ false
-        go true e = absurd (differs (sym (equal _ _ e)))
-        go false e = refl
+    apart a b differs = grind (arith, nat_tests)
 
     olds : (ms : List Mark) → AllByRecursion (λ (m : Mark). m.block ≡ new.block → ⊥) ms → AllByRecursion (IsMarkRight ranges queues) ms → AllByRecursion (IsMarkRight (with_range new ranges) queues) ms
     olds [] o p = tt
@@ -216,8 +146,7 @@ marks_born new ranges queues marks others unpinned h = AllByRecursion-append (Is
 -- no mark is that of a block that is yet to be born
 pub marks_old : (births : ℕ) (marks : List Mark) (blocks : List Block) → AllZip IsMarkOf marks blocks → AllByRecursion (λ b. b.number ≤ births) blocks → AllByRecursion (λ (m : Mark). m.block ≡ births + 1 → ⊥) marks
 marks_old births [] [] zip born = tt
-marks_old births (m ∷ ms) (b ∷ bs) zip born =
-    ((λ e. let low : b.number ≤ births = born.0 in let own : m.block ≡ b.number = zip.0 in absurd (omega (arith, e, low, own))), marks_old births ms bs zip.1 born.1)
+marks_old births (m ∷ ms) (b ∷ bs) zip born = grind (arith, nat_tests, marks_old births ms bs zip.1 born.1)
 marks_old births _ _ zip born = absurd zip
 
 -- ---- the range of a block is gone

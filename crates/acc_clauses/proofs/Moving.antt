@@ -1,6 +1,7 @@
 -- What a copy between host memory and a block of a device leaves.
-use Rattle.std.proofs.Common.{ℕ, ◌≡◌, ◌+◌, ◌-◌, ◌<◌, refl, sym, ◌∙◌, ap, subst, Bool, true, false, cond, List, [], ◌∷◌, length, map, Option, Some, None, arith}
-use Rattle.std.specs.Prelude.{◌==◌, find, IsSome, slice_index, unwrap_or, option_map, take, drop, slice_range}
+use Rattle.std.proofs.lemmas.Bool.Decides.{nat_tests}
+use Rattle.std.proofs.Common.{ℕ, ◌≡◌, ◌+◌, ◌-◌, ◌<◌, sym, ◌∙◌, ap, subst, true, false, List, [], ◌∷◌, length, map, Option, Some, arith}
+use Rattle.std.specs.Prelude.{IsSome, slice_index, take, drop, slice_range}
 use Rattle.std.specs.List.{AllByRecursion, AllZip}
 use Rattle.acc_clauses.specs.Words.{Section, Block, Loan}
 use Rattle.acc_base.specs.Loans.{is_lent}
@@ -9,7 +10,6 @@ use Rattle.acc_base.specs.Records.{Memory}
 use Rattle.acc_base.specs.Blocks.{block_at}
 use Rattle.acc_base.specs.Bytes.{bytes_of, written_bytes, memory_changed, bytes_moved_in, bytes_moved_out}
 use Rattle.acc_base.specs.Accounts.{EachPair, IsClearOf, IsMemoryOf}
-use Rattle.acc_base.proofs.Results.{equal}
 use Rattle.acc_base.proofs.Elements.{AllByRecursion-weaker, EachPair-weaker}
 use Rattle.acc_base.proofs.Lookups.{at-own}
 use Rattle.acc_base.specs.Overwriting.{overwritten}
@@ -26,9 +26,9 @@ slice s start bytes = slice_range bytes (s.start - start) (s.start - start + s.l
 slice_is : (s : Section) (start : ℕ) (bytes : List ℕ) → slice s start bytes ≡ part bytes (s.start - start) s.len
 slice_is s start bytes = ap (λ n. take n (drop (s.start - start) bytes)) (let same : s.start - start + s.len - (s.start - start) ≡ s.len = omega arith in same)
 
-pub copied_out : (s : Section) (start : ℕ) (bytes host : List ℕ) → is_within s (host_memory (length host)) ≡ true → is_within s (record { start = start; len = length bytes }) ≡ true
+pub run_copied_out : (s : Section) (start : ℕ) (bytes host : List ℕ) → is_within s (host_memory (length host)) ≡ true → is_within s (record { start = start; len = length bytes }) ≡ true
     → overwritten (s.start - host_base) (slice s start bytes) host ≡ bytes_moved_out (covers s) bytes start host
-copied_out s start bytes host in_host within = rw (slice_is s start bytes) (sym (moved_out s bytes start host in_host within))
+run_copied_out s start bytes host in_host within = rw (slice_is s start bytes) (sym (moved_out s bytes start host in_host within))
 
 -- ---- the memory of a block
 
@@ -52,18 +52,12 @@ memories_long ls block len _ _ h free k = absurd h
 -- a block that is there and not lent has a memory as long
 pub bytes_of-len : (ls : List Loan) (block : ℕ) (memories : List Memory) (blocks : List Block) (b : Block) → AllZip (IsMemoryOf ls) memories blocks → is_lent block ls ≡ false → block_at block blocks ≡ Some b → length (bytes_of block memories) ≡ b.len
 bytes_of-len ls block [] [] b h free e = cc
-bytes_of-len ls block (m ∷ ms) (c ∷ cs) b h free e = subst (λ n. length (unwrap_or (option_map (λ x. x.bytes) (cond (n == block) (Some m) (find (λ x. x.block == block) ms))) []) ≡ b.len) (sym h.0.block) (go (bytes_of-len ls block ms cs b h.1 free) (c.number == block) refl e)
-  where
-    go : (block_at block cs ≡ Some b → length (bytes_of block ms) ≡ b.len) → (t : Bool) → (c.number == block) ≡ t → cond t (Some c) (block_at block cs) ≡ Some b
-        → length (unwrap_or (option_map (λ x. x.bytes) (cond t (Some m) (find (λ x. x.block == block) ms))) []) ≡ b.len
-    go rest true is k = let same : c ≡ b = cc in h.0.len (subst (λ n. is_lent n ls ≡ false) (sym (equal _ _ is)) free) ∙ ap (λ (x : Block). x.len) same
-    go rest false is k = rest k
+bytes_of-len ls block (m ∷ ms) (c ∷ cs) b h free e = grind (arith, nat_tests, bytes_of-len ls block ms cs b h.1 free)
 bytes_of-len ls block _ _ b h free e = absurd h
 
 -- what is there is something
 pub some_of : {X : Type 0} (o : Option X) → IsSome o → (x : X) × (o ≡ Some x)
-some_of None h = cc
-some_of (Some x) h = (x, refl)
+some_of o h = grind (arith, nat_tests)
 
 -- each memory of a block that is there and not lent is as long as its bytes
 lens_by : (d : DeviceState) (block : ℕ) → HasBlocksApart d → AllZip (IsMemoryOf d.loans) d.memories d.blocks → is_lent block d.loans ≡ false → IsSome (block_at block d.blocks) → AllByRecursion (λ m. m.block ≡ block → length m.bytes ≡ length (bytes_of block d.memories)) d.memories
@@ -76,15 +70,12 @@ lens_by d block apart sized free there =
 
 -- a device after a write has other memories, and nothing else changed
 pub device_written : (old new : DeviceState) (block offset : ℕ) (bytes : List ℕ) (ms : List Memory) → IsBlockWritten old new block offset bytes → map (memory_changed block (overwritten offset bytes)) old.memories ≡ ms → new ≡ record old { memories = ms }
-device_written old new block offset bytes ms h e = remade new (record old { memories = ms }) h.memory h.blocks (h.memories ∙ e) h.marks h.loans h.births h.room
-  where
-    remade : (a b : DeviceState) → a.memory ≡ b.memory → a.blocks ≡ b.blocks → a.memories ≡ b.memories → a.marks ≡ b.marks → a.loans ≡ b.loans → a.births ≡ b.births → a.room ≡ b.room → a ≡ b
-    remade a b p q r m i s t = let e : record { memory = a.memory; blocks = a.blocks; memories = a.memories; marks = a.marks; loans = a.loans; births = a.births; room = a.room } ≡ b = rw (p, q, r, m, i, s, t) refl in e
+device_written old new block offset bytes ms h e = grind (arith, nat_tests)
 
-pub copied_in : (s : Section) (start : ℕ) (host bytes : List ℕ) (d new : DeviceState) (block : ℕ) → HasBlocksApart d → AllZip (IsMemoryOf d.loans) d.memories d.blocks → is_lent block d.loans ≡ false → IsSome (block_at block d.blocks)
+pub run_copied_in : (s : Section) (start : ℕ) (host bytes : List ℕ) (d new : DeviceState) (block : ℕ) → HasBlocksApart d → AllZip (IsMemoryOf d.loans) d.memories d.blocks → is_lent block d.loans ≡ false → IsSome (block_at block d.blocks)
     → is_within s (host_memory (length host)) ≡ true → is_within s (record { start = start; len = length (bytes_of block d.memories) }) ≡ true → bytes ≡ bytes_in host s → IsBlockWritten d new block (s.start - start) bytes
     → new ≡ record d { memories = map (memory_changed block (bytes_moved_in (covers s) host start)) d.memories }
-copied_in s start host bytes d new block apart sized free there in_host within bytes_are h =
+run_copied_in s start host bytes d new block apart sized free there in_host within bytes_are h =
     device_written d new block (s.start - start) bytes _ h (rw bytes_are (changed-same block (overwritten (s.start - start) (bytes_in host s)) (bytes_moved_in (covers s) host start) d.memories
     (AllByRecursion-weaker (λ y. y.block ≡ block → length y.bytes ≡ length (bytes_of block d.memories)) (λ y. y.block ≡ block → overwritten (s.start - start) (bytes_in host s) y.bytes ≡ bytes_moved_in (covers s) host start y.bytes) d.memories
     (λ y len e. sym (moved_in s host start y.bytes in_host (rw (len e) within))) (lens_by d block apart sized free there))))

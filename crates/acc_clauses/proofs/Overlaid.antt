@@ -1,15 +1,11 @@
 -- What is read of the records after tasks is what the overlays give of the records before them.
-use Rattle.std.proofs.Common.{ℕ, ◌≡◌, ◌+◌, refl, sym, ap, ◌∙◌, subst, Bool, true, false, cond, ◌||◌, List, [], ◌∷◌, ◌++◌, length, suc, arith}
-use Rattle.std.specs.Prelude.{◌==◌}
+use Rattle.std.proofs.lemmas.Bool.Decides.{nat_tests}
+use Rattle.std.proofs.Common.{ℕ, ◌≡◌, ◌+◌, refl, sym, ap, ◌∙◌, Bool, true, false, cond, ◌||◌, List, [], ◌∷◌, ◌++◌, length, suc, arith}
 use Rattle.std.specs.List.{list_all, list_any}
 use Rattle.std.proofs.lemmas.List.{append-nil, append_assoc, length-append}
-use Rattle.std.proofs.lemmas.Bool.{false≢true}
-use Rattle.acc_clauses.specs.Words.{Section, Range, Counters, Counter, Task, Step, Did}
-use Rattle.acc_base.specs.declared.mappings.Counter.TheVariants.{Structured, Dynamic}
-use Rattle.acc_base.specs.declared.tasks.Task.TheVariants.{Enter, Exit}
-use Rattle.acc_base.specs.declared.events.Step.TheVariants.{Counted, Born, Dropped}
+use Rattle.acc_clauses.specs.Words.{Section, Range, Counter, Task, Step, Did}
+use Rattle.acc_base.specs.declared.events.Step.TheVariants.{Born}
 use Rattle.acc_base.specs.Limits.{Limits, IsWithinBounds}
-use Rattle.acc_base.specs.Section.{is_apart}
 use Rattle.acc_base.specs.Records.{Records}
 use Rattle.acc_base.specs.Ranges.{where_is, where_is_apart, counter_of, bare_range}
 use Rattle.acc_base.specs.Tasks.{section_of, recounted}
@@ -20,52 +16,27 @@ use Rattle.acc_base.proofs.Judged.{IsJudgedTo, IsBirth, step_judged, task_says}
 use Rattle.acc_base.proofs.Results.{and_true}
 use Rattle.acc_base.proofs.Recounted.{moved_by, names}
 use Rattle.acc_base.proofs.Sound.{recounted_keeps}
-use Rattle.acc_base.proofs.Aimed.{task_left}
+use Rattle.acc_base.proofs.Aimed.{task_left, IsLeft}
 use Rattle.acc_base.proofs.Where.{absent_says}
 use Rattle.acc_dev.specs.Device.{planned_blocks}
 use Rattle.acc_clauses.specs.declared.acted.Acted.{Acted}
-use Rattle.acc_clauses.specs.Overlays.{tasks_in, dids_in, records_after, enters, birth_by, births_of, end_by, ended_of, found_by, found_over, counters_at, recount, counters_by, counters_over}
+use Rattle.acc_clauses.specs.Overlays.{tasks_in, dids_in, records_after, enters, birth_by, births_of, end_by, ended_of, found_by, found_over, counters_at, counters_by, counters_over}
 use Rattle.acc_base.proofs.SameMapping.{mapping-act}
 use Rattle.acc_clauses.proofs.Founds.{where_is-with, where_is-changed, apart-changed, apart_more}
 use Rattle.acc_present.proofs.Finding.{apart_from_none}
 
 pub or_false : (a b : Bool) → (a || b) ≡ false → (a ≡ false) × (b ≡ false)
-or_false true b e = cc
-or_false false b e = (refl, e)
+or_false a b e = grind (arith, nat_tests)
 
 -- ---- one task
 
 pub birth_entry : (l : Limits) (task : Task) (k p : ℕ) (w : Records) → IsJudgedTo l task (Born k p) w → IsBirth l (section_of task) k p w
-birth_entry l (Enter counter item queue) k p w says = says
-birth_entry l _ k p w says = absurd says
-
--- a task that enters not bears no block
-pub bears_none : (l : Limits) (task : Task) (k p : ℕ) (w : Records) → IsJudgedTo l task (Born k p) w → enters task ≡ false → ⊥
-bears_none l (Enter counter item queue) k p w says e = false≢true (sym e)
-bears_none l _ k p w says e = says
-
--- a task that enters drops none
-pub drops_none : (l : Limits) (task : Task) (k : ℕ) (ended : Bool) (w : Records) → IsJudgedTo l task (Dropped k ended) w → enters task ≡ true → ⊥
-drops_none l (Enter counter item queue) k ended w says e = says
-drops_none l _ k ended w says e = false≢true e
-
-moved_both : (task : Task) (c : Counters) → ◌≡◌ {A = Counters} (record { structured = moved_by Structured task c.structured; dynamic = moved_by Dynamic task c.dynamic }) (recount task c)
-moved_both (Enter Structured item queue) c = refl
-moved_both (Exit true item queue) c = refl
-moved_both _ c = refl
-
-both_by : (b : Bool) (task : Task) (s d s' d' : ℕ) → s' ≡ cond b (moved_by Structured task s) s → d' ≡ cond b (moved_by Dynamic task d) d
-    → ◌≡◌ {A = Counters} (record { structured = s'; dynamic = d' }) (cond b (recount task (record { structured = s; dynamic = d })) (record { structured = s; dynamic = d }))
-both_by true task s d s' d' e f = rw (e, f) (moved_both task (record { structured = s; dynamic = d }))
-both_by false task s d s' d' e f = rw (e, f) refl
+birth_entry l task k p w says = grind (arith, nat_tests)
 
 -- both counters of a block after a task
 counters-left : (task : Task) (step : Step) (b : ℕ) (ranges left : List Range)
     → ((c : Counter) → counter_of c b left ≡ cond (names b step) (moved_by c task (counter_of c b ranges)) (counter_of c b ranges)) → counters_at b left ≡ counters_by b (counters_at b ranges) task step
-counters-left task (Counted k) b ranges left each = both_by (k == b) task _ _ _ _ (each Structured) (each Dynamic)
-counters-left task (Born k p) b ranges left each = both_by (k == b) task _ _ _ _ (each Structured) (each Dynamic)
-counters-left task (Dropped k ended) b ranges left each = both_by (k == b) task _ _ _ _ (each Structured) (each Dynamic)
-counters-left task _ b ranges left each = both_by false task _ _ _ _ (each Structured) (each Dynamic)
+counters-left task step b ranges left each = grind (arith, nat_tests)
 
 new_is : (task : Task) (k : ℕ) (s : Section) → (recounted task (bare_range s k)).section ≡ s
 new_is task k s = (recounted_keeps task).section (bare_range s k)
@@ -74,32 +45,17 @@ new_is task k s = (recounted_keeps task).section (bare_range s k)
 found-step : (l : Limits) (task : Task) (step : Step) (w : Records) (s : Section) → IsJudgedTo l task step w → enters task ≡ true
     → found_by s (where_is s w.ranges) task step ≡ where_is s (act_step task step w).ranges
 unfolding act_step act_row with_range_changed records_after_birth
-found-step l task (Counted k) w s says none = sym (where_is-changed (recounted task) (recounted_keeps task).section (recounted_keeps task).block s k w.ranges)
-found-step l task (Born k p) w s says none =
-    let new : Range = recounted task (bare_range (section_of task) k) in
-    let range_is : new.section ≡ section_of task = (recounted_keeps task).section (bare_range (section_of task) k) in
-    let block_is : new.block ≡ k = (recounted_keeps task).block (bare_range (section_of task) k) in
-    let off : list_all (λ r. is_apart (section_of task) r.section) w.ranges ≡ true = (absent_says (section_of task) w.ranges (birth_entry l task k p w says).absent).0 in
-    let there = where_is-with s new w.ranges (subst (λ t. list_all (λ r. is_apart t r.section) w.ranges ≡ true) (sym range_is) off) in
-    sym (rw (range_is, block_is) at there)
-found-step l task (Dropped k ended) w s says none = absurd (drops_none l task k ended w says none)
-found-step l task _ w s says none = refl
+found-step l task step w s says none = grind (arith, nat_tests, where_is-changed, absent_says, birth_entry, where_is-with)
 
 -- where a section lies apart from ended ranges, before the step of one that does not and after it
 apart-step : (l : Limits) (task : Task) (step : Step) (w : Records) (s : Section) (ended : List ℕ) → IsJudgedTo l task step w → enters task ≡ false
     → where_is_apart s (end_by step ++ ended) w.ranges ≡ where_is_apart s ended (act_step task step w).ranges
 unfolding act_step act_row with_range_changed records_after_end released
-apart-step l task (Counted k) w s ended says none = sym (apart-changed (recounted task) (recounted_keeps task).section (recounted_keeps task).block s ended k w.ranges)
-apart-step l task (Born k p) w s ended says none = absurd (bears_none l task k p w says none)
-apart-step l task (Dropped k true) w s ended says none = apart_more s ended k w.ranges
-apart-step l task (Dropped k false) w s ended says none = sym (apart-changed (recounted task) (recounted_keeps task).section (recounted_keeps task).block s ended k w.ranges)
-apart-step l task _ w s ended says none = refl
+apart-step l task step w s ended says none = grind (arith, nat_tests, apart-changed, recounted_keeps, apart_more)
 
 planned_more : (xs ys : List (ℕ × ℕ)) (n : ℕ) → planned_blocks n (xs ++ ys) ≡ planned_blocks n xs ++ planned_blocks (n + length xs) ys
 planned_more [] ys n = let e : n ≡ n + 0 = omega arith in ap (λ m. planned_blocks m ys) e
-planned_more (x ∷ xs) ys n =
-    let e : suc n + length xs ≡ n + suc (length xs) = omega arith in
-    ap (λ bs. record { number = n; place = x.0; len = x.1 } ∷ bs) (planned_more xs ys (suc n) ∙ ap (λ m. planned_blocks (suc n) xs ++ planned_blocks m ys) e)
+planned_more (x ∷ xs) ys n = grind (arith, nat_tests, planned_more xs ys (suc n))
 
 -- what the device has after the step of a task that enters
 record IsBornBy (task : Task) (step : Step) (w v : Records) : Type 0 where
@@ -108,13 +64,7 @@ record IsBornBy (task : Task) (step : Step) (w v : Records) : Type 0 where
 
 born-step : (l : Limits) (task : Task) (step : Step) (w : Records) → IsJudgedTo l task step w → enters task ≡ true → IsBornBy task step w (act_step task step w)
 unfolding act_step act_row with_range_changed records_after_birth
-born-step l task (Born k p) w says none =
-    let number : k ≡ w.births + 1 = (birth_entry l task k p w says).number in
-    let range_is : (recounted task (bare_range (section_of task) k)).section ≡ section_of task = (recounted_keeps task).section (bare_range (section_of task) k) in
-    let block_is : (recounted task (bare_range (section_of task) k)).block ≡ k = (recounted_keeps task).block (bare_range (section_of task) k) in
-    record { blocks = rw (range_is, block_is, number) refl; births = omega arith }
-born-step l task (Dropped k ended) w says none = absurd (drops_none l task k ended w says none)
-born-step l task _ w says none = record { blocks = sym (append-nil w.blocks); births = omega arith }
+born-step l task step w says none = grind (arith, nat_tests, append-nil)
 
 -- and the same of the whole task
 found-act : (l : Limits) (task : Task) (did : Did) (w : Records) (s : Section) → IsJudgedTo l task did.step w → enters task ≡ true → found_by s (where_is s w.ranges) task did.step ≡ where_is s (act task did w).ranges
@@ -125,20 +75,19 @@ apart-act : (l : Limits) (task : Task) (did : Did) (w : Records) (s : Section) (
 apart-act l task did w s ended says none = apart-step l task did.step w s ended says none ∙ ap (where_is_apart s ended) (sym (mapping-act task did w).ranges)
 
 born-act : (l : Limits) (task : Task) (did : Did) (w : Records) → IsJudgedTo l task did.step w → enters task ≡ true → IsBornBy task did.step w (act task did w)
-born-act l task did w says entry =
-    let one = born-step l task did.step w says entry in
-    let same = mapping-act task did w in
-    record { blocks = same.blocks ∙ one.blocks; births = same.births ∙ one.births }
+born-act l task did w says entry = grind (arith, nat_tests, born-step, mapping-act)
 
 -- ---- tasks
+
+-- what the first of some tasks leaves
+pub first_left : (l : Limits) (n : ℕ) (x : Acted) (xs : List Acted) (w : Records) → IsWithinBounds l → AreRecordsSound l w → AreJudged l n (tasks_in (x ∷ xs)) (dids_in (x ∷ xs)) w → IsLeft l x.task x.did w (act x.task x.did w)
+first_left l n x xs w bounds h judged = task_left l x.task x.did w bounds h (task_says l n x.task w x.did.step judged.0) (step_judged l n x.task w x.did.step judged.0).free judged.1
 
 -- tasks that were judged keep the records sound
 pub sound-after : (l : Limits) (n : ℕ) (xs : List Acted) (w : Records) → IsWithinBounds l → AreRecordsSound l w → AreJudged l n (tasks_in xs) (dids_in xs) w → AreRecordsSound l (records_after xs w)
 unfolding act_all
 sound-after l n [] w bounds h judged = h
-sound-after l n (x ∷ xs) w bounds h judged =
-    let left = task_left l x.task x.did w bounds h (task_says l n x.task w x.did.step judged.0) (step_judged l n x.task w x.did.step judged.0).free judged.1 in
-    sound-after l (suc n) xs (act x.task x.did w) bounds left.sound judged.2
+sound-after l n (x ∷ xs) w bounds h judged = grind (arith, nat_tests, sound-after l (suc n) xs (act x.task x.did w) bounds (first_left l n x xs w bounds h judged).sound judged.2)
 
 -- both counters of a block after tasks
 pub counters-after : (l : Limits) (n : ℕ) (xs : List Acted) (w : Records) (b : ℕ) → IsWithinBounds l → AreRecordsSound l w → AreJudged l n (tasks_in xs) (dids_in xs) w
@@ -146,20 +95,19 @@ pub counters-after : (l : Limits) (n : ℕ) (xs : List Acted) (w : Records) (b :
 unfolding act_all
 counters-after l n [] w b bounds h judged = refl
 counters-after l n (x ∷ xs) w b bounds h judged =
-    let left = task_left l x.task x.did w bounds h (task_says l n x.task w x.did.step judged.0) (step_judged l n x.task w x.did.step judged.0).free judged.1 in
-    ap (λ c. counters_over b c xs) (sym (counters-left x.task x.did.step b w.ranges (act x.task x.did w).ranges (λ c. left.counter_is c b)))
-    ∙ counters-after l (suc n) xs (act x.task x.did w) b bounds left.sound judged.2
+    ap (λ c. counters_over b c xs) (sym (counters-left x.task x.did.step b w.ranges (act x.task x.did w).ranges (λ c. (first_left l n x xs w bounds h judged).counter_is c b)))
+    ∙ counters-after l (suc n) xs (act x.task x.did w) b bounds (first_left l n x xs w bounds h judged).sound judged.2
+
+-- where all of some tasks enter, so does the first, and so do the others
+pub first_enters : (x : Acted) (xs : List Acted) → list_all enters (tasks_in (x ∷ xs)) ≡ true → (enters x.task ≡ true) × (list_all enters (tasks_in xs) ≡ true)
+first_enters x xs all = and_true (enters x.task) (list_all enters (tasks_in xs)) all
 
 -- where a section lies after tasks that all enter
 pub found-entered : (l : Limits) (n : ℕ) (xs : List Acted) (w : Records) (s : Section) → AreJudged l n (tasks_in xs) (dids_in xs) w → list_all enters (tasks_in xs) ≡ true
     → found_over s (where_is s w.ranges) xs ≡ where_is s (records_after xs w).ranges
 unfolding act_all
 found-entered l n [] w s judged all = refl
-found-entered l n (x ∷ xs) w s judged all =
-    let says = task_says l n x.task w x.did.step judged.0 in
-    let parts : (enters x.task ≡ true) × (list_all enters (tasks_in xs) ≡ true) = and_true _ _ all in
-    ap (λ f. found_over s f xs) (found-act l x.task x.did w s says parts.0)
-    ∙ found-entered l (suc n) xs (act x.task x.did w) s judged.2 parts.1
+found-entered l n (x ∷ xs) w s judged all = grind (arith, nat_tests, found-entered l (suc n) xs (act x.task x.did w) s judged.2 (first_enters x xs all).1, found-act, task_says l n x.task w x.did.step judged.0)
 
 -- where it lies after tasks of which none enters
 pub found-left : (l : Limits) (n : ℕ) (xs : List Acted) (w : Records) (s : Section) → AreJudged l n (tasks_in xs) (dids_in xs) w → list_any enters (tasks_in xs) ≡ false
@@ -167,10 +115,8 @@ pub found-left : (l : Limits) (n : ℕ) (xs : List Acted) (w : Records) (s : Sec
 unfolding act_all
 found-left l n [] w s judged none = apart_from_none s w.ranges
 found-left l n (x ∷ xs) w s judged none =
-    let says = task_says l n x.task w x.did.step judged.0 in
-    let parts : (enters x.task ≡ false) × (list_any enters (tasks_in xs) ≡ false) = or_false _ _ none in
-    apart-act l x.task x.did w s (ended_of xs) says parts.0
-    ∙ found-left l (suc n) xs (act x.task x.did w) s judged.2 parts.1
+    apart-act l x.task x.did w s (ended_of xs) (task_says l n x.task w x.did.step judged.0) (or_false (enters x.task) (list_any enters (tasks_in xs)) none).0
+    ∙ found-left l (suc n) xs (act x.task x.did w) s judged.2 (or_false (enters x.task) (list_any enters (tasks_in xs)) none).1
 
 -- the device after tasks that all enter
 pub blocks-after : (l : Limits) (n : ℕ) (xs : List Acted) (w : Records) → AreJudged l n (tasks_in xs) (dids_in xs) w → list_all enters (tasks_in xs) ≡ true
@@ -178,24 +124,15 @@ pub blocks-after : (l : Limits) (n : ℕ) (xs : List Acted) (w : Records) → Ar
 unfolding act_all
 blocks-after l n [] w judged all = sym (append-nil w.blocks)
 blocks-after l n (x ∷ xs) w judged all =
-    let says = task_says l n x.task w x.did.step judged.0 in
-    let parts : (enters x.task ≡ true) × (list_all enters (tasks_in xs) ≡ true) = and_true _ _ all in
-    let one = born-act l x.task x.did w says parts.0 in
-    let rest = blocks-after l (suc n) xs (act x.task x.did w) judged.2 parts.1 in
-    let number : (act x.task x.did w).births + 1 ≡ w.births + 1 + length (birth_by x.task x.did.step) = omega (arith, one.births) in
-    rest
-    ∙ ap (λ bs. bs ++ planned_blocks ((act x.task x.did w).births + 1) (births_of xs)) one.blocks
-    ∙ append_assoc w.blocks (planned_blocks (w.births + 1) (birth_by x.task x.did.step)) (planned_blocks ((act x.task x.did w).births + 1) (births_of xs))
-    ∙ ap (λ bs. w.blocks ++ bs) (ap (λ m. planned_blocks (w.births + 1) (birth_by x.task x.did.step) ++ planned_blocks m (births_of xs)) number ∙ sym (planned_more (birth_by x.task x.did.step) (births_of xs) (w.births + 1)))
+    let one = born-act l x.task x.did w (task_says l n x.task w x.did.step judged.0) (first_enters x xs all).0 in
+    let rest = blocks-after l (suc n) xs (act x.task x.did w) judged.2 (first_enters x xs all).1 in
+    grind (arith, nat_tests, append_assoc, planned_more)
 
 pub births-after : (l : Limits) (n : ℕ) (xs : List Acted) (w : Records) → AreJudged l n (tasks_in xs) (dids_in xs) w → list_all enters (tasks_in xs) ≡ true
     → (records_after xs w).births ≡ w.births + length (births_of xs)
 unfolding act_all
 births-after l n [] w judged all = omega arith
 births-after l n (x ∷ xs) w judged all =
-    let says = task_says l n x.task w x.did.step judged.0 in
-    let parts : (enters x.task ≡ true) × (list_all enters (tasks_in xs) ≡ true) = and_true _ _ all in
-    let one = born-act l x.task x.did w says parts.0 in
-    let rest = births-after l (suc n) xs (act x.task x.did w) judged.2 parts.1 in
-    let both = length-append (birth_by x.task x.did.step) (births_of xs) in
-    omega (arith, rest, one.births, both)
+    let one = born-act l x.task x.did w (task_says l n x.task w x.did.step judged.0) (first_enters x xs all).0 in
+    let rest = births-after l (suc n) xs (act x.task x.did w) judged.2 (first_enters x xs all).1 in
+    omega (arith, rest, one.births, length-append (birth_by x.task x.did.step) (births_of xs))

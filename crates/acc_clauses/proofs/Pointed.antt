@@ -1,5 +1,6 @@
 -- A task judged whole after others: its step, and what becomes of its pointer.
-use Rattle.std.proofs.Common.{ℕ, ◌≡◌, refl, sym, ap, ◌∙◌, Bool, true, false, cond, List, [], ◌∷◌, ◌++◌, length, Option, Some, None, Result, Ok, Err}
+use Rattle.std.proofs.lemmas.Bool.Decides.{nat_tests}
+use Rattle.std.proofs.Common.{ℕ, ◌≡◌, refl, ap, ◌∙◌, Bool, true, false, cond, List, [], ◌∷◌, ◌++◌, length, Option, Some, None, Result, Ok, Err, arith}
 use Rattle.std.specs.Prelude.{◌||◌, ⊤}
 use Rattle.std.proofs.lemmas.Bool.{false≢true}
 use Rattle.acc_clauses.specs.Words.{Aim, Counter, Item, RegionClause, Task, Step, Fault}
@@ -8,13 +9,10 @@ use Rattle.acc_base.specs.Results.{◌>>=◌, ◌>>◌}
 use Rattle.acc_base.specs.Limits.{Limits}
 use Rattle.acc_base.specs.Records.{Records, State}
 use Rattle.acc_base.specs.Clauses.{is_attach, pointer_checked}
-use Rattle.acc_base.specs.Tasks.{pointer_of, queue_of, checked}
-use Rattle.acc_base.specs.Transfers.{transfer_of, room_for}
-use Rattle.acc_base.specs.Loans.{not_lent}
-use Rattle.acc_base.specs.Steps.{is_action, pointer_aimed, did_of, block_detached, block_needed, judge_row, judge_step}
+use Rattle.acc_base.specs.Tasks.{pointer_of, checked}
+use Rattle.acc_base.specs.Steps.{is_action, pointer_aimed, did_of, judge_row, judge_step}
 use Rattle.acc_base.specs.Bytes.{step_state}
 use Rattle.acc_base.specs.Pointers.{aimed}
-use Rattle.acc_base.specs.Detaching.{block_aimed}
 use Rattle.acc_base.specs.Acting.{attach_if, judge_aim, judge_task, act_state}
 use Rattle.acc_base.specs.History.{IsAimLegal}
 use Rattle.acc_base.proofs.Results.{then_ok}
@@ -57,12 +55,10 @@ both_judged l n xs ys task step aim s e f more = record { did = record { step = 
 -- pointers are left alone so far
 half_state : (task : Task) (step : Step) (s : State) → enters task ≡ true → act_state task (did_of step) s ≡ step_state task step s
 unfolding act_state aimed
-half_state (Enter counter item queue) step s entry = refl
-half_state _ step s entry = absurd (false≢true entry)
+half_state task step s entry = grind (arith, nat_tests)
 
 half_legal : (l : Limits) (task : Task) (step : Step) (w : Records) → enters task ≡ true → IsAimLegal l task (did_of step) w
-half_legal l (Enter counter item queue) step w entry = tt
-half_legal l _ step w entry = absurd (false≢true entry)
+half_legal l task step w entry = grind (arith, nat_tests)
 
 pub half_planned : (l : Limits) (n : ℕ) (xs ys : List Acted) (task : Task) (step : Step) (w : Records) → enters task ≡ true → n ≡ length xs → IsPlanned l xs w
     → judge_step l n task (records_after xs w) ≡ Ok step → ys ≡ xs ++ record { task = task; did = did_of step } ∷ [] → IsPlanned l ys w
@@ -72,67 +68,45 @@ half_planned l n xs ys task step w entry at p e more =
 -- the pointer to be attached was checked
 pub aimed_checked : (l : Limits) (n : ℕ) (task : Task) (step : Step) (w : Records) (pointer : ℕ) → enters task ≡ true → judge_step l n task w ≡ Ok step → pointer_aimed task step ≡ Some pointer → pointer_checked l n (Some pointer) ≡ Ok tt
 unfolding judge_row
-aimed_checked l n (Enter counter item queue) step w pointer entry e named = go (is_attach item.clause || is_action step) named
-  where
-    go : (b : Bool) → cond b (pointer_of (Enter counter item queue)) None ≡ Some pointer → pointer_checked l n (Some pointer) ≡ Ok tt
-    go true is = let all = pointer_checked_by l n (Enter counter item queue) (then_ok (checked l n (Enter counter item queue)) _ step (step_judged l n (Enter counter item queue) w step e).row).0 in rw is at all
-    go false is = cc
+aimed_checked l n (Enter counter item queue) step w pointer entry e named = grind (arith, nat_tests, pointer_checked_by l n (Enter counter item queue) (then_ok (checked l n (Enter counter item queue)) _ step (step_judged l n (Enter counter item queue) w step e).row).0)
 aimed_checked l n _ step w pointer entry e named = absurd (false≢true entry)
 
 aim_entered : (l : Limits) (n : ℕ) (task : Task) (step : Step) (s : State) → enters task ≡ true → judge_aim l n task step s ≡ attach_if l n (pointer_aimed task step) (step_state task step s)
 unfolding judge_aim
-aim_entered l n (Enter counter item queue) step s entry = refl
-aim_entered l n _ step s entry = absurd (false≢true entry)
+aim_entered l n task step s entry = grind (arith, nat_tests)
 
 -- its pointer is judged in what its step left
 pub entry_aim : (l : Limits) (n : ℕ) (xs ys : List Acted) (task : Task) (step : Step) (named : Option ℕ) (s : State) → enters task ≡ true → ys ≡ xs ++ record { task = task; did = did_of step } ∷ [] → pointer_aimed task step ≡ named
     → judge_aim l n task step (state_after xs s) ≡ attach_if l n named (state_after ys s)
-entry_aim l n xs ys task step named s entry more is =
-    let left : state_after ys s ≡ step_state task step (state_after xs s) = rw more (state_after-push xs (record { task = task; did = did_of step }) s) ∙ half_state task step (state_after xs s) entry in
-    aim_entered l n task step (state_after xs s) entry ∙ rw (is, left) refl
+entry_aim l n xs ys task step named s entry more is = grind (arith, nat_tests, state_after-push, half_state, aim_entered)
 
 -- ---- the others: the pointer is judged before the step
 
 -- it is detached in what was there before
 aim_left : (l : Limits) (n : ℕ) (task : Task) (step : Step) (s : State) → enters task ≡ false → judge_aim l n task step s ≡ Ok (aim_before task step s.records)
 unfolding judge_aim
-aim_left l n (Enter counter item queue) step s other = absurd (false≢true (sym other))
-aim_left l n _ step s other = refl
+aim_left l n task step s other = grind (arith, nat_tests)
 
 -- a task that is no entry
 pub enters_not : (task : Task) → ((counter : Counter) (item : Item RegionClause) (queue : Option ℕ) → task ≡ Enter counter item queue → ⊥) → enters task ≡ false
-enters_not (Enter counter item queue) other = absurd (other counter item queue refl)
-enters_not _ other = refl
+enters_not task other = grind (arith, nat_tests)
 
 -- so both are what it does
 pub left_judged : (l : Limits) (n : ℕ) (xs ys : List Acted) (task : Task) (step : Step) (aim : Aim) (s : State) → enters task ≡ false → judge_step l n task (records_after xs s.records) ≡ Ok step
     → aim ≡ aim_before task step (records_after xs s.records) → ys ≡ xs ++ record { task = task; did = record { step = step; aim = aim } } ∷ [] → IsJudgedNext l n task s xs ys
-left_judged l n xs ys task step aim s other e before more =
-    let same : aim_before task step (state_after xs s).records ≡ aim = ap (aim_before task step) (state_after-records xs s) ∙ sym before in
-    both_judged l n xs ys task step aim s e (aim_left l n task step (state_after xs s) other ∙ ap Ok same) more
+left_judged l n xs ys task step aim s other e before more = grind (arith, nat_tests, state_after-records xs s, both_judged, aim_left l n task step (state_after xs s) other)
 
 -- ---- a step: what the tables say, and whether it can be done
 
--- the block in which a task detaches a pointer before its step
-detached-before : (task : Task) (step : Step) (w : Records) → block_aimed (aim_before task step w) ≡ block_detached task step w
-detached-before (Enter counter item queue) step w = refl
-detached-before _ step w = refl
-
 -- three tests in a row
 three_tests : (a b c : Result ⊤ Fault) (step : Step) → (a >> (b >> (c >> Ok step))) ≡ ((a >> (b >> c)) >> Ok step)
-three_tests (Ok x) (Ok y) c step = refl
-three_tests _ _ c step = refl
+three_tests a b c step = grind (arith, nat_tests)
 
 -- a step is refused as it cannot be done
 pub step_after : (l : Limits) (n : ℕ) (task : Task) (step : Step) (before : Aim) (w : Records) (r : Result ⊤ Fault) → Ok step ≡ judge_row l n task w → before ≡ aim_before task step w → r ≡ step_free task step before l.queue_cap w
     → judge_step l n task w ≡ (r >> Ok step)
 unfolding judge_step
-step_after l n task step before w r row aim free =
-    let rest : Result ⊤ Fault = room_for l.queue_cap (queue_of task) (transfer_of task step w.ranges) w.queues in
-    let block : block_detached task step w ≡ block_aimed before = sym (detached-before task step w) ∙ ap block_aimed (sym aim) in
-    rw (← row) (ap (λ o. not_lent o w.loans >> (not_lent (block_needed task step) w.loans >> (rest >> Ok step))) block
-    ∙ three_tests (not_lent (block_aimed before) w.loans) (not_lent (block_needed task step) w.loans) rest step
-    ∙ ap (λ q. q >> Ok step) (sym free))
+step_after l n task step before w r row aim free = grind (arith, nat_tests, three_tests)
 
 -- or as the tables refuse it
 pub row_refused : (l : Limits) (n : ℕ) (task : Task) (w : Records) (fault : Fault) → Err fault ≡ judge_row l n task w → judge_step l n task w ≡ Err fault

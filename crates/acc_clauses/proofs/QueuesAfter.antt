@@ -1,76 +1,42 @@
 -- How many transfers wait in a queue after tasks.
-use Rattle.std.proofs.Common.{ℕ, ◌≡◌, ◌+◌, ◌<◌, ◌≢◌, refl, ◌∙◌, Bool, true, false, cond, ◌&&◌, List, [], ◌∷◌, ◌++◌, length, Option, Some, None, Ok, arith}
-use Rattle.std.specs.Prelude.{◌==◌, nat_le, is_some}
+use Rattle.std.proofs.Common.{ℕ, ◌≡◌, ◌+◌, ◌<◌, ◌∙◌, cond, ◌&&◌, List, [], ◌∷◌, length, Option, Some, None, Ok, arith}
+use Rattle.std.specs.Prelude.{nat_le, is_some}
 use Rattle.std.proofs.lemmas.Bool.Decides.{nat_tests}
 use Rattle.std.proofs.lemmas.List.{length-set, length-append, get_or-set_same, get_or-set_other}
 use Rattle.acc_clauses.specs.Words.{Range, Transfer, Task, Step, Did}
 use Rattle.acc_base.specs.declared.transfers.TheConstants.{QUEUE_COUNT}
-use Rattle.acc_base.specs.declared.events.Step.TheVariants.{Born, Dropped}
 use Rattle.acc_base.specs.declared.faults.Fault.TheVariants.{QueueFull}
 use Rattle.acc_base.specs.Results.{refuse_if}
 use Rattle.acc_base.specs.Limits.{Limits}
 use Rattle.acc_base.specs.Records.{Records}
-use Rattle.acc_base.specs.Queues.{queue_at, put, queue_named}
+use Rattle.acc_base.specs.Queues.{queue_at, queue_named}
 use Rattle.acc_base.specs.Tasks.{queue_of}
-use Rattle.acc_base.specs.Transfers.{gets_bytes, gives_bytes, transfer_of, room_for, queues_after}
+use Rattle.acc_base.specs.Transfers.{transfer_of, room_for, queues_after}
 use Rattle.acc_base.specs.Steps.{records_after_birth, records_after_end, released, with_range_changed, act_row, act_step, act, act_all}
-use Rattle.acc_base.proofs.Results.{refused_not}
 use Rattle.acc_base.proofs.SameMapping.{mapping-act}
 use Rattle.acc_clauses.specs.declared.acted.Acted.{Acted}
 use Rattle.acc_clauses.specs.Overlays.{IsPlanned, tasks_in, dids_in, records_after, moves, is_queue, puts_by, puts_in}
 
 -- ---- one transfer
 
-if_some : {X : Type 0} (b : Bool) (x : X) → b ≡ is_some (cond b (Some x) None)
-if_some true x = refl
-if_some false x = refl
-
 -- the step has a transfer just as the tables say
 pub moves_some : (task : Task) (step : Step) (ranges : List Range) → moves task step ≡ is_some (transfer_of task step ranges)
-moves_some task (Born k p) ranges = if_some (gets_bytes task) _
-moves_some task (Dropped k true) ranges = if_some (gives_bytes task) _
-moves_some task _ ranges = refl
+moves_some task step ranges = grind (arith, nat_tests)
 
 -- there stay as many queues
 length-after : (named : Option ℕ) (t : Option Transfer) (queues : List (List Transfer)) → length (queues_after named t queues) ≡ length queues
-length-after (Some p) (Some t) queues = length-set queues p (queue_at p queues ++ t ∷ [])
-length-after _ _ queues = refl
-
--- a queue after one more transfer in some queue
-waiting-put : (q p : ℕ) (t : Transfer) (queues : List (List Transfer)) → q < length queues → length (queue_at q (put p t queues)) ≡ length (queue_at q queues) + cond (p == q) 1 0
-waiting-put q p t queues there = go (p == q) refl
-  where
-    go : (b : Bool) → (p == q) ≡ b → length (queue_at q (put p t queues)) ≡ length (queue_at q queues) + cond b 1 0
-    go true e =
-        let same : p ≡ q = grind (arith, nat_tests) in
-        let at : queue_at q (put q t queues) ≡ queue_at q queues ++ t ∷ [] = get_or-set_same queues q (queue_at q queues ++ t ∷ []) [] there in
-        rw (same, at, length-append (queue_at q queues) (t ∷ [])) refl
-    go false e =
-        let other : q ≢ p = λ same. grind (arith, nat_tests) in
-        let at : queue_at q (put p t queues) ≡ queue_at q queues = get_or-set_other queues p q (queue_at p queues ++ t ∷ []) [] other in
-        rw at (omega arith)
+length-after named t queues = grind (arith, nat_tests, length-set)
 
 waiting-after : (q : ℕ) (named : Option ℕ) (t : Option Transfer) (queues : List (List Transfer)) → q < length queues
     → length (queue_at q (queues_after named t queues)) ≡ length (queue_at q queues) + cond (is_queue q named && is_some t) 1 0
-waiting-after q None t queues there = omega arith
-waiting-after q (Some p) None queues there = go (p == q)
-  where
-    go : (b : Bool) → length (queue_at q queues) ≡ length (queue_at q queues) + cond (b && false) 1 0
-    go true = omega arith
-    go false = omega arith
-waiting-after q (Some p) (Some t) queues there = go (p == q) (waiting-put q p t queues there)
-  where
-    go : (b : Bool) → length (queue_at q (put p t queues)) ≡ length (queue_at q queues) + cond b 1 0 → length (queue_at q (put p t queues)) ≡ length (queue_at q queues) + cond (b && true) 1 0
-    go true e = e
-    go false e = e
+waiting-after q named t queues there = grind (arith, nat_tests, get_or-set_same, length-append, get_or-set_other)
 
 -- ---- one task
 
 -- a step puts its transfer into the queue, and nothing else changes the queues
 queues-step : (task : Task) (step : Step) (w : Records) → (act_step task step w).queues ≡ queues_after (queue_of task) (transfer_of task step w.ranges) w.queues
 unfolding act_step act_row with_range_changed records_after_birth records_after_end released
-queues-step task (Dropped k true) w = refl
-queues-step task _ w = refl
+queues-step task step w = grind (arith, nat_tests)
 
 queues-act : (task : Task) (did : Did) (w : Records) → (act task did w).queues ≡ queues_after (queue_of task) (transfer_of task did.step w.ranges) w.queues
 queues-act task did w = (mapping-act task did w).queues ∙ queues-step task did.step w
@@ -87,10 +53,7 @@ pub waiting-tasks : (q : ℕ) (xs : List Acted) (w : Records) → q < length w.q
     → length (queue_at q (records_after xs w).queues) ≡ length (queue_at q w.queues) + puts_in q (tasks_in xs) (dids_in xs)
 unfolding act_all
 waiting-tasks q [] w there = omega arith
-waiting-tasks q (x ∷ xs) w there =
-    let one = waiting-act q x.task x.did w there in
-    let rest = waiting-tasks q xs (act x.task x.did w) (there-act q x.task x.did w there) in
-    omega (arith, one, rest)
+waiting-tasks q (x ∷ xs) w there = grind (arith, nat_tests, waiting-tasks q xs (act x.task x.did w) (there-act q x.task x.did w there), waiting-act, there-act)
 
 -- how many transfers wait in a queue after the tasks of a plan
 pub waiting-planned : (l : Limits) (xs : List Acted) (w : Records) (q : ℕ) → IsPlanned l xs w → q < QUEUE_COUNT
@@ -101,25 +64,16 @@ waiting-planned l xs w q p known = waiting-tasks q xs w (let all : length w.queu
 
 -- a queue that is named is there
 pub known_queue : (q : ℕ) (named : Option ℕ) → named ≡ Some q → queue_named named ≡ Ok tt → q < QUEUE_COUNT
-known_queue q None is e = cc
-known_queue q (Some p) is e =
-    let same : p ≡ q = cc in
-    let there : nat_le QUEUE_COUNT p ≡ false = refused_not _ _ e in
-    grind (arith, nat_tests)
+known_queue q named is e = grind (arith, nat_tests)
 
 -- without a queue there is room
 pub room_none : (cap : ℕ) (named : Option ℕ) (t : Option Transfer) (queues : List (List Transfer)) → named ≡ None → room_for cap named t queues ≡ Ok tt
-room_none cap None t queues is = refl
-room_none cap (Some q) t queues is = cc
+room_none cap named t queues is = grind (arith, nat_tests)
 
 -- a step without a transfer needs no room, and another has it below the limit
 pub room_told : (cap q : ℕ) (task : Task) (step : Step) (ranges : List Range) (queues : List (List Transfer)) → queue_of task ≡ Some q
     → room_for cap (queue_of task) (transfer_of task step ranges) queues ≡ refuse_if (moves task step && nat_le cap (length (queue_at q queues))) (QueueFull q)
-room_told cap q task step ranges queues is = rw (is, moves_some task step ranges) (go (transfer_of task step ranges))
-  where
-    go : (t : Option Transfer) → room_for cap (Some q) t queues ≡ refuse_if (is_some t && nat_le cap (length (queue_at q queues))) (QueueFull q)
-    go None = refl
-    go (Some t) = refl
+room_told cap q task step ranges queues is = grind (arith, nat_tests)
 
 pub ruleset queue_laws = (waiting-planned)
 

@@ -1,21 +1,19 @@
 -- What a task is judged to do, its step and what becomes of its pointer, can be done, and leaves the parts sound.
 use Rattle.std.proofs.Common.{ℕ, ◌≡◌, ◌<◌, ◌^◌, refl, sym, ◌∙◌, ap, subst, Bool, true, false, cond, Option, Some, None, Ok, arith}
-use Rattle.std.specs.Prelude.{◌==◌, length}
+use Rattle.std.specs.Prelude.{◌==◌}
 use Rattle.std.proofs.lemmas.Bool.Decides.{nat_tests}
 use Rattle.acc_base.specs.Section.{device_memory}
-use Rattle.acc_base.specs.Loans.{is_lent, not_lent}
-use Rattle.acc_clauses.specs.Words.{Found, Counter, Item, RegionClause, Aim, Did, Task, Step}
-use Rattle.acc_base.specs.declared.mappings.Found.TheVariants.{Inside}
+use Rattle.acc_base.specs.Loans.{not_lent}
+use Rattle.acc_clauses.specs.Words.{Counter, Item, RegionClause, Aim, Did, Task, Step}
 use Rattle.acc_base.specs.declared.attachments.Aim.TheVariants as aims
 use Rattle.acc_base.specs.declared.tasks.Task.TheVariants.{Enter, Leave, Exit, Move}
 use Rattle.acc_base.specs.Limits.{Limits, IsWithinBounds}
 use Rattle.acc_base.specs.Records.{Records, State}
-use Rattle.acc_base.specs.Ranges.{where_is}
 use Rattle.acc_base.specs.Tasks.{queue_of}
 use Rattle.acc_base.specs.Transfers.{transfer_of, room_for}
 use Rattle.acc_base.specs.Bytes.{step_state}
-use Rattle.acc_base.specs.Attachments.{pointer_at, count_at, detach}
-use Rattle.acc_base.specs.Detaching.{block_in, block_with, detach_there, judge_detach, release_there, judge_release, block_aimed}
+use Rattle.acc_base.specs.Attachments.{pointer_at, detach}
+use Rattle.acc_base.specs.Detaching.{block_with, judge_detach, release_there, judge_release, block_aimed}
 use Rattle.acc_base.specs.Pointers.{aimed}
 use Rattle.acc_base.specs.Steps.{pointer_aimed, records_aimed, block_detached}
 use Rattle.acc_base.specs.Detaching.{detach_if}
@@ -23,7 +21,7 @@ use Rattle.acc_base.specs.Acting.{act_state}
 use Rattle.acc_base.specs.History.{IsAttachLegal}
 use Rattle.acc_base.specs.Accounts.{AreRecordsSound, AreMemoriesSized}
 use Rattle.acc_base.proofs.Results.{equal}
-use Rattle.acc_base.proofs.Judged.{IsJudgedTo, task_says, step_judged, not_lent_says, IsStepFree}
+use Rattle.acc_base.proofs.Judged.{IsJudgedTo, task_says, step_judged, IsStepFree}
 use Rattle.acc_base.proofs.Puts.{acted_sound}
 use Rattle.acc_base.proofs.Aimed.{leave_sound, exit_sound, move_sound, says_aimed, task_left}
 use Rattle.acc_base.proofs.Walked.{records-act_state}
@@ -32,48 +30,26 @@ use Rattle.acc_base.proofs.Memories.{step_sized, aimed_sized, act_sized}
 use Rattle.acc_clauses.specs.declared.numbers.Numbers.{Numbers}
 use Rattle.acc_clauses.specs.declared.environments.Environment.{Environment}
 use Rattle.acc_clauses.specs.Contents.{state_of, AreSizedBy, ArePartsSound, bare_state}
-use Rattle.acc_clauses.specs.Acts.{IsJudged, IsMappedAround, IsKnown, CanMove, CanAct, CanDetach, CanAim, CanEnter, CanLeave, CanQueue, CanDo, IsDoneBy}
+use Rattle.acc_clauses.specs.Acts.{IsJudged, IsMappedAround, IsKnown, CanMove, CanAct, CanAim, CanEnter, CanLeave, CanQueue, CanDo, IsDoneBy}
 use Rattle.acc_clauses.proofs.Legal.{mapped_around, can_move, can_by}
+use Rattle.acc_clauses.proofs.Changes.{changed_sound}
 
 -- ---- what each attachment and each detachment needs
 
 -- the block that has a pointer
 with_pointer : (l : Limits) (s : State) (pointer block : ℕ) → IsWithinBounds l → AreRecordsSound l s.records → AreMemoriesSized l s → block_with pointer s.records.ranges ≡ Some block → CanMove (pointer_at pointer) block s
-with_pointer l s pointer block bounds h m e = go (where_is (pointer_at pointer) s.records.ranges) refl e
-  where
-    go : (f : Found) → where_is (pointer_at pointer) s.records.ranges ≡ f → block_in f ≡ Some block → CanMove (pointer_at pointer) block s
-    go (Inside b offset) is k =
-        let same : b ≡ block = cc in
-        subst (λ n. CanMove (pointer_at pointer) n s) same (can_move l s (pointer_at pointer) b bounds h m (mapped_around l s.records (pointer_at pointer) b offset h is))
-    go _ is k = cc
+with_pointer l s pointer block bounds h m e = grind (arith, nat_tests, can_move l s (pointer_at pointer) block, mapped_around l s.records (pointer_at pointer) block)
 
 can_attach : (l : Limits) (s : State) (named : Option ℕ) (aim : Aim) → IsWithinBounds l → AreRecordsSound l s.records → AreMemoriesSized l s → IsAttachLegal l named aim s.records → CanAim l.counter_max aim s
-can_attach l s named aims.None bounds h m legal = tt
-can_attach l s named (aims.New pointer block target) bounds h m legal = record { move = with_pointer l s pointer block bounds h m legal.1; free = legal.2 }
-can_attach l s named (aims.Again pointer block) bounds h m legal = record { some = legal.3; below = legal.4 }
-can_attach l s named _ bounds h m legal = absurd legal
+can_attach l s named aim bounds h m legal = grind (arith, nat_tests, with_pointer)
 
 can_detach : (l : Limits) (s : State) (immediate : Bool) (pointer block : ℕ) → IsWithinBounds l → AreRecordsSound l s.records → AreMemoriesSized l s → block_with pointer s.records.ranges ≡ Some block
     → not_lent (block_aimed (detach immediate block pointer s.records.attached)) s.records.loans ≡ Ok tt → CanAim l.counter_max (detach immediate block pointer s.records.attached) s
-can_detach l s immediate pointer block bounds h m e free = go (count_at block pointer s.records.attached == 0) immediate refl free
-  where
-    can : (count_at block pointer s.records.attached == 0) ≡ false → is_lent block s.records.loans ≡ false → CanDetach pointer block s
-    can more out = record { some = grind (arith, nat_tests); move = with_pointer l s pointer block bounds h m e; free = out }
-
-    go : (b i : Bool) → (count_at block pointer s.records.attached == 0) ≡ b → not_lent (block_aimed (cond b aims.None (cond i (aims.Cleared pointer block) (aims.Less pointer block)))) s.records.loans ≡ Ok tt
-        → CanAim l.counter_max (cond b aims.None (cond i (aims.Cleared pointer block) (aims.Less pointer block))) s
-    go true i n out = tt
-    go false true n out = can n (not_lent_says block s.records.loans out)
-    go false false n out = can n (not_lent_says block s.records.loans out)
+can_detach l s immediate pointer block bounds h m e free = grind (arith, nat_tests, with_pointer)
 
 can_judged : (l : Limits) (s : State) (immediate : Bool) (named : Option ℕ) → IsWithinBounds l → AreRecordsSound l s.records → AreMemoriesSized l s → not_lent (block_aimed (detach_if immediate named s.records)) s.records.loans ≡ Ok tt → CanAim l.counter_max (detach_if immediate named s.records) s
 unfolding judge_detach
-can_judged l s immediate None bounds h m free = tt
-can_judged l s immediate (Some pointer) bounds h m free = go (block_with pointer s.records.ranges) refl free
-  where
-    go : (o : Option ℕ) → block_with pointer s.records.ranges ≡ o → not_lent (block_aimed (detach_there immediate pointer o s.records.attached)) s.records.loans ≡ Ok tt → CanAim l.counter_max (detach_there immediate pointer o s.records.attached) s
-    go None e out = tt
-    go (Some block) e out = can_detach l s immediate pointer block bounds h m e out
+can_judged l s immediate named bounds h m free = grind (arith, nat_tests, can_detach)
 
 can_release : (l : Limits) (s : State) (held : Option (ℕ × ℕ)) → IsWithinBounds l → AreRecordsSound l s.records → AreMemoriesSized l s → not_lent (block_aimed (judge_release held s.records)) s.records.loans ≡ Ok tt → CanAim l.counter_max (judge_release held s.records) s
 unfolding judge_release
@@ -85,8 +61,7 @@ can_release l s (Some held) bounds h m free = go (block_with held.0 s.records.ra
     here now e false same out = tt
 
     go : (o : Option ℕ) → block_with held.0 s.records.ranges ≡ o → not_lent (block_aimed (release_there held.0 held.1 o s.records.attached)) s.records.loans ≡ Ok tt → CanAim l.counter_max (release_there held.0 held.1 o s.records.attached) s
-    go None e out = tt
-    go (Some now) e out = here now e (now == held.1) refl out
+    go o e out = grind (arith, nat_tests, here)
 
 -- ---- what each task needs
 
@@ -162,14 +137,7 @@ can_of l x (Move if_present item queue) did sized h = can_leave l x (Move if_pre
 
 pub can_do : (l : Limits) (x : Environment) (next : Numbers) (task : Task) (did : Did) → IsWithinBounds l → ArePartsSound l x next → x.device.births < 2 ^ 48
     → IsKnown (state_of x next).records task → IsJudged l task did (state_of x next).records → CanDo x task did
-can_do l x next task did bounds sound few known judged = can_of l x task did sound.sized (record {
-  bounds = bounds;
-  sound = sound.sound.records;
-  sized = record { host = sound.sound.memories.host; blocks = sound.sound.memories.blocks };
-  few = few;
-  known = known;
-  judged = judged;
-})
+can_do l x next task did bounds sound few known judged = search can_of
 
 -- ---- what a task leaves
 
@@ -183,15 +151,5 @@ done_sound l s task did bounds h m judged = (
 
 pub parts_sound : (l : Limits) (x y : Environment) (next : Numbers) (task : Task) (did : Did) → IsWithinBounds l → ArePartsSound l x next → IsJudged l task did (state_of x next).records → IsDoneBy task did x y → ArePartsSound l y next
 parts_sound l x y next task did bounds sound judged done =
-    let after : AreRecordsSound l (act_state task did (state_of x next)).records × AreMemoriesSized l (act_state task did (state_of x next)) =
-    done_sound l (state_of x next) task did bounds sound.sound.records sound.sound.memories judged in
-    let there : AreRecordsSound l (state_of y next).records × AreMemoriesSized l (state_of y next) =
-    subst (λ (s : State). AreRecordsSound l s.records × AreMemoriesSized l s) (sym (done.state next)) after in
-    let loans : y.device.loans ≡ x.device.loans = ap (λ (s : State). s.records.loans) (done.state next) ∙ (ap (λ (w : Records). w.loans) (records-act_state task did (state_of x next)) ∙ loans-act task did (state_of x next).records) in
-    record {
-      sized = record { counters = done.counter_max ∙ sound.sized.counters; device = done.memory ∙ sound.sized.device; pointers = done.pointer_max ∙ sound.sized.pointers; queues = done.queue_cap ∙ sound.sized.queues };
-      sound = record { records = there.0; memories = there.1 };
-      marked = done.marked;
-      lent = sound.lent ∙ ap length (sym loans);
-      few = sound.few;
-    }
+    let after = done_sound l (state_of x next) task did bounds sound.sound.records sound.sound.memories judged in
+    changed_sound l (act_state task did) _ _ _ x y next sound done after.0 after.1 (ap (λ (w : Records). w.loans) (records-act_state task did (state_of x next)) ∙ loans-act task did (state_of x next).records)

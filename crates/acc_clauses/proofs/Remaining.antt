@@ -1,22 +1,18 @@
 -- What is left to do of a directive's steps, before each of them.
-use Rattle.std.proofs.Common.{ℕ, suc, ◌≡◌, ◌+◌, ◌≤◌, sym, ◌∙◌, ap, List, [], ◌∷◌, ◌++◌, length, drop, arith, append_assoc, append-nil, length-append}
-use Rattle.std.proofs.lemmas.List.{drop_all}
-use Rattle.acc_clauses.specs.Words.{Task, Step, Did, Holding}
-use Rattle.acc_base.specs.declared.events.Step.TheVariants.{Nothing, Born}
+use Rattle.std.proofs.lemmas.Bool.Decides.{nat_tests}
+use Rattle.std.proofs.Common.{ℕ, suc, ◌≡◌, ◌+◌, ◌≤◌, sym, ◌∙◌, ap, List, [], ◌∷◌, ◌++◌, length, drop, arith, append_assoc, append-nil, length-append, get_or, ◌<◌}
+use Rattle.std.proofs.lemmas.List.{drop_all, drop_more}
+use Rattle.acc_clauses.specs.Words.{Task, Did, Holding}
 use Rattle.acc_base.specs.declared.addresses.TheConstants.{MEMORY_MAX}
-use Rattle.acc_base.specs.declared.tasks.Task.TheVariants.{Enter, Leave, Exit, Move}
 use Rattle.acc_base.specs.Limits.{Limits, IsWithinBounds, IsFromOne}
 use Rattle.std.specs.List.{All, AllByRecursion}
 use Rattle.std.proofs.lemmas.List.Elements.{All-from_recursion}
-use Rattle.acc_base.proofs.Elements.{AllByRecursion-append}
-use Rattle.acc_base.proofs.Judged.{IsJudgedTo, task_says}
+use Rattle.acc_base.proofs.Judged.{task_says}
 use Rattle.acc_base.proofs.Walked.{records-act_state}
 use Rattle.acc_base.proofs.SameMapping.{mapping-act}
 use Rattle.acc_base.proofs.Births.{births_most}
-use Rattle.acc_clauses.proofs.Legal.{birth_len}
 use Rattle.acc_base.specs.Records.{Records, State}
-use Rattle.acc_base.specs.Tasks.{section_of}
-use Rattle.acc_base.specs.Steps.{act_step, act}
+use Rattle.acc_base.specs.Steps.{act}
 use Rattle.acc_base.specs.Acting.{act_state, act_all_state}
 use Rattle.acc_base.specs.History.{AreJudged}
 use Rattle.acc_clauses.specs.declared.acted.Acted.{Acted}
@@ -35,6 +31,11 @@ pub record CanRun (l : Limits) (tasks : List Task) (dids : List Did) (c : Conten
   pub pointers : pointers_in dids ≤ c.room.attachments
   pub puts : HasPutRoom (λ q. puts_in q tasks dids) c.room
 
+-- those that are left from a place on are the one there, and those behind it
+pub turn_can : (l : Limits) (acts : List Acted) (n : ℕ) (d : Acted) (c : Contents) → n < length acts → CanRun l (tasks_in (drop n acts)) (dids_in (drop n acts)) c
+    → CanRun l ((get_or acts n d).task ∷ tasks_in (drop (n + 1) acts)) ((get_or acts n d).did ∷ dids_in (drop (n + 1) acts)) c
+turn_can l acts n d c within can = rw (drop_more acts n d within) at can
+
 -- the first of them
 pub first_judged : (l : Limits) (task : Task) (tasks : List Task) (did : Did) (dids : List Did) (c : Contents) → CanRun l (task ∷ tasks) (did ∷ dids) c → IsJudged c.limits task did c.state.records
 first_judged l task tasks did dids c h = record { item = h.item; step = rw h.limits h.judged.0; aim = rw h.limits h.judged.1 }
@@ -43,44 +44,19 @@ pub first_pointers : (l : Limits) (task : Task) (tasks : List Task) (did : Did) 
 first_pointers l task tasks did dids c h = omega (arith, h.pointers)
 
 pub first_room : (l : Limits) (task : Task) (tasks : List Task) (did : Did) (dids : List Did) (c : Contents) → CanRun l (task ∷ tasks) (did ∷ dids) c → HasRoomFor (birth_of task did.step) c.room
-first_room l task tasks did dids c h = record {
-  rest = lens_born tasks dids ++ h.room.rest;
-  births_are = h.room.births_are ∙ append_assoc (birth_of task did.step) (lens_born tasks dids) h.room.rest;
-  ranges = omega (arith, h.room.ranges, length-append (birth_of task did.step) (lens_born tasks dids));
-}
+first_room l task tasks did dids c h = grind (arith, nat_tests, append_assoc)
 
 pub first_puts : (l : Limits) (task : Task) (tasks : List Task) (did : Did) (dids : List Did) (c : Contents) → CanRun l (task ∷ tasks) (did ∷ dids) c → HasPutRoom (λ q. puts_by q task did.step) c.room
 first_puts l task tasks did dids c h = λ q. omega (arith, h.puts q)
 
--- what comes first in both is the same
-same_rest : (xs ys zs : List ℕ) → xs ++ ys ≡ xs ++ zs → ys ≡ zs
-same_rest [] ys zs e = e
-same_rest (x ∷ xs) ys zs e = same_rest xs ys zs (cc)
-
 -- the others, after the first
 pub rest_can : (l : Limits) (task : Task) (tasks : List Task) (did : Did) (dids : List Did) (c e : Contents) → CanRun l (task ∷ tasks) (did ∷ dids) c → e.limits ≡ c.limits → e.state ≡ act_state task did c.state
     → IsRoomLeft (birth_of task did.step) (pointers_of did.aim) (λ q. puts_by q task did.step) c.room e.room → CanRun l tasks dids e
-rest_can l task tasks did dids c e h limits state room =
-    let records : e.state.records ≡ act task did c.state.records = ap (λ (s : State). s.records) state ∙ records-act_state task did c.state in
-    record {
-      limits = limits ∙ h.limits;
-      item = suc h.item;
-      judged = rw records h.judged.2;
-      known = rw records h.known.1;
-      room = record {
-        rest = h.room.rest;
-        births_are = same_rest (birth_of task did.step) e.room.births (lens_born tasks dids ++ h.room.rest) (sym room.births_are ∙ (h.room.births_are ∙ append_assoc (birth_of task did.step) (lens_born tasks dids) h.room.rest));
-        ranges = omega (arith, h.room.ranges, room.ranges, length-append (birth_of task did.step) (lens_born tasks dids));
-      };
-      pointers = omega (arith, h.pointers, room.attachments);
-      puts = λ q. omega (arith, h.puts q, room.puts q);
-    }
+rest_can l task tasks did dids c e h limits state room = grind (arith, nat_tests, records-act_state, append_assoc, length-append)
 
 -- at most one block is born by a step
 pub births_next : (task : Task) (did : Did) (c e : Contents) → e.state ≡ act_state task did c.state → e.state.records.births ≤ c.state.records.births + 1
-births_next task did c e state =
-    let births : e.state.records.births ≡ (act_step task did.step c.state.records).births = ap (λ (s : State). s.records.births) state ∙ (ap (λ (w : Records). w.births) (records-act_state task did c.state) ∙ (mapping-act task did c.state.records).births) in
-    rw births (births_most task did.step c.state.records)
+births_next task did c e state = grind (arith, nat_tests, records-act_state, mapping-act, births_most)
 
 -- what the tasks come to is what the first comes to, and then the others
 pub rest_state : (task : Task) (tasks : List Task) (did : Did) (dids : List Did) (s t u : State) → t ≡ act_state task did s → act_all_state (task ∷ tasks) (did ∷ dids) s ≡ u → act_all_state tasks dids t ≡ u
@@ -102,19 +78,9 @@ holdings_done acts i holdings all h e = let none : drop i acts ≡ [] = drop_all
 
 -- ---- the lengths of blocks
 
--- a block that a task is judged to bear is not too long
-birth_fits : (l : Limits) (task : Task) (step : Step) (w : Records) → IsWithinBounds l → IsJudgedTo l task step w → AllByRecursion (IsFromOne MEMORY_MAX) (birth_of task step)
-birth_fits l task Nothing w bounds says = tt
-birth_fits l (Enter counter item queue) (Born k p) w bounds says = (birth_len l (section_of (Enter counter item queue)) k p w bounds says, tt)
-birth_fits l (Leave holding) (Born k p) w bounds says = absurd says
-birth_fits l (Exit finalize item queue) (Born k p) w bounds says = absurd says
-birth_fits l (Move if_present item queue) (Born k p) w bounds says = absurd says
-birth_fits l task _ w bounds says = tt
-
 lens_each : (l : Limits) (n : ℕ) (tasks : List Task) (dids : List Did) (w : Records) → IsWithinBounds l → AreJudged l n tasks dids w → AllByRecursion (IsFromOne MEMORY_MAX) (lens_born tasks dids)
 lens_each l n [] [] w bounds judged = tt
-lens_each l n (t ∷ ts) (d ∷ ds) w bounds judged =
-    AllByRecursion-append (IsFromOne MEMORY_MAX) (birth_of t d.step) (lens_born ts ds) (birth_fits l t d.step w bounds (task_says l n t w d.step judged.0)) (lens_each l (suc n) ts ds (act t d w) bounds judged.2)
+lens_each l n (t ∷ ts) (d ∷ ds) w bounds judged = grind (arith, nat_tests, lens_each l (suc n) ts ds (act t d w) bounds judged.2, task_says l n t w d.step judged.0)
 lens_each l n _ _ w bounds judged = tt
 
 -- and so is none of those that tasks are judged to bear

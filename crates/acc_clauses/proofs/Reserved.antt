@@ -1,28 +1,23 @@
 -- All room that a plan needs is made: its tasks name one queue at most, that of its directive.
-use Rattle.std.proofs.Common.{ℕ, ◌≡◌, ◌<◌, ◌≤◌, refl, sym, ◌∙◌, ap, subst, Bool, true, false, List, [], ◌∷◌, length, Option, Some, None, Ok, arith}
-use Rattle.std.specs.Prelude.{◌==◌, nat_le}
+use Rattle.std.proofs.Common.{ℕ, ◌≡◌, ◌<◌, ◌≤◌, refl, false, List, [], ◌∷◌, length, Option, Some, None, arith}
 use Rattle.std.specs.List.{AllByRecursion}
 use Rattle.std.proofs.lemmas.Bool.Decides.{nat_tests}
 use Rattle.std.proofs.lemmas.List.{length-map}
-use Rattle.acc_base.specs.declared.directives.Directive.{Directive}
-use Rattle.acc_base.specs.declared.tasks.Task.{Task}
-use Rattle.acc_base.specs.declared.events.Did.{Did}
-use Rattle.acc_base.specs.declared.events.Step.{Step}
+use Rattle.acc_clauses.specs.Words.{Directive, Task, Did}
 use Rattle.acc_base.specs.declared.transfers.TheConstants.{QUEUE_COUNT}
 use Rattle.acc_base.specs.Limits.{Limits}
 use Rattle.acc_base.specs.Records.{State}
-use Rattle.acc_base.specs.Queues.{queue_named}
 use Rattle.acc_base.specs.Tasks.{queue_of}
 use Rattle.acc_base.specs.Judge.{queue_in}
-use Rattle.acc_base.proofs.Results.{equal, refused_not}
 use Rattle.acc_queues.specs.Queued.{spare_at}
 use Rattle.acc_clauses.specs.declared.acted.Acted.{Acted}
 use Rattle.acc_clauses.specs.Planned.{Planned, holdings_by, IsPlanOf}
-use Rattle.acc_clauses.specs.Overlays.{tasks_in, dids_in, is_queue, puts_by, puts_in}
+use Rattle.acc_clauses.specs.Overlays.{tasks_in, dids_in, is_queue, puts_in}
 use Rattle.acc_clauses.specs.Contents.{Contents, Room}
 use Rattle.acc_clauses.specs.Stored.{IsStoreSound}
 use Rattle.acc_clauses.proofs.Asking.{asked_fit}
 use Rattle.acc_clauses.specs.Acts.{lens_born, pointers_in, HasRoomFor, HasPutRoom, HasRegionRoom, HasPlanRoom, regions_entered}
+use Rattle.acc_clauses.proofs.QueuesAfter.{known_queue}
 
 -- ---- the queue of a directive
 
@@ -32,18 +27,12 @@ AreOfQueue queue tasks = AllByRecursion (λ t. queue_of t ≡ queue) tasks
 
 -- ---- the other queues
 
-none_by : (q : ℕ) (task : Task) (step : Step) (queue : Option ℕ) → queue_of task ≡ queue → is_queue q queue ≡ false → puts_by q task step ≡ 0
-none_by q task step queue same other = rw (same, other) refl
-
 -- nothing is put into a queue that the tasks do not name
 none_in : (q : ℕ) (queue : Option ℕ) (tasks : List Task) (dids : List Did) → AreOfQueue queue tasks → is_queue q queue ≡ false → puts_in q tasks dids ≡ 0
 none_in q queue [] [] h other = refl
 none_in q queue [] (d ∷ ds) h other = refl
 none_in q queue (t ∷ ts) [] h other = refl
-none_in q queue (t ∷ ts) (d ∷ ds) h other =
-    let first : puts_by q t d.step ≡ 0 = none_by q t d.step queue h.0 other in
-    let rest : puts_in q ts ds ≡ 0 = none_in q queue ts ds h.1 other in
-    omega (arith, first, rest)
+none_in q queue (t ∷ ts) (d ∷ ds) h other = grind (arith, nat_tests, none_in q queue ts ds h.1 other)
 
 planned_queue : (d : Directive) (c : Contents) (p : Planned) → IsStoreSound c → IsPlanOf c.limits d c.state p → AreOfQueue (queue_in d) p.tasks
 planned_queue d c p h planned = (asked_fit d c.state.register p.tasks h.sound.layout.register.few planned.asked).queues
@@ -52,27 +41,16 @@ planned_queue d c p h planned = (asked_fit d c.state.register p.tasks h.sound.la
 
 -- a directive that names no queue puts nothing
 pub none_room : (d : Directive) (c : Contents) (p : Planned) (room : Room) → IsStoreSound c → IsPlanOf c.limits d c.state p → queue_in d ≡ None → HasPutRoom (λ q. puts_in q p.tasks p.dids) room
-none_room d c p room h planned none = λ q.
-    let nothing : puts_in q p.tasks p.dids ≡ 0 = none_in q (queue_in d) p.tasks p.dids (planned_queue d c p h planned) (ap (is_queue q) none) in
-    omega (arith, nothing)
+none_room d c p room h planned none = grind (arith, nat_tests, none_in, planned_queue)
 
 -- one that names a queue puts into that one alone
 pub one_room : (d : Directive) (c : Contents) (p : Planned) (named : ℕ) (room : Room) → IsStoreSound c → IsPlanOf c.limits d c.state p → queue_in d ≡ Some named → puts_in named p.tasks p.dids ≤ spare_at named room.puts
     → HasPutRoom (λ q. puts_in q p.tasks p.dids) room
-one_room d c p named room h planned is enough = λ q. go q (named == q) refl
-  where
-    go : (q : ℕ) (b : Bool) → (named == q) ≡ b → puts_in q p.tasks p.dids ≤ spare_at q room.puts
-    go q true same = subst (λ n. puts_in n p.tasks p.dids ≤ spare_at n room.puts) (equal named q same) enough
-    go q false other =
-        let nothing : puts_in q p.tasks p.dids ≡ 0 = none_in q (queue_in d) p.tasks p.dids (planned_queue d c p h planned) (ap (is_queue q) is ∙ other) in
-        omega (arith, nothing)
+one_room d c p named room h planned is enough = grind (arith, nat_tests, none_in, planned_queue)
 
 -- there is the queue that a planned directive names
 pub queue_there : (l : Limits) (d : Directive) (s : State) (p : Planned) (named : ℕ) → IsPlanOf l d s p → queue_in d ≡ Some named → named < QUEUE_COUNT
-queue_there l d s p named h is =
-    let known : queue_named (Some named) ≡ Ok tt = subst (λ o. queue_named o ≡ Ok tt) is h.known in
-    let below : nat_le QUEUE_COUNT named ≡ false = refused_not _ _ known in
-    grind (arith, nat_tests)
+queue_there l d s p named h is = known_queue named (queue_in d) is h.known
 
 -- ---- all room
 
@@ -95,12 +73,4 @@ pub record IsReserved (d : Directive) (p : Planned) (acts : List Acted) (lens : 
   pub enough : pointers ≤ room.attachments
 
 pub plan_room : (d : Directive) (p : Planned) (acts : List Acted) (lens : List ℕ) (pointers : ℕ) (old new : Room) → IsReserved d p acts lens pointers old → IsSameRoom old new → HasPutRoom (λ q. puts_in q p.tasks p.dids) new → HasPlanRoom d p new
-plan_room d p acts lens pointers old new h same puts =
-    let more : pointers ≡ pointers_in p.dids = h.pointers_are ∙ ap pointers_in h.dids in
-    let births : HasRoomFor (lens_born p.tasks p.dids) old = subst (λ ls. HasRoomFor ls old) h.lens_are h.births in
-    record {
-      births = record { rest = births.rest; births_are = same.births ∙ births.births_are; ranges = omega (arith, births.ranges, same.ranges) };
-      region = record { regions_fit = omega (arith, h.region.regions_fit, same.regions); holdings_fit = omega (arith, h.region.holdings_fit, same.holdings) };
-      pointers = omega (arith, h.enough, more, same.attachments);
-      puts = puts;
-    }
+plan_room d p acts lens pointers old new h same puts = grind (arith, nat_tests)

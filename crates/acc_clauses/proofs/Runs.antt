@@ -1,10 +1,10 @@
 -- A copy in runs, each up to the next attached pointer, leaves out the bytes of these pointers and copies all others.
-use Rattle.std.proofs.Common.{ℕ, suc, ◌≡◌, ◌+◌, ◌-◌, ◌<◌, ◌≤◌, refl, Bool, true, false, cond, List, [], ◌∷◌, map, Some, None, arith, ⊎_elim}
-use Rattle.std.specs.Prelude.{◌==◌, ◌⊎◌, ◌||◌, nat_lt}
+use Rattle.std.proofs.Common.{ℕ, suc, ◌≡◌, ◌+◌, ◌-◌, ◌<◌, ◌≤◌, refl, Bool, true, false, List, [], ◌∷◌, map, Some, None, arith, ⊎_elim}
+use Rattle.std.specs.Prelude.{◌⊎◌, ◌||◌}
 use Rattle.std.proofs.lemmas.Bool.Decides.{nat_tests}
 use Rattle.acc_clauses.specs.Words.{Section, Attachment}
 use Rattle.acc_base.specs.Section.{covers, end_of, is_within}
-use Rattle.acc_base.specs.Attachments.{IsBefore, is_skipped, next_pointer}
+use Rattle.acc_base.specs.Attachments.{IsBefore, next_pointer}
 use Rattle.acc_base.specs.Records.{Memory}
 use Rattle.acc_base.specs.Bytes.{written_bytes, memory_changed, is_moved}
 use Rattle.acc_base.specs.Accounts.{EachPair}
@@ -29,12 +29,7 @@ ends_at_next block attached at end next stop rising e some below most is = recor
 
 -- and where there is none
 pub ends_without : (block : ℕ) (attached : List Attachment) (at end : ℕ) → next_pointer block (at - 7) attached ≡ None → at < end → IsRunEnd block attached at end end
-ends_without block attached at end e some = record {
-  most = omega arith;
-  more = omega arith;
-  clear = λ a low high. clear_to_end block at a attached e low;
-  skipped = λ a low first last inside. absurd (omega (arith, first, inside));
-}
+ends_without block attached at end e some = grind (arith, nat_tests, clear_to_end)
 
 -- ---- which addresses are copied
 
@@ -49,26 +44,7 @@ below_end s block attached at a h = grind (arith, nat_tests)
 -- the addresses that are copied once one more run is
 below_next : (s run : Section) (block : ℕ) (attached : List Attachment) (at stop a : ℕ) → s.start ≤ at → at < end_of s → run.start ≡ at → run.len ≡ stop - at → IsRunEnd block attached at (end_of s) stop
     → moved_below s block attached (stop + 8) a ≡ (moved_below s block attached at a || covers run a)
-below_next s run block attached at stop a low inside first len h = go (nat_lt a at) refl (nat_lt a stop) refl (nat_lt a (stop + 8)) refl
-  where
-    more : at < stop + 8
-    more = h.more
-
-    most : stop ≤ end_of s
-    most = h.most
-
-    go : (x : Bool) → nat_lt a at ≡ x → (y : Bool) → nat_lt a stop ≡ y → (z : Bool) → nat_lt a (stop + 8) ≡ z → moved_below s block attached (stop + 8) a ≡ (moved_below s block attached at a || covers run a)
-    go false e true f z g =
-        let clear : is_skipped block attached a ≡ false = h.clear a (grind (arith, nat_tests)) (grind (arith, nat_tests)) in
-        rw clear (grind (arith, nat_tests))
-    go false e false f true g = within (nat_lt a (end_of s)) refl
-      where
-        within : (b : Bool) → nat_lt a (end_of s) ≡ b → moved_below s block attached (stop + 8) a ≡ (moved_below s block attached at a || covers run a)
-        within true k =
-            let skipped : is_skipped block attached a ≡ true = h.skipped a (grind (arith, nat_tests)) (grind (arith, nat_tests)) (grind (arith, nat_tests)) (grind (arith, nat_tests)) in
-            rw skipped (grind (arith, nat_tests))
-        within false k = grind (arith, nat_tests)
-    go _ e _ f _ g = grind (arith, nat_tests)
+below_next s run block attached at stop a low inside first len h = grind (arith, nat_tests)
 
 -- ---- bytes written one run after the other
 
@@ -84,40 +60,22 @@ written-same p q source a (x ∷ xs) h = rw (h a, written-same p q source (suc a
 -- what is written from one source in two turns
 pub written-twice : (p q r : ℕ → Bool) (source : ℕ → ℕ) (a : ℕ) (old : List ℕ) → ((x : ℕ) → r x ≡ (p x || q x)) → written_bytes q source a (written_bytes p source a old) ≡ written_bytes r source a old
 written-twice p q r source a [] h = refl
-written-twice p q r source a (x ∷ xs) h = rw (h a, written-twice p q r source (suc a) xs h) (go (p a) (q a))
-  where
-    go : (b c : Bool) → cond c (source a) (cond b (source a) x) ∷ written_bytes r source (suc a) xs ≡ cond (b || c) (source a) x ∷ written_bytes r source (suc a) xs
-    go true true = refl
-    go false true = refl
-    go _ _ = refl
+written-twice p q r source a (x ∷ xs) h = grind (arith, nat_tests, written-twice p q r source (suc a) xs h)
 
 -- ---- memories changed one run after the other
 
 pub changed-twice : (block : ℕ) (f g h : List ℕ → List ℕ) (ms : List Memory) → ((bytes : List ℕ) → g (f bytes) ≡ h bytes) → map (memory_changed block g) (map (memory_changed block f) ms) ≡ map (memory_changed block h) ms
 changed-twice block f g h [] e = refl
-changed-twice block f g h (m ∷ ms) e = go (m.block == block) refl (changed-twice block f g h ms e)
-  where
-    go : (b : Bool) → (m.block == block) ≡ b → map (memory_changed block g) (map (memory_changed block f) ms) ≡ map (memory_changed block h) ms
-        → memory_changed block g (cond b (record m { bytes = f m.bytes }) m) ∷ map (memory_changed block g) (map (memory_changed block f) ms) ≡ cond b (record m { bytes = h m.bytes }) m ∷ map (memory_changed block h) ms
-    go true t rest = rw (t, e m.bytes, rest) refl
-    go false t rest = rw (t, rest) refl
+changed-twice block f g h (m ∷ ms) e = grind (arith, nat_tests, changed-twice block f g h ms e)
 
 -- two changes that agree
 pub changed_same : (block : ℕ) (f g : List ℕ → List ℕ) (ms : List Memory) → ((bytes : List ℕ) → f bytes ≡ g bytes) → map (memory_changed block f) ms ≡ map (memory_changed block g) ms
 changed_same block f g [] e = refl
-changed_same block f g (m ∷ ms) e = go (m.block == block) (changed_same block f g ms e)
-  where
-    go : (b : Bool) → map (memory_changed block f) ms ≡ map (memory_changed block g) ms → cond b (record m { bytes = f m.bytes }) m ∷ map (memory_changed block f) ms ≡ cond b (record m { bytes = g m.bytes }) m ∷ map (memory_changed block g) ms
-    go true rest = rw (e m.bytes, rest) refl
-    go false rest = rw rest refl
+changed_same block f g (m ∷ ms) e = grind (arith, nat_tests, changed_same block f g ms e)
 
 pub changed-none : (block : ℕ) (f : List ℕ → List ℕ) (ms : List Memory) → ((bytes : List ℕ) → f bytes ≡ bytes) → map (memory_changed block f) ms ≡ ms
 changed-none block f [] e = refl
-changed-none block f (m ∷ ms) e = go (m.block == block) (changed-none block f ms e)
-  where
-    go : (b : Bool) → map (memory_changed block f) ms ≡ ms → cond b (record m { bytes = f m.bytes }) m ∷ map (memory_changed block f) ms ≡ m ∷ ms
-    go true rest = rw (e m.bytes, rest) refl
-    go false rest = rw rest refl
+changed-none block f (m ∷ ms) e = grind (arith, nat_tests, changed-none block f ms e)
 
 -- ---- one more run
 
@@ -140,8 +98,7 @@ pub record IsRun (s run : Section) (block : ℕ) (attached : List Attachment) (a
 -- bytes that were written below an address, and then in the run from it on
 pub written_next : (s run : Section) (block : ℕ) (attached : List Attachment) (at stop : ℕ) (source : ℕ → ℕ) (first : ℕ) (old : List ℕ) → IsRun s run block attached at stop
     → written_bytes (covers run) source first (written_bytes (moved_below s block attached at) source first old) ≡ written_bytes (moved_below s block attached (stop + 8)) source first old
-written_next s run block attached at stop source first old h = written-twice (moved_below s block attached at) (covers run) (moved_below s block attached (stop + 8)) source first old
-    (λ a. below_next s run block attached at stop a h.low h.inside h.first h.len h.ends)
+written_next s run block attached at stop source first old h = search (written-twice, below_next)
 
 -- before the first run nothing was written
 pub written_start : (s : Section) (block : ℕ) (attached : List Attachment) (source : ℕ → ℕ) (first : ℕ) (old : List ℕ) → written_bytes (moved_below s block attached s.start) source first old ≡ old

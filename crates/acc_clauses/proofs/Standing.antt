@@ -1,65 +1,33 @@
 -- Which blocks have a range, and which have ended and are kept by queued transfers, as the marks of the device tell it.
-use Rattle.std.proofs.Common.{ℕ, ◌≡◌, ◌<◌, refl, ◌∙◌, ap, Bool, true, false, cond, List, [], ◌∷◌, Option, Some, None, arith, subst}
-use Rattle.std.specs.Prelude.{◌==◌, ◌&&◌, nat_le, filter, is_none, unwrap_or, option_map, IfSome, IsSome}
+use Rattle.std.proofs.lemmas.Bool.Decides.{nat_tests}
+use Rattle.std.proofs.Common.{ℕ, ◌≡◌, ◌<◌, refl, ◌∙◌, ap, Bool, cond, List, [], ◌∷◌, Option, Some, None, arith}
+use Rattle.std.specs.Prelude.{◌&&◌, nat_le, filter, is_none, option_map, IfSome, IsSome}
 use Rattle.std.specs.List.{AllByRecursion, AllZip}
-use Rattle.acc_clauses.specs.Words.{Loan, Range, Block, Transfer}
+use Rattle.acc_clauses.specs.Words.{Range, Block, Transfer}
 use Rattle.acc_base.specs.Loans.{loan_of}
 use Rattle.acc_dev.specs.Device.{DeviceState, HasBlock, IsLoanOn}
 use Rattle.acc_base.specs.Limits.{Limits}
 use Rattle.acc_base.specs.Ranges.{range_of}
-use Rattle.acc_base.specs.Blocks.{block_at, lower, lowest}
+use Rattle.acc_base.specs.Blocks.{block_at, lowest}
 use Rattle.acc_base.specs.Queues.{pins_of}
 use Rattle.acc_base.specs.Waits.{told_ended, ended_from}
 use Rattle.acc_base.specs.Accounts.{IsClearOf, EachPair}
-use Rattle.acc_base.proofs.Results.{equal}
 use Rattle.acc_base.proofs.Elements.{AllByRecursion-weaker, AllByRecursion-filter, EachPair-weaker, found_has}
 use Rattle.acc_base.proofs.Lookups.{at-own}
-use Rattle.acc_dev.specs.Marks.{Mark, mark_at, pins_at, is_ended_at, ended_told, lowest_ended, IsMarkOf}
+use Rattle.acc_dev.specs.Marks.{Mark, pins_at, is_ended_at, ended_told, lowest_ended, IsMarkOf}
 use Rattle.acc_clauses.specs.declared.numbers.Numbers.{Numbers}
 use Rattle.acc_clauses.specs.declared.environments.Environment.{Environment}
-use Rattle.acc_clauses.specs.Contents.{state_of, IsMarkRight, ArePartsSound}
+use Rattle.acc_clauses.specs.Contents.{state_of, ArePartsSound}
 use Rattle.acc_clauses.proofs.Steps.{is_some}
+use Rattle.acc_clauses.proofs.Marked.{IsMarkAt, mark_told}
 
 -- ---- the mark of a block
 
 abbrev number_in : Block → ℕ
 number_in b = b.number
 
--- the block has a mark, which is right
-record HasMark (k : ℕ) (ranges : List Range) (queues : List (List Transfer)) (ms : List Mark) : Type 0 where
-  mark : Mark
-  mark_is : mark_at k ms ≡ Some mark
-  own : mark.block ≡ k
-  right : IsMarkRight ranges queues mark
-
-mark_of : (k : ℕ) (ranges : List Range) (queues : List (List Transfer)) (ms : List Mark) (bs : List Block) → AllZip IsMarkOf ms bs → AllByRecursion (IsMarkRight ranges queues) ms → IsSome (block_at k bs) → HasMark k ranges queues ms
-mark_of k ranges queues [] [] zip right there = cc
-mark_of k ranges queues [] (b ∷ bs) zip right there = absurd zip
-mark_of k ranges queues (m ∷ ms) [] zip right there = cc
-mark_of k ranges queues (m ∷ ms) (b ∷ bs) zip right there = go (mark_of k ranges queues ms bs zip.1 right.1) (b.number == k) refl there
-  where
-    same : (m.block == k) ≡ (b.number == k)
-    same = ap (λ n. n == k) zip.0
-
-    go : (IsSome (block_at k bs) → HasMark k ranges queues ms) → (t : Bool) → (b.number == k) ≡ t → IsSome (cond t (Some b) (block_at k bs)) → HasMark k ranges queues (m ∷ ms)
-    go rest true e some = record { mark = m; mark_is = rw (same ∙ e) refl; own = zip.0 ∙ equal b.number k e; right = right.0 }
-    go rest false e some =
-        let later : HasMark k ranges queues ms = rest some in
-        record { mark = later.mark; mark_is = rw (same ∙ e) later.mark_is; own = later.own; right = later.right }
-
--- what it tells of a block
-pub record IsMarkTold (ranges : List Range) (queues : List (List Transfer)) (ms : List Mark) (k : ℕ) : Type 0 where
-  pub pins : pins_at k ms ≡ pins_of k queues
-  pub ended : is_ended_at k ms ≡ is_none (range_of k ranges)
-
-told_by : (k : ℕ) (ranges : List Range) (queues : List (List Transfer)) (ms : List Mark) → HasMark k ranges queues ms → IsMarkTold ranges queues ms k
-told_by k ranges queues ms h = record {
-  pins = ap (λ (o : Option Mark). unwrap_or (option_map (λ (m : Mark). m.pins) o) 0) h.mark_is ∙ h.right.pins ∙ ap (λ n. pins_of n queues) h.own;
-  ended = ap (λ (o : Option Mark). unwrap_or (option_map (λ (m : Mark). m.ended) o) false) h.mark_is ∙ h.right.ended ∙ ap (λ n. is_none (range_of n ranges)) h.own;
-}
-
-pub told : (l : Limits) (x : Environment) (next : Numbers) (k : ℕ) → ArePartsSound l x next → AllZip IsMarkOf x.device.marks x.device.blocks → IsSome (block_at k x.device.blocks) → IsMarkTold x.present.table.ranges x.queues.queues x.device.marks k
-told l x next k sound zip there = told_by k x.present.table.ranges x.queues.queues x.device.marks (mark_of k x.present.table.ranges x.queues.queues x.device.marks x.device.blocks zip sound.marked there)
+pub told : (l : Limits) (x : Environment) (next : Numbers) (k : ℕ) → ArePartsSound l x next → AllZip IsMarkOf x.device.marks x.device.blocks → IsSome (block_at k x.device.blocks) → IsMarkAt x.present.table.ranges x.queues.queues x.device.marks k
+told l x next k sound zip there = mark_told x.present.table.ranges x.queues.queues k x.device.marks x.device.blocks zip there sound.marked
 
 -- ---- the lowest block that has ended
 
@@ -70,24 +38,19 @@ filter-same p q (b ∷ bs) h = rw h.0 (ap (λ rest. cond (q b) (b ∷ rest) rest
 
 lowest_has : (P : Block → Type 0) (bs : List Block) → AllByRecursion P bs → IfSome (lowest bs) P
 lowest_has P [] h = tt
-lowest_has P (b ∷ bs) h = go (lowest bs) (lowest_has P bs h.1)
-  where
-    go : (o : Option Block) → IfSome o P → P (lower b o)
-    go None rest = h.0
-    go (Some c) rest = elim (nat_le b.place c.place) as (λ t. P (cond t b c)) [ true ↦ h.0 | false ↦ rest ]
+lowest_has P (b ∷ bs) h = grind (arith, nat_tests, lowest_has P bs h.1)
 
 told_same : (queues : List (List Transfer)) (ms : List Mark) (o : Option Block) → IfSome o (λ b. pins_at b.number ms ≡ pins_of b.number queues) → option_map (ended_told ms) o ≡ option_map (told_ended queues) o
-told_same queues ms None h = refl
-told_same queues ms (Some b) h = rw h refl
+told_same queues ms o h = grind (arith, nat_tests)
 
-lowest_same : (from : ℕ) (ranges : List Range) (queues : List (List Transfer)) (ms : List Mark) (bs : List Block) → AllByRecursion (λ b. IsMarkTold ranges queues ms b.number) bs
+lowest_same : (from : ℕ) (ranges : List Range) (queues : List (List Transfer)) (ms : List Mark) (bs : List Block) → AllByRecursion (λ b. IsMarkAt ranges queues ms b.number) bs
     → lowest_ended from ms bs ≡ option_map (told_ended queues) (lowest (filter (λ b. is_none (range_of b.number ranges) && nat_le from b.place) bs))
 lowest_same from ranges queues ms bs h =
     let p : Block → Bool = λ b. is_ended_at b.number ms && nat_le from b.place in
     let q : Block → Bool = λ b. is_none (range_of b.number ranges) && nat_le from b.place in
-    let same : filter p bs ≡ filter q bs = filter-same p q bs (AllByRecursion-weaker (λ (b : Block). IsMarkTold ranges queues ms b.number) (λ b. p b ≡ q b) bs (λ b t. ap (λ e. e && nat_le from b.place) t.ended) h) in
+    let same : filter p bs ≡ filter q bs = filter-same p q bs (AllByRecursion-weaker (λ (b : Block). IsMarkAt ranges queues ms b.number) (λ b. p b ≡ q b) bs (λ b t. ap (λ e. e && nat_le from b.place) t.ended) h) in
     let pins : AllByRecursion (λ (b : Block). pins_at b.number ms ≡ pins_of b.number queues) (filter q bs) =
-    AllByRecursion-filter (λ (b : Block). pins_at b.number ms ≡ pins_of b.number queues) q bs (AllByRecursion-weaker (λ (b : Block). IsMarkTold ranges queues ms b.number) (λ (b : Block). pins_at b.number ms ≡ pins_of b.number queues) bs (λ b t. t.pins) h) in
+    AllByRecursion-filter (λ (b : Block). pins_at b.number ms ≡ pins_of b.number queues) q bs (AllByRecursion-weaker (λ (b : Block). IsMarkAt ranges queues ms b.number) (λ (b : Block). pins_at b.number ms ≡ pins_of b.number queues) bs (λ b t. t.pins) h) in
     ap (λ cs. option_map (ended_told ms) (lowest cs)) same ∙ told_same queues ms (lowest (filter q bs)) (lowest_has (λ b. pins_at b.number ms ≡ pins_of b.number queues) (filter q bs) pins)
 
 -- the device finds the block that the records say
@@ -96,17 +59,11 @@ ended_is l x next from sound zip =
     let distinct : EachPair (λ (b : Block) (c : Block). b.number ≡ c.number → ⊥) x.device.blocks =
     EachPair-weaker IsClearOf (λ (b : Block) (c : Block). b.number ≡ c.number → ⊥) x.device.blocks (λ b c clear same. let less : b.number < c.number = clear.numbers in omega arith) sound.sound.records.blocks_apart.apart in
     lowest_same from x.present.table.ranges x.queues.queues x.device.marks x.device.blocks
-    (AllByRecursion-weaker (λ (b : Block). block_at b.number x.device.blocks ≡ Some b) (λ (b : Block). IsMarkTold x.present.table.ranges x.queues.queues x.device.marks b.number) x.device.blocks
+    (AllByRecursion-weaker (λ (b : Block). block_at b.number x.device.blocks ≡ Some b) (λ (b : Block). IsMarkAt x.present.table.ranges x.queues.queues x.device.marks b.number) x.device.blocks
     (λ b own. told l x next b.number sound zip (is_some (block_at b.number x.device.blocks) b own)) (at-own number_in x.device.blocks distinct))
 
 -- ---- loans
 
 -- a block that is not there is not lent
 pub no_loan : (k : ℕ) (d : DeviceState) → AllByRecursion (IsLoanOn d) d.loans → (HasBlock d k → ⊥) → loan_of k d.loans ≡ None
-no_loan k d h none = go (loan_of k d.loans) refl
-  where
-    go : (o : Option Loan) → loan_of k d.loans ≡ o → o ≡ None
-    go None e = refl
-    go (Some x) e =
-        let has : IsLoanOn d x × ((x.block == k) ≡ true) = found_has (IsLoanOn d) (λ l. l.block == k) d.loans x h e in
-        absurd (none (subst (HasBlock d) (equal x.block k has.1) has.0.there))
+no_loan k d h none = grind (arith, nat_tests, found_has)

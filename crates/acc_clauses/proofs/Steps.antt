@@ -1,12 +1,13 @@
 -- What the steps of items leave of the parts that change counters, and what all steps need of the present table.
-use Rattle.std.proofs.Common.{ℕ, ◌≡◌, ◌<◌, refl, sym, ◌∙◌, ap, subst, Bool, true, false, cond, List, [], ◌∷◌, Option, Some, None, arith}
-use Rattle.std.specs.Prelude.{◌==◌, not, nat_lt, unwrap_or, option_map, IsSome}
+use Rattle.std.proofs.lemmas.Bool.Decides.{nat_tests}
+use Rattle.std.proofs.Common.{ℕ, ◌≡◌, ◌<◌, refl, sym, ap, subst, Bool, true, false, List, [], ◌∷◌, Option, Some, None, arith}
+use Rattle.std.specs.Prelude.{◌==◌, IsSome}
 use Rattle.std.specs.List.{AllByRecursion}
 use Rattle.acc_clauses.specs.Words.{Section, Item, UpdateClause, Counter, Range, Task, Transfer}
 use Rattle.acc_base.specs.declared.tasks.Task.TheVariants.{Move}
 use Rattle.acc_base.specs.declared.events.Step.TheVariants.{Nothing, Counted, Dropped}
 use Rattle.acc_base.specs.Records.{State}
-use Rattle.acc_base.specs.Ranges.{range_of, changed_at, with_range, without_range, bare_range, counter_in, counter_of, is_unused, ends_by}
+use Rattle.acc_base.specs.Ranges.{range_of, changed_at, with_range, without_range, bare_range, counter_in, counter_of, ends_by}
 use Rattle.acc_base.specs.Tasks.{queue_of, recounted}
 use Rattle.acc_base.specs.Transfers.{at_once, queues_after}
 use Rattle.acc_base.specs.Steps.{act_row, act_step, with_range_changed}
@@ -14,9 +15,7 @@ use Rattle.acc_base.specs.Bytes.{step_state}
 use Rattle.acc_base.proofs.Results.{equal, equal_self}
 use Rattle.acc_base.proofs.Lookups.{at-none, at-changed}
 use Rattle.acc_base.proofs.Counting.{with_same, with_new}
-use Rattle.acc_base.proofs.Sound.{counter_is}
 use Rattle.acc_base.proofs.Memories.{recounted-block}
-use Rattle.acc_base.proofs.Recounted.{unused_zero, zero_in}
 use Rattle.acc_present.specs.Present.{PresentTable, PresentState, with_ranges}
 use Rattle.acc_present.specs.Present as present
 use Rattle.acc_clauses.specs.declared.numbers.Numbers.{Numbers}
@@ -24,7 +23,7 @@ use Rattle.acc_clauses.specs.declared.environments.Environment.{Environment}
 use Rattle.acc_clauses.specs.Contents.{AreMarked, state_of}
 use Rattle.acc_clauses.specs.Overlays.{puts_by}
 use Rattle.acc_clauses.specs.Acts.{IsChangedBy, IsActedBy}
-use Rattle.acc_clauses.proofs.Changes.{state_by, room_same, none_taken}
+use Rattle.acc_clauses.proofs.Changes.{state_by, room_same}
 use Rattle.acc_clauses.proofs.Marked.{marks_counted}
 
 -- ---- ranges
@@ -32,49 +31,23 @@ use Rattle.acc_clauses.proofs.Marked.{marks_counted}
 -- no range has the block, so none changes
 changed-absent : (k : ℕ) (f : Range → Range) (rs : List Range) → AllByRecursion (λ r. r.block ≡ k → ⊥) rs → changed_at k f rs ≡ rs
 changed-absent k f [] h = refl
-changed-absent k f (r ∷ rs) h = go (changed-absent k f rs h.1) (r.block == k) refl
-  where
-    go : changed_at k f rs ≡ rs → (b : Bool) → (r.block == k) ≡ b → cond b (f r) r ∷ changed_at k f rs ≡ r ∷ rs
-    go rest true e = absurd (h.0 (equal _ _ e))
-    go rest false e = ap (λ xs. r ∷ xs) rest
+changed-absent k f (r ∷ rs) h = grind (arith, nat_tests, changed-absent k f rs h.1)
 
 -- a new range changes where it is put
 pub changed-with : (k : ℕ) (f : Range → Range) (new : Range) (rs : List Range) → new.block ≡ k → (f new).section ≡ new.section → AllByRecursion (λ r. r.block ≡ k → ⊥) rs
     → changed_at k f (with_range new rs) ≡ with_range (f new) rs
 changed-with k f new [] e s h = let same : (new.block == k) ≡ true = rw e (equal_self k) in rw same refl
-changed-with k f new (r ∷ rs) e s h =
-    let low : nat_lt (f new).section.start r.section.start ≡ nat_lt new.section.start r.section.start = ap (λ (x : Section). nat_lt x.start r.section.start) s in
-    rw low (go (changed-with k f new rs e s h.1) (nat_lt new.section.start r.section.start))
-  where
-    same : (new.block == k) ≡ true
-    same = rw e (equal_self k)
-
-    later : (t : Bool) → (r.block == k) ≡ t → cond t (f r) r ≡ r
-    later true d = absurd (h.0 (equal _ _ d))
-    later false d = refl
-
-    go : changed_at k f (with_range new rs) ≡ with_range (f new) rs → (b : Bool) → changed_at k f (cond b (new ∷ r ∷ rs) (r ∷ with_range new rs)) ≡ cond b (f new ∷ r ∷ rs) (r ∷ with_range (f new) rs)
-    go rest true = ap (λ t. cond t (f new) new ∷ changed_at k f (r ∷ rs)) same ∙ ap (λ xs. f new ∷ xs) (changed-absent k f (r ∷ rs) h)
-    go rest false = ap (λ x. x ∷ changed_at k f (with_range new rs)) (later (r.block == k) refl) ∙ ap (λ xs. r ∷ xs) rest
+changed-with k f new (r ∷ rs) e s h = grind (arith, nat_tests, changed-with k f new rs e s h.1, equal_self, equal, changed-absent)
 
 -- a change that leaves each range
 pub changed-same_ranges : (k : ℕ) (f : Range → Range) (rs : List Range) → ((r : Range) → f r ≡ r) → changed_at k f rs ≡ rs
 changed-same_ranges k f [] h = refl
-changed-same_ranges k f (r ∷ rs) h = go (changed-same_ranges k f rs h) (r.block == k)
-  where
-    go : changed_at k f rs ≡ rs → (b : Bool) → cond b (f r) r ∷ changed_at k f rs ≡ r ∷ rs
-    go rest true = rw (h r) (ap (λ xs. r ∷ xs) rest)
-    go rest false = ap (λ xs. r ∷ xs) rest
+changed-same_ranges k f (r ∷ rs) h = grind (arith, nat_tests, changed-same_ranges k f rs h)
 
 -- what changed is gone
 pub without-changed : (k : ℕ) (f : Range → Range) (rs : List Range) → ((r : Range) → (f r).block ≡ r.block) → without_range k (changed_at k f rs) ≡ without_range k rs
 without-changed k f [] h = refl
-without-changed k f (r ∷ rs) h = go (without-changed k f rs h) (r.block == k) refl
-  where
-    go : without_range k (changed_at k f rs) ≡ without_range k rs → (b : Bool) → (r.block == k) ≡ b
-        → cond (not ((cond b (f r) r).block == k)) (cond b (f r) r ∷ without_range k (changed_at k f rs)) (without_range k (changed_at k f rs)) ≡ cond (not b) (r ∷ without_range k rs) (without_range k rs)
-    go rest true e = let gone : ((f r).block == k) ≡ true = ap (λ (n : ℕ). n == k) (h r) ∙ e in rw gone rest
-    go rest false e = rw e (ap (λ xs. r ∷ xs) rest)
+without-changed k f (r ∷ rs) h = grind (arith, nat_tests, without-changed k f rs h)
 
 pub is_some : {X : Type 0} (o : Option X) (x : X) → o ≡ Some x → IsSome o
 is_some o x e = rw e refl
@@ -83,30 +56,19 @@ is_some o x e = rw e refl
 
 -- nothing is put
 pub none_put : (o : Option ℕ) (queues : List (List Transfer)) → queues_after o None queues ≡ queues
-none_put None queues = refl
-none_put (Some q) queues = refl
+none_put o queues = grind (arith, nat_tests)
 
 -- nor made at once
 pub none_made : (o : Option ℕ) → at_once o None ≡ None
-none_made None = refl
-none_made (Some q) = refl
+none_made o = grind (arith, nat_tests)
 
 -- the parts stay
 pub stays : (change : State → State) (puts : ℕ → ℕ) (x : Environment) → AreMarked x → ((next : Numbers) → state_of x next ≡ change (state_of x next)) → IsChangedBy change [] 0 puts x x
-stays change puts x marked same = record {
-  state = same;
-  counter_max = refl;
-  memory = refl;
-  pointer_max = refl;
-  queue_cap = refl;
-  room = room_same puts x x (none_taken x.present.room) refl (omega arith) (λ q. omega arith);
-  marked = marked;
-}
+stays change puts x marked same = grind (arith, nat_tests)
 
 pub nothing_acts : (task : Task) (x : Environment) → AreMarked x → IsActedBy task Nothing x x
 unfolding step_state act_step act_row
-nothing_acts task x marked = stays (step_state task Nothing) (λ q. puts_by q task Nothing) x marked
-    (λ next. state_by x next (step_state task Nothing (state_of x next)) refl refl refl refl (sym (none_put (queue_of task) x.queues.queues)) refl refl refl refl (rw (none_made (queue_of task)) refl) (rw (none_made (queue_of task)) refl))
+nothing_acts task x marked = grind (arith, nat_tests)
 
 -- the marks stay right where the counters of a range change
 pub counted_marked : (task : Task) (k : ℕ) (x : Environment) (r : PresentState) → r.table ≡ with_ranges x.present.table (changed_at k (recounted task) x.present.table.ranges) → AreMarked x → AreMarked (record x { present = r })
@@ -115,15 +77,7 @@ counted_marked task k x r e marked = rw e (marks_counted x.present.table.ranges 
 -- the counters of a range change, and nothing else
 counter_acts : (change : State → State) (puts : ℕ → ℕ) (task : Task) (k : ℕ) (x : Environment) (r : PresentState) → r.table ≡ with_ranges x.present.table (changed_at k (recounted task) x.present.table.ranges) → present.IsRoomKept x.present.room r.room → AreMarked x
     → ((next : Numbers) → state_of (record x { present = r }) next ≡ change (state_of x next)) → IsChangedBy change [] 0 puts x (record x { present = r })
-counter_acts change puts task k x r e room marked same = record {
-  state = same;
-  counter_max = ap (λ t. t.counter_max) e;
-  memory = refl;
-  pointer_max = refl;
-  queue_cap = refl;
-  room = room_same puts x (record x { present = r }) room refl (omega arith) (λ q. omega arith);
-  marked = counted_marked task k x r e marked;
-}
+counter_acts change puts task k x r e room marked same = grind (arith, nat_tests, room_same puts x (record x { present = r }) room, counted_marked task k x r e marked)
 
 pub counted_acts : (task : Task) (k : ℕ) (x : Environment) (r : PresentState) → r.table ≡ with_ranges x.present.table (changed_at k (recounted task) x.present.table.ranges) → present.IsRoomKept x.present.room r.room → AreMarked x
     → IsActedBy task (Counted k) x (record x { present = r })
@@ -155,24 +109,15 @@ new_there section k t u e = subst (λ (x : PresentTable). IsSome (range_of k x.r
 
 pub new_below : (counter : Counter) (section : Section) (k : ℕ) (t u : PresentTable) → AllByRecursion (λ r. r.block ≡ k → ⊥) t.ranges → 0 < t.counter_max → u ≡ with_ranges t (with_range (bare_range section k) t.ranges)
     → counter_of counter k u.ranges < u.counter_max
-new_below counter section k t u h some e =
-    let zero : counter_of counter k (with_range (bare_range section k) t.ranges) ≡ 0 = with_same (counter_in counter) (bare_range section k) t.ranges (new_absent k t.ranges h) ∙ zero_in counter section k in
-    subst (λ (x : PresentTable). counter_of counter k x.ranges < x.counter_max) (sym e) (subst (λ n. n < t.counter_max) (sym zero) some)
+new_below counter section k t u h some e = grind (arith, nat_tests, with_same (counter_in counter) (bare_range section k) t.ranges (new_absent k t.ranges h))
 
 found_block : (k : ℕ) (ranges : List Range) (r : Range) → range_of k ranges ≡ Some r → (r.block == k) ≡ true
 found_block k [] r e = cc
-found_block k (x ∷ xs) r e = go (found_block k xs r) (x.block == k) refl e
-  where
-    go : (range_of k xs ≡ Some r → (r.block == k) ≡ true) → (b : Bool) → (x.block == k) ≡ b → cond b (Some x) (range_of k xs) ≡ Some r → (r.block == k) ≡ true
-    go rest true t h = let same : x ≡ r = cc in subst (λ (y : Range). (y.block == k) ≡ true) same t
-    go rest false t h = rest h
+found_block k (x ∷ xs) r e = grind (arith, nat_tests, found_block k xs r)
 
 -- the range of a block after a change of it
 found_changed : (task : Task) (k : ℕ) (ranges : List Range) (r : Range) → range_of k ranges ≡ Some r → range_of k (changed_at k (recounted task) ranges) ≡ Some (recounted task r)
-found_changed task k ranges r e =
-    let here : (r.block == k) ≡ true = found_block k ranges r e in
-    at-changed (λ (x : Range). x.block) k k (recounted task) ranges (recounted-block task)
-    ∙ (ap (option_map (λ (x : Range). cond (x.block == k) (recounted task x) x)) e ∙ ap (λ b. Some (cond b (recounted task r) r)) here)
+found_changed task k ranges r e = grind (arith, nat_tests, found_block k ranges r e, at-changed (λ (x : Range). x.block) k k (recounted task) ranges (recounted-block task), recounted-block task)
 
 -- the range of a block that is counted is there still
 pub changed_there : (task : Task) (k : ℕ) (t u : PresentTable) (r : Range) → u ≡ with_ranges t (changed_at k (recounted task) t.ranges) → range_of k t.ranges ≡ Some r → IsSome (range_of k u.ranges)
@@ -181,8 +126,4 @@ changed_there task k t u r e is = subst (λ (x : PresentTable). IsSome (range_of
 -- both counters are zero after a change that leaves the range unused
 pub changed_zero : (counter : Counter) (task : Task) (k : ℕ) (t u : PresentTable) (r : Range) → u ≡ with_ranges t (changed_at k (recounted task) t.ranges) → range_of k t.ranges ≡ Some r → ends_by (recounted task) k t.ranges ≡ true
     → counter_of counter k u.ranges ≡ 0
-changed_zero counter task k t u r e is ends =
-    let told : ends_by (recounted task) k t.ranges ≡ is_unused (recounted task r) = ap (λ o. unwrap_or (option_map (λ (x : Range). is_unused (recounted task x)) o) false) is in
-    let unused : is_unused (recounted task r) ≡ true = sym told ∙ ends in
-    subst (λ (x : PresentTable). counter_of counter k x.ranges ≡ 0) (sym e)
-    (counter_is counter k (changed_at k (recounted task) t.ranges) (recounted task r) (found_changed task k t.ranges r is) ∙ unused_zero counter (recounted task r) unused)
+changed_zero counter task k t u r e is ends = grind (arith, nat_tests, found_changed)

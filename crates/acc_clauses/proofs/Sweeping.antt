@@ -1,6 +1,7 @@
 -- A copy in runs, on the parts of a data environment: what holds before each run, and what one more run leaves.
-use Rattle.std.proofs.Common.{ℕ, ◌≡◌, ◌+◌, ◌-◌, ◌<◌, ◌≤◌, refl, sym, ◌∙◌, ap, Bool, true, false, cond, List, [], ◌∷◌, length, map, Some}
-use Rattle.std.specs.Prelude.{◌==◌, find, unwrap_or, option_map, slice_index}
+use Rattle.std.proofs.lemmas.Bool.Decides.{nat_tests}
+use Rattle.std.proofs.Common.{ℕ, ◌≡◌, ◌+◌, ◌-◌, ◌<◌, ◌≤◌, refl, sym, ◌∙◌, ap, true, List, [], ◌∷◌, length, map, arith}
+use Rattle.std.specs.Prelude.{slice_index}
 use Rattle.acc_clauses.specs.Words.{Section, Attachment}
 use Rattle.acc_base.specs.Section.{covers, end_of, is_within, host_memory, host_base}
 use Rattle.acc_base.specs.Records.{Memory}
@@ -11,7 +12,7 @@ use Rattle.acc_clauses.specs.declared.environments.Environment.{Environment}
 use Rattle.acc_clauses.specs.Contents.{bare_state}
 use Rattle.acc_clauses.specs.Acts.{CanCopy}
 use Rattle.acc_clauses.specs.Copies.{moved_below, IsRunEnd}
-use Rattle.acc_clauses.proofs.Runs.{within_both, IsRun, run_within, written_next, written_start, written_end, changed-twice, changed-none, changed_same}
+use Rattle.acc_clauses.proofs.Runs.{within_both, IsRun, run_within, written_next, written_start, written_end, changed-twice, changed-none}
 
 -- ---- runs and blocks
 
@@ -23,12 +24,7 @@ run_fits section run block attached at stop start n m h inside e = rw e (within_
 -- the bytes of a block stay as many
 pub length-changed : (block : ℕ) (f : List ℕ → List ℕ) (ms : List Memory) → ((bytes : List ℕ) → length (f bytes) ≡ length bytes) → length (bytes_of block (map (memory_changed block f) ms)) ≡ length (bytes_of block ms)
 length-changed block f [] keeps = refl
-length-changed block f (m ∷ ms) keeps = go (m.block == block) refl (length-changed block f ms keeps)
-  where
-    go : (b : Bool) → (m.block == block) ≡ b → length (bytes_of block (map (memory_changed block f) ms)) ≡ length (bytes_of block ms)
-        → length (bytes_of block (cond b (record m { bytes = f m.bytes }) m ∷ map (memory_changed block f) ms)) ≡ length (unwrap_or (option_map (λ (x : Memory). x.bytes) (cond b (Some m) (find (λ x. x.block == block) ms))) [])
-    go true e rest = rw e (keeps m.bytes)
-    go false e rest = rw e rest
+length-changed block f (m ∷ ms) keeps = grind (arith, nat_tests, length-changed block f ms keeps)
 
 -- ---- to host memory
 
@@ -41,10 +37,7 @@ out_first section block start x = ap (λ h. let y : Environment = record x { hos
 
 pub out_next : (section run : Section) (block start at stop : ℕ) (x y : Environment) (host : List ℕ) → y ≡ swept_out section block start at x → IsRun section run block x.attached.attached at stop
     → host ≡ bytes_moved_out (covers run) (bytes_of block y.device.memories) start y.host → record y { host = host } ≡ swept_out section block start (stop + 8) x
-out_next section run block start at stop x y host e h is =
-    let done : host ≡ bytes_moved_out (covers run) (bytes_of block x.device.memories) start (swept_out section block start at x).host = rw e at is in
-    ap (λ (g : Environment). let z : Environment = record g { host = host } in z) e
-    ∙ ap (λ b. let z : Environment = record x { host = b } in z) (done ∙ written_next section run block x.attached.attached at stop (λ a. slice_index (bytes_of block x.device.memories) (a - start)) host_base x.host h)
+out_next section run block start at stop x y host e h is = grind (arith, nat_tests, written_next)
 
 pub out_last : (section : Section) (block start at : ℕ) (x : Environment) → end_of section ≤ at
     → swept_out section block start at x ≡ record x { host = bytes_moved_out (is_moved section block x.attached.attached) (bytes_of block x.device.memories) start x.host }
@@ -61,8 +54,7 @@ abbrev with_memories : Environment → List Memory → Environment
 with_memories x ms = record x { device = record x.device { memories = ms } }
 
 pub in_first : (section : Section) (block start : ℕ) (x : Environment) → x ≡ swept_in section block start section.start x
-in_first section block start x = ap (with_memories x) (sym (changed-none block (bytes_moved_in (moved_below section block x.attached.attached section.start) x.host start) x.device.memories
-    (λ bytes. written_start section block x.attached.attached (host_byte x.host) start bytes)))
+in_first section block start x = search (changed-none, written_start)
 
 pub in_next : (section run : Section) (block start at stop : ℕ) (x y : Environment) (device : DeviceState) → y ≡ swept_in section block start at x → IsRun section run block x.attached.attached at stop
     → device ≡ record y.device { memories = map (memory_changed block (bytes_moved_in (covers run) y.host start)) y.device.memories } → record y { device = device } ≡ swept_in section block start (stop + 8) x
@@ -77,8 +69,7 @@ in_next section run block start at stop x y device e h is =
 
 pub in_last : (section : Section) (block start at : ℕ) (x : Environment) → end_of section ≤ at
     → swept_in section block start at x ≡ record x { device = record x.device { memories = map (memory_changed block (bytes_moved_in (is_moved section block x.attached.attached) x.host start)) x.device.memories } }
-in_last section block start at x h = ap (with_memories x) (changed_same block (bytes_moved_in (moved_below section block x.attached.attached at) x.host start) (bytes_moved_in (is_moved section block x.attached.attached) x.host start) x.device.memories
-    (λ bytes. written_end section block x.attached.attached at (host_byte x.host) start bytes h))
+in_last section block start at x h = grind (arith, nat_tests)
 
 -- ---- what each run needs of the parts, and what they say of it
 
@@ -89,13 +80,11 @@ out_run section run block start at stop x y e low inside first len ends = record
 
 pub out_in_host : (section run : Section) (block start at stop : ℕ) (x y : Environment) → y ≡ swept_out section block start at x → IsRun section run block x.attached.attached at stop → CanCopy section block start (bare_state x)
     → is_within run (host_memory (length y.host)) ≡ true
-out_in_host section run block start at stop x y e h can = run_fits section run block x.attached.attached at stop host_base (length x.host) (length y.host) h can.in_host
-    (ap (λ (g : Environment). length g.host) e ∙ length-moved_out (moved_below section block x.attached.attached at) (bytes_of block x.device.memories) start x.host)
+out_in_host section run block start at stop x y e h can = grind (arith, nat_tests, length-moved_out)
 
 pub out_within : (section run : Section) (block start at stop : ℕ) (x y : Environment) → y ≡ swept_out section block start at x → IsRun section run block x.attached.attached at stop → CanCopy section block start (bare_state x)
     → is_within run (record { start = start; len = length (bytes_of block y.device.memories) }) ≡ true
-out_within section run block start at stop x y e h can = run_fits section run block x.attached.attached at stop start (length (bytes_of block x.device.memories)) (length (bytes_of block y.device.memories)) h
-    can.within (ap (λ (g : Environment). length (bytes_of block g.device.memories)) e)
+out_within section run block start at stop x y e h can = grind (arith, nat_tests)
 
 -- the run that a copy to a block makes next
 pub in_run : (section run : Section) (block start at stop : ℕ) (x y : Environment) → y ≡ swept_in section block start at x → section.start ≤ at → at < end_of section → run.start ≡ at → run.len ≡ stop - at
@@ -108,7 +97,4 @@ in_in_host section run block start at stop x y e h can = run_fits section run bl
 
 pub in_within : (section run : Section) (block start at stop : ℕ) (x y : Environment) → y ≡ swept_in section block start at x → IsRun section run block x.attached.attached at stop → CanCopy section block start (bare_state x)
     → is_within run (record { start = start; len = length (bytes_of block y.device.memories) }) ≡ true
-in_within section run block start at stop x y e h can = run_fits section run block x.attached.attached at stop start (length (bytes_of block x.device.memories)) (length (bytes_of block y.device.memories)) h
-    can.within
-    (ap (λ (g : Environment). length (bytes_of block g.device.memories)) e
-    ∙ length-changed block (bytes_moved_in (moved_below section block x.attached.attached at) x.host start) x.device.memories (length-moved_in (moved_below section block x.attached.attached at) x.host start))
+in_within section run block start at stop x y e h can = grind (arith, nat_tests, run_fits, length-changed, length-moved_in)

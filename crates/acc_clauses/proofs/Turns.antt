@@ -1,4 +1,5 @@
 -- One turn of the loop over the tasks of a directive.
+use Rattle.std.proofs.lemmas.Bool.Decides.{nat_tests}
 use Rattle.std.proofs.Common.{ℕ, ◌≡◌, ◌+◌, ◌<◌, ◌≤◌, refl, sym, ap, ◌∙◌, List, [], ◌∷◌, ◌++◌, length, suc, Result, Ok, Err, arith, drop, get_or, add-one}
 use Rattle.std.proofs.lemmas.List.{append-nil, append_assoc, drop_more, drop_all, length-append}
 use Rattle.acc_clauses.specs.Words.{Task, Did, Fault}
@@ -52,13 +53,8 @@ IsPlanned-next l m xs ys task s at p next =
     let item = rw (state_after-records xs s) at (item_judged l m task next.did (state_after xs s) next.judged) in
     rw next.more (IsPlanned-push l m xs (record { task = task; did = next.did }) s.records at p item)
 
-prefixed-push : (done : List Did) (did : Did) (r : Result (List Did) Fault) → prefixed (done ++ did ∷ []) r ≡ prefixed done (r >>= λ rest. Ok (did ∷ rest))
-prefixed-push done did (Ok rest) = ap (λ ds. Ok ds) (append_assoc done (did ∷ []) rest)
-prefixed-push done did (Err fault) = refl
-
 pub prefixed-nil : (r : Result (List Did) Fault) → prefixed [] r ≡ r
-prefixed-nil (Ok rest) = refl
-prefixed-nil (Err fault) = refl
+prefixed-nil r = grind (arith, nat_tests)
 
 -- before the first turn
 pub turns_begun : (l : Limits) (tasks : List Task) (s : State) → prefixed (dids_in []) (judge_all l 0 tasks (state_after [] s)) ≡ judge_all l 0 tasks s
@@ -75,18 +71,13 @@ pub turn : (l : Limits) (n i : ℕ) (xs ys : List Acted) (task : Task) (tasks : 
     → i < length tasks → task ≡ get_or tasks i d → IsJudgedNext l n task s xs ys
     → prefixed (dids_in xs) (judge_all l n (drop i tasks) (state_after xs s)) ≡ all
     → prefixed (dids_in ys) (judge_all l (n + 1) (drop (i + 1) tasks) (state_after ys s)) ≡ all
-turn l n i xs ys task tasks d s all within item next so =
-    let cons : drop i tasks ≡ task ∷ drop (i + 1) tasks = drop_more tasks i d within ∙ ap (λ t. t ∷ drop (i + 1) tasks) (sym item) in
-    let so' = rw (cons, judge_all-cons, next.judged) at so in
-    rw (next.more, state_after-push, dids_in-push, add-one) (prefixed-push (dids_in xs) next.did (judge_all l (suc n) (drop (i + 1) tasks) (act_state task next.did (state_after xs s))) ∙ so')
+turn l n i xs ys task tasks d s all within item next so = grind (arith, nat_tests, drop_more, judge_all-cons, state_after-push, dids_in-push, add-one, append_assoc)
 
 -- a refused task is the answer
 pub turn_refused : (l : Limits) (n i : ℕ) (xs : List Acted) (task : Task) (tasks : List Task) (d : Task) (s : State) (fault : Fault) (all : Result (List Did) Fault)
     → i < length tasks → task ≡ get_or tasks i d → judge_task l n task (state_after xs s) ≡ Err fault
     → prefixed (dids_in xs) (judge_all l n (drop i tasks) (state_after xs s)) ≡ all → all ≡ Err fault
-turn_refused l n i xs task tasks d s fault all within item refused so =
-    let cons : drop i tasks ≡ task ∷ drop (i + 1) tasks = drop_more tasks i d within ∙ ap (λ t. t ∷ drop (i + 1) tasks) (sym item) in
-    sym (rw (cons, judge_all-cons, refused) at so)
+turn_refused l n i xs task tasks d s fault all within item refused so = grind (arith, nat_tests, drop_more, judge_all-cons)
 
 judge_all-nil : (l : Limits) (n : ℕ) (s : State) → judge_all l n [] s ≡ Ok []
 unfolding judge_all
@@ -95,10 +86,7 @@ judge_all-nil l n s = refl
 -- after the last turn
 pub turns_done : (l : Limits) (n i : ℕ) (xs : List Acted) (tasks : List Task) (s : State) (all : Result (List Did) Fault) → length tasks ≤ i
     → prefixed (dids_in xs) (judge_all l n (drop i tasks) (state_after xs s)) ≡ all → all ≡ Ok (dids_in xs)
-turns_done l n i xs tasks s all past so =
-    let none : drop i tasks ≡ [] = drop_all i tasks past in
-    let so' = rw (none, judge_all-nil) at so in
-    sym so' ∙ ap (λ ds. Ok ds) (append-nil (dids_in xs))
+turns_done l n i xs tasks s all past so = grind (arith, nat_tests, drop_all, judge_all-nil, append-nil)
 
 -- the tasks that are done and the next one
 pub unmixed_turn : (i : ℕ) (done : List Task) (task : Task) (tasks : List Task) (d : Task) → i < length tasks → task ≡ get_or tasks i d → done ++ drop i tasks ≡ tasks → AreUnmixed tasks → AreUnmixed (done ++ task ∷ [])
@@ -109,9 +97,7 @@ unmixed_turn i done task tasks d within item so unmixed =
 
 -- and the ones that are left
 pub asked_turn : (i : ℕ) (xs ys : List Acted) (x : Acted) (tasks : List Task) (d : Task) → i < length tasks → x.task ≡ get_or tasks i d → ys ≡ xs ++ x ∷ [] → tasks_in xs ++ drop i tasks ≡ tasks → tasks_in ys ++ drop (i + 1) tasks ≡ tasks
-asked_turn i xs ys x tasks d within item more so =
-    let cons : drop i tasks ≡ x.task ∷ drop (i + 1) tasks = drop_more tasks i d within ∙ ap (λ t. t ∷ drop (i + 1) tasks) (sym item) in
-    rw (more, tasks_in-push) (append_assoc (tasks_in xs) (x.task ∷ []) (drop (i + 1) tasks) ∙ (ap (λ ts. tasks_in xs ++ ts) (sym cons) ∙ so))
+asked_turn i xs ys x tasks d within item more so = grind (arith, nat_tests, drop_more, tasks_in-push, append_assoc)
 
 -- one task more is done
 pub few_turn : (i : ℕ) (xs ys : List Acted) (x : Acted) → ys ≡ xs ++ x ∷ [] → length xs ≡ i → length ys ≡ i + 1

@@ -1,14 +1,9 @@
 -- What contracts see of a plan, and what it rests on.
 use Rattle.std.specs.Prelude.{ℕ, ◌≡◌, ◌≤◌, List, [], ◌∷◌, ◌++◌, length, reverse, Result, Ok}
-use Rattle.acc_base.specs.declared.directives.Directive.{Directive}
+use Rattle.acc_clauses.specs.Words.{Directive, Holding, Task, Did, Fault, Transfer}
 use Rattle.acc_base.specs.declared.directives.Directive.TheVariants as directives
-use Rattle.acc_base.specs.declared.regions.Holding.{Holding}
 use Rattle.acc_base.specs.declared.mappings.Counter.TheVariants.{Structured}
-use Rattle.acc_base.specs.declared.tasks.Task.{Task}
 use Rattle.acc_base.specs.declared.tasks.Task.TheVariants.{Enter}
-use Rattle.acc_base.specs.declared.events.Did.{Did}
-use Rattle.acc_base.specs.declared.faults.Fault.{Fault}
-use Rattle.acc_base.specs.declared.transfers.Transfer.{Transfer}
 use Rattle.acc_base.specs.Queues.{queue_named}
 use Rattle.acc_base.specs.Loans.{none_lent}
 use Rattle.acc_base.specs.Waits.{steps_of, drained}

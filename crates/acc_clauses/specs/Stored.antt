@@ -1,9 +1,7 @@
 -- What holds of every store.
 use Rattle.std.specs.Prelude.{ℕ, ◌≡◌, ◌≤◌, true, List, Some}
 use Rattle.std.specs.List.{AllByRecursion}
-use Rattle.acc_base.specs.declared.items.Section.{Section}
-use Rattle.acc_base.specs.declared.mappings.Range.{Range}
-use Rattle.acc_base.specs.declared.regions.Holding.{Holding}
+use Rattle.acc_clauses.specs.Words.{Section, Range, Holding}
 use Rattle.acc_base.specs.Section.{is_within}
 use Rattle.acc_base.specs.Ranges.{range_of}
 use Rattle.acc_base.specs.Register.{Region}

@@ -1,9 +1,10 @@
-use Rattle.std.proofs.Common.{◌≡◌, Bool, false}
+use Rattle.std.proofs.Common.{◌≡◌, Bool, false, sym, ◌∙◌}
 use Rattle.std.specs.Prelude.{IsTrue}
 use Rattle.acc_base.specs.declared.mappings.Counter.TheVariants.{Structured, Dynamic}
 use Rattle.acc_clauses.proofs.Steps.{changed_there, changed_zero}
-use Rattle.acc_clauses.proofs.Ending.{same_loans, range_there, range_ends, falls, block_there, end_mark, end_mapped, gone_changes, kept_changes, ended_acts}
+use Rattle.acc_clauses.proofs.Ending.{same_loans, range_there, range_ends, falls, end_there, end_mark, end_mapped, gone_changes, kept_changes, ended_acts}
 use Rattle.acc_clauses.proofs.acting.end.Goals as goal
+use Rattle.std.proofs.lemmas.Bool.{false≢true}
 
 pub recount-requires : goal.recount-requires
 recount-requires c =
@@ -32,7 +33,7 @@ remove-requires-clause-dynamic c =
     changed_zero Dynamic c.args.task c.args.block y.present.table c.recount.new.present.table can.move.range c.recount.ensures.table (range_there c.args.task c.args.block _ x y can c.give_bytes.ensures.given) (range_ends c.args.task c.args.block _ x y can c.give_bytes.ensures.given)
 
 pub retire-requires-clause-there : goal.retire-requires-clause-there
-retire-requires-clause-there c = block_there c.args.task c.args.block _ c.args.environment.now c.give_bytes.new.environment c.requires.can c.give_bytes.ensures.given
+retire-requires-clause-there c = end_there c.args.task c.args.block _ c.args.environment.now c.give_bytes.new.environment c.requires.can c.give_bytes.ensures.given
 
 pub retire-requires-clause-mapped : goal.retire-requires-clause-mapped
 retire-requires-clause-mapped c = end_mapped c.args.task c.args.block _ c.args.environment.now c.give_bytes.new.environment c.requires.can c.give_bytes.ensures.given c.laws.ensures.marks
@@ -56,11 +57,8 @@ returns-else-retire c =
     let mark = end_mark c.args.task c.args.block _ x y c.requires.can given c.laws.ensures.marks in
     record {
       acted = ended_acts c.args.task c.args.block x y _ given (kept_changes c.args.task c.args.block y c.recount.new.present c.remove.new.self c.retire.new.self given.marked mark
-          c.recount.ensures.table c.recount.ensures.room c.remove.ensures.table c.remove.ensures.room (λ none. not_both c.retire.result (c.retire.ensures.given_back.1 none) c.if-retire.false) c.if-retire.ensures.kept);
+          c.recount.ensures.table c.recount.ensures.room c.remove.ensures.table c.remove.ensures.room (λ none. false≢true (sym c.if-retire.false ∙ c.retire.ensures.given_back.1 none)) c.if-retire.ensures.kept);
     }
-  where
-    not_both : (b : Bool) → IsTrue b → b ≡ false → ⊥
-    not_both b t f = cc
 
 pub retire-requires-clause-free : goal.retire-requires-clause-free
 retire-requires-clause-free c = same_loans c.args.task c.args.block c.args.environment.now c.give_bytes.new.environment c.give_bytes.ensures.given c.requires.free

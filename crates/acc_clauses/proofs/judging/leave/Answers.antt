@@ -1,7 +1,6 @@
 use Rattle.std.proofs.Common.{ℕ, ◌≡◌, List, Some, Ok}
 use Rattle.std.specs.Prelude.{not, ◌&&◌}
-use Rattle.acc_base.specs.declared.mappings.Counters.{Counters}
-use Rattle.acc_base.specs.declared.regions.Holding.{Holding}
+use Rattle.acc_clauses.specs.Words.{Counters, Holding}
 use Rattle.acc_base.specs.declared.tasks.Task.TheVariants.{Leave}
 use Rattle.acc_base.specs.declared.events.Step.TheVariants.{Dropped}
 use Rattle.acc_base.specs.Limits.{Limits}

@@ -1,6 +1,6 @@
 use Rattle.std.proofs.Common.{◌<◌, arith, refl, length}
 use Rattle.std.proofs.lemmas.List.{drop_more}
-use Rattle.acc_clauses.proofs.Remaining.{first_judged, first_room, first_pointers, first_puts, rest_can, births_next, rest_state, rest_done}
+use Rattle.acc_clauses.proofs.Remaining.{first_judged, first_room, first_pointers, first_puts, rest_can, births_next, rest_state, rest_done, turn_can}
 use Rattle.acc_clauses.proofs.running.act_all.Goals as goal
 
 pub loop-n-init : goal.loop-n-init
@@ -13,39 +13,19 @@ loop-n-init c = record {
 }
 
 pub act-requires-clause-judged : goal.act-requires-clause-judged
-act-requires-clause-judged c =
-    let within : c.loop-n.n < length c.args.acts.now = omega arith in
-    let cons = drop_more c.args.acts.now c.loop-n.n _ within in
-    let can = rw cons at c.loop-n.invariant.can in
-    first_judged _ _ _ _ _ _ can
+act-requires-clause-judged c = first_judged _ _ _ _ _ _ (turn_can _ c.args.acts.now c.loop-n.n _ _ (omega arith) c.loop-n.invariant.can)
 
 pub act-requires-clause-known : goal.act-requires-clause-known
-act-requires-clause-known c =
-    let within : c.loop-n.n < length c.args.acts.now = omega arith in
-    let cons = drop_more c.args.acts.now c.loop-n.n _ within in
-    let can = rw cons at c.loop-n.invariant.can in
-    can.known.0
+act-requires-clause-known c = (turn_can _ c.args.acts.now c.loop-n.n _ _ (omega arith) c.loop-n.invariant.can).known.0
 
 pub act-requires-clause-room : goal.act-requires-clause-room
-act-requires-clause-room c =
-    let within : c.loop-n.n < length c.args.acts.now = omega arith in
-    let cons = drop_more c.args.acts.now c.loop-n.n _ within in
-    let can = rw cons at c.loop-n.invariant.can in
-    first_room _ _ _ _ _ _ can
+act-requires-clause-room c = first_room _ _ _ _ _ _ (turn_can _ c.args.acts.now c.loop-n.n _ _ (omega arith) c.loop-n.invariant.can)
 
 pub act-requires-clause-pointers : goal.act-requires-clause-pointers
-act-requires-clause-pointers c =
-    let within : c.loop-n.n < length c.args.acts.now = omega arith in
-    let cons = drop_more c.args.acts.now c.loop-n.n _ within in
-    let can = rw cons at c.loop-n.invariant.can in
-    first_pointers _ _ _ _ _ _ can
+act-requires-clause-pointers c = first_pointers _ _ _ _ _ _ (turn_can _ c.args.acts.now c.loop-n.n _ _ (omega arith) c.loop-n.invariant.can)
 
 pub act-requires-clause-puts : goal.act-requires-clause-puts
-act-requires-clause-puts c =
-    let within : c.loop-n.n < length c.args.acts.now = omega arith in
-    let cons = drop_more c.args.acts.now c.loop-n.n _ within in
-    let can = rw cons at c.loop-n.invariant.can in
-    first_puts _ _ _ _ _ _ can
+act-requires-clause-puts c = first_puts _ _ _ _ _ _ (turn_can _ c.args.acts.now c.loop-n.n _ _ (omega arith) c.loop-n.invariant.can)
 
 pub loop-n-preserved : goal.loop-n-preserved
 loop-n-preserved c =

@@ -2,6 +2,7 @@ use Rattle.std.proofs.Common.{◌≡◌, ◌∙◌, sym, Bool, false}
 use Rattle.std.specs.Prelude.{IsTrue}
 use Rattle.acc_clauses.proofs.Putting.{none_steps, head_mark, head_pinned, last_steps, more_steps}
 use Rattle.acc_clauses.proofs.transfers.step.Goals as goal
+use Rattle.std.proofs.lemmas.Bool.{false≢true}
 
 pub returns-in_default : goal.returns-in_default
 returns-in_default c = record { stepped = none_steps c.args.q c.args.environment.now c.pop.new.self (sym c.pop.ensures.head ∙ c.in_default.is) c.in_default.ensures.unchanged c.pop.ensures.cap c.pop.ensures.room c.requires.marked }
@@ -38,8 +39,5 @@ returns-else-unpin c =
     let mark = head_mark c.args.q c.in-Some.t x y c.pop.new.self c.requires.marked c.make.ensures c.laws.ensures.marks (c.requires.can c.in-Some.t first).there in
     record {
       stepped = more_steps c.args.q c.in-Some.t x y c.pop.new.self c.unpin.new.self first c.pop.ensures.queues c.pop.ensures.cap c.pop.ensures.room c.requires.marked c.make.ensures mark
-          (λ last. not_both c.unpin.result (c.unpin.ensures.given_back.1 last) c.if-unpin.false) c.if-unpin.ensures.unpinned;
+          (λ last. false≢true (sym c.if-unpin.false ∙ c.unpin.ensures.given_back.1 last)) c.if-unpin.ensures.unpinned;
     }
-  where
-    not_both : (b : Bool) → IsTrue b → b ≡ false → ⊥
-    not_both b t f = cc

@@ -2,13 +2,13 @@ use Rattle.std.proofs.Common.{◌≡◌, sym, subst, false}
 use Rattle.acc_base.specs.Loans.{is_lent}
 use Rattle.acc_base.specs.Accounts.{IsLoanSound}
 use Rattle.acc_clauses.specs.Contents.{Contents}
-use Rattle.acc_clauses.proofs.Lends.{lend_there, lend_mapped, lend_within, lent_parts}
+use Rattle.acc_clauses.proofs.Lends.{loan_has_block, lend_mapped, lend_within, lent_parts}
 use Rattle.acc_clauses.proofs.parts.Parts.lend.Goals as goal
 
 pub take_out-taken-requires-clause-there : goal.take_out-taken-requires-clause-there
 take_out-taken-requires-clause-there c =
     let p = c.self.inside in
-    lend_there p.config p.environment p.numbers c.args.loan c.self.invariant (subst (λ (k : Contents). IsLoanSound k.state.records.ranges c.args.loan) (sym c.self.view_is) c.requires.sound)
+    loan_has_block p.config p.environment p.numbers c.args.loan c.self.invariant (subst (λ (k : Contents). IsLoanSound k.state.records.ranges c.args.loan) (sym c.self.view_is) c.requires.sound)
 
 pub take_out-taken-requires-clause-mapped : goal.take_out-taken-requires-clause-mapped
 take_out-taken-requires-clause-mapped c =

@@ -1,8 +1,7 @@
 -- One more line of a script.
-use Rattle.std.proofs.Common.{◌≡◌, ℕ, suc, ◌+◌, ◌<◌, Bool, true, false, List, [], ◌∷◌, length, take, Option, Result, Ok, Err, refl, sym, ap, subst, arith}
-use Rattle.std.specs.Prelude.{◌||◌, ◌==◌}
+use Rattle.std.proofs.Common.{◌≡◌, ℕ, suc, ◌+◌, ◌<◌, Bool, true, false, List, [], ◌∷◌, length, take, Option, Result, Ok, Err, refl, sym, ap, subst}
+use Rattle.std.specs.Prelude.{◌||◌}
 use Rattle.std.specs.List.{concat}
-use Rattle.std.proofs.lemmas.Bool.Decides.{nat_tests}
 use Rattle.std.proofs.lemmas.List.{nil_from_length}
 use Rattle.acc_base.specs.declared.faults.Fault.{Fault}
 use Rattle.acc_base.specs.declared.faults.Fault.TheVariants.{Memory, Script, Write}
@@ -18,6 +17,7 @@ use Rattle.acc_read.specs.Statements.{Meaning, takes_memory}
 use Rattle.acc_script.specs.Sessions.{MayWant}
 use Rattle.acc_script.specs.Scripts.{SessionState, Turned, turned, is_refused, meaning_in, line_turned, needs_memory, line_wants, line_text, Transcript, Faulty, noted, transcript_from, status_of}
 use Rattle.acc_script.specs.Runs.{RanLine, LostLine, LineRuns, LinesPlayed}
+use Rattle.acc_script.proofs.Takes.{not_zero}
 use Rattle.acc_script.proofs.Fronts.{Took_then, front_more, front_then, took_nothing}
 
 -- ---- a line
@@ -81,10 +81,6 @@ wanting_runs s line h = by (meaning_in s line) h
     by (Err kind) k = absurd cc
 
 -- ---- all lines
-
--- a number above zero is not zero
-not_zero : (n : ℕ) → 0 < n → (n == 0) ≡ false
-not_zero n some = grind (arith, nat_tests)
 
 -- what the lines that are left come to is what all lines come to
 abbrev pub PlaysOn : Transcript → Transcript → Option Taken → Option Taken → Type 0

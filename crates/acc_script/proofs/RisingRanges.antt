@@ -13,7 +13,7 @@ use Rattle.acc_base.specs.Accounts.{IsHostSection, IsBelow, EachPair, AreRangesA
 use Rattle.acc_table.specs.declared.calls.Mapped.{Mapped}
 use Rattle.acc_table.specs.Queries.{mapped_as, mapped_from}
 use Rattle.acc_script.specs.Texts.{range_text, ranges_text}
-use Rattle.acc_script.proofs.Rising.{LiesUnder, all_from_zero, texts_from, texts_turn, texts_none, found_view, found_none}
+use Rattle.acc_script.proofs.Rising.{StandsUnder, all_from_zero, texts_from, texts_turn, texts_none, found_view, found_none}
 
 -- a range as the report tells it
 abbrev seen : Records → Range → Mapped
@@ -33,9 +33,9 @@ ranges_all w = rw (all_from_zero (seen w) start_of w.ranges) refl
 
 -- ranges that do not overlap rise by their starts
 rise : (l : Limits) (w : Records) (ranges : List Range) → AllByRecursion (λ r. IsHostSection l r.section) ranges
-    → EachPair (λ r t. IsBelow r.section t.section) ranges → EachPair (LiesUnder (seen w) start_of) ranges
+    → EachPair (λ r t. IsBelow r.section t.section) ranges → EachPair (StandsUnder (seen w) start_of) ranges
 rise l w [] in_host rising = tt
-rise l w (r ∷ rs) in_host rising = (AllByRecursion-weaker (λ t. IsBelow r.section t.section) (LiesUnder (seen w) start_of r) rs (λ t below. omega (arith, below, in_host.0.some)) rising.0, rise l w rs in_host.1 rising.1)
+rise l w (r ∷ rs) in_host rising = (AllByRecursion-weaker (λ t. IsBelow r.section t.section) (StandsUnder (seen w) start_of r) rs (λ t below. omega (arith, below, in_host.0.some)) rising.0, rise l w rs in_host.1 rising.1)
 
 module _ (l : Limits) (from : ℕ) (w : Records) (apart : AreRangesApart l w.ranges) (m : Mapped) (found : Some m ≡ mapped_from from w) where
   -- it starts where the search began or behind, and it lies well below the last address

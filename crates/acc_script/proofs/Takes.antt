@@ -7,7 +7,7 @@ use Rattle.std.proofs.lemmas.Grind.{common_steps}
 use Rattle.acc_script.specs.Told.{Taken, Took, TookFront, Becomes, after_write, one_more}
 
 -- a positive number is not zero
-not_zero : (n : ℕ) → 0 < n → (n == 0) ≡ false
+pub not_zero : (n : ℕ) → 0 < n → (n == 0) ≡ false
 not_zero n lt = grind (arith, common_steps)
 
 -- a write that took some bytes, behind those before

@@ -1,5 +1,4 @@
-use Rattle.std.proofs.Common.{◌≡◌, Bool, false, sym, ◌∙◌}
-use Rattle.std.specs.Prelude.{IsTrue}
+use Rattle.std.proofs.Common.{sym, ◌∙◌}
 use Rattle.acc_base.specs.declared.mappings.Counter.TheVariants.{Structured, Dynamic}
 use Rattle.acc_clauses.proofs.Steps.{changed_there, changed_zero}
 use Rattle.acc_clauses.proofs.Ending.{same_loans, range_there, range_ends, falls, end_there, end_mark, end_mapped, gone_changes, kept_changes, ended_acts}

@@ -1,4 +1,4 @@
-use Rattle.std.proofs.Common.{sym, ap, ◌∙◌, Bool, false, IsTrue, ◌≡◌}
+use Rattle.std.proofs.Common.{sym, ap, ◌∙◌}
 use Rattle.acc_base.specs.Loans.{loan_of}
 use Rattle.acc_clauses.specs.Contents.{Contents}
 use Rattle.acc_clauses.proofs.Standing.{no_loan}

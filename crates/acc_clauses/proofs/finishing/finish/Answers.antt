@@ -1,16 +1,11 @@
-use Rattle.std.proofs.Common.{◌≤◌, refl, length, arith}
+use Rattle.std.proofs.Common.{refl, arith}
 use Rattle.acc_base.specs.Waits.{drained}
-use Rattle.acc_clauses.specs.Acts.{CanOpen}
 use Rattle.acc_clauses.proofs.Committing.{holdings_few}
 use Rattle.acc_clauses.proofs.Finished.{finished_enter, finished_exit, finished_wait, finished_step}
 use Rattle.acc_clauses.proofs.finishing.finish.Goals as goal
 
 pub enter-requires-clause-room : goal.enter-requires-clause-room
-enter-requires-clause-room c =
-    let p = c.args.plan.now in
-    let can : CanOpen (length p.tasks) c.args.parts.now = rw c.in-Enter.is at c.requires in
-    let held : length c.holdings.result.now ≤ length p.tasks = rw c.holdings.ensures (holdings_few p.tasks p.dids) in
-    record { regions = can.room.regions; enough = omega (arith, held, can.room.enough) }
+enter-requires-clause-room c = grind (arith, holdings_few)
 
 pub returns-in-Enter-clause-state : goal.returns-in-Enter-clause-state
 returns-in-Enter-clause-state c = rw c.in-Enter.is (finished_enter c.in-Enter.items c.args.plan.now c.args.parts.now.state c.enter.new.self.state c.holdings.result.now c.holdings.ensures c.enter.ensures.state)

@@ -25,7 +25,7 @@ use Rattle.acc_base.specs.Acting.{act_state, act_all_state}
 use Rattle.acc_base.specs.History.{IsAttachLegal, IsAimLegal, AreJudged}
 use Rattle.acc_base.specs.Accounts.{AreRecordsSound, AreMemoriesSized}
 use Rattle.acc_base.proofs.Results.{and_true, equal, then_ok, refused_not, not_false}
-use Rattle.acc_base.proofs.Counting.{read_of, changed_read, with_other}
+use Rattle.acc_base.proofs.Counting.{changed_read, with_other}
 use Rattle.acc_base.proofs.Judged.{IsJudgedTo, step_judged, task_says}
 use Rattle.acc_base.proofs.Sound.{recounted_keeps}
 use Rattle.acc_base.proofs.Puts.{acted_sound}

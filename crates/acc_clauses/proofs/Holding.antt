@@ -1,6 +1,6 @@
 -- What is held stays within the range of its block, whatever step is done; and each task that leaves finds what it held.
-use Rattle.std.proofs.Common.{ℕ, suc, ◌≡◌, ◌+◌, ◌-◌, ◌≤◌, refl, sym, ◌∙◌, ap, subst, Bool, true, false, cond, List, [], ◌∷◌, map, Option, Some, None, arith}
-use Rattle.std.specs.Prelude.{◌==◌, option_map}
+use Rattle.std.proofs.Common.{ℕ, suc, ◌≡◌, ◌+◌, ◌-◌, ◌≤◌, refl, sym, ◌∙◌, ap, subst, Bool, true, false, cond, List, [], ◌∷◌, map, Option, Some, arith}
+use Rattle.std.specs.Prelude.{◌==◌}
 use Rattle.std.specs.List.{AllByRecursion}
 use Rattle.std.proofs.lemmas.Bool.Decides.{nat_tests}
 use Rattle.std.proofs.lemmas.List.Sums.{sum_by-cons}
@@ -17,7 +17,6 @@ use Rattle.acc_base.specs.Tasks.{recounted}
 use Rattle.acc_base.specs.Steps.{act_row, act_step, act, released, records_after_birth, records_after_end, with_range_changed}
 use Rattle.acc_base.specs.History.{AreJudged}
 use Rattle.acc_base.specs.Accounts.{AreRecordsSound}
-use Rattle.acc_base.proofs.Results.{equal}
 use Rattle.acc_base.proofs.Elements.{AllByRecursion-weaker}
 use Rattle.acc_base.proofs.RangeChanges.{block_of}
 use Rattle.acc_base.proofs.Lookups.{at-changed, at-without_same, at-without_other}

@@ -25,7 +25,7 @@ use Rattle.acc_base.proofs.Judged.{IsBirth, IsInRangeOf, IsJudgedTo}
 use Rattle.acc_base.proofs.Sound.{ranges_born}
 use Rattle.acc_clauses.specs.Acts.{IsMappedAround, IsKnown, CanMove, CanBear, CanAct}
 use Rattle.acc_clauses.proofs.Marked.{unborn_unpinned}
-use Rattle.acc_clauses.proofs.Moving.{bytes_of-len, some_of}
+use Rattle.acc_clauses.proofs.Moving.{bytes_of-len}
 use Rattle.acc_clauses.proofs.Steps.{is_some}
 
 -- ---- sections

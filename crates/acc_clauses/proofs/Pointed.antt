@@ -1,16 +1,16 @@
 -- A task judged whole after others: its step, and what becomes of its pointer.
 use Rattle.std.proofs.lemmas.Bool.Decides.{nat_tests}
-use Rattle.std.proofs.Common.{ℕ, ◌≡◌, refl, ap, ◌∙◌, Bool, true, false, cond, List, [], ◌∷◌, ◌++◌, length, Option, Some, None, Result, Ok, Err, arith}
-use Rattle.std.specs.Prelude.{◌||◌, ⊤}
+use Rattle.std.proofs.Common.{ℕ, ◌≡◌, refl, ap, ◌∙◌, true, false, List, [], ◌∷◌, ◌++◌, length, Option, Some, Result, Ok, Err, arith}
+use Rattle.std.specs.Prelude.{⊤}
 use Rattle.std.proofs.lemmas.Bool.{false≢true}
 use Rattle.acc_clauses.specs.Words.{Aim, Counter, Item, RegionClause, Task, Step, Fault}
 use Rattle.acc_base.specs.declared.tasks.Task.TheVariants.{Enter}
 use Rattle.acc_base.specs.Results.{◌>>=◌, ◌>>◌}
 use Rattle.acc_base.specs.Limits.{Limits}
 use Rattle.acc_base.specs.Records.{Records, State}
-use Rattle.acc_base.specs.Clauses.{is_attach, pointer_checked}
-use Rattle.acc_base.specs.Tasks.{pointer_of, checked}
-use Rattle.acc_base.specs.Steps.{is_action, pointer_aimed, did_of, judge_row, judge_step}
+use Rattle.acc_base.specs.Clauses.{pointer_checked}
+use Rattle.acc_base.specs.Tasks.{checked}
+use Rattle.acc_base.specs.Steps.{pointer_aimed, did_of, judge_row, judge_step}
 use Rattle.acc_base.specs.Bytes.{step_state}
 use Rattle.acc_base.specs.Pointers.{aimed}
 use Rattle.acc_base.specs.Acting.{attach_if, judge_aim, judge_task, act_state}

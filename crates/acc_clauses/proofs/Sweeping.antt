@@ -82,18 +82,10 @@ pub out_in_host : (section run : Section) (block start at stop : ℕ) (x y : Env
     → is_within run (host_memory (length y.host)) ≡ true
 out_in_host section run block start at stop x y e h can = grind (arith, nat_tests, length-moved_out)
 
-pub out_within : (section run : Section) (block start at stop : ℕ) (x y : Environment) → y ≡ swept_out section block start at x → IsRun section run block x.attached.attached at stop → CanCopy section block start (bare_state x)
-    → is_within run (record { start = start; len = length (bytes_of block y.device.memories) }) ≡ true
-out_within section run block start at stop x y e h can = grind (arith, nat_tests)
-
 -- the run that a copy to a block makes next
 pub in_run : (section run : Section) (block start at stop : ℕ) (x y : Environment) → y ≡ swept_in section block start at x → section.start ≤ at → at < end_of section → run.start ≡ at → run.len ≡ stop - at
     → IsRunEnd block y.attached.attached at (end_of section) stop → IsRun section run block x.attached.attached at stop
 in_run section run block start at stop x y e low inside first len ends = record { low = low; inside = inside; first = first; len = len; ends = rw e at ends }
-
-pub in_in_host : (section run : Section) (block start at stop : ℕ) (x y : Environment) → y ≡ swept_in section block start at x → IsRun section run block x.attached.attached at stop → CanCopy section block start (bare_state x)
-    → is_within run (host_memory (length y.host)) ≡ true
-in_in_host section run block start at stop x y e h can = run_fits section run block x.attached.attached at stop host_base (length x.host) (length y.host) h can.in_host (ap (λ (g : Environment). length g.host) e)
 
 pub in_within : (section run : Section) (block start at stop : ℕ) (x y : Environment) → y ≡ swept_in section block start at x → IsRun section run block x.attached.attached at stop → CanCopy section block start (bare_state x)
     → is_within run (record { start = start; len = length (bytes_of block y.device.memories) }) ≡ true

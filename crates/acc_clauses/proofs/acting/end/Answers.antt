@@ -1,5 +1,4 @@
-use Rattle.std.proofs.Common.{◌≡◌, Bool, false, sym, ◌∙◌}
-use Rattle.std.specs.Prelude.{IsTrue}
+use Rattle.std.proofs.Common.{sym, ◌∙◌, arith}
 use Rattle.acc_base.specs.declared.mappings.Counter.TheVariants.{Structured, Dynamic}
 use Rattle.acc_clauses.proofs.Steps.{changed_there, changed_zero}
 use Rattle.acc_clauses.proofs.Ending.{same_loans, range_there, range_ends, falls, end_there, end_mark, end_mapped, gone_changes, kept_changes, ended_acts}
@@ -14,9 +13,7 @@ recount-requires c =
     record { can = falls y.present.table.counter_max c.args.task c.args.block y.present.table.ranges can.move.range can.not_entry (range_there c.args.task c.args.block _ x y can c.give_bytes.ensures.given) }
 
 pub remove-requires-clause-there : goal.remove-requires-clause-there
-remove-requires-clause-there c =
-    let y = c.give_bytes.new.environment in
-    changed_there c.args.task c.args.block y.present.table c.recount.new.present.table c.requires.can.move.range c.recount.ensures.table (range_there c.args.task c.args.block _ c.args.environment.now y c.requires.can c.give_bytes.ensures.given)
+remove-requires-clause-there c = grind (arith, changed_there, range_there c.args.task c.args.block _ c.args.environment.now c.give_bytes.new.environment c.requires.can c.give_bytes.ensures.given)
 
 pub remove-requires-clause-structured : goal.remove-requires-clause-structured
 remove-requires-clause-structured c =

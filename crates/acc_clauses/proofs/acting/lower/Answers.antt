@@ -1,4 +1,4 @@
-use Rattle.std.proofs.Common.{Bool, sym, subst}
+use Rattle.std.proofs.Common.{Bool, sym, subst, arith}
 use Rattle.acc_base.specs.declared.events.Step.TheVariants.{Dropped}
 use Rattle.acc_clauses.specs.Acts.{IsActedBy}
 use Rattle.acc_clauses.proofs.Steps.{dropped_acts}
@@ -8,9 +8,4 @@ pub returns-then-ended : goal.returns-then-ended
 returns-then-ended c = record { acted = subst (λ (b : Bool). IsActedBy c.args.task (Dropped c.args.block b) c.args.environment.now c.end.new.environment) (sym c.if-ended.true) c.end.ensures.acted }
 
 pub returns-else-ended : goal.returns-else-ended
-returns-else-ended c =
-    let x = c.args.environment.now in
-    record {
-      acted = subst (λ (b : Bool). IsActedBy c.args.task (Dropped c.args.block b) x (record x { present = c.recount.new.present })) (sym c.if-ended.false)
-          (dropped_acts c.args.task c.args.block x c.recount.new.present c.recount.ensures.table c.recount.ensures.room c.requires.marked);
-    }
+returns-else-ended c = grind (arith, dropped_acts c.args.task c.args.block c.args.environment.now c.recount.new.present c.recount.ensures.table c.recount.ensures.room c.requires.marked)

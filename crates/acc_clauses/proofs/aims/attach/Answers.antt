@@ -1,4 +1,4 @@
-use Rattle.std.proofs.Common.{◌∙◌, sym, ap, arith, inl, inr, rules}
+use Rattle.std.proofs.Common.{◌∙◌, sym, ap, arith, inl, inr}
 use Rattle.acc_base.proofs.Judged.{not_lent_says}
 use Rattle.acc_base.specs.Limits.{Limits}
 use Rattle.acc_base.specs.Pointers.{device_pointer}
@@ -19,10 +19,7 @@ returns-in_default-address_after c =
     attach-untargeted c.args.parts.now.limits c.args.n c.args.pointer c.args.draft.now c.args.parts.now.state c.requires.planned c.requires.entering c.host_pointer.result c.host_pointer.ensures c.in_default-address_after.ensures
 
 pub returns-in_err-not_lent : goal.returns-in_err-not_lent
-returns-in_err-not_lent c =
-    let p = c.args.parts.now in
-    let lent = attach-lent p.limits c.args.n c.args.pointer c.args.draft.now p.state c.requires.planned c.requires.entering c.in-Some.block c.in-Some-address_after.target c.host_pointer.result _ c.in-Some.ensures c.host_pointer.ensures c.in-Some-address_after.ensures c.in_err-not_lent.ensures in
-    search rules
+returns-in_err-not_lent c = grind (arith, attach-lent)
 
 pub value_after-requires-clause-free : goal.value_after-requires-clause-free
 value_after-requires-clause-free c = not_lent_says c.in-Some.block c.args.parts.now.state.records.loans (sym c.in_ok-not_lent.ensures)

@@ -1,24 +1,18 @@
 use Rattle.std.proofs.Common.{◌∙◌, arith}
-use Rattle.acc_clauses.proofs.Sweeping.{in_first, in_next, in_last, in_run, in_in_host, in_within}
+use Rattle.acc_clauses.proofs.Sweeping.{in_first, in_next, in_last, in_run, in_within}
 use Rattle.acc_clauses.proofs.copies.copy_in.Goals as goal
 
 pub loop-at-init : goal.loop-at-init
 loop-at-init c = record { low = omega arith; most = omega arith; swept = in_first c.args.section c.args.block c.args.start c.args.environment.now }
 
 pub run_in-requires-clause-in_host : goal.run_in-requires-clause-in_host
-run_in-requires-clause-in_host c =
-    let i = c.loop-at.invariant in
-    let run = in_run c.args.section c.run_from.result c.args.block c.args.start c.loop-at.at c.run_end-stop.result c.args.environment.now c.loop-at.environment i.swept i.low c.loop-at-test.true c.run_from.ensures.start c.run_from.ensures.len c.run_end-stop.ensures in
-    in_in_host c.args.section c.run_from.result c.args.block c.args.start c.loop-at.at c.run_end-stop.result c.args.environment.now c.loop-at.environment i.swept run c.requires.can
+run_in-requires-clause-in_host c = grind (arith)
 
 pub run_in-requires-clause-there : goal.run_in-requires-clause-there
 run_in-requires-clause-there c = rw c.loop-at.invariant.swept c.requires.can.there
 
 pub run_in-requires-clause-within : goal.run_in-requires-clause-within
-run_in-requires-clause-within c =
-    let i = c.loop-at.invariant in
-    let run = in_run c.args.section c.run_from.result c.args.block c.args.start c.loop-at.at c.run_end-stop.result c.args.environment.now c.loop-at.environment i.swept i.low c.loop-at-test.true c.run_from.ensures.start c.run_from.ensures.len c.run_end-stop.ensures in
-    in_within c.args.section c.run_from.result c.args.block c.args.start c.loop-at.at c.run_end-stop.result c.args.environment.now c.loop-at.environment i.swept run c.requires.can
+run_in-requires-clause-within c = grind (arith, in_run, in_within)
 
 pub loop-at-preserved : goal.loop-at-preserved
 loop-at-preserved c =

@@ -1,24 +1,18 @@
 use Rattle.std.proofs.Common.{◌∙◌, arith}
-use Rattle.acc_clauses.proofs.Sweeping.{out_first, out_next, out_last, out_run, out_in_host, out_within}
+use Rattle.acc_clauses.proofs.Sweeping.{out_first, out_next, out_last, out_run, out_in_host}
 use Rattle.acc_clauses.proofs.copies.copy_out.Goals as goal
 
 pub loop-at-init : goal.loop-at-init
 loop-at-init c = record { low = omega arith; most = omega arith; swept = out_first c.args.section c.args.block c.args.start c.args.environment.now }
 
 pub run_out-requires-clause-in_host : goal.run_out-requires-clause-in_host
-run_out-requires-clause-in_host c =
-    let i = c.loop-at.invariant in
-    let run = out_run c.args.section c.run_from.result c.args.block c.args.start c.loop-at.at c.run_end-stop.result c.args.environment.now c.loop-at.environment i.swept i.low c.loop-at-test.true c.run_from.ensures.start c.run_from.ensures.len c.run_end-stop.ensures in
-    out_in_host c.args.section c.run_from.result c.args.block c.args.start c.loop-at.at c.run_end-stop.result c.args.environment.now c.loop-at.environment i.swept run c.requires.can
+run_out-requires-clause-in_host c = grind (arith, out_run, out_in_host)
 
 pub run_out-requires-clause-there : goal.run_out-requires-clause-there
 run_out-requires-clause-there c = rw c.loop-at.invariant.swept c.requires.can.there
 
 pub run_out-requires-clause-within : goal.run_out-requires-clause-within
-run_out-requires-clause-within c =
-    let i = c.loop-at.invariant in
-    let run = out_run c.args.section c.run_from.result c.args.block c.args.start c.loop-at.at c.run_end-stop.result c.args.environment.now c.loop-at.environment i.swept i.low c.loop-at-test.true c.run_from.ensures.start c.run_from.ensures.len c.run_end-stop.ensures in
-    out_within c.args.section c.run_from.result c.args.block c.args.start c.loop-at.at c.run_end-stop.result c.args.environment.now c.loop-at.environment i.swept run c.requires.can
+run_out-requires-clause-within c = grind (arith)
 
 pub loop-at-preserved : goal.loop-at-preserved
 loop-at-preserved c =

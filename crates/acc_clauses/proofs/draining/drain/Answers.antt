@@ -1,7 +1,7 @@
-use Rattle.std.proofs.Common.{◌≡◌, ◌∙◌, refl, sym, ap, subst, Ok, arith}
+use Rattle.std.proofs.Common.{◌≡◌, ◌∙◌, refl, subst, Ok, arith}
 use Rattle.acc_base.specs.Loans.{none_lent}
 use Rattle.acc_clauses.proofs.Emptying.{queue_free, rest_free}
-use Rattle.acc_base.specs.Waits.{drained, steps_of, transfers_of}
+use Rattle.acc_base.specs.Waits.{transfers_of}
 use Rattle.acc_clauses.proofs.Emptied.{rest_drained, all_drained}
 use Rattle.acc_clauses.proofs.draining.drain.Goals as goal
 
@@ -19,6 +19,4 @@ pub drain_queue-requires-in-loop-q : goal.drain_queue-requires-in-loop-q
 drain_queue-requires-in-loop-q c = record { free = queue_free c.loop-q.q c.loop-q.parts.state c.loop-q.invariant.free }
 
 pub returns-after-loop-q-clause-state : goal.returns-after-loop-q-clause-state
-returns-after-loop-q-clause-state c =
-    all_drained c.loop-q.q c.loop-q.parts.state _ (omega (arith, c.loop-q-test.false, c.laws.ensures.sound.records.queues.all)) c.loop-q.invariant.rest
-    ∙ ap (λ o. drained (steps_of o c.args.parts.now.state.records.queues) c.args.parts.now.state) (sym c.in-None.is)
+returns-after-loop-q-clause-state c = grind (arith, all_drained c.loop-q.q c.loop-q.parts.state _ (omega (arith, c.loop-q-test.false, c.laws.ensures.sound.records.queues.all)) c.loop-q.invariant.rest)

@@ -10,10 +10,7 @@ pub overflow_add-count : goal.overflow_add-count
 overflow_add-count c = omega (arith, c.loop-q.invariant.few, c.loop-q-test.true, c.queue_len-count.ensures.limit, c.queue_len-count.ensures.bound)
 
 pub loop-q-preserved : goal.loop-q-preserved
-loop-q-preserved c = record {
-  all = more_wait c.loop-q.q c.loop-q.count c.queue_len-count.result _ c.args.parts.now.state.records.queues c.queue_len-count.ensures.value c.loop-q.invariant.all;
-  few = omega (arith, c.loop-q.invariant.few, c.queue_len-count.ensures.limit, c.queue_len-count.ensures.bound);
-}
+loop-q-preserved c = grind (arith, more_wait c.loop-q.q c.loop-q.count c.queue_len-count.result _ c.args.parts.now.state.records.queues c.queue_len-count.ensures.value c.loop-q.invariant.all)
 
 pub returns-after-loop-q : goal.returns-after-loop-q
 returns-after-loop-q c =

@@ -1,14 +1,10 @@
-use Rattle.std.proofs.Common.{refl, length}
+use Rattle.std.proofs.Common.{refl, arith}
 use Rattle.acc_base.specs.Waits.{drained}
-use Rattle.acc_clauses.specs.Acts.{CanOpen}
-use Rattle.acc_clauses.specs.Planned.{holdings_by}
 use Rattle.acc_clauses.proofs.Finished.{finished_enter, finished_exit, finished_wait, finished_step}
 use Rattle.acc_clauses.proofs.finishing.finish.Goals as goal
 
 pub enter-requires-clause-room : goal.enter-requires-clause-room
-enter-requires-clause-room c =
-    let can : CanOpen (length (holdings_by c.args.plan.now.tasks c.args.plan.now.dids)) c.args.parts.now = rw c.in-Enter.is at c.requires in
-    rw c.holdings.ensures can.room
+enter-requires-clause-room c = grind (arith)
 
 pub returns-in-Enter-clause-state : goal.returns-in-Enter-clause-state
 returns-in-Enter-clause-state c = rw c.in-Enter.is (finished_enter c.in-Enter.items c.args.plan.now c.args.parts.now.state c.enter.new.self.state c.holdings.result.now c.holdings.ensures c.enter.ensures.state)

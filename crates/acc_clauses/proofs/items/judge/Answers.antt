@@ -1,14 +1,10 @@
-use Rattle.std.proofs.Common.{rules}
+use Rattle.std.proofs.Common.{rules, arith}
 use Rattle.acc_clauses.specs.Overlays.{records_after}
 use Rattle.acc_clauses.proofs.Pointed.{step_refused, step_after, row_refused, enters_not, left_judged}
 use Rattle.acc_clauses.proofs.items.judge.Goals as goal
 
 pub returns-in_err-step : goal.returns-in_err-step
-returns-in_err-step c =
-    let p = c.args.parts.now in
-    let row = row_refused p.limits c.args.n c.args.task (records_after c.args.draft.now p.state.records) _ c.in_err-step.ensures in
-    let refused = step_refused p.limits c.args.n c.args.draft.now c.args.task p.state _ row in
-    search rules
+returns-in_err-step c = grind (arith, row_refused, step_refused)
 
 pub returns-in_err-step_free : goal.returns-in_err-step_free
 returns-in_err-step_free c =

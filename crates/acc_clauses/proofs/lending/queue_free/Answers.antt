@@ -1,14 +1,9 @@
-use Rattle.std.proofs.Common.{rules}
+use Rattle.std.proofs.Common.{arith}
 use Rattle.acc_clauses.proofs.Freed.{place_lent, place_free}
 use Rattle.acc_clauses.proofs.lending.queue_free.Goals as goal
 
 pub returns-in_err-not_lent : goal.returns-in_err-not_lent
-returns-in_err-not_lent c =
-    let w = c.args.parts.now.state.records in
-    let lent = place_lent c.loop-place.place _ w.loans _ c.waiting_block.result c.waiting_block.ensures c.loop-place.invariant _ c.in_err-not_lent.ensures in
-    search rules
+returns-in_err-not_lent c = grind (arith, place_lent)
 
 pub loop-place-preserved : goal.loop-place-preserved
-loop-place-preserved c =
-    let w = c.args.parts.now.state.records in
-    place_free c.loop-place.place _ w.loans _ c.waiting_block.result c.waiting_block.ensures c.loop-place.invariant _ c.in_ok-not_lent.ensures
+loop-place-preserved c = grind (arith, place_free c.loop-place.place _ (c.args.parts.now.state.records).loans _ c.waiting_block.result c.waiting_block.ensures c.loop-place.invariant _ c.in_ok-not_lent.ensures)

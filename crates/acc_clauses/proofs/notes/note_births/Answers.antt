@@ -1,7 +1,5 @@
-use Rattle.std.proofs.Common.{◌+◌, ◌<◌, ◌++◌, ◌∙◌, arith, ap, length, drop, append_assoc}
+use Rattle.std.proofs.Common.{arith, append_assoc}
 use Rattle.std.proofs.lemmas.List.{drop_more}
-use Rattle.acc_clauses.specs.Overlays.{tasks_in, dids_in}
-use Rattle.acc_clauses.specs.Acts.{lens_born}
 use Rattle.acc_clauses.proofs.Remaining.{lens_done}
 use Rattle.acc_clauses.proofs.notes.note_births.Goals as goal
 

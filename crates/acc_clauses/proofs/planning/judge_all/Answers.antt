@@ -1,4 +1,4 @@
-use Rattle.std.proofs.Common.{◌<◌, ◌≤◌, refl, sym, ap, ◌∙◌, length, arith, rules}
+use Rattle.std.proofs.Common.{◌<◌, sym, ap, ◌∙◌, length, arith, rules}
 use Rattle.acc_base.specs.declared.tasks.Task.{Task}
 use Rattle.acc_base.specs.Queues.{queue_named}
 use Rattle.acc_base.specs.Tasks.{queue_of}
@@ -8,14 +8,7 @@ use Rattle.acc_clauses.proofs.Turns.{turns_begun, turn, turn_refused, turns_done
 use Rattle.acc_clauses.proofs.planning.judge_all.Goals as goal
 
 pub loop-n-init : goal.loop-n-init
-loop-n-init c =
-    let none = c.clear.ensures in
-    record {
-      few = rw none refl;
-      asked = rw none refl;
-      planned = rw none (record { bounds = c.laws.ensures.limits; sound = c.laws.ensures.sound.records; judged = tt });
-      judged = rw none (turns_begun c.args.parts.now.limits (tasks_with c.args.directive.now c.args.holdings.now) c.args.parts.now.state);
-    }
+loop-n-init c = grind (arith, turns_begun)
 
 pub judge-requires-clause-unmixed : goal.judge-requires-clause-unmixed
 judge-requires-clause-unmixed c =
@@ -48,6 +41,4 @@ loop-n-preserved c =
     }
 
 pub returns-clause-judged : goal.returns-clause-judged
-returns-clause-judged c =
-    let past : length (tasks_with c.args.directive.now c.args.holdings.now) ≤ c.loop-n.n = omega (arith, c.loop-n-test.false, c.task_count-n-end.ensures) in
-    turns_done c.args.parts.now.limits c.loop-n.n c.loop-n.n c.loop-n.draft (tasks_with c.args.directive.now c.args.holdings.now) c.args.parts.now.state _ past c.loop-n.invariant.judged
+returns-clause-judged c = grind (arith, turns_done)

@@ -1,16 +1,10 @@
-use Rattle.std.proofs.Common.{◌<◌, arith, refl, length}
+use Rattle.std.proofs.Common.{◌<◌, arith, length}
 use Rattle.std.proofs.lemmas.List.{drop_more}
 use Rattle.acc_clauses.proofs.Remaining.{first_judged, first_room, first_pointers, first_puts, rest_can, births_next, rest_state, rest_done, turn_can}
 use Rattle.acc_clauses.proofs.running.act_all.Goals as goal
 
 pub loop-n-init : goal.loop-n-init
-loop-n-init c = record {
-  can = record { limits = refl; item = 0; judged = c.requires.judged; known = c.requires.known; room = c.requires.room; pointers = c.requires.pointers; puts = c.requires.puts };
-  births = omega arith;
-  rest = refl;
-  regions = omega arith;
-  holdings = omega arith;
-}
+loop-n-init c = grind (arith)
 
 pub act-requires-clause-judged : goal.act-requires-clause-judged
 act-requires-clause-judged c = first_judged _ _ _ _ _ _ (turn_can _ c.args.acts.now c.loop-n.n _ _ (omega arith) c.loop-n.invariant.can)

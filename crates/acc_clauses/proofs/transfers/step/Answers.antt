@@ -1,5 +1,4 @@
-use Rattle.std.proofs.Common.{◌≡◌, ◌∙◌, sym, Bool, false}
-use Rattle.std.specs.Prelude.{IsTrue}
+use Rattle.std.proofs.Common.{◌∙◌, sym}
 use Rattle.acc_clauses.proofs.Putting.{none_steps, head_mark, head_pinned, last_steps, more_steps}
 use Rattle.acc_clauses.proofs.transfers.step.Goals as goal
 use Rattle.std.proofs.lemmas.Bool.{false≢true}

@@ -1,8 +1,7 @@
-use Rattle.std.proofs.Common.{◌∙◌, ◌<◌, ◌≤◌, ◌^◌, sym, ap, subst}
-use Rattle.acc_base.specs.Acting.{act_state}
-use Rattle.acc_clauses.specs.Contents.{Contents, room_of}
+use Rattle.std.proofs.Common.{◌<◌, ◌≤◌, ◌^◌, sym, subst, arith}
+use Rattle.acc_clauses.specs.Contents.{Contents}
 use Rattle.acc_clauses.specs.Overlays.{puts_by}
-use Rattle.acc_clauses.specs.Acts.{IsJudged, IsKnown, HasRoomFor, HasPutRoom, IsRoomLeft, birth_of, pointers_of}
+use Rattle.acc_clauses.specs.Acts.{IsJudged, IsKnown, HasRoomFor, HasPutRoom, birth_of, pointers_of}
 use Rattle.acc_clauses.proofs.Ready.{can_do, parts_sound}
 use Rattle.acc_clauses.proofs.parts.Parts.act.Goals as goal
 
@@ -30,8 +29,4 @@ invariant_of-self c =
     (subst (λ (k : Contents). IsJudged k.limits c.args.task c.args.did k.state.records) (sym c.self.view_is) c.requires.judged) c.act_on.ensures.done
 
 pub returns : goal.returns
-returns c = record {
-  limits = ap (λ (k : Contents). k.limits) c.self.view_is;
-  state = c.act_on.ensures.done.state c.self.inside.numbers ∙ ap (λ (k : Contents). act_state c.args.task c.args.did k.state) c.self.view_is;
-  room = subst (λ (k : Contents). IsRoomLeft (birth_of c.args.task c.args.did.step) (pointers_of c.args.did.aim) (λ q. puts_by q c.args.task c.args.did.step) k.room (room_of c.act_on.new.environment)) c.self.view_is c.act_on.ensures.done.room;
-}
+returns c = grind (arith)

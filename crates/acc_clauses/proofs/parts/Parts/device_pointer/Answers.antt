@@ -1,6 +1,5 @@
-use Rattle.std.proofs.Common.{◌≡◌, ap, length, arith}
+use Rattle.std.proofs.Common.{arith}
 use Rattle.std.proofs.lemmas.Bool.{false≢true}
-use Rattle.acc_base.specs.Bytes.{bytes_of}
 use Rattle.acc_clauses.proofs.AimsJudged.{pointer_there, pointer_fits}
 use Rattle.acc_clauses.proofs.parts.Parts.device_pointer.Goals as goal
 
@@ -9,11 +8,4 @@ returns-in_default c e free =
     absurd (false≢true (c.in_default.ensures.there.1 (pointer_there c.args.self.now.limits c.args.self.now.state.records c.args.block c.args.pointer c.laws.ensures.sound.records e, free)))
 
 pub returns-then-saturating_sub-lt8 : goal.returns-then-saturating_sub-lt8
-returns-then-saturating_sub-lt8 c e free =
-    let fits = pointer_fits c.args.self.now.limits c.args.self.now.state c.args.block c.args.pointer c.laws.ensures.sound.records c.laws.ensures.sound.memories e free in
-    let len : length c.in-Some.bytes.now ≡ length (bytes_of c.args.block c.args.self.now.state.memories) = ap length c.in-Some.ensures.bytes in
-    let short = c.if-saturating_sub-lt8.true in
-    let left = c.saturating_sub.ensures in
-    let from = c.saturating_sub-from.ensures in
-    let start = c.start.ensures in
-    absurd (omega (arith, fits.0, fits.1, len, short, left, from, start))
+returns-then-saturating_sub-lt8 c e free = grind (arith, pointer_fits c.args.self.now.limits c.args.self.now.state c.args.block c.args.pointer c.laws.ensures.sound.records c.laws.ensures.sound.memories e free)

@@ -1,10 +1,6 @@
-use Rattle.std.proofs.Common.{ap, ◌∙◌}
-use Rattle.acc_base.specs.Waits.{ended_from}
-use Rattle.acc_clauses.specs.Contents.{Contents}
+use Rattle.std.proofs.Common.{arith}
 use Rattle.acc_clauses.proofs.Standing.{ended_is}
 use Rattle.acc_clauses.proofs.parts.Parts.ended.Goals as goal
 
 pub returns : goal.returns
-returns c =
-    let p = c.self.inside in
-    c.ended.ensures ∙ ended_is p.config p.environment p.numbers c.args.from c.self.invariant c.laws.ensures.marks ∙ ap (λ (k : Contents). ended_from c.args.from k.state.records) c.self.view_is
+returns c = grind (arith, ended_is (c.self.inside).config (c.self.inside).environment (c.self.inside).numbers c.args.from c.self.invariant c.laws.ensures.marks)

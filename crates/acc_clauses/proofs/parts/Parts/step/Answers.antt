@@ -1,4 +1,4 @@
-use Rattle.std.proofs.Common.{◌≡◌, sym, subst, take, Ok}
+use Rattle.std.proofs.Common.{◌≡◌, sym, subst, take, Ok, arith}
 use Rattle.acc_base.specs.Queues.{queue_at}
 use Rattle.acc_base.specs.Loans.{none_lent}
 use Rattle.acc_base.specs.Limits.{IsWithinBounds}
@@ -12,6 +12,4 @@ step-requires-clause-can c =
     can_step p.config p.environment p.numbers c.args.q (subst (λ (k : Contents). IsWithinBounds k.limits) (sym c.self.view_is) c.laws.ensures.limits) (subst (λ (k : Contents). none_lent (take 1 (queue_at c.args.q k.state.records.queues)) k.state.records.loans ≡ Ok tt) (sym c.self.view_is) c.requires.free) c.self.invariant
 
 pub invariant_of-self : goal.invariant_of-self
-invariant_of-self c =
-    let p = c.self.inside in
-    stepped_parts p.config p.environment c.step.new.environment p.numbers c.args.q c.self.invariant c.step.ensures.stepped
+invariant_of-self c = grind (arith, stepped_parts (c.self.inside).config (c.self.inside).environment c.step.new.environment (c.self.inside).numbers c.args.q c.self.invariant c.step.ensures.stepped)

@@ -1,6 +1,4 @@
-use Rattle.std.proofs.Common.{◌≡◌, ◌∙◌, sym, subst, []}
-use Rattle.acc_base.specs.declared.events.Event.TheVariants.{Lent}
-use Rattle.acc_base.specs.Acting.{after}
+use Rattle.std.proofs.Common.{sym, subst, arith}
 use Rattle.acc_clauses.specs.Contents.{Contents}
 use Rattle.acc_clauses.specs.Lending.{IsLoanPlanned}
 use Rattle.acc_clauses.proofs.Lends.{planned_says, lent_after, lent_store}
@@ -19,13 +17,7 @@ lend-lease-requires-clause-sound c =
     (planned_says k.limits p.0 p.1 k.state c.args.loan c.self.invariant.sound.layout.records (subst (λ (x : Contents). IsLoanPlanned x.limits p.0 p.1 x.state c.args.loan) (sym c.self.view_is) p.2)).sound
 
 pub invariant_of-self : goal.invariant_of-self
-invariant_of-self c =
-    let k : Contents = c.self.inside.parts in
-    let p = c.requires.planned in
-    lent_store p.0 p.1 k c.lend-lease.new.self c.args.loan c.laws.ensures.limits c.self.invariant (subst (λ (x : Contents). IsLoanPlanned x.limits p.0 p.1 x.state c.args.loan) (sym c.self.view_is) p.2) c.lend-lease.ensures.limits c.lend-lease.ensures.state
+invariant_of-self c = grind (arith, lent_store)
 
 pub returns-clause-state : goal.returns-clause-state
-returns-clause-state c region section p =
-    let k : Contents = c.self.inside.parts in
-    let planned : IsLoanPlanned k.limits region section k.state c.args.loan = subst (λ (x : Contents). IsLoanPlanned x.limits region section x.state c.args.loan) (sym c.self.view_is) p in
-    subst (λ (x : Contents). c.lend-lease.new.self.state ≡ after (Lent region section c.args.loan.block c.args.loan.serial) [] x.state) c.self.view_is (c.lend-lease.ensures.state ∙ lent_after region section c.args.loan k.state planned.loan_is)
+returns-clause-state c region section p = grind (arith, lent_after)

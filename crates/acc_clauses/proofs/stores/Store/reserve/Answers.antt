@@ -1,4 +1,4 @@
-use Rattle.std.proofs.Common.{◌≡◌, ◌∙◌, ◌≤◌, refl, sym, ap, subst}
+use Rattle.std.proofs.Common.{◌≡◌, ◌∙◌, ◌≤◌, sym, ap, subst, arith}
 use Rattle.std.proofs.lemmas.Result.{on_ok_weaker}
 use Rattle.std.specs.List.{All}
 use Rattle.acc_base.specs.declared.addresses.TheConstants.{MEMORY_MAX}
@@ -9,7 +9,7 @@ use Rattle.acc_clauses.specs.Contents.{Contents}
 use Rattle.acc_clauses.specs.Planned.{IsPlanOf}
 use Rattle.acc_clauses.proofs.Events.{planned_judged}
 use Rattle.acc_clauses.proofs.Remaining.{lens_fit}
-use Rattle.acc_clauses.proofs.Reserved.{none_room, one_room, queue_there, plan_room}
+use Rattle.acc_clauses.proofs.Reserved.{none_room, one_room, plan_room}
 use Rattle.acc_clauses.proofs.stores.Store.reserve.Goals as goal
 
 pub reserve-requires-clause-lens : goal.reserve-requires-clause-lens
@@ -20,11 +20,7 @@ reserve-requires-clause-lens c =
     subst (λ ls. All (IsFromOne MEMORY_MAX) ls) (sym c.lens.ensures.lens) (lens_fit c.self.inside.parts.limits 0 p.tasks p.dids c.self.inside.parts.state.records c.laws.ensures.limits (planned_judged k.limits c.args.directive.now k.state p planned))
 
 pub reserve_puts-requires-clause-known : goal.reserve_puts-requires-clause-known
-reserve_puts-requires-clause-known c =
-    let k : Contents = c.self.inside.parts in
-    let p = c.args.plan.now in
-    let planned : IsPlanOf k.limits c.args.directive.now k.state p = subst (λ (x : Contents). IsPlanOf x.limits c.args.directive.now x.state p) (sym c.self.view_is) c.requires.planned in
-    queue_there k.limits c.args.directive.now k.state p c.in-Some.q planned (sym c.queue_in.ensures ∙ c.in-Some.is)
+reserve_puts-requires-clause-known c = grind (arith)
 
 pub returns-in-Some-clause-room : goal.returns-in-Some-clause-room
 returns-in-Some-clause-room c =
@@ -49,17 +45,4 @@ returns-in-Some-clause-room c =
     (subst (λ n. n ≤ spare_at q c.reserve_puts.new.self.room.puts) count enough))) c.reserve_puts.ensures.room
 
 pub returns-in-None-clause-room : goal.returns-in-None-clause-room
-returns-in-None-clause-room c =
-    let k : Contents = c.self.inside.parts in
-    let p = c.args.plan.now in
-    let planned : IsPlanOf k.limits c.args.directive.now k.state p = subst (λ (x : Contents). IsPlanOf x.limits c.args.directive.now x.state p) (sym c.self.view_is) c.requires.planned in
-    plan_room c.args.directive.now p c.acts-acts.result.now c.lens.result.now c.pointers_in.result c.reserve.new.self.room c.reserve.new.self.room (record {
-      tasks = c.acts-acts.ensures.tasks;
-      dids = c.acts-acts.ensures.dids;
-      lens_are = c.lens.ensures.lens;
-      pointers_are = c.pointers_in.ensures;
-      births = c.in_ok-reserve.ensures.room;
-      region = rw (← c.regions_entered-regions.ensures, ← c.holdings.ensures) c.in_ok-reserve.ensures.room_region;
-      enough = c.in_ok-reserve.ensures.room_pointers;
-    }) (record { births = refl; ranges = refl; regions = refl; holdings = refl; attachments = refl })
-    (none_room c.args.directive.now k p c.reserve.new.self.room c.self.invariant planned (sym c.queue_in.ensures ∙ c.in-None.is))
+returns-in-None-clause-room c = grind (arith, plan_room, none_room)

@@ -32,11 +32,5 @@ pub mod LegalEvents
 pub mod Exits
 pub mod Accepted
 pub mod Accounted
-pub mod Runs
-pub mod ExampleItems
+mod Runs
 mod Examples
-mod RegionExamples
-mod PointerExamples
-mod AttachExamples
-mod QueueExamples
-mod LoanExamples

@@ -3,6 +3,8 @@ pub mod Options
 pub mod Elements
 pub mod Splitting
 pub mod Lookups
+pub mod InPlace
+pub mod Keyed
 pub mod RangeChanges
 pub mod Where
 pub mod Pointers

@@ -8,9 +8,11 @@ use Rattle.acc_base.specs.Section.{covers}
 use Rattle.acc_base.specs.Splits.{IsSplitBy}
 use Rattle.acc_base.specs.Accounts.{EachPair}
 use Rattle.acc_base.specs.Attachments.{pointer_at, is_of, IsBefore, is_before, count_at, with_attachment, without_attachment, with_count, is_skipped, next_pointer}
-use Rattle.acc_base.proofs.Results.{equal}
-use Rattle.acc_base.proofs.Elements.{EachPair-weaker, AllByRecursion-weaker, find_none, find-none}
-use Rattle.acc_base.proofs.Attached.{same_block, same_pointer, before, behind, before-trans, before-other}
+use Rattle.acc_base.proofs.Results.{equal, equal_swap}
+use Rattle.acc_base.proofs.Elements.{EachPair-weaker, AllByRecursion-weaker, AllByRecursion-both, filter-kept, find_none, find-none}
+use Rattle.acc_base.proofs.InPlace.{put-insert}
+use Rattle.acc_base.proofs.Keyed.{all-drop}
+use Rattle.acc_base.proofs.Attached.{put_attachment, same_block, same_pointer, before, behind, before-trans, before-other}
 use Rattle.acc_attach.specs.Kept.{is_below, is_from}
 
 -- a counter with this key
@@ -267,22 +269,13 @@ skipped_past block address xs h e = sym (skipped_found block address xs h ∙ ap
 
 -- ---- changes at a place
 
--- equality is tested either way round
-same_test : (a b : ℕ) → (a == b) ≡ (b == a)
-same_test a b = go (a == b) refl (b == a) refl
-  where
-    go : (s : Bool) → (a == b) ≡ s → (t : Bool) → (b == a) ≡ t → s ≡ t
-    go true e false f = absurd (grind (arith, nat_tests))
-    go false e true f = absurd (grind (arith, nat_tests))
-    go _ e _ f = refl
-
 -- a counter that does not stand before a pointer and is not its own stands behind it
 test_behind : (new x : Attachment) → is_below new.block new.pointer x ≡ false → is_of new.block new.pointer x ≡ false → is_before new x ≡ true
 test_behind new x e o = test_before new x (behind x new e (go (x.block == new.block) refl o))
   where
     go : (s : Bool) → (x.block == new.block) ≡ s → (s && (x.pointer == new.pointer)) ≡ false → is_of x.block x.pointer new ≡ false
-    go true f k = rw (same_test new.block x.block) (rw f (same_test new.pointer x.pointer ∙ k))
-    go false f k = rw (same_test new.block x.block) (rw f)
+    go true f k = rw (equal_swap new.block x.block) (rw f (equal_swap new.pointer x.pointer ∙ k))
+    go false f k = rw (equal_swap new.block x.block) (rw f)
 
 -- and one that stands before it does not stand behind it
 test_not_behind : (new x : Attachment) → is_below new.block new.pointer x ≡ true → is_before new x ≡ false
@@ -302,8 +295,7 @@ not_of block pointer a e = not_of_below block pointer a (before a (probe block p
 
 -- taking out what is not there leaves all
 without_none : (block pointer : ℕ) (xs : List Attachment) → AllByRecursion (λ x. is_of block pointer x ≡ false) xs → without_attachment block pointer xs ≡ xs
-without_none block pointer [] h = refl
-without_none block pointer (x ∷ xs) h = rw h.0 (ap (λ ys. x ∷ ys) (without_none block pointer xs h.1))
+without_none block pointer xs h = filter-kept (λ a. not (is_of block pointer a)) xs (AllByRecursion-weaker (λ x. is_of block pointer x ≡ false) (λ x. not (is_of block pointer x) ≡ true) xs (λ x e. rw e refl) h)
 
 -- behind the counter of a pointer there is none of it
 none_behind : (block pointer : ℕ) (x : Attachment) (xs : List Attachment) → is_of block pointer x ≡ true → AllByRecursion (IsBefore x) xs → AllByRecursion (λ y. is_of block pointer y ≡ false) xs
@@ -311,10 +303,9 @@ none_behind block pointer x xs e h = AllByRecursion-weaker (IsBefore x) (λ y. i
 
 -- a counter that is new stands at its place
 insert_at : (new : Attachment) (xs : List Attachment) (i : ℕ) → AllByRecursion (λ x. is_below new.block new.pointer x ≡ true) (take i xs) → AllByRecursion (λ x. is_below new.block new.pointer x ≡ false) (drop i xs) → AllByRecursion (λ x. is_of new.block new.pointer x ≡ false) xs → with_attachment new xs ≡ insert xs i new
-insert_at new [] zero p f h = refl
-insert_at new [] (suc i) p f h = refl
-insert_at new (x ∷ xs) zero p f h = rw (test_behind new x f.0 h.0)
-insert_at new (x ∷ xs) (suc i) p f h = rw (test_not_behind new x p.0) (ap (λ ys. x ∷ ys) (insert_at new xs i p.1 f h.1))
+insert_at new xs i p f h = put-insert (put_attachment new) xs i
+    (AllByRecursion-weaker (λ x. is_below new.block new.pointer x ≡ true) (λ x. is_before new x ≡ false) (take i xs) (λ x e. test_not_behind new x e) p)
+    (AllByRecursion-both (λ x. is_below new.block new.pointer x ≡ false) (λ x. is_of new.block new.pointer x ≡ false) (λ x. is_before new x ≡ true) (drop i xs) (λ x e o. test_behind new x e o) f (all-drop (λ x. is_of new.block new.pointer x ≡ false) xs i h))
 
 -- a counter that was zero goes in at its place
 pub counter_added : (new : Attachment) (xs : List Attachment) (i : ℕ) → 0 < new.count → find (is_of new.block new.pointer) xs ≡ None → IsSplitBy (is_below new.block new.pointer) xs i → insert xs i new ≡ with_count new.block new.pointer new.count xs

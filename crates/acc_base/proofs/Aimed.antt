@@ -1,5 +1,5 @@
 -- What attaching and detaching a pointer leaves: the records stay sound, and memories keep their lengths.
-use Rattle.std.proofs.Common.{ℕ, ◌≡◌, ◌+◌, ◌-◌, ◌≤◌, refl, sym, ◌∙◌, ap, subst, Bool, true, false, cond, List, [], ◌∷◌, Option, Some, None, arith}
+use Rattle.std.proofs.Common.{ℕ, ◌≡◌, ◌+◌, ◌-◌, ◌≤◌, refl, sym, ◌∙◌, ap, subst, Bool, true, false, cond, List, Option, Some, None, arith}
 use Rattle.std.specs.Prelude.{◌==◌, IsSome}
 use Rattle.std.specs.List.{AllByRecursion}
 use Rattle.acc_base.specs.Words.{Range, Block, Found, Attachment, Aim, Item, ExitClause, UpdateClause, Counter, Holding, Task, Step, Did}
@@ -10,7 +10,7 @@ use Rattle.acc_base.specs.declared.events.Step.TheVariants.{Nothing, Counted, Bo
 use Rattle.acc_base.specs.Limits.{Limits, IsWithinBounds}
 use Rattle.acc_base.specs.Ranges.{where_is, counter_of}
 use Rattle.acc_base.specs.Blocks.{block_at}
-use Rattle.acc_base.specs.Attachments.{pointer_at, is_before, count_at, with_attachment, without_attachment, with_count, detach, attached_by}
+use Rattle.acc_base.specs.Attachments.{pointer_at, count_at, with_attachment, without_attachment, with_count, detach, attached_by}
 use Rattle.acc_base.specs.Records.{Records}
 use Rattle.acc_base.specs.Detaching.{block_aimed, block_in, block_with, detach_there, judge_detach, release_there, judge_release}
 use Rattle.acc_base.specs.Steps.{pointer_aimed, records_aimed, act_step, act}
@@ -19,8 +19,9 @@ use Rattle.acc_base.specs.History.{IsAttachLegal, IsAimLegal}
 use Rattle.acc_base.specs.Accounts.{IsMapped, AreAttachmentsSound, AreRecordsSound}
 use Rattle.acc_base.proofs.Results.{equal}
 use Rattle.acc_base.proofs.Elements.{AllByRecursion-filter, found_has}
+use Rattle.acc_base.proofs.InPlace.{all-put}
 use Rattle.acc_base.proofs.Where.{IsInsideOf, inside_says}
-use Rattle.acc_base.proofs.Attached.{rising-attached_by, rising-with_count, counted-with_count, detached_within}
+use Rattle.acc_base.proofs.Attached.{put_attachment, rising-attached_by, rising-with_count, counted-with_count, detached_within}
 use Rattle.acc_base.proofs.Judged.{IsJudgedTo, IsStepFree}
 use Rattle.acc_base.proofs.Puts.{acted_sound}
 use Rattle.acc_base.proofs.Recounted.{moved_by, names, counter-act}
@@ -44,12 +45,7 @@ abbrev AreThere : List Block → List Attachment → Type 0
 AreThere blocks attached = AllByRecursion (λ a. IsSome (block_at a.block blocks)) attached
 
 there-with : (blocks : List Block) (new : Attachment) (xs : List Attachment) → IsSome (block_at new.block blocks) → AreThere blocks xs → AreThere blocks (with_attachment new xs)
-there-with blocks new [] n h = (n, tt)
-there-with blocks new (x ∷ xs) n h = go (is_before new x) (there-with blocks new xs n h.1)
-  where
-    go : (b : Bool) → AreThere blocks (with_attachment new xs) → AreThere blocks (cond b (new ∷ x ∷ xs) (x ∷ with_attachment new xs))
-    go true rest = (n, h)
-    go false rest = (h.0, rest)
+there-with blocks new xs n h = all-put (put_attachment new) (λ a. IsSome (block_at a.block blocks)) xs n h
 
 there-with_count : (blocks : List Block) (block pointer count : ℕ) (xs : List Attachment) → IsSome (block_at block blocks) → AreThere blocks xs → AreThere blocks (with_count block pointer count xs)
 there-with_count blocks block pointer count xs n h = go (count == 0)

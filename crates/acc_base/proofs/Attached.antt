@@ -10,6 +10,7 @@ use Rattle.acc_base.specs.Accounts.{EachPair}
 use Rattle.acc_base.specs.Attachments.{pointer_at, is_of, IsBefore, is_before, IsCountWithin, count_at, with_attachment, without_attachment, with_count, without_attachments, detach, attached_by, count_after, is_skipped, next_pointer}
 use Rattle.acc_base.proofs.Results.{and_true, equal, equal_self}
 use Rattle.acc_base.proofs.Elements.{AllByRecursion-weaker, AllByRecursion-filter, EachPair-filter, find-none}
+use Rattle.acc_base.proofs.InPlace.{IsPut, all-put, pairs-put, find-put_new, find-put_other}
 
 -- ---- the order
 
@@ -62,27 +63,13 @@ before-other block pointer a b h e = go (is_of block pointer b) refl
     go true f = let block_a = same_block block pointer a e in let block_b = same_block block pointer b f in let at_a = same_pointer block pointer a e in let at_b = same_pointer block pointer b f in absurd (elim h [ inl k ↦ omega (arith, k) | inr k ↦ omega (arith, k.1) ])
     go false f = refl
 
+-- a new counter goes in by the order
+pub put_attachment : (new : Attachment) → IsPut new (is_before new) (with_attachment new)
+put_attachment new = record { alone = refl; among = λ x xs. refl }
+
 -- ---- searches
 
 module _ (test : Attachment → Bool) where
-  -- a search passes a new counter that does not pass its test
-  find-with_other : (new : Attachment) (xs : List Attachment) → test new ≡ false → find test (with_attachment new xs) ≡ find test xs
-  find-with_other new [] e = rw e
-  find-with_other new (x ∷ xs) e = go (find-with_other new xs e) (is_before new x)
-    where
-      go : find test (with_attachment new xs) ≡ find test xs → (b : Bool) → find test (cond b (new ∷ x ∷ xs) (x ∷ with_attachment new xs)) ≡ find test (x ∷ xs)
-      go rest true = rw e
-      go rest false = ap (λ o. cond (test x) (Some x) o) rest
-
-  -- and finds one that does, where no other does
-  find-with_new : (new : Attachment) (xs : List Attachment) → test new ≡ true → AllByRecursion (λ x. test x ≡ false) xs → find test (with_attachment new xs) ≡ Some new
-  find-with_new new [] e h = rw e
-  find-with_new new (x ∷ xs) e h = go (find-with_new new xs e h.1) (is_before new x)
-    where
-      go : find test (with_attachment new xs) ≡ Some new → (b : Bool) → find test (cond b (new ∷ x ∷ xs) (x ∷ with_attachment new xs)) ≡ Some new
-      go rest true = rw e
-      go rest false = rw h.0 rest
-
   -- a search finds what it found where all that passes its test is kept
   find-filter_kept : (keep : Attachment → Bool) (xs : List Attachment) → ((x : Attachment) → test x ≡ true → keep x ≡ true) → find test (filter keep xs) ≡ find test xs
   find-filter_kept keep [] h = refl
@@ -111,7 +98,7 @@ count_at-with_count_same block pointer count xs = go (count == 0) refl
   where
     go : (b : Bool) → (count == 0) ≡ b → count_at block pointer (cond b (without_attachment block pointer xs) (with_attachment (record { block = block; pointer = pointer; count = count }) (without_attachment block pointer xs))) ≡ count
     go true e = ap (λ o. unwrap_or (option_map (λ (a : Attachment). a.count) o) 0) (find-none (is_of block pointer) _ (others block pointer xs)) ∙ sym (equal _ _ e)
-    go false e = ap (λ o. unwrap_or (option_map (λ (a : Attachment). a.count) o) 0) (find-with_new (is_of block pointer) (record { block = block; pointer = pointer; count = count }) _ (own (record { block = block; pointer = pointer; count = count })) (others block pointer xs))
+    go false e = ap (λ o. unwrap_or (option_map (λ (a : Attachment). a.count) o) 0) (find-put_new (put_attachment (record { block = block; pointer = pointer; count = count })) (is_of block pointer) _ (own (record { block = block; pointer = pointer; count = count })) (find-none (is_of block pointer) _ (others block pointer xs)))
 
 -- the other pointers' counters are left
 kept_others : (block pointer b p : ℕ) (x : Attachment) → (b == block && p == pointer) ≡ false → is_of block pointer x ≡ true → not (is_of b p x) ≡ true
@@ -138,7 +125,7 @@ count_at-with_count_other block pointer b p count xs other = ap (λ o. unwrap_or
 
     go : (t : Bool) → find (is_of block pointer) (cond t (without_attachment b p xs) (with_attachment (record { block = b; pointer = p; count = count }) (without_attachment b p xs))) ≡ find (is_of block pointer) xs
     go true = kept
-    go false = find-with_other (is_of block pointer) (record { block = b; pointer = p; count = count }) (without_attachment b p xs) other ∙ kept
+    go false = find-put_other (put_attachment (record { block = b; pointer = p; count = count })) (is_of block pointer) (without_attachment b p xs) other ∙ kept
 
 -- the count of a pointer after any counter is set
 pub count_at-with_count : (block pointer b p count : ℕ) (xs : List Attachment) → count_at block pointer (with_count b p count xs) ≡ cond (b == block && p == pointer) count (count_at block pointer xs)
@@ -173,23 +160,10 @@ count_at-without_other block pointer other xs differs = ap (λ o. unwrap_or (opt
 
 -- ---- the order of the counters
 
--- what holds of all counters and of a new one holds of all then
-AllByRecursion-with : (P : Attachment → Type 0) (new : Attachment) (xs : List Attachment) → P new → AllByRecursion P xs → AllByRecursion P (with_attachment new xs)
-AllByRecursion-with P new [] p h = (p, tt)
-AllByRecursion-with P new (x ∷ xs) p h = go (AllByRecursion-with P new xs p h.1) (is_before new x)
-  where
-    go : AllByRecursion P (with_attachment new xs) → (b : Bool) → AllByRecursion P (cond b (new ∷ x ∷ xs) (x ∷ with_attachment new xs))
-    go rest true = (p, h)
-    go rest false = (h.0, rest)
-
 -- a new counter goes in where it keeps the order
 rising-with : (new : Attachment) (xs : List Attachment) → AllByRecursion (λ x. is_of new.block new.pointer x ≡ false) xs → EachPair IsBefore xs → EachPair IsBefore (with_attachment new xs)
-rising-with new [] other h = (tt, tt)
-rising-with new (x ∷ xs) other h = go (rising-with new xs other.1 h.1) (is_before new x) refl
-  where
-    go : EachPair IsBefore (with_attachment new xs) → (b : Bool) → is_before new x ≡ b → EachPair IsBefore (cond b (new ∷ x ∷ xs) (x ∷ with_attachment new xs))
-    go rest true e = let first = before new x e in ((first, AllByRecursion-weaker (IsBefore x) (IsBefore new) xs (λ y k. before-trans new x y first k) h.0), h)
-    go rest false e = (AllByRecursion-with (IsBefore x) new xs (behind new x e other.0) h.0, rest)
+rising-with new xs other h = pairs-put (put_attachment new) IsBefore (λ x y first k. before-trans new x y first k) xs (AllByRecursion-weaker (λ x. is_of new.block new.pointer x ≡ false) (λ x. (is_before new x ≡ true → IsBefore new x) × (is_before new x ≡ false → IsBefore x new)) xs
+    (λ x differs. (before new x, λ e. behind new x e differs)) other) h
 
 -- the counters still rise after one is set
 pub rising-with_count : (block pointer count : ℕ) (xs : List Attachment) → EachPair IsBefore xs → EachPair IsBefore (with_count block pointer count xs)
@@ -243,7 +217,7 @@ counted-with_count most block pointer count xs le h = go (count == 0) refl
 
     go : (b : Bool) → (count == 0) ≡ b → AllByRecursion (IsCountWithin most) (cond b (without_attachment block pointer xs) (with_attachment (record { block = block; pointer = pointer; count = count }) (without_attachment block pointer xs)))
     go true e = left
-    go false e = AllByRecursion-with (IsCountWithin most) (record { block = block; pointer = pointer; count = count }) (without_attachment block pointer xs) (record { some = grind (arith, nat_tests); limit = le }) left
+    go false e = all-put (put_attachment (record { block = block; pointer = pointer; count = count })) (IsCountWithin most) (without_attachment block pointer xs) (record { some = grind (arith, nat_tests); limit = le }) left
 
 -- a detachment lowers the count, or leaves it
 pub detached_within : (most : ℕ) (immediate : Bool) (block pointer : ℕ) (xs : List Attachment) → AllByRecursion (IsCountWithin most) xs → AllByRecursion (IsCountWithin most) (attached_by (detach immediate block pointer xs) xs)

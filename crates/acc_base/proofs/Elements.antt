@@ -1,6 +1,6 @@
 -- Lists whose elements all have a property, or are pairwise related.
-use Rattle.std.proofs.Common.{suc, ◌≡◌, refl, Bool, true, false, cond, List, [], ◌∷◌, ◌++◌, Option, Some, None, arith}
-use Rattle.std.specs.Prelude.{map, find, filter, Contains, IfSome}
+use Rattle.std.proofs.Common.{suc, ◌≡◌, refl, ap, ◌∙◌, Bool, true, false, cond, List, [], ◌∷◌, ◌++◌, Option, Some, None, arith}
+use Rattle.std.specs.Prelude.{map, find, filter, option_map, Contains, IfSome}
 use Rattle.std.specs.List.{list_all, AllByRecursion}
 use Rattle.acc_base.specs.Accounts.{EachPair}
 use Rattle.acc_base.proofs.Results.{and_true}
@@ -96,6 +96,29 @@ find_none {X} p (x ∷ xs) e = go (find_none p xs) (p x) refl e
 pub find-none : {X : Type 0} (p : X → Bool) (xs : List X) → AllByRecursion (λ x. p x ≡ false) xs → find p xs ≡ None
 find-none p [] h = refl
 find-none p (x ∷ xs) h = rw h.0 (find-none p xs h.1)
+
+-- a search among images finds the image of what a search among the elements finds
+pub find-map : {X Y : Type 0} (f : X → Y) (p : X → Bool) (q : Y → Bool) (xs : List X) → ((x : X) → q (f x) ≡ p x) → find q (map f xs) ≡ option_map f (find p xs)
+find-map f p q [] same = refl
+find-map {X} {Y} f p q (x ∷ xs) same = ap (λ b. cond b (Some (f x)) (find q (map f xs))) (same x) ∙ go (find-map f p q xs same) (p x)
+  where
+    go : find q (map f xs) ≡ option_map f (find p xs) → (b : Bool) → cond b (Some (f x)) (find q (map f xs)) ≡ option_map f (cond b (Some x) (find p xs))
+    go rest true = refl
+    go rest false = rest
+
+-- the images that pass a test are the images of the elements that pass it
+pub filter-map : {X Y : Type 0} (f : X → Y) (p : X → Bool) (q : Y → Bool) (xs : List X) → ((x : X) → q (f x) ≡ p x) → filter q (map f xs) ≡ map f (filter p xs)
+filter-map f p q [] same = refl
+filter-map {X} {Y} f p q (x ∷ xs) same = ap (λ b. cond b (f x ∷ filter q (map f xs)) (filter q (map f xs))) (same x) ∙ go (filter-map f p q xs same) (p x)
+  where
+    go : filter q (map f xs) ≡ map f (filter p xs) → (b : Bool) → cond b (f x ∷ filter q (map f xs)) (filter q (map f xs)) ≡ map f (cond b (x ∷ filter p xs) (filter p xs))
+    go rest true = ap (λ ys. f x ∷ ys) rest
+    go rest false = rest
+
+-- a filter that all pass leaves all
+pub filter-kept : {X : Type 0} (p : X → Bool) (xs : List X) → AllByRecursion (λ x. p x ≡ true) xs → filter p xs ≡ xs
+filter-kept p [] h = refl
+filter-kept p (x ∷ xs) h = rw h.0 (ap (λ ys. x ∷ ys) (filter-kept p xs h.1))
 
 -- an element that a search finds has what all have
 pub found_has : {X : Type 0} (P : X → Type 0) (p : X → Bool) (xs : List X) (x : X) → AllByRecursion P xs → find p xs ≡ Some x → P x × (p x ≡ true)

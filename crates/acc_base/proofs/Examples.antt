@@ -1,360 +1,298 @@
--- Runs of `enter data`, `exit data`, `update` and writes of the host, with values worked out by hand.
-use Rattle.std.proofs.Common.{ℕ, ◌≡◌, refl, List, [], ◌∷◌, ◌++◌, Some, None, true, false, replicate}
+-- The most telling run of each subject, with values worked out by hand. Rows of tests have the others.
+use Rattle.std.proofs.Common.{ℕ, ◌≡◌, refl, List, [], ◌∷◌, ◌++◌, Option, Some, None, true, false, replicate}
+use Rattle.acc_base.specs.Words.{Section, Item, RegionClause, EnterClause, ExitClause, UpdateClause, Call, Loan, Aim, Did, Fault}
+use Rattle.acc_base.specs.Words as words
+use Rattle.acc_base.specs.declared.items.RegionClause.TheVariants.{Copyin, NoCreate, Present, Attach}
 use Rattle.acc_base.specs.declared.items.EnterClause.TheVariants as enter
 use Rattle.acc_base.specs.declared.items.ExitClause.TheVariants as exit
-use Rattle.acc_base.specs.declared.items.UpdateClause.TheVariants.{ToSelf, ToDevice}
-use Rattle.acc_base.specs.Words.{Call, Range}
-use Rattle.acc_base.specs.declared.calls.Call.TheVariants.{HostWrite}
-use Rattle.acc_base.specs.declared.events.Event.TheVariants.{EnteredData, ExitedData, Updated, HostWritten}
-use Rattle.acc_base.specs.declared.events.Step.TheVariants.{Nothing, Counted, Born, Dropped, Moved}
-use Rattle.acc_base.specs.declared.faults.Fault.TheVariants.{NoTickets, TooManyItems, TraceFull, OutOfHost, PartlyPresent, NotPresent, CounterFull, DeviceFull}
-use Rattle.acc_base.specs.declared.mappings.Found.TheVariants.{Empty, Inside, Partly, Absent}
+use Rattle.acc_base.specs.declared.items.UpdateClause.TheVariants.{ToSelf}
+use Rattle.acc_base.specs.declared.directives.Directive.TheVariants.{Enter, Exit, EnterData, ExitData, Update, Wait, Step}
+use Rattle.acc_base.specs.declared.calls.Call.TheVariants.{Do, HostWrite, Lend, Gather}
+use Rattle.acc_base.specs.declared.attachments.Aim.TheVariants as aims
+use Rattle.acc_base.specs.declared.events.Step.TheVariants.{Nothing, Counted, Born, Dropped}
+use Rattle.acc_base.specs.declared.events.Event.TheVariants as events
+use Rattle.acc_base.specs.declared.faults.Fault.TheVariants.{NoTickets, NoAllowance, TooManyItems, TraceFull, OutOfHost, Misaligned, PartlyPresent, NotPresent, CounterFull, Lent, DeviceFull, QueueFull, NoRegion, NoLease}
 use Rattle.acc_base.specs.Loans.{Leased}
 use Rattle.acc_base.specs.Limits.{Limits}
-use Rattle.acc_base.specs.Queues.{new_queues}
-use Rattle.acc_base.specs.Records.{new_state}
-use Rattle.acc_base.specs.Ranges.{where_is}
-use Rattle.acc_base.specs.Blocks.{used_bytes}
+use Rattle.acc_base.specs.Queues.{new_queues, queue_at}
+use Rattle.acc_base.specs.Records.{Memory}
+use Rattle.acc_base.specs.Judge.{leased}
 use Rattle.acc_base.specs.Steps.{did_of}
-use Rattle.acc_base.specs.History.{dynamic_in}
-use Rattle.acc_base.proofs.Runs.{ran_with, ran, small}
-use Rattle.acc_base.proofs.ExampleItems.{at, item, host_of, enter_data_of, exit_data_of, finalize_of, update_of, update_if_present_of, idle, range, block, memory}
+use Rattle.acc_base.specs.Waits.{ended_from}
+use Rattle.acc_base.specs.History.{entries_in, exits_in, dynamic_in, attached_in}
+use Rattle.acc_base.proofs.Runs.{ran_with}
 
--- ---- an array is mapped and deleted
+-- ---- what the runs are written with
 
-abbrev a : ℕ → Call Leased
-a len = enter_data_of (item enter.Copyin (at 0x1000 len) ∷ [])
+-- 64 bytes on either side, and a queue has room for two transfers
+abbrev limits : Limits
+limits = record { host = 64; device = 64; regions = 3; tickets = 100; counter_max = 64; queue_cap = 2; trace_cap = 100 }
 
-mapped : (ran (a 32 ∷ [])).world.state.records ≡ record { ranges = range (at 0x1000 32) 1 0 1 ∷ []; blocks = block 1 0x1_0000_0000 32 ∷ []; attached = []; births = 1; queues = new_queues; loans = [] }
-unfolding ran
-mapped = refl
+-- the same, but that nothing is counted more than twice
+abbrev twice_at_most : Limits
+twice_at_most = record limits { counter_max = 2 }
 
-mapped_bytes : (ran (a 3 ∷ [])).world.state.memories ≡ memory 1 (0 ∷ 0 ∷ 0 ∷ []) ∷ []
-unfolding ran
-mapped_bytes = refl
+abbrev at : ℕ → ℕ → Section
+at start len = record { start = start; len = len }
 
-abbrev mapped_and_deleted : List (Call Leased)
-mapped_and_deleted = a 32 ∷ exit_data_of (item exit.Delete (at 0x1000 32) ∷ []) ∷ []
+-- three arrays side by side
+abbrev a : Section
+a = at 0x1000 16
 
-deleted : (ran mapped_and_deleted).world.state.records ≡ record { ranges = []; blocks = []; attached = []; births = 1; queues = new_queues; loans = [] }
-    × (ran mapped_and_deleted).world.state.memories ≡ []
-    × (ran mapped_and_deleted).world.history.trace
-    ≡ EnteredData (item enter.Copyin (at 0x1000 32) ∷ []) None (did_of (Born 1 0x1_0000_0000) ∷ []) ∷ ExitedData (item exit.Delete (at 0x1000 32) ∷ []) false None (did_of (Dropped 1 true) ∷ []) ∷ []
-unfolding ran
-deleted = (refl, refl, refl)
+abbrev b : Section
+b = at 0x1010 16
 
--- deleting what is absent does nothing, before it was mapped and after
-abbrev deleted_where_absent : List (Call Leased)
-deleted_where_absent = exit_data_of (item exit.Delete (at 0x1000 16) ∷ []) ∷ enter_data_of (item (enter.Create true) (at 0x1000 16) ∷ []) ∷ exit_data_of (item exit.Delete (at 0x1000 16) ∷ []) ∷ exit_data_of (item exit.Delete (at 0x1000 16) ∷ []) ∷ []
+abbrev c : Section
+c = at 0x1020 16
 
-deleted_where_absent_told : (ran deleted_where_absent).world.history.trace
-    ≡ ExitedData (item exit.Delete (at 0x1000 16) ∷ []) false None (did_of Nothing ∷ []) ∷ EnteredData (item (enter.Create true) (at 0x1000 16) ∷ []) None (did_of (Born 1 0x1_0000_0000) ∷ []) ∷ ExitedData (item exit.Delete (at 0x1000 16) ∷ []) false None (did_of (Dropped 1 true) ∷ [])
-    ∷ ExitedData (item exit.Delete (at 0x1000 16) ∷ []) false None (did_of Nothing ∷ []) ∷ []
-unfolding ran
-deleted_where_absent_told = refl
+-- an item without a pointer, one with the pointer at 0x1008, and that pointer alone
+abbrev item : {C : Type 0} → C → Section → Item C
+item clause s = record { clause = clause; section = s; pointer = None }
 
--- ---- a section over the end of a range is partly present, one inside it counts
+abbrev via : {C : Type 0} → C → Section → Item C
+via clause s = record { clause = clause; section = s; pointer = Some 0x1008 }
 
-abbrev over_the_end : List (Call Leased)
-over_the_end = a 16 ∷ enter_data_of (item enter.Copyin (at 0x1008 16) ∷ []) ∷ enter_data_of (item enter.Copyin (at 0x1004 4) ∷ []) ∷ []
+abbrev alone : {C : Type 0} → C → Item C
+alone clause = item clause (at 0x1008 8)
 
-over_the_end_leaves : (ran over_the_end).refused ≡ None ∷ Some (PartlyPresent 0) ∷ None ∷ []
-    × (ran over_the_end).world.state.records ≡ record { ranges = range (at 0x1000 16) 1 0 2 ∷ []; blocks = block 1 0x1_0000_0000 16 ∷ []; attached = []; births = 1; queues = new_queues; loans = [] }
-unfolding ran
-over_the_end_leaves = (refl, refl)
+-- what the eight bytes of a pointer on the device are: the address of `b`, and what the host has
+abbrev to_b : List ℕ
+to_b = 0x10 ∷ 0 ∷ 0 ∷ 0 ∷ 1 ∷ 0 ∷ 0 ∷ 0 ∷ []
 
--- ---- the counter falls, and at zero the mapping ends
+abbrev as_host : ℕ → List ℕ
+as_host low = low ∷ 0x10 ∷ 0 ∷ 0 ∷ 0 ∷ 0 ∷ 0 ∷ 0 ∷ []
 
-abbrev counted_twice : List (Call Leased)
-counted_twice = a 16 ∷ a 16 ∷ exit_data_of (item exit.Delete (at 0x1004 4) ∷ []) ∷ []
+abbrev zeros : List ℕ
+zeros = replicate 16 0
 
-falls : (ran counted_twice).world.state.records.ranges ≡ range (at 0x1000 16) 1 0 1 ∷ []
-    × dynamic_in 1 (ran counted_twice).world.history ≡ 1
-unfolding ran
-falls = (refl, refl)
+-- the host's pointer at 0x1008 is made to hold an address below 0x1100
+abbrev point_to : ℕ → Call Leased
+point_to low = HostWrite 0x1008 (as_host low)
 
-abbrev counted_once : List (Call Leased)
-counted_once = a 16 ∷ exit_data_of (item exit.Delete (at 0x1004 4) ∷ []) ∷ exit_data_of (item exit.Delete (at 0x1000 16) ∷ []) ∷ []
+-- a lease comes back: serial number, block, place and length of the section, and the bytes of the block
+abbrev gather : ℕ → ℕ → ℕ → ℕ → List ℕ → Call Leased
+gather serial block offset len bytes = Gather (record { serial = serial; block = block; offset = offset; len = len; bytes = bytes })
 
-ends : (ran counted_once).world.state.records ≡ record { ranges = []; blocks = []; attached = []; births = 1; queues = new_queues; loans = [] }
-    × (ran counted_once).refused ≡ None ∷ None ∷ None ∷ []
-unfolding ran
-ends = (refl, refl)
+abbrev loan : ℕ → ℕ → ℕ → ℕ → Loan
+loan serial block offset len = record { serial = serial; block = block; offset = offset; len = len }
 
--- ---- items act one after the other, each on what those before it left
+abbrev memory : ℕ → List ℕ → Memory
+memory block bytes = record { block = block; bytes = bytes }
 
-abbrev few : Limits
-few = record { host = 96; device = 64; regions = 4; tickets = 100; counter_max = 100; queue_cap = 4; trace_cap = 100 }
+-- what an item did, to its section and to its pointer
+abbrev did : words.Step → Aim → Did
+did step aim = record { step = step; aim = aim }
 
-abbrev three_counts : Call Leased
-three_counts = enter_data_of (item enter.Copyin (at 0x1000 16) ∷ item enter.Copyin (at 0x1000 16) ∷ item (enter.Create true) (at 0x1004 4) ∷ [])
-
-three_leaves : (ran_with few (three_counts ∷ [])).world.state.records ≡ record { ranges = range (at 0x1000 16) 1 0 3 ∷ []; blocks = block 1 0x1_0000_0000 16 ∷ []; attached = []; births = 1; queues = new_queues; loans = [] }
-    × (ran_with few (three_counts ∷ [])).world.history.trace
-    ≡ EnteredData (item enter.Copyin (at 0x1000 16) ∷ item enter.Copyin (at 0x1000 16) ∷ item (enter.Create true) (at 0x1004 4) ∷ []) None (did_of (Born 1 0x1_0000_0000) ∷ did_of (Counted 1) ∷ did_of (Counted 1) ∷ []) ∷ []
-    × dynamic_in 1 (ran_with few (three_counts ∷ [])).world.history ≡ 3
+-- what calls are refused for, and so many accepted ones
+abbrev refused : List (Call Leased) → List (Option Fault)
 unfolding ran_with
-three_leaves = (refl, refl, refl)
+refused calls = (ran_with limits calls).refused
 
--- of four items that delete it the last finds it absent
-abbrev dropped_by_four : List (Call Leased)
-dropped_by_four = three_counts ∷ exit_data_of (replicate 4 (item exit.Delete (at 0x1000 16))) ∷ []
+abbrev fine : ℕ → List (Option Fault)
+fine n = replicate n None
 
-dropped : (ran_with few dropped_by_four).world.history.trace
-    ≡ EnteredData (item enter.Copyin (at 0x1000 16) ∷ item enter.Copyin (at 0x1000 16) ∷ item (enter.Create true) (at 0x1004 4) ∷ []) None (did_of (Born 1 0x1_0000_0000) ∷ did_of (Counted 1) ∷ did_of (Counted 1) ∷ [])
-    ∷ ExitedData (replicate 4 (item exit.Delete (at 0x1000 16))) false None (did_of (Dropped 1 false) ∷ did_of (Dropped 1 false) ∷ did_of (Dropped 1 true) ∷ did_of Nothing ∷ []) ∷ []
-    × dynamic_in 1 (ran_with few dropped_by_four).world.history ≡ 0
+-- a data region is entered, and left; `enter data`, `exit data` and `update`, and the same with `async`
+abbrev enter_of : List (Item RegionClause) → Call Leased
+enter_of items = Do (Enter items)
+
+abbrev exit_of : ℕ → Call Leased
+exit_of number = Do (Exit number)
+
+abbrev enter_data_of : List (Item EnterClause) → Call Leased
+enter_data_of items = Do (EnterData items None)
+
+abbrev exit_data_of : List (Item ExitClause) → Call Leased
+exit_data_of items = Do (ExitData items false None)
+
+abbrev finalize_of : List (Item ExitClause) → Call Leased
+finalize_of items = Do (ExitData items true None)
+
+abbrev update_of : List (Item UpdateClause) → Call Leased
+update_of items = Do (Update items false None)
+
+abbrev enter_later : ℕ → List (Item EnterClause) → Call Leased
+enter_later q items = Do (EnterData items (Some q))
+
+abbrev exit_later : ℕ → List (Item ExitClause) → Call Leased
+exit_later q items = Do (ExitData items false (Some q))
+
+abbrev update_later : ℕ → List (Item UpdateClause) → Call Leased
+update_later q items = Do (Update items false (Some q))
+
+-- ---- the life of an array: where the mapping ends, its section alone is copied out, and the whole mapping is gone
+
+abbrev array_life : List (Call Leased)
+array_life = HostWrite 0x1000 (1 ∷ 2 ∷ 3 ∷ 4 ∷ []) ∷ enter_data_of (item enter.Copyin a ∷ []) ∷ HostWrite 0x1000 (5 ∷ 6 ∷ 7 ∷ 8 ∷ []) ∷ exit_data_of (item exit.Copyout (at 0x1001 2) ∷ []) ∷ []
+
+array_life_leaves : (ran_with limits array_life).world.state.host ≡ 5 ∷ 2 ∷ 3 ∷ 8 ∷ replicate 60 0
+    × (ran_with limits array_life).world.state.records ≡ record { ranges = []; blocks = []; attached = []; births = 1; queues = new_queues; loans = [] }
+    × (ran_with limits array_life).world.state.memories ≡ []
 unfolding ran_with
-dropped = (refl, refl)
+array_life_leaves = (refl, refl, refl)
 
--- `finalize` takes all three at once, and a second item finds the section absent
+-- items act one after the other, each on what those before it left; `finalize` takes all counts at once
+abbrev counted : List (Call Leased)
+counted = enter_data_of (item enter.Copyin a ∷ item enter.Copyin a ∷ item (enter.Create true) (at 0x1004 4) ∷ []) ∷ []
+
 abbrev finalized : List (Call Leased)
-finalized = three_counts ∷ finalize_of (item exit.Delete (at 0x1000 16) ∷ item exit.Delete (at 0x1000 16) ∷ []) ∷ []
+finalized = counted ++ finalize_of (item exit.Delete a ∷ item exit.Delete a ∷ []) ∷ []
 
-finalized_leaves : (ran_with few finalized).world.state.records ≡ record { ranges = []; blocks = []; attached = []; births = 1; queues = new_queues; loans = [] }
-    × (ran_with few finalized).world.history.trace
-    ≡ EnteredData (item enter.Copyin (at 0x1000 16) ∷ item enter.Copyin (at 0x1000 16) ∷ item (enter.Create true) (at 0x1004 4) ∷ []) None (did_of (Born 1 0x1_0000_0000) ∷ did_of (Counted 1) ∷ did_of (Counted 1) ∷ [])
-    ∷ ExitedData (item exit.Delete (at 0x1000 16) ∷ item exit.Delete (at 0x1000 16) ∷ []) true None (did_of (Dropped 1 true) ∷ did_of Nothing ∷ []) ∷ []
-    × dynamic_in 1 (ran_with few finalized).world.history ≡ 0
+finalized_leaves : dynamic_in 1 (ran_with limits counted).world.history ≡ 3
+    × dynamic_in 1 (ran_with limits finalized).world.history ≡ 0
+    × (ran_with limits finalized).world.history.trace
+    ≡ events.EnteredData (item enter.Copyin a ∷ item enter.Copyin a ∷ item (enter.Create true) (at 0x1004 4) ∷ []) None (did_of (Born 1 0x1_0000_0000) ∷ did_of (Counted 1) ∷ did_of (Counted 1) ∷ [])
+    ∷ events.ExitedData (item exit.Delete a ∷ item exit.Delete a ∷ []) true None (did_of (Dropped 1 true) ∷ did_of Nothing ∷ []) ∷ []
 unfolding ran_with
 finalized_leaves = (refl, refl, refl)
 
--- an item that overlaps the range of the item before it is refused, and that range is not mapped
-overlapping : (ran (enter_data_of (item enter.Copyin (at 0x1000 16) ∷ item enter.Copyin (at 0x1008 16) ∷ []) ∷ [])).refused ≡ Some (PartlyPresent 1) ∷ []
-    × (ran (enter_data_of (item enter.Copyin (at 0x1000 16) ∷ item enter.Copyin (at 0x1008 16) ∷ []) ∷ [])).world.state ≡ new_state 64
-unfolding ran
-overlapping = (refl, refl)
+-- ---- the order of refusals of a call
 
--- two items of one directive are two births, at two places
-abbrev two_births : List (Call Leased)
-two_births = HostWrite 0x1000 (1 ∷ 2 ∷ 3 ∷ []) ∷ enter_data_of (item enter.Copyin (at 0x1001 2) ∷ item (enter.Create false) (at 0x1000 1) ∷ []) ∷ []
+abbrev all_wrong : List (Call Leased)
+all_wrong = enter_of [] ∷ enter_of (replicate 65 (item Copyin (at 0 1))) ∷ exit_of 7 ∷ []
 
-two_births_leaves : (ran two_births).world.state.records ≡ record { ranges = range (at 0x1000 1) 2 0 1 ∷ range (at 0x1001 2) 1 0 1 ∷ []; blocks = block 1 0x1_0000_0000 2 ∷ block 2 0x1_0000_0010 1 ∷ []; attached = []; births = 2; queues = new_queues; loans = [] }
-    × (ran two_births).world.state.memories ≡ memory 1 (2 ∷ 3 ∷ []) ∷ memory 2 (0xa5 ∷ []) ∷ []
-unfolding ran
-two_births_leaves = (refl, refl)
-
--- ---- how many items, and how often a range is counted
-
-abbrev many : Limits
-many = record { host = 64; device = 64; regions = 4; tickets = 6; counter_max = 64; queue_cap = 4; trace_cap = 5 }
-
-sixty_four_counted : (ran_with many (enter_data_of (replicate 64 (item enter.Copyin (at 0x1000 16))) ∷ [])).world.state.records.ranges ≡ range (at 0x1000 16) 1 0 64 ∷ []
+refused_in_order : (ran_with (record limits { regions = 1; tickets = 1; trace_cap = 1 }) all_wrong).refused ≡ None ∷ Some (NoTickets 0) ∷ Some (NoTickets 0) ∷ []
+    × (ran_with (record limits { regions = 1; trace_cap = 1 }) all_wrong).refused ≡ None ∷ Some (NoAllowance 0) ∷ Some (TraceFull 1) ∷ []
+    × (ran_with (record limits { trace_cap = 1 }) all_wrong).refused ≡ None ∷ Some (TooManyItems 65) ∷ Some (TraceFull 1) ∷ []
+    × refused all_wrong ≡ None ∷ Some (TooManyItems 65) ∷ Some (NoRegion 7) ∷ []
 unfolding ran_with
-sixty_four_counted = refl
+refused_in_order = (refl, refl, refl, refl)
 
-sixty_five_refused : (ran_with many (enter_data_of (replicate 65 (item enter.Copyin (at 0x1000 16))) ∷ exit_data_of (replicate 65 (item exit.Delete (at 0x1000 16))) ∷ update_of (replicate 65 (item ToSelf (at 0x1000 16))) ∷ [])).refused
-    ≡ Some (TooManyItems 65) ∷ Some (TooManyItems 65) ∷ Some (TooManyItems 65) ∷ []
+-- ---- two regions: the first counted nothing and undoes nothing, also where its section was mapped since
+
+abbrev both_open : List (Call Leased)
+both_open = enter_of (item NoCreate a ∷ []) ∷ enter_of (item Copyin a ∷ []) ∷ []
+
+abbrev both_left : List (Call Leased)
+both_left = both_open ++ exit_of 1 ∷ exit_of 2 ∷ exit_of 2 ∷ []
+
+regions_live : (ran_with limits both_open).world.state.register.regions
+    ≡ record { number = 1; holdings = record { item = item NoCreate a; block = None; aim = None } ∷ [] } ∷ record { number = 2; holdings = record { item = item Copyin a; block = Some 1; aim = None } ∷ [] } ∷ []
+    × (ran_with limits both_left).world.history.trace
+    ≡ events.Entered 1 (item NoCreate a ∷ []) (did_of Nothing ∷ []) ∷ events.Entered 2 (item Copyin a ∷ []) (did_of (Born 1 0x1_0000_0000) ∷ []) ∷ events.Left 1 (did_of Nothing ∷ []) ∷ events.Left 2 (did_of (Dropped 1 true) ∷ []) ∷ []
+    × (ran_with limits both_left).world.state.register ≡ record { regions = []; next = 3; serial = 1 }
+    × entries_in 1 (ran_with limits both_left).world.history ≡ 1
+    × exits_in 1 (ran_with limits both_left).world.history ≡ 1
+    × refused both_left ≡ fine 4 ++ Some (NoRegion 2) ∷ []
 unfolding ran_with
-sixty_five_refused = refl
+regions_live = (refl, refl, refl, refl, refl, refl)
 
-sixty_five_left : (ran_with many (enter_data_of (replicate 65 (item enter.Copyin (at 0x1000 16))) ∷ [])).world.state ≡ new_state 64
+-- ---- a pointer is attached twice, then at another target, and detached twice
+
+abbrev attached_twice : List (Call Leased)
+attached_twice = point_to 0x10 ∷ enter_data_of (item enter.Copyin a ∷ item enter.Copyin b ∷ item enter.Copyin c ∷ []) ∷ enter_data_of (alone enter.Attach ∷ []) ∷ enter_data_of (alone enter.Attach ∷ []) ∷ []
+
+abbrev detached : List (Call Leased)
+detached = attached_twice ++ point_to 0x20 ∷ enter_data_of (alone enter.Attach ∷ []) ∷ exit_data_of (alone exit.Detach ∷ []) ∷ exit_data_of (alone exit.Detach ∷ []) ∷ []
+
+pointer_lives : (ran_with limits attached_twice).world.state.records.attached ≡ record { block = 1; pointer = 0x1008; count = 2 } ∷ []
+    × attached_in 1 0x1008 (ran_with limits attached_twice).world.history ≡ 2
+    × (ran_with limits detached).world.history.trace
+    ≡ events.HostWritten 0x1008 8 ∷ events.EnteredData (item enter.Copyin a ∷ item enter.Copyin b ∷ item enter.Copyin c ∷ []) None (did_of (Born 1 0x1_0000_0000) ∷ did_of (Born 2 0x1_0000_0010) ∷ did_of (Born 3 0x1_0000_0020) ∷ [])
+    ∷ events.EnteredData (alone enter.Attach ∷ []) None (did Nothing (aims.New 0x1008 1 0x1_0000_0010) ∷ []) ∷ events.EnteredData (alone enter.Attach ∷ []) None (did Nothing (aims.Again 0x1008 1) ∷ [])
+    ∷ events.HostWritten 0x1008 8 ∷ events.EnteredData (alone enter.Attach ∷ []) None (did Nothing (aims.New 0x1008 1 0x1_0000_0020) ∷ [])
+    ∷ events.ExitedData (alone exit.Detach ∷ []) false None (did Nothing (aims.Less 0x1008 1) ∷ []) ∷ events.ExitedData (alone exit.Detach ∷ []) false None (did_of Nothing ∷ []) ∷ []
+    × (ran_with limits detached).world.state.memories ≡ memory 1 (replicate 8 0 ++ as_host 0x20) ∷ memory 2 zeros ∷ memory 3 zeros ∷ []
 unfolding ran_with
-sixty_five_left = refl
+pointer_lives = (refl, refl, refl, refl)
 
--- the counter stops at two, so the third item of one directive is refused, and nothing is mapped
-three_of_two : (ran (three_counts ∷ [])).refused ≡ Some (CounterFull 2) ∷ []
-    × (ran (three_counts ∷ [])).world.state ≡ new_state 64
-unfolding ran
-three_of_two = (refl, refl)
-
--- ---- want of device memory: the hole of 16 bytes is too small for 17, and for a second block
-
-abbrev device_filled : List (Call Leased)
-device_filled = enter_data_of (item enter.Copyin (at 0x1000 16) ∷ item enter.Copyin (at 0x1010 16) ∷ item enter.Copyin (at 0x1020 32) ∷ []) ∷ exit_data_of (item exit.Delete (at 0x1000 16) ∷ [])
-    ∷ enter_data_of (item (enter.Create false) (at 0x1040 17) ∷ []) ∷ enter_data_of (item (enter.Create false) (at 0x1040 16) ∷ item (enter.Create false) (at 0x1050 1) ∷ []) ∷ []
-
-device_filled_refused : (ran_with few device_filled).refused ≡ None ∷ None ∷ Some (DeviceFull 0 32) ∷ Some (DeviceFull 1 16) ∷ []
+-- an item that ends the mapping that holds its own pointer detaches it first
+exited_own : (ran_with limits (point_to 0x10 ∷ enter_data_of (via enter.Copyin (at 0x1000 32) ∷ []) ∷ exit_data_of (via exit.Delete (at 0x1000 32) ∷ []) ∷ [])).world.history.trace
+    ≡ events.HostWritten 0x1008 8 ∷ events.EnteredData (via enter.Copyin (at 0x1000 32) ∷ []) None (did (Born 1 0x1_0000_0000) (aims.New 0x1008 1 0x1_0000_0010) ∷ [])
+    ∷ events.ExitedData (via exit.Delete (at 0x1000 32) ∷ []) false None (did (Dropped 1 true) (aims.Less 0x1008 1) ∷ []) ∷ []
 unfolding ran_with
-device_filled_refused = refl
+exited_own = refl
 
--- the first item of the refused directive was not mapped
-device_filled_left : (ran_with few device_filled).world.state.records ≡ record { ranges = range (at 0x1010 16) 2 0 1 ∷ range (at 0x1020 32) 3 0 1 ∷ []; blocks = block 2 0x1_0000_0010 16 ∷ block 3 0x1_0000_0020 32 ∷ []; attached = []; births = 3; queues = new_queues; loans = [] }
+-- ---- a copy is put into a queue, the mapping ends, and the section is mapped again behind the first block
+
+abbrev ended : List (Call Leased)
+ended = HostWrite 0x1000 (7 ∷ []) ∷ enter_data_of (item enter.Copyin a ∷ []) ∷ HostWrite 0x1000 (9 ∷ []) ∷ exit_later 1 (item exit.Copyout a ∷ []) ∷ enter_data_of (item (enter.Create false) a ∷ []) ∷ []
+
+ended_leaves : (ran_with limits ended).world.state.memories ≡ memory 1 (7 ∷ replicate 15 0) ∷ memory 2 (replicate 16 0xa5) ∷ []
+    × ended_from 0x1_0000_0000 (ran_with limits ended).world.state.records ≡ Some (record { place = 0x1_0000_0000; size = 16; pins = 1 })
+    × queue_at 1 (ran_with limits ended).world.state.records.queues ≡ record { block = 1; offset = 0; section = a; out = true } ∷ []
+    × (ran_with limits ended).world.state.host ≡ 9 ∷ replicate 63 0
 unfolding ran_with
-device_filled_left = refl
+ended_leaves = (refl, refl, refl, refl)
 
-device_filled_again : (ran_with few (device_filled ++ enter_data_of (item (enter.Create false) (at 0x1040 16) ∷ []) ∷ [])).world.state.records.blocks ≡ block 2 0x1_0000_0010 16 ∷ block 3 0x1_0000_0020 32 ∷ block 4 0x1_0000_0000 16 ∷ []
+-- a step makes the copy, and the block is given back with it; the next step is no event, and a wait is one
+abbrev stepped : List (Call Leased)
+stepped = ended ++ Do (Step 1) ∷ Do (Step 1) ∷ Do (Wait None) ∷ []
+
+stepped_leaves : (ran_with limits stepped).world.state.host ≡ 7 ∷ replicate 63 0
+    × (ran_with limits stepped).world.state.memories ≡ memory 2 (replicate 16 0xa5) ∷ []
+    × (ran_with limits stepped).world.state.records.queues ≡ new_queues
+    × (ran_with limits stepped).world.history.trace
+    ≡ events.HostWritten 0x1000 1 ∷ events.EnteredData (item enter.Copyin a ∷ []) None (did_of (Born 1 0x1_0000_0000) ∷ []) ∷ events.HostWritten 0x1000 1
+    ∷ events.ExitedData (item exit.Copyout a ∷ []) false (Some 1) (did_of (Dropped 1 true) ∷ []) ∷ events.EnteredData (item (enter.Create false) a ∷ []) None (did_of (Born 2 0x1_0000_0010) ∷ [])
+    ∷ events.Stepped 1 1 ∷ events.Waited None 0 ∷ []
 unfolding ran_with
-device_filled_again = refl
+stepped_leaves = (refl, refl, refl, refl)
 
--- ---- two adjacent ranges are not one
+-- ---- loans stand by rising block, and have serial numbers by rising time; refused ones use none
 
-abbrev adjacent : List Range
-adjacent = range (at 0x1000 16) 1 0 1 ∷ range (at 0x1010 16) 2 0 1 ∷ []
+abbrev loans : List (Call Leased)
+loans = enter_of [] ∷ enter_data_of (item enter.Copyin a ∷ item enter.Copyin b ∷ []) ∷ Lend 1 (at 0x1014 8) ∷ Lend 1 a ∷ Lend 1 a ∷ Lend 1 c ∷ gather 1 1 0 16 zeros ∷ gather 1 2 4 8 zeros ∷ Lend 1 (at 0x1018 4) ∷ []
 
-over_both : where_is (at 0x1008 16) adjacent ≡ Partly
-over_both = refl
-
-in_the_second : where_is (at 0x1018 8) adjacent ≡ Inside 2 8
-in_the_second = refl
-
-behind_both : where_is (at 0x1020 1) adjacent ≡ Absent
-behind_both = refl
-
-of_no_address : where_is (at 0x1008 0) adjacent ≡ Empty
-of_no_address = refl
-
--- ---- a block takes the place of least address that is large enough, and a number of its own
-
-abbrev holes : List (Call Leased)
-holes = a 20 ∷ enter_data_of (item enter.Copyin (at 0x1014 1) ∷ []) ∷ exit_data_of (item exit.Delete (at 0x1000 20) ∷ []) ∷ enter_data_of (item enter.Copyin (at 0x1015 1) ∷ []) ∷ []
-
-first_fit : (ran holes).world.state.records.blocks ≡ block 2 0x1_0000_0020 1 ∷ block 3 0x1_0000_0000 1 ∷ []
-    × used_bytes (ran holes).world.state.records.blocks ≡ 32
-unfolding ran
-first_fit = (refl, refl)
-
--- ---- refusals leave the world as it was
-
-abbrev refusals : List (Call Leased)
-refusals = a 65 ∷ enter_data_of (item enter.Copyin (at 0xfff 1) ∷ []) ∷ a 0 ∷ a 33 ∷ enter_data_of (item enter.Copyin (at 0x1021 17) ∷ []) ∷ a 1 ∷ a 1 ∷ exit_data_of (item exit.Delete (at 0x1000 64) ∷ []) ∷ []
-
-all_refused : (ran refusals).refused ≡ Some (OutOfHost 0) ∷ Some (OutOfHost 0) ∷ None ∷ None ∷ Some (DeviceFull 0 32) ∷ None ∷ Some (CounterFull 0) ∷ Some (PartlyPresent 0) ∷ []
-    × (ran refusals).world.state.records ≡ record { ranges = range (at 0x1000 33) 1 0 2 ∷ []; blocks = block 1 0x1_0000_0000 33 ∷ []; attached = []; births = 1; queues = new_queues; loans = [] }
-unfolding ran
-all_refused = (refl, refl)
-
-no_items : (ran (idle ∷ [])).world.history.trace ≡ EnteredData [] None [] ∷ []
-unfolding ran
-no_items = refl
-
--- the trace has room for five events
-trace_full : (ran (idle ∷ idle ∷ idle ∷ idle ∷ idle ∷ idle ∷ HostWrite 0x1000 (1 ∷ []) ∷ [])).refused ≡ None ∷ None ∷ None ∷ None ∷ None ∷ Some (TraceFull 5) ∷ Some (TraceFull 5) ∷ []
-unfolding ran
-trace_full = refl
-
--- there is one ticket
-ticket_gone : (ran_with (record small { tickets = 1 }) (idle ∷ idle ∷ HostWrite 0x1000 (1 ∷ []) ∷ [])).refused ≡ None ∷ Some (NoTickets 0) ∷ Some (NoTickets 0) ∷ []
+loans_leave : refused loans ≡ fine 4 ++ Some (Lent 1) ∷ Some (NotPresent 0) ∷ Some (NoLease 1) ∷ None ∷ None ∷ []
+    × (ran_with limits loans).world.state.records.loans ≡ loan 2 1 0 16 ∷ loan 3 2 8 4 ∷ []
+    × (ran_with limits loans).world.state.register ≡ record { regions = record { number = 1; holdings = [] } ∷ []; next = 2; serial = 4 }
+    × (ran_with limits loans).world.state.memories ≡ memory 1 [] ∷ memory 2 [] ∷ []
+    × (ran_with limits loans).world.history.trace
+    ≡ events.Entered 1 [] [] ∷ events.EnteredData (item enter.Copyin a ∷ item enter.Copyin b ∷ []) None (did_of (Born 1 0x1_0000_0000) ∷ did_of (Born 2 0x1_0000_0010) ∷ [])
+    ∷ events.Lent 1 (at 0x1014 8) 2 1 ∷ events.Lent 1 a 1 2 ∷ events.Gathered 1 2 ∷ events.Lent 1 (at 0x1018 4) 2 3 ∷ []
 unfolding ran_with
-ticket_gone = refl
+loans_leave = (refl, refl, refl, refl, refl)
 
--- ---- the host writes an array
+-- the lease of two bytes has all of the block's
+two_leased : leased (loan 1 1 1 2) (ran_with limits (HostWrite 0x1000 (0x0a ∷ 0x0b ∷ 0x0c ∷ 0x0d ∷ []) ∷ enter_data_of (item enter.Copyin (at 0x1000 4) ∷ []) ∷ [])).world.state
+    ≡ record { serial = 1; block = 1; offset = 1; len = 2; bytes = 0x0a ∷ 0x0b ∷ 0x0c ∷ 0x0d ∷ [] }
+unfolding ran_with
+two_leased = refl
 
-abbrev wrote : List (Call Leased)
-wrote = HostWrite 0x1002 (1 ∷ 2 ∷ 3 ∷ []) ∷ []
+-- ---- what is told before a block is found lent, and what after
 
-wrote_leaves : (ran wrote).world.state.host ≡ host_of (0 ∷ 0 ∷ 1 ∷ 2 ∷ 3 ∷ []) 59
-    × (ran wrote).world.history.trace ≡ HostWritten 0x1002 3 ∷ []
-unfolding ran
-wrote_leaves = (refl, refl)
+-- `a` has a pointer at 0x1008, which the item of `b` attaches
+abbrev aimed_at_b : List (Call Leased)
+aimed_at_b = point_to 0x10 ∷ enter_of [] ∷ enter_data_of (item enter.Copyin a ∷ via enter.Copyin b ∷ []) ∷ []
 
--- over the last address of the host, before its first one, and no byte at all
-writes_refused : (ran (HostWrite 0x103e (1 ∷ 2 ∷ 3 ∷ []) ∷ HostWrite 0xfff (1 ∷ []) ∷ HostWrite 0xfff [] ∷ HostWrite 0x103f (1 ∷ []) ∷ [])).refused ≡ Some (OutOfHost 0) ∷ Some (OutOfHost 0) ∷ None ∷ None ∷ []
-unfolding ran
-writes_refused = refl
+-- two copies fill the queue 4, and then `a` is lent
+abbrev full_queue_lent : List (Call Leased)
+full_queue_lent = point_to 0x20 ∷ enter_of [] ∷ enter_data_of (item enter.Copyin a ∷ []) ∷ update_later 4 (item ToSelf a ∷ item ToSelf a ∷ []) ∷ exit_later 4 (item exit.Copyout a ∷ []) ∷ Lend 1 a ∷ []
 
--- what is mapped keeps its bytes when the host writes
-abbrev written_over : List (Call Leased)
-written_over = HostWrite 0x1000 (1 ∷ 2 ∷ []) ∷ a 2 ∷ HostWrite 0x1000 (5 ∷ 6 ∷ []) ∷ []
-
-written_over_leaves : (ran written_over).world.state.host ≡ host_of (5 ∷ 6 ∷ []) 62
-    × (ran written_over).world.state.memories ≡ memory 1 (1 ∷ 2 ∷ []) ∷ []
-unfolding ran
-written_over_leaves = (refl, refl)
-
--- ---- a block that is created is filled, and gets none of the bytes of the host
-
-created : (ran (HostWrite 0x1000 (1 ∷ 2 ∷ 3 ∷ []) ∷ enter_data_of (item (enter.Create false) (at 0x1000 3) ∷ []) ∷ [])).world.state.memories ≡ memory 1 (0xa5 ∷ 0xa5 ∷ 0xa5 ∷ []) ∷ []
-unfolding ran
-created = refl
-
-created_zero : (ran (HostWrite 0x1000 (1 ∷ 2 ∷ 3 ∷ []) ∷ enter_data_of (item (enter.Create true) (at 0x1000 3) ∷ []) ∷ [])).world.state.memories ≡ memory 1 (0 ∷ 0 ∷ 0 ∷ []) ∷ []
-unfolding ran
-created_zero = refl
-
--- what is mapped already is counted, and not filled
-abbrev created_again : List (Call Leased)
-created_again = HostWrite 0x1000 (1 ∷ 2 ∷ 3 ∷ []) ∷ a 3 ∷ enter_data_of (item (enter.Create true) (at 0x1001 2) ∷ []) ∷ []
-
-created_again_leaves : (ran created_again).world.state.records.ranges ≡ range (at 0x1000 3) 1 0 2 ∷ []
-    × (ran created_again).world.state.memories ≡ memory 1 (1 ∷ 2 ∷ 3 ∷ []) ∷ []
-unfolding ran
-created_again_leaves = (refl, refl)
-
--- ---- an update moves the section only
-
-abbrev to_device : List (Call Leased)
-to_device = HostWrite 0x1004 (1 ∷ 2 ∷ 3 ∷ 4 ∷ []) ∷ enter_data_of (item (enter.Create false) (at 0x1004 4) ∷ []) ∷ update_of (item ToDevice (at 0x1005 2) ∷ []) ∷ []
-
-to_device_leaves : (ran to_device).world.state.memories ≡ memory 1 (0xa5 ∷ 2 ∷ 3 ∷ 0xa5 ∷ []) ∷ []
-    × (ran to_device).world.state.host ≡ host_of (0 ∷ 0 ∷ 0 ∷ 0 ∷ 1 ∷ 2 ∷ 3 ∷ 4 ∷ []) 56
-unfolding ran
-to_device_leaves = (refl, refl)
-
-to_device_told : (ran (a 4 ∷ update_of (item ToDevice (at 0x1001 2) ∷ []) ∷ [])).world.history.trace
-    ≡ EnteredData (item enter.Copyin (at 0x1000 4) ∷ []) None (did_of (Born 1 0x1_0000_0000) ∷ []) ∷ Updated (item ToDevice (at 0x1001 2) ∷ []) false None (did_of (Moved 1) ∷ []) ∷ []
-unfolding ran
-to_device_told = refl
-
--- the counter is neither raised nor lowered
-to_device_counted : (ran to_device).world.state.records ≡ record { ranges = range (at 0x1004 4) 1 0 1 ∷ []; blocks = block 1 0x1_0000_0000 4 ∷ []; attached = []; births = 1; queues = new_queues; loans = [] }
-unfolding ran
-to_device_counted = refl
-
--- of two blocks only that of the section changes
-to_second_range : (ran (HostWrite 0x1000 (1 ∷ 2 ∷ 3 ∷ 4 ∷ []) ∷ enter_data_of (item (enter.Create true) (at 0x1000 2) ∷ item (enter.Create true) (at 0x1002 2) ∷ []) ∷ update_of (item ToDevice (at 0x1003 1) ∷ []) ∷ [])).world.state.memories
-    ≡ memory 1 (0 ∷ 0 ∷ []) ∷ memory 2 (0 ∷ 4 ∷ []) ∷ []
-unfolding ran
-to_second_range = refl
-
-abbrev to_self : List (Call Leased)
-to_self = HostWrite 0x1004 (1 ∷ 2 ∷ 3 ∷ 4 ∷ []) ∷ enter_data_of (item enter.Copyin (at 0x1004 4) ∷ []) ∷ HostWrite 0x1002 (5 ∷ 6 ∷ 7 ∷ 8 ∷ 9 ∷ 10 ∷ []) ∷ update_of (item ToSelf (at 0x1005 2) ∷ []) ∷ []
-
-to_self_leaves : (ran to_self).world.state.host ≡ host_of (0 ∷ 0 ∷ 5 ∷ 6 ∷ 7 ∷ 2 ∷ 3 ∷ 10 ∷ []) 56
-    × (ran to_self).world.state.memories ≡ memory 1 (1 ∷ 2 ∷ 3 ∷ 4 ∷ []) ∷ []
-    × (ran to_self).world.state.records.ranges ≡ range (at 0x1004 4) 1 0 1 ∷ []
-unfolding ran
-to_self_leaves = (refl, refl, refl)
-
--- the items of an update move in written order
-abbrev there_and_back : List (Call Leased)
-there_and_back = HostWrite 0x1000 (1 ∷ 2 ∷ []) ∷ enter_data_of (item (enter.Create true) (at 0x1000 2) ∷ []) ∷ update_of (item ToDevice (at 0x1000 1) ∷ item ToSelf (at 0x1000 2) ∷ []) ∷ []
-
-there_and_back_leaves : (ran there_and_back).world.state.host ≡ host_of (1 ∷ []) 63
-    × (ran there_and_back).world.state.memories ≡ memory 1 (1 ∷ 0 ∷ []) ∷ []
-unfolding ran
-there_and_back_leaves = (refl, refl)
-
--- ---- what is absent is refused, or passed over with `if_present`; what is partly present is refused with it too
-
-abbrev updates : List (Call Leased)
-updates = a 16 ∷ update_of (item ToDevice (at 0x1010 4) ∷ []) ∷ update_if_present_of (item ToDevice (at 0x1010 4) ∷ []) ∷ update_of (item ToSelf (at 0x1000 1) ∷ item ToSelf (at 0x1008 16) ∷ []) ∷ update_if_present_of (item ToSelf (at 0x1010 1) ∷ item ToSelf (at 0x1008 16) ∷ [])
-    ∷ update_if_present_of (item ToSelf (at 0x1000 65) ∷ []) ∷ update_of (item ToSelf (at 0x1020 0) ∷ []) ∷ []
-
-updates_refused : (ran updates).refused ≡ None ∷ Some (NotPresent 0) ∷ None ∷ Some (PartlyPresent 1) ∷ Some (PartlyPresent 1) ∷ Some (OutOfHost 0) ∷ None ∷ []
-unfolding ran
-updates_refused = refl
-
-abbrev passed_over : List (Call Leased)
-passed_over = HostWrite 0x1000 (1 ∷ []) ∷ update_if_present_of (item ToSelf (at 0x1000 1) ∷ []) ∷ []
-
-passed_over_leaves : (ran passed_over).world.history.trace ≡ HostWritten 0x1000 1 ∷ Updated (item ToSelf (at 0x1000 1) ∷ []) true None (did_of Nothing ∷ []) ∷ []
-    × (ran passed_over).world.state.host ≡ host_of (1 ∷ []) 63
-unfolding ran
-passed_over_leaves = (refl, refl)
-
--- ---- where the mapping ends, its section alone is copied out, and the whole mapping is gone
-
-abbrev copied_out : List (Call Leased)
-copied_out = HostWrite 0x1000 (1 ∷ 2 ∷ 3 ∷ 4 ∷ []) ∷ a 4 ∷ HostWrite 0x1000 (5 ∷ 6 ∷ 7 ∷ 8 ∷ []) ∷ exit_data_of (item exit.Copyout (at 0x1001 2) ∷ []) ∷ []
-
-copied_out_leaves : (ran copied_out).world.state.host ≡ host_of (5 ∷ 2 ∷ 3 ∷ 8 ∷ []) 60
-    × (ran copied_out).world.state.records ≡ record { ranges = []; blocks = []; attached = []; births = 1; queues = new_queues; loans = [] }
-    × (ran copied_out).world.state.memories ≡ []
-unfolding ran
-copied_out_leaves = (refl, refl, refl)
-
--- where the counter stays above zero nothing is copied
-abbrev still_mapped : List (Call Leased)
-still_mapped = HostWrite 0x1000 (1 ∷ 2 ∷ []) ∷ a 2 ∷ a 2 ∷ HostWrite 0x1000 (5 ∷ 6 ∷ []) ∷ exit_data_of (item exit.Copyout (at 0x1000 2) ∷ []) ∷ []
-
-still_mapped_leaves : (ran still_mapped).world.state.host ≡ host_of (5 ∷ 6 ∷ []) 62
-    × (ran still_mapped).world.state.records ≡ record { ranges = range (at 0x1000 2) 1 0 1 ∷ []; blocks = block 1 0x1_0000_0000 2 ∷ []; attached = []; births = 1; queues = new_queues; loans = [] }
-    × (ran still_mapped).world.state.memories ≡ memory 1 (1 ∷ 2 ∷ []) ∷ []
-unfolding ran
-still_mapped_leaves = (refl, refl, refl)
-
--- copying out what is absent does nothing
-absent_copied_out : (ran (HostWrite 0x1000 (1 ∷ []) ∷ exit_data_of (item exit.Copyout (at 0x1000 1) ∷ []) ∷ [])).world.state.host ≡ host_of (1 ∷ []) 63
-unfolding ran
-absent_copied_out = refl
+refused_where_lent :
+    -- a wait makes the first transfer of its queue, which is of a free block, and the second one, of a lent block; a step only one
+    refused (enter_of [] ∷ enter_data_of (item enter.Copyin a ∷ item enter.Copyin b ∷ []) ∷ update_later 2 (item ToSelf b ∷ item ToSelf a ∷ []) ∷ Lend 1 a ∷ Do (Wait (Some 2)) ∷ Do (Wait None) ∷ Do (Step 2) ∷ Do (Step 2) ∷ gather 1 1 0 16 zeros ∷ Do (Wait (Some 2)) ∷ [])
+    ≡ fine 4 ++ Some (Lent 1) ∷ Some (Lent 1) ∷ None ∷ Some (Lent 1) ∷ None ∷ None ∷ []
+    -- where section and pointer lie is told before; that the queue is full after
+    × refused (full_queue_lent ++ exit_later 4 (item exit.Copyout a ∷ []) ∷ Do (ExitData (item exit.Copyout a ∷ []) true (Some 4)) ∷ exit_data_of (item exit.Delete (at 0x1008 16) ∷ [])
+    ∷ exit_data_of (record { clause = exit.Delete; section = a; pointer = Some 0x1004 } ∷ []) ∷ exit_data_of (record { clause = exit.Delete; section = a; pointer = Some 0x103c } ∷ []) ∷ update_of (item ToSelf (at 0x103f 2) ∷ []) ∷ [])
+    ≡ fine 4 ++ Some (QueueFull 4) ∷ None ∷ Some (Lent 1) ∷ Some (Lent 1) ∷ Some (PartlyPresent 0) ∷ Some (Misaligned 0) ∷ Some (OutOfHost 0) ∷ Some (OutOfHost 0) ∷ []
+    -- an item that leaves detaches its pointer before its step
+    × refused (aimed_at_b ++ Lend 1 a ∷ Lend 1 b ∷ exit_data_of (via exit.Delete b ∷ []) ∷ exit_data_of (item exit.Delete b ∷ []) ∷ finalize_of (alone exit.Detach ∷ []) ∷ [])
+    ≡ fine 5 ++ Some (Lent 1) ∷ Some (Lent 2) ∷ Some (Lent 1) ∷ []
+    -- so does a region
+    × refused (point_to 0x10 ∷ enter_of (item Copyin a ∷ via Copyin b ∷ []) ∷ Lend 1 a ∷ exit_of 1 ∷ Lend 1 b ∷ exit_of 1 ∷ gather 1 1 0 16 zeros ∷ exit_of 1 ∷ [])
+    ≡ fine 3 ++ Some (Lent 1) ∷ None ∷ Some (Lent 1) ∷ None ∷ Some (Lent 2) ∷ []
+    -- only the pointer's own block counts: what it is aimed at may be lent
+    × refused (aimed_at_b ++ Lend 1 b ∷ enter_data_of (alone enter.Attach ∷ []) ∷ exit_data_of (alone exit.Detach ∷ []) ∷ exit_data_of (via exit.Delete b ∷ []) ∷ []) ≡ fine 6 ++ Some (Lent 2) ∷ []
+    -- an item that enters attaches after its step, so a full queue is told before the lent block
+    × refused (full_queue_lent ++ enter_later 4 (via enter.Copyin c ∷ []) ∷ enter_later 5 (via enter.Copyin c ∷ []) ∷ []) ≡ fine 4 ++ Some (QueueFull 4) ∷ None ∷ Some (QueueFull 4) ∷ Some (Lent 1) ∷ []
+    -- and so is a full device
+    × (ran_with (record limits { device = 32 }) (point_to 0x10 ∷ enter_of [] ∷ enter_data_of (item enter.Copyin a ∷ []) ∷ Lend 1 a ∷ enter_data_of (via enter.Copyin (at 0x1010 17) ∷ []) ∷ enter_data_of (via enter.Copyin b ∷ []) ∷ [])).refused
+    ≡ fine 4 ++ Some (DeviceFull 0 32) ∷ Some (Lent 1) ∷ []
+    -- an attachment counter at its limit is told after the lent block
+    × (ran_with twice_at_most (aimed_at_b ++ enter_data_of (alone enter.Attach ∷ []) ∷ Lend 1 a ∷ enter_data_of (alone enter.Attach ∷ []) ∷ gather 1 1 0 16 (replicate 8 0 ++ to_b) ∷ enter_data_of (alone enter.Attach ∷ []) ∷ [])).refused
+    ≡ fine 5 ++ Some (Lent 1) ∷ None ∷ Some (CounterFull 0) ∷ []
+    -- a reference counter at its limit is told before the lent block of the pointer, and without one
+    × (ran_with twice_at_most (point_to 0x00 ∷ enter_of [] ∷ enter_data_of (item enter.Copyin a ∷ item enter.Copyin a ∷ []) ∷ Lend 1 a ∷ enter_data_of (item enter.Copyin a ∷ []) ∷ enter_data_of (via enter.Copyin a ∷ []) ∷ enter_of (item Present a ∷ via Present a ∷ []) ∷ enter_of (item Present a ∷ item Present a ∷ via Present a ∷ []) ∷ [])).refused
+    ≡ fine 4 ++ Some (CounterFull 0) ∷ Some (CounterFull 0) ∷ Some (Lent 1) ∷ Some (CounterFull 2) ∷ []
+    -- what does nothing to a pointer passes: its target is absent, or it is not attached
+    × refused (point_to 0x20 ∷ enter_of [] ∷ enter_data_of (item enter.Copyin a ∷ []) ∷ Lend 1 a ∷ enter_data_of (alone enter.Attach ∷ []) ∷ exit_data_of (alone exit.Detach ∷ []) ∷ finalize_of (alone exit.Detach ∷ []) ∷ enter_of (alone Attach ∷ []) ∷ enter_data_of (via enter.Copyin b ∷ [])
+    ∷ exit_data_of (via exit.Delete b ∷ []) ∷ exit_of 2 ∷ []) ≡ fine 11
+    -- an attached pointer stays so where the step of its item is no action
+    × refused (aimed_at_b ++ Lend 1 a ∷ exit_data_of (via exit.Delete c ∷ []) ∷ enter_of (via NoCreate c ∷ []) ∷ enter_of (via NoCreate b ∷ []) ∷ []) ≡ fine 6 ++ Some (Lent 1) ∷ []
+    -- a region does not detach the pointer of a block that was born since, which may be lent
+    × refused (point_to 0x10 ∷ enter_data_of (item enter.Copyin a ∷ item enter.Copyin b ∷ []) ∷ enter_of (alone Attach ∷ []) ∷ exit_data_of (item exit.Delete a ∷ []) ∷ enter_data_of (item enter.Copyin a ∷ alone enter.Attach ∷ []) ∷ Lend 1 a ∷ exit_data_of (alone exit.Detach ∷ []) ∷ exit_of 1 ∷ [])
+    ≡ fine 6 ++ Some (Lent 3) ∷ None ∷ []
+unfolding ran_with
+refused_where_lent = (refl, refl, refl, refl, refl, refl, refl, refl, refl, refl, refl, refl)

@@ -3,6 +3,8 @@ pub mod Options
 pub mod Elements
 pub mod Splitting
 pub mod Lookups
+pub mod InPlace
+pub mod Keyed
 pub mod RangeChanges
 pub mod Where
 pub mod Pointers
@@ -32,11 +34,5 @@ pub mod LegalEvents
 pub mod Exits
 pub mod Accepted
 pub mod Accounted
-pub mod Runs
-pub mod ExampleItems
+mod Runs
 mod Examples
-mod RegionExamples
-mod PointerExamples
-mod AttachExamples
-mod QueueExamples
-mod LoanExamples

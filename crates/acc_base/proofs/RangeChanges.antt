@@ -1,18 +1,22 @@
 -- Lists of ranges, with one more and with one whose counters change: what all have, and that section and block stay.
-use Rattle.std.proofs.Common.{ℕ, ◌≡◌, refl, Bool, true, false, cond, List, [], ◌∷◌}
+use Rattle.std.proofs.Common.{ℕ, ◌≡◌, refl, Bool, true, false, cond, List}
 use Rattle.std.specs.Prelude.{◌==◌, nat_lt}
 use Rattle.std.specs.List.{AllByRecursion}
 use Rattle.acc_base.specs.Words.{Counter, Range}
 use Rattle.acc_base.specs.declared.mappings.Counter.TheVariants.{Structured, Dynamic}
 use Rattle.acc_base.specs.Ranges.{with_range, risen, fallen, cleared}
 use Rattle.acc_base.proofs.Lookups.{change_at, number-change}
+use Rattle.acc_base.proofs.InPlace.{IsPut, all-put}
 
 -- ---- one range more
 
+-- it goes in by its start
+pub put_range : (new : Range) → IsPut new (λ r. nat_lt new.section.start r.section.start) (with_range new)
+put_range new = record { alone = refl; among = λ r rs. refl }
+
 -- what all ranges have and the new one, all have then
 pub all_with : (P : Range → Type 0) (new : Range) (rs : List Range) → P new → AllByRecursion P rs → AllByRecursion P (with_range new rs)
-all_with P new [] n h = (n, tt)
-all_with P new (r ∷ rs) n h = elim (nat_lt new.section.start r.section.start) as (λ b. AllByRecursion P (cond b (new ∷ r ∷ rs) (r ∷ with_range new rs))) [ true ↦ (n, (h.0, h.1)) | false ↦ (h.0, all_with P new rs n h.1) ]
+all_with P new rs n h = all-put (put_range new) P rs n h
 
 -- ---- a change of the range of one block
 

@@ -9,6 +9,8 @@ use Rattle.acc_base.specs.Register.{Region, Register, new_register, holdings_at,
 use Rattle.acc_base.specs.Walk.{holdings_of}
 use Rattle.acc_base.specs.Accounts.{EachPair, IsRegisterSound}
 use Rattle.acc_base.proofs.Results.{equal}
+use Rattle.acc_base.proofs.InPlace.{IsPut, put-last}
+use Rattle.acc_base.proofs.Keyed.{filter_all}
 use Rattle.acc_base.proofs.Elements.{AllByRecursion-weaker, AllByRecursion-filter, AllByRecursion-append, EachPair-filter, EachPair-push}
 
 -- open regions stand by rising number, below the next one
@@ -29,14 +31,12 @@ new_numbered = record { first = omega arith; rising = tt; known = tt }
 
 -- ---- entry
 
+put_region : (new : Region) → IsPut new (λ r. nat_lt new.number r.number) (with_region new)
+put_region new = record { alone = refl; among = λ r rs. refl }
+
 -- a region of a number above all others stands last
 pub with_last : (new : Region) (rs : List Region) → AllByRecursion (λ (r : Region). r.number < new.number) rs → with_region new rs ≡ rs ++ new ∷ []
-with_last new [] h = refl
-with_last new (r ∷ rs) h = go (with_last new rs h.1) (nat_lt new.number r.number) refl
-  where
-    go : with_region new rs ≡ rs ++ new ∷ [] → (t : Bool) → nat_lt new.number r.number ≡ t → cond t (new ∷ r ∷ rs) (r ∷ with_region new rs) ≡ r ∷ (rs ++ new ∷ [])
-    go rest true e = let under : r.number < new.number = h.0 in absurd (grind (arith, nat_tests))
-    go rest false e = ap (λ ys. r ∷ ys) rest
+with_last new rs h = put-last (put_region new) rs (AllByRecursion-weaker (λ (r : Region). r.number < new.number) (λ r. nat_lt new.number r.number ≡ false) rs (λ r less. grind (arith, nat_tests)) h)
 
 -- the region that is opened
 abbrev pub next_region : List Holding → Register → Region
@@ -82,12 +82,7 @@ closed_few number g few = AllByRecursion-filter (λ (r : Region). length r.holdi
 
 -- where each number is above it, none goes
 without_none : (number : ℕ) (rs : List Region) → AllByRecursion (λ (r : Region). number < r.number) rs → without_region number rs ≡ rs
-without_none number [] h = refl
-without_none number (r ∷ rs) h = go (without_none number rs h.1) (r.number == number) refl
-  where
-    go : without_region number rs ≡ rs → (t : Bool) → (r.number == number) ≡ t → cond (not t) (r ∷ without_region number rs) (without_region number rs) ≡ r ∷ rs
-    go rest true e = let over : number < r.number = h.0 in absurd (grind (arith, nat_tests))
-    go rest false e = ap (λ ys. r ∷ ys) rest
+without_none number rs h = filter_all (λ (r : Region). r.number) number rs (AllByRecursion-weaker (λ (r : Region). number < r.number) (λ r. r.number ≡ number → ⊥) rs (λ r less same. omega arith) h)
 
 some_same : {X : Type 0} (x y : X) → Some x ≡ Some y → x ≡ y
 some_same x y e = cc

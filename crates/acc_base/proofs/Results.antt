@@ -34,6 +34,15 @@ below_most most n e = grind (arith, nat_tests)
 pub equal_self : (a : ℕ) → (a == a) ≡ true
 equal_self a = grind (arith, nat_tests)
 
+-- equality is tested either way round
+pub equal_swap : (a b : ℕ) → (a == b) ≡ (b == a)
+equal_swap a b = go (a == b) refl (b == a) refl
+  where
+    go : (s : Bool) → (a == b) ≡ s → (t : Bool) → (b == a) ≡ t → s ≡ t
+    go true e false f = absurd (grind (arith, nat_tests))
+    go false e true f = absurd (grind (arith, nat_tests))
+    go _ e _ f = refl
+
 pub chosen : {X : Type 0} (b : Bool) (x y z : X) → cond b x y ≡ z → ((b ≡ true) × (x ≡ z)) ⊎ ((b ≡ false) × (y ≡ z))
 chosen true x y z e = inl (refl, e)
 chosen false x y z e = inr (refl, e)

@@ -40,12 +40,3 @@ ran_in (call ∷ calls) w =
 unfoldable pub ran_with : Limits → List (Call Leased) → Ran
 unfolding ran_in
 ran_with l calls = ran_in calls (new_world l)
-
--- room for two counts, five events and 64 bytes on either side
-abbrev pub small : Limits
-small = record { host = 64; device = 64; regions = 4; tickets = 6; counter_max = 2; queue_cap = 4; trace_cap = 5 }
-
--- the calls on a new table with little room
-unfoldable pub ran : List (Call Leased) → Ran
-unfolding ran_with
-ran calls = ran_with small calls

@@ -20,7 +20,8 @@ use Rattle.acc_base.specs.Accounts.{EachPair, IsHostSection, IsBelow, AreRangesA
 use Rattle.acc_base.proofs.Results.{and_true, equal}
 use Rattle.acc_base.proofs.Elements.{AllByRecursion-weaker, AllByRecursion-both, AllByRecursion-filter, AllByRecursion-passed, AllByRecursion-map, AllByRecursion-append, EachPair-filter, EachPair-push, EachPair-map, list_all-from, find_none, found_has}
 use Rattle.acc_base.proofs.Options.{still_some}
-use Rattle.acc_base.proofs.RangeChanges.{all_with, block_of, KeepsPlace, section-change, block-change, risen_keeps, fallen_keeps, cleared_keeps}
+use Rattle.acc_base.proofs.InPlace.{pairs-put}
+use Rattle.acc_base.proofs.RangeChanges.{all_with, put_range, block_of, KeepsPlace, section-change, block-change, risen_keeps, fallen_keeps, cleared_keeps}
 use Rattle.acc_base.proofs.Lookups.{change_at, at-changed, at-without_other, at-push_there, at-push_new, at-own, at-none}
 use Rattle.acc_base.proofs.Counting.{with_there, with_new}
 use Rattle.acc_base.proofs.Where.{absent_says}
@@ -299,19 +300,11 @@ below_apart s t e = grind (arith, nat_tests)
 -- a section apart from all goes where it rises
 rising_with : (new : Range) (rs : List Range) → 0 < new.section.len → AllByRecursion (λ (r : Range). 0 < r.section.len) rs → AllByRecursion (λ r. is_apart new.section r.section ≡ true) rs
     → EachPair (λ (r : Range) (t : Range). IsBelow r.section t.section) rs → EachPair (λ (r : Range) (t : Range). IsBelow r.section t.section) (with_range new rs)
-rising_with new [] some filled a h = (tt, tt)
-rising_with new (r ∷ rs) some filled a h = go (rising_with new rs some filled.1 a.1 h.1) (nat_lt new.section.start r.section.start) refl
+rising_with new rs some filled a h = pairs-put (put_range new) (λ (r : Range) (t : Range). IsBelow r.section t.section) (λ r t below next. omega arith) rs
+    (AllByRecursion-both (λ (r : Range). 0 < r.section.len) (λ r. is_apart new.section r.section ≡ true) (λ r. (nat_lt new.section.start r.section.start ≡ true → IsBelow new.section r.section) × (nat_lt new.section.start r.section.start ≡ false → IsBelow r.section new.section)) rs (λ r len apart. sides r len apart) filled a) h
   where
-    under : nat_lt new.section.start r.section.start ≡ true → IsBelow new.section r.section
-    under e = let sides : (end_of new.section ≤ r.section.start) ⊎ (end_of r.section ≤ new.section.start) = below_apart new.section r.section a.0 in grind (arith, nat_tests)
-
-    over : nat_lt new.section.start r.section.start ≡ false → IsBelow r.section new.section
-    over e = let sides : (end_of new.section ≤ r.section.start) ⊎ (end_of r.section ≤ new.section.start) = below_apart new.section r.section a.0 in grind (arith, nat_tests)
-
-    go : EachPair (λ (x : Range) (y : Range). IsBelow x.section y.section) (with_range new rs) → (b : Bool) → nat_lt new.section.start r.section.start ≡ b
-        → EachPair (λ (x : Range) (y : Range). IsBelow x.section y.section) (cond b (new ∷ r ∷ rs) (r ∷ with_range new rs))
-    go later true e = ((under e, AllByRecursion-weaker (λ t. IsBelow r.section t.section) (λ t. IsBelow new.section t.section) rs (λ t p. let u : IsBelow new.section r.section = under e in omega arith) h.0), h)
-    go later false e = (all_with (λ t. IsBelow r.section t.section) new rs (over e) h.0, later)
+    sides : (r : Range) → 0 < r.section.len → is_apart new.section r.section ≡ true → (nat_lt new.section.start r.section.start ≡ true → IsBelow new.section r.section) × (nat_lt new.section.start r.section.start ≡ false → IsBelow r.section new.section)
+    sides r len apart = let either : (end_of new.section ≤ r.section.start) ⊎ (end_of r.section ≤ new.section.start) = below_apart new.section r.section apart in (λ e. grind (arith, nat_tests), λ e. grind (arith, nat_tests))
 
 -- the new block
 abbrev born_block : ℕ → ℕ → ℕ → Block

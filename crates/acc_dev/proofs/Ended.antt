@@ -11,7 +11,8 @@ use Rattle.acc_base.specs.Blocks.{lower, lowest}
 use Rattle.acc_dev.specs.declared.entries.Stored.{Stored}
 use Rattle.acc_dev.specs.Marks.{Mark, pins_at, is_ended_at, ended_blocks_from, ended_told, lowest_ended}
 use Rattle.acc_dev.specs.Kept.{stored_place, stored_pins, stored_ended, block_from, slot_of, blocks_in, marks_in, told_of, lower_of, lowest_told, IsIndexRising, IsEntry}
-use Rattle.acc_dev.proofs.Rising.{start, all_from}
+use Rattle.acc_base.proofs.Keyed.{all_from}
+use Rattle.acc_dev.proofs.Rising.{start}
 use Rattle.acc_dev.proofs.Slots.{pins_at-entry, is_ended_at-entry}
 
 -- ---- a scan

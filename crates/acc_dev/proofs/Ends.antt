@@ -9,7 +9,7 @@ use Rattle.acc_base.specs.Limits.{IsFromOne}
 use Rattle.acc_base.specs.Blocks.{rounded, without_block}
 use Rattle.acc_base.specs.Bytes.{memories_kept}
 use Rattle.acc_base.specs.Accounts.{EachPair}
-use Rattle.acc_base.proofs.Elements.{AllByRecursion-both}
+use Rattle.acc_base.proofs.Elements.{AllByRecursion-both, filter-map}
 use Rattle.acc_base.proofs.KeptMemories.{memories_kept-without}
 use Rattle.acc_placement.specs.Space.{Space, IsCanonical, IsPartition, IsTaken}
 use Rattle.acc_placement.proofs.Partitions.{partition_without, taken_at}
@@ -18,7 +18,8 @@ use Rattle.acc_dev.specs.Device.{IsRetired}
 use Rattle.acc_base.specs.Holes.{taken_range}
 use Rattle.acc_dev.specs.Marks.{without_mark, IsSoundMark}
 use Rattle.acc_dev.specs.Kept.{memory_of, block_from, memory_from, mark_from, slot_of, blocks_in, memories_in, marks_in, loans_in, IsIndexRising, IsBacked, AreSlotsKept, AreNumbersBorn, IsEntry}
-use Rattle.acc_dev.proofs.Rising.{start, all-remove, apart-remove, map-remove, filter-map, remove-filter}
+use Rattle.acc_base.proofs.Keyed.{all-remove, apart-remove, map-remove}
+use Rattle.acc_dev.proofs.Rising.{start, remove-filter}
 use Rattle.acc_dev.proofs.Slots.{AreSame, KeepsOthers, same_from, others_off, made-removed}
 use Rattle.acc_dev.proofs.Lent.{AreBacked, in_step}
 use Rattle.acc_dev.proofs.Keeping.{device_of}

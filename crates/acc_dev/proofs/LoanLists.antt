@@ -1,10 +1,12 @@
 -- Loans by rising block: one more in its place, and all but that of a block.
-use Rattle.std.proofs.Common.{ℕ, ◌≡◌, ◌<◌, refl, ap, false, true, List, [], ◌∷◌, Some, None, arith}
+use Rattle.std.proofs.Common.{ℕ, ◌≡◌, ◌<◌, refl, false, true, List, [], ◌∷◌, Some, None, arith}
 use Rattle.std.specs.Prelude.{◌==◌, nat_lt}
 use Rattle.std.specs.List.{AllByRecursion}
 use Rattle.std.proofs.lemmas.Bool.Decides.{nat_tests}
 use Rattle.acc_base.specs.declared.loans.Loan.{Loan}
 use Rattle.acc_base.specs.Loans.{loan_of, with_loan, without_loan}
+use Rattle.acc_base.proofs.Lookups.{at-none}
+use Rattle.acc_base.proofs.Keyed.{filter_all}
 
 -- ---- look-ups
 
@@ -18,8 +20,7 @@ loan_of-later n l ls differs = let t : (l.block == n) ≡ false = grind (arith, 
 
 -- a block of no loan is not lent
 pub loan_of-none : (n : ℕ) (ls : List Loan) → AllByRecursion (λ l. l.block ≡ n → ⊥) ls → loan_of n ls ≡ None
-loan_of-none n [] h = refl
-loan_of-none n (l ∷ ls) h = let t : (l.block == n) ≡ false = grind (arith, nat_tests, h.0) in rw t (loan_of-none n ls h.1)
+loan_of-none n ls h = at-none (λ (l : Loan). l.block) n ls h
 
 -- ---- one more
 
@@ -39,8 +40,7 @@ with_loan-later new l ls less = let t : nat_lt new.block l.block ≡ false = gri
 
 -- without the loan of a block that is not lent all are left
 pub without_loan-none : (n : ℕ) (ls : List Loan) → AllByRecursion (λ l. l.block ≡ n → ⊥) ls → without_loan n ls ≡ ls
-without_loan-none n [] h = refl
-without_loan-none n (l ∷ ls) h = let t : (l.block == n) ≡ false = grind (arith, nat_tests, h.0) in rw t (ap (λ ms. l ∷ ms) (without_loan-none n ls h.1))
+without_loan-none n ls h = filter_all (λ (l : Loan). l.block) n ls h
 
 -- the first loan goes where it is the block's
 pub without_loan-here : (n : ℕ) (l : Loan) (ls : List Loan) → l.block ≡ n → without_loan n (l ∷ ls) ≡ without_loan n ls

@@ -1,6 +1,6 @@
 -- The blocks of an index, as the slots change.
 use Rattle.std.proofs.Common.{ℕ, zero, suc, ◌≡◌, ◌≢◌, ◌<◌, refl, sym, ap, ◌∙◌, subst, false, List, [], ◌∷◌, ◌++◌, length, get_or, Option, Some, None, arith, inl, inr}
-use Rattle.std.specs.Prelude.{◌==◌, ◌⊎◌, map, find, option_map, unwrap_or, IsSome}
+use Rattle.std.specs.Prelude.{◌==◌, ◌⊎◌, map, option_map, unwrap_or, IsSome}
 use Rattle.std.specs.List.{AllByRecursion, AllZip, remove}
 use Rattle.std.proofs.lemmas.Bool.{cases_eq, false≢true}
 use Rattle.std.proofs.lemmas.Bool.Decides.{nat_tests}
@@ -9,13 +9,15 @@ use Rattle.acc_base.specs.Records.{Memory}
 use Rattle.acc_base.specs.Blocks.{block_at}
 use Rattle.acc_base.specs.Bytes.{bytes_of, memory_changed}
 use Rattle.acc_base.specs.Accounts.{EachPair}
-use Rattle.acc_base.proofs.Elements.{AllByRecursion-weaker}
+use Rattle.acc_base.proofs.Elements.{AllByRecursion-weaker, find-map}
 use Rattle.acc_base.proofs.Results.{equal_self}
 use Rattle.acc_dev.specs.declared.entries.Stored.{Stored}
 use Rattle.acc_dev.specs.Marks.{Mark, mark_at, pins_at, is_ended_at, mark_changed, IsMarkOf}
 use Rattle.acc_dev.specs.Kept.{stored_place, stored_len, stored_bytes, stored_pins, stored_ended, block_from, memory_from, mark_from, slot_of, blocks_in, memories_in, marks_in, IsIndexRising, IsEntry, IsSlotOf}
 use Rattle.acc_base.proofs.Splitting.{all_at}
-use Rattle.acc_dev.proofs.Rising.{start, find_at, find-map, map-remove}
+use Rattle.acc_base.proofs.Lookups.{at-none}
+use Rattle.acc_base.proofs.Keyed.{map-remove}
+use Rattle.acc_dev.proofs.Rising.{start, number_of, find_at}
 
 -- the slots of these entries are as they were
 abbrev pub AreSame : List (Option Stored) → List (Option Stored) → List (ℕ × ℕ) → Type 0
@@ -72,17 +74,10 @@ bytes_of-entry s xs i n rise entry =
     ap (λ o. unwrap_or (option_map (λ (m : Memory). m.bytes) o) [])
     (find-map (λ (e : ℕ × ℕ). memory_from e.0 (slot_of s e)) (λ e. e.0 == n) (λ m. m.block == n) xs (λ e. refl) ∙ ap (option_map (λ (e : ℕ × ℕ). memory_from e.0 (slot_of s e))) (find_at xs i n rise entry.in_bounds entry.number))
 
--- a search by a number that no entry has finds nothing
-find_none : (xs : List (ℕ × ℕ)) (n : ℕ) → AllByRecursion (λ e. e.0 ≡ n → ⊥) xs → find (λ e. e.0 == n) xs ≡ None
-find_none [] n h = refl
-find_none (x ∷ xs) n h =
-    let t : (x.0 == n) ≡ false = grind (arith, nat_tests, h.0) in
-    rw t (find_none xs n h.1)
-
 -- a number without an entry has no block
 pub block_at-none : (s : List (Option Stored)) (xs : List (ℕ × ℕ)) (n : ℕ) → AllByRecursion (λ e. e.0 ≡ n → ⊥) xs → block_at n (blocks_in s xs) ≡ None
 block_at-none s xs n h =
-    find-map (λ (e : ℕ × ℕ). block_from e.0 (slot_of s e)) (λ e. e.0 == n) (λ b. b.number == n) xs (λ e. refl) ∙ ap (option_map (λ (e : ℕ × ℕ). block_from e.0 (slot_of s e))) (find_none xs n h)
+    find-map (λ (e : ℕ × ℕ). block_from e.0 (slot_of s e)) (λ e. e.0 == n) (λ b. b.number == n) xs (λ e. refl) ∙ ap (option_map (λ (e : ℕ × ℕ). block_from e.0 (slot_of s e))) (at-none number_of n xs h)
 
 -- the marks run in step with the blocks
 pub marks_in_step : (s : List (Option Stored)) (xs : List (ℕ × ℕ)) → AllZip IsMarkOf (marks_in s xs) (blocks_in s xs)

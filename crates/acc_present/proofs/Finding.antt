@@ -14,7 +14,7 @@ use Rattle.acc_base.specs.Accounts.{EachPair, IsBelow}
 use Rattle.acc_base.proofs.Elements.{AllByRecursion-weaker, AllByRecursion-both, AllByRecursion-filter, find-none, list_all-to}
 use Rattle.acc_present.specs.Present.{AreMapped}
 use Rattle.acc_present.specs.Kept.{no_range}
-use Rattle.acc_present.proofs.Keyed.{all-drop, pairs-drop, keys_below}
+use Rattle.acc_base.proofs.Keyed.{all-drop, pairs-drop, keys_below}
 
 -- one of the listed blocks is this one
 abbrev pub is_listed : List ℕ → ℕ → Bool

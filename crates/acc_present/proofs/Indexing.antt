@@ -8,7 +8,7 @@ use Rattle.acc_base.proofs.Lookups.{at}
 use Rattle.acc_base.proofs.Options.{some_mapped, none_mapped, from_none, from_some}
 use Rattle.acc_present.specs.declared.index.Entry.{Entry}
 use Rattle.acc_present.specs.Kept.{AreBlocksRising, start_in}
-use Rattle.acc_present.proofs.Keyed as keyed
+use Rattle.acc_base.proofs.Keyed as keyed
 
 -- an entry's block and its start
 abbrev pub entry_key : Entry → ℕ

@@ -1,4 +1,3 @@
-pub mod Keyed
 pub mod Finding
 pub mod Indexing
 pub mod Mapping

@@ -1,5 +1,5 @@
 -- The mapped ranges and their index, as mappings begin and end.
-use Rattle.std.proofs.Common.{ℕ, zero, suc, ◌≡◌, ◌<◌, ◌≤◌, refl, sym, ap, ◌∙◌, Bool, true, false, cond, List, [], ◌∷◌, length, get_or, set, take, drop, insert, Option, Some, None, IsSome, arith}
+use Rattle.std.proofs.Common.{ℕ, ◌≡◌, ◌<◌, ◌≤◌, refl, sym, ap, ◌∙◌, Bool, true, false, cond, List, [], ◌∷◌, length, get_or, set, take, drop, insert, Option, Some, None, IsSome, arith}
 use Rattle.std.specs.Prelude.{◌==◌, not, option_map, nat_lt}
 use Rattle.std.specs.List.{AllByRecursion, remove}
 use Rattle.std.proofs.lemmas.Bool.Decides.{nat_tests}
@@ -9,8 +9,9 @@ use Rattle.acc_base.specs.Section.{is_apart}
 use Rattle.acc_base.specs.Ranges.{where_is, range_of, with_range, without_range, changed_at}
 use Rattle.acc_base.specs.Splits.{IsSplitBy}
 use Rattle.acc_base.specs.Accounts.{EachPair, IsBelow}
-use Rattle.acc_base.proofs.RangeChanges.{KeepsPlace, section-change, block-change}
+use Rattle.acc_base.proofs.RangeChanges.{put_range, KeepsPlace, section-change, block-change}
 use Rattle.acc_base.proofs.Where.{absent_says}
+use Rattle.acc_base.proofs.InPlace.{put-insert}
 use Rattle.acc_base.proofs.Results.{equal}
 use Rattle.acc_base.proofs.Lookups.{at, at-own}
 use Rattle.acc_base.proofs.Options.{some_mapped, none_mapped, still_some}
@@ -19,8 +20,8 @@ use Rattle.acc_base.proofs.Elements.{AllByRecursion-weaker, AllByRecursion-both,
 use Rattle.acc_present.specs.declared.index.Entry.{Entry}
 use Rattle.acc_present.specs.Present.{AreMapped}
 use Rattle.acc_present.specs.Kept.{AreBlocksRising, start_in, start_at, IsIndexed, IsRangeAt, no_range}
-use Rattle.acc_present.proofs.Keyed as keyed
-use Rattle.acc_present.proofs.Keyed.{all-take, all-drop, all-insert, pairs-insert}
+use Rattle.acc_base.proofs.Keyed as keyed
+use Rattle.acc_base.proofs.Keyed.{all-take, all-drop, all-insert, pairs-insert}
 
 -- a range's start and its block
 abbrev pub start_key : Range → ℕ
@@ -84,10 +85,9 @@ block_there block i rs at = let r = get_or rs i no_range in equal _ _ (go rs at.
 
 -- a range goes in at the place of its start
 pub with_range-insert : (new : Range) (rs : List Range) (i : ℕ) → AllByRecursion (λ r. r.section.start < new.section.start) (take i rs) → AllByRecursion (λ r. new.section.start < r.section.start) (drop i rs) → with_range new rs ≡ insert rs i new
-with_range-insert new [] zero below above = refl
-with_range-insert new [] (suc i) below above = refl
-with_range-insert new (r ∷ rs) zero below above = let less : new.section.start < r.section.start = above.0 in let t : nat_lt new.section.start r.section.start ≡ true = grind (arith, nat_tests) in rw t
-with_range-insert new (r ∷ rs) (suc i) below above = let less : r.section.start < new.section.start = below.0 in let t : nat_lt new.section.start r.section.start ≡ false = grind (arith, nat_tests) in rw t (ap (λ ts. r ∷ ts) (with_range-insert new rs i below.1 above))
+with_range-insert new rs i below above = put-insert (put_range new) rs i
+    (AllByRecursion-weaker (λ r. r.section.start < new.section.start) (λ r. nat_lt new.section.start r.section.start ≡ false) (take i rs) (λ r less. grind (arith, nat_tests)) below)
+    (AllByRecursion-weaker (λ r. new.section.start < r.section.start) (λ r. nat_lt new.section.start r.section.start ≡ true) (drop i rs) (λ r less. grind (arith, nat_tests)) above)
 
 -- the ranges below the place of a new one end before it, and those above begin behind it
 pub record IsPlaced (new : Range) (rs : List Range) (i : ℕ) : Type 0 where

@@ -1,17 +1,17 @@
 -- The open regions, as they come and go.
-use Rattle.std.proofs.Common.{ℕ, zero, suc, ◌≡◌, ◌<◌, ◌≤◌, refl, sym, ap, ◌∙◌, Bool, true, false, cond, List, [], ◌∷◌, length, get_or, take, drop, insert, Option, Some, None, IsSome, arith}
-use Rattle.std.specs.Prelude.{◌==◌, not, map, filter, option_map, nat_lt}
+use Rattle.std.proofs.Common.{ℕ, zero, suc, ◌≡◌, ◌<◌, ◌≤◌, refl, sym, ap, ◌∙◌, true, false, List, [], ◌∷◌, length, get_or, take, drop, insert, Option, Some, None, IsSome, arith}
+use Rattle.std.specs.Prelude.{◌==◌, not, map, option_map, nat_lt}
 use Rattle.std.specs.List.{AllByRecursion, remove}
 use Rattle.std.proofs.lemmas.Bool.Decides.{nat_tests}
 use Rattle.acc_base.specs.Register.{Region, region_at, newest_region, holdings_at, with_region, without_region}
 use Rattle.acc_base.specs.Splits.{IsSplitBy}
-use Rattle.acc_base.proofs.Elements.{EachPair-filter}
+use Rattle.acc_base.proofs.Elements.{EachPair-filter, filter-map, find-map}
 use Rattle.acc_base.proofs.Lookups.{at}
-use Rattle.acc_base.proofs.Options.{some_mapped, from_none, from_some}
+use Rattle.acc_base.proofs.Options.{from_none, from_some}
 use Rattle.acc_present.specs.declared.register.OpenRegion.{OpenRegion}
 use Rattle.acc_present.specs.Present.{AreNumbered}
 use Rattle.acc_present.specs.Kept.{AreNumbersRising, region_of}
-use Rattle.acc_present.proofs.Keyed as keyed
+use Rattle.acc_base.proofs.Keyed as keyed
 
 -- a region's number
 abbrev pub number_key : OpenRegion → ℕ
@@ -29,8 +29,7 @@ are_numbered (x ∷ xs) h = (numbers_above x.number xs h.0, are_numbered xs h.1)
 
 -- the region of a number
 pub region_at-map : (number : ℕ) (xs : List OpenRegion) → region_at number (map region_of xs) ≡ option_map region_of (at number_key number xs)
-region_at-map number [] = refl
-region_at-map number (x ∷ xs) = ap (cond (x.number == number) (Some (region_of x))) (region_at-map number xs) ∙ sym (some_mapped region_of (x.number == number) x (at number_key number xs))
+region_at-map number xs = find-map region_of (λ o. o.number == number) (λ r. r.number == number) xs (λ o. refl)
 
 -- a number that no open region has
 pub new_number : (number : ℕ) (xs : List OpenRegion) → region_at number (map region_of xs) ≡ None → at number_key number xs ≡ None
@@ -106,15 +105,6 @@ region_added new old xs i rise none parts is =
 
 -- ---- a region less
 
--- and without a region that of the list without it
-filter_map : (number : ℕ) (xs : List OpenRegion) → map region_of (filter (λ (o : OpenRegion). not (o.number == number)) xs) ≡ without_region number (map region_of xs)
-filter_map number [] = refl
-filter_map number (x ∷ xs) = go (filter_map number xs) (x.number == number)
-  where
-    go : map region_of (filter (λ (o : OpenRegion). not (o.number == number)) xs) ≡ without_region number (map region_of xs) → (b : Bool) → map region_of (cond (not b) (x ∷ filter (λ (o : OpenRegion). not (o.number == number)) xs) (filter (λ (o : OpenRegion). not (o.number == number)) xs)) ≡ cond (not b) (region_of x ∷ without_region number (map region_of xs)) (without_region number (map region_of xs))
-    go rest true = rest
-    go rest false = ap (λ rs. region_of x ∷ rs) rest
-
 -- the list has one region less
 pub record IsRegionRemoved (number : ℕ) (old xs : List OpenRegion) : Type 0 where
   pub rising : AreNumbersRising xs
@@ -127,5 +117,5 @@ region_removed number i old xs d rise there parts is =
     let same = is ∙ keyed.remove-filter number_key old i number d (keyed.rise_distinct number_key old rise) found.bound found.key_is in
     record {
       rising = rw same (EachPair-filter (λ (o : OpenRegion) (p : OpenRegion). o.number < p.number) (λ o. not (o.number == number)) old rise);
-      regions = ap (map region_of) same ∙ filter_map number old;
+      regions = ap (map region_of) same ∙ sym (filter-map region_of (λ o. not (o.number == number)) (λ r. not (r.number == number)) old (λ o. refl));
     }

@@ -5,6 +5,7 @@ use acc_base::{Config, Fault, ScriptFault};
 use acc_script::{MemorySink, MemorySource, Status, run};
 use faults::{FAULTS, LONG, Long, PIECES, TEXTS};
 use kernels::{KERNELS, SCARCE};
+use pointers::POINTERS;
 use queues::QUEUES;
 use rows::{REGIONS, SCRIPTS, SMALL, WIDE};
 use std::alloc::AllocError;
@@ -17,6 +18,7 @@ use std::thread::Threads;
 mod ends;
 mod faults;
 mod kernels;
+mod pointers;
 mod queues;
 mod rows;
 mod streams;
@@ -127,6 +129,12 @@ fn scripts_print_and_end(rt: HostRuntime) -> Result<(), Fail> {
 #[test]
 fn regions_print_and_end(rt: HostRuntime) -> Result<(), Fail> {
     check_rows(&rt, REGIONS)?;
+    Ok(())
+}
+
+#[test]
+fn pointers_print_and_end(rt: HostRuntime) -> Result<(), Fail> {
+    check_rows(&rt, POINTERS)?;
     Ok(())
 }
 

@@ -266,6 +266,18 @@ pub const LONG: &[Long] = &[
         "line 2: refused 5 TooManyItems n 65\nhost 65536 device 65536 used 0\nregions 0 events 0\n",
         REFUSED,
     ),
+    // A region may hold as many, and lets each of them go.
+    (
+        Parts {
+            first: "array a 16\ndata copyin(a",
+            piece: ", a",
+            count: 63,
+            last: ")\nreport\nend data\nreport\n",
+        },
+        "host 65536 device 65536 used 16\nmap 0x1000 16 at 0x100000000 structured 64 dynamic 0\nregions 1 events 1\n\
+            host 65536 device 65536 used 0\nregions 0 events 2\n",
+        CLEAN,
+    ),
     // The carriage return and the line feed do not count.
     (
         Parts {

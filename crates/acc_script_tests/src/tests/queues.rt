@@ -40,6 +40,21 @@ pub const QUEUES: &[Row] = &[
             regions 0 events 4\nhost 65536 device 65536 used 0\nregions 0 events 5\n",
         CLEAN,
     ),
+    // A block is filled till its bytes come, and stays for them where its mapping ends before.
+    (
+        "array a 1\nwrite a[0] 08\nenter data copyin(a) async(2)\npeek a\nexit data delete(a)\nreport\nstep(2)\n\
+            report\n",
+        "a5\nhost 65536 device 65536 used 16\nended 0x100000000 16 pins 1\nqueue 2 length 1\nregions 0 events 3\n\
+            host 65536 device 65536 used 0\nregions 0 events 4\n",
+        CLEAN,
+    ),
+    // It keeps its attached pointers till then, and no copy takes their bytes.
+    (
+        "array a 16\narray b 8\npoint a[0] to b[0]\nenter data copyin(a, b) attach(a[0])\n\
+            exit data copyout(a) async\nwrite a[0] 01010101010101010101010101010101\nstep(0)\nshow a\n",
+        "01010101010101010000000000000000\n",
+        CLEAN,
+    ),
     // Refusals that come before or behind that of a queue.
     (
         "array s 16\nenter data attach(s[4])\nupdate self(s)\nupdate self(s) if_present\nwait(16)\nwrite s[65536] 01\n",

@@ -122,6 +122,51 @@ pub const SCRIPTS: &[Row] = &[
             regions 0 events 3\n",
         CLEAN,
     ),
+    // What was counted falls by each item, also of a part; an item that finds the section absent does nothing.
+    (
+        "array a 16\nenter data copyin(a, a) create(zero: a[4:4])\nexit data delete(a[4:4])\nreport\n\
+            exit data delete(a, a, a)\nenter data copyin(a, a, a)\nexit data delete(a, a) finalize\nreport\n",
+        "host 65536 device 65536 used 16\nmap 0x1000 16 at 0x100000000 structured 0 dynamic 2\nregions 0 events 2\n\
+            host 65536 device 65536 used 0\nregions 0 events 5\n",
+        CLEAN,
+    ),
+    // A section that overlaps that of the item before is refused with it. Two items are two births, at two places.
+    (
+        "array a 64\nwrite a[0] 010203\nenter data copyin(a[16:16], a[24:16])\n\
+            enter data copyin(a[1:2]) create(zero: a[0:1])\npeek a[1:2]\npeek a[0:1]\nreport\n",
+        "line 3: refused 10 PartlyPresent item 1\n0203\n00\nhost 65536 device 65536 used 32\n\
+            map 0x1000 1 at 0x100000010 structured 0 dynamic 1\nmap 0x1001 2 at 0x100000000 structured 0 dynamic 1\n\
+            regions 0 events 2\n",
+        REFUSED,
+    ),
+    // A block takes the least place that is large enough.
+    (
+        "array a 22\nenter data copyin(a[0:20])\nenter data copyin(a[20:1])\nexit data delete(a[0:20])\n\
+            enter data copyin(a[21:1])\nreport\n",
+        "host 65536 device 65536 used 32\nmap 0x1014 1 at 0x100000020 structured 0 dynamic 1\n\
+            map 0x1015 1 at 0x100000000 structured 0 dynamic 1\nregions 0 events 4\n",
+        CLEAN,
+    ),
+    // An update changes one block and no counter, its items move in written order, and what is mapped is filled no more.
+    (
+        "array a 4\nwrite a[0] 01020304\nenter data create(zero: a[0:2], a[2:2])\nupdate device(a[3:1])\npeek a[0:2]\n\
+            peek a[2:2]\nupdate device(a[0:1]) self(a[0:2])\nshow a\nenter data create(zero: a[0:1])\npeek a[0:2]\n\
+            report\n",
+        "0000\n0004\n01000304\n0100\nhost 65536 device 65536 used 32\n\
+            map 0x1000 2 at 0x100000000 structured 0 dynamic 2\nmap 0x1002 2 at 0x100000010 structured 0 dynamic 1\n\
+            regions 0 events 5\n",
+        CLEAN,
+    ),
+    // With `if_present` what is absent is passed over, and nothing else; an empty section is nowhere.
+    (
+        "array a 64\nwrite a[16] 01\nenter data copyin(a[0:16])\nupdate device(a[16:4])\n\
+            update device(a[16:4]) if_present\nupdate self(a[0:1], a[8:16])\n\
+            update self(a[16:1], a[8:16]) if_present\nupdate self(a[65536:65]) if_present\nupdate self(a[32:0])\n\
+            update self(a[16:1]) if_present\nshow a[16:1]\n",
+        "line 4: refused 11 NotPresent item 0\nline 6: refused 10 PartlyPresent item 1\n\
+            line 7: refused 10 PartlyPresent item 1\nline 8: refused 7 OutOfHost item 0\n01\n",
+        REFUSED,
+    ),
     // Each clause counts, also of one array; with `finalize` they all go.
     (
         "array a 16\nenter data copyin(a) copyin(a) copyin(a)\nreport\nexit data delete(a) finalize\nreport\n",
@@ -199,14 +244,62 @@ pub const REGIONS: &[Row] = &[
     ),
     // Two ranges that touch are not one.
     (
-        "array a 32\nenter data copyin(a[0:16], a[16:16])\ndata present(a)\n",
-        "line 3: refused 10 PartlyPresent item 0\n",
+        "array a 32\nenter data copyin(a[0:16], a[16:16])\ndata present(a)\ndata no_create(a[8:16])\n",
+        "line 3: refused 10 PartlyPresent item 0\nline 4: refused 10 PartlyPresent item 0\n",
         REFUSED,
     ),
     // Nothing of an empty section is checked.
     (
         "array a 16\ndata present(a[0:0]) copy(a[99999:0])\nend data\nreport\n",
         "host 65536 device 65536 used 0\nregions 0 events 2\n",
+        CLEAN,
+    ),
+    // What regions alone hold no `exit data` ends; a part counts as the whole does, and an empty section does not.
+    (
+        "array a 16\ndata copyin(a)\ndata no_create(a[4:4]) present(a[8:0])\nenter data copyin(a[8:0])\n\
+            exit data delete(a, a[8:0])\nexit data delete(a) finalize\nreport\nend data\nend data\nreport\n",
+        "host 65536 device 65536 used 16\nmap 0x1000 16 at 0x100000000 structured 2 dynamic 0\nregions 2 events 5\n\
+            host 65536 device 65536 used 0\nregions 0 events 7\n",
+        CLEAN,
+    ),
+    // What is present is counted by each clause, and no byte moves.
+    (
+        "array a 4\nwrite a[0] 01020304\nenter data copyin(a)\nwrite a[0] 05060708\n\
+            data copy(a) copyin(a) copyout(zero: a) create(zero: a) no_create(a) present(a)\nreport\npeek a\nend data\n\
+            show a\nreport\n",
+        "host 65536 device 65536 used 16\nmap 0x1000 4 at 0x100000000 structured 6 dynamic 1\nregions 1 events 4\n\
+            01020304\n05060708\nhost 65536 device 65536 used 16\n\
+            map 0x1000 4 at 0x100000000 structured 0 dynamic 1\nregions 0 events 5\n",
+        CLEAN,
+    ),
+    // The items end from the last to the first, so the first one ends the mapping, and its clause says what is copied.
+    (
+        "array a 4\nwrite a[0] 01020304\ndata copy(a, a[1:2])\nwrite a[0] 05060708\nend data\nshow a\n\
+            data copyin(a) copy(a)\nwrite a[0] 05060708\nend data\nshow a\n",
+        "01020304\n05060708\n",
+        CLEAN,
+    ),
+    // The last item to go copies its part, and the whole range is mapped no longer.
+    (
+        "array a 4\nwrite a[0] 01020304\nenter data copyin(a)\nwrite a[0] 05060708\ndata copy(a[1:2])\n\
+            exit data delete(a)\nend data\nshow a\nreport\n",
+        "05020308\nhost 65536 device 65536 used 0\nregions 0 events 6\n",
+        CLEAN,
+    ),
+    // With `finalize` the second item finds nothing to do, and `present` copies nothing out.
+    (
+        "array a 4\nwrite a[0] 01020304\nenter data copyin(a, a, a)\ndata present(a)\nwrite a[0] 05060708\n\
+            exit data copyout(a, a) finalize\nreport\npeek a\nend data\nshow a\nreport\n",
+        "host 65536 device 65536 used 16\nmap 0x1000 4 at 0x100000000 structured 1 dynamic 0\nregions 1 events 5\n\
+            01020304\n05060708\nhost 65536 device 65536 used 0\nregions 0 events 6\n",
+        CLEAN,
+    ),
+    // Of three items the middle one counts nothing.
+    (
+        "array a 48\ndata create(a[0:2]) no_create(a[32:2]) create(a[16:2])\nreport\nend data\nreport\n",
+        "host 65536 device 65536 used 32\nmap 0x1000 2 at 0x100000000 structured 1 dynamic 0\n\
+            map 0x1010 2 at 0x100000010 structured 1 dynamic 0\nregions 1 events 1\nhost 65536 device 65536 used 0\n\
+            regions 0 events 2\n",
         CLEAN,
     ),
     // A region that is refused is not open.
@@ -281,6 +374,33 @@ pub const SMALL: &[SmallRow] = &[
             enter data create(d)\nenter data create(d[0:16], d[16:1])\npresent d[0:16]\nenter data create(d[0:16])\n\
             address d[0]\n",
         "line 7: refused 14 DeviceFull item 0 need 32\nline 8: refused 14 DeviceFull item 1 need 16\nno\n0x100000000\n",
+        REFUSED,
+    ),
+    // Each counter has the limit for itself, and a refused directive counts nothing.
+    (
+        [64, 64, 3, 100, 2, 2, 100],
+        "array a 16\narray b 16\ndata copyin(a, a, a)\ndata copyin(a, a)\nenter data copyin(a, a)\ndata present(a)\n\
+            enter data copyin(b[0:1], a)\nreport\nend data\n",
+        "line 3: refused 12 CounterFull item 2\nline 6: refused 12 CounterFull item 0\n\
+            line 7: refused 12 CounterFull item 1\nhost 64 device 64 used 16\n\
+            map 0x1000 16 at 0x100000000 structured 2 dynamic 2\nregions 1 events 2\n",
+        REFUSED,
+    ),
+    // The first item that is refused is told.
+    (
+        [64, 64, 3, 100, 64, 2, 100],
+        "array a 64\ndata copyin(a[0:16]) present(a[16:1]) copyin(a[64:1])\ndata copyin(a[0:16], a[63:2])\n\
+            data copyin(a[0:49], a[49:1])\n",
+        "line 2: refused 11 NotPresent item 1\nline 3: refused 7 OutOfHost item 1\n\
+            line 4: refused 14 DeviceFull item 1 need 16\n",
+        REFUSED,
+    ),
+    // A full queue takes what moves nothing: a count, and an exit that does not end the mapping.
+    (
+        [64, 64, 1, 100, 64, 2, 100],
+        "array a 1\nenter data copyin(a)\nupdate self(a, a) async(4)\nenter data copyin(a) async(4)\n\
+            exit data copyout(a) async(4)\nexit data copyout(a) async(4)\n",
+        "line 6: refused 15 QueueFull q 4\n",
         REFUSED,
     ),
     // A refused `end data` leaves its region open.

@@ -1,7 +1,7 @@
 use Rattle.std.proofs.Common.{sym, ap, arith}
 use Rattle.std.specs.Prelude.{option_map}
 use Rattle.acc_present.proofs.Indexing.{entry_key, entry_start, no_entry}
-use Rattle.acc_present.proofs.Keyed.{at_place, at_no_place}
+use Rattle.acc_base.proofs.Keyed.{at_place, at_no_place}
 use Rattle.acc_present.proofs.index.start_of.Goals as goal
 use Rattle.acc_present.proofs.index.start_of.Goals.{else-at-index-via-then-at-index+else-index-at, else-at-index-via-else-at-index}
 

@@ -1,6 +1,6 @@
 use Rattle.std.proofs.Common.{sym, arith}
 use Rattle.acc_present.specs.Kept.{no_range}
-use Rattle.acc_present.proofs.Keyed.{first_at, first_none}
+use Rattle.acc_base.proofs.Keyed.{first_at, first_none}
 use Rattle.acc_present.proofs.Mapping.{start_key}
 use Rattle.acc_present.proofs.ranges.next_from.Goals as goal
 

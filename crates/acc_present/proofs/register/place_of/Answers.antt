@@ -1,7 +1,7 @@
 use Rattle.std.proofs.Common.{rules}
 use Rattle.std.proofs.lemmas.List.Sorted.{IsPartitionPoint-from_clause}
 use Rattle.acc_base.proofs.Splitting.{parted, split}
-use Rattle.acc_present.proofs.Keyed.{is_key_below, below_first}
+use Rattle.acc_base.proofs.Keyed.{is_key_below, below_first}
 use Rattle.acc_present.proofs.Registering.{number_key}
 use Rattle.acc_present.proofs.register.place_of.Goals as goal
 

@@ -1,5 +1,5 @@
 use Rattle.std.proofs.Common.{rules}
-use Rattle.acc_present.proofs.Keyed.{found_within}
+use Rattle.acc_base.proofs.Keyed.{found_within}
 use Rattle.acc_present.proofs.Registering.{number_key, there_number, region_removed}
 use Rattle.acc_present.proofs.register.take_out.Goals as goal
 

@@ -28,6 +28,7 @@ pub const ROWS: &[Row] = &[
             (ExitData(&[(Copyout, A, 1)]), DONE),
             (ExitData(&[(Copyout, A, 16)]), DONE),
             (Write(A, &[1, 2]), DONE),
+            (EnterData(&[]), DONE),
         ],
         checks: &[
             Did(
@@ -63,7 +64,8 @@ pub const ROWS: &[Row] = &[
             ),
             Did(7, Some(acc_base::Step::Nothing)),
             Did(8, None),
-            Events(9),
+            Did(9, None),
+            Events(10),
         ],
     },
     Row {
@@ -111,6 +113,13 @@ pub const ROWS: &[Row] = &[
             (EnterData(&[(Copyin, A + 16, 16)]), DONE),
         ],
         checks: &[
+            Finds(
+                (A + 24, 8),
+                Found::Inside {
+                    block: 2,
+                    offset: 8,
+                },
+            ),
             Finds((A + 8, 16), Found::Partly),
             Finds((A + 32, 16), Found::Absent),
             Finds((A + 8, 0), Found::Empty),
@@ -134,18 +143,24 @@ pub const ROWS: &[Row] = &[
                 Write(A + 61, &[1, 2, 3, 4]),
                 Refused(Fault::OutOfHost { item: 0 }),
             ),
+            (Write(A - 1, &[1]), Refused(Fault::OutOfHost { item: 0 })),
             (Write(0, &[]), DONE),
             (
                 EnterData(&[(Copyin, A + 63, 2)]),
                 Refused(Fault::OutOfHost { item: 0 }),
             ),
+            (
+                EnterData(&[(Copyin, A - 1, 1)]),
+                Refused(Fault::OutOfHost { item: 0 }),
+            ),
+            (Write(A + 63, &[7]), DONE),
         ],
         checks: &[
-            Host((A + 60, 4), Some(&[0, 0, 0, 0])),
+            Host((A + 60, 4), Some(&[0, 0, 0, 7])),
             Host((A + 61, 4), None),
             Host((A - 1, 1), None),
             Host((0, 0), Some(&[])),
-            Events(1),
+            Events(2),
             Did(0, None),
         ],
     },

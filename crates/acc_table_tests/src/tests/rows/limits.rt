@@ -1,14 +1,19 @@
 //! Limits: each holds to the last, and a refusal of the limit is told in its turn.
 
-use crate::tests::Ask::{EnterData, ExitData, Update, Write};
+use crate::tests::Ask::{Back, Enter, EnterData, Exit, ExitData, Lend, Update, Write};
 use crate::tests::Check::{Counted, Events, Host, Present, TicketBook, Used};
-use crate::tests::rows::{A, DONE, WIDE};
+use crate::tests::rows::{A, DONE, FIRST, WIDE};
 use crate::tests::{Limits, Row};
 use acc_base::EnterClause::{Copyin, Create};
 use acc_base::ExitClause::Delete;
-use acc_base::Fault;
 use acc_base::UpdateClause::ToSelf;
+use acc_base::{Fault, RegionClause};
+use acc_table::Answer;
 use acc_table::Answer::Refused;
+
+const NO_TICKET: Answer = Refused(Fault::NoTickets { left: 0 });
+
+const NO_ROOM: Answer = Refused(Fault::TraceFull { len: 1 });
 
 pub const ROWS: &[Row] = &[
     Row {
@@ -61,6 +66,10 @@ pub const ROWS: &[Row] = &[
                 Update(&[(ToSelf, A, 1); 66]),
                 Refused(Fault::TooManyItems { n: 66 }),
             ),
+            (
+                ExitData(&[(Delete, A, 16); 65]),
+                Refused(Fault::TooManyItems { n: 65 }),
+            ),
             (ExitData(&[]), Refused(Fault::TraceFull { len: 1 })),
         ],
         checks: &[Counted((A, 16), Some((0, 64))), Events(1), Used(16)],
@@ -92,5 +101,40 @@ pub const ROWS: &[Row] = &[
             ),
         ],
         checks: &[Counted((A, 16), Some((0, 2))), Events(2)],
+    },
+    Row {
+        name: "a ticket is told to be wanting before all else",
+        limits: Limits {
+            regions: 1,
+            tickets: 1,
+            trace_cap: 1,
+            ..WIDE
+        },
+        turns: &[
+            (Enter(&[]), FIRST),
+            (Enter(&[(RegionClause::Copyin, 0, 1); 65]), NO_TICKET),
+            (Exit(7), NO_TICKET),
+            (Lend(9, (A, 16)), NO_TICKET),
+            (Back(1, &[]), NO_TICKET),
+        ],
+        checks: &[Events(1)],
+    },
+    Row {
+        name: "a full trace is told behind too many items, and before an unknown region or loan",
+        limits: Limits {
+            trace_cap: 1,
+            ..WIDE
+        },
+        turns: &[
+            (Enter(&[]), FIRST),
+            (
+                Enter(&[(RegionClause::Copyin, 0, 1); 65]),
+                Refused(Fault::TooManyItems { n: 65 }),
+            ),
+            (Exit(7), NO_ROOM),
+            (Lend(9, (A, 16)), NO_ROOM),
+            (Back(1, &[]), NO_ROOM),
+        ],
+        checks: &[Events(1)],
     },
 ];

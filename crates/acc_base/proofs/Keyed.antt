@@ -1,12 +1,12 @@
 -- Lists whose elements have a key that rises or tells them apart: searches by the key, and changes at a place.
-use Rattle.std.proofs.Common.{ℕ, zero, suc, ◌≡◌, ◌<◌, ◌≤◌, refl, sym, ap, Bool, true, false, cond, List, [], ◌∷◌, length, get_or, set, take, drop, insert, Some, None, IsSome, arith, rules}
+use Rattle.std.proofs.Common.{ℕ, zero, suc, ◌≡◌, ◌<◌, ◌≤◌, refl, sym, ap, ◌∙◌, Bool, true, false, cond, List, [], ◌∷◌, length, get_or, set, take, drop, insert, Some, None, IsSome, arith, rules}
 use Rattle.std.specs.Prelude.{◌==◌, not, map, find, filter, nat_lt, nat_le}
 use Rattle.std.specs.List.{AllByRecursion, remove}
 use Rattle.std.proofs.lemmas.Bool.Decides.{nat_tests}
 use Rattle.acc_base.specs.Splits.{IsSplitBy}
 use Rattle.acc_base.specs.Accounts.{EachPair}
 use Rattle.acc_base.proofs.Results.{equal, equal_self}
-use Rattle.acc_base.proofs.Elements.{AllByRecursion-weaker, AllByRecursion-both, EachPair-weaker, find_none, find-none, found_has}
+use Rattle.acc_base.proofs.Elements.{AllByRecursion-weaker, AllByRecursion-both, EachPair-weaker, filter-kept, find_none, find-none, found_has}
 use Rattle.acc_base.proofs.Splitting.{all_at}
 use Rattle.acc_base.proofs.Lookups.{at, AreDistinct, at-without_same, at-without_other}
 
@@ -33,6 +33,25 @@ all-insert P [] (suc i) new h p = (p, tt)
 all-insert P (x ∷ xs) zero new h p = (p, h)
 all-insert P (x ∷ xs) (suc i) new h p = (h.0, all-insert P xs i new h.1 p)
 
+-- what holds at each index holds of each element
+pub all_from : {X : Type 0} (P : X → Type 0) (xs : List X) (d : X) → ((k : ℕ) → k < length xs → P (get_or xs k d)) → AllByRecursion P xs
+all_from P [] d h = tt
+all_from P (x ∷ xs) d h = (h 0 (omega arith), all_from P xs d (λ k lt. h (suc k) (omega arith)))
+
+-- what holds of each element holds of each that is left without one
+pub all-remove : {X : Type 0} (P : X → Type 0) (xs : List X) (i : ℕ) → AllByRecursion P xs → AllByRecursion P (remove xs i)
+all-remove P [] zero h = tt
+all-remove P [] (suc i) h = tt
+all-remove P (x ∷ xs) zero h = h.1
+all-remove P (x ∷ xs) (suc i) h = (h.0, all-remove P xs i h.1)
+
+-- the images without one are the images of the elements without one
+pub map-remove : {X Y : Type 0} (f : X → Y) (xs : List X) (i : ℕ) → map f (remove xs i) ≡ remove (map f xs) i
+map-remove f [] zero = refl
+map-remove f [] (suc i) = refl
+map-remove f (x ∷ xs) zero = refl
+map-remove f (x ∷ xs) (suc i) = ap (λ ys. f x ∷ ys) (map-remove f xs i)
+
 -- ---- each pair
 
 -- what each two have, each two have behind a place
@@ -48,6 +67,13 @@ pairs-insert R [] zero new h below above = (tt, tt)
 pairs-insert R [] (suc i) new h below above = (tt, tt)
 pairs-insert R (x ∷ xs) zero new h below above = (above, h)
 pairs-insert R (x ∷ xs) (suc i) new h below above = (all-insert (R x) xs i new h.0 below.0, pairs-insert R xs i new h.1 below.1 above)
+
+-- what relates each two elements relates each two that are left without one
+pub apart-remove : {X : Type 0} (R : X → X → Type 0) (xs : List X) (i : ℕ) → EachPair R xs → EachPair R (remove xs i)
+apart-remove R [] zero h = tt
+apart-remove R [] (suc i) h = tt
+apart-remove R (x ∷ xs) zero h = h.1
+apart-remove R (x ∷ xs) (suc i) h = (all-remove (R x) xs i h.0, apart-remove R xs i h.1)
 
 -- ---- an element of a list by its key
 
@@ -194,19 +220,15 @@ module _ {X : Type 0} (key : X → ℕ) where
   -- ---- an element less
 
   -- leaving out a key that none has leaves all
-  filter_all : (number : ℕ) (xs : List X) → AllByRecursion (λ x. number ≡ key x → ⊥) xs → filter (λ x. not (key x == number)) xs ≡ xs
-  filter_all number [] h = refl
-  filter_all number (x ∷ xs) h =
-      let t : (key x == number) ≡ false = grind (arith, nat_tests, h.0) in
-      rw t (ap (λ ys. x ∷ ys) (filter_all number xs h.1))
+  pub filter_all : (number : ℕ) (xs : List X) → AllByRecursion (λ x. key x ≡ number → ⊥) xs → filter (λ x. not (key x == number)) xs ≡ xs
+  filter_all number xs h = filter-kept (λ x. not (key x == number)) xs (AllByRecursion-weaker (λ x. key x ≡ number → ⊥) (λ x. not (key x == number) ≡ true) xs (λ x other. let t : (key x == number) ≡ false = grind (arith, nat_tests, other) in rw t refl) h)
 
   -- taking out the element at a place is leaving out its key
   pub remove-filter : (xs : List X) (i number : ℕ) (d : X) → AreDistinct key xs → i < length xs → key (get_or xs i d) ≡ number → remove xs i ≡ filter (λ x. not (key x == number)) xs
   remove-filter [] i number d r lt is = absurd (omega arith)
   remove-filter (x ∷ xs) zero number d r lt is =
       let t : (key x == number) ≡ true = grind (arith, nat_tests) in
-      let same : key x ≡ number = is in
-      rw t (sym (filter_all number xs (rw (← same) r.0)))
+      rw t (sym (filter_all number xs (AllByRecursion-weaker (λ y. key x ≡ key y → ⊥) (λ y. key y ≡ number → ⊥) xs (λ y other same. other (is ∙ sym same)) r.0)))
   remove-filter (x ∷ xs) (suc i) number d r lt is =
       let other : key x ≡ key (get_or xs i d) → ⊥ = all_at (λ y. key x ≡ key y → ⊥) xs i d (omega arith) r.0 in
       let t : (key x == number) ≡ false = grind (arith, nat_tests) in

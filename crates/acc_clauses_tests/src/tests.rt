@@ -463,7 +463,7 @@ fn reserve_twice(rt: &impl Abort, store: &mut Store, directive: &Directive, plan
     requires { IsPlanOf store.old.limits directive.now store.old.state plan.now }
     ensures state { store.new.state ≡ store.old.state }
     ensures limits { store.new.limits ≡ store.old.limits }
-    ensures room { HasPlanRoom plan.now store.new.room }
+    ensures room { HasPlanRoom directive.now plan.now store.new.room }
 {
     let before = told(store);
     let Err(fault) = store.reserve(directive, plan) else {

@@ -59,7 +59,7 @@ fn maps_all(alloc: Global, count: u64) -> bool {
     all
 }
 
-/// Makes room for 3 ranges and 2 holdings, and once more where memory is refused.
+/// Makes room for 3 ranges and a region of 2 holdings, and once more where memory is refused.
 fn reserves(present: &mut Present) -> bool {
     let asked = Section {
         start: 0x1000,

@@ -68,8 +68,8 @@ same_or_later block a b is (inl h) = let more : block < b.block = omega arith in
 same_or_later block a b is (inr h) = inr h.1
 
 -- a counter that a search from a pointer on finds does not stand before it
-is_first : (block pointer : ℕ) (xs : List Attachment) (a : Attachment) → Some a ≡ find (is_from block pointer) xs → is_below block pointer a ≡ false
-is_first block pointer xs a e = not_true (is_below block pointer a) (found_passes xs (sym e))
+found_first : (block pointer : ℕ) (xs : List Attachment) (a : Attachment) → Some a ≡ find (is_from block pointer) xs → is_below block pointer a ≡ false
+found_first block pointer xs a e = not_true (is_below block pointer a) (found_passes xs (sym e))
   where
     not_true : (b : Bool) → not b ≡ true → b ≡ false
     not_true true f = cc
@@ -171,7 +171,7 @@ find_next block address xs h = find_first block address (begins_from block addre
 
 -- the first counter from an address on is of the block
 pub next_there : (block address : ℕ) (xs : List Attachment) (a : Attachment) → EachPair IsBefore xs → Some a ≡ find (is_from block address) xs → a.block ≡ block → Some a.pointer ≡ next_pointer block address xs
-next_there block address xs a h e is = go (at_or_behind block address a (is_first block address xs a e))
+next_there block address xs a h e is = go (at_or_behind block address a (found_first block address xs a e))
   where
     go : IsAtOrBehind block address a → Some a.pointer ≡ next_pointer block address xs
     go (inl less) = absurd (omega arith)
@@ -257,7 +257,7 @@ skipped_found block address xs h = any_found (skips block address) xs ∙ ap (λ
 
 -- the first counter from seven bytes below on tells whether an address is skipped
 pub skipped_first : (block address : ℕ) (xs : List Attachment) (a : Attachment) → EachPair IsBefore xs → Some a ≡ find (is_from block (address - 7)) xs → (a.block == block && nat_le a.pointer address) ≡ is_skipped block xs address
-skipped_first block address xs a h e = sym (skipped_found block address xs h ∙ ap (λ o. is_some (passed (skips block address) o)) (sym e) ∙ go (skips block address a) ∙ skips_test block address a (at_or_behind block (address - 7) a (is_first block (address - 7) xs a e)))
+skipped_first block address xs a h e = sym (skipped_found block address xs h ∙ ap (λ o. is_some (passed (skips block address) o)) (sym e) ∙ go (skips block address a) ∙ skips_test block address a (at_or_behind block (address - 7) a (found_first block (address - 7) xs a e)))
   where
     go : (b : Bool) → is_some (cond b (Some a) None) ≡ b
     go true = refl
@@ -294,8 +294,8 @@ not_of : (block pointer : ℕ) (a : Attachment) → is_below block pointer a ≡
 not_of block pointer a e = not_of_below block pointer a (before a (probe block pointer) e)
 
 -- taking out what is not there leaves all
-without_none : (block pointer : ℕ) (xs : List Attachment) → AllByRecursion (λ x. is_of block pointer x ≡ false) xs → without_attachment block pointer xs ≡ xs
-without_none block pointer xs h = filter-kept (λ a. not (is_of block pointer a)) xs (AllByRecursion-weaker (λ x. is_of block pointer x ≡ false) (λ x. not (is_of block pointer x) ≡ true) xs (λ x e. rw e refl) h)
+none_without : (block pointer : ℕ) (xs : List Attachment) → AllByRecursion (λ x. is_of block pointer x ≡ false) xs → without_attachment block pointer xs ≡ xs
+none_without block pointer xs h = filter-kept (λ a. not (is_of block pointer a)) xs (AllByRecursion-weaker (λ x. is_of block pointer x ≡ false) (λ x. not (is_of block pointer x) ≡ true) xs (λ x e. rw e refl) h)
 
 -- behind the counter of a pointer there is none of it
 none_behind : (block pointer : ℕ) (x : Attachment) (xs : List Attachment) → is_of block pointer x ≡ true → AllByRecursion (IsBefore x) xs → AllByRecursion (λ y. is_of block pointer y ≡ false) xs
@@ -312,7 +312,7 @@ pub counter_added : (new : Attachment) (xs : List Attachment) (i : ℕ) → 0 < 
 counter_added new xs i some none parts =
     let t : (new.count == 0) ≡ false = grind (arith, nat_tests) in
     let others = find_none (is_of new.block new.pointer) xs none in
-    sym (rw t (ap (with_attachment new) (without_none new.block new.pointer xs others) ∙ insert_at new xs i parts.passed parts.failed others))
+    sym (rw t (ap (with_attachment new) (none_without new.block new.pointer xs others) ∙ insert_at new xs i parts.passed parts.failed others))
 
 -- a counter stands at its place
 pub record IsThere (block pointer : ℕ) (xs : List Attachment) (i : ℕ) (d : Attachment) : Type 0 where
@@ -340,7 +340,7 @@ counter_removed block pointer xs i d h parts is = sym (go xs i h parts.passed is
   where
     go : (ys : List Attachment) (j : ℕ) → EachPair IsBefore ys → AllByRecursion (λ y. is_below block pointer y ≡ true) (take j ys) → j < length ys → is_of block pointer (get_or ys j d) ≡ true → without_attachment block pointer ys ≡ remove ys j
     go [] j r p lt e = absurd (omega arith)
-    go (y ∷ ys) zero r p lt e = rw e (without_none block pointer ys (none_behind block pointer y ys e r.0))
+    go (y ∷ ys) zero r p lt e = rw e (none_without block pointer ys (none_behind block pointer y ys e r.0))
     go (y ∷ ys) (suc j) r p lt e = rw (not_of block pointer y p.0) (ap (λ zs. y ∷ zs) (go ys j r.1 p.1 (omega arith) e))
 
 -- a counter that stands before all others goes in first
@@ -362,5 +362,5 @@ counter_changed new xs i d some h parts is = let t : (new.count == 0) ≡ false 
   where
     go : (ys : List Attachment) (j : ℕ) → EachPair IsBefore ys → AllByRecursion (λ y. is_below new.block new.pointer y ≡ true) (take j ys) → j < length ys → is_of new.block new.pointer (get_or ys j d) ≡ true → with_attachment new (without_attachment new.block new.pointer ys) ≡ set ys j new
     go [] j r p lt e = absurd (omega arith)
-    go (y ∷ ys) zero r p lt e = rw e (ap (with_attachment new) (without_none new.block new.pointer ys (none_behind new.block new.pointer y ys e r.0)) ∙ first_with new ys (AllByRecursion-weaker (IsBefore y) (λ z. is_before new z ≡ true) ys (λ z k. before_same new y z e k) r.0))
+    go (y ∷ ys) zero r p lt e = rw e (ap (with_attachment new) (none_without new.block new.pointer ys (none_behind new.block new.pointer y ys e r.0)) ∙ first_with new ys (AllByRecursion-weaker (IsBefore y) (λ z. is_before new z ≡ true) ys (λ z k. before_same new y z e k) r.0))
     go (y ∷ ys) (suc j) r p lt e = rw (not_of new.block new.pointer y p.0) (rw (test_not_behind new y p.0) (ap (λ zs. y ∷ zs) (go ys j r.1 p.1 (omega arith) e)))

@@ -68,8 +68,8 @@ no_bytes (directives.Step queue) s dids e brought w h = go (head_of queue s.reco
 no_bytes _ s dids e brought w h = subst (λ x. AreBrought x brought w) (same_event _ _ h) tt
 
 -- a call with a ticket and a place in the trace, whose judgement is the event's
-admitted : (w : World) (r : Result Event Fault) (e : Event) → (ticket w >> (trace_room w >> makes r)) ≡ Ok (Makes e) → (event_count w.history < w.limits.tickets) × (length w.history.trace < w.limits.trace_cap) × (r ≡ Ok e)
-admitted w r e h =
+event_admitted : (w : World) (r : Result Event Fault) (e : Event) → (ticket w >> (trace_room w >> makes r)) ≡ Ok (Makes e) → (event_count w.history < w.limits.tickets) × (length w.history.trace < w.limits.trace_cap) × (r ≡ Ok e)
+event_admitted w r e h =
     let first : (ticket w ≡ Ok tt) × ((trace_room w >> makes r) ≡ Ok (Makes e)) = then_ok (ticket w) (trace_room w >> makes r) (Makes e) h in
     let second : (trace_room w ≡ Ok tt) × (makes r ≡ Ok (Makes e)) = then_ok (trace_room w) (makes r) (Makes e) first.1 in
     (below_most w.limits.tickets (event_count w.history) (refused_not _ _ first.0), below_most w.limits.trace_cap (length w.history.trace) (refused_not _ _ second.0), made r e second.1)
@@ -92,14 +92,14 @@ accepted w (Do d) e sound h =
       fits = no_bytes d w.state by.dids e [] w.state.records by.verdict_is;
     }
 accepted w (HostWrite addr bytes) e sound h =
-    let by = admitted w (host_write_event w.limits addr (length bytes)) e h in
+    let by = event_admitted w (host_write_event w.limits addr (length bytes)) e h in
     let wrote : (HostWritten addr (length bytes) ≡ e) × IsLegal w.limits e (layout_of w.state) = host_write_legal w.limits addr (length bytes) (layout_of w.state) e by.2 in
     record { tickets = by.0; trace = by.1; room = subst (IsEntryAllowed w.limits.regions (open_regions w.state)) wrote.0 tt; legal = wrote.1; fits = subst (λ x. AreBrought x bytes w.state.records) wrote.0 tt }
 accepted w (Lend region section) e sound h =
-    let by = admitted w (lend_event w.limits region section w.state) e h in
+    let by = event_admitted w (lend_event w.limits region section w.state) e h in
     let lent : (block : ℕ) × (Lent region section block w.state.register.serial ≡ e) × IsLegal w.limits e (layout_of w.state) = lend_legal w.limits region section w.state e by.2 in
     record { tickets = by.0; trace = by.1; room = subst (IsEntryAllowed w.limits.regions (open_regions w.state)) lent.1 tt; legal = lent.2; fits = subst (λ x. AreBrought x [] w.state.records) lent.1 tt }
 accepted w (Gather lease) e sound h =
-    let by = admitted w (gather_event lease w.state.records) e h in
+    let by = event_admitted w (gather_event lease w.state.records) e h in
     let back : IsGathered w.limits lease w.state e = gather_legal w.limits lease w.state e sound by.2 in
     record { tickets = by.0; trace = by.1; room = subst (IsEntryAllowed w.limits.regions (open_regions w.state)) back.event_is tt; legal = back.legal; fits = back.fits }

@@ -92,8 +92,8 @@ detach_sound l immediate block pointer w h there =
     })
 
 -- with one counter set
-counted_sound : (l : Limits) (block pointer count : ℕ) (w : Records) → AreRecordsSound l w → count ≤ l.counter_max → IsSome (block_at block w.blocks) → AreRecordsSound l (record w { attached = with_count block pointer count w.attached })
-counted_sound l block pointer count w h most there = with_attached l w (with_count block pointer count w.attached) h (record {
+count_sound : (l : Limits) (block pointer count : ℕ) (w : Records) → AreRecordsSound l w → count ≤ l.counter_max → IsSome (block_at block w.blocks) → AreRecordsSound l (record w { attached = with_count block pointer count w.attached })
+count_sound l block pointer count w h most there = with_attached l w (with_count block pointer count w.attached) h (record {
   rising = rising-with_count block pointer count w.attached h.attached.rising;
   counted = counted-with_count l.counter_max block pointer count w.attached most h.attached.counted;
   there = there-with_count w.blocks block pointer count w.attached there h.attached.there;
@@ -130,8 +130,8 @@ judged_release_sound l (Some aim) w h = go (block_with aim.0 w.ranges) refl
 
 pub legal_attach_sound : (l : Limits) (named : Option ℕ) (aim : Aim) (w : Records) → IsWithinBounds l → AreRecordsSound l w → IsAttachLegal l named aim w → AreRecordsSound l (records_aimed aim w)
 legal_attach_sound l named aims.None w bounds h legal = none_sound l w h
-legal_attach_sound l named (aims.New pointer block target) w bounds h legal = counted_sound l block pointer 1 w h bounds.counter_max.0 (mapped_there l w pointer block h legal.1)
-legal_attach_sound l named (aims.Again pointer block) w bounds h legal = counted_sound l block pointer (count_at block pointer w.attached + 1) w h (omega (arith, legal.4)) (mapped_there l w pointer block h legal.1)
+legal_attach_sound l named (aims.New pointer block target) w bounds h legal = count_sound l block pointer 1 w h bounds.counter_max.0 (mapped_there l w pointer block h legal.1)
+legal_attach_sound l named (aims.Again pointer block) w bounds h legal = count_sound l block pointer (count_at block pointer w.attached + 1) w h (omega (arith, legal.4)) (mapped_there l w pointer block h legal.1)
 legal_attach_sound l named _ w bounds h legal = absurd legal
 
 -- an exit detaches before its step

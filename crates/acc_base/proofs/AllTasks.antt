@@ -23,14 +23,14 @@ use Rattle.acc_base.proofs.Aimed.{IsLeft, task_left}
 -- ---- any tasks
 
 -- a counter of a block after tasks, with what each did
-abbrev pub recount : Counter → ℕ → List Task → List Did → ℕ → ℕ
-recount counter b (task ∷ tasks) (did ∷ dids) n = recount counter b tasks dids (cond (names b did.step) (moved_by counter task n) n)
-recount counter b _ _ n = n
+abbrev pub count_with : Counter → ℕ → List Task → List Did → ℕ → ℕ
+count_with counter b (task ∷ tasks) (did ∷ dids) n = count_with counter b tasks dids (cond (names b did.step) (moved_by counter task n) n)
+count_with counter b _ _ n = n
 
 -- what tasks leave of records: sound records, and both counters of every block
 pub record AreLeft (l : Limits) (tasks : List Task) (dids : List Did) (w v : Records) : Type 0 where
   pub sound : AreRecordsSound l v
-  pub counter_is : (counter : Counter) (b : ℕ) → counter_of counter b v.ranges ≡ recount counter b tasks dids (counter_of counter b w.ranges)
+  pub counter_is : (counter : Counter) (b : ℕ) → counter_of counter b v.ranges ≡ count_with counter b tasks dids (counter_of counter b w.ranges)
 
 pub all_left : (l : Limits) (n : ℕ) (tasks : List Task) (dids : List Did) (w : Records) → IsWithinBounds l → AreRecordsSound l w → AreJudged l n tasks dids w → AreLeft l tasks dids w (act_all tasks dids w)
 unfolding act_all
@@ -38,7 +38,7 @@ all_left l n [] [] w bounds h judged = record { sound = h; counter_is = λ count
 all_left l n (task ∷ tasks) (did ∷ dids) w bounds h judged =
     let first : IsLeft l task did w (act task did w) = task_left l task did w bounds h (task_says l n task w did.step judged.0) (step_judged l n task w did.step judged.0).free judged.1 in
     let later : AreLeft l tasks dids (act task did w) (act_all tasks dids (act task did w)) = all_left l (suc n) tasks dids (act task did w) bounds first.sound judged.2 in
-    record { sound = later.sound; counter_is = λ counter b. later.counter_is counter b ∙ ap (λ m. recount counter b tasks dids m) (first.counter_is counter b) }
+    record { sound = later.sound; counter_is = λ counter b. later.counter_is counter b ∙ ap (λ m. count_with counter b tasks dids m) (first.counter_is counter b) }
 all_left l n _ _ w bounds h judged = absurd judged
 
 -- each task was judged to do its step in some records
@@ -51,7 +51,7 @@ all_said l n (task ∷ tasks) (did ∷ dids) w judged = ((w, task_says l n task 
 all_said l n _ _ w judged = absurd judged
 
 -- tasks that leave a counter
-pub recount_same : {X : Type 0} (counter : Counter) (b : ℕ) (f : X → Task) (items : List X) (dids : List Did) (n : ℕ) → ((x : X) (m : ℕ) → moved_by counter (f x) m ≡ m) → recount counter b (map f items) dids n ≡ n
+pub recount_same : {X : Type 0} (counter : Counter) (b : ℕ) (f : X → Task) (items : List X) (dids : List Did) (n : ℕ) → ((x : X) (m : ℕ) → moved_by counter (f x) m ≡ m) → count_with counter b (map f items) dids n ≡ n
 recount_same counter b f [] [] n same = refl
 recount_same counter b f (x ∷ xs) (did ∷ dids) n same = recount_same counter b f xs dids (cond (names b did.step) (moved_by counter (f x) n) n) same ∙ go (names b did.step)
   where
@@ -62,9 +62,9 @@ recount_same counter b f _ _ n same = refl
 
 -- ---- entry
 
-one_more : (t : Bool) (n : ℕ) → cond t (n + 1) n ≡ n + cond t 1 0
-one_more true n = refl
-one_more false n = omega arith
+added_if : (t : Bool) (n : ℕ) → cond t (n + 1) n ≡ n + cond t 1 0
+added_if true n = refl
+added_if false n = omega arith
 
 enter_names : (l : Limits) (counter : Counter) (item : Item RegionClause) (queue : Option ℕ) (b : ℕ) (step : Step) (w : Records) → IsJudgedTo l (Enter counter item queue) step w → names b step ≡ counts b step
 enter_names l counter item queue b (Dropped k ended) w says = absurd says
@@ -75,13 +75,13 @@ enter_moved Structured item queue n = refl
 enter_moved Dynamic item queue n = refl
 
 pub entered_recount : {X : Type 0} (l : Limits) (counter : Counter) (b : ℕ) (f : X → Item RegionClause) (queue : Option ℕ) (items : List X) (dids : List Did) (n : ℕ) → AreSaid l (map (λ x. Enter counter (f x) queue) items) dids
-    → recount counter b (map (λ x. Enter counter (f x) queue) items) dids n ≡ n + count_counted b dids
+    → count_with counter b (map (λ x. Enter counter (f x) queue) items) dids n ≡ n + count_counted b dids
 entered_recount l counter b f queue [] [] n said = omega arith
 entered_recount l counter b f queue (x ∷ xs) (did ∷ dids) n said =
-    let later : recount counter b (map (λ y. Enter counter (f y) queue) xs) dids (cond (names b did.step) (moved_by counter (Enter counter (f x) queue) n) n) ≡ cond (names b did.step) (moved_by counter (Enter counter (f x) queue) n) n + count_counted b dids
+    let later : count_with counter b (map (λ y. Enter counter (f y) queue) xs) dids (cond (names b did.step) (moved_by counter (Enter counter (f x) queue) n) n) ≡ cond (names b did.step) (moved_by counter (Enter counter (f x) queue) n) n + count_counted b dids
     = entered_recount l counter b f queue xs dids (cond (names b did.step) (moved_by counter (Enter counter (f x) queue) n) n) said.1 in
     let moved : cond (names b did.step) (moved_by counter (Enter counter (f x) queue) n) n ≡ n + cond (counts b did.step) 1 0
-    = ap (λ m. cond (names b did.step) m n) (enter_moved counter (f x) queue n) ∙ (ap (λ t. cond t (n + 1) n) (enter_names l counter (f x) queue b did.step said.0.0 said.0.1) ∙ one_more (counts b did.step) n) in
+    = ap (λ m. cond (names b did.step) m n) (enter_moved counter (f x) queue n) ∙ (ap (λ t. cond t (n + 1) n) (enter_names l counter (f x) queue b did.step said.0.0 said.0.1) ∙ added_if (counts b did.step) n) in
     let all_of : count_counted b (did ∷ dids) ≡ cond (counts b did.step) 1 0 + count_counted b dids = sum_by-cons (λ (d : Did). cond (counts b d.step) 1 0) did dids in
     later ∙ (ap (λ m. m + count_counted b dids) moved ∙ omega arith)
 entered_recount l counter b f queue _ _ n said = absurd said
@@ -107,7 +107,7 @@ exit_names l finalize item queue b (Born k p) w says = absurd says
 exit_names l finalize item queue b _ w says = refl
 
 pub exited_recount : (l : Limits) (b : ℕ) (finalize : Bool) (queue : Option ℕ) (items : List (Item ExitClause)) (dids : List Did) (n : ℕ) → AreSaid l (map (exit_task finalize queue) items) dids
-    → recount Dynamic b (map (exit_task finalize queue) items) dids n ≡ fold (dynamic_dropped finalize b) n dids
+    → count_with Dynamic b (map (exit_task finalize queue) items) dids n ≡ fold (dynamic_dropped finalize b) n dids
 exited_recount l b finalize queue [] [] n said = refl
 exited_recount l b finalize queue (item ∷ items) (did ∷ dids) n said =
     exited_recount l b finalize queue items dids (cond (names b did.step) (if finalize then 0 else n - 1) n) said.1
@@ -130,7 +130,7 @@ one_less : (t : Bool) (n c : ℕ) → cond t (n - 1) n - c ≡ n - (cond t 1 0 +
 one_less true n c = omega arith
 one_less false n c = omega arith
 
-pub left_recount : (l : Limits) (b : ℕ) (holdings : List Holding) (dids : List Did) (n : ℕ) → AreSaid l (map Leave holdings) dids → recount Structured b (map Leave holdings) dids n ≡ n - count_dropped b dids
+pub left_recount : (l : Limits) (b : ℕ) (holdings : List Holding) (dids : List Did) (n : ℕ) → AreSaid l (map Leave holdings) dids → count_with Structured b (map Leave holdings) dids n ≡ n - count_dropped b dids
 left_recount l b [] [] n said = omega arith
 left_recount l b (holding ∷ holdings) (did ∷ dids) n said =
     left_recount l b holdings dids (cond (names b did.step) (n - 1) n) said.1

@@ -52,8 +52,8 @@ item clause s = record { clause = clause; section = s; pointer = None }
 abbrev via : {C : Type 0} → C → Section → Item C
 via clause s = record { clause = clause; section = s; pointer = Some 0x1008 }
 
-abbrev alone : {C : Type 0} → C → Item C
-alone clause = item clause (at 0x1008 8)
+abbrev pointer_item : {C : Type 0} → C → Item C
+pointer_item clause = item clause (at 0x1008 8)
 
 -- what the eight bytes of a pointer on the device are: the address of `b`, and what the host has
 abbrev to_b : List ℕ
@@ -84,9 +84,9 @@ abbrev did : words.Step → Aim → Did
 did step aim = record { step = step; aim = aim }
 
 -- what calls are refused for, and so many accepted ones
-abbrev refused : List (Call Leased) → List (Option Fault)
+abbrev refusals : List (Call Leased) → List (Option Fault)
 unfolding ran_with
-refused calls = (ran_with limits calls).refused
+refusals calls = (ran_with limits calls).refused
 
 abbrev fine : ℕ → List (Option Fault)
 fine n = replicate n None
@@ -131,13 +131,13 @@ unfolding ran_with
 array_life_leaves = (refl, refl, refl)
 
 -- items act one after the other, each on what those before it left; `finalize` takes all counts at once
-abbrev counted : List (Call Leased)
-counted = enter_data_of (item enter.Copyin a ∷ item enter.Copyin a ∷ item (enter.Create true) (at 0x1004 4) ∷ []) ∷ []
+abbrev counting_calls : List (Call Leased)
+counting_calls = enter_data_of (item enter.Copyin a ∷ item enter.Copyin a ∷ item (enter.Create true) (at 0x1004 4) ∷ []) ∷ []
 
 abbrev finalized : List (Call Leased)
-finalized = counted ++ finalize_of (item exit.Delete a ∷ item exit.Delete a ∷ []) ∷ []
+finalized = counting_calls ++ finalize_of (item exit.Delete a ∷ item exit.Delete a ∷ []) ∷ []
 
-finalized_leaves : dynamic_in 1 (ran_with limits counted).world.history ≡ 3
+finalized_leaves : dynamic_in 1 (ran_with limits counting_calls).world.history ≡ 3
     × dynamic_in 1 (ran_with limits finalized).world.history ≡ 0
     × (ran_with limits finalized).world.history.trace
     ≡ events.EnteredData (item enter.Copyin a ∷ item enter.Copyin a ∷ item (enter.Create true) (at 0x1004 4) ∷ []) None (did_of (Born 1 0x1_0000_0000) ∷ did_of (Counted 1) ∷ did_of (Counted 1) ∷ [])
@@ -153,7 +153,7 @@ all_wrong = enter_of [] ∷ enter_of (replicate 65 (item Copyin (at 0 1))) ∷ e
 refused_in_order : (ran_with (record limits { regions = 1; tickets = 1; trace_cap = 1 }) all_wrong).refused ≡ None ∷ Some (NoTickets 0) ∷ Some (NoTickets 0) ∷ []
     × (ran_with (record limits { regions = 1; trace_cap = 1 }) all_wrong).refused ≡ None ∷ Some (NoAllowance 0) ∷ Some (TraceFull 1) ∷ []
     × (ran_with (record limits { trace_cap = 1 }) all_wrong).refused ≡ None ∷ Some (TooManyItems 65) ∷ Some (TraceFull 1) ∷ []
-    × refused all_wrong ≡ None ∷ Some (TooManyItems 65) ∷ Some (NoRegion 7) ∷ []
+    × refusals all_wrong ≡ None ∷ Some (TooManyItems 65) ∷ Some (NoRegion 7) ∷ []
 unfolding ran_with
 refused_in_order = (refl, refl, refl, refl)
 
@@ -172,26 +172,26 @@ regions_live : (ran_with limits both_open).world.state.register.regions
     × (ran_with limits both_left).world.state.register ≡ record { regions = []; next = 3; serial = 1 }
     × entries_in 1 (ran_with limits both_left).world.history ≡ 1
     × exits_in 1 (ran_with limits both_left).world.history ≡ 1
-    × refused both_left ≡ fine 4 ++ Some (NoRegion 2) ∷ []
+    × refusals both_left ≡ fine 4 ++ Some (NoRegion 2) ∷ []
 unfolding ran_with
 regions_live = (refl, refl, refl, refl, refl, refl)
 
 -- ---- a pointer is attached twice, then at another target, and detached twice
 
 abbrev attached_twice : List (Call Leased)
-attached_twice = point_to 0x10 ∷ enter_data_of (item enter.Copyin a ∷ item enter.Copyin b ∷ item enter.Copyin c ∷ []) ∷ enter_data_of (alone enter.Attach ∷ []) ∷ enter_data_of (alone enter.Attach ∷ []) ∷ []
+attached_twice = point_to 0x10 ∷ enter_data_of (item enter.Copyin a ∷ item enter.Copyin b ∷ item enter.Copyin c ∷ []) ∷ enter_data_of (pointer_item enter.Attach ∷ []) ∷ enter_data_of (pointer_item enter.Attach ∷ []) ∷ []
 
-abbrev detached : List (Call Leased)
-detached = attached_twice ++ point_to 0x20 ∷ enter_data_of (alone enter.Attach ∷ []) ∷ exit_data_of (alone exit.Detach ∷ []) ∷ exit_data_of (alone exit.Detach ∷ []) ∷ []
+abbrev detaching_calls : List (Call Leased)
+detaching_calls = attached_twice ++ point_to 0x20 ∷ enter_data_of (pointer_item enter.Attach ∷ []) ∷ exit_data_of (pointer_item exit.Detach ∷ []) ∷ exit_data_of (pointer_item exit.Detach ∷ []) ∷ []
 
 pointer_lives : (ran_with limits attached_twice).world.state.records.attached ≡ record { block = 1; pointer = 0x1008; count = 2 } ∷ []
     × attached_in 1 0x1008 (ran_with limits attached_twice).world.history ≡ 2
-    × (ran_with limits detached).world.history.trace
+    × (ran_with limits detaching_calls).world.history.trace
     ≡ events.HostWritten 0x1008 8 ∷ events.EnteredData (item enter.Copyin a ∷ item enter.Copyin b ∷ item enter.Copyin c ∷ []) None (did_of (Born 1 0x1_0000_0000) ∷ did_of (Born 2 0x1_0000_0010) ∷ did_of (Born 3 0x1_0000_0020) ∷ [])
-    ∷ events.EnteredData (alone enter.Attach ∷ []) None (did Nothing (aims.New 0x1008 1 0x1_0000_0010) ∷ []) ∷ events.EnteredData (alone enter.Attach ∷ []) None (did Nothing (aims.Again 0x1008 1) ∷ [])
-    ∷ events.HostWritten 0x1008 8 ∷ events.EnteredData (alone enter.Attach ∷ []) None (did Nothing (aims.New 0x1008 1 0x1_0000_0020) ∷ [])
-    ∷ events.ExitedData (alone exit.Detach ∷ []) false None (did Nothing (aims.Less 0x1008 1) ∷ []) ∷ events.ExitedData (alone exit.Detach ∷ []) false None (did_of Nothing ∷ []) ∷ []
-    × (ran_with limits detached).world.state.memories ≡ memory 1 (replicate 8 0 ++ as_host 0x20) ∷ memory 2 zeros ∷ memory 3 zeros ∷ []
+    ∷ events.EnteredData (pointer_item enter.Attach ∷ []) None (did Nothing (aims.New 0x1008 1 0x1_0000_0010) ∷ []) ∷ events.EnteredData (pointer_item enter.Attach ∷ []) None (did Nothing (aims.Again 0x1008 1) ∷ [])
+    ∷ events.HostWritten 0x1008 8 ∷ events.EnteredData (pointer_item enter.Attach ∷ []) None (did Nothing (aims.New 0x1008 1 0x1_0000_0020) ∷ [])
+    ∷ events.ExitedData (pointer_item exit.Detach ∷ []) false None (did Nothing (aims.Less 0x1008 1) ∷ []) ∷ events.ExitedData (pointer_item exit.Detach ∷ []) false None (did_of Nothing ∷ []) ∷ []
+    × (ran_with limits detaching_calls).world.state.memories ≡ memory 1 (replicate 8 0 ++ as_host 0x20) ∷ memory 2 zeros ∷ memory 3 zeros ∷ []
 unfolding ran_with
 pointer_lives = (refl, refl, refl, refl)
 
@@ -204,24 +204,24 @@ exited_own = refl
 
 -- ---- a copy is put into a queue, the mapping ends, and the section is mapped again behind the first block
 
-abbrev ended : List (Call Leased)
-ended = HostWrite 0x1000 (7 ∷ []) ∷ enter_data_of (item enter.Copyin a ∷ []) ∷ HostWrite 0x1000 (9 ∷ []) ∷ exit_later 1 (item exit.Copyout a ∷ []) ∷ enter_data_of (item (enter.Create false) a ∷ []) ∷ []
+abbrev ending_calls : List (Call Leased)
+ending_calls = HostWrite 0x1000 (7 ∷ []) ∷ enter_data_of (item enter.Copyin a ∷ []) ∷ HostWrite 0x1000 (9 ∷ []) ∷ exit_later 1 (item exit.Copyout a ∷ []) ∷ enter_data_of (item (enter.Create false) a ∷ []) ∷ []
 
-ended_leaves : (ran_with limits ended).world.state.memories ≡ memory 1 (7 ∷ replicate 15 0) ∷ memory 2 (replicate 16 0xa5) ∷ []
-    × ended_from 0x1_0000_0000 (ran_with limits ended).world.state.records ≡ Some (record { place = 0x1_0000_0000; size = 16; pins = 1 })
-    × queue_at 1 (ran_with limits ended).world.state.records.queues ≡ record { block = 1; offset = 0; section = a; out = true } ∷ []
-    × (ran_with limits ended).world.state.host ≡ 9 ∷ replicate 63 0
+ended_leaves : (ran_with limits ending_calls).world.state.memories ≡ memory 1 (7 ∷ replicate 15 0) ∷ memory 2 (replicate 16 0xa5) ∷ []
+    × ended_from 0x1_0000_0000 (ran_with limits ending_calls).world.state.records ≡ Some (record { place = 0x1_0000_0000; size = 16; pins = 1 })
+    × queue_at 1 (ran_with limits ending_calls).world.state.records.queues ≡ record { block = 1; offset = 0; section = a; out = true } ∷ []
+    × (ran_with limits ending_calls).world.state.host ≡ 9 ∷ replicate 63 0
 unfolding ran_with
 ended_leaves = (refl, refl, refl, refl)
 
 -- a step makes the copy, and the block is given back with it; the next step is no event, and a wait is one
-abbrev stepped : List (Call Leased)
-stepped = ended ++ Do (Step 1) ∷ Do (Step 1) ∷ Do (Wait None) ∷ []
+abbrev stepping_calls : List (Call Leased)
+stepping_calls = ending_calls ++ Do (Step 1) ∷ Do (Step 1) ∷ Do (Wait None) ∷ []
 
-stepped_leaves : (ran_with limits stepped).world.state.host ≡ 7 ∷ replicate 63 0
-    × (ran_with limits stepped).world.state.memories ≡ memory 2 (replicate 16 0xa5) ∷ []
-    × (ran_with limits stepped).world.state.records.queues ≡ new_queues
-    × (ran_with limits stepped).world.history.trace
+stepped_leaves : (ran_with limits stepping_calls).world.state.host ≡ 7 ∷ replicate 63 0
+    × (ran_with limits stepping_calls).world.state.memories ≡ memory 2 (replicate 16 0xa5) ∷ []
+    × (ran_with limits stepping_calls).world.state.records.queues ≡ new_queues
+    × (ran_with limits stepping_calls).world.history.trace
     ≡ events.HostWritten 0x1000 1 ∷ events.EnteredData (item enter.Copyin a ∷ []) None (did_of (Born 1 0x1_0000_0000) ∷ []) ∷ events.HostWritten 0x1000 1
     ∷ events.ExitedData (item exit.Copyout a ∷ []) false (Some 1) (did_of (Dropped 1 true) ∷ []) ∷ events.EnteredData (item (enter.Create false) a ∷ []) None (did_of (Born 2 0x1_0000_0010) ∷ [])
     ∷ events.Stepped 1 1 ∷ events.Waited None 0 ∷ []
@@ -233,7 +233,7 @@ stepped_leaves = (refl, refl, refl, refl)
 abbrev loans : List (Call Leased)
 loans = enter_of [] ∷ enter_data_of (item enter.Copyin a ∷ item enter.Copyin b ∷ []) ∷ Lend 1 (at 0x1014 8) ∷ Lend 1 a ∷ Lend 1 a ∷ Lend 1 c ∷ gather 1 1 0 16 zeros ∷ gather 1 2 4 8 zeros ∷ Lend 1 (at 0x1018 4) ∷ []
 
-loans_leave : refused loans ≡ fine 4 ++ Some (Lent 1) ∷ Some (NotPresent 0) ∷ Some (NoLease 1) ∷ None ∷ None ∷ []
+loans_leave : refusals loans ≡ fine 4 ++ Some (Lent 1) ∷ Some (NotPresent 0) ∷ Some (NoLease 1) ∷ None ∷ None ∷ []
     × (ran_with limits loans).world.state.records.loans ≡ loan 2 1 0 16 ∷ loan 3 2 8 4 ∷ []
     × (ran_with limits loans).world.state.register ≡ record { regions = record { number = 1; holdings = [] } ∷ []; next = 2; serial = 4 }
     × (ran_with limits loans).world.state.memories ≡ memory 1 [] ∷ memory 2 [] ∷ []
@@ -261,38 +261,38 @@ full_queue_lent = point_to 0x20 ∷ enter_of [] ∷ enter_data_of (item enter.Co
 
 refused_where_lent :
     -- a wait makes the first transfer of its queue, which is of a free block, and the second one, of a lent block; a step only one
-    refused (enter_of [] ∷ enter_data_of (item enter.Copyin a ∷ item enter.Copyin b ∷ []) ∷ update_later 2 (item ToSelf b ∷ item ToSelf a ∷ []) ∷ Lend 1 a ∷ Do (Wait (Some 2)) ∷ Do (Wait None) ∷ Do (Step 2) ∷ Do (Step 2) ∷ gather 1 1 0 16 zeros ∷ Do (Wait (Some 2)) ∷ [])
+    refusals (enter_of [] ∷ enter_data_of (item enter.Copyin a ∷ item enter.Copyin b ∷ []) ∷ update_later 2 (item ToSelf b ∷ item ToSelf a ∷ []) ∷ Lend 1 a ∷ Do (Wait (Some 2)) ∷ Do (Wait None) ∷ Do (Step 2) ∷ Do (Step 2) ∷ gather 1 1 0 16 zeros ∷ Do (Wait (Some 2)) ∷ [])
     ≡ fine 4 ++ Some (Lent 1) ∷ Some (Lent 1) ∷ None ∷ Some (Lent 1) ∷ None ∷ None ∷ []
     -- where section and pointer lie is told before; that the queue is full after
-    × refused (full_queue_lent ++ exit_later 4 (item exit.Copyout a ∷ []) ∷ Do (ExitData (item exit.Copyout a ∷ []) true (Some 4)) ∷ exit_data_of (item exit.Delete (at 0x1008 16) ∷ [])
+    × refusals (full_queue_lent ++ exit_later 4 (item exit.Copyout a ∷ []) ∷ Do (ExitData (item exit.Copyout a ∷ []) true (Some 4)) ∷ exit_data_of (item exit.Delete (at 0x1008 16) ∷ [])
     ∷ exit_data_of (record { clause = exit.Delete; section = a; pointer = Some 0x1004 } ∷ []) ∷ exit_data_of (record { clause = exit.Delete; section = a; pointer = Some 0x103c } ∷ []) ∷ update_of (item ToSelf (at 0x103f 2) ∷ []) ∷ [])
     ≡ fine 4 ++ Some (QueueFull 4) ∷ None ∷ Some (Lent 1) ∷ Some (Lent 1) ∷ Some (PartlyPresent 0) ∷ Some (Misaligned 0) ∷ Some (OutOfHost 0) ∷ Some (OutOfHost 0) ∷ []
     -- an item that leaves detaches its pointer before its step
-    × refused (aimed_at_b ++ Lend 1 a ∷ Lend 1 b ∷ exit_data_of (via exit.Delete b ∷ []) ∷ exit_data_of (item exit.Delete b ∷ []) ∷ finalize_of (alone exit.Detach ∷ []) ∷ [])
+    × refusals (aimed_at_b ++ Lend 1 a ∷ Lend 1 b ∷ exit_data_of (via exit.Delete b ∷ []) ∷ exit_data_of (item exit.Delete b ∷ []) ∷ finalize_of (pointer_item exit.Detach ∷ []) ∷ [])
     ≡ fine 5 ++ Some (Lent 1) ∷ Some (Lent 2) ∷ Some (Lent 1) ∷ []
     -- so does a region
-    × refused (point_to 0x10 ∷ enter_of (item Copyin a ∷ via Copyin b ∷ []) ∷ Lend 1 a ∷ exit_of 1 ∷ Lend 1 b ∷ exit_of 1 ∷ gather 1 1 0 16 zeros ∷ exit_of 1 ∷ [])
+    × refusals (point_to 0x10 ∷ enter_of (item Copyin a ∷ via Copyin b ∷ []) ∷ Lend 1 a ∷ exit_of 1 ∷ Lend 1 b ∷ exit_of 1 ∷ gather 1 1 0 16 zeros ∷ exit_of 1 ∷ [])
     ≡ fine 3 ++ Some (Lent 1) ∷ None ∷ Some (Lent 1) ∷ None ∷ Some (Lent 2) ∷ []
     -- only the pointer's own block counts: what it is aimed at may be lent
-    × refused (aimed_at_b ++ Lend 1 b ∷ enter_data_of (alone enter.Attach ∷ []) ∷ exit_data_of (alone exit.Detach ∷ []) ∷ exit_data_of (via exit.Delete b ∷ []) ∷ []) ≡ fine 6 ++ Some (Lent 2) ∷ []
+    × refusals (aimed_at_b ++ Lend 1 b ∷ enter_data_of (pointer_item enter.Attach ∷ []) ∷ exit_data_of (pointer_item exit.Detach ∷ []) ∷ exit_data_of (via exit.Delete b ∷ []) ∷ []) ≡ fine 6 ++ Some (Lent 2) ∷ []
     -- an item that enters attaches after its step, so a full queue is told before the lent block
-    × refused (full_queue_lent ++ enter_later 4 (via enter.Copyin c ∷ []) ∷ enter_later 5 (via enter.Copyin c ∷ []) ∷ []) ≡ fine 4 ++ Some (QueueFull 4) ∷ None ∷ Some (QueueFull 4) ∷ Some (Lent 1) ∷ []
+    × refusals (full_queue_lent ++ enter_later 4 (via enter.Copyin c ∷ []) ∷ enter_later 5 (via enter.Copyin c ∷ []) ∷ []) ≡ fine 4 ++ Some (QueueFull 4) ∷ None ∷ Some (QueueFull 4) ∷ Some (Lent 1) ∷ []
     -- and so is a full device
     × (ran_with (record limits { device = 32 }) (point_to 0x10 ∷ enter_of [] ∷ enter_data_of (item enter.Copyin a ∷ []) ∷ Lend 1 a ∷ enter_data_of (via enter.Copyin (at 0x1010 17) ∷ []) ∷ enter_data_of (via enter.Copyin b ∷ []) ∷ [])).refused
     ≡ fine 4 ++ Some (DeviceFull 0 32) ∷ Some (Lent 1) ∷ []
     -- an attachment counter at its limit is told after the lent block
-    × (ran_with twice_at_most (aimed_at_b ++ enter_data_of (alone enter.Attach ∷ []) ∷ Lend 1 a ∷ enter_data_of (alone enter.Attach ∷ []) ∷ gather 1 1 0 16 (replicate 8 0 ++ to_b) ∷ enter_data_of (alone enter.Attach ∷ []) ∷ [])).refused
+    × (ran_with twice_at_most (aimed_at_b ++ enter_data_of (pointer_item enter.Attach ∷ []) ∷ Lend 1 a ∷ enter_data_of (pointer_item enter.Attach ∷ []) ∷ gather 1 1 0 16 (replicate 8 0 ++ to_b) ∷ enter_data_of (pointer_item enter.Attach ∷ []) ∷ [])).refused
     ≡ fine 5 ++ Some (Lent 1) ∷ None ∷ Some (CounterFull 0) ∷ []
     -- a reference counter at its limit is told before the lent block of the pointer, and without one
     × (ran_with twice_at_most (point_to 0x00 ∷ enter_of [] ∷ enter_data_of (item enter.Copyin a ∷ item enter.Copyin a ∷ []) ∷ Lend 1 a ∷ enter_data_of (item enter.Copyin a ∷ []) ∷ enter_data_of (via enter.Copyin a ∷ []) ∷ enter_of (item Present a ∷ via Present a ∷ []) ∷ enter_of (item Present a ∷ item Present a ∷ via Present a ∷ []) ∷ [])).refused
     ≡ fine 4 ++ Some (CounterFull 0) ∷ Some (CounterFull 0) ∷ Some (Lent 1) ∷ Some (CounterFull 2) ∷ []
     -- what does nothing to a pointer passes: its target is absent, or it is not attached
-    × refused (point_to 0x20 ∷ enter_of [] ∷ enter_data_of (item enter.Copyin a ∷ []) ∷ Lend 1 a ∷ enter_data_of (alone enter.Attach ∷ []) ∷ exit_data_of (alone exit.Detach ∷ []) ∷ finalize_of (alone exit.Detach ∷ []) ∷ enter_of (alone Attach ∷ []) ∷ enter_data_of (via enter.Copyin b ∷ [])
+    × refusals (point_to 0x20 ∷ enter_of [] ∷ enter_data_of (item enter.Copyin a ∷ []) ∷ Lend 1 a ∷ enter_data_of (pointer_item enter.Attach ∷ []) ∷ exit_data_of (pointer_item exit.Detach ∷ []) ∷ finalize_of (pointer_item exit.Detach ∷ []) ∷ enter_of (pointer_item Attach ∷ []) ∷ enter_data_of (via enter.Copyin b ∷ [])
     ∷ exit_data_of (via exit.Delete b ∷ []) ∷ exit_of 2 ∷ []) ≡ fine 11
     -- an attached pointer stays so where the step of its item is no action
-    × refused (aimed_at_b ++ Lend 1 a ∷ exit_data_of (via exit.Delete c ∷ []) ∷ enter_of (via NoCreate c ∷ []) ∷ enter_of (via NoCreate b ∷ []) ∷ []) ≡ fine 6 ++ Some (Lent 1) ∷ []
+    × refusals (aimed_at_b ++ Lend 1 a ∷ exit_data_of (via exit.Delete c ∷ []) ∷ enter_of (via NoCreate c ∷ []) ∷ enter_of (via NoCreate b ∷ []) ∷ []) ≡ fine 6 ++ Some (Lent 1) ∷ []
     -- a region does not detach the pointer of a block that was born since, which may be lent
-    × refused (point_to 0x10 ∷ enter_data_of (item enter.Copyin a ∷ item enter.Copyin b ∷ []) ∷ enter_of (alone Attach ∷ []) ∷ exit_data_of (item exit.Delete a ∷ []) ∷ enter_data_of (item enter.Copyin a ∷ alone enter.Attach ∷ []) ∷ Lend 1 a ∷ exit_data_of (alone exit.Detach ∷ []) ∷ exit_of 1 ∷ [])
+    × refusals (point_to 0x10 ∷ enter_data_of (item enter.Copyin a ∷ item enter.Copyin b ∷ []) ∷ enter_of (pointer_item Attach ∷ []) ∷ exit_data_of (item exit.Delete a ∷ []) ∷ enter_data_of (item enter.Copyin a ∷ pointer_item enter.Attach ∷ []) ∷ Lend 1 a ∷ exit_data_of (pointer_item exit.Detach ∷ []) ∷ exit_of 1 ∷ [])
     ≡ fine 6 ++ Some (Lent 3) ∷ None ∷ []
 unfolding ran_with
 refused_where_lent = (refl, refl, refl, refl, refl, refl, refl, refl, refl, refl, refl, refl)

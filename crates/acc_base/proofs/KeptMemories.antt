@@ -45,7 +45,7 @@ has-without k n (b ∷ bs) = go (has-without k n bs) (b.number == k) refl (b.num
     go rest false e false f z g = ap (λ t. t || has (without_block k bs) n) f ∙ (rest ∙ ap (λ t. not t && has bs n) g)
     go rest true e _ f _ g = rest ∙ ap (λ t. not t && has bs n) g
 
-filter-same : {X : Type 0} (p q : X → Bool) (xs : List X) → AllByRecursion (λ x. p x ≡ q x) xs → filter p xs ≡ filter q xs
+pub filter-same : {X : Type 0} (p q : X → Bool) (xs : List X) → AllByRecursion (λ x. p x ≡ q x) xs → filter p xs ≡ filter q xs
 filter-same p q [] h = refl
 filter-same {X} p q (x ∷ xs) h = rw h.0 (ap (λ ys. cond (q x) (x ∷ ys) ys) (filter-same p q xs h.1))
 

@@ -141,9 +141,9 @@ lend_legal l region section s e h =
     go _ at there_is k = cc
 
 -- the loan that a lease brings back is there
-returned : (lease : Leased) (o : Option Loan) → is_loan_of lease o ≡ true → option_map (λ (x : Loan). x.serial) o ≡ Some lease.serial
-returned lease None e = cc
-returned lease (Some x) e = ap Some (equal x.serial lease.serial (and_true _ _ (and_true _ _ e).0).0)
+serial_returned : (lease : Leased) (o : Option Loan) → is_loan_of lease o ≡ true → option_map (λ (x : Loan). x.serial) o ≡ Some lease.serial
+serial_returned lease None e = cc
+serial_returned lease (Some x) e = ap Some (equal x.serial lease.serial (and_true _ _ (and_true _ _ e).0).0)
 
 -- a lease brings a block back that is lent, with as many bytes as the block has
 pub record IsGathered (l : Limits) (lease : Leased) (s : State) (e : Event) : Type 0 where
@@ -159,7 +159,7 @@ gather_legal l lease s e sound h =
     let returnable : is_returnable lease s.records.blocks s.records.loans ≡ true = not_false _ (refused_not _ _ both.0) in
     let fits : (is_loan_of lease (loan_of lease.block s.records.loans) ≡ true) × ((len_of lease.block s.records.blocks == length lease.bytes) ≡ true) = and_true _ _ returnable in
     let is : Gathered lease.serial lease.block ≡ e = ok_same _ _ both.1 in
-    let legal : IsLegal l (Gathered lease.serial lease.block) (layout_of s) = record { names = returned lease (loan_of lease.block s.records.loans) fits.0; judged = tt } in
+    let legal : IsLegal l (Gathered lease.serial lease.block) (layout_of s) = record { names = serial_returned lease (loan_of lease.block s.records.loans) fits.0; judged = tt } in
     let long : AreBrought (Gathered lease.serial lease.block) lease.bytes s.records = AllByRecursion-weaker (λ (b : Block). block_at b.number s.records.blocks ≡ Some b) (λ (b : Block). b.number ≡ lease.block → length lease.bytes ≡ b.len) s.records.blocks
     (λ b own same. sym (equal _ _ fits.1) ∙ (sym (ap (λ n. len_of n s.records.blocks) same) ∙ ap (λ (o : Option Block). unwrap_or (option_map (λ (x : Block). x.len) o) 0) own))
     (at-own (λ (b : Block). b.number) s.records.blocks (EachPair-weaker IsClearOf (λ (b c : Block). b.number ≡ c.number → ⊥) s.records.blocks (λ b c clear same. omega (arith, clear.numbers, same)) sound.blocks_apart.apart)) in

@@ -100,9 +100,9 @@ record IsStart (P : ℕ → Type 0) (base q : ℕ) (blocks : List Block) (c : �
   on_device : base ≤ c
   above : AllByRecursion (λ b. block_end b ≤ q → block_end b ≤ c) blocks
 
-start_below : (P : ℕ → Type 0) (base q : ℕ) (blocks : List Block) → base ≤ q → P base → AllByRecursion P (map block_end blocks) → (c : ℕ) × IsStart P base q blocks c
-start_below P base q [] h p all = (base, record { holds = p; below = h; on_device = omega arith; above = tt })
-start_below P base q (b ∷ bs) h p all = go (start_below P base q bs h p all.1)
+lower_start : (P : ℕ → Type 0) (base q : ℕ) (blocks : List Block) → base ≤ q → P base → AllByRecursion P (map block_end blocks) → (c : ℕ) × IsStart P base q blocks c
+lower_start P base q [] h p all = (base, record { holds = p; below = h; on_device = omega arith; above = tt })
+lower_start P base q (b ∷ bs) h p all = go (lower_start P base q bs h p all.1)
   where
     go : (r : (c : ℕ) × IsStart P base q bs c) → (c : ℕ) × IsStart P base q (b ∷ bs) c
     go (c, r) = ⊎_elim
@@ -148,7 +148,7 @@ place_for-found memory blocks size = go (place_for memory blocks size) (least_of
     at_start : (P : ℕ → Type 0) → AllByRecursion (λ x. f x ≡ true → P x) candidates → (q : ℕ) → f q ≡ true → (c : ℕ) × (c ≤ q) × P c
     at_start P all q fits =
         let base : memory.start ≤ q = grind (arith, nat_tests) in
-        let found : (c : ℕ) × IsStart (λ x. f x ≡ true → P x) memory.start q blocks c = start_below (λ x. f x ≡ true → P x) memory.start q blocks base all.0 all.1 in
+        let found : (c : ℕ) × IsStart (λ x. f x ≡ true → P x) memory.start q blocks c = lower_start (λ x. f x ≡ true → P x) memory.start q blocks base all.0 all.1 in
         (found.0, found.1.below, found.1.holds (fits_below memory blocks size q found.0 found.1.below found.1.on_device found.1.above fits))
 
     go : (o : Option ℕ) → IsLeastOf o (filter f candidates) → IfSome o (λ p. f p ≡ true) → IsFoundPlace f o

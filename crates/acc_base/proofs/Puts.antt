@@ -75,9 +75,9 @@ IsPutSound l blocks None t = ⊤
 IsPutSound l blocks (Some q) t = IfSome t (IsTransferSound l blocks)
 
 -- where nothing is moved, nothing is put
-none_put : (l : Limits) (blocks : List Block) (q : Option ℕ) → IsPutSound l blocks q None
-none_put l blocks None = tt
-none_put l blocks (Some q) = tt
+no_put_sound : (l : Limits) (blocks : List Block) (q : Option ℕ) → IsPutSound l blocks q None
+no_put_sound l blocks None = tt
+no_put_sound l blocks (Some q) = tt
 
 put_if : (l : Limits) (q : Option ℕ) (t : Option Transfer) (w : Records) → IsPutSound l w.blocks q t → room_for l.queue_cap q t w.queues ≡ Ok tt → AreRecordsSound l w → AreRecordsSound l (record w { queues = queues_after q t w.queues })
 put_if l (Some q) (Some t) w sound room h = put_sound l q t w sound room h
@@ -158,8 +158,8 @@ start_sound l _ k p w says h = tt
 -- a step that was judged, of a block that is not lent, with free.room in its queue
 pub acted_sound : (l : Limits) (task : Task) (step : Step) (w : Records) → IsWithinBounds l → IsJudgedTo l task step w → IsStepFree l task step w → AreRecordsSound l w → AreRecordsSound l (act_step task step w)
 unfolding act_step act_row records_after_birth with_range_changed
-acted_sound l task Nothing w bounds says free h = put_if l (queue_of task) None w (none_put l w.blocks (queue_of task)) free.room h
+acted_sound l task Nothing w bounds says free h = put_if l (queue_of task) None w (no_put_sound l w.blocks (queue_of task)) free.room h
 acted_sound l task (Born k p) w bounds says free h = put_if l (queue_of task) (transfer_of task (Born k p) w.ranges) (act_row task (Born k p) w) (start_sound l task k p w says h) free.room (row_sound l task (Born k p) w bounds says free.needed h)
 acted_sound l task (Dropped k true) w bounds says free h = ended_sound l k (with_put task (Dropped k true) w) (not_lent_says k w.loans free.needed) (put_if l (queue_of task) (transfer_of task (Dropped k true) w.ranges) w (end_sound l task k w says h) free.room h)
 acted_sound l task (Moved k) w bounds says free h = put_if l (queue_of task) (transfer_of task (Moved k) w.ranges) w (moved_sound l task k w says h) free.room h
-acted_sound l task step w bounds says free h = put_if l (queue_of task) None (act_row task step w) (none_put l w.blocks (queue_of task)) free.room (row_sound l task step w bounds says free.needed h)
+acted_sound l task step w bounds says free h = put_if l (queue_of task) None (act_row task step w) (no_put_sound l w.blocks (queue_of task)) free.room (row_sound l task step w bounds says free.needed h)

@@ -80,11 +80,11 @@ pins-popped block q t queues e =
 abbrev pub AreOthers : ℕ → List Transfer → Type 0
 AreOthers block ts = AllByRecursion (λ (t : Transfer). (t.block == block) ≡ false) ts
 
-none_of : (block : ℕ) (ts : List Transfer) → pins_in block ts ≡ 0 → AreOthers block ts
-none_of block [] e = tt
-none_of block (t ∷ ts) e =
+no_pins : (block : ℕ) (ts : List Transfer) → pins_in block ts ≡ 0 → AreOthers block ts
+no_pins block [] e = tt
+no_pins block (t ∷ ts) e =
     let parts : pins_in block (t ∷ ts) ≡ cond (t.block == block) 1 0 + pins_in block ts = sum_by-cons (λ (x : Transfer). cond (x.block == block) 1 0) t ts in
-    (first (t.block == block) refl parts, none_of block ts (omega arith))
+    (first (t.block == block) refl parts, no_pins block ts (omega arith))
   where
     first : (b : Bool) → (t.block == block) ≡ b → pins_in block (t ∷ ts) ≡ cond b 1 0 + pins_in block ts → (t.block == block) ≡ false
     first true is parts = absurd (omega (arith, e, parts))
@@ -94,7 +94,7 @@ pub none_named : (block : ℕ) (queues : List (List Transfer)) → pins_of block
 none_named block [] e = tt
 none_named block (ts ∷ queues) e =
     let parts : pins_of block (ts ∷ queues) ≡ pins_in block ts + pins_of block queues = sum_by-cons (pins_in block) ts queues in
-    (none_of block ts (omega arith), none_named block queues (omega arith))
+    (no_pins block ts (omega arith), none_named block queues (omega arith))
 
 -- ---- queues that are sound
 

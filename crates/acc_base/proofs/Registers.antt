@@ -81,8 +81,8 @@ pub closed_few : (number : ℕ) (g : Register) → AreFew g → AreFew (closed n
 closed_few number g few = AllByRecursion-filter (λ (r : Region). length r.holdings ≤ 64) (λ r. not (r.number == number)) g.regions few
 
 -- where each number is above it, none goes
-without_none : (number : ℕ) (rs : List Region) → AllByRecursion (λ (r : Region). number < r.number) rs → without_region number rs ≡ rs
-without_none number rs h = filter_all (λ (r : Region). r.number) number rs (AllByRecursion-weaker (λ (r : Region). number < r.number) (λ r. r.number ≡ number → ⊥) rs (λ r less same. omega arith) h)
+no_region_without : (number : ℕ) (rs : List Region) → AllByRecursion (λ (r : Region). number < r.number) rs → without_region number rs ≡ rs
+no_region_without number rs h = filter_all (λ (r : Region). r.number) number rs (AllByRecursion-weaker (λ (r : Region). number < r.number) (λ r. r.number ≡ number → ⊥) rs (λ r less same. omega arith) h)
 
 some_same : {X : Type 0} (x y : X) → Some x ≡ Some y → x ≡ y
 some_same x y e = cc
@@ -100,7 +100,7 @@ held_without b number holdings (r ∷ rs) h e = go (held_without b number holdin
         → held_in b (r ∷ rs) ≡ held_in b (cond (not t) (r ∷ without_region number rs) (without_region number rs)) + count_held b holdings
     go rest true e q =
         let same : r.holdings ≡ holdings = some_same _ _ q in
-        let others : without_region number rs ≡ rs = without_none number rs (subst (λ n. AllByRecursion (λ (t : Region). n < t.number) rs) (equal _ _ e) h.0) in
+        let others : without_region number rs ≡ rs = no_region_without number rs (subst (λ n. AllByRecursion (λ (t : Region). n < t.number) rs) (equal _ _ e) h.0) in
         let held : count_held b r.holdings ≡ count_held b holdings = ap (count_held b) same in
         let left : held_in b (without_region number rs) ≡ held_in b rs = ap (held_in b) others in
         all_of ∙ omega arith

@@ -100,9 +100,9 @@ changed_loan k f rs keeps x p = record {
   within = subst (λ (s : Section). x.offset + x.len ≤ s.len) (sym (section-change k f keeps p.range)) p.within;
 }
 
-changed_sound : (l : Limits) (k : ℕ) (f : Range → Range) (w : Records) → KeepsPlace f → AreRecordsSound l w → ((r : Range) → range_of k w.ranges ≡ Some r → IsCounted l r → IsCounted l (f r)) → AreRecordsSound l (with_range_changed k f w)
+range_changed_sound : (l : Limits) (k : ℕ) (f : Range → Range) (w : Records) → KeepsPlace f → AreRecordsSound l w → ((r : Range) → range_of k w.ranges ≡ Some r → IsCounted l r → IsCounted l (f r)) → AreRecordsSound l (with_range_changed k f w)
 unfolding with_range_changed
-changed_sound l k f w keeps h counts = record {
+range_changed_sound l k f w keeps h counts = record {
   ranges_apart = changed_ranges l k f w.ranges keeps h.ranges_apart;
   blocks_apart = record { on_device = h.blocks_apart.on_device; apart = h.blocks_apart.apart; born = h.blocks_apart.born };
   one_block_each = changed_each k f w keeps h.one_block_each;
@@ -117,7 +117,7 @@ risen_counted l Structured r room c = record { some = omega arith; structured = 
 risen_counted l Dynamic r room c = record { some = omega arith; structured = c.structured; dynamic = omega arith }
 
 pub counted_sound : (l : Limits) (counter : Counter) (item : Item RegionClause) (queue : Option ℕ) (k : ℕ) (w : Records) → AreRecordsSound l w → IsCount l counter k w → AreRecordsSound l (with_range_changed k (recounted (Enter counter item queue)) w)
-counted_sound l counter item queue k w h says = changed_sound l k (recounted (Enter counter item queue)) w (recounted_keeps (Enter counter item queue)) h
+counted_sound l counter item queue k w h says = range_changed_sound l k (recounted (Enter counter item queue)) w (recounted_keeps (Enter counter item queue)) h
     (λ r at_k c. risen_counted l counter r (subst (λ n. n < l.counter_max) (counter_is counter k w.ranges r at_k) says.room) c)
 
 -- a range that keeps a counter above zero
@@ -127,7 +127,7 @@ used s d e = grind (arith, nat_tests)
 -- a drop that leaves a counter above zero
 pub dropped_sound : (l : Limits) (f : Range → Range) (k : ℕ) (w : Records) → KeepsPlace f → ((r : Range) → (f r).structured ≤ r.structured) → ((r : Range) → (f r).dynamic ≤ r.dynamic)
     → AreRecordsSound l w → false ≡ ends_by f k w.ranges → AreRecordsSound l (with_range_changed k f w)
-dropped_sound l f k w keeps structured dynamic h stays = changed_sound l k f w keeps h (λ r at_k c.
+dropped_sound l f k w keeps structured dynamic h stays = range_changed_sound l k f w keeps h (λ r at_k c.
     let not_unused : is_unused (f r) ≡ false = sym (stays ∙ ends_by_is f k w.ranges r at_k) in
     record { some = used (f r).structured (f r).dynamic not_unused; structured = omega (arith, structured r, c.structured); dynamic = omega (arith, dynamic r, c.dynamic) })
 

@@ -225,8 +225,8 @@ regions_below bound (r ∷ regions) le = (holdings_below bound r.holdings (λ b.
     all_of : (b : ℕ) → held_in b (r ∷ regions) ≡ count_held b r.holdings + held_in b regions
     all_of b = sum_by-cons (λ (x : Region). count_held b x.holdings) r regions
 
-counted_there : (b : ℕ) (ranges : List Range) → 0 < structured_of b ranges → IsSome (range_of b ranges)
-counted_there b ranges some = go (range_of b ranges) some
+structured_there : (b : ℕ) (ranges : List Range) → 0 < structured_of b ranges → IsSome (range_of b ranges)
+structured_there b ranges some = go (range_of b ranges) some
   where
     go : (o : Option Range) → 0 < unwrap_or (option_map (λ (r : Range). r.structured) o) 0 → IsSome o
     go None p = absurd (omega arith)
@@ -239,5 +239,5 @@ IsHeldMapped lay = AllByRecursion (λ (r : Region). AllByRecursion (λ (h : Hold
 pub held_mapped : (lay : Layout) → AreHeld lay → IsHeldMapped lay
 held_mapped lay held = AllByRecursion-weaker (λ (r : Region). AllByRecursion (λ (h : Holding). IfSome h.block (λ b. 0 < structured_of b lay.records.ranges)) r.holdings) (λ (r : Region). AllByRecursion (λ (h : Holding). IfSome h.block (λ b. IsSome (range_of b lay.records.ranges))) r.holdings) lay.register.regions
     (λ r all. AllByRecursion-weaker (λ (h : Holding). IfSome h.block (λ b. 0 < structured_of b lay.records.ranges)) (λ (h : Holding). IfSome h.block (λ b. IsSome (range_of b lay.records.ranges))) r.holdings
-    (λ h some. IfSome-weaker (λ b. 0 < structured_of b lay.records.ranges) (λ b. IsSome (range_of b lay.records.ranges)) h.block (λ b p. counted_there b lay.records.ranges p) some) all)
+    (λ h some. IfSome-weaker (λ b. 0 < structured_of b lay.records.ranges) (λ b. IsSome (range_of b lay.records.ranges)) h.block (λ b p. structured_there b lay.records.ranges p) some) all)
     (regions_below (λ b. structured_of b lay.records.ranges) lay.register.regions (λ b. omega (arith, held b)))

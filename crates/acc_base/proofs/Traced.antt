@@ -56,7 +56,7 @@ count_at-unborn l w block pointer h later = ap (λ o. unwrap_or (option_map (λ 
     go a there false e = e
 
 -- the counters of the blocks that are there are these, and a block that is not born yet has none
-record AreTold (pointers : ℕ → ℕ → ℕ) (w : Records) : Type 0 where
+record ArePointersTold (pointers : ℕ → ℕ → ℕ) (w : Records) : Type 0 where
   there : (block pointer : ℕ) → IsSome (block_at block w.blocks) → count_at block pointer w.attached ≡ pointers block pointer
   unborn : (block pointer : ℕ) → w.births < block → pointers block pointer ≡ 0
 
@@ -71,7 +71,7 @@ at-push_other block (x ∷ bs) b e = step (x.number == block) (at-push_other blo
     step true rest = refl
     step false rest = rest
 
-born_told : (l : Limits) (task : Task) (k p : ℕ) (w : Records) (pointers : ℕ → ℕ → ℕ) → k ≡ w.births + 1 → AreRecordsSound l w → AreTold pointers w → AreTold pointers (records_after_birth (recounted task (bare_range (section_of task) k)) p w)
+born_told : (l : Limits) (task : Task) (k p : ℕ) (w : Records) (pointers : ℕ → ℕ → ℕ) → k ≡ w.births + 1 → AreRecordsSound l w → ArePointersTold pointers w → ArePointersTold pointers (records_after_birth (recounted task (bare_range (section_of task) k)) p w)
 unfolding records_after_birth number_in
 born_told l task k p w pointers number sound h = record {
   there = λ block pointer there. go block pointer there (k == block) refl (block_at block w.blocks) refl;
@@ -93,7 +93,7 @@ born_told l task k p w pointers number sound h = record {
         cc
 
 -- a block that is given back has no counter
-released_told : (k : ℕ) (w : Records) (pointers : ℕ → ℕ → ℕ) → AreTold pointers w → AreTold pointers (released k w)
+released_told : (k : ℕ) (w : Records) (pointers : ℕ → ℕ → ℕ) → ArePointersTold pointers w → ArePointersTold pointers (released k w)
 unfolding released number_in
 released_told k w pointers h = go (is_in_use k w)
   where
@@ -104,48 +104,48 @@ released_told k w pointers h = go (is_in_use k w)
         cc
     gone block pointer there false same = count_at-without_other block pointer k w.attached same ∙ h.there block pointer (rw (← at-without_other number_in k block w.blocks same) there)
 
-    go : (t : Bool) → AreTold pointers (record w { blocks = cond t w.blocks (without_block k w.blocks); attached = cond t w.attached (without_attachments k w.attached) })
+    go : (t : Bool) → ArePointersTold pointers (record w { blocks = cond t w.blocks (without_block k w.blocks); attached = cond t w.attached (without_attachments k w.attached) })
     go true = record { there = h.there; unborn = h.unborn }
     go false = record { there = λ block pointer there. gone block pointer there (block == k) refl; unborn = h.unborn }
 
 -- the end of a mapping, and a transfer that is made
-ended_told : (k : ℕ) (w : Records) (pointers : ℕ → ℕ → ℕ) → AreTold pointers w → AreTold pointers (records_after_end k w)
+end_told : (k : ℕ) (w : Records) (pointers : ℕ → ℕ → ℕ) → ArePointersTold pointers w → ArePointersTold pointers (records_after_end k w)
 unfolding records_after_end
-ended_told k w pointers h = released_told k (record w { ranges = without_range k w.ranges }) pointers (record { there = h.there; unborn = h.unborn })
+end_told k w pointers h = released_told k (record w { ranges = without_range k w.ranges }) pointers (record { there = h.there; unborn = h.unborn })
 
-stepped_told : (q : ℕ) (w : Records) (pointers : ℕ → ℕ → ℕ) → AreTold pointers w → AreTold pointers (records_stepped q w)
+stepped_told : (q : ℕ) (w : Records) (pointers : ℕ → ℕ → ℕ) → ArePointersTold pointers w → ArePointersTold pointers (records_stepped q w)
 unfolding records_stepped
 stepped_told q w pointers h = go (head_of q w.queues)
   where
-    go : (o : Option Transfer) → AreTold pointers (records_made q o w)
+    go : (o : Option Transfer) → ArePointersTold pointers (records_made q o w)
     go None = h
     go (Some t) = released_told t.block (record w { queues = popped q w.queues }) pointers (record { there = h.there; unborn = h.unborn })
 
-drained_told : (qs : List ℕ) (w : Records) (pointers : ℕ → ℕ → ℕ) → AreTold pointers w → AreTold pointers (records_drained qs w)
+drained_told : (qs : List ℕ) (w : Records) (pointers : ℕ → ℕ → ℕ) → ArePointersTold pointers w → ArePointersTold pointers (records_drained qs w)
 unfolding records_drained
 drained_told [] w pointers h = h
 drained_told (q ∷ qs) w pointers h = drained_told qs (records_stepped q w) pointers (stepped_told q w pointers h)
 
 -- a transfer that is put into a queue
-put_told : (task : Task) (step : Step) (w : Records) (pointers : ℕ → ℕ → ℕ) → AreTold pointers w → AreTold pointers (with_put task step w)
+put_told : (task : Task) (step : Step) (w : Records) (pointers : ℕ → ℕ → ℕ) → ArePointersTold pointers w → ArePointersTold pointers (with_put task step w)
 put_told task step w pointers h = record { there = h.there; unborn = h.unborn }
 
-step_told : (l : Limits) (task : Task) (step : Step) (w : Records) (pointers : ℕ → ℕ → ℕ) → AreRecordsSound l w → IsJudgedTo l task step w → AreTold pointers w → AreTold pointers (act_step task step w)
+step_told : (l : Limits) (task : Task) (step : Step) (w : Records) (pointers : ℕ → ℕ → ℕ) → AreRecordsSound l w → IsJudgedTo l task step w → ArePointersTold pointers w → ArePointersTold pointers (act_step task step w)
 unfolding act_step act_row with_range_changed records_after_birth
 step_told l task Nothing w pointers sound says h = put_told task Nothing w pointers h
 step_told l task (Counted k) w pointers sound says h = record { there = h.there; unborn = h.unborn }
 step_told l (Enter counter item queue) (Born k p) w pointers sound says h = put_after (born_told l (Enter counter item queue) k p w pointers says.number sound h)
   where
-    put_after : AreTold pointers (records_after_birth (recounted (Enter counter item queue) (bare_range (section_of (Enter counter item queue)) k)) p w) → AreTold pointers (act_step (Enter counter item queue) (Born k p) w)
+    put_after : ArePointersTold pointers (records_after_birth (recounted (Enter counter item queue) (bare_range (section_of (Enter counter item queue)) k)) p w) → ArePointersTold pointers (act_step (Enter counter item queue) (Born k p) w)
     put_after t = record { there = t.there; unborn = t.unborn }
-step_told l task (Dropped k true) w pointers sound says h = ended_told k (with_put task (Dropped k true) w) pointers (put_told task (Dropped k true) w pointers h)
+step_told l task (Dropped k true) w pointers sound says h = end_told k (with_put task (Dropped k true) w) pointers (put_told task (Dropped k true) w pointers h)
 step_told l task (Dropped k false) w pointers sound says h = record { there = h.there; unborn = h.unborn }
 step_told l task (Moved k) w pointers sound says h = put_told task (Moved k) w pointers h
 step_told l _ (Born k p) w pointers sound says h = absurd says
 
 -- ---- an attachment or a detachment leaves the counters that it says
 
-aim_told : (l : Limits) (aim : Aim) (w : Records) (pointers : ℕ → ℕ → ℕ) → AreRecordsSound l w → IsAimThere w.blocks aim → AreTold pointers w → AreTold (λ block pointer. count_after block pointer aim (pointers block pointer)) (records_aimed aim w)
+aim_told : (l : Limits) (aim : Aim) (w : Records) (pointers : ℕ → ℕ → ℕ) → AreRecordsSound l w → IsAimThere w.blocks aim → ArePointersTold pointers w → ArePointersTold (λ block pointer. count_after block pointer aim (pointers block pointer)) (records_aimed aim w)
 aim_told l aim w pointers sound named h = record {
   there = λ block pointer there. count_at-attached_by block pointer aim w.attached ∙ ap (count_after block pointer aim) (h.there block pointer there);
   unborn = λ block pointer later. go block pointer later aim named;
@@ -171,11 +171,11 @@ abbrev told_after : Did → (ℕ → ℕ → ℕ) → ℕ → ℕ → ℕ
 told_after did pointers block pointer = count_after block pointer did.aim (pointers block pointer)
 
 -- a step after a detachment
-then_told : (l : Limits) (task : Task) (did : Did) (w : Records) (pointers : ℕ → ℕ → ℕ) → AreRecordsSound l w → AreRecordsSound l (records_aimed did.aim w) → IsAimThere w.blocks did.aim → IsJudgedTo l task did.step w → AreTold pointers w
-    → AreTold (told_after did pointers) (act_step task did.step (records_aimed did.aim w))
+then_told : (l : Limits) (task : Task) (did : Did) (w : Records) (pointers : ℕ → ℕ → ℕ) → AreRecordsSound l w → AreRecordsSound l (records_aimed did.aim w) → IsAimThere w.blocks did.aim → IsJudgedTo l task did.step w → ArePointersTold pointers w
+    → ArePointersTold (told_after did pointers) (act_step task did.step (records_aimed did.aim w))
 then_told l task did w pointers sound aimed there says h = step_told l task did.step (records_aimed did.aim w) (told_after did pointers) aimed (says_aimed l task did.step did.aim w says) (aim_told l did.aim w pointers sound there h)
 
-task_told : (l : Limits) (task : Task) (did : Did) (w : Records) (pointers : ℕ → ℕ → ℕ) → IsWithinBounds l → AreRecordsSound l w → IsJudgedTo l task did.step w → IsStepFree l task did.step w → IsAimLegal l task did w → AreTold pointers w → AreTold (told_after did pointers) (act task did w)
+task_told : (l : Limits) (task : Task) (did : Did) (w : Records) (pointers : ℕ → ℕ → ℕ) → IsWithinBounds l → AreRecordsSound l w → IsJudgedTo l task did.step w → IsStepFree l task did.step w → IsAimLegal l task did w → ArePointersTold pointers w → ArePointersTold (told_after did pointers) (act task did w)
 unfolding act
 task_told l (Enter counter item queue) did w pointers bounds sound says free legal h =
     let v : Records = act_step (Enter counter item queue) did.step w in
@@ -188,8 +188,8 @@ task_told l (Exit finalize item queue) did w pointers bounds sound says free leg
 task_told l (Move if_present item queue) did w pointers bounds sound says free legal h =
     then_told l (Move if_present item queue) did w pointers sound (move_sound l if_present item queue did w sound legal) (subst (IsAimThere w.blocks) (sym legal) (λ k e. cc)) says h
 
-tasks_told : (l : Limits) (n : ℕ) (tasks : List Task) (dids : List Did) (w : Records) (pointers : ℕ → ℕ → ℕ) → IsWithinBounds l → AreRecordsSound l w → AreJudged l n tasks dids w → AreTold pointers w
-    → AreTold (λ block pointer. fold (λ m d. count_after block pointer d.aim m) (pointers block pointer) dids) (act_all tasks dids w)
+tasks_told : (l : Limits) (n : ℕ) (tasks : List Task) (dids : List Did) (w : Records) (pointers : ℕ → ℕ → ℕ) → IsWithinBounds l → AreRecordsSound l w → AreJudged l n tasks dids w → ArePointersTold pointers w
+    → ArePointersTold (λ block pointer. fold (λ m d. count_after block pointer d.aim m) (pointers block pointer) dids) (act_all tasks dids w)
 unfolding act_all
 tasks_told l n [] [] w pointers bounds sound judged h = h
 tasks_told l n (task ∷ tasks) (did ∷ dids) w pointers bounds sound judged h =
@@ -200,31 +200,31 @@ tasks_told l n (task ∷ tasks) (did ∷ dids) w pointers bounds sound judged h 
 tasks_told l n _ _ w pointers bounds sound judged h = absurd judged
 
 -- lending and gathering leave the attachment counters
-loaned_told : (e : Event) (w : Records) (pointers : ℕ → ℕ → ℕ) → AreTold pointers w → AreTold pointers (loaned e w)
+loaned_told : (e : Event) (w : Records) (pointers : ℕ → ℕ → ℕ) → ArePointersTold pointers w → ArePointersTold pointers (loaned e w)
 unfolding loaned
 loaned_told (Lent region section block serial) w pointers h = record { there = h.there; unborn = h.unborn }
 loaned_told (Gathered serial block) w pointers h = record { there = h.there; unborn = h.unborn }
 loaned_told _ w pointers h = h
 
-walks_told : (l : Limits) (events : List Event) (lay : Layout) (pointers : ℕ → ℕ → ℕ) → IsWithinBounds l → AreRecordsSound l lay.records → AreLegal l events lay → AreTold pointers lay.records
-    → AreTold (λ block pointer. fold (attached_after block pointer) (pointers block pointer) events) (walk_all events lay).records
+pointer_walks_told : (l : Limits) (events : List Event) (lay : Layout) (pointers : ℕ → ℕ → ℕ) → IsWithinBounds l → AreRecordsSound l lay.records → AreLegal l events lay → ArePointersTold pointers lay.records
+    → ArePointersTold (λ block pointer. fold (attached_after block pointer) (pointers block pointer) events) (walk_all events lay).records
 unfolding walk_all walk
-walks_told l [] lay pointers bounds sound legal h = h
-walks_told l (e ∷ events) lay pointers bounds sound legal h =
+pointer_walks_told l [] lay pointers bounds sound legal h = h
+pointer_walks_told l (e ∷ events) lay pointers bounds sound legal h =
     let tasks : List Task = asked_in e lay.register in
     let qs : List ℕ = stepped_in e lay.records.queues in
     let v : Records = act_all tasks (done_in e) lay.records in
     let left : AreLeft l tasks (done_in e) lay.records v = all_left l 0 tasks (done_in e) lay.records bounds sound legal.0.judged in
-    let told : AreTold (λ block pointer. attached_after block pointer (pointers block pointer) e) (records_drained qs v)
+    let told : ArePointersTold (λ block pointer. attached_after block pointer (pointers block pointer) e) (records_drained qs v)
     = drained_told qs v (λ block pointer. attached_after block pointer (pointers block pointer) e) (tasks_told l 0 tasks (done_in e) lay.records pointers bounds sound legal.0.judged h) in
-    walks_told l events (walk e lay) (λ block pointer. attached_after block pointer (pointers block pointer) e) bounds (loaned_sound l e lay legal.0.names (drained_sound l qs v left.sound)) legal.1
+    pointer_walks_told l events (walk e lay) (λ block pointer. attached_after block pointer (pointers block pointer) e) bounds (loaned_sound l e lay legal.0.names (drained_sound l qs v left.sound)) legal.1
     (loaned_told e (records_drained qs v) (λ block pointer. attached_after block pointer (pointers block pointer) e) told)
 
-nothing_told : AreTold (λ block pointer. 0) new_layout.records
+nothing_told : ArePointersTold (λ block pointer. 0) new_layout.records
 nothing_told = record { there = λ block pointer there. refl; unborn = λ block pointer later. refl }
 
 -- a legal history tells the attachment counters of every block that it leads to
 pub attachments_traced : (l : Limits) (h : History) (lay : Layout) → IsWithinBounds l → IsHistoryLegal l h lay → AreAttachmentsTraced h lay.records
 attachments_traced l h lay bounds history =
-    let told = walks_told l h.trace new_layout (λ block pointer. 0) bounds (new_sound l) history.legal nothing_told in
+    let told = pointer_walks_told l h.trace new_layout (λ block pointer. 0) bounds (new_sound l) history.legal nothing_told in
     subst (λ (x : Layout). AreAttachmentsTraced h x.records) history.leads told.there

@@ -24,13 +24,13 @@ IsBesideBlock b c = (block_end b ≤ c.place) ⊎ (block_end c ≤ b.place)
 below : Block → Block → Bool
 below b c = nat_le (block_end c) b.place
 
-is_below : (b c : Block) → below b c ≡ true → block_end c ≤ b.place
+lies_below : (b c : Block) → below b c ≡ true → block_end c ≤ b.place
 unfolding below
-is_below b c e = grind (arith, nat_tests)
+lies_below b c e = grind (arith, nat_tests)
 
-is_above : (b c : Block) → IsBesideBlock b c → not (below b c) ≡ true → block_end b ≤ c.place
+lies_above : (b c : Block) → IsBesideBlock b c → not (below b c) ≡ true → block_end b ≤ c.place
 unfolding below
-is_above b c beside e = grind (arith, nat_tests)
+lies_above b c beside e = grind (arith, nat_tests)
 
 used_within : (fuel low high : ℕ) (blocks : List Block) → length blocks ≤ fuel → low ≤ high → AllByRecursion (IsBetween low high) blocks → EachPair IsBesideBlock blocks → sum_by size_of blocks ≤ high - low
 used_within fuel low high [] few order all apart = omega arith
@@ -40,11 +40,11 @@ used_within (suc fuel) low high (b ∷ bs) few order all apart =
     let unders : List Block = filter (below b) bs in
     let overs : List Block = filter (λ c. not (below b c)) bs in
     let under : sum_by size_of unders ≤ b.place - low = used_within fuel low b.place unders (omega arith) (omega (arith, all.0.first))
-    (AllByRecursion-passed (IsBetween low high) (IsBetween low b.place) (below b) bs (λ c e i. record { first = i.first; last = is_below b c e }) all.1)
+    (AllByRecursion-passed (IsBetween low high) (IsBetween low b.place) (below b) bs (λ c e i. record { first = i.first; last = lies_below b c e }) all.1)
     (EachPair-filter IsBesideBlock (below b) bs apart.1) in
     let between : AllByRecursion (λ c. IsBetween low high c × IsBesideBlock b c) bs = AllByRecursion-both (IsBetween low high) (IsBesideBlock b) (λ c. IsBetween low high c × IsBesideBlock b c) bs (λ c i s. (i, s)) all.1 apart.0 in
     let over : sum_by size_of overs ≤ high - block_end b = used_within fuel (block_end b) high overs (omega arith) (omega (arith, all.0.last))
-    (AllByRecursion-passed (λ c. IsBetween low high c × IsBesideBlock b c) (IsBetween (block_end b) high) (λ c. not (below b c)) bs (λ c e i. record { first = is_above b c i.1 e; last = i.0.last }) between)
+    (AllByRecursion-passed (λ c. IsBetween low high c × IsBesideBlock b c) (IsBetween (block_end b) high) (λ c. not (below b c)) bs (λ c e i. record { first = lies_above b c i.1 e; last = i.0.last }) between)
     (EachPair-filter IsBesideBlock (λ c. not (below b c)) bs apart.1) in
     let both : sum_by size_of unders + sum_by size_of overs ≡ sum_by size_of bs = sum_by-filter_both (below b) (λ c. not (below b c)) (λ c. refl) size_of bs in
     let all_of : sum_by size_of (b ∷ bs) ≡ size_of b + sum_by size_of bs = sum_by-cons size_of b bs in

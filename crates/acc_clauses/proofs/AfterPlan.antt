@@ -38,14 +38,14 @@ finished_verdict l d s p h = go (verdict_of d s p.dids) refl
 -- ---- the layout
 
 -- a layout that is sound, told by its own counters
-told : (l : Limits) (lay : Layout) → IsLayoutSound l lay → IsTold l lay (λ b. structured_of b lay.records.ranges) (λ b. 0) (λ b. dynamic_of b lay.records.ranges)
-told l lay h = grind (arith, nat_tests)
+told_now : (l : Limits) (lay : Layout) → IsLayoutSound l lay → IsTold l lay (λ b. structured_of b lay.records.ranges) (λ b. 0) (λ b. dynamic_of b lay.records.ranges)
+told_now l lay h = grind (arith, nat_tests)
 
 -- a legal event keeps a layout sound, if no region holds too much after it
 pub layout_kept : (l : Limits) (e : Event) (lay : Layout) → IsWithinBounds l → IsLayoutSound l lay → IsLegal l e lay → AreFew (register_after e lay.register) → IsLayoutSound l (walk e lay)
 unfolding walk
 layout_kept l e lay bounds h legal few =
-    let kept : IsTold l (walk e lay) _ _ _ = walk_told l e lay (λ b. structured_of b lay.records.ranges) (λ b. 0) (λ b. dynamic_of b lay.records.ranges) bounds (told l lay h) legal in
+    let kept : IsTold l (walk e lay) _ _ _ = walk_told l e lay (λ b. structured_of b lay.records.ranges) (λ b. 0) (λ b. dynamic_of b lay.records.ranges) bounds (told_now l lay h) legal in
     record { records = kept.sound; register = register_sound (register_after e lay.register) kept.numbered few; held = kept.held }
 
 -- a store is sound after a legal event

@@ -21,8 +21,8 @@ use Rattle.acc_clauses.specs.Contents.{AreMarked, state_of, bare_state}
 use Rattle.acc_clauses.specs.Acts.{CanDetach, pointers_of, IsAimedBy}
 
 -- the parts with eight bytes written over a pointer in a block that is mapped from an address on
-abbrev with_put : ℕ → ℕ → Environment → ℕ → List ℕ → Environment
-with_put pointer block x start bytes = record x { device = record x.device { memories = map (memory_changed block (written_bytes (covers (pointer_at pointer)) (λ a. slice_index bytes (a - pointer)) start)) x.device.memories } }
+abbrev with_bytes_put : ℕ → ℕ → Environment → ℕ → List ℕ → Environment
+with_bytes_put pointer block x start bytes = record x { device = record x.device { memories = map (memory_changed block (written_bytes (covers (pointer_at pointer)) (λ a. slice_index bytes (a - pointer)) start)) x.device.memories } }
 
 -- the eight bytes of a target are written over a pointer
 pub target_put : (pointer block target start : ℕ) (x : Environment) (new : DeviceState) (bytes : List ℕ)
@@ -80,8 +80,8 @@ was_more : (n : ℕ) → 0 < n → (left.Zero ≡ left_of false n → ⊥) → (
 was_more n some h = grind (arith, nat_tests)
 
 -- it is not zero
-pub not_zero : (l : Left) → (l ≡ left.Nothing) ⊎ (l ≡ left.Less) → left.Zero ≡ l → ⊥
-not_zero l h1 z = grind (arith, nat_tests)
+pub not_left_zero : (l : Left) → (l ≡ left.Nothing) ⊎ (l ≡ left.Less) → left.Zero ≡ l → ⊥
+not_left_zero l h1 z = grind (arith, nat_tests)
 
 less_attached : (pointer block : ℕ) (x : Environment) (b : AttachedState) → CanDetach pointer block (bare_state x) → b.attached ≡ attached_by (detach false block pointer x.attached.attached) x.attached.attached
     → b.attached ≡ attached_by (aims.Less pointer block) x.attached.attached

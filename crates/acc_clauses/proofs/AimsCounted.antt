@@ -37,22 +37,22 @@ record IsGone (w : Records) (block : ℕ) : Type 0 where
   zero : (counter : Counter) → counter_of counter block w.ranges ≡ 0
 
 -- no range has both counters at zero
-unmapped : (l : Limits) (w : Records) (block : ℕ) → AreRecordsSound l w → ((counter : Counter) → counter_of counter block w.ranges ≡ 0) → range_of block w.ranges ≡ None
-unmapped l w block h zero = grind (arith, nat_tests, found_has, zero Structured, zero Dynamic)
+not_mapped : (l : Limits) (w : Records) (block : ℕ) → AreRecordsSound l w → ((counter : Counter) → counter_of counter block w.ranges ≡ 0) → range_of block w.ranges ≡ None
+not_mapped l w block h zero = grind (arith, nat_tests, found_has, zero Structured, zero Dynamic)
 
 -- a task leaves the counters of a block that is gone at zero
-zero_left : (l : Limits) (task : Task) (step : Step) (w : Records) (block : ℕ) (counter : Counter) → AreRecordsSound l w → IsJudgedTo l task step w → IsGone w block
+zero_counts : (l : Limits) (task : Task) (step : Step) (w : Records) (block : ℕ) (counter : Counter) → AreRecordsSound l w → IsJudgedTo l task step w → IsGone w block
     → cond (names block step) (moved_by counter task (counter_of counter block w.ranges)) (counter_of counter block w.ranges) ≡ 0
-zero_left l task (Counted k) w block counter h says gone = grind (arith, nat_tests, equal, unmapped l w block h gone.zero)
-zero_left l task (Born k p) w block counter h says gone = grind (arith, nat_tests)
-zero_left l task (Dropped k ended) w block counter h says gone = grind (arith, nat_tests)
-zero_left l task _ w block counter h says gone = gone.zero counter
+zero_counts l task (Counted k) w block counter h says gone = grind (arith, nat_tests, equal, not_mapped l w block h gone.zero)
+zero_counts l task (Born k p) w block counter h says gone = grind (arith, nat_tests)
+zero_counts l task (Dropped k ended) w block counter h says gone = grind (arith, nat_tests)
+zero_counts l task _ w block counter h says gone = gone.zero counter
 
 gone-act : (l : Limits) (task : Task) (did : Did) (w : Records) (block : ℕ) → AreRecordsSound l w → IsJudgedTo l task did.step w → IsLeft l task did w (act task did w) → IsGone w block → IsGone (act task did w) block
 gone-act l task did w block h says left gone =
     let births : w.births ≤ (act task did w).births = subst (λ n. w.births ≤ n) (sym (mapping-act task did w).births) (births_least task did.step w) in
     let born = gone.born in
-    record { born = omega (arith, born, births); zero = λ counter. left.counter_is counter block ∙ zero_left l task did.step w block counter h says gone }
+    record { born = omega (arith, born, births); zero = λ counter. left.counter_is counter block ∙ zero_counts l task did.step w block counter h says gone }
 
 gone-after : (l : Limits) (n : ℕ) (xs : List Acted) (w : Records) (block : ℕ) → IsWithinBounds l → AreRecordsSound l w → AreJudged l n (tasks_in xs) (dids_in xs) w → IsGone w block → IsGone (records_after xs w) block
 unfolding act_all
@@ -120,7 +120,7 @@ count-after l n (x ∷ xs) w block pointer bounds h judged mapped =
 
 -- a block that holds a pointer is not gone
 holds_not_gone : (l : Limits) (w : Records) (block pointer : ℕ) → AreRecordsSound l w → block_with pointer w.ranges ≡ Some block → IsGone w block → ⊥
-holds_not_gone l w block pointer h there gone = grind (arith, nat_tests, pointer_in_block l w block pointer h there, unmapped l w block h gone.zero)
+holds_not_gone l w block pointer h there gone = grind (arith, nat_tests, pointer_in_block l w block pointer h there, not_mapped l w block h gone.zero)
 
 -- the counter of a pointer that lies in the block after the tasks
 pub count-planned : (l : Limits) (xs : List Acted) (w : Records) (block pointer : ℕ) → IsPlanned l xs w → block_with pointer (records_after xs w).ranges ≡ Some block

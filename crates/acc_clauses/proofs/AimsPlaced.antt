@@ -48,11 +48,11 @@ place-new blocks new none = ap (λ o. unwrap_or (option_map (λ (x : Block). x.p
 abbrev new_block : Task → ℕ → ℕ → Block
 new_block task k p = record { number = (recounted task (bare_range (section_of task) k)).block; place = p; len = (recounted task (bare_range (section_of task) k)).section.len }
 
-new_number : (task : Task) (k p : ℕ) → (new_block task k p).number ≡ k
-new_number task k p = (recounted_keeps task).block (bare_range (section_of task) k)
+new_block_number : (task : Task) (k p : ℕ) → (new_block task k p).number ≡ k
+new_block_number task k p = (recounted_keeps task).block (bare_range (section_of task) k)
 
 place-born : (task : Task) (k p block : ℕ) (blocks : List Block) → block_at k blocks ≡ None → place_of block (blocks ++ new_block task k p ∷ []) ≡ cond (k == block) p (place_of block blocks)
-place-born task k p block blocks none = grind (arith, nat_tests, place-new blocks (new_block task k p), place-other blocks (new_block task k p) block, new_number task k p)
+place-born task k p block blocks none = grind (arith, nat_tests, place-new blocks (new_block task k p), place-other blocks (new_block task k p) block, new_block_number task k p)
 
 -- ---- places after entries
 
@@ -74,9 +74,9 @@ unfolding act_all
 place-after l n [] w block bounds h judged entries = refl
 place-after l n (x ∷ xs) w block bounds h judged entries = grind (arith, nat_tests, place-after l (suc n) xs (act x.task x.did w) block bounds (first_left l n x xs w bounds h judged).sound judged.2 (first_enters x xs entries).1, place-act, task_says l n x.task w x.did.step judged.0)
 
-pub place-planned : (l : Limits) (xs : List Acted) (w : Records) (block : ℕ) → IsPlanned l xs w → list_all enters (tasks_in xs) ≡ true
+pub block_place-planned : (l : Limits) (xs : List Acted) (w : Records) (block : ℕ) → IsPlanned l xs w → list_all enters (tasks_in xs) ≡ true
     → place_over block (place_of block w.blocks) xs ≡ place_of block (records_after xs w).blocks
-place-planned l xs w block p entries = place-after l 0 xs w block p.bounds p.sound p.judged entries
+block_place-planned l xs w block p entries = place-after l 0 xs w block p.bounds p.sound p.judged entries
 
 -- a block that is there stays there
 there-step : (l : Limits) (counter : Counter) (item : Item RegionClause) (queue : Option ℕ) (step : Step) (w : Records) (block : ℕ) → IsJudgedTo l (Enter counter item queue) step w → IsSome (block_at block w.blocks)

@@ -17,14 +17,14 @@ use Rattle.acc_base.proofs.AllTasks.{all_left}
 use Rattle.acc_clauses.specs.declared.acted.Acted.{Acted}
 use Rattle.acc_clauses.specs.Overlays.{tasks_in, dids_in, records_after, state_after, enters, IsPlanned}
 use Rattle.acc_clauses.specs.Aims.{place_over, value_over}
-use Rattle.acc_clauses.proofs.AimsPlaced.{place-planned}
+use Rattle.acc_clauses.proofs.AimsPlaced.{block_place-planned}
 use Rattle.acc_clauses.proofs.AimsFound.{address_bound}
 use Rattle.acc_clauses.proofs.AimsValued.{value-planned}
 
 -- the place of a block
 pub place_read : (l : Limits) (xs acts : List Acted) (w : Records) (block place result : ℕ) → IsPlanned l xs w → list_all enters (tasks_in xs) ≡ true → acts ≡ xs → place ≡ place_of block w.blocks → result ≡ place_over block place acts
     → result ≡ place_of block (records_after xs w).blocks
-place_read l xs acts w block place result p entries same read e = grind (arith, nat_tests, place-planned)
+place_read l xs acts w block place result p entries same read e = grind (arith, nat_tests, block_place-planned)
 
 -- and an address in it
 pub sum_bound : (l : Limits) (xs : List Acted) (w : Records) (address block offset : ℕ) → IsPlanned l xs w → where_is (only address) (records_after xs w).ranges ≡ Inside block offset

@@ -62,24 +62,24 @@ named_aligned l n counter item queue step w p judged e = grind (arith, nat_tests
 
 -- ---- a step of an entry leaves the blocks that are there
 
-abbrev start_in : Range → ℕ
-start_in r = r.section.start
+abbrev range_start : Range → ℕ
+range_start r = r.section.start
 
 start-changed : (task : Task) (k block : ℕ) (ranges : List Range) → start_of block (changed_at k (recounted task) ranges) ≡ start_of block ranges
-start-changed task k block ranges = grind (arith, nat_tests, changed_read start_in (recounted task) (λ n. n) (recounted_keeps task).block (λ r. ap (λ s. s.start) ((recounted_keeps task).section r)) k block ranges (λ none. refl))
+start-changed task k block ranges = grind (arith, nat_tests, changed_read range_start (recounted task) (λ n. n) (recounted_keeps task).block (λ r. ap (λ s. s.start) ((recounted_keeps task).section r)) k block ranges (λ none. refl))
 
 holds_same : (pointer first second : ℕ) (xs ys : List ℕ) → first ≡ second → xs ≡ ys → pointer_in first pointer xs ≡ pointer_in second pointer ys
 holds_same pointer first second xs ys e f = rw (e, f) refl
 
 -- where nothing is moved, nothing is made
-none_made : (queue : Option ℕ) (attached : List Attachment) (host : List ℕ) (ms : List Memory) → memories_made (at_once queue None) attached host ms ≡ ms
-none_made queue attached host ms = grind (arith, nat_tests)
+no_memory_made : (queue : Option ℕ) (attached : List Attachment) (host : List ℕ) (ms : List Memory) → memories_made (at_once queue None) attached host ms ≡ ms
+no_memory_made queue attached host ms = grind (arith, nat_tests)
 
 holds-step : (l : Limits) (counter : Counter) (item : Item RegionClause) (queue : Option ℕ) (step : Step) (s : State) (block pointer : ℕ) → AreRecordsSound l s.records → IsJudgedTo l (Enter counter item queue) step s.records → IsSome (block_at block s.records.blocks)
     → device_pointer block pointer (step_state (Enter counter item queue) step s) ≡ device_pointer block pointer s
 unfolding step_state act_step act_row with_range_changed records_after_birth
-holds-step l counter item queue Nothing s block pointer h says there = holds_same pointer (start_of block s.records.ranges) _ _ _ refl (ap (bytes_of block) (none_made queue s.records.attached s.host s.memories))
-holds-step l counter item queue (Counted k) s block pointer h says there = holds_same pointer _ _ _ _ (start-changed (Enter counter item queue) k block s.records.ranges) (ap (bytes_of block) (none_made queue s.records.attached s.host s.memories))
+holds-step l counter item queue Nothing s block pointer h says there = holds_same pointer (start_of block s.records.ranges) _ _ _ refl (ap (bytes_of block) (no_memory_made queue s.records.attached s.host s.memories))
+holds-step l counter item queue (Counted k) s block pointer h says there = holds_same pointer _ _ _ _ (start-changed (Enter counter item queue) k block s.records.ranges) (ap (bytes_of block) (no_memory_made queue s.records.attached s.host s.memories))
 holds-step l counter item queue (Born k p) s block pointer h says there = grind (arith, nat_tests, holds_same, with_other, recounted_keeps, equal, no_block-new l s.records k h says.number, bytes-other, bytes-push)
 holds-step l counter item queue _ s block pointer h says there = absurd says
 

@@ -31,7 +31,7 @@ use Rattle.acc_clauses.specs.Overlays.{is_queue, puts_by}
 use Rattle.acc_clauses.specs.Acts.{CanBear, CanPut, CanQueue, HasPutRoom, IsMade, bytes_made, moved_state, filled_later, IsChangedBy, IsFilledLater, IsActedBy}
 use Rattle.acc_clauses.proofs.Runs.{written-same}
 use Rattle.acc_clauses.proofs.Copying.{moved-clear, born_copied, changed-last}
-use Rattle.acc_clauses.proofs.Changes.{state_by, same_state, both}
+use Rattle.acc_clauses.proofs.Changes.{state_from_parts, same_state, both}
 use Rattle.acc_clauses.proofs.Marked.{marks_born, marks_old}
 use Rattle.acc_clauses.proofs.Steps.{changed-with}
 use Rattle.acc_clauses.proofs.Giving.{step_puts}
@@ -55,8 +55,8 @@ born_ranges : (counter : Counter) (item : Item RegionClause) (queue : Option ℕ
     → r.table.ranges ≡ with_range (born_range counter item queue k) p.table.ranges
 born_ranges counter item queue k p q r new put raised = grind (arith, nat_tests, changed-with, recounted-section)
 
-some_same : (a b : ℕ) (o : Option ℕ) → o ≡ Some a → o ≡ Some b → a ≡ b
-some_same a b o e h = cc
+one_value : (a b : ℕ) (o : Option ℕ) → o ≡ Some a → o ≡ Some b → a ≡ b
+one_value a b o e h = cc
 
 -- the block that a birth adds is the one that the definitions name
 born_as_named : (counter : Counter) (item : Item RegionClause) (queue : Option ℕ) (k n p q : ℕ) → k ≡ n → p ≡ q
@@ -82,13 +82,13 @@ pub born_changes : (counter : Counter) (item : Item RegionClause) (queue : Optio
 unfolding records_after_birth
 born_changes counter item queue copied k place x q r e can made put ranges regions holdings raised room zip born marked =
     let new : Environment = record x { present = r; device = e } in
-    let where_it_is : place ≡ made.place = some_same place made.place _ can.place_is made.place_is in
+    let where_it_is : place ≡ made.place = one_value place made.place _ can.place_is made.place_is in
     let all : r.table.ranges ≡ with_range (born_range counter item queue k) x.present.table.ranges = born_ranges counter item queue k x.present q r can.no_range put raised in
     let blocks : e.blocks ≡ (records_after_birth (born_range counter item queue k) place (bare_state x).records).blocks = made.blocks ∙ ap (λ b. x.device.blocks ++ b ∷ []) (born_as_named counter item queue k (x.device.births + 1) place made.place can.number where_it_is) in
     let memories : e.memories ≡ x.device.memories ++ record { block = k; bytes = bytes_made copied (section_of (Enter counter item queue)) item.clause x.host } ∷ [] =
     made.memories ∙ ap (λ n. x.device.memories ++ record { block = n; bytes = bytes_made copied (section_of (Enter counter item queue)) item.clause x.host } ∷ []) (sym can.number) in
     record {
-      state = λ next. state_by new next (born_state counter item queue copied k place (state_of x next)) all blocks refl made.births refl made.loans (ap (λ t. t.regions) raised ∙ ap (λ t. t.regions) put) refl refl refl memories;
+      state = λ next. state_from_parts new next (born_state counter item queue copied k place (state_of x next)) all blocks refl made.births refl made.loans (ap (λ t. t.regions) raised ∙ ap (λ t. t.regions) put) refl refl refl memories;
       counter_max = ap (λ t. t.counter_max) raised ∙ ap (λ t. t.counter_max) put;
       memory = made.memory;
       pointer_max = refl;

@@ -12,9 +12,9 @@ use Rattle.acc_base.specs.Limits.{Limits}
 use Rattle.acc_base.specs.Accounts.{AreRecordsSound, AreMemoriesSized}
 
 -- the parts come to a state that has the same fields
-pub state_by : (x : Environment) (next : Numbers) (s : State) → x.present.table.ranges ≡ s.records.ranges → x.device.blocks ≡ s.records.blocks → x.attached.attached ≡ s.records.attached → x.device.births ≡ s.records.births → x.queues.queues ≡ s.records.queues → x.device.loans ≡ s.records.loans
+pub state_from_parts : (x : Environment) (next : Numbers) (s : State) → x.present.table.ranges ≡ s.records.ranges → x.device.blocks ≡ s.records.blocks → x.attached.attached ≡ s.records.attached → x.device.births ≡ s.records.births → x.queues.queues ≡ s.records.queues → x.device.loans ≡ s.records.loans
     → x.present.table.regions ≡ s.register.regions → next.region ≡ s.register.next → next.serial ≡ s.register.serial → x.host ≡ s.host → x.device.memories ≡ s.memories → state_of x next ≡ s
-state_by x next s a b p c d i e f j g h = rw (a, b, p, c, d, i, e, f, j, g, h) refl
+state_from_parts x next s a b p c d i e f j g h = rw (a, b, p, c, d, i, e, f, j, g, h) refl
 
 -- no room was taken but for transfers
 pub room_same : (puts : ℕ → ℕ) (x y : Environment) → present.IsRoomKept x.present.room y.present.room → y.device.room ≡ x.device.room → x.attached.spare ≤ y.attached.spare

@@ -115,8 +115,8 @@ by_register : (P : Register → Type 0) (d : Directive) (holdings : List Holding
 by_register P d holdings g same enter exit = grind (arith, nat_tests)
 
 -- no region holds too much after a plan
-few_after : (d : Directive) (c : Contents) (p : Planned) → IsStoreSound c → IsPlanOf c.limits d c.state p → AreFew (register_by d (holdings_by p.tasks p.dids) c.state.register)
-few_after d c p h planned =
+few_with_plan : (d : Directive) (c : Contents) (p : Planned) → IsStoreSound c → IsPlanOf c.limits d c.state p → AreFew (register_by d (holdings_by p.tasks p.dids) c.state.register)
+few_with_plan d c p h planned =
     let few : AreFew c.state.register = h.sound.layout.register.few in
     let short : length (holdings_by p.tasks p.dids) ≤ 64 = omega (arith, holdings_few p.tasks p.dids, planned.few) in
     by_register AreFew d (holdings_by p.tasks p.dids) c.state.register few (λ items is. opened_few (holdings_by p.tasks p.dids) c.state.register (numbered_of c h) few short) (λ number. closed_few number c.state.register few)
@@ -178,7 +178,7 @@ made_sound d c f p e bounds h planned limits state used made =
     let is : IsEventOf d p c.state e = event_of_plan l d c.state p e planned made in
     let P : State → Type 0 = λ s. AreHoldingsWithin s.records s.register.regions in
     event_sound l e [] c f bounds refl limits h (planned_legal l d c.state p e planned made) (is.brought c.state.records) (state ∙ sym (after_plan d p c.state e is))
-    (subst AreFew (sym is.register) (few_after d c p h planned))
+    (subst AreFew (sym is.register) (few_with_plan d c p h planned))
     (subst (λ (m : Limits). used_bytes f.state.records.blocks ≤ m.device) limits used)
     (subst P (sym state) (within_finished d c p bounds h planned))
 

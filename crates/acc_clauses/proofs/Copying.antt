@@ -77,8 +77,8 @@ pub record IsPartAt (s : Section) (first size at : ℕ) : Type 0 where
   pub fits : end_of s ≤ first + size
   pub index_is : s.start - first ≡ at
 
-pub part_at : (s t : Section) → is_within s t ≡ true → IsPartAt s t.start t.len (s.start - t.start)
-part_at s t h = grind (arith, nat_tests)
+pub within_is_part : (s t : Section) → is_within s t ≡ true → IsPartAt s t.start t.len (s.start - t.start)
+within_is_part s t h = grind (arith, nat_tests)
 
 from_part : (s : Section) (first : ℕ) (xs : List ℕ) → first ≤ s.start → end_of s ≤ first + length xs → IsFrom (λ a. slice_index xs (a - first)) s.start (part xs (s.start - first) s.len)
 from_part s first xs low fits k below = grind (arith, nat_tests, part-length, part-each)
@@ -96,9 +96,9 @@ moved_out s bytes start host in_host inside = grind (arith, nat_tests, part-leng
 pub from_all : (addr : ℕ) (bytes : List ℕ) → IsFrom (λ a. slice_index bytes (a - addr)) addr bytes
 from_all addr bytes k below = ap (slice_index bytes) (let same : k ≡ addr + k - addr = omega arith in same)
 
-written-none : (s : Section) (source : ℕ → ℕ) (a : ℕ) (old : List ℕ) → s.len ≡ 0 → written_bytes (covers s) source a old ≡ old
-written-none s source a [] h = refl
-written-none s source a (x ∷ xs) h = grind (arith, nat_tests, written-none s source (suc a) xs h)
+written-empty : (s : Section) (source : ℕ → ℕ) (a : ℕ) (old : List ℕ) → s.len ≡ 0 → written_bytes (covers s) source a old ≡ old
+written-empty s source a [] h = refl
+written-empty s source a (x ∷ xs) h = grind (arith, nat_tests, written-empty s source (suc a) xs h)
 
 overwritten-none : (offset : ℕ) (host bytes : List ℕ) → length bytes ≡ 0 → overwritten offset bytes host ≡ host
 overwritten-none offset host [] e = rw (append-nil (take offset host)) (ap (λ n. take offset host ++ drop n host) (let same : offset + 0 ≡ offset = omega arith in same) ∙ take-append-drop offset host)
@@ -106,7 +106,7 @@ overwritten-none offset host (x ∷ xs) e = absurd (omega (arith, e))
 
 pub host_written : (addr : ℕ) (bytes host : List ℕ) → (0 < length bytes → is_within (record { start = addr; len = length bytes }) (host_memory (length host)) ≡ true)
     → host_after_write addr (length bytes) bytes host ≡ overwritten (addr - host_base) bytes host
-host_written addr bytes host inside = grind (arith, nat_tests, written-none, overwritten-none, part_at, written-overwritten, from_all)
+host_written addr bytes host inside = grind (arith, nat_tests, written-empty, overwritten-none, within_is_part, written-overwritten, from_all)
 
 -- ---- the bytes of a new block
 
@@ -116,7 +116,7 @@ drop-replicate (suc n) fill = drop-replicate n fill
 
 -- a new block that is copied whole has the host's bytes, whatever filled it
 pub born_copied : (s : Section) (start fill : ℕ) (host : List ℕ) → is_within s (host_memory (length host)) ≡ true → start ≡ s.start → bytes_moved_in (covers s) host start (replicate s.len fill) ≡ bytes_in host s
-born_copied s start fill host in_host e = grind (arith, nat_tests, length-replicate, part_at, part-length, moved_in, drop-replicate, append-nil)
+born_copied s start fill host in_host e = grind (arith, nat_tests, length-replicate, within_is_part, part-length, moved_in, drop-replicate, append-nil)
 
 -- ---- memories
 

@@ -27,7 +27,7 @@ use Rattle.acc_clauses.specs.declared.environments.Environment.{Environment}
 use Rattle.acc_clauses.specs.Contents.{AreMarked, state_of, bare_state, bare_numbers}
 use Rattle.acc_clauses.specs.Overlays.{puts_by}
 use Rattle.acc_clauses.specs.Acts.{CanCount, CanDrop, IsEnter, given_state, moved_state, IsChangedBy, IsGivenBy, IsActedBy}
-use Rattle.acc_clauses.proofs.Changes.{state_by, room_same, kept_twice, both}
+use Rattle.acc_clauses.proofs.Changes.{state_from_parts, room_same, kept_twice, both}
 use Rattle.acc_clauses.proofs.Marked.{IsMarkAt, mark_told, marks_ended, marks_gone}
 use Rattle.acc_clauses.proofs.Putting.{unused, used_pinned}
 use Rattle.acc_clauses.proofs.Steps.{without-changed}
@@ -49,8 +49,8 @@ pub same_blocks : (task : Task) (k : ℕ) (x y : Environment) → IsGivenBy task
 same_blocks task k x y given = ap (λ (s : State). s.records.blocks) (given.state bare_numbers ∙ given_is (gives_bytes task) (queue_of task) (transfer_at task k x.present.table.ranges) (bare_state x))
 
 -- no block more is lent
-pub same_loans : (task : Task) (k : ℕ) (x y : Environment) → IsGivenBy task k x y → is_lent k x.device.loans ≡ false → is_lent k y.device.loans ≡ false
-same_loans task k x y given free =
+pub loans_kept : (task : Task) (k : ℕ) (x y : Environment) → IsGivenBy task k x y → is_lent k x.device.loans ≡ false → is_lent k y.device.loans ≡ false
+loans_kept task k x y given free =
     let same : y.device.loans ≡ x.device.loans = ap (λ (s : State). s.records.loans) (given.state bare_numbers ∙ given_is (gives_bytes task) (queue_of task) (transfer_at task k x.present.table.ranges) (bare_state x)) in
     rw same free
 
@@ -107,7 +107,7 @@ gone_changes task k y q r e b marked sized mark counted room1 removed room2 free
     let idle : is_in_use k (unmapped k y) ≡ false = unused k (unmapped k y) (gone_range k y) (sym mark.pins ∙ free) in
     let memories : e.memories ≡ _ = retired.memories ∙ (ap (λ bs. memories_kept bs y.device.memories) retired.blocks ∙ memories_kept-without y.device.loans k y.device.memories y.device.blocks sized) in
     record {
-      state = λ next. state_by new next (ended_state k (state_of y next)) ranges (rw idle retired.blocks) (rw idle forgot) retired.births refl retired.loans (ap (λ t. t.regions) table) refl refl refl (rw idle memories);
+      state = λ next. state_from_parts new next (ended_state k (state_of y next)) ranges (rw idle retired.blocks) (rw idle forgot) retired.births refl retired.loans (ap (λ t. t.regions) table) refl refl refl (rw idle memories);
       counter_max = ap (λ t. t.counter_max) table;
       memory = retired.memory;
       pointer_max = limit;
@@ -121,7 +121,7 @@ pub kept_changes : (task : Task) (k : ℕ) (y : Environment) (q r : PresentState
     → q.table ≡ with_ranges y.present.table (changed_at k (recounted task) y.present.table.ranges) → present.IsRoomKept y.present.room q.room → r.table ≡ with_ranges q.table (without_range k q.table.ranges) → present.IsRoomKept q.room r.room
     → (pins_at k y.device.marks ≡ 0 → ⊥) → IsEnded y.device e k → IsChangedBy (ended_state k) [] 0 (λ n. 0) y (record y { present = r; device = e })
 unfolding records_after_end released
-kept_changes task k y q r e marked mark counted room1 removed room2 some ended = grind (arith, nat_tests, ranges_gone task k y q r counted removed, used_pinned, state_by, room_same, kept_twice y.present.room q.room r.room room1 room2, marks_ended)
+kept_changes task k y q r e marked mark counted room1 removed room2 some ended = grind (arith, nat_tests, ranges_gone task k y q r counted removed, used_pinned, state_from_parts, room_same, kept_twice y.present.room q.room r.room room1 room2, marks_ended)
 
 -- ---- both are the step
 

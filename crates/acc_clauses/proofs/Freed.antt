@@ -21,12 +21,12 @@ use Rattle.acc_clauses.specs.Aims.{step_free}
 -- ---- tests in a row
 
 -- the first that refuses is told
-pub refused : (a b all : Result ⊤ Fault) (fault : Fault) → (a >> b) ≡ all → Err fault ≡ a → Err fault ≡ all
-refused a b all fault e h = grind (arith, nat_tests)
+pub first_refused : (a b all : Result ⊤ Fault) (fault : Fault) → (a >> b) ≡ all → Err fault ≡ a → Err fault ≡ all
+first_refused a b all fault e h = grind (arith, nat_tests)
 
 -- where it passes, the rest is told
-pub passed : (a b all : Result ⊤ Fault) (x : ⊤) → (a >> b) ≡ all → Ok x ≡ a → b ≡ all
-passed a b all x e h = grind (arith, nat_tests)
+pub first_passed : (a b all : Result ⊤ Fault) (x : ⊤) → (a >> b) ≡ all → Ok x ≡ a → b ≡ all
+first_passed a b all x e h = grind (arith, nat_tests)
 
 -- ---- a step
 
@@ -37,7 +37,7 @@ free_after xs task step before cap w aimed needed e f = grind (arith, nat_tests,
 
 -- the block in which a pointer is detached is lent
 pub detached_lent : (xs : List Acted) (task : Task) (step : Step) (before : Aim) (cap : ℕ) (w : Records) (aimed : Option ℕ) (fault : Fault) → aimed ≡ block_aimed before → Err fault ≡ not_lent aimed w.loans → Err fault ≡ step_free task step before cap (records_after xs w)
-detached_lent xs task step before cap w aimed fault e h = refused (not_lent aimed w.loans) _ _ fault (free_after xs task step before cap w aimed (block_needed task step) e refl) h
+detached_lent xs task step before cap w aimed fault e h = first_refused (not_lent aimed w.loans) _ _ fault (free_after xs task step before cap w aimed (block_needed task step) e refl) h
 
 -- ---- the transfers of one queue
 
@@ -54,11 +54,11 @@ module _ (place : ℕ) (ts : List Transfer) (loans : List Loan) (all : Result �
 
   -- the one at the place is lent
   pub place_lent : (fault : Fault) → Err fault ≡ not_lent block loans → Err fault ≡ all
-  place_lent fault e = refused (not_lent block loans) (none_lent (drop (suc place) ts) loans) all fault here e
+  place_lent fault e = first_refused (not_lent block loans) (none_lent (drop (suc place) ts) loans) all fault here e
 
   -- it is not
   pub place_free : (x : ⊤) → Ok x ≡ not_lent block loans → none_lent (drop (place + 1) ts) loans ≡ all
-  place_free x e = ap (λ n. none_lent (drop n ts) loans) (add-one place) ∙ passed (not_lent block loans) (none_lent (drop (suc place) ts) loans) all x here e
+  place_free x e = ap (λ n. none_lent (drop n ts) loans) (add-one place) ∙ first_passed (not_lent block loans) (none_lent (drop (suc place) ts) loans) all x here e
 
 -- ---- none is lent
 
@@ -93,8 +93,8 @@ module _ (q : ℕ) (queues : List (List Transfer)) (loans : List Loan) (all : Re
 
   -- one of the queue is lent
   pub queue_lent : (fault : Fault) → Err fault ≡ none_lent (queue_at q queues) loans → Err fault ≡ all
-  queue_lent fault e = refused (none_lent (queue_at q queues) loans) (none_lent (all_of (drop (suc q) queues)) loans) all fault own e
+  queue_lent fault e = first_refused (none_lent (queue_at q queues) loans) (none_lent (all_of (drop (suc q) queues)) loans) all fault own e
 
   -- none is
   pub queue_free : (x : ⊤) → Ok x ≡ none_lent (queue_at q queues) loans → none_lent (all_of (drop (q + 1) queues)) loans ≡ all
-  queue_free x e = ap (λ n. none_lent (all_of (drop n queues)) loans) (add-one q) ∙ passed (none_lent (queue_at q queues) loans) (none_lent (all_of (drop (suc q) queues)) loans) all x own e
+  queue_free x e = ap (λ n. none_lent (all_of (drop n queues)) loans) (add-one q) ∙ first_passed (none_lent (queue_at q queues) loans) (none_lent (all_of (drop (suc q) queues)) loans) all x own e

@@ -81,8 +81,8 @@ counted_self : (k : ℕ) (block : Option ℕ) → block ≡ Some k → ◌≡◌
 counted_self k block e = let same : (k == k) ≡ true = grind (arith, nat_tests) in rw (e, same) refl
 
 -- what a task that leaves makes of the structured counter of a block
-leave_names : (l : Limits) (b : ℕ) (h : Holding) (step : Step) (w : Records) → IsJudgedTo l (Leave h) step w → names b step ≡ is_counted_block b h.block
-leave_names l b h step w says = grind (arith, nat_tests)
+leave_counts : (l : Limits) (b : ℕ) (h : Holding) (step : Step) (w : Records) → IsJudgedTo l (Leave h) step w → names b step ≡ is_counted_block b h.block
+leave_counts l b h step w says = grind (arith, nat_tests)
 
 -- the counters still cover what is left to undo
 covers_next : (c : Bool) (m n k : ℕ) → cond c 1 0 + n ≤ m → k ≡ cond c (m - 1) m → n ≤ k
@@ -117,7 +117,7 @@ leaves_known l n (h ∷ hs) (d ∷ ds) w bounds sound judged within covers = (kn
     covered b =
         let after : structured_of b v.ranges ≡ cond (names b d.step) (structured_of b w.ranges - 1) (structured_of b w.ranges) = left.counter_is Structured b in
         let named : structured_of b v.ranges ≡ cond (is_counted_block b h.block) (structured_of b w.ranges - 1) (structured_of b w.ranges) =
-        after ∙ ap (λ t. cond t (structured_of b w.ranges - 1) (structured_of b w.ranges)) (leave_names l b h d.step w says) in
+        after ∙ ap (λ t. cond t (structured_of b w.ranges - 1) (structured_of b w.ranges)) (leave_counts l b h d.step w says) in
         let one : count_held b (h ∷ hs) ≡ cond (is_counted_block b h.block) 1 0 + count_held b hs = held-cons b h hs in
         covers_next (is_counted_block b h.block) (structured_of b w.ranges) (count_held b hs) (structured_of b v.ranges) (omega (arith, covers b, one)) named
 leaves_known l n _ _ w bounds sound judged within covers = tt

@@ -30,8 +30,8 @@ use Rattle.acc_clauses.specs.declared.numbers.Numbers.{Numbers}
 use Rattle.acc_clauses.specs.Contents.{Contents, state_of, ArePartsSound}
 use Rattle.acc_clauses.specs.Stored.{IsStoreSound, AreHoldingsWithin}
 use Rattle.acc_clauses.specs.Lending.{IsLoanPlanned, lent_state, gathered_state}
-use Rattle.acc_clauses.proofs.Changes.{state_by}
-use Rattle.acc_clauses.proofs.Standing.{told}
+use Rattle.acc_clauses.proofs.Changes.{state_from_parts}
+use Rattle.acc_clauses.proofs.Standing.{told_by_mark}
 use Rattle.acc_clauses.proofs.AfterPlan.{event_sound}
 use Rattle.acc_clauses.proofs.Holding.{holdings_same}
 
@@ -50,7 +50,7 @@ pub loan_has_block : (l : Limits) (x : Environment) (n : Numbers) (loan : Loan) 
 loan_has_block l x n loan parts sound = grind (arith, nat_tests, loan_there l (state_of x n).records loan parts.sound.records sound)
 
 pub lend_mapped : (l : Limits) (x : Environment) (n : Numbers) (loan : Loan) → ArePartsSound l x n → AllZip IsMarkOf x.device.marks x.device.blocks → IsLoanSound x.present.table.ranges loan → is_ended_at loan.block x.device.marks ≡ false
-lend_mapped l x n loan parts zip sound = (told l x n loan.block parts zip (loan_has_block l x n loan parts sound)).ended ∙ ap is_none sound.mapped
+lend_mapped l x n loan parts zip sound = (told_by_mark l x n loan.block parts zip (loan_has_block l x n loan parts sound)).ended ∙ ap is_none sound.mapped
 
 pub lend_within : (l : Limits) (x : Environment) (n : Numbers) (loan : Loan) → ArePartsSound l x n → IsLoanSound x.present.table.ranges loan → loan.offset + loan.len ≤ len_of loan.block x.device.blocks
 lend_within l x n loan parts sound = grind (arith, nat_tests, loan_there l (state_of x n).records loan parts.sound.records sound)
@@ -100,7 +100,7 @@ returnable_lent : (lease : Leased) (w : Records) → is_returnable lease w.block
 returnable_lent lease w e = loan_some lease (loan_of lease.block w.loans) (and_true _ _ e).0
 
 pub lent_is : (x : Environment) (n : Numbers) (d : DeviceState) (loan : Loan) → IsTakenOut x.device d loan → state_of (record x { device = d }) (numbered_on n) ≡ lent_state loan (state_of x n)
-lent_is x n d loan out = state_by (record x { device = d }) (numbered_on n) (lent_state loan (state_of x n)) refl out.blocks refl out.births refl out.loans refl refl refl refl out.memories
+lent_is x n d loan out = state_from_parts (record x { device = d }) (numbered_on n) (lent_state loan (state_of x n)) refl out.blocks refl out.births refl out.loans refl refl refl refl out.memories
 
 pub lent_parts : (l : Limits) (x : Environment) (n : Numbers) (d : DeviceState) (loan : Loan) → ArePartsSound l x n → is_lent loan.block x.device.loans ≡ false → IsLoanSound x.present.table.ranges loan → IsTakenOut x.device d loan
     → ArePartsSound l (record x { device = d }) (numbered_on n)
@@ -118,7 +118,7 @@ lent_parts l x n d loan parts free sound out =
     }
 
 pub gathered_is : (x : Environment) (n : Numbers) (d : DeviceState) (lease : Leased) → IsPutBack x.device d lease → state_of (record x { device = d }) (numbered_off n) ≡ gathered_state lease (state_of x n)
-gathered_is x n d lease back = state_by (record x { device = d }) (numbered_off n) (gathered_state lease (state_of x n)) refl back.blocks refl back.births refl back.loans refl refl refl refl back.memories
+gathered_is x n d lease back = state_from_parts (record x { device = d }) (numbered_off n) (gathered_state lease (state_of x n)) refl back.blocks refl back.births refl back.loans refl refl refl refl back.memories
 
 -- a lease that a block fits is gathered
 pub gather_is : (lease : Leased) (w : Records) → is_returnable lease w.blocks w.loans ≡ true → gather_event lease w ≡ Ok (Gathered lease.serial lease.block)

@@ -80,8 +80,8 @@ unborn_unpinned l blocks births queues born h = all queues h.transfers
 -- ---- a transfer is put, or the first one is gone
 
 -- two numbers that are equal, the one way and the other
-turned : (a b : ℕ) → (a == b) ≡ false → (b == a) ≡ false
-turned a b e = grind (arith, nat_tests)
+swapped : (a b : ℕ) → (a == b) ≡ false → (b == a) ≡ false
+swapped a b e = grind (arith, nat_tests)
 
 pub marks_put : (ranges : List Range) (q : ℕ) (t : Transfer) (queues : List (List Transfer)) (marks : List Mark) → q < length queues → AllByRecursion (IsMarkRight ranges queues) marks
     → AllByRecursion (IsMarkRight ranges (put q t queues)) (map (mark_changed t.block with_pin) marks)
@@ -91,7 +91,7 @@ marks_put ranges q t queues marks known h = marks_changed (IsMarkRight ranges qu
     own m e r = grind (arith, nat_tests, equal_self, pins-put)
 
     other : (m : Mark) → (m.block == t.block) ≡ false → IsMarkRight ranges queues m → IsMarkRight ranges (put q t queues) m
-    other m e r = grind (arith, nat_tests, pins-put, turned)
+    other m e r = grind (arith, nat_tests, pins-put, swapped)
 
 -- the mark of another block than that of the first transfer stays right
 popped_other : (ranges : List Range) (q : ℕ) (t : Transfer) (queues : List (List Transfer)) → head_of q queues ≡ Some t → (m : Mark) → (m.block == t.block) ≡ false → IsMarkRight ranges queues m → IsMarkRight ranges (popped q queues) m

@@ -15,7 +15,7 @@ use Rattle.acc_base.proofs.Lookups.{at-own}
 use Rattle.acc_base.specs.Overwriting.{overwritten}
 use Rattle.acc_host.specs.Host.{bytes_in}
 use Rattle.acc_dev.specs.Device.{DeviceState, IsBlockWritten, HasBlocksApart}
-use Rattle.acc_clauses.proofs.Copying.{from_all, written-overwritten, part, IsPartAt, part_at, moved_in, moved_out, changed-same}
+use Rattle.acc_clauses.proofs.Copying.{from_all, written-overwritten, part, IsPartAt, within_is_part, moved_in, moved_out, changed-same}
 
 -- ---- to host memory
 
@@ -88,7 +88,7 @@ pub put_in : (s : Section) (start : ℕ) (bytes : List ℕ) (d new : DeviceState
     → new ≡ record d { memories = map (memory_changed block (written_bytes (covers s) (λ a. slice_index bytes (a - s.start)) start)) d.memories }
 put_in s start bytes d new block apart sized free there within len h =
     let n : ℕ = length (bytes_of block d.memories) in
-    let to : IsPartAt s start n (s.start - start) = part_at s (record { start = start; len = n }) within in
+    let to : IsPartAt s start n (s.start - start) = within_is_part s (record { start = start; len = n }) within in
     device_written d new block (s.start - start) bytes _ h (changed-same block (overwritten (s.start - start) bytes) (written_bytes (covers s) (λ a. slice_index bytes (a - s.start)) start) d.memories
     (AllByRecursion-weaker (λ y. y.block ≡ block → length y.bytes ≡ n) (λ y. y.block ≡ block → overwritten (s.start - start) bytes y.bytes ≡ written_bytes (covers s) (λ a. slice_index bytes (a - s.start)) start y.bytes) d.memories
     (λ y long e. let same : length y.bytes ≡ n = long e in

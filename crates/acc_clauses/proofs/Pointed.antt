@@ -31,13 +31,13 @@ judged_by l n task step s r e f = rw e (ap (λ q. q >>= λ aim. Ok (record { ste
 in_state : (l : Limits) (n : ℕ) (xs : List Acted) (task : Task) (s : State) (r : Result Step Fault) → judge_step l n task (records_after xs s.records) ≡ r → judge_step l n task (state_after xs s).records ≡ r
 in_state l n xs task s r e = ap (judge_step l n task) (state_after-records xs s) ∙ e
 
-refused_by : (l : Limits) (n : ℕ) (task : Task) (s : State) (fault : Fault) → judge_step l n task s.records ≡ Err fault → judge_task l n task s ≡ Err fault
+refused_as_judged : (l : Limits) (n : ℕ) (task : Task) (s : State) (fault : Fault) → judge_step l n task s.records ≡ Err fault → judge_task l n task s ≡ Err fault
 unfolding judge_task
-refused_by l n task s fault e = rw e refl
+refused_as_judged l n task s fault e = rw e refl
 
 -- a task is refused as its step is
 pub step_refused : (l : Limits) (n : ℕ) (xs : List Acted) (task : Task) (s : State) (fault : Fault) → judge_step l n task (records_after xs s.records) ≡ Err fault → judge_task l n task (state_after xs s) ≡ Err fault
-step_refused l n xs task s fault e = refused_by l n task (state_after xs s) fault (in_state l n xs task s _ e)
+step_refused l n xs task s fault e = refused_as_judged l n task (state_after xs s) fault (in_state l n xs task s _ e)
 
 -- and else as its pointer is
 pub aim_refused : (l : Limits) (n : ℕ) (xs : List Acted) (task : Task) (step : Step) (s : State) (fault : Fault)
@@ -103,10 +103,10 @@ three_tests : (a b c : Result ⊤ Fault) (step : Step) → (a >> (b >> (c >> Ok 
 three_tests a b c step = grind (arith, nat_tests)
 
 -- a step is refused as it cannot be done
-pub step_after : (l : Limits) (n : ℕ) (task : Task) (step : Step) (before : Aim) (w : Records) (r : Result ⊤ Fault) → Ok step ≡ judge_row l n task w → before ≡ aim_before task step w → r ≡ step_free task step before l.queue_cap w
+pub aimed_step : (l : Limits) (n : ℕ) (task : Task) (step : Step) (before : Aim) (w : Records) (r : Result ⊤ Fault) → Ok step ≡ judge_row l n task w → before ≡ aim_before task step w → r ≡ step_free task step before l.queue_cap w
     → judge_step l n task w ≡ (r >> Ok step)
 unfolding judge_step
-step_after l n task step before w r row aim free = grind (arith, nat_tests, three_tests)
+aimed_step l n task step before w r row aim free = grind (arith, nat_tests, three_tests)
 
 -- or as the tables refuse it
 pub row_refused : (l : Limits) (n : ℕ) (task : Task) (w : Records) (fault : Fault) → Err fault ≡ judge_row l n task w → judge_step l n task w ≡ Err fault

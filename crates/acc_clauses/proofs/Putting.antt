@@ -22,7 +22,7 @@ use Rattle.acc_attach.specs.Attached.{AttachedState}
 use Rattle.acc_clauses.specs.declared.environments.Environment.{Environment}
 use Rattle.acc_clauses.specs.Contents.{AreMarked, bare_state}
 use Rattle.acc_clauses.specs.Acts.{IsMovedBy, IsSteppedBy}
-use Rattle.acc_clauses.proofs.Changes.{state_by, room_same, none_taken}
+use Rattle.acc_clauses.proofs.Changes.{state_from_parts, room_same, none_taken}
 use Rattle.acc_clauses.proofs.Marked.{IsMarkAt, mark_told, pins_popped, marks_put, marks_unpinned, marks_drained}
 
 -- ---- put into a queue
@@ -33,13 +33,13 @@ queue_there q spare all some = grind (arith, nat_tests, get_or_past)
 
 pub put_moves : (q : ℕ) (t : Transfer) (x : Environment) (queues : QueuesState) (device : DeviceState) → q < length x.queues.queues → AreMarked x
     → queues.queues ≡ put q t x.queues.queues → queues.cap ≡ x.queues.cap → IsRoomTaken q x.queues.spare queues.spare → IsPinned x.device device t.block → IsMovedBy (Some q) t x (record x { device = device; queues = queues })
-put_moves q t x queues device known marked more limit room pinned = grind (arith, nat_tests, state_by, room_same, none_taken, marks_put)
+put_moves q t x queues device known marked more limit room pinned = grind (arith, nat_tests, state_from_parts, room_same, none_taken, marks_put)
 
 -- ---- made at once
 
 -- the parts after a transfer is made
-abbrev pub made : Transfer → Environment → Environment
-made t x = record x {
+abbrev pub transfer_made : Transfer → Environment → Environment
+transfer_made t x = record x {
   host = host_made (Some t) x.attached.attached x.device.memories x.host;
   device = record x.device { memories = memories_made (Some t) x.attached.attached x.host x.device.memories };
 }
@@ -68,7 +68,7 @@ abbrev pub left : ℕ → Environment → Records
 left q x = record (bare_state x).records { queues = popped q x.queues.queues }
 
 -- the block of the first transfer has a mark
-pub head_mark : (q : ℕ) (t : Transfer) (x y : Environment) (queues : QueuesState) → AreMarked x → y ≡ made t (taken queues x) → AllZip IsMarkOf y.device.marks y.device.blocks → IsSome (block_at t.block x.device.blocks)
+pub head_mark : (q : ℕ) (t : Transfer) (x y : Environment) (queues : QueuesState) → AreMarked x → y ≡ transfer_made t (taken queues x) → AllZip IsMarkOf y.device.marks y.device.blocks → IsSome (block_at t.block x.device.blocks)
     → IsMarkAt x.present.table.ranges x.queues.queues y.device.marks t.block
 head_mark q t x y queues marked is zip there =
     let zipped : AllZip IsMarkOf x.device.marks x.device.blocks = rw is at zip in
@@ -79,14 +79,14 @@ head_pinned q t x y first mark = grind (arith, nat_tests, pins_popped q t x.queu
 
 -- its block is given back, with its attachment counters
 pub last_steps : (q : ℕ) (t : Transfer) (x y : Environment) (queues : QueuesState) (e : DeviceState) (b : AttachedState) → head_of q x.queues.queues ≡ Some t → queues.queues ≡ popped q x.queues.queues → queues.cap ≡ x.queues.cap → AreRoomsKept x.queues.spare queues.spare → AreMarked x
-    → y ≡ made t (taken queues x) → AllZip (IsMemoryOf y.device.loans) y.device.memories y.device.blocks → IsMarkAt x.present.table.ranges x.queues.queues y.device.marks t.block → (is_ended_at t.block y.device.marks ≡ true) × (pins_at t.block y.device.marks ≡ 1)
+    → y ≡ transfer_made t (taken queues x) → AllZip (IsMemoryOf y.device.loans) y.device.memories y.device.blocks → IsMarkAt x.present.table.ranges x.queues.queues y.device.marks t.block → (is_ended_at t.block y.device.marks ≡ true) × (pins_at t.block y.device.marks ≡ 1)
     → IsRetired y.device e t.block → b.attached ≡ without_attachments t.block y.attached.attached → b.counter_max ≡ y.attached.counter_max → y.attached.spare ≤ b.spare → IsSteppedBy q x (record y { device = e; attached = b })
 unfolding stepped released
-last_steps q t x y queues e b first gone limit room marked is sized mark last retired forgot forgot_max forgot_spare = grind (arith, nat_tests, pins_popped, unused, memories_kept-without, state_by, room_same, none_taken, marks_drained)
+last_steps q t x y queues e b first gone limit room marked is sized mark last retired forgot forgot_max forgot_spare = grind (arith, nat_tests, pins_popped, unused, memories_kept-without, state_from_parts, room_same, none_taken, marks_drained)
 
 -- its block stays
 pub more_steps : (q : ℕ) (t : Transfer) (x y : Environment) (queues : QueuesState) (e : DeviceState) → head_of q x.queues.queues ≡ Some t → queues.queues ≡ popped q x.queues.queues → queues.cap ≡ x.queues.cap → AreRoomsKept x.queues.spare queues.spare → AreMarked x
-    → y ≡ made t (taken queues x) → IsMarkAt x.present.table.ranges x.queues.queues y.device.marks t.block → ((is_ended_at t.block y.device.marks ≡ true) × (pins_at t.block y.device.marks ≡ 1) → ⊥)
+    → y ≡ transfer_made t (taken queues x) → IsMarkAt x.present.table.ranges x.queues.queues y.device.marks t.block → ((is_ended_at t.block y.device.marks ≡ true) × (pins_at t.block y.device.marks ≡ 1) → ⊥)
     → IsUnpinned y.device e t.block → IsSteppedBy q x (record y { device = e })
 unfolding stepped released
-more_steps q t x y queues e first gone limit room marked is mark more unpinned = grind (arith, nat_tests, used_pinned, pins_popped, state_by, room_same, none_taken, marks_unpinned)
+more_steps q t x y queues e first gone limit room marked is mark more unpinned = grind (arith, nat_tests, used_pinned, pins_popped, state_from_parts, room_same, none_taken, marks_unpinned)

@@ -44,8 +44,8 @@ queues-act task did w = (mapping-act task did w).queues ∙ queues-step task did
 waiting-act : (q : ℕ) (task : Task) (did : Did) (w : Records) → q < length w.queues → length (queue_at q (act task did w).queues) ≡ length (queue_at q w.queues) + puts_by q task did.step
 waiting-act q task did w there = rw (queues-act task did w, moves_some task did.step w.ranges) (waiting-after q (queue_of task) (transfer_of task did.step w.ranges) w.queues there)
 
-there-act : (q : ℕ) (task : Task) (did : Did) (w : Records) → q < length w.queues → q < length (act task did w).queues
-there-act q task did w there = rw (queues-act task did w, length-after (queue_of task) (transfer_of task did.step w.ranges) w.queues) there
+queue_there-act : (q : ℕ) (task : Task) (did : Did) (w : Records) → q < length w.queues → q < length (act task did w).queues
+queue_there-act q task did w there = rw (queues-act task did w, length-after (queue_of task) (transfer_of task did.step w.ranges) w.queues) there
 
 -- ---- tasks
 
@@ -53,7 +53,7 @@ pub waiting-tasks : (q : ℕ) (xs : List Acted) (w : Records) → q < length w.q
     → length (queue_at q (records_after xs w).queues) ≡ length (queue_at q w.queues) + puts_in q (tasks_in xs) (dids_in xs)
 unfolding act_all
 waiting-tasks q [] w there = omega arith
-waiting-tasks q (x ∷ xs) w there = grind (arith, nat_tests, waiting-tasks q xs (act x.task x.did w) (there-act q x.task x.did w there), waiting-act, there-act)
+waiting-tasks q (x ∷ xs) w there = grind (arith, nat_tests, waiting-tasks q xs (act x.task x.did w) (queue_there-act q x.task x.did w there), waiting-act, queue_there-act)
 
 -- how many transfers wait in a queue after the tasks of a plan
 pub waiting-planned : (l : Limits) (xs : List Acted) (w : Records) (q : ℕ) → IsPlanned l xs w → q < QUEUE_COUNT

@@ -2,7 +2,6 @@
 use Rattle.std.proofs.Common.{ℕ, ◌≡◌, ◌<◌, ◌≤◌, refl, false, List, [], ◌∷◌, length, Option, Some, None, arith}
 use Rattle.std.specs.List.{AllByRecursion}
 use Rattle.std.proofs.lemmas.Bool.Decides.{nat_tests}
-use Rattle.std.proofs.lemmas.List.{length-map}
 use Rattle.acc_clauses.specs.Words.{Directive, Task, Did}
 use Rattle.acc_base.specs.declared.transfers.TheConstants.{QUEUE_COUNT}
 use Rattle.acc_base.specs.Limits.{Limits}
@@ -49,8 +48,8 @@ pub one_room : (d : Directive) (c : Contents) (p : Planned) (named : ℕ) (room 
 one_room d c p named room h planned is enough = grind (arith, nat_tests, none_in, planned_queue)
 
 -- there is the queue that a planned directive names
-pub queue_there : (l : Limits) (d : Directive) (s : State) (p : Planned) (named : ℕ) → IsPlanOf l d s p → queue_in d ≡ Some named → named < QUEUE_COUNT
-queue_there l d s p named h is = known_queue named (queue_in d) is h.known
+pub named_queue_there : (l : Limits) (d : Directive) (s : State) (p : Planned) (named : ℕ) → IsPlanOf l d s p → queue_in d ≡ Some named → named < QUEUE_COUNT
+named_queue_there l d s p named h is = known_queue named (queue_in d) is h.known
 
 -- ---- all room
 

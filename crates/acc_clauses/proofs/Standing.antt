@@ -1,6 +1,6 @@
 -- Which blocks have a range, and which have ended and are kept by queued transfers, as the marks of the device tell it.
 use Rattle.std.proofs.lemmas.Bool.Decides.{nat_tests}
-use Rattle.std.proofs.Common.{ℕ, ◌≡◌, ◌<◌, refl, ◌∙◌, ap, Bool, cond, List, [], ◌∷◌, Option, Some, None, arith}
+use Rattle.std.proofs.Common.{ℕ, ◌≡◌, ◌<◌, ◌∙◌, ap, Bool, List, [], ◌∷◌, Option, Some, None, arith}
 use Rattle.std.specs.Prelude.{◌&&◌, nat_le, filter, is_none, option_map, IfSome, IsSome}
 use Rattle.std.specs.List.{AllByRecursion, AllZip}
 use Rattle.acc_clauses.specs.Words.{Range, Block, Transfer}
@@ -14,6 +14,7 @@ use Rattle.acc_base.specs.Waits.{told_ended, ended_from}
 use Rattle.acc_base.specs.Accounts.{IsClearOf, EachPair}
 use Rattle.acc_base.proofs.Elements.{AllByRecursion-weaker, AllByRecursion-filter, EachPair-weaker, found_has}
 use Rattle.acc_base.proofs.Lookups.{at-own}
+use Rattle.acc_base.proofs.KeptMemories.{filter-same}
 use Rattle.acc_dev.specs.Marks.{Mark, pins_at, is_ended_at, ended_told, lowest_ended, IsMarkOf}
 use Rattle.acc_clauses.specs.declared.numbers.Numbers.{Numbers}
 use Rattle.acc_clauses.specs.declared.environments.Environment.{Environment}
@@ -23,18 +24,13 @@ use Rattle.acc_clauses.proofs.Marked.{IsMarkAt, mark_told}
 
 -- ---- the mark of a block
 
-abbrev number_in : Block → ℕ
-number_in b = b.number
+abbrev own_number : Block → ℕ
+own_number b = b.number
 
-pub told : (l : Limits) (x : Environment) (next : Numbers) (k : ℕ) → ArePartsSound l x next → AllZip IsMarkOf x.device.marks x.device.blocks → IsSome (block_at k x.device.blocks) → IsMarkAt x.present.table.ranges x.queues.queues x.device.marks k
-told l x next k sound zip there = mark_told x.present.table.ranges x.queues.queues k x.device.marks x.device.blocks zip there sound.marked
+pub told_by_mark : (l : Limits) (x : Environment) (next : Numbers) (k : ℕ) → ArePartsSound l x next → AllZip IsMarkOf x.device.marks x.device.blocks → IsSome (block_at k x.device.blocks) → IsMarkAt x.present.table.ranges x.queues.queues x.device.marks k
+told_by_mark l x next k sound zip there = mark_told x.present.table.ranges x.queues.queues k x.device.marks x.device.blocks zip there sound.marked
 
 -- ---- the lowest block that has ended
-
--- two tests that agree on each block keep the same ones
-filter-same : (p q : Block → Bool) (bs : List Block) → AllByRecursion (λ b. p b ≡ q b) bs → filter p bs ≡ filter q bs
-filter-same p q [] h = refl
-filter-same p q (b ∷ bs) h = rw h.0 (ap (λ rest. cond (q b) (b ∷ rest) rest) (filter-same p q bs h.1))
 
 lowest_has : (P : Block → Type 0) (bs : List Block) → AllByRecursion P bs → IfSome (lowest bs) P
 lowest_has P [] h = tt
@@ -60,7 +56,7 @@ ended_is l x next from sound zip =
     EachPair-weaker IsClearOf (λ (b : Block) (c : Block). b.number ≡ c.number → ⊥) x.device.blocks (λ b c clear same. let less : b.number < c.number = clear.numbers in omega arith) sound.sound.records.blocks_apart.apart in
     lowest_same from x.present.table.ranges x.queues.queues x.device.marks x.device.blocks
     (AllByRecursion-weaker (λ (b : Block). block_at b.number x.device.blocks ≡ Some b) (λ (b : Block). IsMarkAt x.present.table.ranges x.queues.queues x.device.marks b.number) x.device.blocks
-    (λ b own. told l x next b.number sound zip (is_some (block_at b.number x.device.blocks) b own)) (at-own number_in x.device.blocks distinct))
+    (λ b own. told_by_mark l x next b.number sound zip (is_some (block_at b.number x.device.blocks) b own)) (at-own own_number x.device.blocks distinct))
 
 -- ---- loans
 

@@ -23,7 +23,7 @@ use Rattle.acc_clauses.specs.declared.environments.Environment.{Environment}
 use Rattle.acc_clauses.specs.Contents.{AreMarked, state_of}
 use Rattle.acc_clauses.specs.Overlays.{puts_by}
 use Rattle.acc_clauses.specs.Acts.{IsChangedBy, IsActedBy}
-use Rattle.acc_clauses.proofs.Changes.{state_by, room_same}
+use Rattle.acc_clauses.proofs.Changes.{state_from_parts, room_same}
 use Rattle.acc_clauses.proofs.Marked.{marks_counted}
 
 -- ---- ranges
@@ -83,14 +83,14 @@ pub counted_acts : (task : Task) (k : ℕ) (x : Environment) (r : PresentState) 
     → IsActedBy task (Counted k) x (record x { present = r })
 unfolding step_state act_step act_row with_range_changed
 counted_acts task k x r e room marked = counter_acts (step_state task (Counted k)) (λ q. puts_by q task (Counted k)) task k x r e room marked
-    (λ next. state_by (record x { present = r }) next (step_state task (Counted k) (state_of x next)) (ap (λ t. t.ranges) e) refl refl refl (sym (none_put (queue_of task) x.queues.queues)) refl (ap (λ t. t.regions) e) refl refl
+    (λ next. state_from_parts (record x { present = r }) next (step_state task (Counted k) (state_of x next)) (ap (λ t. t.ranges) e) refl refl refl (sym (none_put (queue_of task) x.queues.queues)) refl (ap (λ t. t.regions) e) refl refl
     (rw (none_made (queue_of task)) refl) (rw (none_made (queue_of task)) refl))
 
 pub dropped_acts : (task : Task) (k : ℕ) (x : Environment) (r : PresentState) → r.table ≡ with_ranges x.present.table (changed_at k (recounted task) x.present.table.ranges) → present.IsRoomKept x.present.room r.room → AreMarked x
     → IsActedBy task (Dropped k false) x (record x { present = r })
 unfolding step_state act_step act_row with_range_changed
 dropped_acts task k x r e room marked = counter_acts (step_state task (Dropped k false)) (λ q. puts_by q task (Dropped k false)) task k x r e room marked
-    (λ next. state_by (record x { present = r }) next (step_state task (Dropped k false) (state_of x next)) (ap (λ t. t.ranges) e) refl refl refl (sym (none_put (queue_of task) x.queues.queues)) refl (ap (λ t. t.regions) e) refl refl
+    (λ next. state_from_parts (record x { present = r }) next (step_state task (Dropped k false) (state_of x next)) (ap (λ t. t.ranges) e) refl refl refl (sym (none_put (queue_of task) x.queues.queues)) refl (ap (λ t. t.regions) e) refl refl
     (rw (none_made (queue_of task)) refl) (rw (none_made (queue_of task)) refl))
 
 -- ---- what the calls on the present table need

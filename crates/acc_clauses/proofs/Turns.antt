@@ -67,11 +67,11 @@ unfolding judge_all
 judge_all-cons l n task tasks s = refl
 
 -- what is judged goes from the tasks that are left to those that are done
-pub turn : (l : Limits) (n i : ℕ) (xs ys : List Acted) (task : Task) (tasks : List Task) (d : Task) (s : State) (all : Result (List Did) Fault)
+pub task_judged : (l : Limits) (n i : ℕ) (xs ys : List Acted) (task : Task) (tasks : List Task) (d : Task) (s : State) (all : Result (List Did) Fault)
     → i < length tasks → task ≡ get_or tasks i d → IsJudgedNext l n task s xs ys
     → prefixed (dids_in xs) (judge_all l n (drop i tasks) (state_after xs s)) ≡ all
     → prefixed (dids_in ys) (judge_all l (n + 1) (drop (i + 1) tasks) (state_after ys s)) ≡ all
-turn l n i xs ys task tasks d s all within item next so = grind (arith, nat_tests, drop_more, judge_all-cons, state_after-push, dids_in-push, add-one, append_assoc)
+task_judged l n i xs ys task tasks d s all within item next so = grind (arith, nat_tests, drop_more, judge_all-cons, state_after-push, dids_in-push, add-one, append_assoc)
 
 -- a refused task is the answer
 pub turn_refused : (l : Limits) (n i : ℕ) (xs : List Acted) (task : Task) (tasks : List Task) (d : Task) (s : State) (fault : Fault) (all : Result (List Did) Fault)

@@ -29,8 +29,8 @@ use Rattle.acc_dev.proofs.Placing.{some_bytes, planned_place, birth_at, fit_from
 use Rattle.acc_dev.proofs.Keeping.{device_of, shared}
 
 -- the block of a slot
-abbrev born_block : ℕ → Stored → Block
-born_block number x = record { number = number; place = x.place; len = x.len }
+abbrev stored_block : ℕ → Stored → Block
+stored_block number x = record { number = number; place = x.place; len = x.len }
 
 -- the blocks, their bytes and what a device keeps, with an entry more
 pub blocks-born : (s t : List (Option Stored)) (xs : List (ℕ × ℕ)) (number k : ℕ) (x : Stored) → AllByRecursion (λ e. IsSome (slot_of s e)) xs → get_or s k None ≡ None → get_or t k None ≡ Some x → KeepsOthers s t k
@@ -65,8 +65,8 @@ pub born_kept : (old new : Space) (s t : List (Option Stored)) (xs : List (ℕ �
 born_kept old new s t xs number k x kept above vacant is others len long free mark canonical part =
     let off = vacant_off s k xs kept.filled vacant in
     let same : AreSame s t xs = same_from s t k xs others off in
-    let blocks : blocks_in t (xs ++ (number, k) ∷ []) ≡ blocks_in s xs ++ born_block number x ∷ [] = blocks-born s t xs number k x kept.filled vacant is others in
-    let ranges : map taken_range (blocks_in s xs ++ born_block number x ∷ []) ≡ map taken_range (blocks_in s xs) ++ taken_range (born_block number x) ∷ [] = map-append taken_range (blocks_in s xs) (born_block number x ∷ []) in
+    let blocks : blocks_in t (xs ++ (number, k) ∷ []) ≡ blocks_in s xs ++ stored_block number x ∷ [] = blocks-born s t xs number k x kept.filled vacant is others in
+    let ranges : map taken_range (blocks_in s xs ++ stored_block number x ∷ []) ≡ map taken_range (blocks_in s xs) ++ taken_range (stored_block number x) ∷ [] = map-append taken_range (blocks_in s xs) (stored_block number x ∷ []) in
     record {
       canonical = canonical;
       rising = EachPair-push (λ (d : ℕ × ℕ) (e : ℕ × ℕ). d.0 < e.0) xs (number, k) above kept.rising;
@@ -75,12 +75,12 @@ born_kept old new s t xs number k x kept above vacant is others len long free ma
           (AllByRecursion-both (λ (e : ℕ × ℕ). slot_of t e ≡ slot_of s e) (λ e. IsSome (slot_of s e)) (λ e. IsSome (slot_of t e)) xs (λ e q some. subst IsSome (sym q) some) same kept.filled)
           (subst IsSome (sym is) refl, tt);
       others_empty = λ j off_all. let parts = off_parts xs (number, k) j off_all in others j (λ same. parts.1 (sym same)) ∙ kept.others_empty j parts.0;
-      lens = rw blocks (AllByRecursion-append (λ (b : Block). IsFromOne MEMORY_MAX b.len) (blocks_in s xs) (born_block number x ∷ []) kept.lens (len, tt));
+      lens = rw blocks (AllByRecursion-append (λ (b : Block). IsFromOne MEMORY_MAX b.len) (blocks_in s xs) (stored_block number x ∷ []) kept.lens (len, tt));
       marks = rw (marks-born s t xs number k x kept.filled vacant is others) (AllByRecursion-append IsSoundMark (marks_in s xs) (mark_from number (Some x) ∷ []) kept.marks (mark, tt));
       backed = AllByRecursion-append (λ (e : ℕ × ℕ). IsBacked e.0 (slot_of t e)) xs ((number, k) ∷ [])
           (AllByRecursion-both (λ (e : ℕ × ℕ). slot_of t e ≡ slot_of s e) (λ e. IsBacked e.0 (slot_of s e)) (λ e. IsBacked e.0 (slot_of t e)) xs (λ e q backed. subst (IsBacked e.0) (sym q) backed) same kept.backed)
           (subst (IsBacked number) (sym is) (backed_new number x free long), tt);
-      partition = rw (blocks, ranges) (partition_last new (map taken_range (blocks_in s xs)) (taken_range (born_block number x)) (part (map taken_range (blocks_in s xs)) kept.partition));
+      partition = rw (blocks, ranges) (partition_last new (map taken_range (blocks_in s xs)) (taken_range (stored_block number x)) (part (map taken_range (blocks_in s xs)) kept.partition));
     }
 
 -- the place that a look ahead finds is that of a birth

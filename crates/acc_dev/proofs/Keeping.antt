@@ -77,8 +77,8 @@ pub next_found : (h : Space) (s : List (Option Stored)) (xs : List (ℕ × ℕ))
 next_found h s xs from o k found = next_of h (blocks_in s xs) from o (shared h s xs k) found
 
 -- and take no more bytes than it has
-pub used_within : (h : Space) (s : List (Option Stored)) (xs : List (ℕ × ℕ)) → AreSlotsKept h s xs → used_bytes (blocks_in s xs) ≤ h.size
-used_within h s xs k = omega (arith, total-used (blocks_in s xs), k.partition.sizes)
+pub kept_used_within : (h : Space) (s : List (Option Stored)) (xs : List (ℕ × ℕ)) → AreSlotsKept h s xs → used_bytes (blocks_in s xs) ≤ h.size
+kept_used_within h s xs k = omega (arith, total-used (blocks_in s xs), k.partition.sizes)
 
 -- the block of the loan of a slot is there and mapped, and the section lies in it
 loan_on : (h : Space) (s : List (Option Stored)) (xs : List (ℕ × ℕ)) (births i : ℕ) (room : List ℕ) (l : Loan) → AreSlotsKept h s xs → i < length xs → stored_loan (slot_of s (get_or xs i start)) ≡ Some l → IsLoanOn (device_of h s xs births room) l
@@ -139,8 +139,8 @@ slot_known : (P : Option Stored → Type 0) (s : List (Option Stored)) (xs : Lis
 slot_known P s xs n k slot known = subst (λ (j : ℕ). P (get_or s j None)) slot.is known
 
 -- a block that is there has an entry
-pub listed : (d : Inside) (now : DeviceState) (n : ℕ) → device_of d.holes d.slab.slots d.index.items d.births (room_ready d) ≡ now → HasBlock now n → AllByRecursion (λ e. e.0 ≡ n → ⊥) d.index.items → ⊥
-listed d now n is there none = false≢true (subst IsSome (block_at-none d.slab.slots d.index.items n none) (subst (λ (x : DeviceState). HasBlock x n) (sym is) there))
+pub block_listed : (d : Inside) (now : DeviceState) (n : ℕ) → device_of d.holes d.slab.slots d.index.items d.births (room_ready d) ≡ now → HasBlock now n → AllByRecursion (λ e. e.0 ≡ n → ⊥) d.index.items → ⊥
+block_listed d now n is there none = false≢true (subst IsSome (block_at-none d.slab.slots d.index.items n none) (subst (λ (x : DeviceState). HasBlock x n) (sym is) there))
 
 -- the slot of a block is not empty
 pub filled_slot : (h : Space) (s : List (Option Stored)) (xs : List (ℕ × ℕ)) (n k : ℕ) → AreSlotsKept h s xs → IsSlotOf xs n k → IsSome (get_or s k None)
@@ -151,8 +151,8 @@ pub bytes_at : (s : List (Option Stored)) (xs : List (ℕ × ℕ)) (n k : ℕ) �
 bytes_at s xs n k rise slot = slot_known (λ o. bytes_of n (memories_in s xs) ≡ stored_bytes o) s xs n k slot (bytes_of-entry s xs slot.at n rise slot.entry)
 
 -- the loan of a block is that of its slot
-pub loan_at : (s : List (Option Stored)) (xs : List (ℕ × ℕ)) (n k : ℕ) → IsIndexRising xs → AreBacked s xs → IsSlotOf xs n k → loan_of n (loans_in s xs) ≡ stored_loan (get_or s k None)
-loan_at s xs n k rise backed slot = slot_known (λ o. loan_of n (loans_in s xs) ≡ stored_loan o) s xs n k slot (loan_of-entry s xs slot.at n rise backed slot.entry.in_bounds slot.entry.number)
+pub loan_of_slot : (s : List (Option Stored)) (xs : List (ℕ × ℕ)) (n k : ℕ) → IsIndexRising xs → AreBacked s xs → IsSlotOf xs n k → loan_of n (loans_in s xs) ≡ stored_loan (get_or s k None)
+loan_of_slot s xs n k rise backed slot = slot_known (λ o. loan_of n (loans_in s xs) ≡ stored_loan o) s xs n k slot (loan_of-entry s xs slot.at n rise backed slot.entry.in_bounds slot.entry.number)
 
 -- whether the mapping of a block has ended is what its slot says
 pub ended_at : (s : List (Option Stored)) (xs : List (ℕ × ℕ)) (n k : ℕ) → IsIndexRising xs → IsSlotOf xs n k → is_ended_at n (marks_in s xs) ≡ stored_ended (get_or s k None)
@@ -188,7 +188,7 @@ stored_of h s xs births n k room x kept slot is =
       pins = sym (pins_at_slot s xs n k kept.rising slot ∙ ap stored_pins is);
       few = subst (λ (o : Option Stored). stored_pins o ≤ 2 ^ 32) is (slot_known (λ o. stored_pins o ≤ 2 ^ 32) s xs n k slot (sound_at h s xs i kept entry.in_bounds).few);
       ended = sym (ended_at s xs n k kept.rising slot ∙ ap stored_ended is);
-      loan = sym (loan_at s xs n k kept.rising kept.backed slot ∙ ap stored_loan is);
+      loan = sym (loan_of_slot s xs n k kept.rising kept.backed slot ∙ ap stored_loan is);
       free = λ ended. ended_free s xs i n kept.rising kept.backed entry.in_bounds entry.number (rw (slot.is, is) ended);
     }
 

@@ -11,11 +11,11 @@ use Rattle.acc_dev.specs.declared.entries.Stored.{Stored}
 use Rattle.acc_dev.specs.Kept.{stored_len, stored_bytes, stored_loan, blocks_in, loans_in, IsIndexRising, IsSlotOf, AreSlotsKept}
 use Rattle.acc_dev.proofs.LoanLists.{loan_of-none}
 use Rattle.acc_dev.proofs.Lent.{AreBacked, loans_all}
-use Rattle.acc_dev.proofs.Keeping.{loan_at, long_at, whole_at, len_slot}
+use Rattle.acc_dev.proofs.Keeping.{loan_of_slot, long_at, whole_at, len_slot}
 
 -- what a look at a slot answers is whether the block is lent
 pub lent_at : (s : List (Option Stored)) (xs : List (ℕ × ℕ)) (n k : ℕ) (loan : Option Loan) (is : Bool) → IsIndexRising xs → AreBacked s xs → IsSlotOf xs n k → loan ≡ stored_loan (get_or s k None) → is_some loan ≡ is → is_lent n (loans_in s xs) ≡ is
-lent_at s xs n k loan is rise backed slot here some = ap (λ (o : Option Loan). is_some o) (loan_at s xs n k rise backed slot ∙ sym here) ∙ some
+lent_at s xs n k loan is rise backed slot here some = ap (λ (o : Option Loan). is_some o) (loan_of_slot s xs n k rise backed slot ∙ sym here) ∙ some
 
 -- where it answers no, there is no loan
 pub none_here : (o : Option Loan) → is_some o ≡ false → o ≡ None
@@ -34,7 +34,7 @@ capped_at h s xs n k kept slot free = subst (λ (m : ℕ). m ≤ MEMORY_MAX) (sy
 pub returnable_at : (s : List (Option Stored)) (xs : List (ℕ × ℕ)) (k : ℕ) (lease : Leased) (is : Bool) → IsIndexRising xs → AreBacked s xs → IsSlotOf xs lease.block k
     → is ≡ (is_loan_of lease (stored_loan (get_or s k None)) && stored_len (get_or s k None) == length lease.bytes) → is_returnable lease (blocks_in s xs) (loans_in s xs) ≡ is
 returnable_at s xs k lease is rise backed slot here =
-    ap₂ (λ (o : Option Loan) (n : ℕ). is_loan_of lease o && n == length lease.bytes) (loan_at s xs lease.block k rise backed slot) (long_at s xs lease.block k rise slot) ∙ sym here
+    ap₂ (λ (o : Option Loan) (n : ℕ). is_loan_of lease o && n == length lease.bytes) (loan_of_slot s xs lease.block k rise backed slot) (long_at s xs lease.block k rise slot) ∙ sym here
 
 -- a lease of a block that is not there brings none back
 pub unknown_block : (s : List (Option Stored)) (xs : List (ℕ × ℕ)) (lease : Leased) → AreBacked s xs → AllByRecursion (λ e. e.0 ≡ lease.block → ⊥) xs → is_returnable lease (blocks_in s xs) (loans_in s xs) ≡ false

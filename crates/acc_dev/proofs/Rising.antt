@@ -23,8 +23,8 @@ abbrev pub start : ℕ × ℕ
 start = (0, 0)
 
 -- the number of an entry
-abbrev pub number_of : ℕ × ℕ → ℕ
-number_of e = e.0
+abbrev pub entry_number : ℕ × ℕ → ℕ
+entry_number e = e.0
 
 -- the entry at a place, as it was read
 pub entry_read : (xs : List (ℕ × ℕ)) (i : ℕ) (e : ℕ × ℕ) → e ≡ get_or xs i e → i < length xs → get_or xs i start ≡ e
@@ -65,9 +65,9 @@ searched xs n (Err at) rise range parted =
 -- a search by number finds the entry of that number
 pub find_at : (xs : List (ℕ × ℕ)) (i n : ℕ) → IsIndexRising xs → i < length xs → (get_or xs i start).0 ≡ n → find (λ e. e.0 == n) xs ≡ Some (get_or xs i start)
 find_at xs i n r lt is =
-    let own : AllByRecursion (λ (e : ℕ × ℕ). find (λ (d : ℕ × ℕ). d.0 == e.0) xs ≡ Some e) xs = at-own number_of xs (rise_distinct number_of xs r) in
+    let own : AllByRecursion (λ (e : ℕ × ℕ). find (λ (d : ℕ × ℕ). d.0 == e.0) xs ≡ Some e) xs = at-own entry_number xs (rise_distinct entry_number xs r) in
     subst (λ (m : ℕ). find (λ (e : ℕ × ℕ). e.0 == m) xs ≡ Some (get_or xs i start)) is (all_at (λ (e : ℕ × ℕ). find (λ (d : ℕ × ℕ). d.0 == e.0) xs ≡ Some e) xs i start lt own)
 
 -- taking out the entry at a place is leaving out its number
 pub remove-filter : (xs : List (ℕ × ℕ)) (i n : ℕ) → IsIndexRising xs → i < length xs → (get_or xs i start).0 ≡ n → filter (λ e. not (e.0 == n)) xs ≡ remove xs i
-remove-filter xs i n r lt is = sym (keyed.remove-filter number_of xs i n start (rise_distinct number_of xs r) lt is)
+remove-filter xs i n r lt is = sym (keyed.remove-filter entry_number xs i n start (rise_distinct entry_number xs r) lt is)

@@ -12,12 +12,12 @@ use Rattle.acc_base.specs.Accounts.{EachPair}
 use Rattle.acc_base.proofs.Elements.{AllByRecursion-weaker, find-map}
 use Rattle.acc_base.proofs.Results.{equal_self}
 use Rattle.acc_dev.specs.declared.entries.Stored.{Stored}
-use Rattle.acc_dev.specs.Marks.{Mark, mark_at, pins_at, is_ended_at, mark_changed, IsMarkOf}
+use Rattle.acc_dev.specs.Marks.{Mark, mark_numbered, pins_at, is_ended_at, mark_changed, IsMarkOf}
 use Rattle.acc_dev.specs.Kept.{stored_place, stored_len, stored_bytes, stored_pins, stored_ended, block_from, memory_from, mark_from, slot_of, blocks_in, memories_in, marks_in, IsIndexRising, IsEntry, IsSlotOf}
 use Rattle.acc_base.proofs.Splitting.{all_at}
 use Rattle.acc_base.proofs.Lookups.{at-none}
 use Rattle.acc_base.proofs.Keyed.{map-remove}
-use Rattle.acc_dev.proofs.Rising.{start, number_of, find_at}
+use Rattle.acc_dev.proofs.Rising.{start, entry_number, find_at}
 
 -- the slots of these entries are as they were
 abbrev pub AreSame : List (Option Stored) → List (Option Stored) → List (ℕ × ℕ) → Type 0
@@ -77,7 +77,7 @@ bytes_of-entry s xs i n rise entry =
 -- a number without an entry has no block
 pub block_at-none : (s : List (Option Stored)) (xs : List (ℕ × ℕ)) (n : ℕ) → AllByRecursion (λ e. e.0 ≡ n → ⊥) xs → block_at n (blocks_in s xs) ≡ None
 block_at-none s xs n h =
-    find-map (λ (e : ℕ × ℕ). block_from e.0 (slot_of s e)) (λ e. e.0 == n) (λ b. b.number == n) xs (λ e. refl) ∙ ap (option_map (λ (e : ℕ × ℕ). block_from e.0 (slot_of s e))) (at-none number_of n xs h)
+    find-map (λ (e : ℕ × ℕ). block_from e.0 (slot_of s e)) (λ e. e.0 == n) (λ b. b.number == n) xs (λ e. refl) ∙ ap (option_map (λ (e : ℕ × ℕ). block_from e.0 (slot_of s e))) (at-none entry_number n xs h)
 
 -- the marks run in step with the blocks
 pub marks_in_step : (s : List (Option Stored)) (xs : List (ℕ × ℕ)) → AllZip IsMarkOf (marks_in s xs) (blocks_in s xs)
@@ -85,7 +85,7 @@ marks_in_step s [] = tt
 marks_in_step s (x ∷ xs) = (refl, marks_in_step s xs)
 
 -- the mark of a number is what the slot of its entry has
-mark_at-entry : (s : List (Option Stored)) (xs : List (ℕ × ℕ)) (i n : ℕ) → IsIndexRising xs → IsEntry xs n i → mark_at n (marks_in s xs) ≡ Some (mark_from (get_or xs i start).0 (slot_of s (get_or xs i start)))
+mark_at-entry : (s : List (Option Stored)) (xs : List (ℕ × ℕ)) (i n : ℕ) → IsIndexRising xs → IsEntry xs n i → mark_numbered n (marks_in s xs) ≡ Some (mark_from (get_or xs i start).0 (slot_of s (get_or xs i start)))
 mark_at-entry s xs i n rise entry =
     find-map (λ (e : ℕ × ℕ). mark_from e.0 (slot_of s e)) (λ e. e.0 == n) (λ m. m.block == n) xs (λ e. refl) ∙ ap (option_map (λ (e : ℕ × ℕ). mark_from e.0 (slot_of s e))) (find_at xs i n rise entry.in_bounds entry.number)
 
@@ -139,20 +139,20 @@ abbrev pub AreTold : List (ℕ × ℕ) → ℕ → ℕ → Type 0
 AreTold xs n k = AllByRecursion (λ e. ((e.0 ≡ n) × (e.1 ≡ k)) ⊎ ((e.0 ≡ n → ⊥) × (e.1 ≡ k → ⊥))) xs
 
 -- the entries are told apart by their numbers as by their slots
-told : (xs : List (ℕ × ℕ)) (i : ℕ) → IsIndexRising xs → EachPair (λ d e. d.1 ≡ e.1 → ⊥) xs → i < length xs → AreTold xs (get_or xs i start).0 (get_or xs i start).1
-told [] i rise distinct lt = absurd (omega arith)
-told (x ∷ xs) zero rise distinct lt = (inl (refl, refl), off xs rise.0 distinct.0)
+slot_told : (xs : List (ℕ × ℕ)) (i : ℕ) → IsIndexRising xs → EachPair (λ d e. d.1 ≡ e.1 → ⊥) xs → i < length xs → AreTold xs (get_or xs i start).0 (get_or xs i start).1
+slot_told [] i rise distinct lt = absurd (omega arith)
+slot_told (x ∷ xs) zero rise distinct lt = (inl (refl, refl), off xs rise.0 distinct.0)
   where
     off : (ys : List (ℕ × ℕ)) → AllByRecursion (λ (e : ℕ × ℕ). x.0 < e.0) ys → AllByRecursion (λ (e : ℕ × ℕ). x.1 ≡ e.1 → ⊥) ys → AreTold ys x.0 x.1
     off [] above differs = tt
     off (y ∷ ys) above differs = (inr (λ same. omega (arith, above.0), λ same. differs.0 (sym same)), off ys above.1 differs.1)
-told (x ∷ xs) (suc i) rise distinct lt =
+slot_told (x ∷ xs) (suc i) rise distinct lt =
     let less : x.0 < (get_or xs i start).0 = all_at (λ (e : ℕ × ℕ). x.0 < e.0) xs i start (omega arith) rise.0 in
-    (inr (λ same. omega arith, all_at (λ (e : ℕ × ℕ). x.1 ≡ e.1 → ⊥) xs i start (omega arith) distinct.0), told xs i rise.1 distinct.1 (omega arith))
+    (inr (λ same. omega arith, all_at (λ (e : ℕ × ℕ). x.1 ≡ e.1 → ⊥) xs i start (omega arith) distinct.0), slot_told xs i rise.1 distinct.1 (omega arith))
 
 -- so is the entry of a block, by its slot
 pub told_slot : (xs : List (ℕ × ℕ)) (n k : ℕ) → IsIndexRising xs → EachPair (λ d e. d.1 ≡ e.1 → ⊥) xs → IsSlotOf xs n k → AreTold xs n k
-told_slot xs n k rise distinct slot = subst (λ (j : ℕ). AreTold xs n j) slot.is (subst (λ (m : ℕ). AreTold xs m (get_or xs slot.at start).1) slot.entry.number (told xs slot.at rise distinct slot.entry.in_bounds))
+told_slot xs n k rise distinct slot = subst (λ (j : ℕ). AreTold xs n j) slot.is (subst (λ (m : ℕ). AreTold xs m (get_or xs slot.at start).1) slot.entry.number (slot_told xs slot.at rise distinct slot.entry.in_bounds))
 
 -- what is made of the slot of one entry changes alone, where entries are told apart
 made-changed : {Y : Type 0} (f : ℕ → Option Stored → Y) (change : Y → Y) (s t : List (Option Stored)) (n k : ℕ) (xs : List (ℕ × ℕ)) → KeepsOthers s t k → f n (get_or t k None) ≡ change (f n (get_or s k None)) → ((m : ℕ) (o : Option Stored) → (m ≡ n → ⊥) → change (f m o) ≡ f m o) → AreTold xs n k

@@ -33,14 +33,14 @@ listed_low low (h ∷ t) high x s c = elim (first_or_later h x t c) [
 -- ---- ranges whose neighbours are not in the list
 
 -- each address of the range is in the list, and none beside it
-record IsRun (hs : List (ℕ × ℕ)) (x : ℕ × ℕ) : Type 0 where
+record IsVacantRun (hs : List (ℕ × ℕ)) (x : ℕ × ℕ) : Type 0 where
   some : 0 < x.1
   all : IsFit hs x.1 x.0
   before : (a : ℕ) → suc a ≡ x.0 → IsIn hs a → ⊥
   behind : IsIn hs (x.0 + x.1) → ⊥
 
 -- the first of ranges that rise without touching
-first_run : (low : ℕ) (h : ℕ × ℕ) (t : List (ℕ × ℕ)) (high : ℕ) → IsRising low (h ∷ t) high → IsRun (h ∷ t) h
+first_run : (low : ℕ) (h : ℕ × ℕ) (t : List (ℕ × ℕ)) (high : ℕ) → IsRising low (h ∷ t) high → IsVacantRun (h ∷ t) h
 first_run low h t high s = record {
   some = s.1;
   all = λ a w. inl w;
@@ -49,7 +49,7 @@ first_run low h t high s = record {
 }
 
 -- a later one
-later_run : (low : ℕ) (h : ℕ × ℕ) (t : List (ℕ × ℕ)) (high : ℕ) (x : ℕ × ℕ) → IsRising low (h ∷ t) high → h.0 + h.1 + 1 ≤ x.0 → IsRun t x → IsRun (h ∷ t) x
+later_run : (low : ℕ) (h : ℕ × ℕ) (t : List (ℕ × ℕ)) (high : ℕ) (x : ℕ × ℕ) → IsRising low (h ∷ t) high → h.0 + h.1 + 1 ≤ x.0 → IsVacantRun t x → IsVacantRun (h ∷ t) x
 later_run low h t high x s apart r = record {
   some = r.some;
   all = λ a w. inr (r.all a w);
@@ -58,15 +58,15 @@ later_run low h t high x s apart r = record {
 }
 
 -- each listed one
-run_from : (low : ℕ) (hs : List (ℕ × ℕ)) (high : ℕ) (x : ℕ × ℕ) → IsRising low hs high → Contains hs x → IsRun hs x
+run_from : (low : ℕ) (hs : List (ℕ × ℕ)) (high : ℕ) (x : ℕ × ℕ) → IsRising low hs high → Contains hs x → IsVacantRun hs x
 run_from low [] high x s c = absurd (omega (arith, c.1))
 run_from low (h ∷ t) high x s c = elim (first_or_later h x t c) [
-  | inl e ↦ subst (IsRun (h ∷ t)) e (first_run low h t high s)
+  | inl e ↦ subst (IsVacantRun (h ∷ t)) e (first_run low h t high s)
   | inr d ↦ later_run low h t high x s (listed_low (h.0 + h.1 + 1) t high x s.3 d) (run_from (h.0 + h.1 + 1) t high x s.3 d)
 ]
 
 -- a range that begins in the first one is the first one
-is_first : (low : ℕ) (h : ℕ × ℕ) (t : List (ℕ × ℕ)) (high : ℕ) (x : ℕ × ℕ) → IsRising low (h ∷ t) high → IsRun (h ∷ t) x → Spans h.0 h.1 x.0 → h ≡ x
+is_first : (low : ℕ) (h : ℕ × ℕ) (t : List (ℕ × ℕ)) (high : ℕ) (x : ℕ × ℕ) → IsRising low (h ∷ t) high → IsVacantRun (h ∷ t) x → Spans h.0 h.1 x.0 → h ≡ x
 is_first low h t high x s r w =
     let from : h.0 ≤ x.0 = w.0 in
     let under : x.0 < h.0 + h.1 = w.1 in
@@ -87,7 +87,7 @@ is_first low h t high x s r w =
     ap (λ (p : ℕ). pair p h.1) first ∙ ap (λ (n : ℕ). pair x.0 n) last
 
 -- a range that begins behind the first one is one of the others
-run_later : (low : ℕ) (h : ℕ × ℕ) (t : List (ℕ × ℕ)) (high : ℕ) (x : ℕ × ℕ) → IsRising low (h ∷ t) high → h.0 + h.1 + 1 ≤ x.0 → IsRun (h ∷ t) x → IsRun t x
+run_later : (low : ℕ) (h : ℕ × ℕ) (t : List (ℕ × ℕ)) (high : ℕ) (x : ℕ × ℕ) → IsRising low (h ∷ t) high → h.0 + h.1 + 1 ≤ x.0 → IsVacantRun (h ∷ t) x → IsVacantRun t x
 run_later low h t high x s apart r = record {
   some = r.some;
   all = λ a w. elim (r.all a w) [ inl v ↦ absurd (let below : a < h.0 + h.1 = v.1 in let from : x.0 ≤ a = w.0 in omega arith) | inr j ↦ j ];
@@ -95,7 +95,7 @@ run_later low h t high x s apart r = record {
   behind = λ i. r.behind (inr i);
 }
 
-run_listed : (low : ℕ) (hs : List (ℕ × ℕ)) (high : ℕ) (x : ℕ × ℕ) → IsRising low hs high → IsRun hs x → Contains hs x
+run_listed : (low : ℕ) (hs : List (ℕ × ℕ)) (high : ℕ) (x : ℕ × ℕ) → IsRising low hs high → IsVacantRun hs x → Contains hs x
 run_listed low [] high x s r = absurd (r.all x.0 (omega arith, omega (arith, r.some)))
 run_listed low (h ∷ t) high x s r = elim (r.all x.0 (omega arith, omega (arith, r.some))) [
   | inl w ↦ (0, omega arith, is_first low h t high x s r w)
@@ -114,7 +114,7 @@ in_vacant s bs a k i = (in_bounds s.base s.holes (s.base + s.size) a k.canonical
 abbrev pub hole_of : ℕ × ℕ → Hole
 hole_of x = record { place = x.0; size = x.1 }
 
-run_hole : (s : Space) (bs : List Block) (x : ℕ × ℕ) → IsShared s bs → IsRun s.holes x → IsHole (memory_of s) bs (hole_of x)
+run_hole : (s : Space) (bs : List Block) (x : ℕ × ℕ) → IsShared s bs → IsVacantRun s.holes x → IsHole (memory_of s) bs (hole_of x)
 run_hole s bs x k r = record {
   some = r.some;
   vacant = λ a low high. in_vacant s bs a k (r.all a (low, high));
@@ -122,7 +122,7 @@ run_hole s bs x k r = record {
   behind = λ v. r.behind (vacant_in s bs (x.0 + x.1) k v);
 }
 
-hole_run : (s : Space) (bs : List Block) (h : Hole) → IsShared s bs → IsHole (memory_of s) bs h → IsRun s.holes (h.place, h.size)
+hole_run : (s : Space) (bs : List Block) (h : Hole) → IsShared s bs → IsHole (memory_of s) bs h → IsVacantRun s.holes (h.place, h.size)
 hole_run s bs h k hole = record {
   some = hole.some;
   all = λ a w. vacant_in s bs a k (hole.vacant a w.0 w.1);
@@ -140,9 +140,9 @@ holes_listed s bs k h = (
 -- ---- the next one
 
 -- the first listed range from an address on is the least of them
-first_least : (from low : ℕ) (hs : List (ℕ × ℕ)) (high : ℕ) (x y : ℕ × ℕ) → IsRising low hs high → find (λ h. nat_le from h.0) hs ≡ Some x → Contains hs y → from ≤ y.0 → x.0 ≤ y.0
-first_least from low [] high x y s e c le = absurd (omega (arith, c.1))
-first_least from low (h ∷ t) high x y s e c le = go (λ is d. first_least from (h.0 + h.1 + 1) t high x y s.3 is d le) (nat_le from h.0) refl e
+first_hole : (from low : ℕ) (hs : List (ℕ × ℕ)) (high : ℕ) (x y : ℕ × ℕ) → IsRising low hs high → find (λ h. nat_le from h.0) hs ≡ Some x → Contains hs y → from ≤ y.0 → x.0 ≤ y.0
+first_hole from low [] high x y s e c le = absurd (omega (arith, c.1))
+first_hole from low (h ∷ t) high x y s e c le = go (λ is d. first_hole from (h.0 + h.1 + 1) t high x y s.3 is d le) (nat_le from h.0) refl e
   where
     go : (find (λ z. nat_le from z.0) t ≡ Some x → Contains t y → x.0 ≤ y.0) → (b : Bool) → nat_le from h.0 ≡ b → cond b (Some h) (find (λ z. nat_le from z.0) t) ≡ Some x → x.0 ≤ y.0
     go rest true t_is is =
@@ -174,5 +174,5 @@ next_of s bs from (Some x) k e =
     let passes : nat_le from x.0 ≡ true = found.1 in (
       run_hole s bs x k (run_from s.base s.holes (s.base + s.size) x k.canonical.rising found.0),
       grind (arith, nat_tests),
-      λ g hole le. first_least from s.base s.holes (s.base + s.size) x (g.place, g.size) k.canonical.rising (sym e) ((holes_listed s bs k g).0 hole) le,
+      λ g hole le. first_hole from s.base s.holes (s.base + s.size) x (g.place, g.size) k.canonical.rising (sym e) ((holes_listed s bs k g).0 hole) le,
     )

@@ -17,7 +17,7 @@ use Rattle.acc_dev.specs.Kept.{stored_len, stored_bytes, stored_ended, stored_lo
 use Rattle.acc_dev.proofs.Rising.{start}
 use Rattle.acc_dev.proofs.Slots.{KeepsOthers, told_slot, all_filled, blocks_in-kept, memories_in-kept, marks_in-kept, memories_in-changed, marks_in-changed}
 use Rattle.acc_dev.proofs.Lent.{AreBacked, loan_of-entry, loans_in-kept, loans_in-lent, loans_in-restored, backed_changed, backed_kept, backed_like}
-use Rattle.acc_dev.proofs.Keeping.{device_of, filled_slot, bytes_at, loan_at, ended_at, pins_at_slot, long_at}
+use Rattle.acc_dev.proofs.Keeping.{device_of, filled_slot, bytes_at, loan_of_slot, ended_at, pins_at_slot, long_at}
 
 -- a slot that has something is not empty
 some_not_none : {o : Option Stored} → IsSome o → o ≡ None → ⊥
@@ -110,7 +110,7 @@ marked_kept h s t xs k pins ended kept some sound mapped m =
 pub lent_mapped : (s : List (Option Stored)) (xs : List (ℕ × ℕ)) (n k : ℕ) (ended : Bool) → IsIndexRising xs → AreBacked s xs → IsSlotOf xs n k → (ended ≡ true → is_lent n (loans_in s xs) ≡ false) → IsSome (stored_loan (get_or s k None)) → ended ≡ false
 lent_mapped s xs n k false rise backed slot free some = refl
 lent_mapped s xs n k true rise backed slot free some =
-    absurd (false≢true (sym (free refl) ∙ (ap (λ (o : Option Loan). is_some o) (loan_at s xs n k rise backed slot) ∙ some)))
+    absurd (false≢true (sym (free refl) ∙ (ap (λ (o : Option Loan). is_some o) (loan_of_slot s xs n k rise backed slot) ∙ some)))
 
 -- what a mark leaves, as contracts see it
 pub marked_of : (h : Space) (s t : Slab Stored) (xs : List (ℕ × ℕ)) (births n k pins : ℕ) (ended : Bool) (room : List ℕ) (change : Mark → Mark) → AreSlotsKept h s.slots xs → IsSlotOf xs n k → IsRemarked s t k pins ended

@@ -17,16 +17,16 @@ new_mark block = record { block = block; pins = 0; ended = false }
 -- ---- look-ups
 
 -- the mark of the block
-abbrev pub mark_at : ℕ → List Mark → Option Mark
-mark_at block marks = find (λ m. m.block == block) marks
+abbrev pub mark_numbered : ℕ → List Mark → Option Mark
+mark_numbered block marks = find (λ m. m.block == block) marks
 
 -- how many queued transfers name the block
 abbrev pub pins_at : ℕ → List Mark → ℕ
-pins_at block marks = unwrap_or (option_map (λ m. m.pins) (mark_at block marks)) 0
+pins_at block marks = unwrap_or (option_map (λ m. m.pins) (mark_numbered block marks)) 0
 
 -- its mapping has ended
 abbrev pub is_ended_at : ℕ → List Mark → Bool
-is_ended_at block marks = unwrap_or (option_map (λ m. m.ended) (mark_at block marks)) false
+is_ended_at block marks = unwrap_or (option_map (λ m. m.ended) (mark_numbered block marks)) false
 
 -- ---- changes
 

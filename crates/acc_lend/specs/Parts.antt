@@ -34,9 +34,9 @@ abbrev pub parts_name : Parts → GName
 parts_name parts = parts.rest.ghost_name
 
 -- the names of the borrows of a part and of the parts after it
-abbrev pub names_of : Option (ℕ × MutBor (List ℕ) × Parts) → maybe.Option (GName × GName)
-names_of None = maybe.none
-names_of (Some next) = maybe.some (next.1.ghost_name, parts_name next.2)
+abbrev pub ghost_names : Option (ℕ × MutBor (List ℕ) × Parts) → maybe.Option (GName × GName)
+ghost_names None = maybe.none
+ghost_names (Some next) = maybe.some (next.1.ghost_name, parts_name next.2)
 
 -- the lease ends with what was last behind the parts as its section
 abbrev pub LendsParts : MutBor Leased → Parts → Fml
@@ -44,4 +44,4 @@ LendsParts lease parts = follows the_row (Array u8 0) lease.ghost_name (parts_na
 
 -- what was left ends as the last bytes of the part and then those of the parts after it; where there is no part, as it was
 abbrev pub LendsPart : GName → List ℕ → Option (ℕ × MutBor (List ℕ) × Parts) → Fml
-LendsPart name bytes next = follows_both_if (Array u8 0) (Array u8 0) (Array u8 0) name (names_of next) ◌++◌ bytes
+LendsPart name bytes next = follows_both_if (Array u8 0) (Array u8 0) (Array u8 0) name (ghost_names next) ◌++◌ bytes

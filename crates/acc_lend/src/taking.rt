@@ -43,7 +43,7 @@ impl Drop for Parts<'_> {
 }
 
 impl<'a> Parts<'a> {
-    ghost use Rattle.acc_lend.specs.Parts.{bytes_left, cuts_left, next_place, parts_name, names_of, LendsPart, IsNext};
+    ghost use Rattle.acc_lend.specs.Parts.{bytes_left, cuts_left, next_place, parts_name, ghost_names, LendsPart, IsNext};
     ghost use Rattle.acc_lend.specs.Taken.{HasLater, IsHanded};
 
     // The parts of these lengths, the first of them at place `at` of the loan.
@@ -98,7 +98,7 @@ impl<'a> Parts<'a> {
         later: &'a [usize],
     ) -> Option<(usize, &'a mut [u8], Parts<'a>)>
         requires { HasLater at len later.now pair }
-        ensures names { names_of result ≡ ghost_names_of pair.entry }
+        ensures names { ghost_names result ≡ ghost_names_of pair.entry }
         ensures handed { IsHanded at len later.now pair.entry result }
     {
         match pair {

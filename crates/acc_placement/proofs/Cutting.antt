@@ -3,12 +3,12 @@ use Rattle.std.proofs.Common.{◌≡◌, ℕ, ◌+◌, ◌-◌, ◌<◌, ◌≤�
 use Rattle.std.proofs.lemmas.Bool.{cases_lt}
 use Rattle.acc_base.specs.Holes.{IsRising}
 use Rattle.acc_placement.specs.Changes.{IsCut, IsFilled}
-use Rattle.acc_placement.proofs.Rising.{after, in_bounds, before_after, rising_from, rising_front, rising_back, rising_join, in_join_left, in_join_right, in_parts, total-append}
+use Rattle.acc_placement.proofs.Rising.{end_after, in_bounds, before_after, rising_from, rising_front, rising_back, rising_join, in_join_left, in_join_right, in_parts, total-append}
 
 -- what is known where a list of holes is parted round one of them
 record Parts (low : ℕ) (l : List (ℕ × ℕ)) (x : ℕ × ℕ) (r : List (ℕ × ℕ)) (high : ℕ) : Type 0 where
   front : IsRising low l high
-  below : after low l ≤ x.0
+  below : end_after low l ≤ x.0
   not_empty : 0 < x.1
   fits : x.0 + x.1 ≤ high
   back : IsRising (x.0 + x.1 + 1) r high
@@ -24,7 +24,7 @@ pub cut_whole : (low : ℕ) (l : List (ℕ × ℕ)) (x : ℕ × ℕ) (r : List (
 cut_whole low l x r high n e s =
     let p = parts low l x r high s in
     record {
-      rising = rising_join low l r high p.front (rising_from (x.0 + x.1 + 1) (after low l) r high (omega (arith, p.below)) p.back);
+      rising = rising_join low l r high p.front (rising_from (x.0 + x.1 + 1) (end_after low l) r high (omega (arith, p.below)) p.back);
       used = omega (arith, total-append l r, total-append l (x ∷ r));
       kept = λ a i. elim (in_parts l r a i) [
         | inl j ↦ let b = before_after low l high a p.front j in (in_join_left l (x ∷ r) a j, λ w. absurd (omega (arith, p.below)))
@@ -60,7 +60,7 @@ cut_front low l x r high n less s =
     }
 
 -- putting a range that touches neither the ranges before nor those after
-pub fill_between : (low : ℕ) (l r : List (ℕ × ℕ)) (high p n : ℕ) → IsRising low l high → after low l ≤ p → 0 < n → p + n ≤ high → IsRising (p + n + 1) r high → IsFilled low high (l ++ r) (l ++ (p, n) ∷ r) p n
+pub fill_between : (low : ℕ) (l r : List (ℕ × ℕ)) (high p n : ℕ) → IsRising low l high → end_after low l ≤ p → 0 < n → p + n ≤ high → IsRising (p + n + 1) r high → IsFilled low high (l ++ r) (l ++ (p, n) ∷ r) p n
 fill_between low l r high p n s below pos fits t =
     record {
       rising = rising_join low l ((p, n) ∷ r) high s (below, pos, fits, t);

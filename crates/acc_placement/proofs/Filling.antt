@@ -9,17 +9,17 @@ use Rattle.std.proofs.lemmas.Bool.{cases_lt}
 use Rattle.acc_base.specs.Holes.{IsIn, IsRising, total}
 use Rattle.acc_base.specs.Section.{Spans}
 use Rattle.acc_placement.specs.Changes.{IsFilled, IsAbsorbed}
-use Rattle.acc_placement.proofs.Rising.{after, rising_front, rising_back, rising_join, rising_from, in_join_left, in_join_right, in_parts, total-append}
+use Rattle.acc_placement.proofs.Rising.{end_after, rising_front, rising_back, rising_join, rising_from, in_join_left, in_join_right, in_parts, total-append}
 use Rattle.acc_placement.proofs.AtIndex.{split_read}
 use Rattle.acc_placement.proofs.Cutting.{fill_between, fill_onto}
 
 -- the least place after ranges is one behind the end of the last
-pub after-last : (low : ℕ) (l : List (ℕ × ℕ)) (x : ℕ × ℕ) → after low (l ++ x ∷ []) ≡ x.0 + x.1 + 1
+pub after-last : (low : ℕ) (l : List (ℕ × ℕ)) (x : ℕ × ℕ) → end_after low (l ++ x ∷ []) ≡ x.0 + x.1 + 1
 after-last low [] x = refl
 after-last low (h ∷ l) x = after-last (h.0 + h.1 + 1) l x
 
 -- ranges that rise to p end at p
-pub after_le : (from low : ℕ) (l : List (ℕ × ℕ)) (p : ℕ) → IsRising from l p → low ≤ p + 1 → after low l ≤ p + 1
+pub after_le : (from low : ℕ) (l : List (ℕ × ℕ)) (p : ℕ) → IsRising from l p → low ≤ p + 1 → end_after low l ≤ p + 1
 after_le from low [] p s le = le
 after_le from low (h ∷ l) p s le = after_le (h.0 + h.1 + 1) (h.0 + h.1 + 1) l p s.3 (omega (arith, s.2))
 
@@ -56,16 +56,16 @@ put_onto low high hs at p n x is pos within touch not_empty limit s behind =
     rw (set_split hs (at - 1) (x.0, x.1 + n) lt, e) (subst (λ (h : List (ℕ × ℕ)). IsFilled low high h (take (at - 1) hs ++ (x.0, x.1 + n) ∷ drop at hs) p n) (sym split) (fill_onto low (take (at - 1) hs) x (drop at hs) high p n front touch not_empty limit behind))
 
 -- what `put` leaves elsewhere
-pub put_between : (low high : ℕ) (hs : List (ℕ × ℕ)) (at p n : ℕ) → after low (take at hs) ≤ p → 0 < n → p + n ≤ high → IsRising low (take at hs) high → IsRising (p + n + 1) (drop at hs) high → IsFilled low high hs (insert hs at (p, n)) p n
+pub put_between : (low high : ℕ) (hs : List (ℕ × ℕ)) (at p n : ℕ) → end_after low (take at hs) ≤ p → 0 < n → p + n ≤ high → IsRising low (take at hs) high → IsRising (p + n + 1) (drop at hs) high → IsFilled low high hs (insert hs at (p, n)) p n
 put_between low high hs at p n below not_empty limit front behind =
     subst (λ (h : List (ℕ × ℕ)). IsFilled low high h (take at hs ++ (p, n) ∷ drop at hs) p n) (take-append-drop at hs) (fill_between low (take at hs) (drop at hs) high p n front below not_empty limit behind)
 
 -- the last hole before the place does not end there
-pub after_before : (low : ℕ) (hs : List (ℕ × ℕ)) (at p : ℕ) (x : ℕ × ℕ) → x ≡ get_or hs (at - 1) x → 0 < at → at ≤ length hs → (x.0 + x.1 ≡ p → ⊥) → IsRising 0 (take at hs) p → low ≤ p → after low (take at hs) ≤ p
+pub after_before : (low : ℕ) (hs : List (ℕ × ℕ)) (at p : ℕ) (x : ℕ × ℕ) → x ≡ get_or hs (at - 1) x → 0 < at → at ≤ length hs → (x.0 + x.1 ≡ p → ⊥) → IsRising 0 (take at hs) p → low ≤ p → end_after low (take at hs) ≤ p
 after_before low hs at p x is pos within apart s le =
     let e : take at hs ≡ take (at - 1) hs ++ x ∷ [] = (let e : at ≡ suc (at - 1) = omega arith in ap (λ (k : ℕ). take k hs) e) ∙ take-suc hs (at - 1) x (omega arith) ∙ ap (λ (y : ℕ × ℕ). take (at - 1) hs ++ y ∷ []) (sym is) in
-    let a : after low (take at hs) ≡ x.0 + x.1 + 1 = ap (λ (l : List (ℕ × ℕ)). after low l) e ∙ after-last low (take (at - 1) hs) x in
-    let b : after low (take at hs) ≤ p + 1 = after_le 0 low (take at hs) p s (omega arith) in
+    let a : end_after low (take at hs) ≡ x.0 + x.1 + 1 = ap (λ (l : List (ℕ × ℕ)). end_after low l) e ∙ after-last low (take (at - 1) hs) x in
+    let b : end_after low (take at hs) ≤ p + 1 = after_le 0 low (take at hs) p s (omega arith) in
     omega arith
 
 -- absorbing the hole behind and then putting the longer range is putting the range
@@ -119,7 +119,7 @@ holes_parted xs hs at p n top e pos below not_below not_free s =
         | inl lt ↦
             let d : get_or hs at (0, 0) ∷ drop (suc at) hs ≡ drop at hs = sym (drop-cons hs at (0, 0) lt) in
             let r = rising_back 0 (take at hs) (drop at hs) top s2 in
-            subst (λ (l : List (ℕ × ℕ)). IsRising (p + n) l top) d (above_place (after 0 (take at hs)) (get_or hs at (0, 0) ∷ drop (suc at) hs) top p n (subst (λ (l : List (ℕ × ℕ)). IsRising (after 0 (take at hs)) l top) (sym d) r) (λ _. nb lt) (λ a w i. not_free a w (subst (λ (l : List (ℕ × ℕ)). IsIn l a) j (in_join_right (take at hs) (drop at hs) a (subst (λ (l : List (ℕ × ℕ)). IsIn l a) d i)))))
+            subst (λ (l : List (ℕ × ℕ)). IsRising (p + n) l top) d (above_place (end_after 0 (take at hs)) (get_or hs at (0, 0) ∷ drop (suc at) hs) top p n (subst (λ (l : List (ℕ × ℕ)). IsRising (end_after 0 (take at hs)) l top) (sym d) r) (λ _. nb lt) (λ a w i. not_free a w (subst (λ (l : List (ℕ × ℕ)). IsIn l a) j (in_join_right (take at hs) (drop at hs) a (subst (λ (l : List (ℕ × ℕ)). IsIn l a) d i)))))
         | inr le ↦ subst (λ (l : List (ℕ × ℕ)). IsRising (p + n) l top) (sym (drop_all at hs le)) tt
       ];
     }
@@ -130,9 +130,9 @@ mid_rising low high hs mid at p n s top le limit parts same ab r =
     let j : take at hs ++ drop at hs ≡ hs = take-append-drop at hs in
     let m : take at hs ++ drop at mid ≡ mid = ap (λ (l : List (ℕ × ℕ)). l ++ drop at mid) (sym same) ∙ take-append-drop at mid in
     let r2 : IsRising low (take at hs ++ drop at hs) high = subst (λ (l : List (ℕ × ℕ)). IsRising low l high) (sym j) r in
-    let back : IsRising (p + n) (drop at hs) high = rising_both (p + n) (after low (take at hs)) (drop at hs) top high parts.behind (rising_back low (take at hs) (drop at hs) high r2) in
+    let back : IsRising (p + n) (drop at hs) high = rising_both (p + n) (end_after low (take at hs)) (drop at hs) top high parts.behind (rising_back low (take at hs) (drop at hs) high r2) in
     let a = ab.rising high limit back in
-    let b : after low (take at hs) ≤ p + 1 = after_le 0 low (take at hs) p parts.before (omega arith) in (
+    let b : end_after low (take at hs) ≤ p + 1 = after_le 0 low (take at hs) p parts.before (omega arith) in (
       omega (arith, a.0),
-      subst (λ (l : List (ℕ × ℕ)). IsRising low l high) m (rising_join low (take at hs) (drop at mid) high (rising_front low (take at hs) (drop at hs) high r2) (rising_from (p + n + s + 1) (after low (take at hs)) (drop at mid) high (omega arith) a.1)),
+      subst (λ (l : List (ℕ × ℕ)). IsRising low l high) m (rising_join low (take at hs) (drop at mid) high (rising_front low (take at hs) (drop at hs) high r2) (rising_from (p + n + s + 1) (end_after low (take at hs)) (drop at mid) high (omega arith) a.1)),
     )

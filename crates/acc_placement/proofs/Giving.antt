@@ -152,5 +152,5 @@ tells_taken r p n pos s t =
     }
 
 -- the same, where the condition speaks of the space as a caller sees it
-pub told : (now r : Space) (p n m : ℕ) → r ≡ now → n ≡ m → 0 < n → IsCanonical r → IsTaken now p m → TellsTaken r p n
-told now r p n m same round pos s t = tells_taken r p n pos s (subst (λ (x : Space). IsTaken x p n) (sym same) (subst (λ (k : ℕ). IsTaken now p k) (sym round) t))
+pub giving_told : (now r : Space) (p n m : ℕ) → r ≡ now → n ≡ m → 0 < n → IsCanonical r → IsTaken now p m → TellsTaken r p n
+giving_told now r p n m same round pos s t = tells_taken r p n pos s (subst (λ (x : Space). IsTaken x p n) (sym same) (subst (λ (k : ℕ). IsTaken now p k) (sym round) t))

@@ -10,7 +10,7 @@ use Rattle.std.proofs.lemmas.List.{drop_all}
 use Rattle.std.proofs.Math.Seq.{drop-cons}
 use Rattle.std.proofs.Common.{zero, add-one}
 use Rattle.acc_placement.specs.Changes.{IsBeside}
-use Rattle.acc_placement.proofs.Rising.{after, rising_back, fit_step, in_bounds}
+use Rattle.acc_placement.proofs.Rising.{end_after, rising_back, fit_step, in_bounds}
 use Rattle.acc_placement.proofs.AtIndex.{split_read, hole_below}
 
 -- a place that is clear of each listed range is outside of all
@@ -58,14 +58,14 @@ tried low high hs i x ts n place pos lt is s small least so_far q f =
     let b = rising_back low (take i hs) (x ∷ drop (suc i) hs) high (subst (λ (h : List (ℕ × ℕ)). IsRising low h high) split s) in
     let d : drop i hs ≡ x ∷ drop (suc i) hs = drop-cons hs i x lt ∙ ap (λ (y : ℕ × ℕ). y ∷ drop (suc i) hs) (sym is) in
     let g : IsFit (x ∷ drop (suc i) hs) n q = subst (λ (h : List (ℕ × ℕ)). IsFit h n q) d (so_far q f) in
-    rw add-one (elim (fit_step (after low (take i hs)) x (drop (suc i) hs) high n q pos b g) [
+    rw add-one (elim (fit_step (end_after low (take i hs)) x (drop (suc i) hs) high n q pos b g) [
       | inl w ↦ let l = least q w.0 (λ a v. (f a v).1) in absurd (omega arith)
       | inr h ↦ h
     ])
 
 -- the place at which the walk along the holes stops is the least
-pub found : (low high : ℕ) (hs : List (ℕ × ℕ)) (i : ℕ) (x : ℕ × ℕ) (ts : List (ℕ × ℕ)) (n place : ℕ) → 0 < n → i < length hs → x ≡ get_or hs i x → IsRising low hs high → x.0 ≤ place → place + n ≤ x.0 + x.1 → IsBeside ts n place → ((q : ℕ) → x.0 ≤ q → IsBeside ts n q → place ≤ q) → ((q : ℕ) → IsFitBeside hs (all_rounded ts) n q → IsFit (drop i hs) n q) → IsLeastFitBeside hs (all_rounded ts) n place
-found low high hs i x ts n place pos lt is s ge fits outside least so_far =
+pub fit_found : (low high : ℕ) (hs : List (ℕ × ℕ)) (i : ℕ) (x : ℕ × ℕ) (ts : List (ℕ × ℕ)) (n place : ℕ) → 0 < n → i < length hs → x ≡ get_or hs i x → IsRising low hs high → x.0 ≤ place → place + n ≤ x.0 + x.1 → IsBeside ts n place → ((q : ℕ) → x.0 ≤ q → IsBeside ts n q → place ≤ q) → ((q : ℕ) → IsFitBeside hs (all_rounded ts) n q → IsFit (drop i hs) n q) → IsLeastFitBeside hs (all_rounded ts) n place
+fit_found low high hs i x ts n place pos lt is s ge fits outside least so_far =
     let split = split_read hs i x is lt in
     let b = rising_back low (take i hs) (x ∷ drop (suc i) hs) high (subst (λ (h : List (ℕ × ℕ)). IsRising low h high) split s) in
     let d : drop i hs ≡ x ∷ drop (suc i) hs = drop-cons hs i x lt ∙ ap (λ (y : ℕ × ℕ). y ∷ drop (suc i) hs) (sym is) in (

@@ -5,9 +5,9 @@ use Rattle.acc_base.specs.Holes.{IsIn, IsRising, total, IsDisjoint}
 use Rattle.acc_placement.specs.Ranges.{IsFit}
 
 -- the least place after the ranges at which another may begin
-abbrev pub after : ℕ → List (ℕ × ℕ) → ℕ
-after low [] = low
-after low (h ∷ t) = after (h.0 + h.1 + 1) t
+abbrev pub end_after : ℕ → List (ℕ × ℕ) → ℕ
+end_after low [] = low
+end_after low (h ∷ t) = end_after (h.0 + h.1 + 1) t
 
 -- ranges that rise from a place rise from each lower one
 pub rising_from : (b a : ℕ) (t : List (ℕ × ℕ)) (high : ℕ) → a ≤ b → IsRising b t high → IsRising a t high
@@ -21,12 +21,12 @@ in_bounds low (h ∷ t) high a s (inl i) = (omega arith, omega arith)
 in_bounds low (h ∷ t) high a s (inr i) = let r : (h.0 + h.1 + 1 ≤ a) × (a < high) = in_bounds (h.0 + h.1 + 1) t high a s.3 i in (omega arith, r.1)
 
 -- the least place after ranges is not before the place from which they rise
-pub low_le-after : (low : ℕ) (t : List (ℕ × ℕ)) (high : ℕ) → IsRising low t high → low ≤ after low t
+pub low_le-after : (low : ℕ) (t : List (ℕ × ℕ)) (high : ℕ) → IsRising low t high → low ≤ end_after low t
 low_le-after low [] high s = omega arith
 low_le-after low (h ∷ t) high s = let r = low_le-after (h.0 + h.1 + 1) t high s.3 in omega arith
 
 -- an address of ranges that rise lies more than one before the least place after them
-pub before_after : (low : ℕ) (t : List (ℕ × ℕ)) (high a : ℕ) → IsRising low t high → IsIn t a → a + 1 < after low t
+pub before_after : (low : ℕ) (t : List (ℕ × ℕ)) (high a : ℕ) → IsRising low t high → IsIn t a → a + 1 < end_after low t
 before_after low [] high a s i = absurd i
 before_after low (h ∷ t) high a s (inl i) = let r = low_le-after (h.0 + h.1 + 1) t high s.3 in omega arith
 before_after low (h ∷ t) high a s (inr i) = before_after (h.0 + h.1 + 1) t high a s.3 i
@@ -37,12 +37,12 @@ rising_front low [] r high s = tt
 rising_front low (h ∷ l) r high s = (s.0, s.1, s.2, rising_front (h.0 + h.1 + 1) l r high s.3)
 
 -- of ranges that rise the later ones do, from the least place after the first ones
-pub rising_back : (low : ℕ) (l r : List (ℕ × ℕ)) (high : ℕ) → IsRising low (l ++ r) high → IsRising (after low l) r high
+pub rising_back : (low : ℕ) (l r : List (ℕ × ℕ)) (high : ℕ) → IsRising low (l ++ r) high → IsRising (end_after low l) r high
 rising_back low [] r high s = s
 rising_back low (h ∷ l) r high s = rising_back (h.0 + h.1 + 1) l r high s.3
 
 -- ranges that rise, and others that rise from the least place after them, rise together
-pub rising_join : (low : ℕ) (l r : List (ℕ × ℕ)) (high : ℕ) → IsRising low l high → IsRising (after low l) r high → IsRising low (l ++ r) high
+pub rising_join : (low : ℕ) (l r : List (ℕ × ℕ)) (high : ℕ) → IsRising low l high → IsRising (end_after low l) r high → IsRising low (l ++ r) high
 rising_join low [] r high s u = u
 rising_join low (h ∷ l) r high s u = (s.0, s.1, s.2, rising_join (h.0 + h.1 + 1) l r high s.3 u)
 

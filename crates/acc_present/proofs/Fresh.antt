@@ -29,9 +29,9 @@ pub fresh_without : (n block : ℕ) (rs : List Range) → AllByRecursion (λ r. 
 fresh_without n block rs h = AllByRecursion-filter (λ r. r.block < n) (λ r. not (r.block == block)) rs h
 
 -- the first range that passes a test has a block, and so that block has a range
-block_there : (p : Range → Bool) (rs : List Range) (r : Range) → find p rs ≡ Some r → IsSome (range_of r.block rs)
-block_there p [] r e = cc
-block_there p (x ∷ xs) r e = go (block_there p xs r) (p x) e (x.block == r.block) refl
+found_block_there : (p : Range → Bool) (rs : List Range) (r : Range) → find p rs ≡ Some r → IsSome (range_of r.block rs)
+found_block_there p [] r e = cc
+found_block_there p (x ∷ xs) r e = go (found_block_there p xs r) (p x) e (x.block == r.block) refl
   where
     go : (find p xs ≡ Some r → IsSome (range_of r.block xs)) → (b : Bool) → cond b (Some x) (find p xs) ≡ Some r → (d : Bool) → (x.block == r.block) ≡ d → IsSome (cond d (Some x) (range_of r.block xs))
     go rest b h true f = refl
@@ -42,4 +42,4 @@ block_there p (x ∷ xs) r e = go (block_there p xs r) (p x) e (x.block == r.blo
 pub inside_there : (s : Section) (rs : List Range) (block offset : ℕ) → where_is s rs ≡ Inside block offset → IsSome (range_of block rs)
 inside_there s rs block offset e =
     let told = inside_says s rs block offset e in
-    rw (← told.1.block_is) (block_there (λ r. is_within s r.section) rs told.0 told.1.around)
+    rw (← told.1.block_is) (found_block_there (λ r. is_within s r.section) rs told.0 told.1.around)

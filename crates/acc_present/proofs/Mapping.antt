@@ -46,8 +46,8 @@ range_here block i rs m within is =
     record { bound = within; found = ap (λ b. range_of b rs) (sym is) ∙ own }
 
 -- the range at the place of the start that the index gives is that of the block
-pub range_there : (block start i : ℕ) (rs : List Range) (index : List Entry) → IsIndexed rs index → start_in block index ≡ Some start → IsSplitBy (keyed.is_key_below start_key start) rs i → IsRangeAt block rs i
-range_there block start i rs index kept given parts = go (range_of block rs) refl
+pub indexed_range_there : (block start i : ℕ) (rs : List Range) (index : List Entry) → IsIndexed rs index → start_in block index ≡ Some start → IsSplitBy (keyed.is_key_below start_key start) rs i → IsRangeAt block rs i
+indexed_range_there block start i rs index kept given parts = go (range_of block rs) refl
   where
     go : (o : Option Range) → range_of block rs ≡ o → IsRangeAt block rs i
     go None e = let none : start_in block index ≡ None = kept.agrees block ∙ ap (option_map start_key) e in cc
@@ -97,8 +97,8 @@ pub record IsPlaced (new : Range) (rs : List Range) (i : ℕ) : Type 0 where
   pub later : AllByRecursion (λ (r : Range). new.section.start < r.section.start) (drop i rs)
 
 -- an absent section finds its place
-pub placed : (new : Range) (rs : List Range) (i : ℕ) → AreMapped rs → where_is new.section rs ≡ Absent → IsSplitBy (keyed.is_key_below start_key new.section.start) rs i → IsPlaced new rs i
-placed new rs i m absent parts =
+pub range_placed : (new : Range) (rs : List Range) (i : ℕ) → AreMapped rs → where_is new.section rs ≡ Absent → IsSplitBy (keyed.is_key_below start_key new.section.start) rs i → IsPlaced new rs i
+range_placed new rs i m absent parts =
     let says = absent_says new.section rs absent in
     let len : 0 < new.section.len = grind (arith, nat_tests, says.1) in
     let apart = list_all-from (λ r. is_apart new.section r.section) rs says.0 in
@@ -132,7 +132,7 @@ pub record IsMappedNow (new : Range) (rs ts : List Range) (index : List Entry) :
 pub mapped_now : (new : Range) (rs ts : List Range) (i : ℕ) (old index : List Entry) → IsIndexed rs old → where_is new.section rs ≡ Absent → range_of new.block rs ≡ None → IsSplitBy (keyed.is_key_below start_key new.section.start) rs i → ts ≡ insert rs i new
     → AreBlocksRising index → ((block : ℕ) → start_in block index ≡ cond (new.block == block) (Some new.section.start) (start_in block old)) → IsMappedNow new rs ts index
 mapped_now new rs ts i old index kept absent none parts is rising starts =
-    let p = placed new rs i kept.mapped absent parts in
+    let p = range_placed new rs i kept.mapped absent parts in
     record {
       ranges = is ∙ sym (with_range-insert new rs i (keyed.keys_below start_key new.section.start rs i parts) p.later);
       indexed = record {

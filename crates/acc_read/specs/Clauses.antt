@@ -9,7 +9,7 @@ use Rattle.acc_read.specs.Repeating.{one_or_more}
 use Rattle.acc_read.specs.Tokens.{word_at, mark_at, is_mark_next, is_word_before, is_at_end, left_parenthesis, right_parenthesis, colon, comma}
 use Rattle.acc_read.specs.Layout.{ArrayLayout}
 use Rattle.acc_read.specs.Items.{named_at, item_of}
-use Rattle.acc_read.specs.Queues.{queue_at}
+use Rattle.acc_read.specs.Queues.{async_queue_at}
 use Rattle.acc_read.specs.Grammar.{Grammar}
 
 -- ---- the items of a clause
@@ -78,7 +78,7 @@ passed_over before rest = if before.has_option then Err Syntax else Ok (record b
 -- the queue of `async`
 abbrev pub with_queue : {C : Type 0} → ClausesRead C → List ℕ → Result (ClausesRead C × List ℕ) ScriptFault
 with_queue before rest = do
-  queue ← queue_at rest
+  queue ← async_queue_at rest
   Ok (record before { queue = Some queue.0 }, queue.1)
 
 -- `async`, which stands once at most

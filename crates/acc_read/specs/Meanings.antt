@@ -22,8 +22,8 @@ meaning_of (code.Address addr) = Address addr
 meaning_of code.Report = Report
 
 -- what clauses in memory say
-abbrev pub read_of : {C : Type 0} → Clauses C → ClausesRead C
-read_of clauses = record { items = clauses.items.items; has_option = clauses.has_option; queue = clauses.queue }
+abbrev pub clauses_read : {C : Type 0} → Clauses C → ClausesRead C
+clauses_read clauses = record { items = clauses.items.items; has_option = clauses.has_option; queue = clauses.queue }
 
 -- ---- lists that are being filled
 

@@ -18,8 +18,8 @@ abbrev pub first_queue : ℕ
 first_queue = 0
 
 -- the queue of `async`: the number in parentheses, where they stand next
-unfoldable pub queue_at : List ℕ → Result (ℕ × List ℕ) ScriptFault
-queue_at text = if is_mark_next left_parenthesis text then queue_number_at text else Ok (first_queue, text)
+unfoldable pub async_queue_at : List ℕ → Result (ℕ × List ℕ) ScriptFault
+async_queue_at text = if is_mark_next left_parenthesis text then queue_number_at text else Ok (first_queue, text)
 
 -- the number of a queue in parentheses, up to the end of the line
 unfoldable pub last_queue_at : List ℕ → Result ℕ ScriptFault

@@ -4,13 +4,13 @@ ghost use Rattle.std.specs.Prelude.{List};
 ghost use Rattle.acc_base.specs.declared.items.Item.{Item};
 ghost use Rattle.acc_read.specs.Reading.{Reads, Keeps, Gives, always};
 ghost use Rattle.acc_read.specs.Clauses.{item_at, items_at, modifier_at, modified_at, group_at, ClausesRead, nothing_read, queued, clause_at, all_clauses_at, with_clause, clauses_at};
-ghost use Rattle.acc_read.specs.Meanings.{IsKept, IsRead, read_of};
+ghost use Rattle.acc_read.specs.Meanings.{IsKept, IsRead, clauses_read};
 
 use crate::arrays::Arrays;
 use crate::grammar::Clause;
 use crate::items::{Kind, item_of, named_at};
 use crate::kept::Kept;
-use crate::queues::queue_at;
+use crate::queues::async_queue_at;
 use crate::tokens::{is_at_end, is_mark_next, is_word_before, mark_at, skip_comma, word_at};
 use crate::troubles::Trouble;
 use acc_base::{Item, ScriptFault};
@@ -123,7 +123,7 @@ fn queued<'a, C>(unfinished: &mut Unfinished<C>, text: &'a [u8]) -> Result<&'a [
     if unfinished.queue.is_some() {
         return Err(ScriptFault::Syntax);
     }
-    let (queue, rest) = queue_at(text)?;
+    let (queue, rest) = async_queue_at(text)?;
     unfinished.queue = Some(queue);
     Ok(rest)
 }
@@ -175,7 +175,7 @@ fn all_clauses_at<'a, C: Clause>(
 
 /// What was read, if a clause was among it.
 fn with_clause<C: Copy>(unfinished: Unfinished<C>) -> Result<Clauses<C>, Trouble>
-    ensures { (read : ClausesRead C) → IsRead unfinished read → Gives always read_of result (with_clause read) }
+    ensures { (read : ClausesRead C) → IsRead unfinished read → Gives always clauses_read result (with_clause read) }
 {
     let items = unfinished.items.finish()?;
     if items.is_empty() {
@@ -196,7 +196,7 @@ pub fn clauses_at<C: Clause>(
     arrays: &Arrays,
     text: &[u8],
 ) -> Result<Clauses<C>, Trouble>
-    ensures { Gives always read_of result (clauses_at C.grammar arrays.now text.now) }
+    ensures { Gives always clauses_read result (clauses_at C.grammar arrays.now text.now) }
 {
     let mut unfinished = Unfinished {
         items: Kept::new(alloc),

@@ -1,7 +1,7 @@
 //! The queues that options and statements name.
 
 ghost use Rattle.acc_read.specs.Reading.{Reads};
-ghost use Rattle.acc_read.specs.Queues.{queue_number_at, queue_at, last_queue_at};
+ghost use Rattle.acc_read.specs.Queues.{queue_number_at, async_queue_at, last_queue_at};
 
 use crate::tokens::{is_at_end, is_mark_next, mark_at, number_at};
 use acc_base::ScriptFault;
@@ -19,9 +19,9 @@ fn queue_number_at(text: &[u8]) -> Result<(u64, &[u8]), ScriptFault>
 
 /// The queue of `async`, and the text after it: the number in parentheses where they stand next, and else the first
 /// queue.
-#[tactic(auto, unfolding(crate::specs::Queues::queue_at))]
-pub fn queue_at(text: &[u8]) -> Result<(u64, &[u8]), ScriptFault>
-    ensures { Reads (λ x. (x.0, x.1.now)) result (queue_at text.now) }
+#[tactic(auto, unfolding(crate::specs::Queues::async_queue_at))]
+pub fn async_queue_at(text: &[u8]) -> Result<(u64, &[u8]), ScriptFault>
+    ensures { Reads (λ x. (x.0, x.1.now)) result (async_queue_at text.now) }
 {
     if is_mark_next(b'(', text) {
         queue_number_at(text)

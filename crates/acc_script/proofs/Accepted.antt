@@ -218,8 +218,8 @@ judge_tells w (Lend region section) = search (rules, telling, there_tells)
 judge_tells w _ = search (rules, telling)
 
 -- a call for which a table wants memory is one that makes an event
-pub accepted : (w : World) (call : Call Leased) → IsRefusal w call Memory → makes_event (judge w call) ≡ true
-accepted w call refusal = by (judge w call) (judge_tells w call) refusal
+pub memory_accepted : (w : World) (call : Call Leased) → IsRefusal w call Memory → makes_event (judge w call) ≡ true
+memory_accepted w call refusal = by (judge w call) (judge_tells w call) refusal
   where
     by : (r : Result Verdict Fault) → Tells r
         → MatchResult r (λ verdict. MayWantMemory verdict Memory) (λ fault. Memory ≡ fault) → makes_event r ≡ true

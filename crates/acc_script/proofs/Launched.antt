@@ -20,9 +20,9 @@ use Rattle.acc_table.specs.Calls.{reply_of, IsCarriedOut, IsDone, IsRefusal}
 use Rattle.acc_table.specs.Queries.{host_read_of}
 use Rattle.acc_script.specs.declared.print.effects.Effect.{Effect}
 use Rattle.acc_script.specs.Kernels.{source_of}
-use Rattle.acc_script.specs.Scripts.{SessionState, state_after, back_from}
+use Rattle.acc_script.specs.Scripts.{SessionState, session_after, back_from}
 use Rattle.acc_script.specs.Sessions.{CallsFor, Performs, refusal_of}
-use Rattle.acc_script.proofs.Accepted.{accepted}
+use Rattle.acc_script.proofs.Accepted.{memory_accepted}
 use Rattle.acc_script.proofs.Refused.{refused_by}
 
 -- an event that hands out a lease leaves host memory alone
@@ -46,7 +46,7 @@ module _ (old new : SessionState) (region : ℕ) (kernel : ScriptKernel) (over :
     where
       by : (f : Fault) → IsRefusal old.world (Lend region over) f
           → Performs old (Kernel region kernel over) new (refusal_of f)
-      by Memory h = (refl, (rw read (accepted old.world (Lend region over) h), inl same))
+      by Memory h = (refl, (rw read (memory_accepted old.world (Lend region over) h), inl same))
       by f h = rw (read, refused_by old.world (Lend region over) f (λ e. absurd cc) h, same) refl
 
   module _ (mid : World) (lease : Leased) where
@@ -70,7 +70,7 @@ module _ (old new : SessionState) (region : ℕ) (kernel : ScriptKernel) (over :
                 → Performs old (Kernel region kernel over) new r
             told (Ok effect) h = rw (read, is, ← replied, ← now) h
             told (Err fault) h =
-                let lent : new ≡ state_after (Lend region over) e old = h.2 ∙ ap (λ (w : World). record { world = w; layout = old.layout }) now in
+                let lent : new ≡ session_after (Lend region over) e old = h.2 ∙ ap (λ (w : World). record { world = w; layout = old.layout }) now in
                 (h.0, (rw (read, is) refl, inr (e, is, lent)))
 
         by : (r : Result Verdict Fault) → judge old.world (Lend region over) ≡ r

@@ -10,7 +10,7 @@ use Rattle.acc_base.specs.Calls.{World, judge}
 use Rattle.acc_table.specs.Calls.{MayWantMemory, IsRefusal}
 use Rattle.acc_script.specs.Scripts.{SessionState}
 use Rattle.acc_script.specs.Sessions.{CallsFor, refusal_of}
-use Rattle.acc_script.proofs.Accepted.{accepted}
+use Rattle.acc_script.proofs.Accepted.{memory_accepted}
 
 -- a refusal that is no want of memory is that of the definitions
 pub refused_by : (w : World) (call : Call Leased) (fault : Fault) → (fault ≡ Memory → ⊥) → IsRefusal w call fault
@@ -29,5 +29,5 @@ pub refused_call : (old new : SessionState) (call : Call Leased) (fault : Fault)
 refused_call old new call fault refusal same = by fault refusal
   where
     by : (f : Fault) → IsRefusal old.world call f → CallsFor old call new (refusal_of f)
-    by Memory h = (refl, accepted old.world call h, same)
+    by Memory h = (refl, memory_accepted old.world call h, same)
     by f h = rw (refused_by old.world call f (λ e. absurd cc) h, same) refl

@@ -54,13 +54,13 @@ abbrev pub answered : SessionState → Effect → Turned
 answered s effect = record { state = s; effect = effect }
 
 -- the state after an event of a call
-abbrev pub state_after : Call Leased → Event → SessionState → SessionState
-state_after call event s = record { world = world_after call event s.world; layout = s.layout }
+abbrev pub session_after : Call Leased → Event → SessionState → SessionState
+session_after call event s = record { world = world_after call event s.world; layout = s.layout }
 
 -- a call changes the world where the table accepts it and makes an event; what is accepted and makes none is the step
 -- of an empty queue
 abbrev pub called : SessionState → Call Leased → Result Verdict Fault → Turned
-called s call (Ok (Makes event)) = record { state = state_after call event s; effect = Nothing }
+called s call (Ok (Makes event)) = record { state = session_after call event s; effect = Nothing }
 called s call (Ok Idle) = answered s EmptyQueue
 called s call (Err fault) = answered s (Refused fault)
 
@@ -78,7 +78,7 @@ gathered s kernel src _ = answered s Nothing
 -- a kernel with what the call for its loan comes to, which is never that there is nothing to do
 abbrev pub on_loan : SessionState → ScriptKernel → List ℕ → Call Leased → Result Verdict Fault → Turned
 on_loan s kernel src call (Ok (Makes event)) =
-    gathered (state_after call event s) kernel src (reply_of event s.world.state)
+    gathered (session_after call event s) kernel src (reply_of event s.world.state)
 on_loan s kernel src call (Ok Idle) = answered s Nothing
 on_loan s kernel src call (Err fault) = answered s (Refused fault)
 
@@ -87,7 +87,7 @@ abbrev pub IsLentFrom : SessionState → ℕ → Section → SessionState → Ty
 IsLentFrom old region over new =
     (event : Event)
     × (judge old.world (Lend region over) ≡ Ok (Makes event))
-    × (new ≡ state_after (Lend region over) event old)
+    × (new ≡ session_after (Lend region over) event old)
 
 -- a kernel over a section, with the bytes of its source: where host memory does not have these, nothing is lent
 abbrev pub launched : SessionState → ℕ → ScriptKernel → Section → Option (List ℕ) → Turned

@@ -94,8 +94,8 @@ pub record IsPartOf (section : Section) (block offset : ℕ) (s : State) : Type 
   pub fits : is_lent block s.records.loans ≡ false → offset + section.len ≤ length (bytes_of block s.memories)
   pub short : is_lent block s.records.loans ≡ false → length (bytes_of block s.memories) < 2 ^ 40
 
-pub part_of : (w : World) (section : Section) (block offset : ℕ) → IsWithinBounds w.limits → IsAccounted w → where_is section w.state.records.ranges ≡ Inside block offset → IsPartOf section block offset w.state
-part_of w section block offset bounds a e =
+pub section_part : (w : World) (section : Section) (block offset : ℕ) → IsWithinBounds w.limits → IsAccounted w → where_is section w.state.records.ranges ≡ Inside block offset → IsPartOf section block offset w.state
+section_part w section block offset bounds a e =
     let ranges : List Range = w.state.records.ranges in
     let records : AreRecordsSound w.limits w.state.records = a.sound.layout.records in
     let found : (r : Range) × IsInsideOf section ranges block offset r = inside_says section ranges block offset e in

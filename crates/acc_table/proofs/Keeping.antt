@@ -23,7 +23,7 @@ use Rattle.acc_clauses.proofs.Events.{planned_asked}
 use Rattle.acc_table.specs.declared.calls.Reply.{Reply}
 use Rattle.acc_table.specs.Kept.{IsKept, world_of}
 use Rattle.acc_table.specs.Making.{planned_verdict, IsMadeInto, IsCommitted, IsAsBefore}
-use Rattle.acc_table.proofs.Verdicts.{made, unchanged}
+use Rattle.acc_table.proofs.Verdicts.{event_made, unchanged}
 
 -- ---- births, of which a directive has at most 64
 
@@ -92,7 +92,7 @@ kept_alone w call e k h none = kept_after w call e [] k h none (omega arith)
 
 -- what a store and a trace keep that were made into those after an event, or only had room made
 pub kept_called : (call : Call Leased) (e : Event) (old new : Contents) (trace longer : List Event) (reply : Reply) → IsKept (world_after call e (world_of old trace)) → IsMadeInto e (bytes_brought call) reply old new trace longer → IsKept (world_of new longer)
-kept_called call e old new trace longer reply k m = subst (λ (w : World). IsKept w) (sym (made call e reply old new trace longer m)) k
+kept_called call e old new trace longer reply k m = subst (λ (w : World). IsKept w) (sym (event_made call e reply old new trace longer m)) k
 
 kept_same : (old new : Contents) (trace same : List Event) → IsKept (world_of old trace) → IsAsBefore old new trace same → IsKept (world_of new same)
 kept_same old new trace same k h = subst (λ (w : World). IsKept w) (sym (unchanged old new trace same h)) k
@@ -108,7 +108,7 @@ pub kept_carried : (d : Directive) (p : Planned) (old new : Contents) (trace lon
 kept_carried d p old new trace longer (Ok reply) k planned h done same = go (planned_verdict d p old) refl done
   where
     go : (v : Verdict) → planned_verdict d p old ≡ v → IsCommitted v reply old new trace longer → IsKept (world_of new longer)
-    go (Makes e) is x = subst (λ (w : World). IsKept w) (sym (made (Do d) e reply old new trace longer x)) (kept_directive (world_of old trace) d p e k planned is (h ∙ ap Ok is))
+    go (Makes e) is x = subst (λ (w : World). IsKept w) (sym (event_made (Do d) e reply old new trace longer x)) (kept_directive (world_of old trace) d p e k planned is (h ∙ ap Ok is))
     go Idle is x = subst (λ (w : World). IsKept w) (sym (unchanged old new trace longer x.1)) k
 kept_carried d p old new trace longer (Err back) k planned h done same = subst (λ (w : World). IsKept w) (sym (unchanged old new trace longer same)) k
 

@@ -57,8 +57,8 @@ write_lends_none w next addr bytes reply done = let none : lent_by reply ≡ [] 
 -- ---- one turn
 
 -- and to one that was refused
-pub refused : (w next : World) (leases rest : List Leased) (turn : Turn) (fault : Fault) → IsTurnRefused w leases turn fault next rest → MayAnswer w leases turn (asked_by turn leases) (Refused fault) next rest
-refused w next leases rest turn fault h = go (asked_by turn leases) h.told
+pub refused_turn : (w next : World) (leases rest : List Leased) (turn : Turn) (fault : Fault) → IsTurnRefused w leases turn fault next rest → MayAnswer w leases turn (asked_by turn leases) (Refused fault) next rest
+refused_turn w next leases rest turn fault h = go (asked_by turn leases) h.told
   where
     stays : (told : Fault) → fault ≡ told → StaysRefused w leases told (Refused fault) next rest
     stays told same = record { answer_is = ap Refused same; same = h.same; same_leases = h.same_leases }
@@ -115,8 +115,8 @@ pub none_back : (w : World) (serial : ℕ) (bytes : List ℕ) (leases : List Lea
 none_back w serial bytes leases fault place told = subst (λ r. IsRefusalOf w r fault) (sym (ap (brought_back serial bytes) (position-None (is_meant serial (length bytes)) leases place))) told
 
 -- what is told of the lease as it is, is told of it with other bytes
-pub told_of : {serial : ℕ} {bytes : List ℕ} {leases : List Leased} {at : ℕ} {lease : Leased} {fault : Fault} (w : World) → IsBackAt serial bytes leases at lease → judge w (Gather lease) ≡ Err fault → IsRefusalOf w (asked_by (Back serial bytes) leases) fault
-told_of {bytes = bytes} {lease = lease} {fault = fault} w back h = subst (λ r. IsRefusalOf w r fault) (sym back.asked) (judged_refused w (Gather (with_section lease bytes)) fault (judge_rewritten w lease bytes ∙ h))
+pub serial_told : {serial : ℕ} {bytes : List ℕ} {leases : List Leased} {at : ℕ} {lease : Leased} {fault : Fault} (w : World) → IsBackAt serial bytes leases at lease → judge w (Gather lease) ≡ Err fault → IsRefusalOf w (asked_by (Back serial bytes) leases) fault
+serial_told {bytes = bytes} {lease = lease} {fault = fault} w back h = subst (λ r. IsRefusalOf w r fault) (sym back.asked) (judged_refused w (Gather (with_section lease bytes)) fault (judge_rewritten w lease bytes ∙ h))
 
 pub wanted_of : {serial : ℕ} {bytes : List ℕ} {leases : List Leased} {at : ℕ} {lease : Leased} {e : Event} (w : World) → IsBackAt serial bytes leases at lease → judge w (Gather lease) ≡ Ok (Makes e) → IsRefusalOf w (asked_by (Back serial bytes) leases) Memory
 wanted_of {bytes = bytes} {lease = lease} {e = e} w back h = subst (λ r. IsRefusalOf w r Memory) (sym back.asked) (made_wanted w (Gather (with_section lease bytes)) e (judge_rewritten w lease bytes ∙ h))

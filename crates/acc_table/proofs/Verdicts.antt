@@ -60,9 +60,9 @@ told_idle _ s dids e = cc
 -- ---- the world
 
 -- the world of a store and a trace after a call is the world after its event
-pub made : (call : Call Leased) (e : Event) (reply : Reply) (old new : Contents) (trace longer : List Event) → IsMadeInto e (bytes_brought call) reply old new trace longer → world_of new longer ≡ world_after call e (world_of old trace)
+pub event_made : (call : Call Leased) (e : Event) (reply : Reply) (old new : Contents) (trace longer : List Event) → IsMadeInto e (bytes_brought call) reply old new trace longer → world_of new longer ≡ world_after call e (world_of old trace)
 unfolding world_after
-made call e reply old new trace longer h = rw (h.limits, h.state, h.trace) refl
+event_made call e reply old new trace longer h = rw (h.limits, h.state, h.trace) refl
 
 -- and as before where only room was made
 pub unchanged : (old new : Contents) (trace same : List Event) → IsAsBefore old new trace same → world_of new same ≡ world_of old trace
@@ -148,8 +148,8 @@ judge_rewritten w lease bytes = rw (gather_rewritten lease bytes w.state.records
 
 -- ---- a directive or a write of the host is no loan
 
-no_loan : (e f : Event) → ◌≡◌ {A = Verdict} (Makes f) (Makes e) → is_loan f ≡ false → is_loan e ≡ false
-no_loan e f h p = let same : f ≡ e = cc in subst (λ (x : Event). is_loan x ≡ false) same p
+no_loan_made : (e f : Event) → ◌≡◌ {A = Verdict} (Makes f) (Makes e) → is_loan f ≡ false → is_loan e ≡ false
+no_loan_made e f h p = let same : f ≡ e = cc in subst (λ (x : Event). is_loan x ≡ false) same p
 
 told_no_loan : (d : Directive) (n : ℕ) (did : List Did) → is_loan (event_told d n did) ≡ false
 told_no_loan (Enter items) n did = refl
@@ -160,7 +160,7 @@ verdict_no_loan d s dids e h = go (is_idle d s) refl
   where
     go : (b : Bool) → is_idle d s ≡ b → is_loan e ≡ false
     go true idle = let none : verdict_of d s dids ≡ Idle = told_idle d s dids idle in cc
-    go false busy = no_loan e _ (sym (told d s dids busy) ∙ h) (told_no_loan d (number_told d s) (in_written_order d dids))
+    go false busy = no_loan_made e _ (sym (told d s dids busy) ∙ h) (told_no_loan d (number_told d s) (in_written_order d dids))
 
 -- so is the event that a directive makes
 pub directive_no_loan : (w : World) (d : Directive) (e : Event) → judge w (Do d) ≡ Ok (Makes e) → is_loan e ≡ false
@@ -169,21 +169,21 @@ directive_no_loan w d e h =
     let s : State = w.state in
     let planned : plan_of w.limits d s ≡ Ok (Makes e) = (then_ok (admitted w d) (plan_of w.limits d s) (Makes e) (sym (judge_directive w d) ∙ h)).1 in
     let judged : directive_verdict w.limits d s ≡ Ok (Makes e) = (then_ok (few_items d) (directive_verdict w.limits d s) (Makes e) planned).1 in
-    let made : IsMadeBy w.limits d s e = made_by w.limits d s e judged in
-    verdict_no_loan d s made.dids e made.verdict_is
+    let event_made : IsMadeBy w.limits d s e = made_by w.limits d s e judged in
+    verdict_no_loan d s event_made.dids e event_made.verdict_is
 
 -- and that of a write of the host
 pub write_no_loan : (w : World) (addr : ℕ) (bytes : List ℕ) (e : Event) → judge w (HostWrite addr bytes) ≡ Ok (Makes e) → is_loan e ≡ false
 write_no_loan w addr bytes e h =
     let is = then_ok (write_admitted w (record { start = addr; len = length bytes })) (Ok (Makes (HostWritten addr (length bytes)))) (Makes e) (sym (judge_write w addr bytes) ∙ h) in
-    no_loan e (HostWritten addr (length bytes)) (ok_same (Makes (HostWritten addr (length bytes))) (Makes e) is.1) refl
+    no_loan_made e (HostWritten addr (length bytes)) (ok_same (Makes (HostWritten addr (length bytes))) (Makes e) is.1) refl
 
 -- ---- a call that was carried out
 
 -- a call that was judged so and made its event is done
 pub made_done : (call : Call Leased) (e : Event) (reply : Reply) (old new : Contents) (trace longer : List Event) → judge (world_of old trace) call ≡ Ok (Makes e) → IsMadeInto e (bytes_brought call) reply old new trace longer
     → IsDone (world_of old trace) call reply (world_of new longer)
-made_done call e reply old new trace longer h m = rw h (m.reply, made call e reply old new trace longer m)
+made_done call e reply old new trace longer h m = rw h (m.reply, event_made call e reply old new trace longer m)
 
 pub done_either : {E : Type 0} (call : Call Leased) (e : Event) (old new : Contents) (trace longer : List Event) (r : Result Reply E) → judge (world_of old trace) call ≡ Ok (Makes e)
     → IfOk r (λ reply. IsMadeInto e (bytes_brought call) reply old new trace longer) → IfOk r (λ reply. IsDone (world_of old trace) call reply (world_of new longer))
@@ -200,7 +200,7 @@ judged_refused w call fault h = rw h refl
 
 -- what a directive came to, which was judged so, is done
 carried_out : (d : Directive) (v : Verdict) (reply : Reply) (old new : Contents) (trace longer : List Event) → IsCommitted v reply old new trace longer → IsCarriedOut (world_of old trace) (Do d) v reply (world_of new longer)
-carried_out d (Makes e) reply old new trace longer h = (h.reply, made (Do d) e reply old new trace longer h)
+carried_out d (Makes e) reply old new trace longer h = (h.reply, event_made (Do d) e reply old new trace longer h)
 carried_out d Idle reply old new trace longer h = (h.0, unchanged old new trace longer h.1)
 
 pub directive_done : (d : Directive) (p : Planned) (old new : Contents) (trace longer : List Event) (r : Result Reply (Directive × Fault)) → OnOk r (judge (world_of old trace) (Do d) ≡ Ok (planned_verdict d p old))

@@ -1,7 +1,7 @@
 use Rattle.std.proofs.Common.{sym, ◌∙◌, arith}
 use Rattle.acc_base.specs.declared.mappings.Counter.TheVariants.{Structured, Dynamic}
 use Rattle.acc_clauses.proofs.Steps.{changed_there, changed_zero}
-use Rattle.acc_clauses.proofs.Ending.{same_loans, range_there, range_ends, falls, end_there, end_mark, end_mapped, gone_changes, kept_changes, ended_acts}
+use Rattle.acc_clauses.proofs.Ending.{loans_kept, range_there, range_ends, falls, end_there, end_mark, end_mapped, gone_changes, kept_changes, ended_acts}
 use Rattle.acc_clauses.proofs.acting.end.Goals as goal
 use Rattle.std.proofs.lemmas.Bool.{false≢true}
 
@@ -58,4 +58,4 @@ returns-else-retire c =
     }
 
 pub retire-requires-clause-free : goal.retire-requires-clause-free
-retire-requires-clause-free c = same_loans c.args.task c.args.block c.args.environment.now c.give_bytes.new.environment c.give_bytes.ensures.given c.requires.free
+retire-requires-clause-free c = loans_kept c.args.task c.args.block c.args.environment.now c.give_bytes.new.environment c.give_bytes.ensures.given c.requires.free

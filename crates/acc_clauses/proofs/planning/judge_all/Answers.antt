@@ -4,7 +4,7 @@ use Rattle.acc_base.specs.Queues.{queue_named}
 use Rattle.acc_base.specs.Tasks.{queue_of}
 use Rattle.acc_base.specs.Judge.{tasks_with}
 use Rattle.acc_clauses.proofs.Asking.{queue_at_turn}
-use Rattle.acc_clauses.proofs.Turns.{turns_begun, turn, turn_refused, turns_done, unmixed_turn, asked_turn, few_turn, IsPlanned-next}
+use Rattle.acc_clauses.proofs.Turns.{turns_begun, task_judged, turn_refused, turns_done, unmixed_turn, asked_turn, few_turn, IsPlanned-next}
 use Rattle.acc_clauses.proofs.planning.judge_all.Goals as goal
 
 pub loop-n-init : goal.loop-n-init
@@ -37,7 +37,7 @@ loop-n-preserved c =
       few = few_turn c.loop-n.n _ _ _ next.more r.few;
       asked = asked_turn c.loop-n.n c.loop-n.draft c.judge.new.draft _ tasks c.task_at.result within is next.more r.asked;
       planned = IsPlanned-next c.args.parts.now.limits c.loop-n.n c.loop-n.draft c.judge.new.draft c.task_at.result c.args.parts.now.state (sym r.few) r.planned next;
-      judged = turn c.args.parts.now.limits c.loop-n.n c.loop-n.n c.loop-n.draft c.judge.new.draft c.task_at.result tasks c.task_at.result c.args.parts.now.state _ within is next r.judged;
+      judged = task_judged c.args.parts.now.limits c.loop-n.n c.loop-n.n c.loop-n.draft c.judge.new.draft c.task_at.result tasks c.task_at.result c.args.parts.now.state _ within is next r.judged;
     }
 
 pub returns-clause-judged : goal.returns-clause-judged

@@ -1,5 +1,5 @@
 use Rattle.std.proofs.Common.{sym, ◌∙◌}
-use Rattle.acc_clauses.proofs.Aiming.{not_zero, zero_aims, less_aims}
+use Rattle.acc_clauses.proofs.Aiming.{not_left_zero, zero_aims, less_aims}
 use Rattle.acc_clauses.proofs.pointers.lessen.Goals as goal
 
 pub returns-in-Zero : goal.returns-in-Zero
@@ -10,5 +10,5 @@ returns-in-Zero c = record {
 
 pub returns-in-Nothing : goal.returns-in-Nothing
 returns-in-Nothing c = record {
-  aimed = less_aims c.args.pointer c.args.block c.args.environment.now c.detach.new.self c.requires.can (λ zero. not_zero c.detach.result c.in-Nothing.is (zero ∙ sym c.detach.ensures.left)) c.detach.ensures.attached c.detach.ensures.counter_max c.detach.ensures.spare c.requires.marked;
+  aimed = less_aims c.args.pointer c.args.block c.args.environment.now c.detach.new.self c.requires.can (λ zero. not_left_zero c.detach.result c.in-Nothing.is (zero ∙ sym c.detach.ensures.left)) c.detach.ensures.attached c.detach.ensures.counter_max c.detach.ensures.spare c.requires.marked;
 }

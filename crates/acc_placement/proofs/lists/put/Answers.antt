@@ -7,7 +7,7 @@ use Rattle.std.specs.Prelude.{vec_capacity}
 use Rattle.std.proofs.lemmas.List.Edits.{length-insert}
 use Rattle.acc_base.specs.Holes.{IsRising}
 use Rattle.acc_placement.specs.Changes.{IsFilled}
-use Rattle.acc_placement.proofs.Rising.{after, rising_front, rising_back, rising_to}
+use Rattle.acc_placement.proofs.Rising.{end_after, rising_front, rising_back, rising_to}
 use Rattle.acc_placement.proofs.Filling.{put_onto, put_between, after_before, rising_both}
 use Rattle.acc_placement.proofs.AtIndex.{take_fits}
 use Rattle.acc_placement.proofs.lists.put.Goals as goal
@@ -24,7 +24,7 @@ returns-then-start-room-clause-filled c = λ low high s le limit.
     put_onto low high c.args.holes.now.items c.args.at c.args.place c.args.size c.index.result.now c.index.ensures c.if-at-gt0.true c.requires.within c.if-start-room.true c.requires.not_empty limit s r
 
 -- the place is behind every hole before the index
-behind : (low : ℕ) (c : goal.After-insert) → low ≤ c.args.place → after low (take c.args.at c.args.holes.now.items) ≤ c.args.place
+behind : (low : ℕ) (c : goal.After-insert) → low ≤ c.args.place → end_after low (take c.args.at c.args.holes.now.items) ≤ c.args.place
 behind low c le = elim c.if-at-gt0.branch [
   | then-at-gt0+else-start-room w ↦ after_before low c.args.holes.now.items c.args.at c.args.place w.index.result.now w.index.ensures w.if-at-gt0.true c.requires.within w.if-start-room.false c.requires.before le
   | else-at-gt0 w ↦ let z : c.args.at ≡ 0 = omega arith in rw z le

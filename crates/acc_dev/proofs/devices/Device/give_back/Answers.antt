@@ -2,14 +2,14 @@ use Rattle.std.proofs.Common.{◌≡◌, false, sym, subst, arith}
 use Rattle.acc_base.specs.Loans.{is_lent}
 use Rattle.acc_dev.specs.Room.{room_ready}
 use Rattle.acc_dev.specs.Device.{DeviceState, IsRetired}
-use Rattle.acc_dev.proofs.Keeping.{device_of, listed}
+use Rattle.acc_dev.proofs.Keeping.{device_of, block_listed}
 use Rattle.acc_dev.proofs.Ends.{retired_of, counted_left}
 use Rattle.acc_dev.proofs.Writes.{free_at}
 use Rattle.acc_dev.proofs.devices.Device.give_back.Goals as goal
 
 pub unreachable-requires : goal.unreachable-requires
 unreachable-requires c =
-    listed c.self.inside c.args.self.now c.args.block c.self.view_is c.requires.there (rw c.deref.ensures.value at c.in_default.ensures.none)
+    block_listed c.self.inside c.args.self.now c.args.block c.self.view_is c.requires.there (rw c.deref.ensures.value at c.in_default.ensures.none)
 
 pub returns : goal.returns
 returns c =

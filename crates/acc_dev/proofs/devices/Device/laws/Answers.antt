@@ -8,7 +8,7 @@ use Rattle.acc_dev.specs.Marks.{IsMarkOf}
 use Rattle.acc_dev.specs.Device.{DeviceState, HasBlocksApart, AreLoansRising, IsLoanOn}
 use Rattle.acc_dev.proofs.Slots.{marks_in_step}
 use Rattle.acc_dev.proofs.Lent.{loans_rise, in_step}
-use Rattle.acc_dev.proofs.Keeping.{apart_of, divided, used_within, loans_on}
+use Rattle.acc_dev.proofs.Keeping.{apart_of, divided, kept_used_within, loans_on}
 use Rattle.acc_dev.proofs.devices.Device.laws.Goals as goal
 
 pub returns-clause-blocks_apart : goal.returns-clause-blocks_apart
@@ -18,7 +18,7 @@ pub returns-clause-memories : goal.returns-clause-memories
 returns-clause-memories c = subst (λ (d : DeviceState). AllZip (IsMemoryOf d.loans) d.memories d.blocks) c.self.view_is (in_step c.self.inside.slab.slots c.self.inside.index.items c.self.invariant.0.rising c.self.invariant.0.backed)
 
 pub returns-clause-bytes_accounted : goal.returns-clause-bytes_accounted
-returns-clause-bytes_accounted c = subst (λ (d : DeviceState). used_bytes d.blocks ≤ d.memory.len) c.self.view_is (used_within c.self.inside.holes c.self.inside.slab.slots c.self.inside.index.items c.self.invariant.0)
+returns-clause-bytes_accounted c = subst (λ (d : DeviceState). used_bytes d.blocks ≤ d.memory.len) c.self.view_is (kept_used_within c.self.inside.holes c.self.inside.slab.slots c.self.inside.index.items c.self.invariant.0)
 
 pub returns-clause-holes : goal.returns-clause-holes
 returns-clause-holes c = subst (λ (d : DeviceState). IsDevice d.memory d.blocks) c.self.view_is (divided c.self.inside.holes c.self.inside.slab.slots c.self.inside.index.items c.self.invariant.0)

@@ -2,12 +2,12 @@ use Rattle.std.proofs.Common.{◌≡◌, true, false, sym, subst}
 use Rattle.acc_base.specs.Loans.{is_lent}
 use Rattle.acc_dev.specs.Room.{room_ready}
 use Rattle.acc_dev.specs.Device.{DeviceState, IsMarked}
-use Rattle.acc_dev.proofs.Keeping.{device_of, listed, filled_slot, room_kept}
+use Rattle.acc_dev.proofs.Keeping.{device_of, block_listed, filled_slot, room_kept}
 use Rattle.acc_dev.proofs.Writes.{marked_kept, marked_of, lent_mapped}
 use Rattle.acc_dev.proofs.devices.Device.mark.Goals as goal
 
 pub slot_of_block-slot-requires-clause-there : goal.slot_of_block-slot-requires-clause-there
-slot_of_block-slot-requires-clause-there c = rw c.deref.ensures.value (listed c.self.inside c.args.self.now c.args.block c.self.view_is c.requires.there)
+slot_of_block-slot-requires-clause-there c = rw c.deref.ensures.value (block_listed c.self.inside c.args.self.now c.args.block c.self.view_is c.requires.there)
 
 pub set_mark-requires : goal.set_mark-requires
 set_mark-requires c =

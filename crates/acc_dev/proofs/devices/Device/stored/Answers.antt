@@ -2,11 +2,11 @@ use Rattle.std.proofs.Common.{subst}
 use Rattle.acc_dev.specs.Device.{DeviceState}
 use Rattle.acc_dev.specs.Kept.{IsStoredOf}
 use Rattle.acc_dev.specs.Room.{room_ready}
-use Rattle.acc_dev.proofs.Keeping.{listed, filled_slot, stored_of}
+use Rattle.acc_dev.proofs.Keeping.{block_listed, filled_slot, stored_of}
 use Rattle.acc_dev.proofs.devices.Device.stored.Goals as goal
 
 pub slot_of_block-requires-clause-there : goal.slot_of_block-requires-clause-there
-slot_of_block-requires-clause-there c = rw c.deref.ensures.value (listed c.self.inside c.args.self.now c.args.block c.self.view_is c.requires)
+slot_of_block-requires-clause-there c = rw c.deref.ensures.value (block_listed c.self.inside c.args.self.now c.args.block c.self.view_is c.requires)
 
 pub index-requires : goal.index-requires
 index-requires c =

@@ -6,13 +6,13 @@ use Rattle.acc_dev.specs.Room.{room_ready}
 use Rattle.acc_dev.specs.Marks.{is_ended_at}
 use Rattle.acc_dev.specs.Device.{DeviceState, IsTakenOut}
 use Rattle.acc_dev.specs.Kept.{stored_bytes}
-use Rattle.acc_dev.proofs.Keeping.{device_of, listed, filled_slot, bytes_at, room_kept}
+use Rattle.acc_dev.proofs.Keeping.{device_of, block_listed, filled_slot, bytes_at, room_kept}
 use Rattle.acc_dev.proofs.Writes.{lent_kept, taken_out_of}
 use Rattle.acc_dev.proofs.Lends.{lent_at, none_here, section_within, capped_at}
 use Rattle.acc_dev.proofs.devices.Device.take_out.Goals as goal
 
 pub slot_of_block-slot-requires-clause-there : goal.slot_of_block-slot-requires-clause-there
-slot_of_block-slot-requires-clause-there c = rw c.deref.ensures.value (listed c.self.inside c.args.self.now c.args.block c.self.view_is c.requires.there)
+slot_of_block-slot-requires-clause-there c = rw c.deref.ensures.value (block_listed c.self.inside c.args.self.now c.args.block c.self.view_is c.requires.there)
 
 pub lend_at-requires-clause-filled : goal.lend_at-requires-clause-filled
 lend_at-requires-clause-filled c =

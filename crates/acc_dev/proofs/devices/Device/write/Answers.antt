@@ -1,12 +1,12 @@
 use Rattle.std.proofs.Common.{length, subst}
 use Rattle.acc_dev.specs.Room.{room_ready}
 use Rattle.acc_dev.specs.Device.{DeviceState, IsBlockWritten}
-use Rattle.acc_dev.proofs.Keeping.{device_of, listed, filled_slot, room_kept}
+use Rattle.acc_dev.proofs.Keeping.{device_of, block_listed, filled_slot, room_kept}
 use Rattle.acc_dev.proofs.Writes.{within_slot, written_kept, written_of}
 use Rattle.acc_dev.proofs.devices.Device.write.Goals as goal
 
 pub slot_of_block-slot-requires-clause-there : goal.slot_of_block-slot-requires-clause-there
-slot_of_block-slot-requires-clause-there c = rw c.deref.ensures.value (listed c.self.inside c.args.self.now c.args.block c.self.view_is c.requires.there)
+slot_of_block-slot-requires-clause-there c = rw c.deref.ensures.value (block_listed c.self.inside c.args.self.now c.args.block c.self.view_is c.requires.there)
 
 pub write_at-requires-clause-filled : goal.write_at-requires-clause-filled
 write_at-requires-clause-filled c =

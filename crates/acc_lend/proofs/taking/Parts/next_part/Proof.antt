@@ -28,7 +28,7 @@ use denote.Enum.Declared.{shape as enum_shape}
 use denote.Struct.Declared.{shape as struct_shape}
 use denote.Struct.Tuple.{Tuple, tuple_type}
 use denote.Follow.{follows_both_if}
-use Rattle.acc_lend.specs.Parts.{bytes_left, cuts_left, next_place, names_of, IsNext}
+use Rattle.acc_lend.specs.Parts.{bytes_left, cuts_left, next_place, ghost_names, IsNext}
 use Rattle.std.specs.Option.{ghost_names_of}
 use Rattle.acc_lend.proofs.Taken.{next_fits, rest_fits, is_next}
 use Rattle.std.specs.contracts.option.Option as O
@@ -118,7 +118,7 @@ next_part_spec 𝓤 𝓛 𝓜 𝓡 wired =
     let Res = type_at handed.signature.result κs in
     use1 𝓛 (later (some (λ (s : Res.Denot). ((‵ (flft κ q) ⊛ ‵ ftrue) ⊛ ‵ (Res.own_val s (v' ∷ []))) ⊛
     some (λ (us : Lasts handed.ended κs handed_call.0.3). ‵ (lasts handed.ended κs handed_call.0.3 us) ⊛
-    (raw (fact 𝓤 (names_of s ≡ ghost_names_of r)) ⊛ raw (fact 𝓤 (IsHanded p.at p.len p.later.now r s))))))) (id⊢ 𝓤 _) $
+    (raw (fact 𝓤 (ghost_names s ≡ ghost_names_of r)) ⊛ raw (fact 𝓤 (IsHanded p.at p.len p.later.now r s))))))) (id⊢ 𝓤 _) $
     await ! tt $ pick ! (λ s. split ! $ split ! $ move ! (2 ∷ []) $ pick ! (λ us. split ! $ drop ! $ split ! $ heard ! _ (λ names. heard ! _ (λ handed_is.
     -- [the tokens; the result; what follows]
     move ! (1 ∷ []) $ peeks ! Res _ (shows 𝓛 Res) s (v' ∷ []) (λ next_val.

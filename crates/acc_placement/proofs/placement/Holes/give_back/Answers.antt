@@ -2,12 +2,12 @@ use Rattle.std.proofs.Common.{refl, ◌+◌, ◌^◌, arith}
 use Rattle.acc_placement.specs.Holes.{space_of}
 use Rattle.acc_placement.proofs.Rising.{rising_from, rising_to}
 use Rattle.acc_placement.proofs.Filling.{total_le}
-use Rattle.acc_placement.proofs.Giving.{TellsTaken, told, given_partition}
+use Rattle.acc_placement.proofs.Giving.{TellsTaken, giving_told, given_partition}
 use Rattle.acc_placement.proofs.placement.Holes.give_back.Goals as goal
 
 -- what the condition says of the fields
 known : (c : goal.After-fill-arg-1) → TellsTaken (space_of c.self.inside) c.args.place c.rounded-size.result
-known c = told c.args.self.now (space_of c.self.inside) c.args.place c.rounded-size.result _ c.self.view_is c.rounded-size.ensures.value (omega arith) c.self.invariant.canonical c.requires.taken
+known c = giving_told c.args.self.now (space_of c.self.inside) c.args.place c.rounded-size.result _ c.self.view_is c.rounded-size.ensures.value (omega arith) c.self.invariant.canonical c.requires.taken
 
 pub fill-requires-clause-rising : goal.fill-requires-clause-rising
 fill-requires-clause-rising c = rising_to 0 c.self.inside.holes.items (c.self.inside.base + c.self.inside.size) (2 ^ 41) (omega arith) (rising_from c.self.inside.base 0 c.self.inside.holes.items (c.self.inside.base + c.self.inside.size) (omega arith) c.self.invariant.canonical.rising)
@@ -27,14 +27,14 @@ fill-requires-clause-room c =
 
 pub overflow_sub-self-2 : goal.overflow_sub-self-2
 overflow_sub-self-2 c =
-    let k = told c.args.self.now (space_of c.self.inside) c.args.place c.rounded-size.result _ c.self.view_is c.rounded-size.ensures.value (omega arith) c.self.invariant.canonical c.requires.taken in
+    let k = giving_told c.args.self.now (space_of c.self.inside) c.args.place c.rounded-size.result _ c.self.view_is c.rounded-size.ensures.value (omega arith) c.self.invariant.canonical c.requires.taken in
     let f = c.fill.ensures.filled c.self.inside.base (c.self.inside.base + c.self.inside.size) c.self.invariant.canonical.rising k.limit.0 k.limit.1 in
     let le = total_le c.self.inside.base c.fill.new.holes.items (c.self.inside.base + c.self.inside.size) (omega arith) f.rising in
     omega (arith, f.used, c.self.invariant.used)
 
 pub invariant_of-self : goal.invariant_of-self
 invariant_of-self c =
-    let k = told c.args.self.now (space_of c.self.inside) c.args.place c.rounded-size.result _ c.self.view_is c.rounded-size.ensures.value (omega arith) c.self.invariant.canonical c.requires.taken in
+    let k = giving_told c.args.self.now (space_of c.self.inside) c.args.place c.rounded-size.result _ c.self.view_is c.rounded-size.ensures.value (omega arith) c.self.invariant.canonical c.requires.taken in
     let f = c.fill.ensures.filled c.self.inside.base (c.self.inside.base + c.self.inside.size) c.self.invariant.canonical.rising k.limit.0 k.limit.1 in
     let le = total_le c.self.inside.base c.fill.new.holes.items (c.self.inside.base + c.self.inside.size) (omega arith) f.rising in
     record {
@@ -51,7 +51,7 @@ invariant_of-self c =
 
 pub returns-clause-given_back : goal.returns-clause-given_back
 returns-clause-given_back c =
-    let k = told c.args.self.now (space_of c.self.inside) c.args.place c.rounded-size.result _ c.self.view_is c.rounded-size.ensures.value (omega arith) c.self.invariant.canonical c.requires.taken in
+    let k = giving_told c.args.self.now (space_of c.self.inside) c.args.place c.rounded-size.result _ c.self.view_is c.rounded-size.ensures.value (omega arith) c.self.invariant.canonical c.requires.taken in
     let f = c.fill.ensures.filled c.self.inside.base (c.self.inside.base + c.self.inside.size) c.self.invariant.canonical.rising k.limit.0 k.limit.1 in
     let le = total_le c.self.inside.base c.fill.new.holes.items (c.self.inside.base + c.self.inside.size) (omega arith) f.rising in
     rw (← c.rounded-size.ensures.value, ← c.self.view_is) (record { base = refl; size = refl; taken = omega (arith, k.count); used = f.used; free = f.free; kept = f.kept })

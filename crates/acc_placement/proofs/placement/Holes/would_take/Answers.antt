@@ -2,7 +2,7 @@ use Rattle.std.proofs.Common.{◌≡◌, ℕ, ◌<◌, ◌≤◌, arith, subst, 
 use Rattle.std.proofs.lemmas.List.{get_or_default}
 use Rattle.acc_placement.specs.Space.{Space, IsCanonical}
 use Rattle.acc_placement.proofs.AtIndex.{hole_below}
-use Rattle.acc_placement.proofs.Outside.{tried, found, none_left, start_below}
+use Rattle.acc_placement.proofs.Outside.{tried, fit_found, none_left, start_below}
 use Rattle.acc_placement.proofs.placement.Holes.would_take.Goals as goal
 
 -- the hole at an index, as the loop reads it
@@ -27,7 +27,7 @@ returns-then-place-size-clause-place c =
     let e = c.loop-start.invariant.0 in
     let lt : c.loop-start.start-index < length c.args.self.now.holes = rw (← e) c.loop-start-test.true in
     let s : IsCanonical c.args.self.now = subst (λ (r : Space). IsCanonical r) c.self.view_is c.self.invariant.canonical in
-    rw (← c.rounded-size.ensures.value) (found c.args.self.now.base _ c.args.self.now.holes c.loop-start.start-index _ c.args.listed.now c.rounded-size.result c.past-place.result (omega arith) lt (read _ _ _ e lt) s.rising c.past-place.ensures.not_before c.if-place-size.true c.past-place.ensures.outside c.past-place.ensures.least c.loop-start.invariant.1)
+    rw (← c.rounded-size.ensures.value) (fit_found c.args.self.now.base _ c.args.self.now.holes c.loop-start.start-index _ c.args.listed.now c.rounded-size.result c.past-place.result (omega arith) lt (read _ _ _ e lt) s.rising c.past-place.ensures.not_before c.if-place-size.true c.past-place.ensures.outside c.past-place.ensures.least c.loop-start.invariant.1)
 
 pub loop-start-preserved : goal.loop-start-preserved
 loop-start-preserved c =

@@ -7,7 +7,7 @@ use Rattle.acc_table.specs.declared.calls.Turn.TheVariants.{Back}
 use Rattle.acc_table.specs.Kept.{world_of}
 use Rattle.acc_table.specs.Turns.{is_meant, asked_by}
 use Rattle.acc_table.specs.Turning.{IsRefusalOf, IsTurnMade}
-use Rattle.acc_table.proofs.Running.{IsBackAt, IsReturned, back_at, none_back, told_of, wanted_of, same_back, returned, back_kept, back_made}
+use Rattle.acc_table.proofs.Running.{IsBackAt, IsReturned, back_at, none_back, serial_told, wanted_of, same_back, returned, back_kept, back_made}
 use Rattle.acc_table.proofs.tables.Table.bring_back.Goals as goal
 
 pub returns-in_default-clause-told : goal.returns-in_default-clause-told
@@ -18,7 +18,7 @@ returns-in_default-clause-told c =
 pub returns-in_err-admit_lease-clause-told : goal.returns-in_err-admit_lease-clause-told
 returns-in_err-admit_lease-clause-told c =
     let back : IsBackAt c.args.serial c.args.bytes.now c.args.leases.now.items c.in-Some.at c.index.result.now = back_at c.deref.ensures.value c.place_of.ensures c.in-Some.is c.index.ensures in
-    let told : IsRefusalOf c.args.self.now (asked_by (Back c.args.serial c.args.bytes.now) c.args.leases.now.items) c.in_err-admit_lease.field-0.0 = told_of c.args.self.now back c.in_err-admit_lease.ensures in
+    let told : IsRefusalOf c.args.self.now (asked_by (Back c.args.serial c.args.bytes.now) c.args.leases.now.items) c.in_err-admit_lease.field-0.0 = serial_told c.args.self.now back c.in_err-admit_lease.ensures in
     search rules
 
 pub returns-in_err-reserve-clause-told : goal.returns-in_err-reserve-clause-told

@@ -4,7 +4,6 @@ use Rattle.std.specs.Prelude.{◌==◌, ◌&&◌, not, nat_le, ⊤, Contains, If
 use Rattle.std.proofs.lemmas.Bool.Decides.{nat_tests}
 use Rattle.std.proofs.lemmas.List.Elements.{All-contains, All-from_recursion}
 use Rattle.acc_base.specs.Words.{Section, Item, RegionClause, ExitClause, UpdateClause, Counter, Range, Found, Holding, Task, Step, Loan}
-use Rattle.acc_base.specs.declared.items.RegionClause.TheVariants as region
 use Rattle.acc_base.specs.declared.mappings.Found.TheVariants.{Empty, Inside, Partly, Absent}
 use Rattle.acc_base.specs.declared.tasks.Task.TheVariants.{Enter, Leave, Exit, Move}
 use Rattle.acc_base.specs.declared.events.Step.TheVariants.{Nothing, Counted, Born, Dropped, Moved}
@@ -116,10 +115,7 @@ born_says l counter item queue n w step (Some place) p a h e = enter_told l coun
 absent_entered : (l : Limits) (counter : Counter) (item : Item RegionClause) (queue : Option ℕ) (n : ℕ) (w : Records) (step : Step) (clause : RegionClause)
     → where_is (section_of (Enter counter item queue)) w.ranges ≡ Absent → is_within (section_of (Enter counter item queue)) (host_memory l.host) ≡ true
     → enter_absent clause l n (section_of (Enter counter item queue)) w ≡ Ok step → IsJudgedTo l (Enter counter item queue) step w
-absent_entered l counter item queue n w step region.NoCreate a h e = enter_told l counter item queue w _ _ (ok_same _ _ e) tt
-absent_entered l counter item queue n w step region.Present a h e = cc
-absent_entered l counter item queue n w step region.Attach a h e = enter_told l counter item queue w _ _ (ok_same _ _ e) tt
-absent_entered l counter item queue n w step _ a h e = born_says l counter item queue n w step _ refl a h e
+absent_entered l counter item queue n w step clause a h e = grind (arith, nat_tests, enter_told, born_says, ok_same)
 
 entered_says : (l : Limits) (counter : Counter) (item : Item RegionClause) (queue : Option ℕ) (n : ℕ) (w : Records) (step : Step) (found : Found)
     → where_is (section_of (Enter counter item queue)) w.ranges ≡ found → in_host l n (section_of (Enter counter item queue)) ≡ Ok tt

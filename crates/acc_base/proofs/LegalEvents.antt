@@ -1,6 +1,7 @@
 -- A directive, a write of the host, a loan and a lease that are not refused make a legal event.
 use Rattle.std.proofs.Common.{ℕ, suc, ◌≡◌, refl, sym, ◌∙◌, ap, subst, true, false, List, [], ◌∷◌, length, Option, Some, None, Result, Ok, arith}
 use Rattle.std.specs.Prelude.{◌==◌, not, take, drop, unwrap_or, option_map, is_none, ok_or, IsSome}
+use Rattle.std.proofs.lemmas.Bool.Decides.{nat_tests}
 use Rattle.std.proofs.lemmas.List.{reverse-reverse}
 use Rattle.acc_base.specs.Words.{Section, Block, Found, Loan, Holding, Transfer, Task, Directive, Did, Event, Fault}
 use Rattle.acc_base.specs.declared.mappings.Found.TheVariants.{Inside}
@@ -80,11 +81,8 @@ event_legal l (Enter items) s holdings dids e left q judged free h = subst (λ x
 event_legal l (Exit number) s holdings dids e left q judged free h =
     let is : holdings_at number s.register.regions ≡ Some holdings = open_left number _ holdings left in
     subst (λ x. IsLegal l x (layout_of s)) (same_event _ _ h) (record { names = rw is refl; judged = rw (is, reverse-reverse dids) judged })
-event_legal l (EnterData items queue) s holdings dids e left q judged free h = subst (λ x. IsLegal l x (layout_of s)) (same_event _ _ h) (record { names = q; judged = judged })
-event_legal l (ExitData items finalize queue) s holdings dids e left q judged free h = subst (λ x. IsLegal l x (layout_of s)) (same_event _ _ h) (record { names = q; judged = judged })
-event_legal l (Update items if_present queue) s holdings dids e left q judged free h = subst (λ x. IsLegal l x (layout_of s)) (same_event _ _ h) (record { names = q; judged = judged })
-event_legal l (Wait queue) s holdings dids e left q judged free h = subst (λ x. IsLegal l x (layout_of s)) (same_event _ _ h) (record { names = (q, refl, free); judged = tt })
 event_legal l (directives.Step queue) s holdings dids e left q judged free h = step_legal l queue s e free h
+event_legal l d s holdings dids e left q judged free h = grind (arith, nat_tests, same_event)
 
 -- the event of a directive, with what its tasks did
 pub record IsMadeBy (l : Limits) (d : Directive) (s : State) (e : Event) : Type 0 where

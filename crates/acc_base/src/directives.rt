@@ -66,12 +66,10 @@ impl Directive {
     {
         match self {
             Directive::Enter { items } => items.as_slice().len(),
-            Directive::Exit { .. } => 0,
             Directive::EnterData { items, .. } => items.as_slice().len(),
             Directive::ExitData { items, .. } => items.as_slice().len(),
             Directive::Update { items, .. } => items.as_slice().len(),
-            Directive::Wait { .. } => 0,
-            Directive::Step { .. } => 0,
+            _ => 0,
         }
     }
 }

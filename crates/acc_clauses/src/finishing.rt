@@ -21,8 +21,6 @@ pub(crate) fn finish(parts: &mut Parts, directive: &Directive, plan: &Plan)
         Directive::Exit { number } => parts.leave(*number),
         Directive::Wait { queue } => drain(parts, *queue),
         Directive::Step { queue } => parts.step(*queue),
-        Directive::EnterData { .. } => {}
-        Directive::ExitData { .. } => {}
-        Directive::Update { .. } => {}
+        _ => {}
     }
 }

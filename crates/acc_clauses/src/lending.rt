@@ -62,11 +62,7 @@ pub(crate) fn transfers_free(parts: &Parts, directive: &Directive) -> Result<(),
     match directive {
         Directive::Wait { queue } => wait_free(parts, *queue),
         Directive::Step { queue } => not_lent(parts, parts.head_block(*queue)),
-        Directive::Enter { .. } => Ok(()),
-        Directive::Exit { .. } => Ok(()),
-        Directive::EnterData { .. } => Ok(()),
-        Directive::ExitData { .. } => Ok(()),
-        Directive::Update { .. } => Ok(()),
+        _ => Ok(()),
     }
 }
 

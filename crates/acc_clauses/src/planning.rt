@@ -82,7 +82,7 @@ pub(crate) fn queue_in(directive: &Directive) -> Option<u64>
         Directive::Update { queue, .. } => *queue,
         Directive::Wait { queue } => *queue,
         Directive::Step { queue } => Some(*queue),
-        Directive::Enter { .. } | Directive::Exit { .. } => None,
+        _ => None,
     }
 }
 

@@ -45,7 +45,7 @@ pub(crate) fn task_count(directive: &Directive, holdings: &[Holding]) -> usize
         Directive::EnterData { items, .. } => items.as_slice().len(),
         Directive::ExitData { items, .. } => items.as_slice().len(),
         Directive::Update { items, .. } => items.as_slice().len(),
-        Directive::Wait { .. } | Directive::Step { .. } => 0,
+        _ => 0,
     }
 }
 
@@ -84,6 +84,6 @@ pub(crate) fn task_at(directive: &Directive, holdings: &[Holding], n: usize) -> 
             item: items.as_slice()[n],
             queue: *queue,
         },
-        Directive::Wait { .. } | Directive::Step { .. } => unreachable!(),
+        _ => unreachable!(),
     }
 }

@@ -1,10 +1,10 @@
 -- A table that wants memory for a call was asked for one that makes an event: no refusal of the definitions is want of
 -- memory.
-use Rattle.std.proofs.Common.{◌≡◌, ℕ, suc, Bool, true, false, cond, List, [], ◌∷◌, Option, Some, None, Result, Ok, Err, refl, rules}
+use Rattle.std.proofs.Common.{◌≡◌, ℕ, suc, Bool, true, false, cond, List, [], ◌∷◌, Option, Some, None, Result, Ok, Err, refl, arith, rules}
+use Rattle.std.proofs.lemmas.Bool.Decides.{nat_tests}
 use Rattle.std.specs.Prelude.{⊤, ok_or, nat_le, ◌==◌, MatchResult}
 use Rattle.acc_base.specs.declared.items.Section.{Section}
 use Rattle.acc_base.specs.declared.items.RegionClause.{RegionClause}
-use Rattle.acc_base.specs.declared.items.RegionClause.TheVariants as region
 use Rattle.acc_base.specs.declared.calls.Call.{Call}
 use Rattle.acc_base.specs.declared.calls.Call.TheVariants.{Do, Lend}
 use Rattle.acc_base.specs.declared.directives.Directive.{Directive}
@@ -76,17 +76,15 @@ ruleset telling = (then_tells, bind_tells, either_tells)
 
 -- ---- one item
 
+-- a birth tells no want of memory, whether there is a place for it or not
+born_tells : (n : ℕ) (section : Section) (w : Records) (place : Option ℕ) → Tells (born_at place n section w)
+born_tells n section w None = tt
+born_tells n section w (Some place) = tt
+
 -- the row of an absent section tells no want of memory
 absent_tells : (clause : RegionClause) (l : Limits) (n : ℕ) (section : Section) (w : Records)
     → Tells (enter_absent clause l n section w)
-absent_tells region.NoCreate l n section w = tt
-absent_tells region.Present l n section w = tt
-absent_tells region.Attach l n section w = tt
-absent_tells _ l n section w = by (place_for (device_memory l.device) w.blocks (rounded section.len))
-  where
-    by : (place : Option ℕ) → Tells (born_at place n section w)
-    by None = tt
-    by (Some place) = tt
+absent_tells clause l n section w = grind (arith, nat_tests, born_tells n section w (place_for (device_memory l.device) w.blocks (rounded section.len)))
 
 -- an entry tells no want of memory, wherever its section lies
 enter_tells : (found : Found) (l : Limits) (counter : Counter) (clause : RegionClause) (n : ℕ) (section : Section)

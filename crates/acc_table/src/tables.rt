@@ -183,12 +183,7 @@ impl Table {
                     Ok(())
                 }
             }
-            Directive::Exit { .. } => Ok(()),
-            Directive::EnterData { .. } => Ok(()),
-            Directive::ExitData { .. } => Ok(()),
-            Directive::Update { .. } => Ok(()),
-            Directive::Wait { .. } => Ok(()),
-            Directive::Step { .. } => Ok(()),
+            _ => Ok(()),
         }
     }
 

@@ -1,4 +1,5 @@
-use Rattle.std.proofs.Common.{refl, arith}
+use Rattle.std.proofs.Common.{arith}
+use Rattle.std.proofs.lemmas.Bool.Decides.{nat_tests}
 use Rattle.acc_base.specs.Waits.{drained}
 use Rattle.acc_clauses.proofs.Finished.{finished_enter, finished_exit, finished_wait, finished_step}
 use Rattle.acc_clauses.proofs.finishing.finish.Goals as goal
@@ -18,14 +19,6 @@ returns-in-Wait-clause-state c = rw c.in-Wait.is (finished_wait _ c.args.plan.no
 pub returns-in-Step-clause-state : goal.returns-in-Step-clause-state
 returns-in-Step-clause-state c = rw c.in-Step.is (finished_step _ c.args.plan.now c.args.parts.now.state c.step.new.self.state c.step.ensures.state)
 
-pub returns-in-EnterData-clause-state : goal.returns-in-EnterData-clause-state
+pub returns-in_default-clause-state : goal.returns-in_default-clause-state
 unfolding drained
-returns-in-EnterData-clause-state c = rw c.in-EnterData.is refl
-
-pub returns-in-ExitData-clause-state : goal.returns-in-ExitData-clause-state
-unfolding drained
-returns-in-ExitData-clause-state c = rw c.in-ExitData.is refl
-
-pub returns-in-Update-clause-state : goal.returns-in-Update-clause-state
-unfolding drained
-returns-in-Update-clause-state c = rw c.in-Update.is refl
+returns-in_default-clause-state c = grind (arith, nat_tests)

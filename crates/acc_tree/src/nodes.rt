@@ -131,7 +131,10 @@ pub fn new_node<T: Copy>(alloc: Global, entry: Entry<T>) -> Option<Box<Node<T>>>
         greatest: entry.size,
         height: 1,
     };
-    Box::new(alloc, node).ok()
+    match Box::new(alloc, node) {
+        Ok(node) => Some(node),
+        Err(_) => None,
+    }
 }
 
 /// Puts a node without subtrees before a chain.

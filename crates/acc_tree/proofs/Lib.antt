@@ -1,0 +1,4 @@
+pub mod Leaves
+pub mod Tall
+pub mod Steps
+pub mod Fronts

@@ -12,6 +12,10 @@ use Rattle.acc_tree.specs.declared.entries.Entry.{Entry}
 use Rattle.acc_tree.specs.Listing.{KeysRise, AreRanges, first_large, greatest_size, cut_before, without_front}
 use Rattle.acc_tree.proofs.Steps.{all_front, all_behind, find-behind}
 
+or_left : {X : Type 0} (o p : Option X) → IsSome o → option_or o p ≡ o
+or_left None p some = cc
+or_left (Some x) p some = refl
+
 module _ {T : Type 0} where
   -- ---- the search
 
@@ -25,10 +29,6 @@ module _ {T : Type 0} where
     | inl less ↦ let t : nat_le size h.size ≡ false = grind (arith, nat_tests) in rw t (large_some size l pos (omega arith))
     | inr le ↦ let t : nat_le size h.size ≡ true = grind (arith, nat_tests) in rw t refl
   ]
-
-  or_left : {X : Type 0} (o p : Option X) → IsSome o → option_or o p ≡ o
-  or_left None p some = cc
-  or_left (Some x) p some = refl
 
   pub large_left : (size : ℕ) (l : List (Entry T)) (x : Entry T) (r : List (Entry T)) → 0 < size → size ≤ greatest_size l → first_large size (l ++ x ∷ r) ≡ first_large size l
   large_left size l x r pos fits = find-append (λ e. nat_le size e.size) l (x ∷ r) ∙ or_left (first_large size l) (first_large size (x ∷ r)) (large_some size l pos fits)

@@ -1,52 +1,122 @@
-use Rattle.std.proofs.Common.{rules, ◌≡◌, ◌+◌, ◌^◌, ◌<◌, ◌≤◌, length, Some, IsSome, ℕ, ◌-◌, ◌*◌, ◌/◌, ◌%◌, Bool, true, false, nat_eq, nat_lt, List, [], ◌∷◌, ◌++◌, slice_index_or, slice_set, bit_and, bit_or, Fits, w8, w32, w64, Bor, MutBor}
-use Rattle.acc_tree.specs.Listing.{KeysRise, AreRanges, at_key, first_large, greatest_size, with_entry, without_key, without_front}
-use Rattle.acc_tree.specs.Nodes.{entries_in, height_of, length_of, IsAlone, IsLeaf, IsFreed, IsLowered}
+use Rattle.std.proofs.Common.{◌≡◌, ℕ, ◌+◌, ◌-◌, ◌<◌, ◌≤◌, ◌∷◌, ◌++◌, [], arith, refl, sym, ap, ◌∙◌, List, Some, subst}
+use Rattle.acc_tree.specs.declared.entries.Entry.{Entry}
+use Rattle.acc_tree.specs.Shape.{Shape}
+use Rattle.acc_tree.specs.Listing.{AreRanges, first_large, greatest_size, without_front}
+use Rattle.acc_tree.specs.Nodes.{entries_in, height_of}
+use Rattle.acc_tree.proofs.Leaves.{around}
+use Rattle.acc_tree.proofs.Tall.{greatest_size-append}
+use Rattle.acc_tree.proofs.Fronts.{RangeSides, range_sides, large_left, large_here, large_right, front_left, front_whole, front_cut, front_right}
 use Rattle.acc_tree.proofs.changes.+take_front.Goals as goal
 
--- src/changes.rt:79:36
 pub take_front-freed-requires : goal.take_front-freed-requires
-take_front-freed-requires g t c κs within = ?
+take_front-freed-requires g t c κs within =
+    let top = c.split-left.result.1.value.entries in
+    let one : top ≡ c.split-left.ensures.leaf.entry ∷ [] = c.split-left.ensures.leaf.entries in
+    let old = around _ (entries_in c.split-left.result.0) top (entries_in c.split-left.result.2) c.split-left.ensures.leaf.entry c.split-left.ensures.entries one in
+    let d : RangeSides (entries_in c.split-left.result.0) c.split-left.ensures.leaf.entry (entries_in c.split-left.result.2) = range_sides (entries_in c.split-left.result.0) c.split-left.ensures.leaf.entry (entries_in c.split-left.result.2) (subst (λ (es : List (Entry g.row.T.Denot)). AreRanges es) old c.requires.ranges) in
+    let is : c.split-left.result.0 ≡ Some c.in-Some.left = c.in-Some.is in
+    let h : height_of c.split-left.result.0 ≡ c.in-Some.left.value.height = ap height_of is in
+    let fits : c.args.size ≤ greatest_size (entries_in c.split-left.result.0) = omega (arith, c.greatest.ensures.value) in
+    (omega (arith, c.split-left.ensures.height), (within, (rw is at c.split-left.ensures.balanced.left, (omega (arith, c.split-left.ensures.height), (rw is at d.left, (c.requires.some, rw is at fits))))))
 
--- src/changes.rt:80:9
 pub returns-then-greatest-size-clause-entry : goal.returns-then-greatest-size-clause-entry
-returns-then-greatest-size-clause-entry g t c = ?
+returns-then-greatest-size-clause-entry g t c =
+    let top = c.split-left.result.1.value.entries in
+    let one : top ≡ c.split-left.ensures.leaf.entry ∷ [] = c.split-left.ensures.leaf.entries in
+    let old = around _ (entries_in c.split-left.result.0) top (entries_in c.split-left.result.2) c.split-left.ensures.leaf.entry c.split-left.ensures.entries one in
+    let fits : c.args.size ≤ greatest_size (entries_in c.split-left.result.0) = omega (arith, c.greatest.ensures.value) in
+    let is : c.split-left.result.0 ≡ Some c.in-Some.left = c.in-Some.is in
+    ap (first_large c.args.size) old ∙ large_left c.args.size (entries_in c.split-left.result.0) c.split-left.ensures.leaf.entry (entries_in c.split-left.result.2) c.requires.some fits ∙ ap (first_large c.args.size) (ap entries_in is) ∙ c.take_front-freed.ensures.entry
 
--- src/changes.rt:80:9
 pub returns-then-greatest-size-clause-entries : goal.returns-then-greatest-size-clause-entries
-returns-then-greatest-size-clause-entries g t c = ?
+returns-then-greatest-size-clause-entries g t c =
+    let top = c.split-left.result.1.value.entries in
+    let one : top ≡ c.split-left.ensures.leaf.entry ∷ [] = c.split-left.ensures.leaf.entries in
+    let old = around _ (entries_in c.split-left.result.0) top (entries_in c.split-left.result.2) c.split-left.ensures.leaf.entry c.split-left.ensures.entries one in
+    let fits : c.args.size ≤ greatest_size (entries_in c.split-left.result.0) = omega (arith, c.greatest.ensures.value) in
+    let is : c.split-left.result.0 ≡ Some c.in-Some.left = c.in-Some.is in
+    let new = around _ (entries_in c.take_front-freed.result.2) top (entries_in c.split-left.result.2) c.split-left.ensures.leaf.entry c.balance.ensures.entries one in
+    new ∙ ap (λ (es : List (Entry g.row.T.Denot)). es ++ c.split-left.ensures.leaf.entry ∷ entries_in c.split-left.result.2) (c.take_front-freed.ensures.entries ∙ ap (without_front c.args.size) (sym (ap entries_in is))) ∙ sym (front_left c.args.size (entries_in c.split-left.result.0) (c.split-left.ensures.leaf.entry ∷ entries_in c.split-left.result.2) c.requires.some fits) ∙ sym (ap (without_front c.args.size) old)
 
--- src/changes.rt:84:40
 pub unreachable-requires-in_default-right : goal.unreachable-requires-in_default-right
-unreachable-requires-in_default-right g t c = ?
+unreachable-requires-in_default-right g t c =
+    let top = c.split-left.result.1.value.entries in
+    let one : top ≡ c.entry_of-here.result ∷ [] = ap (λ (s : Shape g.row.T.Denot). s.entries) (sym c.deref.ensures) ∙ c.entry_of-here.ensures in
+    let old = around _ (entries_in c.split-left.result.0) top (entries_in c.split-left.result.2) c.entry_of-here.result c.split-left.ensures.entries one in
+    let small : greatest_size (entries_in c.split-left.result.0) < c.args.size = omega (arith, c.greatest.ensures.value) in
+    let rest : c.args.size ≤ greatest_size (entries_in c.split-left.result.2) = omega (arith, c.requires.fits, ap greatest_size old, greatest_size-append (entries_in c.split-left.result.0) c.entry_of-here.result (entries_in c.split-left.result.2), c.if-here-size.true) in
+    let none : greatest_size (entries_in c.split-left.result.2) ≡ 0 = rw c.in_default-right.is refl in
+    absurd (omega (arith, c.requires.some))
 
--- src/changes.rt:85:37
 pub take_front-freed-requires-then-here-size : goal.take_front-freed-requires-then-here-size
-take_front-freed-requires-then-here-size g t c κs within = ?
+take_front-freed-requires-then-here-size g t c κs within =
+    let top = c.split-left.result.1.value.entries in
+    let one : top ≡ c.entry_of-here.result ∷ [] = ap (λ (s : Shape g.row.T.Denot). s.entries) (sym c.deref.ensures) ∙ c.entry_of-here.ensures in
+    let old = around _ (entries_in c.split-left.result.0) top (entries_in c.split-left.result.2) c.entry_of-here.result c.split-left.ensures.entries one in
+    let d : RangeSides (entries_in c.split-left.result.0) c.entry_of-here.result (entries_in c.split-left.result.2) = range_sides (entries_in c.split-left.result.0) c.entry_of-here.result (entries_in c.split-left.result.2) (subst (λ (es : List (Entry g.row.T.Denot)). AreRanges es) old c.requires.ranges) in
+    let small : greatest_size (entries_in c.split-left.result.0) < c.args.size = omega (arith, c.greatest.ensures.value) in
+    let rest : c.args.size ≤ greatest_size (entries_in c.split-left.result.2) = omega (arith, c.requires.fits, ap greatest_size old, greatest_size-append (entries_in c.split-left.result.0) c.entry_of-here.result (entries_in c.split-left.result.2), c.if-here-size.true) in
+    let is : c.split-left.result.2 ≡ Some c.in-Some-right.right = c.in-Some-right.is in
+    let h : height_of c.split-left.result.2 ≡ c.in-Some-right.right.value.height = ap height_of is in
+    (omega (arith, c.split-left.ensures.height), (within, (rw is at c.split-left.ensures.balanced.right, (omega (arith, c.split-left.ensures.height), (rw is at d.right, (c.requires.some, rw is at rest))))))
 
--- src/changes.rt:86:9
 pub returns-then-here-size-clause-entry : goal.returns-then-here-size-clause-entry
-returns-then-here-size-clause-entry g t c = ?
+returns-then-here-size-clause-entry g t c =
+    let top = c.split-left.result.1.value.entries in
+    let one : top ≡ c.entry_of-here.result ∷ [] = ap (λ (s : Shape g.row.T.Denot). s.entries) (sym c.deref.ensures) ∙ c.entry_of-here.ensures in
+    let old = around _ (entries_in c.split-left.result.0) top (entries_in c.split-left.result.2) c.entry_of-here.result c.split-left.ensures.entries one in
+    let small : greatest_size (entries_in c.split-left.result.0) < c.args.size = omega (arith, c.greatest.ensures.value) in
+    let is : c.split-left.result.2 ≡ Some c.in-Some-right.right = c.in-Some-right.is in
+    ap (first_large c.args.size) old ∙ large_right c.args.size (entries_in c.split-left.result.0) c.entry_of-here.result (entries_in c.split-left.result.2) small c.if-here-size.true ∙ ap (first_large c.args.size) (ap entries_in is) ∙ c.take_front-freed-then-here-size.ensures.entry
 
--- src/changes.rt:86:9
 pub returns-then-here-size-clause-entries : goal.returns-then-here-size-clause-entries
-returns-then-here-size-clause-entries g t c = ?
+returns-then-here-size-clause-entries g t c =
+    let top = c.split-left.result.1.value.entries in
+    let one : top ≡ c.entry_of-here.result ∷ [] = ap (λ (s : Shape g.row.T.Denot). s.entries) (sym c.deref.ensures) ∙ c.entry_of-here.ensures in
+    let old = around _ (entries_in c.split-left.result.0) top (entries_in c.split-left.result.2) c.entry_of-here.result c.split-left.ensures.entries one in
+    let small : greatest_size (entries_in c.split-left.result.0) < c.args.size = omega (arith, c.greatest.ensures.value) in
+    let is : c.split-left.result.2 ≡ Some c.in-Some-right.right = c.in-Some-right.is in
+    let new = around _ (entries_in c.split-left.result.0) top (entries_in c.take_front-freed-then-here-size.result.2) c.entry_of-here.result c.balance-then-here-size.ensures.entries one in
+    new ∙ ap (λ (es : List (Entry g.row.T.Denot)). entries_in c.split-left.result.0 ++ c.entry_of-here.result ∷ es) (c.take_front-freed-then-here-size.ensures.entries ∙ ap (without_front c.args.size) (sym (ap entries_in is))) ∙ sym (front_right c.args.size (entries_in c.split-left.result.0) c.entry_of-here.result (entries_in c.split-left.result.2) small c.if-here-size.true) ∙ sym (ap (without_front c.args.size) old)
 
--- src/changes.rt:92:18
 pub overflow_add-rest : goal.overflow_add-rest
-overflow_add-rest g t c = ?
+overflow_add-rest g t c =
+    let top = c.split-left.result.1.value.entries in
+    let one : top ≡ c.entry_of-here.result ∷ [] = ap (λ (s : Shape g.row.T.Denot). s.entries) (sym c.deref.ensures) ∙ c.entry_of-here.ensures in
+    let old = around _ (entries_in c.split-left.result.0) top (entries_in c.split-left.result.2) c.entry_of-here.result c.split-left.ensures.entries one in
+    let d : RangeSides (entries_in c.split-left.result.0) c.entry_of-here.result (entries_in c.split-left.result.2) = range_sides (entries_in c.split-left.result.0) c.entry_of-here.result (entries_in c.split-left.result.2) (subst (λ (es : List (Entry g.row.T.Denot)). AreRanges es) old c.requires.ranges) in
+    omega (arith, d.within)
 
--- src/changes.rt:63:1
 pub returns-then-here-size-2-clause-entry : goal.returns-then-here-size-2-clause-entry
-returns-then-here-size-2-clause-entry g t c = ?
+returns-then-here-size-2-clause-entry g t c =
+    let top = c.split-left.result.1.value.entries in
+    let one : top ≡ c.entry_of-here.result ∷ [] = ap (λ (s : Shape g.row.T.Denot). s.entries) (sym c.deref.ensures) ∙ c.entry_of-here.ensures in
+    let old = around _ (entries_in c.split-left.result.0) top (entries_in c.split-left.result.2) c.entry_of-here.result c.split-left.ensures.entries one in
+    let small : greatest_size (entries_in c.split-left.result.0) < c.args.size = omega (arith, c.greatest.ensures.value) in
+    ap (first_large c.args.size) old ∙ large_here c.args.size (entries_in c.split-left.result.0) c.entry_of-here.result (entries_in c.split-left.result.2) small (omega arith)
 
--- src/changes.rt:63:1
-pub returns-then-here-size-2-clause-entries : goal.returns-then-here-size-2-clause-entries
-returns-then-here-size-2-clause-entries g t c = ?
-
--- src/changes.rt:63:1
 pub returns-else-here-size-2-clause-entry : goal.returns-else-here-size-2-clause-entry
-returns-else-here-size-2-clause-entry g t c = ?
+returns-else-here-size-2-clause-entry g t c =
+    let top = c.split-left.result.1.value.entries in
+    let one : top ≡ c.entry_of-here.result ∷ [] = ap (λ (s : Shape g.row.T.Denot). s.entries) (sym c.deref.ensures) ∙ c.entry_of-here.ensures in
+    let old = around _ (entries_in c.split-left.result.0) top (entries_in c.split-left.result.2) c.entry_of-here.result c.split-left.ensures.entries one in
+    let small : greatest_size (entries_in c.split-left.result.0) < c.args.size = omega (arith, c.greatest.ensures.value) in
+    ap (first_large c.args.size) old ∙ large_here c.args.size (entries_in c.split-left.result.0) c.entry_of-here.result (entries_in c.split-left.result.2) small (omega arith)
 
--- src/changes.rt:63:1
+pub returns-then-here-size-2-clause-entries : goal.returns-then-here-size-2-clause-entries
+returns-then-here-size-2-clause-entries g t c =
+    let top = c.split-left.result.1.value.entries in
+    let one : top ≡ c.entry_of-here.result ∷ [] = ap (λ (s : Shape g.row.T.Denot). s.entries) (sym c.deref.ensures) ∙ c.entry_of-here.ensures in
+    let old = around _ (entries_in c.split-left.result.0) top (entries_in c.split-left.result.2) c.entry_of-here.result c.split-left.ensures.entries one in
+    let small : greatest_size (entries_in c.split-left.result.0) < c.args.size = omega (arith, c.greatest.ensures.value) in
+    c.merge.ensures.entries ∙ sym (front_whole c.args.size (entries_in c.split-left.result.0) c.entry_of-here.result (entries_in c.split-left.result.2) small (omega arith)) ∙ sym (ap (without_front c.args.size) old)
+
 pub returns-else-here-size-2-clause-entries : goal.returns-else-here-size-2-clause-entries
-returns-else-here-size-2-clause-entries g t c = ?
+returns-else-here-size-2-clause-entries g t c =
+    let top = c.split-left.result.1.value.entries in
+    let one : top ≡ c.entry_of-here.result ∷ [] = ap (λ (s : Shape g.row.T.Denot). s.entries) (sym c.deref.ensures) ∙ c.entry_of-here.ensures in
+    let old = around _ (entries_in c.split-left.result.0) top (entries_in c.split-left.result.2) c.entry_of-here.result c.split-left.ensures.entries one in
+    let small : greatest_size (entries_in c.split-left.result.0) < c.args.size = omega (arith, c.greatest.ensures.value) in
+    let cut : Entry g.row.T.Denot = record { key = c.entry_of-here.result.key + c.args.size; size = c.entry_of-here.result.size - c.args.size; value = c.entry_of-here.result.value } in
+    let new = around _ (entries_in c.split-left.result.0) _ (entries_in c.split-left.result.2) cut c.join.ensures.entries c.fill.ensures.entries in
+    new ∙ sym (front_cut c.args.size (entries_in c.split-left.result.0) c.entry_of-here.result (entries_in c.split-left.result.2) small (omega arith)) ∙ sym (ap (without_front c.args.size) old)

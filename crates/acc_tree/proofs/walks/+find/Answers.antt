@@ -1,24 +1,49 @@
-use Rattle.std.proofs.Common.{rules, ◌≡◌, ◌+◌, ◌^◌, ◌<◌, ◌≤◌, ℕ, ◌-◌, ◌*◌, length, ◌/◌, ◌%◌, Bool, true, false, nat_eq, nat_lt, List, [], ◌∷◌, ◌++◌, slice_index_or, slice_set, bit_and, bit_or, Fits, w8, w32, w64, Bor, MutBor}
-use Rattle.acc_tree.specs.Listing.{KeysRise, at_key, first_from, last_before, first_large, with_value}
-use Rattle.acc_tree.specs.Nodes.{entries_in, height_of, length_of}
+use Rattle.std.proofs.Common.{◌≡◌, ◌+◌, ◌<◌, ◌≤◌, ◌∷◌, ◌++◌, arith, sym, ap, subst, ◌∙◌, List, Some}
+use Rattle.acc_tree.specs.declared.entries.Entry.{Entry}
+use Rattle.acc_tree.specs.Shape.{Shape}
+use Rattle.acc_tree.specs.Listing.{KeysRise, at_key}
+use Rattle.acc_tree.specs.Nodes.{entries_in, height_of, shape_of}
+use Rattle.acc_tree.proofs.Steps.{Sides, sides, at_left, at_here, at_right}
 use Rattle.acc_tree.proofs.walks.+find.Goals as goal
 
--- src/walks.rt:25:17
 pub find-requires : goal.find-requires
-find-requires g t c κs within = ?
+find-requires g t c κs within =
+    let is : c.args.tree.now ≡ Some c.in-Some.node = c.in-Some.is in
+    let view : shape_of c.node.inside ≡ c.in-Some.node.value = c.node.view_is ∙ c.deref-node.ensures in
+    let whole : entries_in c.args.tree.now ≡ entries_in c.node.inside.left ++ c.node.inside.entry ∷ entries_in c.node.inside.right = ap entries_in is ∙ sym (ap (λ (s : Shape g.row.T.Denot). s.entries) view) in
+    let h : height_of c.args.tree.now ≡ c.node.inside.height = ap height_of is ∙ sym (ap (λ (s : Shape g.row.T.Denot). s.height) view) in
+    let d : Sides (entries_in c.node.inside.left) c.node.inside.entry (entries_in c.node.inside.right) = sides (entries_in c.node.inside.left) c.node.inside.entry (entries_in c.node.inside.right) (subst (λ (es : List (Entry g.row.T.Denot)). KeysRise es) whole c.requires.rising) in
+    (omega (arith, c.node.invariant.height), (within, (d.left, omega (arith, c.node.invariant.height, c.tick.ensures))))
 
--- src/walks.rt:27:17
 pub find-requires-then-here-key : goal.find-requires-then-here-key
-find-requires-then-here-key g t c κs within = ?
+find-requires-then-here-key g t c κs within =
+    let is : c.args.tree.now ≡ Some c.in-Some.node = c.in-Some.is in
+    let view : shape_of c.node.inside ≡ c.in-Some.node.value = c.node.view_is ∙ c.deref-node.ensures in
+    let whole : entries_in c.args.tree.now ≡ entries_in c.node.inside.left ++ c.node.inside.entry ∷ entries_in c.node.inside.right = ap entries_in is ∙ sym (ap (λ (s : Shape g.row.T.Denot). s.entries) view) in
+    let h : height_of c.args.tree.now ≡ c.node.inside.height = ap height_of is ∙ sym (ap (λ (s : Shape g.row.T.Denot). s.height) view) in
+    let d : Sides (entries_in c.node.inside.left) c.node.inside.entry (entries_in c.node.inside.right) = sides (entries_in c.node.inside.left) c.node.inside.entry (entries_in c.node.inside.right) (subst (λ (es : List (Entry g.row.T.Denot)). KeysRise es) whole c.requires.rising) in
+    (omega (arith, c.node.invariant.height), (within, (d.right, omega (arith, c.node.invariant.height, c.tick.ensures))))
 
--- src/walks.rt:11:1
 pub returns-then-key-here-clause-found : goal.returns-then-key-here-clause-found
-returns-then-key-here-clause-found g t c = ?
+returns-then-key-here-clause-found g t c =
+    let is : c.args.tree.now ≡ Some c.in-Some.node = c.in-Some.is in
+    let view : shape_of c.node.inside ≡ c.in-Some.node.value = c.node.view_is ∙ c.deref-node.ensures in
+    let whole : entries_in c.args.tree.now ≡ entries_in c.node.inside.left ++ c.node.inside.entry ∷ entries_in c.node.inside.right = ap entries_in is ∙ sym (ap (λ (s : Shape g.row.T.Denot). s.entries) view) in
+    let d : Sides (entries_in c.node.inside.left) c.node.inside.entry (entries_in c.node.inside.right) = sides (entries_in c.node.inside.left) c.node.inside.entry (entries_in c.node.inside.right) (subst (λ (es : List (Entry g.row.T.Denot)). KeysRise es) whole c.requires.rising) in
+    c.find.ensures.found ∙ sym (at_left c.args.key (entries_in c.node.inside.left) c.node.inside.entry (entries_in c.node.inside.right) c.if-key-here.true d) ∙ sym (ap (at_key c.args.key) whole)
 
--- src/walks.rt:11:1
 pub returns-then-here-key-clause-found : goal.returns-then-here-key-clause-found
-returns-then-here-key-clause-found g t c = ?
+returns-then-here-key-clause-found g t c =
+    let is : c.args.tree.now ≡ Some c.in-Some.node = c.in-Some.is in
+    let view : shape_of c.node.inside ≡ c.in-Some.node.value = c.node.view_is ∙ c.deref-node.ensures in
+    let whole : entries_in c.args.tree.now ≡ entries_in c.node.inside.left ++ c.node.inside.entry ∷ entries_in c.node.inside.right = ap entries_in is ∙ sym (ap (λ (s : Shape g.row.T.Denot). s.entries) view) in
+    let d : Sides (entries_in c.node.inside.left) c.node.inside.entry (entries_in c.node.inside.right) = sides (entries_in c.node.inside.left) c.node.inside.entry (entries_in c.node.inside.right) (subst (λ (es : List (Entry g.row.T.Denot)). KeysRise es) whole c.requires.rising) in
+    c.find-then-here-key.ensures.found ∙ sym (at_right c.args.key (entries_in c.node.inside.left) c.node.inside.entry (entries_in c.node.inside.right) c.if-here-key.true d) ∙ sym (ap (at_key c.args.key) whole)
 
--- src/walks.rt:11:1
 pub returns-else-here-key-clause-found : goal.returns-else-here-key-clause-found
-returns-else-here-key-clause-found g t c = ?
+returns-else-here-key-clause-found g t c =
+    let is : c.args.tree.now ≡ Some c.in-Some.node = c.in-Some.is in
+    let view : shape_of c.node.inside ≡ c.in-Some.node.value = c.node.view_is ∙ c.deref-node.ensures in
+    let whole : entries_in c.args.tree.now ≡ entries_in c.node.inside.left ++ c.node.inside.entry ∷ entries_in c.node.inside.right = ap entries_in is ∙ sym (ap (λ (s : Shape g.row.T.Denot). s.entries) view) in
+    let d : Sides (entries_in c.node.inside.left) c.node.inside.entry (entries_in c.node.inside.right) = sides (entries_in c.node.inside.left) c.node.inside.entry (entries_in c.node.inside.right) (subst (λ (es : List (Entry g.row.T.Denot)). KeysRise es) whole c.requires.rising) in
+    sym (at_here c.args.key (entries_in c.node.inside.left) c.node.inside.entry (entries_in c.node.inside.right) (omega arith) d) ∙ sym (ap (at_key c.args.key) whole)

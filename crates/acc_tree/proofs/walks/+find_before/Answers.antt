@@ -1,20 +1,41 @@
-use Rattle.std.proofs.Common.{rules, ◌≡◌, ◌+◌, ◌^◌, ◌<◌, ◌≤◌, ℕ, ◌-◌, ◌*◌, length, ◌/◌, ◌%◌, Bool, true, false, nat_eq, nat_lt, List, [], ◌∷◌, ◌++◌, slice_index_or, slice_set, bit_and, bit_or, Fits, w8, w32, w64, Bor, MutBor}
-use Rattle.acc_tree.specs.Listing.{KeysRise, at_key, first_from, last_before, first_large, with_value}
-use Rattle.acc_tree.specs.Nodes.{entries_in, height_of, length_of}
+use Rattle.std.proofs.Common.{◌≡◌, ◌+◌, ◌<◌, ◌≤◌, ◌∷◌, ◌++◌, arith, sym, ap, subst, ◌∙◌, List, Some}
+use Rattle.acc_tree.specs.declared.entries.Entry.{Entry}
+use Rattle.acc_tree.specs.Shape.{Shape}
+use Rattle.acc_tree.specs.Listing.{KeysRise, last_before}
+use Rattle.acc_tree.specs.Nodes.{entries_in, height_of, shape_of}
+use Rattle.acc_tree.proofs.Steps.{Sides, sides, before_left, before_right}
+use Rattle.std.specs.Option.{option_or}
 use Rattle.acc_tree.proofs.walks.+find_before.Goals as goal
 
--- src/walks.rt:90:17
 pub find_before-requires : goal.find_before-requires
-find_before-requires g t c κs within = ?
+find_before-requires g t c κs within =
+    let is : c.args.tree.now ≡ Some c.in-Some.node = c.in-Some.is in
+    let view : shape_of c.node.inside ≡ c.in-Some.node.value = c.node.view_is ∙ c.deref-node.ensures in
+    let whole : entries_in c.args.tree.now ≡ entries_in c.node.inside.left ++ c.node.inside.entry ∷ entries_in c.node.inside.right = ap entries_in is ∙ sym (ap (λ (s : Shape g.row.T.Denot). s.entries) view) in
+    let h : height_of c.args.tree.now ≡ c.node.inside.height = ap height_of is ∙ sym (ap (λ (s : Shape g.row.T.Denot). s.height) view) in
+    let d : Sides (entries_in c.node.inside.left) c.node.inside.entry (entries_in c.node.inside.right) = sides (entries_in c.node.inside.left) c.node.inside.entry (entries_in c.node.inside.right) (subst (λ (es : List (Entry g.row.T.Denot)). KeysRise es) whole c.requires.rising) in
+    (omega (arith, c.node.invariant.height), (within, d.right))
 
--- src/walks.rt:92:17
 pub find_before-requires-else-here-key : goal.find_before-requires-else-here-key
-find_before-requires-else-here-key g t c κs within = ?
+find_before-requires-else-here-key g t c κs within =
+    let is : c.args.tree.now ≡ Some c.in-Some.node = c.in-Some.is in
+    let view : shape_of c.node.inside ≡ c.in-Some.node.value = c.node.view_is ∙ c.deref-node.ensures in
+    let whole : entries_in c.args.tree.now ≡ entries_in c.node.inside.left ++ c.node.inside.entry ∷ entries_in c.node.inside.right = ap entries_in is ∙ sym (ap (λ (s : Shape g.row.T.Denot). s.entries) view) in
+    let h : height_of c.args.tree.now ≡ c.node.inside.height = ap height_of is ∙ sym (ap (λ (s : Shape g.row.T.Denot). s.height) view) in
+    let d : Sides (entries_in c.node.inside.left) c.node.inside.entry (entries_in c.node.inside.right) = sides (entries_in c.node.inside.left) c.node.inside.entry (entries_in c.node.inside.right) (subst (λ (es : List (Entry g.row.T.Denot)). KeysRise es) whole c.requires.rising) in
+    (omega (arith, c.node.invariant.height), (within, d.left))
 
--- src/walks.rt:80:1
 pub returns-then-here-key : goal.returns-then-here-key
-returns-then-here-key g t c = ?
+returns-then-here-key g t c =
+    let is : c.args.tree.now ≡ Some c.in-Some.node = c.in-Some.is in
+    let view : shape_of c.node.inside ≡ c.in-Some.node.value = c.node.view_is ∙ c.deref-node.ensures in
+    let whole : entries_in c.args.tree.now ≡ entries_in c.node.inside.left ++ c.node.inside.entry ∷ entries_in c.node.inside.right = ap entries_in is ∙ sym (ap (λ (s : Shape g.row.T.Denot). s.entries) view) in
+    c.or.ensures ∙ ap (λ o. option_or o (Some c.node.inside.entry)) c.find_before.ensures ∙ sym (before_right c.args.key (entries_in c.node.inside.left) c.node.inside.entry (entries_in c.node.inside.right) c.if-here-key.true) ∙ sym (ap (last_before c.args.key) whole)
 
--- src/walks.rt:80:1
 pub returns-else-here-key : goal.returns-else-here-key
-returns-else-here-key g t c = ?
+returns-else-here-key g t c =
+    let is : c.args.tree.now ≡ Some c.in-Some.node = c.in-Some.is in
+    let view : shape_of c.node.inside ≡ c.in-Some.node.value = c.node.view_is ∙ c.deref-node.ensures in
+    let whole : entries_in c.args.tree.now ≡ entries_in c.node.inside.left ++ c.node.inside.entry ∷ entries_in c.node.inside.right = ap entries_in is ∙ sym (ap (λ (s : Shape g.row.T.Denot). s.entries) view) in
+    let d : Sides (entries_in c.node.inside.left) c.node.inside.entry (entries_in c.node.inside.right) = sides (entries_in c.node.inside.left) c.node.inside.entry (entries_in c.node.inside.right) (subst (λ (es : List (Entry g.row.T.Denot)). KeysRise es) whole c.requires.rising) in
+    c.find_before-else-here-key.ensures ∙ sym (before_left c.args.key (entries_in c.node.inside.left) c.node.inside.entry (entries_in c.node.inside.right) c.if-here-key.false d) ∙ sym (ap (last_before c.args.key) whole)

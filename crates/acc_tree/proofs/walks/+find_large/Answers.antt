@@ -1,16 +1,31 @@
-use Rattle.std.proofs.Common.{rules, ◌≡◌, ◌+◌, ◌^◌, ◌<◌, ◌≤◌, ℕ, ◌-◌, ◌*◌, length, ◌/◌, ◌%◌, Bool, true, false, nat_eq, nat_lt, List, [], ◌∷◌, ◌++◌, slice_index_or, slice_set, bit_and, bit_or, Fits, w8, w32, w64, Bor, MutBor}
-use Rattle.acc_tree.specs.Listing.{KeysRise, at_key, first_from, last_before, first_large, with_value}
-use Rattle.acc_tree.specs.Nodes.{entries_in, height_of, length_of}
+use Rattle.std.proofs.Common.{◌≡◌, ◌+◌, ◌<◌, ◌≤◌, ◌∷◌, ◌++◌, arith, sym, ap, subst, ◌∙◌, List, Some}
+use Rattle.acc_tree.specs.declared.entries.Entry.{Entry}
+use Rattle.acc_tree.specs.Shape.{Shape}
+use Rattle.acc_tree.specs.Listing.{first_large, greatest_size}
+use Rattle.acc_tree.specs.Nodes.{entries_in, height_of, shape_of}
+use Rattle.acc_tree.proofs.Fronts.{large_left, large_here, large_right}
 use Rattle.acc_tree.proofs.walks.+find_large.Goals as goal
 
--- src/walks.rt:36:1
 pub returns-then-greatest-size-clause-found : goal.returns-then-greatest-size-clause-found
-returns-then-greatest-size-clause-found g t c = ?
+returns-then-greatest-size-clause-found g t c =
+    let is : c.args.tree.now ≡ Some c.in-Some.node = c.in-Some.is in
+    let view : shape_of c.node.inside ≡ c.in-Some.node.value = c.node.view_is ∙ c.deref-node.ensures in
+    let whole : entries_in c.args.tree.now ≡ entries_in c.node.inside.left ++ c.node.inside.entry ∷ entries_in c.node.inside.right = ap entries_in is ∙ sym (ap (λ (s : Shape g.row.T.Denot). s.entries) view) in
+    let fits : c.args.size ≤ greatest_size (entries_in c.node.inside.left) = omega (arith, c.greatest.ensures.value) in
+    c.find_large.ensures.found ∙ sym (large_left c.args.size (entries_in c.node.inside.left) c.node.inside.entry (entries_in c.node.inside.right) c.requires.some fits) ∙ sym (ap (first_large c.args.size) whole)
 
--- src/walks.rt:36:1
 pub returns-then-here-size-clause-found : goal.returns-then-here-size-clause-found
-returns-then-here-size-clause-found g t c = ?
+returns-then-here-size-clause-found g t c =
+    let is : c.args.tree.now ≡ Some c.in-Some.node = c.in-Some.is in
+    let view : shape_of c.node.inside ≡ c.in-Some.node.value = c.node.view_is ∙ c.deref-node.ensures in
+    let whole : entries_in c.args.tree.now ≡ entries_in c.node.inside.left ++ c.node.inside.entry ∷ entries_in c.node.inside.right = ap entries_in is ∙ sym (ap (λ (s : Shape g.row.T.Denot). s.entries) view) in
+    let small : greatest_size (entries_in c.node.inside.left) < c.args.size = omega (arith, c.greatest.ensures.value) in
+    sym (large_here c.args.size (entries_in c.node.inside.left) c.node.inside.entry (entries_in c.node.inside.right) small c.if-here-size.true) ∙ sym (ap (first_large c.args.size) whole)
 
--- src/walks.rt:36:1
 pub returns-else-here-size-clause-found : goal.returns-else-here-size-clause-found
-returns-else-here-size-clause-found g t c = ?
+returns-else-here-size-clause-found g t c =
+    let is : c.args.tree.now ≡ Some c.in-Some.node = c.in-Some.is in
+    let view : shape_of c.node.inside ≡ c.in-Some.node.value = c.node.view_is ∙ c.deref-node.ensures in
+    let whole : entries_in c.args.tree.now ≡ entries_in c.node.inside.left ++ c.node.inside.entry ∷ entries_in c.node.inside.right = ap entries_in is ∙ sym (ap (λ (s : Shape g.row.T.Denot). s.entries) view) in
+    let small : greatest_size (entries_in c.node.inside.left) < c.args.size = omega (arith, c.greatest.ensures.value) in
+    c.find_large-else-here-size.ensures.found ∙ sym (large_right c.args.size (entries_in c.node.inside.left) c.node.inside.entry (entries_in c.node.inside.right) small c.if-here-size.false) ∙ sym (ap (first_large c.args.size) whole)

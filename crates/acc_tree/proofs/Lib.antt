@@ -2,3 +2,4 @@ pub mod Leaves
 pub mod Tall
 pub mod Steps
 pub mod Fronts
+pub mod Values

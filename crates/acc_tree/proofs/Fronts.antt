@@ -1,5 +1,5 @@
 -- The first entry that is large enough, by the greatest sizes, and the front that is taken of it.
-use Rattle.std.proofs.Common.{ℕ, ◌≡◌, ◌+◌, ◌-◌, ◌^◌, ◌<◌, ◌≤◌, refl, ap, ◌∙◌, Bool, true, false, cond, List, [], ◌∷◌, ◌++◌, length, Option, Some, None, IsSome, inl, inr, arith}
+use Rattle.std.proofs.Common.{ℕ, ◌≡◌, ◌+◌, ◌-◌, ◌^◌, ◌<◌, ◌≤◌, refl, ap, ◌∙◌, Bool, true, false, cond, List, [], ◌∷◌, ◌++◌, length, Option, Some, None, IsSome, inl, inr, arith, rules}
 use Rattle.std.specs.Prelude.{◌==◌, find, nat_le}
 use Rattle.std.specs.List.{AllByRecursion}
 use Rattle.std.specs.Option.{option_or}
@@ -28,6 +28,12 @@ module _ {T : Type 0} where
   large_some size (h ∷ l) pos fits = elim (cases_lt h.size size) [
     | inl less ↦ let t : nat_le size h.size ≡ false = grind (arith, nat_tests) in rw t (large_some size l pos (omega arith))
     | inr le ↦ let t : nat_le size h.size ≡ true = grind (arith, nat_tests) in rw t refl
+  ]
+
+  pub large_fits : (size : ℕ) (l : List (Entry T)) → IsSome (first_large size l) → size ≤ greatest_size l
+  large_fits size l there = elim (cases_lt (greatest_size l) size) [
+    | inl small ↦ let none = large_none size l small in absurd (search (rules, rw none at there))
+    | inr le ↦ le
   ]
 
   pub large_left : (size : ℕ) (l : List (Entry T)) (x : Entry T) (r : List (Entry T)) → 0 < size → size ≤ greatest_size l → first_large size (l ++ x ∷ r) ≡ first_large size l

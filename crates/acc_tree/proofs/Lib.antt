@@ -3,3 +3,4 @@ pub mod Tall
 pub mod Steps
 pub mod Fronts
 pub mod Values
+pub mod Kept

@@ -26,6 +26,10 @@ height_le h n d tall less = elim (cases_lt (2 * d) h) [
   | inr le ↦ le
 ]
 
+-- a tree of fewer than 2^64 nodes is not high
+pub low : (h n : ℕ) → IsTall h n → n < 2 ^ 64 → h ≤ 128
+low h n tall less = height_le h n 64 tall less
+
 pub greatest_size-append : {T : Type 0} (l : List (Entry T)) (x : Entry T) (r : List (Entry T)) → greatest_size (l ++ x ∷ r) ≡ max (max (greatest_size l) (greatest_size r)) x.size
 greatest_size-append [] x r = omega arith
 greatest_size-append (h ∷ l) x r = omega (arith, greatest_size-append l x r)

@@ -4,7 +4,7 @@ ghost use Rattle.acc_tree.specs.Listing.{KeysRise, AreRanges, at_key, first_from
 ghost use Rattle.acc_tree.specs.Nodes.{length_of, IsChain};
 
 use crate::entries::Entry;
-use crate::nodes::{Link, new_node, pop, push, put_away};
+use crate::nodes::{Link, height_law, new_node, pop, push, put_away};
 use crate::visits::Visits;
 use crate::{changes, walks};
 use acc_base::Fault;
@@ -123,6 +123,7 @@ impl<T: Copy> Tree<T> {
         ensures not_fewer { visits.old ≤ visits.new }
         ensures visits { (d : ℕ) → length self.now.entries < 2 ^ d → visits.new ≤ visits.old + 2 * d }
     {
+        height_law(&self.root);
         walks::find(&self.root, key, visits)
     }
 
@@ -157,6 +158,7 @@ impl<T: Copy> Tree<T> {
         ensures not_fewer { visits.old ≤ visits.new }
         ensures visits { (d : ℕ) → length self.now.entries < 2 ^ d → visits.new ≤ visits.old + 2 * d }
     {
+        height_law(&self.root);
         walks::find_large(&self.root, size, visits)
     }
 
@@ -167,6 +169,7 @@ impl<T: Copy> Tree<T> {
         ensures entries { self.new.entries ≡ with_entry entry self.old.entries }
         ensures room { self.new.room + 1 ≡ self.old.room }
     {
+        height_law(&self.root);
         let Some(chain) = self.spare.take() else {
             unreachable!()
         };
@@ -183,6 +186,7 @@ impl<T: Copy> Tree<T> {
         ensures entries { self.new.entries ≡ without_key key self.old.entries }
         ensures room { self.new.room ≡ self.old.room + 1 }
     {
+        height_law(&self.root);
         let Some(root) = self.root.take() else {
             unreachable!()
         };
@@ -213,6 +217,7 @@ impl<T: Copy> Tree<T> {
         ensures entries { self.new.entries ≡ without_front size self.old.entries }
         ensures nodes { length self.new.entries + self.new.room ≡ length self.old.entries + self.old.room }
     {
+        height_law(&self.root);
         let Some(root) = self.root.take() else {
             unreachable!()
         };
@@ -230,7 +235,7 @@ impl<T: Copy> Tree<T> {
         ensures rising { KeysRise self.now.entries }
         ensures limit { length self.now.entries + self.now.room < 2 ^ 64 }
     {
-        let _ = &self.len;
+        let _nodes = self.nodes;
     }
 }
 

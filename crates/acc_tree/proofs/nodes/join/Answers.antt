@@ -19,7 +19,7 @@ invariant_of-n g c =
       height = omega arith;
       not_left = b.not_left;
       not_right = b.not_right;
-      greatest = omega (arith, greatest_size-append (entries_in c.args.left) c.n.inside.entry (entries_in c.args.right), c.greatest.ensures.value, c.greatest-2.ensures.value);
+      greatest = omega (arith, greatest_size-append (entries_in c.args.left) c.n.inside.entry (entries_in c.args.right), c.greatest.ensures, c.greatest-2.ensures);
       tall = rw (e, c.max-high.ensures) t;
     }
 

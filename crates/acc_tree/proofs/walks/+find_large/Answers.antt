@@ -11,7 +11,7 @@ returns-then-greatest-size-clause-found g t c =
     let is : c.args.tree.now ≡ Some c.in-Some.node = c.in-Some.is in
     let view : shape_of c.node.inside ≡ c.in-Some.node.value = c.node.view_is ∙ c.deref-node.ensures in
     let whole : entries_in c.args.tree.now ≡ entries_in c.node.inside.left ++ c.node.inside.entry ∷ entries_in c.node.inside.right = ap entries_in is ∙ sym (ap (λ (s : Shape g.row.T.Denot). s.entries) view) in
-    let fits : c.args.size ≤ greatest_size (entries_in c.node.inside.left) = omega (arith, c.greatest.ensures.value) in
+    let fits : c.args.size ≤ greatest_size (entries_in c.node.inside.left) = omega (arith, c.greatest.ensures) in
     c.find_large.ensures.found ∙ sym (large_left c.args.size (entries_in c.node.inside.left) c.node.inside.entry (entries_in c.node.inside.right) c.requires.some fits) ∙ sym (ap (first_large c.args.size) whole)
 
 pub returns-then-here-size-clause-found : goal.returns-then-here-size-clause-found
@@ -19,7 +19,7 @@ returns-then-here-size-clause-found g t c =
     let is : c.args.tree.now ≡ Some c.in-Some.node = c.in-Some.is in
     let view : shape_of c.node.inside ≡ c.in-Some.node.value = c.node.view_is ∙ c.deref-node.ensures in
     let whole : entries_in c.args.tree.now ≡ entries_in c.node.inside.left ++ c.node.inside.entry ∷ entries_in c.node.inside.right = ap entries_in is ∙ sym (ap (λ (s : Shape g.row.T.Denot). s.entries) view) in
-    let small : greatest_size (entries_in c.node.inside.left) < c.args.size = omega (arith, c.greatest.ensures.value) in
+    let small : greatest_size (entries_in c.node.inside.left) < c.args.size = omega (arith, c.greatest.ensures) in
     sym (large_here c.args.size (entries_in c.node.inside.left) c.node.inside.entry (entries_in c.node.inside.right) small c.if-here-size.true) ∙ sym (ap (first_large c.args.size) whole)
 
 pub returns-else-here-size-clause-found : goal.returns-else-here-size-clause-found
@@ -27,5 +27,5 @@ returns-else-here-size-clause-found g t c =
     let is : c.args.tree.now ≡ Some c.in-Some.node = c.in-Some.is in
     let view : shape_of c.node.inside ≡ c.in-Some.node.value = c.node.view_is ∙ c.deref-node.ensures in
     let whole : entries_in c.args.tree.now ≡ entries_in c.node.inside.left ++ c.node.inside.entry ∷ entries_in c.node.inside.right = ap entries_in is ∙ sym (ap (λ (s : Shape g.row.T.Denot). s.entries) view) in
-    let small : greatest_size (entries_in c.node.inside.left) < c.args.size = omega (arith, c.greatest.ensures.value) in
+    let small : greatest_size (entries_in c.node.inside.left) < c.args.size = omega (arith, c.greatest.ensures) in
     c.find_large-else-here-size.ensures.found ∙ sym (large_right c.args.size (entries_in c.node.inside.left) c.node.inside.entry (entries_in c.node.inside.right) small c.if-here-size.false) ∙ sym (ap (first_large c.args.size) whole)

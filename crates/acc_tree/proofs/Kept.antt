@@ -1,9 +1,8 @@
 -- What changes of the entries keep: keys that rise, and how many there are.
-use Rattle.std.proofs.Common.{ℕ, ◌≡◌, ◌+◌, ◌<◌, ◌≤◌, refl, ap, Bool, true, false, cond, List, [], ◌∷◌, length, Some, None, arith}
+use Rattle.std.proofs.Common.{ℕ, ◌≡◌, ◌+◌, ◌<◌, refl, Bool, true, false, cond, List, [], ◌∷◌, length, None, arith}
 use Rattle.std.specs.Prelude.{◌==◌, not, nat_lt}
 use Rattle.std.proofs.lemmas.Bool.Decides.{nat_tests}
-use Rattle.std.specs.List.{AllByRecursion}
-use Rattle.acc_base.proofs.Elements.{AllByRecursion-weaker, AllByRecursion-both, EachPair-filter, EachPair-map, find_none}
+use Rattle.acc_base.proofs.Elements.{AllByRecursion-weaker, EachPair-filter, EachPair-map, find_none}
 use Rattle.acc_base.proofs.InPlace.{IsPut, pairs-put}
 use Rattle.acc_tree.specs.declared.entries.Entry.{Entry}
 use Rattle.acc_tree.specs.Listing.{KeysRise, at_key, with_entry, without_key, value_written, with_value}
@@ -21,7 +20,7 @@ module _ {T : Type 0} where
   length-with_entry new [] = refl
   length-with_entry new (e ∷ es) = go (nat_lt new.key e.key) (length-with_entry new es)
     where
-      go : (b : Bool) → length (with_entry new es) ≡ length es + 1 → length (cond b (new ∷ e ∷ es) (e ∷ with_entry new es)) ≡ length es + 2
+      go : (b : Bool) → length (with_entry new es) ≡ length es + 1 → length (cond b (new ∷ e ∷ es) (e ∷ with_entry new es)) ≡ length (e ∷ es) + 1
       go true rest = omega arith
       go false rest = omega arith
 

@@ -1,5 +1,5 @@
 -- A list of entries by rising key: what a search in it finds, and how it changes.
-use Rattle.std.specs.Prelude.{ℕ, ◌≡◌, ◌+◌, ◌-◌, ◌^◌, ◌≤◌, ◌<◌, ◌==◌, not, if◌then◌else◌, nat_lt, nat_le, max, List, [], ◌∷◌, Option, Some, None, find, filter, map}
+use Rattle.std.specs.Prelude.{ℕ, ◌+◌, ◌-◌, ◌^◌, ◌≤◌, ◌<◌, ◌==◌, not, if◌then◌else◌, nat_lt, nat_le, max, List, [], ◌∷◌, Option, Some, None, find, filter, map}
 use Rattle.std.specs.List.{AllByRecursion}
 use Rattle.std.specs.Option.{option_or}
 use Rattle.acc_base.specs.Accounts.{EachPair}

@@ -1,5 +1,5 @@
 -- What the fields of a tree stand for, and what holds of them.
-use Rattle.std.specs.Prelude.{◌≡◌, ◌+◌, ◌-◌, length}
+use Rattle.std.specs.Prelude.{◌≡◌, ◌+◌, ◌^◌, ◌<◌, length}
 use Rattle.acc_tree.specs.Listing.{Listing, KeysRise}
 use Rattle.acc_tree.specs.Nodes.{entries_in, length_of, IsAlone, IsChain}
 use Rattle.acc_tree.specs.declared.tree.Tree.TheInside.{Inside}
@@ -16,3 +16,4 @@ module _ {T : Type 0} where
     pub chain : IsChain t.spare
     pub len : t.len ≡ length (entries_in t.root)
     pub nodes : t.nodes ≡ length (entries_in t.root) + length_of t.spare
+    pub limit : t.nodes < 2 ^ 64

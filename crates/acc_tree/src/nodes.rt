@@ -167,15 +167,16 @@ pub fn pop<T: Copy>(mut chain: Box<Node<T>>) -> (Box<Node<T>>, Link<T>)
     (chain, next)
 }
 
-/// Puts a node that became free, if one did, before a chain.
-pub fn put_away<T: Copy>(chain: Link<T>, freed: Link<T>) -> Link<T>
+/// Puts a node that became free, if one did, before a chain, and answers how many did.
+pub fn put_away<T: Copy>(chain: Link<T>, freed: Link<T>) -> (Link<T>, u64)
     requires leaf { IsFreed freed }
     requires chain { IsChain chain }
-    ensures chain { IsChain result }
-    ensures length { length_of result ≡ length_of chain + length_of freed }
+    ensures chain { IsChain result.0 }
+    ensures length { length_of result.0 ≡ length_of chain + length_of freed }
+    ensures count { result.1 ≡ length_of freed }
 {
     match freed {
-        None => chain,
-        Some(node) => push(chain, node),
+        None => (chain, 0),
+        Some(node) => (push(chain, node), 1),
     }
 }

@@ -223,10 +223,9 @@ impl<T: Copy> Tree<T> {
         };
         let (entry, freed, root) = changes::take_front(root, size);
         self.root = root;
-        if freed.is_some() {
-            self.len -= 1;
-        }
-        self.spare = put_away(self.spare.take(), freed);
+        let (spare, count) = put_away(self.spare.take(), freed);
+        self.spare = spare;
+        self.len -= count;
         entry
     }
 
@@ -235,7 +234,7 @@ impl<T: Copy> Tree<T> {
         ensures rising { KeysRise self.now.entries }
         ensures limit { length self.now.entries + self.now.room < 2 ^ 64 }
     {
-        let _nodes = self.nodes;
+        let _ = &self.nodes;
     }
 }
 
@@ -250,8 +249,10 @@ fn make_nodes<T: Copy>(
 ) -> bool
     requires chain { IsChain spare.old }
     requires nodes { nodes.old ≡ len + length_of spare.old }
+    requires limit { nodes.old < 2 ^ 64 }
     ensures chain { IsChain spare.new }
     ensures nodes { nodes.new ≡ len + length_of spare.new }
+    ensures limit { nodes.new < 2 ^ 64 }
     ensures room { length_of spare.old ≤ length_of spare.new }
     ensures made { MatchBool result (count ≤ length_of spare.new) (length_of spare.old < count) }
 {

@@ -1,11 +1,10 @@
-use Rattle.std.proofs.Common.{◌≡◌, ◌+◌, ◌<◌, ◌∷◌, ◌++◌, [], arith, ap, sym, ◌∙◌, List, Some, Option, Box, subst}
-use Rattle.std.specs.declared.alloc.Global.{Global}
+use Rattle.std.proofs.Common.{◌≡◌, ◌∷◌, ◌++◌, [], arith, ap, sym, ◌∙◌, List, Some}
 use Rattle.acc_tree.specs.declared.entries.Entry.{Entry}
 use Rattle.acc_tree.specs.Shape.{Shape}
-use Rattle.acc_tree.specs.Listing.{KeysRise, with_entry}
+use Rattle.acc_tree.specs.Listing.{with_entry}
 use Rattle.acc_tree.specs.Nodes.{entries_in, height_of}
 use Rattle.acc_tree.proofs.Leaves.{around}
-use Rattle.acc_tree.proofs.Steps.{sides, sides_of, with_left, with_right}
+use Rattle.acc_tree.proofs.Steps.{sides_of, with_left, with_right}
 use Rattle.acc_tree.proofs.changes.+insert.Goals as goal
 
 pub insert-left-requires : goal.insert-left-requires

@@ -1,4 +1,4 @@
-use Rattle.std.proofs.Common.{◌≡◌, ℕ, ◌+◌, ◌<◌, ◌∷◌, ◌++◌, [], arith, rules, refl, sym, ap, ◌∙◌, List, Option, Some, None, IsSome, subst}
+use Rattle.std.proofs.Common.{◌≡◌, ◌∷◌, ◌++◌, [], arith, rules, refl, sym, ap, ◌∙◌, List, Option, Some, None, IsSome, subst}
 use Rattle.acc_tree.specs.declared.entries.Entry.{Entry}
 use Rattle.acc_tree.specs.Shape.{Shape}
 use Rattle.acc_tree.specs.Listing.{at_key, without_key}

@@ -1,8 +1,7 @@
-use Rattle.std.proofs.Common.{◌≡◌, arith, refl, ap, ◌∙◌, [], ◌∷◌}
+use Rattle.std.proofs.Common.{refl, ap, ◌∙◌}
 use Rattle.acc_tree.specs.Shape.{Shape}
-use Rattle.acc_tree.specs.Nodes.{entries_in, length_of, tree_of}
+use Rattle.acc_tree.specs.Nodes.{entries_in}
 use Rattle.acc_tree.proofs.Leaves.{single}
-use Rattle.acc_tree.proofs.Tall.{tall_leaf}
 use Rattle.acc_tree.proofs.nodes.fill.Goals as goal
 
 pub returns-clause-leaf : goal.returns-clause-leaf

@@ -1,7 +1,5 @@
-use Rattle.std.proofs.Common.{◌≡◌, arith, refl, ap, ◌∙◌, [], ◌∷◌}
-use Rattle.acc_tree.specs.Shape.{Shape}
-use Rattle.acc_tree.specs.Nodes.{entries_in, length_of, tree_of, IsLeaf}
-use Rattle.acc_tree.proofs.Leaves.{single}
+use Rattle.std.proofs.Common.{arith, refl}
+use Rattle.acc_tree.specs.Nodes.{IsLeaf}
 use Rattle.acc_tree.proofs.Tall.{tall_leaf}
 use Rattle.acc_tree.proofs.nodes.new_node.Goals as goal
 

@@ -1,4 +1,4 @@
-use Rattle.std.proofs.Common.{◌≡◌, ◌+◌, ◌<◌, ◌≤◌, ◌∷◌, ◌++◌, arith, sym, ap, subst, ◌∙◌, List, Some}
+use Rattle.std.proofs.Common.{◌≡◌, ◌∷◌, ◌++◌, arith, sym, ap, subst, ◌∙◌, List, Some}
 use Rattle.acc_tree.specs.declared.entries.Entry.{Entry}
 use Rattle.acc_tree.specs.Shape.{Shape}
 use Rattle.acc_tree.specs.Listing.{KeysRise, at_key}

@@ -1,8 +1,7 @@
-use Rattle.std.proofs.Common.{◌≡◌, ◌+◌, ◌<◌, ◌≤◌, ◌∷◌, ◌++◌, arith, sym, ap, subst, ◌∙◌, List, Some}
-use Rattle.acc_tree.specs.declared.entries.Entry.{Entry}
+use Rattle.std.proofs.Common.{◌≡◌, ◌<◌, ◌≤◌, ◌∷◌, ◌++◌, arith, sym, ap, ◌∙◌, Some}
 use Rattle.acc_tree.specs.Shape.{Shape}
 use Rattle.acc_tree.specs.Listing.{first_large, greatest_size}
-use Rattle.acc_tree.specs.Nodes.{entries_in, height_of, shape_of}
+use Rattle.acc_tree.specs.Nodes.{entries_in, shape_of}
 use Rattle.acc_tree.proofs.Fronts.{large_left, large_here, large_right}
 use Rattle.acc_tree.proofs.walks.+find_large.Goals as goal
 

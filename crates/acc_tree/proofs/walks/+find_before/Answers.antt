@@ -9,33 +9,45 @@ use Rattle.acc_tree.proofs.walks.+find_before.Goals as goal
 
 pub find_before-requires : goal.find_before-requires
 find_before-requires g t c κs within =
+    let l = entries_in c.node.inside.left in
+    let r = entries_in c.node.inside.right in
+    let x = c.node.inside.entry in
     let is : c.args.tree.now ≡ Some c.in-Some.node = c.in-Some.is in
     let view : shape_of c.node.inside ≡ c.in-Some.node.value = c.node.view_is ∙ c.deref-node.ensures in
-    let whole : entries_in c.args.tree.now ≡ entries_in c.node.inside.left ++ c.node.inside.entry ∷ entries_in c.node.inside.right = ap entries_in is ∙ sym (ap (λ (s : Shape g.row.T.Denot). s.entries) view) in
+    let whole : entries_in c.args.tree.now ≡ l ++ x ∷ r = ap entries_in is ∙ sym (ap (λ (s : Shape g.row.T.Denot). s.entries) view) in
     let h : height_of c.args.tree.now ≡ c.node.inside.height = ap height_of is ∙ sym (ap (λ (s : Shape g.row.T.Denot). s.height) view) in
-    let d : Sides (entries_in c.node.inside.left) c.node.inside.entry (entries_in c.node.inside.right) = sides (entries_in c.node.inside.left) c.node.inside.entry (entries_in c.node.inside.right) (subst (λ (es : List (Entry g.row.T.Denot)). KeysRise es) whole c.requires.rising) in
+    let d : Sides l x r = sides l x r (subst (λ (es : List (Entry g.row.T.Denot)). KeysRise es) whole c.requires.rising) in
     (omega (arith, c.node.invariant.height), (within, d.right))
 
 pub find_before-requires-else-here-key : goal.find_before-requires-else-here-key
 find_before-requires-else-here-key g t c κs within =
+    let l = entries_in c.node.inside.left in
+    let r = entries_in c.node.inside.right in
+    let x = c.node.inside.entry in
     let is : c.args.tree.now ≡ Some c.in-Some.node = c.in-Some.is in
     let view : shape_of c.node.inside ≡ c.in-Some.node.value = c.node.view_is ∙ c.deref-node.ensures in
-    let whole : entries_in c.args.tree.now ≡ entries_in c.node.inside.left ++ c.node.inside.entry ∷ entries_in c.node.inside.right = ap entries_in is ∙ sym (ap (λ (s : Shape g.row.T.Denot). s.entries) view) in
+    let whole : entries_in c.args.tree.now ≡ l ++ x ∷ r = ap entries_in is ∙ sym (ap (λ (s : Shape g.row.T.Denot). s.entries) view) in
     let h : height_of c.args.tree.now ≡ c.node.inside.height = ap height_of is ∙ sym (ap (λ (s : Shape g.row.T.Denot). s.height) view) in
-    let d : Sides (entries_in c.node.inside.left) c.node.inside.entry (entries_in c.node.inside.right) = sides (entries_in c.node.inside.left) c.node.inside.entry (entries_in c.node.inside.right) (subst (λ (es : List (Entry g.row.T.Denot)). KeysRise es) whole c.requires.rising) in
+    let d : Sides l x r = sides l x r (subst (λ (es : List (Entry g.row.T.Denot)). KeysRise es) whole c.requires.rising) in
     (omega (arith, c.node.invariant.height), (within, d.left))
 
 pub returns-then-here-key : goal.returns-then-here-key
 returns-then-here-key g t c =
+    let l = entries_in c.node.inside.left in
+    let r = entries_in c.node.inside.right in
+    let x = c.node.inside.entry in
     let is : c.args.tree.now ≡ Some c.in-Some.node = c.in-Some.is in
     let view : shape_of c.node.inside ≡ c.in-Some.node.value = c.node.view_is ∙ c.deref-node.ensures in
-    let whole : entries_in c.args.tree.now ≡ entries_in c.node.inside.left ++ c.node.inside.entry ∷ entries_in c.node.inside.right = ap entries_in is ∙ sym (ap (λ (s : Shape g.row.T.Denot). s.entries) view) in
-    c.or.ensures ∙ ap (λ o. option_or o (Some c.node.inside.entry)) c.find_before.ensures ∙ sym (before_right c.args.key (entries_in c.node.inside.left) c.node.inside.entry (entries_in c.node.inside.right) c.if-here-key.true) ∙ sym (ap (last_before c.args.key) whole)
+    let whole : entries_in c.args.tree.now ≡ l ++ x ∷ r = ap entries_in is ∙ sym (ap (λ (s : Shape g.row.T.Denot). s.entries) view) in
+    c.or.ensures ∙ ap (λ o. option_or o (Some x)) c.find_before.ensures ∙ sym (before_right c.args.key l x r c.if-here-key.true) ∙ sym (ap (last_before c.args.key) whole)
 
 pub returns-else-here-key : goal.returns-else-here-key
 returns-else-here-key g t c =
+    let l = entries_in c.node.inside.left in
+    let r = entries_in c.node.inside.right in
+    let x = c.node.inside.entry in
     let is : c.args.tree.now ≡ Some c.in-Some.node = c.in-Some.is in
     let view : shape_of c.node.inside ≡ c.in-Some.node.value = c.node.view_is ∙ c.deref-node.ensures in
-    let whole : entries_in c.args.tree.now ≡ entries_in c.node.inside.left ++ c.node.inside.entry ∷ entries_in c.node.inside.right = ap entries_in is ∙ sym (ap (λ (s : Shape g.row.T.Denot). s.entries) view) in
-    let d : Sides (entries_in c.node.inside.left) c.node.inside.entry (entries_in c.node.inside.right) = sides (entries_in c.node.inside.left) c.node.inside.entry (entries_in c.node.inside.right) (subst (λ (es : List (Entry g.row.T.Denot)). KeysRise es) whole c.requires.rising) in
-    c.find_before-else-here-key.ensures ∙ sym (before_left c.args.key (entries_in c.node.inside.left) c.node.inside.entry (entries_in c.node.inside.right) c.if-here-key.false d) ∙ sym (ap (last_before c.args.key) whole)
+    let whole : entries_in c.args.tree.now ≡ l ++ x ∷ r = ap entries_in is ∙ sym (ap (λ (s : Shape g.row.T.Denot). s.entries) view) in
+    let d : Sides l x r = sides l x r (subst (λ (es : List (Entry g.row.T.Denot)). KeysRise es) whole c.requires.rising) in
+    c.find_before-else-here-key.ensures ∙ sym (before_left c.args.key l x r c.if-here-key.false d) ∙ sym (ap (last_before c.args.key) whole)

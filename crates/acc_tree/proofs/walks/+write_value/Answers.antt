@@ -9,20 +9,26 @@ use Rattle.acc_tree.proofs.walks.+write_value.Goals as goal
 
 pub write_value-requires : goal.write_value-requires
 write_value-requires g t c κs within =
+    let l = entries_in c.node.inside.left in
+    let r = entries_in c.node.inside.right in
+    let x = c.node.inside.entry in
     let is : c.args.tree.now ≡ Some c.in-Some.node = c.in-Some.is in
     let view : shape_of c.node.inside ≡ c.in-Some.node.value = c.node.view_is ∙ c.deref_mut-node.ensures.value in
-    let whole : entries_in c.args.tree.now ≡ entries_in c.node.inside.left ++ c.node.inside.entry ∷ entries_in c.node.inside.right = ap entries_in is ∙ sym (ap (λ (s : Shape g.row.T.Denot). s.entries) view) in
+    let whole : entries_in c.args.tree.now ≡ l ++ x ∷ r = ap entries_in is ∙ sym (ap (λ (s : Shape g.row.T.Denot). s.entries) view) in
     let h : height_of c.args.tree.now ≡ c.node.inside.height = ap height_of is ∙ sym (ap (λ (s : Shape g.row.T.Denot). s.height) view) in
-    let d : Sides (entries_in c.node.inside.left) c.node.inside.entry (entries_in c.node.inside.right) = sides (entries_in c.node.inside.left) c.node.inside.entry (entries_in c.node.inside.right) (subst (λ (es : List (Entry g.row.T.Denot)). KeysRise es) whole c.requires.rising) in
+    let d : Sides l x r = sides l x r (subst (λ (es : List (Entry g.row.T.Denot)). KeysRise es) whole c.requires.rising) in
     (omega (arith, c.node.invariant.height), (within, d.left))
 
 pub write_value-requires-then-node-key : goal.write_value-requires-then-node-key
 write_value-requires-then-node-key g t c κs within =
+    let l = entries_in c.node.inside.left in
+    let r = entries_in c.node.inside.right in
+    let x = c.node.inside.entry in
     let is : c.args.tree.now ≡ Some c.in-Some.node = c.in-Some.is in
     let view : shape_of c.node.inside ≡ c.in-Some.node.value = c.node.view_is ∙ c.deref_mut-node.ensures.value in
-    let whole : entries_in c.args.tree.now ≡ entries_in c.node.inside.left ++ c.node.inside.entry ∷ entries_in c.node.inside.right = ap entries_in is ∙ sym (ap (λ (s : Shape g.row.T.Denot). s.entries) view) in
+    let whole : entries_in c.args.tree.now ≡ l ++ x ∷ r = ap entries_in is ∙ sym (ap (λ (s : Shape g.row.T.Denot). s.entries) view) in
     let h : height_of c.args.tree.now ≡ c.node.inside.height = ap height_of is ∙ sym (ap (λ (s : Shape g.row.T.Denot). s.height) view) in
-    let d : Sides (entries_in c.node.inside.left) c.node.inside.entry (entries_in c.node.inside.right) = sides (entries_in c.node.inside.left) c.node.inside.entry (entries_in c.node.inside.right) (subst (λ (es : List (Entry g.row.T.Denot)). KeysRise es) whole c.requires.rising) in
+    let d : Sides l x r = sides l x r (subst (λ (es : List (Entry g.row.T.Denot)). KeysRise es) whole c.requires.rising) in
     (omega (arith, c.node.invariant.height), (within, d.right))
 
 pub invariant_of-node : goal.invariant_of-node
@@ -39,24 +45,33 @@ invariant_of-node-else-node-key g t c =
 
 pub returns-then-key-node-clause-entries : goal.returns-then-key-node-clause-entries
 returns-then-key-node-clause-entries g t c =
+    let l = entries_in c.node.inside.left in
+    let r = entries_in c.node.inside.right in
+    let x = c.node.inside.entry in
     let is : c.args.tree.now ≡ Some c.in-Some.node = c.in-Some.is in
     let view : shape_of c.node.inside ≡ c.in-Some.node.value = c.node.view_is ∙ c.deref_mut-node.ensures.value in
-    let whole : entries_in c.args.tree.now ≡ entries_in c.node.inside.left ++ c.node.inside.entry ∷ entries_in c.node.inside.right = ap entries_in is ∙ sym (ap (λ (s : Shape g.row.T.Denot). s.entries) view) in
-    let d : Sides (entries_in c.node.inside.left) c.node.inside.entry (entries_in c.node.inside.right) = sides (entries_in c.node.inside.left) c.node.inside.entry (entries_in c.node.inside.right) (subst (λ (es : List (Entry g.row.T.Denot)). KeysRise es) whole c.requires.rising) in
-    ap (λ (es : List (Entry g.row.T.Denot)). es ++ c.node.inside.entry ∷ entries_in c.node.inside.right) c.write_value.ensures.entries ∙ sym (value_left c.args.key c.args.value (entries_in c.node.inside.left) c.node.inside.entry (entries_in c.node.inside.right) c.if-key-node.true d) ∙ sym (ap (with_value c.args.key c.args.value) whole)
+    let whole : entries_in c.args.tree.now ≡ l ++ x ∷ r = ap entries_in is ∙ sym (ap (λ (s : Shape g.row.T.Denot). s.entries) view) in
+    let d : Sides l x r = sides l x r (subst (λ (es : List (Entry g.row.T.Denot)). KeysRise es) whole c.requires.rising) in
+    ap (λ (es : List (Entry g.row.T.Denot)). es ++ x ∷ r) c.write_value.ensures.entries ∙ sym (value_left c.args.key c.args.value l x r c.if-key-node.true d) ∙ sym (ap (with_value c.args.key c.args.value) whole)
 
 pub returns-then-node-key-clause-entries : goal.returns-then-node-key-clause-entries
 returns-then-node-key-clause-entries g t c =
+    let l = entries_in c.node.inside.left in
+    let r = entries_in c.node.inside.right in
+    let x = c.node.inside.entry in
     let is : c.args.tree.now ≡ Some c.in-Some.node = c.in-Some.is in
     let view : shape_of c.node.inside ≡ c.in-Some.node.value = c.node.view_is ∙ c.deref_mut-node.ensures.value in
-    let whole : entries_in c.args.tree.now ≡ entries_in c.node.inside.left ++ c.node.inside.entry ∷ entries_in c.node.inside.right = ap entries_in is ∙ sym (ap (λ (s : Shape g.row.T.Denot). s.entries) view) in
-    let d : Sides (entries_in c.node.inside.left) c.node.inside.entry (entries_in c.node.inside.right) = sides (entries_in c.node.inside.left) c.node.inside.entry (entries_in c.node.inside.right) (subst (λ (es : List (Entry g.row.T.Denot)). KeysRise es) whole c.requires.rising) in
-    ap (λ (es : List (Entry g.row.T.Denot)). entries_in c.node.inside.left ++ c.node.inside.entry ∷ es) c.write_value-then-node-key.ensures.entries ∙ sym (value_right c.args.key c.args.value (entries_in c.node.inside.left) c.node.inside.entry (entries_in c.node.inside.right) c.if-node-key.true d) ∙ sym (ap (with_value c.args.key c.args.value) whole)
+    let whole : entries_in c.args.tree.now ≡ l ++ x ∷ r = ap entries_in is ∙ sym (ap (λ (s : Shape g.row.T.Denot). s.entries) view) in
+    let d : Sides l x r = sides l x r (subst (λ (es : List (Entry g.row.T.Denot)). KeysRise es) whole c.requires.rising) in
+    ap (λ (es : List (Entry g.row.T.Denot)). l ++ x ∷ es) c.write_value-then-node-key.ensures.entries ∙ sym (value_right c.args.key c.args.value l x r c.if-node-key.true d) ∙ sym (ap (with_value c.args.key c.args.value) whole)
 
 pub returns-else-node-key-clause-entries : goal.returns-else-node-key-clause-entries
 returns-else-node-key-clause-entries g t c =
+    let l = entries_in c.node.inside.left in
+    let r = entries_in c.node.inside.right in
+    let x = c.node.inside.entry in
     let is : c.args.tree.now ≡ Some c.in-Some.node = c.in-Some.is in
     let view : shape_of c.node.inside ≡ c.in-Some.node.value = c.node.view_is ∙ c.deref_mut-node.ensures.value in
-    let whole : entries_in c.args.tree.now ≡ entries_in c.node.inside.left ++ c.node.inside.entry ∷ entries_in c.node.inside.right = ap entries_in is ∙ sym (ap (λ (s : Shape g.row.T.Denot). s.entries) view) in
-    let d : Sides (entries_in c.node.inside.left) c.node.inside.entry (entries_in c.node.inside.right) = sides (entries_in c.node.inside.left) c.node.inside.entry (entries_in c.node.inside.right) (subst (λ (es : List (Entry g.row.T.Denot)). KeysRise es) whole c.requires.rising) in
-    sym (value_here c.args.key c.args.value (entries_in c.node.inside.left) c.node.inside.entry (entries_in c.node.inside.right) (omega arith) d) ∙ sym (ap (with_value c.args.key c.args.value) whole)
+    let whole : entries_in c.args.tree.now ≡ l ++ x ∷ r = ap entries_in is ∙ sym (ap (λ (s : Shape g.row.T.Denot). s.entries) view) in
+    let d : Sides l x r = sides l x r (subst (λ (es : List (Entry g.row.T.Denot)). KeysRise es) whole c.requires.rising) in
+    sym (value_here c.args.key c.args.value l x r (omega arith) d) ∙ sym (ap (with_value c.args.key c.args.value) whole)

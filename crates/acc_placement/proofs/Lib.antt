@@ -8,3 +8,4 @@ pub mod Outside
 pub mod HoleTrees
 pub mod Merging
 pub mod Rest
+pub mod Fitting

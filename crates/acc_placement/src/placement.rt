@@ -1,6 +1,6 @@
 //! The holes of a space of device addresses.
 
-ghost use Rattle.std.specs.Prelude.{◌≡◌, ℕ, List, ◌+◌, ◌*◌, ◌%◌, ◌^◌, ◌<◌, ◌≤◌, ◌⊎◌, ◌↔◌, [], ◌∷◌, ◌++◌, All, length, nat_le, find, IfOk, IfErr, IfSome, IfNone, Err, OnErr, OnOk};
+ghost use Rattle.std.specs.Prelude.{◌≡◌, ◌&&◌, ℕ, List, ◌+◌, ◌*◌, ◌%◌, ◌^◌, ◌<◌, ◌≤◌, ◌⊎◌, ◌↔◌, [], ◌∷◌, ◌++◌, All, length, nat_le, find, IfOk, IfErr, IfSome, IfNone, Err, OnErr, OnOk};
 ghost use Rattle.acc_base.specs.Limits.{IsSize, IsFromOne};
 ghost use Rattle.acc_base.specs.Blocks.{rounded as rounded_of};
 ghost use Rattle.acc_base.specs.Holes.{total};
@@ -193,13 +193,26 @@ impl Holes {
     {
         let size = rounded(need);
         let top = self.base + self.size;
-        for (start, room) in self.holes() {
+        let mut from = 0;
+        // A hole that is too small holds no such place, and is passed over by the greatest sizes.
+        while let Some((start, room)) = self.next_fit(from, size) {
             let place = past(listed, start, size, top);
             if place + size <= start + room {
                 return Some(place);
             }
+            from = start + 1;
         }
         None
+    }
+
+    /// The hole of least place at or above `from` that has `size` bytes, with its place and its size.
+    fn next_fit(&self, from: u64, size: u64) -> Option<(u64, u64)>
+        requires some { 0 < size }
+        ensures value { result ≡ find (λ h. nat_le from h.0 && nat_le size h.1) self.now.holes }
+        ensures canonical { IsCanonical self.now }
+    {
+        let hole = self.holes.first_fit_from(from as u128, size)?;
+        Some((hole.key as u64, hole.size))
     }
 
     /// Gives back a range that was taken at `place` with this need and not given back since. The new hole is merged with

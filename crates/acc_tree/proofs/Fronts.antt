@@ -1,15 +1,15 @@
 -- The first entry that is large enough, by the greatest sizes, and the front that is taken of it.
 use Rattle.std.proofs.Common.{ℕ, ◌≡◌, ◌+◌, ◌-◌, ◌^◌, ◌<◌, ◌≤◌, refl, ap, ◌∙◌, Bool, true, false, cond, List, [], ◌∷◌, ◌++◌, Option, Some, None, IsSome, inl, inr, arith, rules}
-use Rattle.std.specs.Prelude.{◌==◌, nat_le}
+use Rattle.std.specs.Prelude.{◌==◌, ◌&&◌, nat_le}
 use Rattle.std.specs.List.{AllByRecursion}
 use Rattle.std.specs.Option.{option_or}
 use Rattle.std.proofs.lemmas.Bool.Decides.{nat_tests}
 use Rattle.std.proofs.lemmas.Bool.{cases_lt}
 use Rattle.std.proofs.lemmas.List.Folds.{find-append}
-use Rattle.acc_base.proofs.Elements.{AllByRecursion-weaker}
+use Rattle.acc_base.proofs.Elements.{AllByRecursion-weaker, find-none}
 use Rattle.acc_tree.specs.declared.entries.Entry.{Entry}
-use Rattle.acc_tree.specs.Listing.{KeysRise, AreRanges, first_large, greatest_size, cut_before, without_front}
-use Rattle.acc_tree.proofs.Steps.{all_front, find-behind}
+use Rattle.acc_tree.specs.Listing.{KeysRise, AreRanges, first_large, first_large_from, greatest_size, cut_before, without_front}
+use Rattle.acc_tree.proofs.Steps.{Sides, all_front, find-behind}
 
 or_left : {X : Type 0} (o p : Option X) → IsSome o → option_or o p ≡ o
 or_left None p some = cc
@@ -43,6 +43,42 @@ module _ {T : Type 0} where
 
   pub large_right : (size : ℕ) (l : List (Entry T)) (x : Entry T) (r : List (Entry T)) → greatest_size l < size → x.size < size → first_large size (l ++ x ∷ r) ≡ first_large size r
   large_right size l x r small less = let t : nat_le size x.size ≡ false = grind (arith, nat_tests) in find-behind (λ e. nat_le size e.size) l (x ∷ r) (large_none size l small) ∙ rw t refl
+
+  -- ---- the search from a key on
+
+  -- where none is so large, none is found
+  pub large_from_none : (key size : ℕ) (l : List (Entry T)) → greatest_size l < size → first_large_from key size l ≡ None
+  large_from_none key size [] small = refl
+  large_from_none key size (h ∷ l) small = let less : h.size < size = omega arith in let t : nat_le size h.size ≡ false = grind (arith, nat_tests) in rw t (go (nat_le key h.key) (large_from_none key size l (omega arith)))
+    where
+      go : (b : Bool) → first_large_from key size l ≡ None → cond (b && false) (Some h) (first_large_from key size l) ≡ None
+      go true e = e
+      go false e = e
+
+  pub large_from_right : (key size : ℕ) (l : List (Entry T)) (x : Entry T) (r : List (Entry T)) → x.key < key → Sides l x r → first_large_from key size (l ++ x ∷ r) ≡ first_large_from key size r
+  large_from_right key size l x r less d =
+      let t : nat_le key x.key ≡ false = grind (arith, nat_tests) in
+      find-behind (λ e. nat_le key e.key && nat_le size e.size) l (x ∷ r) (find-none (λ e. nat_le key e.key && nat_le size e.size) l (AllByRecursion-weaker (λ e. e.key < x.key) (λ e. (nat_le key e.key && nat_le size e.size) ≡ false) l (λ e u. let f : nat_le key e.key ≡ false = grind (arith, nat_tests) in rw f refl) d.under)) ∙ rw t refl
+
+  pub large_from_left : (key size : ℕ) (l : List (Entry T)) (x f : Entry T) (r : List (Entry T)) → first_large_from key size l ≡ Some f → first_large_from key size (l ++ x ∷ r) ≡ Some f
+  large_from_left key size l x f r e = find-append (λ e. nat_le key e.key && nat_le size e.size) l (x ∷ r) ∙ rw e refl
+
+  pub large_from_here : (key size : ℕ) (l : List (Entry T)) (x : Entry T) (r : List (Entry T)) → first_large_from key size l ≡ None → key ≤ x.key → size ≤ x.size → first_large_from key size (l ++ x ∷ r) ≡ Some x
+  large_from_here key size l x r none le fits =
+      let t : nat_le key x.key ≡ true = grind (arith, nat_tests) in
+      let u : nat_le size x.size ≡ true = grind (arith, nat_tests) in
+      find-behind (λ e. nat_le key e.key && nat_le size e.size) l (x ∷ r) none ∙ rw (t, u) refl
+
+  -- behind the key each entry passes its test
+  large_from_all : (key size : ℕ) (r : List (Entry T)) → AllByRecursion (λ e. key ≤ e.key) r → first_large_from key size r ≡ first_large size r
+  large_from_all key size [] h = refl
+  large_from_all key size (e ∷ r) h = let le = h.0 in let t : nat_le key e.key ≡ true = grind (arith, nat_tests) in rw (t, large_from_all key size r h.1) refl
+
+  pub large_from_behind : (key size : ℕ) (l : List (Entry T)) (x : Entry T) (r : List (Entry T)) → first_large_from key size l ≡ None → key ≤ x.key → x.size < size → Sides l x r → first_large_from key size (l ++ x ∷ r) ≡ first_large size r
+  large_from_behind key size l x r none le small d =
+      let t : nat_le key x.key ≡ true = grind (arith, nat_tests) in
+      let u : nat_le size x.size ≡ false = grind (arith, nat_tests) in
+      find-behind (λ e. nat_le key e.key && nat_le size e.size) l (x ∷ r) none ∙ rw (t, u) (large_from_all key size r (AllByRecursion-weaker (λ e. x.key < e.key) (λ e. key ≤ e.key) r (λ e more. omega arith) d.over))
 
   -- ---- the front that is taken
 

@@ -1,6 +1,7 @@
 -- A list of entries by rising key: what a search in it finds, and how it changes.
-use Rattle.std.specs.Prelude.{ℕ, ◌+◌, ◌-◌, ◌^◌, ◌≤◌, ◌<◌, ◌==◌, not, if◌then◌else◌, nat_lt, nat_le, max, List, [], ◌∷◌, Option, Some, None, find, filter, map}
+use Rattle.std.specs.Prelude.{ℕ, ◌+◌, ◌-◌, ◌^◌, ◌≤◌, ◌<◌, ◌==◌, ◌&&◌, not, if◌then◌else◌, nat_lt, nat_le, max, List, [], ◌∷◌, Option, Some, None, find, filter, map, option_map}
 use Rattle.std.specs.List.{AllByRecursion}
+use Rattle.std.specs.Borrow.{Bor}
 use Rattle.std.specs.Option.{option_or}
 use Rattle.acc_base.specs.Accounts.{EachPair}
 use Rattle.acc_tree.specs.declared.entries.Entry.{Entry}
@@ -27,6 +28,10 @@ module _ {T : Type 0} where
   abbrev pub first_from : ℕ → List (Entry T) → Option (Entry T)
   first_from key entries = find (λ e. nat_le key e.key) entries
 
+  -- the entry that a reference is to, if there is one
+  abbrev pub seen : Option (Bor (Entry T)) → Option (Entry T)
+  seen found = option_map (λ r. r.now) found
+
   -- the last entry before a key
   abbrev pub last_before : ℕ → List (Entry T) → Option (Entry T)
   last_before key [] = None
@@ -35,6 +40,10 @@ module _ {T : Type 0} where
   -- the first entry that is at least so large
   abbrev pub first_large : ℕ → List (Entry T) → Option (Entry T)
   first_large size entries = find (λ e. nat_le size e.size) entries
+
+  -- the first entry from a key on that is at least so large
+  abbrev pub first_large_from : ℕ → ℕ → List (Entry T) → Option (Entry T)
+  first_large_from key size entries = find (λ e. nat_le key e.key && nat_le size e.size) entries
 
   -- the greatest size, 0 where there is none
   abbrev pub greatest_size : List (Entry T) → ℕ

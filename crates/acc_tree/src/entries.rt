@@ -9,3 +9,12 @@ pub struct Entry<T> {
     pub size: u64,
     pub value: T,
 }
+
+/// The entries on both sides of a key.
+#[derive(Clone, Copy)]
+pub struct Around<T> {
+    /// The entry of greatest key before it.
+    pub before: Option<Entry<T>>,
+    /// The entry of least key from it on.
+    pub from: Option<Entry<T>>,
+}

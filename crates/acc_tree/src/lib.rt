@@ -9,6 +9,6 @@ mod tree;
 mod visits;
 mod walks;
 
-pub use entries::Entry;
+pub use entries::{Around, Entry};
 pub use tree::Tree;
 pub use visits::Visits;

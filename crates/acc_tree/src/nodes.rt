@@ -15,9 +15,9 @@ pub type Link<T> = Option<Box<Node<T>>>;
 pub struct Node<T> {
     pub(crate) left: Option<Box<Node<T>>>,
     pub(crate) right: Option<Box<Node<T>>>,
+    pub(crate) entry: Entry<T>,
     // The next node of the chain that this one waits in.
     next: Option<Box<Node<T>>>,
-    pub(crate) entry: Entry<T>,
     // The greatest size in the tree that begins here.
     greatest: u64,
     height: u64,

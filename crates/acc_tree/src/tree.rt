@@ -1,9 +1,9 @@
 //! A balanced tree of entries, each found by its key in a walk from the top.
 ghost use Rattle.std.specs.Prelude.{◌≡◌, ℕ, ◌+◌, ◌*◌, ◌^◌, ◌<◌, ◌≤◌, [], length, Some, None, IsSome, IfErr, OnOk, OnErr, MatchBool};
-ghost use Rattle.acc_tree.specs.Listing.{KeysRise, AreRanges, at_key, first_from, last_before, first_large, with_entry, without_key, with_value, without_front};
+ghost use Rattle.acc_tree.specs.Listing.{KeysRise, AreRanges, at_key, first_from, last_before, first_large, first_large_from, with_entry, without_key, with_value, without_front};
 ghost use Rattle.acc_tree.specs.Nodes.{length_of, IsChain};
 
-use crate::entries::Entry;
+use crate::entries::{Around, Entry};
 use crate::nodes::{Link, height_law, new_node, pop, push, put_away};
 use crate::visits::Visits;
 use crate::{changes, walks};
@@ -124,21 +124,45 @@ impl<T: Copy> Tree<T> {
         ensures visits { (d : ℕ) → length self.now.entries < 2 ^ d → visits.new ≤ visits.old + 2 * d }
     {
         height_law(&self.root);
-        walks::find(&self.root, key, visits)
+        walks::find(&self.root, key, visits).copied()
+    }
+
+    /// The entries on both sides of a key.
+    pub fn around(&self, key: u128) -> Around<T>
+        ensures before { result.before ≡ last_before key self.now.entries }
+        ensures from { result.from ≡ first_from key self.now.entries }
+    {
+        self.around_counted(key, &mut Visits::new())
+    }
+
+    /// The entries on both sides of a key, by at most two visits for each binary digit of the number of entries.
+    pub fn around_counted(&self, key: u128, visits: &mut Visits) -> Around<T>
+        requires limit { visits.old ≤ 2 ^ 63 }
+        ensures before { result.before ≡ last_before key self.now.entries }
+        ensures from { result.from ≡ first_from key self.now.entries }
+        ensures not_fewer { visits.old ≤ visits.new }
+        ensures visits { (d : ℕ) → length self.now.entries < 2 ^ d → visits.new ≤ visits.old + 2 * d }
+    {
+        height_law(&self.root);
+        let (before, from) = walks::find_around(&self.root, key, None, None, visits);
+        Around {
+            before: before.copied(),
+            from: from.copied(),
+        }
     }
 
     /// The entry of least key from `key` on.
     pub fn next(&self, key: u128) -> Option<Entry<T>>
         ensures { result ≡ first_from key self.now.entries }
     {
-        walks::find_from(&self.root, key)
+        self.around(key).from
     }
 
     /// The entry of greatest key before `key`.
     pub fn before(&self, key: u128) -> Option<Entry<T>>
         ensures { result ≡ last_before key self.now.entries }
     {
-        walks::find_before(&self.root, key)
+        self.around(key).before
     }
 
     /// The entry of least key whose size is at least `size`, which is not 0.
@@ -159,7 +183,16 @@ impl<T: Copy> Tree<T> {
         ensures visits { (d : ℕ) → length self.now.entries < 2 ^ d → visits.new ≤ visits.old + 2 * d }
     {
         height_law(&self.root);
-        walks::find_large(&self.root, size, visits)
+        walks::find_large(&self.root, size, visits).copied()
+    }
+
+    /// The entry of least key from `key` on whose size is at least `size`, which is not 0.
+    pub fn first_fit_from(&self, key: u128, size: u64) -> Option<Entry<T>>
+        requires some { 0 < size }
+        ensures { result ≡ first_large_from key size self.now.entries }
+    {
+        height_law(&self.root);
+        walks::find_large_from(&self.root, key, size).copied()
     }
 
     /// Puts an entry in its place by its key, which is not there yet. It needs no memory.

@@ -6,6 +6,7 @@ ghost use Rattle.acc_placement.specs.Space.{IsPartition};
 
 use acc_base::{DEVICE_BASE, Fault, MEMORY_MAX};
 use acc_placement::{Holes, rounded};
+use acc_tree::Visits;
 use std::process::Abort;
 use std::test::Fail;
 
@@ -105,9 +106,22 @@ fn each_call_answers_its_row(rt: HostRuntime) -> Result<(), Fail> {
     let mut taken = Vec::new(rt.alloc());
     for (turn, left, used) in TURNS {
         perform(&rt, &mut holes, &mut taken, *turn)?;
-        assert_eq!(rt; holes.holes(), *left);
+        let mut shown = holes.holes();
+        for hole in *left {
+            assert_eq!(rt; shown.next(), Some(*hole));
+        }
+        assert_eq!(rt; shown.next(), None);
         assert_eq!(rt; holes.used(), *used);
     }
+    Ok(())
+}
+
+#[test]
+fn a_look_at_one_hole_is_one_visit(rt: HostRuntime) -> Result<(), Fail> {
+    let holes = Holes::new(rt.alloc(), 0, 64)?;
+    let mut visits = Visits::new();
+    assert_eq!(rt; holes.fit_counted(64, &mut visits), Some(0));
+    assert_eq!(rt; visits.count(), 1);
     Ok(())
 }
 

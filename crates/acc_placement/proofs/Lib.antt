@@ -2,8 +2,10 @@ pub mod Alignment
 pub mod Rising
 pub mod Counting
 pub mod Cutting
-pub mod AtIndex
-pub mod Filling
 pub mod Giving
 pub mod Partitions
 pub mod Outside
+pub mod HoleTrees
+pub mod Merging
+pub mod Rest
+pub mod Fitting

@@ -1,17 +1,14 @@
 -- Places outside of listed ranges.
-use Rattle.std.proofs.Common.{◌≡◌, ℕ, suc, ◌+◌, ◌<◌, ◌≤◌, ◌⊎◌, List, [], ◌∷◌, inl, inr, arith, subst, sym, ap, ◌∙◌, length, take, drop, get_or}
+use Rattle.std.proofs.Common.{◌≡◌, ℕ, suc, ◌+◌, ◌<◌, ◌≤◌, ◌⊎◌, List, [], ◌∷◌, inl, inr, arith, subst, sym, length, get_or}
 use Rattle.std.specs.Prelude.{All, Any}
 use Rattle.std.proofs.lemmas.Bool.{cases_lt}
 use Rattle.acc_base.specs.Blocks.{rounded}
 use Rattle.acc_base.specs.Holes.{IsIn, IsRising}
 use Rattle.acc_base.specs.Section.{Spans}
 use Rattle.acc_placement.specs.Ranges.{IsFit, IsFitBeside, IsLeastFitBeside, IsTakeBelow, all_rounded}
-use Rattle.std.proofs.lemmas.List.{drop_all}
-use Rattle.std.proofs.Math.Seq.{drop-cons}
-use Rattle.std.proofs.Common.{zero, add-one}
+use Rattle.std.proofs.Common.{zero}
 use Rattle.acc_placement.specs.Changes.{IsBeside}
-use Rattle.acc_placement.proofs.Rising.{end_after, rising_back, fit_step, in_bounds}
-use Rattle.acc_placement.proofs.AtIndex.{split_read, hole_below}
+use Rattle.acc_placement.proofs.Rising.{fit_step, in_bounds}
 
 -- a place that is clear of each listed range is outside of all
 pub beside_all : (ts : List (ℕ × ℕ)) (n q : ℕ) → All (λ t. (q + n ≤ t.0) ⊎ (t.0 + rounded t.1 ≤ q)) ts → IsBeside ts n q
@@ -29,12 +26,6 @@ in_rounded [] k t a lt e w = absurd (omega arith)
 in_rounded (h ∷ ts) zero t a lt e w = inl (subst (λ (x : ℕ × ℕ). Spans x.0 (rounded x.1) a) (sym e) w)
 in_rounded (h ∷ ts) (suc k) t a lt e w = inr (in_rounded ts k t a (omega arith) e w)
 
--- an address of the range at an index is in the list
-pub in_at : (ts : List (ℕ × ℕ)) (k : ℕ) (t : ℕ × ℕ) (a : ℕ) → k < length ts → get_or ts k t ≡ t → Spans t.0 t.1 a → IsIn ts a
-in_at [] k t a lt e w = absurd (omega arith)
-in_at (h ∷ ts) zero t a lt e w = inl (subst (λ (x : ℕ × ℕ). Spans x.0 x.1 a) (sym e) w)
-in_at (h ∷ ts) (suc k) t a lt e w = inr (in_at ts k t a (omega arith) e w)
-
 -- the end of a range that has an address of a place: how far the place moves
 pub moved : (ts : List (ℕ × ℕ)) (n at end top : ℕ) → Any (λ t. (end ≡ t.0 + rounded t.1) × (t.0 < at + n) × (at < end)) ts → All (IsTakeBelow top) ts → 0 < n → (at < end) × (end ≤ top) × ((q : ℕ) → at ≤ q → IsBeside ts n q → end ≤ q)
 moved ts n at end top (k, t, lt, is, p) fits pos =
@@ -51,37 +42,19 @@ moved ts n at end top (k, t, lt, is, p) fits pos =
       ],
     )
 
--- one step of the walk along the holes
-pub tried : (low high : ℕ) (hs : List (ℕ × ℕ)) (i : ℕ) (x : ℕ × ℕ) (ts : List (ℕ × ℕ)) (n place : ℕ) → 0 < n → i < length hs → x ≡ get_or hs i x → IsRising low hs high → x.0 + x.1 < place + n → ((q : ℕ) → x.0 ≤ q → IsBeside ts n q → place ≤ q) → ((q : ℕ) → IsFitBeside hs (all_rounded ts) n q → IsFit (drop i hs) n q) → (q : ℕ) → IsFitBeside hs (all_rounded ts) n q → IsFit (drop (i + 1) hs) n q
-tried low high hs i x ts n place pos lt is s small least so_far q f =
-    let split = split_read hs i x is lt in
-    let b = rising_back low (take i hs) (x ∷ drop (suc i) hs) high (subst (λ (h : List (ℕ × ℕ)). IsRising low h high) split s) in
-    let d : drop i hs ≡ x ∷ drop (suc i) hs = drop-cons hs i x lt ∙ ap (λ (y : ℕ × ℕ). y ∷ drop (suc i) hs) (sym is) in
-    let g : IsFit (x ∷ drop (suc i) hs) n q = subst (λ (h : List (ℕ × ℕ)). IsFit h n q) d (so_far q f) in
-    rw add-one (elim (fit_step (end_after low (take i hs)) x (drop (suc i) hs) high n q pos b g) [
-      | inl w ↦ let l = least q w.0 (λ a v. (f a v).1) in absurd (omega arith)
-      | inr h ↦ h
-    ])
+-- one step along the holes that are left
+pub tried : (low : ℕ) (x : ℕ × ℕ) (rest : List (ℕ × ℕ)) (high : ℕ) (hs ts : List (ℕ × ℕ)) (n place : ℕ) → 0 < n → IsRising low (x ∷ rest) high → x.0 + x.1 < place + n → ((q : ℕ) → x.0 ≤ q → IsBeside ts n q → place ≤ q) → ((q : ℕ) → IsFitBeside hs (all_rounded ts) n q → IsFit (x ∷ rest) n q) → (q : ℕ) → IsFitBeside hs (all_rounded ts) n q → IsFit rest n q
+tried low x rest high hs ts n place pos s small least so_far q f = elim (fit_step low x rest high n q pos s (so_far q f)) [
+  | inl w ↦ let l = least q w.0 (λ a v. (f a v).1) in absurd (omega arith)
+  | inr h ↦ h
+]
 
--- the place at which the walk along the holes stops is the least
-pub fit_found : (low high : ℕ) (hs : List (ℕ × ℕ)) (i : ℕ) (x : ℕ × ℕ) (ts : List (ℕ × ℕ)) (n place : ℕ) → 0 < n → i < length hs → x ≡ get_or hs i x → IsRising low hs high → x.0 ≤ place → place + n ≤ x.0 + x.1 → IsBeside ts n place → ((q : ℕ) → x.0 ≤ q → IsBeside ts n q → place ≤ q) → ((q : ℕ) → IsFitBeside hs (all_rounded ts) n q → IsFit (drop i hs) n q) → IsLeastFitBeside hs (all_rounded ts) n place
-fit_found low high hs i x ts n place pos lt is s ge fits outside least so_far =
-    let split = split_read hs i x is lt in
-    let b = rising_back low (take i hs) (x ∷ drop (suc i) hs) high (subst (λ (h : List (ℕ × ℕ)). IsRising low h high) split s) in
-    let d : drop i hs ≡ x ∷ drop (suc i) hs = drop-cons hs i x lt ∙ ap (λ (y : ℕ × ℕ). y ∷ drop (suc i) hs) (sym is) in (
-      λ a w. (in_at hs i x a lt (sym is) (omega arith, omega arith), outside a w),
-      λ q f.
-          let g : IsFit (x ∷ drop (suc i) hs) n q = subst (λ (h : List (ℕ × ℕ)). IsFit h n q) d (so_far q f) in
-          elim (g q (omega arith, omega arith)) [
-            | inl w ↦ least q w.0 (λ a v. (f a v).1)
-            | inr j ↦ let r : (x.0 + x.1 + 1 ≤ q) × (q < high) = in_bounds (x.0 + x.1 + 1) (drop (suc i) hs) high q b.3 j in omega arith
-          ],
-    )
-
--- where the walk along the holes ends, there is no place
-pub none_left : (hs : List (ℕ × ℕ)) (i : ℕ) (ts : List (ℕ × ℕ)) (n : ℕ) → 0 < n → length hs ≤ i → ((q : ℕ) → IsFitBeside hs (all_rounded ts) n q → IsFit (drop i hs) n q) → (q : ℕ) → IsFitBeside hs (all_rounded ts) n q → ⊥
-none_left hs i ts n pos le so_far q f = subst (λ (l : List (ℕ × ℕ)). IsIn l q) (drop_all i hs le) (so_far q f q (omega arith, omega arith))
-
--- the place of a hole is within the space
-pub start_below : (low high : ℕ) (hs : List (ℕ × ℕ)) (i : ℕ) (x : ℕ × ℕ) → x ≡ get_or hs i x → i < length hs → IsRising low hs high → x.0 ≤ high
-start_below low high hs i x is lt s = let b = hole_below low high hs i x is lt s in omega arith
+-- the place at which the walk along them stops is the least
+pub fit_found : (low : ℕ) (x : ℕ × ℕ) (rest : List (ℕ × ℕ)) (high : ℕ) (hs ts : List (ℕ × ℕ)) (n place : ℕ) → 0 < n → IsRising low (x ∷ rest) high → ((a : ℕ) → IsIn (x ∷ rest) a → IsIn hs a) → x.0 ≤ place → place + n ≤ x.0 + x.1 → IsBeside ts n place → ((q : ℕ) → x.0 ≤ q → IsBeside ts n q → place ≤ q) → ((q : ℕ) → IsFitBeside hs (all_rounded ts) n q → IsFit (x ∷ rest) n q) → IsLeastFitBeside hs (all_rounded ts) n place
+fit_found low x rest high hs ts n place pos s sub ge fits outside least so_far = (
+  λ a w. (sub a (inl (omega arith, omega arith)), outside a w),
+  λ q f. elim (so_far q f q (omega arith, omega arith)) [
+    | inl w ↦ least q w.0 (λ a v. (f a v).1)
+    | inr j ↦ let r : (x.0 + x.1 + 1 ≤ q) × (q < high) = in_bounds (x.0 + x.1 + 1) rest high q s.3 j in omega arith
+  ],
+)

@@ -1,5 +1,5 @@
 -- What a caller that keeps a list of its taken ranges does with it.
-use Rattle.std.proofs.Common.{◌≡◌, ℕ, suc, ◌+◌, ◌<◌, ◌↔◌, List, [], ◌∷◌, ◌++◌, inl, inr, arith, sym, subst, ◌∙◌, length, take, drop, get_or, length-append}
+use Rattle.std.proofs.Common.{◌≡◌, ℕ, suc, ◌+◌, ◌<◌, ◌↔◌, List, [], ◌∷◌, ◌++◌, inl, inr, arith, sym, subst, ap, ◌∙◌, length, take, drop, get_or, length-append}
 use Rattle.std.specs.List.{remove}
 use Rattle.std.proofs.lemmas.List.{append-nil}
 use Rattle.std.proofs.lemmas.List.Elements.{All-append, All-cons}
@@ -9,7 +9,16 @@ use Rattle.acc_placement.specs.Ranges.{IsFit, IsAligned}
 use Rattle.acc_placement.specs.Space.{Space, IsCanonical, IsPartition, IsTaken, IsSameSpace}
 use Rattle.acc_placement.proofs.Rising.{in_bounds, rising_disjoint, disjoint_join, in_join_left, in_join_right, in_parts, total-append}
 use Rattle.acc_placement.proofs.Alignment.{All-left, All-right, All-middle, All-behind}
-use Rattle.acc_placement.proofs.AtIndex.{split_read}
+use Rattle.std.proofs.lemmas.List.{take-append-drop}
+use Rattle.std.proofs.Math.Seq.{drop-cons}
+
+-- a list is what stands before an index, the range there, and what stands behind
+pub split_at : (hs : List (ℕ × ℕ)) (i : ℕ) (d : ℕ × ℕ) → i < length hs → hs ≡ take i hs ++ get_or hs i d ∷ drop (suc i) hs
+split_at hs i d lt = sym (take-append-drop i hs) ∙ ap (λ r. take i hs ++ r) (drop-cons hs i d lt)
+
+-- the same, round the range that was read there
+pub split_read : (hs : List (ℕ × ℕ)) (i : ℕ) (x : ℕ × ℕ) → x ≡ get_or hs i x → i < length hs → hs ≡ take i hs ++ x ∷ drop (suc i) hs
+split_read hs i x is lt = split_at hs i x lt ∙ ap (λ (y : ℕ × ℕ). take i hs ++ y ∷ drop (suc i) hs) (sym is)
 
 -- the taken ranges of an unchanged space
 pub partition_unchanged : (old new : Space) (ts : List (ℕ × ℕ)) → IsSameSpace old new → IsPartition old ts → IsPartition new ts

@@ -115,3 +115,8 @@ none_fits low (h ∷ l) high n q pos s small f = elim (fit_step low h l high n q
 pub rising_to : (low : ℕ) (t : List (ℕ × ℕ)) (high top : ℕ) → high ≤ top → IsRising low t high → IsRising low t top
 rising_to low [] high top le s = tt
 rising_to low (h ∷ t) high top le s = (s.0, s.1, omega (arith, s.2), rising_to (h.0 + h.1 + 1) t high top le s.3)
+
+-- ranges that rise between two places have no more addresses than lie there
+pub total_le : (low : ℕ) (t : List (ℕ × ℕ)) (high : ℕ) → low ≤ high → IsRising low t high → low + total t ≤ high
+total_le low [] high le s = omega arith
+total_le low (h ∷ t) high le s = let r = total_le (h.0 + h.1) t high s.2 (rising_from (h.0 + h.1 + 1) (h.0 + h.1) t high (omega arith) s.3) in omega (arith, s.0)

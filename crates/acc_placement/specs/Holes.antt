@@ -1,7 +1,8 @@
 -- What the fields of `Holes` stand for, and what holds of them.
-use Rattle.std.specs.Prelude.{◌≡◌, ◌+◌, ◌-◌, ◌≤◌, vec_capacity}
+use Rattle.std.specs.Prelude.{◌≡◌, ◌+◌, ◌-◌, ◌≤◌, length}
 use Rattle.acc_base.specs.Holes.{total}
 use Rattle.acc_placement.specs.Space.{Space, IsCanonical}
+use Rattle.acc_placement.specs.HoleTree.{holes_in}
 use Rattle.acc_placement.specs.declared.placement.Holes.TheInside.{Inside}
 
 -- the space that the fields of `Holes` stand for
@@ -9,13 +10,13 @@ abbrev pub space_of : Inside → Space
 space_of h = record {
   base = h.base;
   size = h.size;
-  holes = h.holes.items;
+  holes = holes_in h.holes.entries;
   taken = h.taken;
-  spare = vec_capacity h.holes - (h.taken + 1);
+  spare = length h.holes.entries + h.holes.room - (h.taken + 1);
 }
 
 -- the holes are those of a space, the used bytes are the others, and there is room to give each taken range back
 pub record AreHolesSound (h : Inside) : Type 0 where
   pub canonical : IsCanonical (space_of h)
-  pub used : h.used + total h.holes.items ≡ h.size
-  pub room : h.taken + 1 ≤ vec_capacity h.holes
+  pub used : h.used + total (holes_in h.holes.entries) ≡ h.size
+  pub room : h.taken + 1 ≤ length h.holes.entries + h.holes.room

@@ -2,9 +2,11 @@
 #![tactic(auto)]
 
 mod beside;
-mod lists;
+mod changes;
+mod hole_iter;
 mod placement;
 mod rounding;
 
+pub use hole_iter::HoleIter;
 pub use placement::Holes;
 pub use rounding::rounded;

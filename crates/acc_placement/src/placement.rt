@@ -1,6 +1,6 @@
 //! The holes of a space of device addresses.
 
-ghost use Rattle.std.specs.Prelude.{◌≡◌, ℕ, List, ◌+◌, ◌%◌, ◌^◌, ◌<◌, ◌≤◌, ◌⊎◌, ◌↔◌, [], ◌∷◌, ◌++◌, All, nat_le, find, IfOk, IfErr, IfSome, IfNone, Err, OnErr, OnOk};
+ghost use Rattle.std.specs.Prelude.{◌≡◌, ◌&&◌, ℕ, List, ◌+◌, ◌*◌, ◌%◌, ◌^◌, ◌<◌, ◌≤◌, ◌⊎◌, ◌↔◌, [], ◌∷◌, ◌++◌, All, length, nat_le, find, IfOk, IfErr, IfSome, IfNone, Err, OnErr, OnOk};
 ghost use Rattle.acc_base.specs.Limits.{IsSize, IsFromOne};
 ghost use Rattle.acc_base.specs.Blocks.{rounded as rounded_of};
 ghost use Rattle.acc_base.specs.Holes.{total};
@@ -8,9 +8,11 @@ ghost use Rattle.acc_placement.specs.Ranges.{all_rounded, IsFit, IsLeastFit, IsF
 ghost use Rattle.acc_placement.specs.Space.{IsCanonical, IsFresh, IsSameSpace, IsPartition, IsTaken, IsTakenFrom, IsGivenBack};
 
 use crate::beside::past;
-use crate::lists::{cut, fill, first_fit};
+use crate::changes::{cut, fill};
+use crate::hole_iter::HoleIter;
 use crate::rounding::rounded;
 use acc_base::{Fault, MEMORY_MAX};
+use acc_tree::{Entry, Tree, Visits};
 use std::alloc::Global;
 use std::marker::Model;
 
@@ -24,9 +26,9 @@ use std::marker::Model;
 pub struct Holes {
     base: u64,
     size: u64,
-    // Place and size of each, by rising place. There is room for one more than there are taken ranges, so that
+    // Each has its place as its key. With the nodes that wait there are more than there are taken ranges, so that
     // `give_back` needs no memory.
-    holes: Vec<(u64, u64)>,
+    holes: Tree<()>,
     taken: u64,
     used: u64,
 }
@@ -44,6 +46,8 @@ impl Model for Holes {
 }
 
 impl Holes {
+    ghost use Rattle.acc_placement.specs.HoleIter.{holes_left};
+
     /// A space of `size` bytes from the device address `base` on, of which nothing is taken. The base is a multiple of
     /// 16, at most 2^40; the size is a multiple of 16, from 16 to 67,108,864.
     ///
@@ -59,8 +63,13 @@ impl Holes {
         ensures partition { IfOk result (λ holes. IsPartition holes []) }
         ensures only { IfErr result (λ fault. fault ≡ Fault.Memory) }
     {
-        let mut holes = Vec::with_capacity(alloc, 1)?;
-        holes.push_reserved((base, size));
+        let mut holes = Tree::new(alloc, ());
+        holes.reserve(1)?;
+        holes.insert(Entry {
+            key: base as u128,
+            size,
+            value: (),
+        });
         Ok(Holes {
             base,
             size,
@@ -110,8 +119,22 @@ impl Holes {
         ensures none { IfNone result ((q : ℕ) → IsFit self.now.holes (rounded_of need) q → ⊥) }
         ensures canonical { IsCanonical self.now }
     {
-        let at = first_fit(&self.holes, rounded(need))?;
-        Some(self.holes[at].0)
+        self.fit_counted(need, &mut Visits::new())
+    }
+
+    /// The place that [`Holes::take`] would choose, by at most two visits for each binary digit of the number of holes;
+    /// `None` exactly where no hole is large enough. It needs no memory.
+    pub fn fit_counted(&self, need: u64, visits: &mut Visits) -> Option<u64>
+        requires need { IsFromOne MEMORY_MAX need }
+        requires limit { visits.old ≤ 2 ^ 63 }
+        ensures place { IfSome result (IsLeastFit self.now.holes (rounded_of need)) }
+        ensures none { IfNone result ((q : ℕ) → IsFit self.now.holes (rounded_of need) q → ⊥) }
+        ensures not_fewer { visits.old ≤ visits.new }
+        ensures visits { (d : ℕ) → length self.now.holes < 2 ^ d → visits.new ≤ visits.old + 2 * d }
+        ensures canonical { IsCanonical self.now }
+    {
+        let hole = self.holes.first_fit_counted(rounded(need), visits)?;
+        Some(hole.key as u64)
     }
 
     /// Makes room for `count` more taken ranges, at most 2^32, so that so many calls of [`Holes::take_reserved`] need no
@@ -130,9 +153,11 @@ impl Holes {
         ensures only { IfErr result (λ fault. fault ≡ Fault.Memory) }
         ensures memory { OnErr result (self.old.spare < count) }
     {
-        let room = self.taken as usize + 1 + count as usize;
-        self.holes.reserve(room.saturating_sub(self.holes.len()))?;
-        Ok(())
+        self.holes.laws();
+        let Some(nodes) = (self.taken + 1).checked_add(count) else {
+            return Err(Fault::Memory)
+        };
+        self.holes.reserve(nodes.saturating_sub(self.holes.len()))
     }
 
     /// Takes as [`Holes::take`] does, where a hole is large enough and there is room. It needs no memory.
@@ -147,10 +172,8 @@ impl Holes {
         ensures spare { self.old.spare ≤ self.new.spare + 1 }
     {
         let size = rounded(need);
-        let Some(at) = first_fit(&self.holes, size) else {
-            unreachable!()
-        };
-        let place = cut(&mut self.holes, at, size);
+        self.holes.laws();
+        let place = cut(&mut self.holes, size);
         self.taken += 1;
         self.used += size;
         place
@@ -170,13 +193,26 @@ impl Holes {
     {
         let size = rounded(need);
         let top = self.base + self.size;
-        for &(start, room) in &self.holes {
+        let mut from = 0;
+        // A hole that is too small holds no such place, and is passed over by the greatest sizes.
+        while let Some((start, room)) = self.next_fit(from, size) {
             let place = past(listed, start, size, top);
             if place + size <= start + room {
                 return Some(place);
             }
+            from = start + 1;
         }
         None
+    }
+
+    /// The hole of least place at or above `from` that has `size` bytes, with its place and its size.
+    fn next_fit(&self, from: u64, size: u64) -> Option<(u64, u64)>
+        requires some { 0 < size }
+        ensures value { result ≡ find (λ h. nat_le from h.0 && nat_le size h.1) self.now.holes }
+        ensures canonical { IsCanonical self.now }
+    {
+        let hole = self.holes.first_fit_from(from as u128, size)?;
+        Some((hole.key as u64, hole.size))
     }
 
     /// Gives back a range that was taken at `place` with this need and not given back since. The new hole is merged with
@@ -204,11 +240,12 @@ impl Holes {
     }
 
     /// The holes by rising place, each with its place and its size in bytes.
-    pub fn holes(&self) -> &[(u64, u64)]
-        ensures value { result.now ≡ self.now.holes }
+    pub fn holes(&self) -> HoleIter<'_>
+        ensures value { holes_left result ≡ self.now.holes }
         ensures canonical { IsCanonical self.now }
     {
-        &self.holes
+        let _ = &self.base;
+        HoleIter::new(self)
     }
 
     /// The hole of least place at or above the device address `from`, with its place and its size in bytes; `None` where
@@ -216,7 +253,8 @@ impl Holes {
     pub fn next_hole(&self, from: u64) -> Option<(u64, u64)>
         ensures { result ≡ find (λ h. nat_le from h.0) self.now.holes }
     {
-        self.holes.iter().copied().find(|hole| from <= hole.0)
+        let hole = self.holes.next(from as u128)?;
+        Some((hole.key as u64, hole.size))
     }
 
     /// The bounds of the space, and that its holes are multiples of 16, rise and do not touch. Nothing is done.

@@ -1,0 +1,6 @@
+pub mod Leaves
+pub mod Tall
+pub mod Steps
+pub mod Fronts
+pub mod Values
+pub mod Kept

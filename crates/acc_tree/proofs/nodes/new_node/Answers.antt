@@ -1,0 +1,13 @@
+use Rattle.std.proofs.Common.{arith, refl}
+use Rattle.acc_tree.specs.Nodes.{IsLeaf}
+use Rattle.acc_tree.proofs.Tall.{tall_leaf}
+use Rattle.acc_tree.proofs.nodes.new_node.Goals as goal
+
+pub invariant_of-node : goal.invariant_of-node
+invariant_of-node g c = record { left = tt; right = tt; chain = tt; height = refl; not_left = omega arith; not_right = omega arith; greatest = omega arith; tall = tall_leaf }
+
+pub returns-in-Ok : goal.returns-in-Ok
+returns-in-Ok g c =
+    let k = c.in-Ok.ensures.ok in
+    let leaf : IsLeaf c.in-Ok.node.value = rw k (record { entry = c.args.entry; entries = refl; height = refl; alone = refl }) in
+    record { leaf = leaf }

@@ -1,0 +1,13 @@
+use Rattle.std.proofs.Common.{◌≡◌, arith, refl, ap, ◌∙◌}
+use Rattle.acc_tree.specs.Shape.{Shape}
+use Rattle.acc_tree.specs.Nodes.{length_of}
+use Rattle.acc_tree.proofs.Tall.{tall_leaf}
+use Rattle.acc_tree.proofs.nodes.split.Goals as goal
+
+pub invariant_of-n : goal.invariant_of-n
+invariant_of-n g c = rw (c.take-left.ensures.after, c.take-right.ensures.after) (record { left = tt; right = tt; chain = c.n.invariant.chain; height = refl; not_left = omega arith; not_right = omega arith; greatest = omega arith; tall = tall_leaf })
+
+pub returns-clause-leaf : goal.returns-clause-leaf
+returns-clause-leaf g c =
+    let behind : length_of c.n.inside.next ≡ 0 = ap (λ (s : Shape g.row.T.Denot). s.behind) (c.n.view_is ∙ c.deref_mut-n.ensures.value) ∙ c.requires.alone in
+    rw (c.take-left.ensures.after, c.take-right.ensures.after) (record { entry = c.n.inside.entry; entries = refl; height = refl; alone = behind })

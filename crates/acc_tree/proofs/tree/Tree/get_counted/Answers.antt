@@ -1,0 +1,15 @@
+use Rattle.std.proofs.Common.{◌≡◌, ◌≤◌, arith, ap, length}
+use Rattle.acc_tree.specs.Listing.{Listing}
+use Rattle.acc_tree.specs.Nodes.{entries_in, height_of}
+use Rattle.acc_tree.proofs.Tall.{height_le, low}
+use Rattle.acc_tree.proofs.tree.Tree.get_counted.Goals as goal
+
+pub find-requires-clause-limit : goal.find-requires-clause-limit
+find-requires-clause-limit g c =
+    let l : height_of c.self.inside.root ≤ 128 = low (height_of c.self.inside.root) (length (entries_in c.self.inside.root)) c.height_law.ensures (omega (arith, c.self.invariant.nodes, c.self.invariant.limit)) in
+    omega (arith, c.requires.limit)
+
+pub returns-clause-visits : goal.returns-clause-visits
+returns-clause-visits g c =
+    let is : entries_in c.self.inside.root ≡ c.args.self.now.entries = ap (λ (l : Listing g.row.T.Denot). l.entries) c.self.view_is in
+    λ d few. let l = height_le (height_of c.self.inside.root) (length (entries_in c.self.inside.root)) d c.height_law.ensures (omega (arith, ap length is)) in omega (arith, c.find.ensures.visits)

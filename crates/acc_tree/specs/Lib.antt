@@ -1,0 +1,5 @@
+pub mod Listing
+pub mod Shape
+pub mod Nodes
+pub mod NodeFalls
+pub mod Trees

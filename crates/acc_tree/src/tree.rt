@@ -1,0 +1,314 @@
+//! A balanced tree of entries, each found by its key in a walk from the top.
+ghost use Rattle.std.specs.Prelude.{◌≡◌, ℕ, ◌+◌, ◌*◌, ◌^◌, ◌<◌, ◌≤◌, [], length, Some, None, IsSome, IfErr, OnOk, OnErr, MatchBool};
+ghost use Rattle.acc_tree.specs.Listing.{KeysRise, AreRanges, at_key, first_from, last_before, first_large, first_large_from, with_entry, without_key, with_value, without_front};
+ghost use Rattle.acc_tree.specs.Nodes.{length_of, IsChain};
+
+use crate::entries::{Around, Entry};
+use crate::nodes::{Link, height_law, new_node, pop, push, put_away};
+use crate::visits::Visits;
+use crate::{changes, walks};
+use acc_base::Fault;
+use std::alloc::Global;
+use std::marker::Model;
+
+/// Entries by rising key, and nodes that wait for more of them.
+///
+/// Memory is asked for by [`Tree::reserve`] alone: an entry goes into a node that waits, and its node waits again once
+/// it is removed. No walk comes to more than two nodes for each binary digit of the number of entries. Contracts see a
+/// tree as the list of its entries by rising key, and how many more there is room for.
+pub struct Tree<T: Copy> {
+    alloc: Global,
+    // What stands in nodes that wait.
+    blank: Entry<T>,
+    root: Link<T>,
+    spare: Link<T>,
+    len: u64,
+    // How many there are in the tree and in the chain.
+    nodes: u64,
+}
+
+impl<T: Copy> Model for Tree<T> {
+    ghost use Rattle.acc_tree.specs.Listing.{Listing};
+
+    ghost Value = { Listing T };
+
+    ghost use Rattle.acc_tree.specs.Trees.{listing_of, IsTreeSound};
+
+    ghost view = { listing_of };
+
+    ghost invariant = { IsTreeSound };
+}
+
+impl<T: Copy> Drop for Tree<T> {
+    fn drop(mut self) {
+        drop_chain(self.spare.take());
+        let Tree {
+            alloc: _,
+            blank: _,
+            root: _,
+            spare: _,
+            len: _,
+            nodes: _,
+        } = self;
+    }
+}
+
+impl<T: Copy> Tree<T> {
+    /// A tree without entries and without room. It needs no memory. The blank value stands in nodes that hold no entry,
+    /// and no call answers it.
+    pub fn new(alloc: Global, blank: T) -> Tree<T>
+        ensures entries { result.entries ≡ [] }
+        ensures room { result.room ≡ 0 }
+    {
+        let blank = Entry {
+            key: 0,
+            size: 0,
+            value: blank,
+        };
+        Tree {
+            alloc,
+            blank,
+            root: None,
+            spare: None,
+            len: 0,
+            nodes: 0,
+        }
+    }
+
+    /// How many entries there are.
+    pub fn len(&self) -> u64
+        ensures { result ≡ length self.now.entries }
+    {
+        self.len
+    }
+
+    /// Makes room for `count` more entries.
+    ///
+    /// # Errors
+    ///
+    /// [`Fault::Memory`] alone, where the room was missing. The entries are as before, and the room never shrinks here:
+    /// a call that is refused keeps the nodes that it got.
+    pub fn reserve(&mut self, count: u64) -> Result<(), Fault>
+        ensures ok { OnOk result (count ≤ self.new.room) }
+        ensures entries { self.new.entries ≡ self.old.entries }
+        ensures room { self.old.room ≤ self.new.room }
+        ensures only { IfErr result (λ fault. fault ≡ Fault.Memory) }
+        ensures memory { OnErr result (self.old.room < count) }
+    {
+        if make_nodes(
+            self.alloc,
+            self.blank,
+            &mut self.spare,
+            &mut self.nodes,
+            self.len,
+            count,
+        ) {
+            Ok(())
+        } else {
+            Err(Fault::Memory)
+        }
+    }
+
+    /// The entry of a key, if it is there.
+    pub fn get(&self, key: u128) -> Option<Entry<T>>
+        ensures { result ≡ at_key key self.now.entries }
+    {
+        self.get_counted(key, &mut Visits::new())
+    }
+
+    /// The entry of a key, if it is there, by at most two visits for each binary digit of the number of entries.
+    pub fn get_counted(&self, key: u128, visits: &mut Visits) -> Option<Entry<T>>
+        requires limit { visits.old ≤ 2 ^ 63 }
+        ensures found { result ≡ at_key key self.now.entries }
+        ensures not_fewer { visits.old ≤ visits.new }
+        ensures visits { (d : ℕ) → length self.now.entries < 2 ^ d → visits.new ≤ visits.old + 2 * d }
+    {
+        height_law(&self.root);
+        walks::find(&self.root, key, visits).copied()
+    }
+
+    /// The entries on both sides of a key.
+    pub fn around(&self, key: u128) -> Around<T>
+        ensures before { result.before ≡ last_before key self.now.entries }
+        ensures from { result.from ≡ first_from key self.now.entries }
+    {
+        self.around_counted(key, &mut Visits::new())
+    }
+
+    /// The entries on both sides of a key, by at most two visits for each binary digit of the number of entries.
+    pub fn around_counted(&self, key: u128, visits: &mut Visits) -> Around<T>
+        requires limit { visits.old ≤ 2 ^ 63 }
+        ensures before { result.before ≡ last_before key self.now.entries }
+        ensures from { result.from ≡ first_from key self.now.entries }
+        ensures not_fewer { visits.old ≤ visits.new }
+        ensures visits { (d : ℕ) → length self.now.entries < 2 ^ d → visits.new ≤ visits.old + 2 * d }
+    {
+        height_law(&self.root);
+        let (before, from) = walks::find_around(&self.root, key, None, None, visits);
+        Around {
+            before: before.copied(),
+            from: from.copied(),
+        }
+    }
+
+    /// The entry of least key from `key` on.
+    pub fn next(&self, key: u128) -> Option<Entry<T>>
+        ensures { result ≡ first_from key self.now.entries }
+    {
+        self.around(key).from
+    }
+
+    /// The entry of greatest key before `key`.
+    pub fn before(&self, key: u128) -> Option<Entry<T>>
+        ensures { result ≡ last_before key self.now.entries }
+    {
+        self.around(key).before
+    }
+
+    /// The entry of least key whose size is at least `size`, which is not 0.
+    pub fn first_fit(&self, size: u64) -> Option<Entry<T>>
+        requires some { 0 < size }
+        ensures { result ≡ first_large size self.now.entries }
+    {
+        self.first_fit_counted(size, &mut Visits::new())
+    }
+
+    /// The entry of least key whose size is at least `size`, which is not 0, by at most two visits for each binary digit
+    /// of the number of entries.
+    pub fn first_fit_counted(&self, size: u64, visits: &mut Visits) -> Option<Entry<T>>
+        requires some { 0 < size }
+        requires limit { visits.old ≤ 2 ^ 63 }
+        ensures found { result ≡ first_large size self.now.entries }
+        ensures not_fewer { visits.old ≤ visits.new }
+        ensures visits { (d : ℕ) → length self.now.entries < 2 ^ d → visits.new ≤ visits.old + 2 * d }
+    {
+        height_law(&self.root);
+        walks::find_large(&self.root, size, visits).copied()
+    }
+
+    /// The entry of least key from `key` on whose size is at least `size`, which is not 0.
+    pub fn first_fit_from(&self, key: u128, size: u64) -> Option<Entry<T>>
+        requires some { 0 < size }
+        ensures { result ≡ first_large_from key size self.now.entries }
+    {
+        height_law(&self.root);
+        walks::find_large_from(&self.root, key, size).copied()
+    }
+
+    /// Puts an entry in its place by its key, which is not there yet. It needs no memory.
+    pub fn insert(&mut self, entry: Entry<T>)
+        requires room { 1 ≤ self.old.room }
+        requires new { at_key entry.key self.old.entries ≡ None }
+        ensures entries { self.new.entries ≡ with_entry entry self.old.entries }
+        ensures room { self.new.room + 1 ≡ self.old.room }
+    {
+        height_law(&self.root);
+        let Some(chain) = self.spare.take() else {
+            unreachable!()
+        };
+        let (node, spare) = pop(chain);
+        self.spare = spare;
+        self.root = Some(changes::insert(self.root.take(), node, entry));
+        self.len += 1;
+    }
+
+    /// Takes out the entry of a key that is there, and answers it.
+    pub fn remove(&mut self, key: u128) -> Entry<T>
+        requires there { IsSome (at_key key self.old.entries) }
+        ensures entry { at_key key self.old.entries ≡ Some result }
+        ensures entries { self.new.entries ≡ without_key key self.old.entries }
+        ensures room { self.new.room ≡ self.old.room + 1 }
+    {
+        height_law(&self.root);
+        let Some(root) = self.root.take() else {
+            unreachable!()
+        };
+        let (entry, node, root) = changes::remove(root, key);
+        self.root = root;
+        self.spare = push(self.spare.take(), node);
+        self.len -= 1;
+        entry
+    }
+
+    /// Writes the value of a key that is there.
+    pub fn set(&mut self, key: u128, value: T)
+        requires there { IsSome (at_key key self.old.entries) }
+        ensures entries { self.new.entries ≡ with_value key value self.old.entries }
+        ensures room { self.new.room ≡ self.old.room }
+    {
+        walks::write_value(&mut self.root, key, value);
+    }
+
+    /// Takes the first `size` of the entry of least key that is so large, and answers the entry as it was: its key rises
+    /// by `size` and its size falls by it, or the entry goes where nothing of it is left. The size is not 0. It needs no
+    /// memory.
+    pub fn take_front(&mut self, size: u64) -> Entry<T>
+        requires some { 0 < size }
+        requires ranges { AreRanges self.old.entries }
+        requires fits { IsSome (first_large size self.old.entries) }
+        ensures entry { first_large size self.old.entries ≡ Some result }
+        ensures entries { self.new.entries ≡ without_front size self.old.entries }
+        ensures nodes { length self.new.entries + self.new.room ≡ length self.old.entries + self.old.room }
+    {
+        height_law(&self.root);
+        let Some(root) = self.root.take() else {
+            unreachable!()
+        };
+        let (entry, freed, root) = changes::take_front(root, size);
+        self.root = root;
+        let (spare, count) = put_away(self.spare.take(), freed);
+        self.spare = spare;
+        self.len -= count;
+        entry
+    }
+
+    /// That the keys rise, and that the entries and the room have fewer than 2^64 nodes. Nothing is done.
+    pub fn laws(&self)
+        ensures rising { KeysRise self.now.entries }
+        ensures limit { length self.now.entries + self.now.room < 2 ^ 64 }
+    {
+        let _ = &self.nodes;
+    }
+}
+
+/// Adds nodes that wait until `count` do, or answers that there is no memory for them.
+fn make_nodes<T: Copy>(
+    alloc: Global,
+    blank: Entry<T>,
+    spare: &mut Link<T>,
+    nodes: &mut u64,
+    len: u64,
+    count: u64,
+) -> bool
+    requires chain { IsChain spare.old }
+    requires nodes { nodes.old ≡ len + length_of spare.old }
+    requires limit { nodes.old < 2 ^ 64 }
+    ensures chain { IsChain spare.new }
+    ensures nodes { nodes.new ≡ len + length_of spare.new }
+    ensures limit { nodes.new < 2 ^ 64 }
+    ensures room { length_of spare.old ≤ length_of spare.new }
+    ensures made { MatchBool result (count ≤ length_of spare.new) (length_of spare.old < count) }
+{
+    while *nodes - len < count {
+        let Some(more) = nodes.checked_add(1) else {
+            return false
+        };
+        let Some(node) = new_node(alloc, blank) else {
+            return false
+        };
+        *spare = push(spare.take(), node);
+        *nodes = more;
+    }
+    true
+}
+
+/// Drops a chain node by node, since a drop of the whole goes as deep as the chain is long.
+fn drop_chain<T: Copy>(chain: Link<T>)
+    requires { IsChain chain }
+{
+    let mut rest = chain;
+    while let Some(node) = rest {
+        let (_, others) = pop(node);
+        rest = others;
+    }
+}

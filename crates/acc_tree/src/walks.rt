@@ -1,0 +1,147 @@
+//! Walks down a tree.
+ghost use Rattle.std.specs.Prelude.{◌≡◌, ◌+◌, ◌^◌, ◌<◌, ◌≤◌};
+ghost use Rattle.acc_tree.specs.Listing.{KeysRise, at_key, first_from, last_before, first_large, first_large_from, with_value};
+ghost use Rattle.acc_tree.specs.Nodes.{entries_in, height_of, length_of};
+ghost use Rattle.std.specs.Option.{option_or};
+ghost use Rattle.acc_tree.specs.Listing.{seen};
+
+use crate::entries::Entry;
+use crate::nodes::{Link, Node, greatest};
+use crate::visits::Visits;
+
+/// The entry of a key. Each node on the way is a visit.
+pub fn find<'a, T: Copy>(tree: &'a Link<T>, key: u128, visits: &mut Visits) -> Option<&'a Entry<T>>
+    requires rising { KeysRise (entries_in tree.now) }
+    requires limit { visits.old + height_of tree.now < 2 ^ 64 }
+    ensures found { seen result ≡ at_key key (entries_in tree.now) }
+    ensures not_fewer { visits.old ≤ visits.new }
+    ensures visits { visits.new ≤ visits.old + height_of tree.now }
+{
+    match tree {
+        None => None,
+        Some(node) => {
+            let node: &Node<T> = node;
+            let here = node.entry.key;
+            visits.tick();
+            if key < here {
+                find(&node.left, key, visits)
+            } else if here < key {
+                find(&node.right, key, visits)
+            } else {
+                Some(&node.entry)
+            }
+        }
+    }
+}
+
+/// The first entry that is at least so large. Each node on the way is a visit.
+pub fn find_large<'a, T: Copy>(
+    tree: &'a Link<T>,
+    size: u64,
+    visits: &mut Visits,
+) -> Option<&'a Entry<T>>
+    requires some { 0 < size }
+    requires limit { visits.old + height_of tree.now < 2 ^ 64 }
+    ensures found { seen result ≡ first_large size (entries_in tree.now) }
+    ensures not_fewer { visits.old ≤ visits.new }
+    ensures visits { visits.new ≤ visits.old + height_of tree.now }
+{
+    match tree {
+        None => None,
+        Some(node) => {
+            let node: &Node<T> = node;
+            let here = node.entry.size;
+            visits.tick();
+            if greatest(&node.left) >= size {
+                find_large(&node.left, size, visits)
+            } else if here >= size {
+                Some(&node.entry)
+            } else {
+                find_large(&node.right, size, visits)
+            }
+        }
+    }
+}
+
+/// The first entry from a key on that is at least so large. Trees without one so large are passed over, so the walk
+/// comes to at most two nodes at each height.
+pub fn find_large_from<'a, T: Copy>(tree: &'a Link<T>, key: u128, size: u64) -> Option<&'a Entry<T>>
+    requires some { 0 < size }
+    requires rising { KeysRise (entries_in tree.now) }
+    requires limit { height_of tree.now < 2 ^ 63 }
+    ensures { seen result ≡ first_large_from key size (entries_in tree.now) }
+{
+    if greatest(tree) < size {
+        return None;
+    }
+    match tree {
+        None => None,
+        Some(node) => {
+            let node: &Node<T> = node;
+            if node.entry.key < key {
+                return find_large_from(&node.right, key, size);
+            }
+            if let Some(found) = find_large_from(&node.left, key, size) {
+                return Some(found);
+            }
+            if node.entry.size >= size {
+                Some(&node.entry)
+            } else {
+                find_large(&node.right, size, &mut Visits::new())
+            }
+        }
+    }
+}
+
+/// The last entry before a key and the first from it on, or else those that are handed in, which are found so far. Each
+/// node on the way is a visit.
+pub fn find_around<'a, T: Copy>(
+    tree: &'a Link<T>,
+    key: u128,
+    before: Option<&'a Entry<T>>,
+    from: Option<&'a Entry<T>>,
+    visits: &mut Visits,
+) -> (Option<&'a Entry<T>>, Option<&'a Entry<T>>)
+    requires rising { KeysRise (entries_in tree.now) }
+    requires limit { visits.old + height_of tree.now < 2 ^ 64 }
+    ensures before { seen result.0 ≡ option_or (last_before key (entries_in tree.now)) (seen before.entry) }
+    ensures from { seen result.1 ≡ option_or (first_from key (entries_in tree.now)) (seen from.entry) }
+    ensures not_fewer { visits.old ≤ visits.new }
+    ensures visits { visits.new ≤ visits.old + height_of tree.now }
+{
+    match tree {
+        None => (before, from),
+        Some(node) => {
+            let node: &Node<T> = node;
+            let here = node.entry.key;
+            visits.tick();
+            if here < key {
+                find_around(&node.right, key, Some(&node.entry), from, visits)
+            } else {
+                find_around(&node.left, key, before, Some(&node.entry), visits)
+            }
+        }
+    }
+}
+
+/// Writes the value of a key, if it is there.
+pub fn write_value<T: Copy>(tree: &mut Link<T>, key: u128, value: T)
+    requires rising { KeysRise (entries_in tree.old) }
+    ensures entries { entries_in tree.new ≡ with_value key value (entries_in tree.old) }
+    ensures height { height_of tree.new ≡ height_of tree.old }
+    ensures behind { length_of tree.new ≡ length_of tree.old }
+{
+    match tree {
+        None => {}
+        Some(node) => {
+            let node: &mut Node<T> = node;
+            if key < node.entry.key {
+                write_value(&mut node.left, key, value);
+            } else if node.entry.key < key {
+                write_value(&mut node.right, key, value);
+            } else {
+                node.entry.value = value;
+            }
+        }
+    }
+}

@@ -1,4 +1,4 @@
 pub mod Placed
-pub mod Forgetting
+pub mod Keyed
 pub mod Keeping
 pub mod Leaving

@@ -1,22 +1,19 @@
--- Counters by rising block and pointer: searches that begin at a place, and changes there.
-use Rattle.std.proofs.Common.{ℕ, zero, suc, ◌≡◌, ◌-◌, ◌+◌, ◌<◌, ◌≤◌, refl, sym, ap, ◌∙◌, Bool, true, false, cond, ◌&&◌, ◌||◌, List, [], ◌∷◌, length, get_or, set, take, drop, Option, Some, None, arith, rules, inl, inr}
-use Rattle.std.specs.Prelude.{◌⊎◌, ◌==◌, not, nat_le, nat_lt, find, option_map, unwrap_or, slice_get, is_some, IsSome}
-use Rattle.std.specs.List.{AllByRecursion, list_any, insert, remove}
+-- Counters by rising block and pointer: searches that begin at a pointer.
+use Rattle.std.proofs.Common.{ℕ, ◌≡◌, ◌-◌, ◌+◌, ◌<◌, ◌≤◌, refl, sym, ap, ◌∙◌, Bool, true, false, cond, ◌&&◌, ◌||◌, List, [], ◌∷◌, Option, Some, None, arith, inl, inr}
+use Rattle.std.specs.Prelude.{◌⊎◌, ◌==◌, not, nat_le, nat_lt, find, option_map, is_some}
+use Rattle.std.specs.List.{list_any}
 use Rattle.std.proofs.lemmas.Bool.Decides.{nat_tests}
 use Rattle.acc_base.specs.declared.attachments.Attachment.{Attachment}
 use Rattle.acc_base.specs.Section.{covers}
-use Rattle.acc_base.specs.Splits.{IsSplitBy}
 use Rattle.acc_base.specs.Accounts.{EachPair}
-use Rattle.acc_base.specs.Attachments.{pointer_at, is_of, IsBefore, is_before, count_at, with_attachment, without_attachment, with_count, is_skipped, next_pointer}
-use Rattle.acc_base.proofs.Results.{equal, equal_swap}
-use Rattle.acc_base.proofs.Elements.{EachPair-weaker, AllByRecursion-weaker, AllByRecursion-both, filter-kept, find_none, find-none}
-use Rattle.acc_base.proofs.InPlace.{put-insert}
-use Rattle.acc_base.proofs.Keyed.{all-drop}
-use Rattle.acc_base.proofs.Attached.{put_attachment, same_block, same_pointer, before, behind, before-trans, before-other}
+use Rattle.acc_base.specs.Attachments.{pointer_at, IsBefore, is_before, is_skipped, next_pointer}
+use Rattle.acc_base.proofs.Results.{equal}
+use Rattle.acc_base.proofs.Elements.{AllByRecursion-weaker, find-none}
+use Rattle.acc_base.proofs.Attached.{before}
 use Rattle.acc_attach.specs.Kept.{is_below, is_from}
 
 -- a counter with this key
-abbrev pub probe : ℕ → ℕ → Attachment
+abbrev probe : ℕ → ℕ → Attachment
 probe block pointer = record { block = block; pointer = pointer; count = 0 }
 
 -- what stands before passes the test of standing before
@@ -27,20 +24,6 @@ test_before a b (inr h) = let s : (a.block == b.block) ≡ true = grind (arith, 
     go : (u : Bool) → (a.block == b.block) ≡ true → nat_lt a.pointer b.pointer ≡ true → (u || (a.block == b.block && nat_lt a.pointer b.pointer)) ≡ true
     go true s t = refl
     go false s t = rw (s, t)
-
--- standing before a pointer parts rising counters
-pub below_pointer_first : (block pointer : ℕ) (xs : List Attachment) → EachPair IsBefore xs → EachPair (λ x y. is_below block pointer y ≡ true → is_below block pointer x ≡ true) xs
-below_pointer_first block pointer xs h = EachPair-weaker IsBefore (λ x y. is_below block pointer y ≡ true → is_below block pointer x ≡ true) xs (λ x y first e. test_before x (probe block pointer) (before-trans x y (probe block pointer) first (before y (probe block pointer) e))) h
-
--- the first that fails a test stands where those that pass it end
-pub find_split : (test : Attachment → Bool) (xs : List Attachment) (i : ℕ) → IsSplitBy test xs i → find (λ x. not (test x)) xs ≡ slice_get xs i
-find_split test xs i parts = go xs i parts.passed parts.failed
-  where
-    go : (ys : List Attachment) (j : ℕ) → AllByRecursion (λ y. test y ≡ true) (take j ys) → AllByRecursion (λ y. test y ≡ false) (drop j ys) → find (λ y. not (test y)) ys ≡ slice_get ys j
-    go [] zero p f = refl
-    go [] (suc j) p f = refl
-    go (y ∷ ys) zero p f = rw f.0
-    go (y ∷ ys) (suc j) p f = rw p.0 (go ys j p.1 f)
 
 -- ---- where a counter stands that comes at a pointer or behind
 
@@ -103,47 +86,6 @@ module _ (block pointer : ℕ) (test : Attachment → Bool) (below : (a : Attach
       go : find test xs ≡ passed test (find (is_from block pointer) xs) → (b : Bool) → is_below block pointer x ≡ b → cond (test x) (Some x) (find test xs) ≡ passed test (cond (not b) (Some x) (find (is_from block pointer) xs))
       go later true e = rw (below x (before x (probe block pointer) e)) later
       go later false e = rest e (test x) refl
-
--- ---- the count of a pointer
-
--- a counter that stands before a pointer is not its own
-not_of_below : (block pointer : ℕ) (a : Attachment) → IsBefore a (probe block pointer) → is_of block pointer a ≡ false
-not_of_below block pointer a (inl h) = let t : (a.block == block) ≡ false = grind (arith, nat_tests) in rw t
-not_of_below block pointer a (inr h) = let s : (a.block == block) ≡ true = grind (arith, nat_tests, h.0) in let t : (a.pointer == pointer) ≡ false = grind (arith, nat_tests, h.1) in rw (s, t)
-
--- nor is one behind the first from it on that is not
-not_of_behind : (block pointer : ℕ) (a b : Attachment) → IsAtOrBehind block pointer a → is_of block pointer a ≡ false → IsBefore a b → is_of block pointer b ≡ false
-not_of_behind block pointer a b (inl h) e k = rw (later_block block a b h k)
-not_of_behind block pointer a b (inr h) e k = elim (same_or_later block a b h.0 k) [
-  | inl other ↦ rw other
-  | inr more ↦ let t : (b.pointer == pointer) ≡ false = grind (arith, nat_tests, h.1) in go (b.block == block) t
-]
-  where
-    go : (s : Bool) → (b.pointer == pointer) ≡ false → (s && (b.pointer == pointer)) ≡ false
-    go true t = t
-    go false t = refl
-
--- so the counter of a pointer is the first one from it on, or there is none
-find_of : (block pointer : ℕ) (xs : List Attachment) → EachPair IsBefore xs → find (is_of block pointer) xs ≡ passed (is_of block pointer) (find (is_from block pointer) xs)
-find_of block pointer xs h = find_first block pointer (is_of block pointer) (not_of_below block pointer) (not_of_behind block pointer) xs h
-
--- the first counter from a pointer on is the pointer's
-pub count_there : (block pointer : ℕ) (xs : List Attachment) (a : Attachment) → EachPair IsBefore xs → Some a ≡ find (is_from block pointer) xs → is_of block pointer a ≡ true → a.count ≡ count_at block pointer xs
-count_there block pointer xs a h e is =
-    let f : find (is_of block pointer) xs ≡ Some a = find_of block pointer xs h ∙ ap (passed (is_of block pointer)) (sym e) ∙ rw is in
-    sym (ap (λ o. unwrap_or (option_map (λ (x : Attachment). x.count) o) 0) f)
-
--- it is another's
-pub uncounted : (block pointer : ℕ) (xs : List Attachment) (a : Attachment) → EachPair IsBefore xs → Some a ≡ find (is_from block pointer) xs → is_of block pointer a ≡ false → 0 ≡ count_at block pointer xs
-uncounted block pointer xs a h e is =
-    let f : find (is_of block pointer) xs ≡ None = find_of block pointer xs h ∙ ap (passed (is_of block pointer)) (sym e) ∙ rw is in
-    sym (ap (λ o. unwrap_or (option_map (λ (x : Attachment). x.count) o) 0) f)
-
--- there is none
-pub uncounted_past : (block pointer : ℕ) (xs : List Attachment) → EachPair IsBefore xs → None ≡ find (is_from block pointer) xs → 0 ≡ count_at block pointer xs
-uncounted_past block pointer xs h e =
-    let f : find (is_of block pointer) xs ≡ None = find_of block pointer xs h ∙ ap (passed (is_of block pointer)) (sym e) in
-    sym (ap (λ o. unwrap_or (option_map (λ (x : Attachment). x.count) o) 0) f)
 
 -- ---- the next pointer
 
@@ -266,101 +208,3 @@ skipped_first block address xs a h e = sym (skipped_found block address xs h ∙
 -- and none is where there is none
 pub skipped_past : (block address : ℕ) (xs : List Attachment) → EachPair IsBefore xs → None ≡ find (is_from block (address - 7)) xs → false ≡ is_skipped block xs address
 skipped_past block address xs h e = sym (skipped_found block address xs h ∙ ap (λ o. is_some (passed (skips block address) o)) (sym e))
-
--- ---- changes at a place
-
--- a counter that does not stand before a pointer and is not its own stands behind it
-test_behind : (new x : Attachment) → is_below new.block new.pointer x ≡ false → is_of new.block new.pointer x ≡ false → is_before new x ≡ true
-test_behind new x e o = test_before new x (behind x new e (go (x.block == new.block) refl o))
-  where
-    go : (s : Bool) → (x.block == new.block) ≡ s → (s && (x.pointer == new.pointer)) ≡ false → is_of x.block x.pointer new ≡ false
-    go true f k = rw (equal_swap new.block x.block) (rw f (equal_swap new.pointer x.pointer ∙ k))
-    go false f k = rw (equal_swap new.block x.block) (rw f)
-
--- and one that stands before it does not stand behind it
-test_not_behind : (new x : Attachment) → is_below new.block new.pointer x ≡ true → is_before new x ≡ false
-test_not_behind new x e = go (is_before new x) refl
-  where
-    not_self : IsBefore x x → ⊥
-    not_self (inl h) = omega (arith, h)
-    not_self (inr h) = omega (arith, h.1)
-
-    go : (t : Bool) → is_before new x ≡ t → t ≡ false
-    go true f = absurd (not_self (before-trans x new x (before x new e) (before new x f)))
-    go false f = refl
-
--- a counter that passes the test of standing before a pointer is not its own
-not_of : (block pointer : ℕ) (a : Attachment) → is_below block pointer a ≡ true → is_of block pointer a ≡ false
-not_of block pointer a e = not_of_below block pointer a (before a (probe block pointer) e)
-
--- taking out what is not there leaves all
-none_without : (block pointer : ℕ) (xs : List Attachment) → AllByRecursion (λ x. is_of block pointer x ≡ false) xs → without_attachment block pointer xs ≡ xs
-none_without block pointer xs h = filter-kept (λ a. not (is_of block pointer a)) xs (AllByRecursion-weaker (λ x. is_of block pointer x ≡ false) (λ x. not (is_of block pointer x) ≡ true) xs (λ x e. rw e refl) h)
-
--- behind the counter of a pointer there is none of it
-none_behind : (block pointer : ℕ) (x : Attachment) (xs : List Attachment) → is_of block pointer x ≡ true → AllByRecursion (IsBefore x) xs → AllByRecursion (λ y. is_of block pointer y ≡ false) xs
-none_behind block pointer x xs e h = AllByRecursion-weaker (IsBefore x) (λ y. is_of block pointer y ≡ false) xs (λ y k. before-other block pointer x y k e) h
-
--- a counter that is new stands at its place
-insert_at : (new : Attachment) (xs : List Attachment) (i : ℕ) → AllByRecursion (λ x. is_below new.block new.pointer x ≡ true) (take i xs) → AllByRecursion (λ x. is_below new.block new.pointer x ≡ false) (drop i xs) → AllByRecursion (λ x. is_of new.block new.pointer x ≡ false) xs → with_attachment new xs ≡ insert xs i new
-insert_at new xs i p f h = put-insert (put_attachment new) xs i
-    (AllByRecursion-weaker (λ x. is_below new.block new.pointer x ≡ true) (λ x. is_before new x ≡ false) (take i xs) (λ x e. test_not_behind new x e) p)
-    (AllByRecursion-both (λ x. is_below new.block new.pointer x ≡ false) (λ x. is_of new.block new.pointer x ≡ false) (λ x. is_before new x ≡ true) (drop i xs) (λ x e o. test_behind new x e o) f (all-drop (λ x. is_of new.block new.pointer x ≡ false) xs i h))
-
--- a counter that was zero goes in at its place
-pub counter_added : (new : Attachment) (xs : List Attachment) (i : ℕ) → 0 < new.count → find (is_of new.block new.pointer) xs ≡ None → IsSplitBy (is_below new.block new.pointer) xs i → insert xs i new ≡ with_count new.block new.pointer new.count xs
-counter_added new xs i some none parts =
-    let t : (new.count == 0) ≡ false = grind (arith, nat_tests) in
-    let others = find_none (is_of new.block new.pointer) xs none in
-    sym (rw t (ap (with_attachment new) (none_without new.block new.pointer xs others) ∙ insert_at new xs i parts.passed parts.failed others))
-
--- a counter stands at its place
-pub record IsThere (block pointer : ℕ) (xs : List Attachment) (i : ℕ) (d : Attachment) : Type 0 where
-  pub bound : i < length xs
-  pub its_own : is_of block pointer (get_or xs i d) ≡ true
-
--- where a pointer has a counter, it stands at its place
-pub counter_there : (block pointer : ℕ) (xs : List Attachment) (i : ℕ) (d : Attachment) → EachPair IsBefore xs → IsSplitBy (is_below block pointer) xs i → IsSome (find (is_of block pointer) xs) → IsThere block pointer xs i d
-counter_there block pointer xs i d h parts some = go xs i h parts.passed parts.failed some
-  where
-    go : (ys : List Attachment) (j : ℕ) → EachPair IsBefore ys → AllByRecursion (λ y. is_below block pointer y ≡ true) (take j ys) → AllByRecursion (λ y. is_below block pointer y ≡ false) (drop j ys) → IsSome (find (is_of block pointer) ys) → IsThere block pointer ys j d
-    go [] j r p f s = absurd (search (rules, s))
-    go (y ∷ ys) zero r p f s = first (is_of block pointer y) refl s
-      where
-        first : (b : Bool) → is_of block pointer y ≡ b → IsSome (cond b (Some y) (find (is_of block pointer) ys)) → IsThere block pointer (y ∷ ys) zero d
-        first true e k = record { bound = omega arith; its_own = e }
-        first false e k =
-            let none : find (is_of block pointer) ys ≡ None = find-none (is_of block pointer) ys (AllByRecursion-weaker (IsBefore y) (λ z. is_of block pointer z ≡ false) ys (λ z l. not_of_behind block pointer y z (at_or_behind block pointer y f.0) e l) r.0) in
-            absurd (search (rules, rw none at k))
-    go (y ∷ ys) (suc j) r p f s = let later = go ys j r.1 p.1 f (rw (not_of block pointer y p.0) at s) in record { bound = omega (arith, later.bound); its_own = later.its_own }
-
--- a counter is taken out at its place
-pub counter_removed : (block pointer : ℕ) (xs : List Attachment) (i : ℕ) (d : Attachment) → EachPair IsBefore xs → IsSplitBy (is_below block pointer) xs i → IsThere block pointer xs i d → remove xs i ≡ without_attachment block pointer xs
-counter_removed block pointer xs i d h parts is = sym (go xs i h parts.passed is.bound is.its_own)
-  where
-    go : (ys : List Attachment) (j : ℕ) → EachPair IsBefore ys → AllByRecursion (λ y. is_below block pointer y ≡ true) (take j ys) → j < length ys → is_of block pointer (get_or ys j d) ≡ true → without_attachment block pointer ys ≡ remove ys j
-    go [] j r p lt e = absurd (omega arith)
-    go (y ∷ ys) zero r p lt e = rw e (none_without block pointer ys (none_behind block pointer y ys e r.0))
-    go (y ∷ ys) (suc j) r p lt e = rw (not_of block pointer y p.0) (ap (λ zs. y ∷ zs) (go ys j r.1 p.1 (omega arith) e))
-
--- a counter that stands before all others goes in first
-first_with : (new : Attachment) (xs : List Attachment) → AllByRecursion (λ x. is_before new x ≡ true) xs → with_attachment new xs ≡ new ∷ xs
-first_with new [] h = refl
-first_with new (x ∷ xs) h = rw h.0
-
--- what stands behind the counter of a pointer stands behind any other counter of it
-before_same : (new x y : Attachment) → is_of new.block new.pointer x ≡ true → IsBefore x y → is_before new y ≡ true
-before_same new x y e h = test_before new y (go h)
-  where
-    go : IsBefore x y → IsBefore new y
-    go (inl k) = let block = same_block new.block new.pointer x e in inl (omega (arith, k))
-    go (inr k) = let block = same_block new.block new.pointer x e in let pointer = same_pointer new.block new.pointer x e in inr (sym block ∙ k.0, omega (arith, k.1))
-
--- a counter gets another value at its place
-pub counter_changed : (new : Attachment) (xs : List Attachment) (i : ℕ) (d : Attachment) → 0 < new.count → EachPair IsBefore xs → IsSplitBy (is_below new.block new.pointer) xs i → IsThere new.block new.pointer xs i d → set xs i new ≡ with_count new.block new.pointer new.count xs
-counter_changed new xs i d some h parts is = let t : (new.count == 0) ≡ false = grind (arith, nat_tests) in sym (rw t (go xs i h parts.passed is.bound is.its_own))
-  where
-    go : (ys : List Attachment) (j : ℕ) → EachPair IsBefore ys → AllByRecursion (λ y. is_below new.block new.pointer y ≡ true) (take j ys) → j < length ys → is_of new.block new.pointer (get_or ys j d) ≡ true → with_attachment new (without_attachment new.block new.pointer ys) ≡ set ys j new
-    go [] j r p lt e = absurd (omega arith)
-    go (y ∷ ys) zero r p lt e = rw e (ap (with_attachment new) (none_without new.block new.pointer ys (none_behind new.block new.pointer y ys e r.0)) ∙ first_with new ys (AllByRecursion-weaker (IsBefore y) (λ z. is_before new z ≡ true) ys (λ z k. before_same new y z e k) r.0))
-    go (y ∷ ys) (suc j) r p lt e = rw (not_of new.block new.pointer y p.0) (rw (test_not_behind new y p.0) (ap (λ zs. y ∷ zs) (go ys j r.1 p.1 (omega arith) e)))

@@ -1,6 +1,26 @@
--- How the attachment counters are searched. No public clause cites this module.
-use Rattle.std.specs.Prelude.{ℕ, Bool, not, ◌&&◌, ◌||◌, nat_lt, ◌==◌}
+-- How the attachment counters are kept: each count under a key, which is its block and its pointer in one number. No public clause cites this module.
+use Rattle.std.specs.Prelude.{ℕ, ◌+◌, ◌*◌, ◌/◌, ◌%◌, ◌^◌, Bool, not, ◌&&◌, ◌||◌, nat_lt, ◌==◌, List, map}
 use Rattle.acc_base.specs.declared.attachments.Attachment.{Attachment}
+use Rattle.acc_tree.specs.declared.entries.Entry.{Entry}
+
+-- the counters, and how many more can be taken in without memory
+pub record CountersState : Type 0 where
+  pub counters : List Attachment
+  pub room : ℕ
+
+-- the key of the counter of a pointer in a block
+abbrev pub key_of : ℕ → ℕ → ℕ
+key_of block pointer = block * 2 ^ 64 + pointer
+
+-- the counter of an entry
+abbrev pub counter_in : Entry ℕ → Attachment
+counter_in e = record { block = e.key / 2 ^ 64; pointer = e.key % 2 ^ 64; count = e.value }
+
+-- the counters of some entries
+abbrev pub counters_in : List (Entry ℕ) → List Attachment
+counters_in entries = map counter_in entries
+
+-- ---- a search
 
 -- the counter stands before that of this pointer
 abbrev pub is_below : ℕ → ℕ → Attachment → Bool

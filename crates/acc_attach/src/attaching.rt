@@ -4,9 +4,9 @@ ghost use Rattle.std.specs.Prelude.{◌≡◌, ◌+◌, ◌^◌, ◌<◌, ◌≤
 ghost use Rattle.acc_base.specs.Attachments.{count_at, with_count, attach, detach, attached_by, without_attachments, is_skipped, next_pointer};
 ghost use Rattle.acc_attach.specs.Attached.{AreAttached, left_of};
 
-use crate::counters::{add, count_of, next_of, set, skips, take_out, take_out_all};
+use crate::counters::Counters;
 use crate::left::Left;
-use acc_base::{Aim, Attachment, Fault};
+use acc_base::{Aim, Fault};
 use std::alloc::Global;
 use std::marker::Model;
 
@@ -18,27 +18,25 @@ use std::marker::Model;
 /// Contracts see the counters above zero, and beside them for how many more of them there is room. A refused call
 /// leaves the counters as they were. Only `attach` and `reserve` take memory.
 ///
-/// Counters are searched for by halves. One that becomes one or zero moves those of later pointers.
+/// Counters are searched for by halves. One that becomes one or zero moves few of the others, however many there are.
 #[derive(Drop)]
 pub struct Attached {
     counter_max: u64,
-    // By rising block, and then by rising pointer.
-    attached: Vec<Attachment>,
+    counters: Counters,
 }
 
 impl Model for Attached {
-    ghost use Rattle.std.specs.Prelude.{◌-◌, vec_len, vec_capacity};
     ghost use Rattle.acc_attach.specs.Attached.{AttachedState, AreAttached};
 
     ghost Value = { AttachedState };
 
     ghost view = { λ a. record {
       counter_max = a.counter_max;
-      attached = a.attached.items;
-      spare = vec_capacity a.attached - vec_len a.attached;
+      attached = a.counters.counters;
+      spare = a.counters.room;
     } };
 
-    ghost invariant = { λ a. AreAttached a.counter_max a.attached.items };
+    ghost invariant = { λ a. AreAttached a.counter_max a.counters.counters };
 }
 
 impl Attached {
@@ -52,7 +50,7 @@ impl Attached {
     {
         Attached {
             counter_max,
-            attached: Vec::new(alloc),
+            counters: Counters::new(alloc),
         }
     }
 
@@ -61,14 +59,14 @@ impl Attached {
     pub fn laws(&self)
         ensures { AreAttached self.now.counter_max self.now.attached }
     {
-        let _ = &self.attached;
+        let _ = &self.counters;
     }
 
     /// How often a pointer of a block is attached. `pointer` is its host address.
     pub fn count(&self, block: u64, pointer: u64) -> u64
         ensures { result ≡ count_at block pointer self.now.attached }
     {
-        count_of(&self.attached, block, pointer)
+        self.counters.count(block, pointer)
     }
 
     /// Attaches a pointer of a block to a target (OpenACC 3.3, section 2.7.2): where it is attached and aimed there
@@ -93,9 +91,9 @@ impl Attached {
         ensures taken { OnOk result (self.old.spare ≤ self.new.spare + 1) }
         ensures kept { OnErr result (self.old.spare ≤ self.new.spare) }
     {
-        let count = count_of(&self.attached, block, pointer);
+        let count = self.counters.count(block, pointer);
         if count == 0 {
-            self.attached.reserve(1)?;
+            self.counters.reserve(1)?;
         } else if now == target && self.counter_max <= count {
             return Err(Fault::CounterFull { item: 0 });
         }
@@ -112,7 +110,7 @@ impl Attached {
         ensures counter_max { self.new.counter_max ≡ self.old.counter_max }
         ensures spare { self.old.spare ≤ self.new.spare + 1 }
     {
-        if count_of(&self.attached, block, pointer) > 0 && now == target {
+        if self.counters.count(block, pointer) > 0 && now == target {
             self.aim_again(block, pointer);
             return Aim::Again { pointer, block };
         }
@@ -132,10 +130,10 @@ impl Attached {
         ensures counter_max { self.new.counter_max ≡ self.old.counter_max }
         ensures spare { self.old.spare ≤ self.new.spare + 1 }
     {
-        if count_of(&self.attached, block, pointer) == 0 {
-            add(&mut self.attached, block, pointer);
+        if self.counters.count(block, pointer) == 0 {
+            self.counters.add(block, pointer);
         } else {
-            set(&mut self.attached, block, pointer, 1);
+            self.counters.set(block, pointer, 1);
         }
     }
 
@@ -147,8 +145,8 @@ impl Attached {
         ensures counter_max { self.new.counter_max ≡ self.old.counter_max }
         ensures spare { self.old.spare ≤ self.new.spare }
     {
-        let count = count_of(&self.attached, block, pointer);
-        set(&mut self.attached, block, pointer, count + 1);
+        let count = self.counters.count(block, pointer);
+        self.counters.set(block, pointer, count + 1);
     }
 
     /// Detaches a pointer of a block (OpenACC 3.3, section 2.7.2): its counter falls by one, or stays zero. `pointer` is
@@ -159,11 +157,11 @@ impl Attached {
         ensures counter_max { self.new.counter_max ≡ self.old.counter_max }
         ensures spare { self.old.spare ≤ self.new.spare }
     {
-        let count = count_of(&self.attached, block, pointer);
+        let count = self.counters.count(block, pointer);
         if count <= 1 {
             return self.detach_now(block, pointer);
         }
-        set(&mut self.attached, block, pointer, count - 1);
+        self.counters.set(block, pointer, count - 1);
         Left::Less
     }
 
@@ -174,10 +172,10 @@ impl Attached {
         ensures counter_max { self.new.counter_max ≡ self.old.counter_max }
         ensures spare { self.old.spare ≤ self.new.spare }
     {
-        if count_of(&self.attached, block, pointer) == 0 {
+        if self.counters.count(block, pointer) == 0 {
             return Left::Nothing;
         }
-        take_out(&mut self.attached, block, pointer);
+        self.counters.take_out(block, pointer);
         Left::Zero
     }
 
@@ -187,7 +185,7 @@ impl Attached {
         ensures counter_max { self.new.counter_max ≡ self.old.counter_max }
         ensures spare { self.old.spare ≤ self.new.spare }
     {
-        take_out_all(&mut self.attached, block);
+        self.counters.take_out_all(block);
     }
 
     // ---- transfers
@@ -197,7 +195,7 @@ impl Attached {
     pub fn is_skipped(&self, block: u64, address: u64) -> bool
         ensures { result ≡ is_skipped block self.now.attached address }
     {
-        skips(&self.attached, block, address)
+        self.counters.skips(block, address)
     }
 
     /// The least host address, from one on, at which an attached pointer of a block begins, so that a transfer goes from
@@ -205,7 +203,7 @@ impl Attached {
     pub fn next_pointer(&self, block: u64, from: u64) -> Option<u64>
         ensures { result ≡ next_pointer block from self.now.attached }
     {
-        next_of(&self.attached, block, from)
+        self.counters.next(block, from)
     }
 
     // ---- room
@@ -223,7 +221,6 @@ impl Attached {
         ensures counter_max { self.new.counter_max ≡ self.old.counter_max }
         ensures spare { self.old.spare ≤ self.new.spare }
     {
-        self.attached.reserve(count as usize)?;
-        Ok(())
+        self.counters.reserve(count)
     }
 }

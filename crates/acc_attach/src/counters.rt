@@ -1,25 +1,56 @@
-//! The counters as a list by rising block and pointer, which is searched by halves.
+//! The counters by rising block and pointer, each found by halves.
 
-ghost use Rattle.std.specs.Prelude.{◌≡◌, ◌+◌, ◌<◌, ◌≤◌, ◌++◌, length, take, drop, find, nat_lt, nat_le, None, Some, IsSome, ◌&&◌, ◌==◌, vec_len, vec_capacity};
+ghost use Rattle.std.specs.Prelude.{◌≡◌, ◌+◌, ◌<◌, ◌≤◌, ◌&&◌, ◌==◌, [], find, nat_le, None, IsSome, OnOk, OnErr, IfErr};
 ghost use Rattle.acc_base.specs.Accounts.{EachPair};
 ghost use Rattle.acc_base.specs.Attachments.{IsBefore, is_of, count_at, with_count, without_attachment, without_attachments, is_skipped, next_pointer};
-ghost use Rattle.acc_base.specs.Splits.{IsSplitBy};
-ghost use Rattle.acc_attach.specs.Kept.{is_below, is_from};
+ghost use Rattle.acc_tree.specs.Listing.{at_key, first_from};
+ghost use Rattle.acc_attach.specs.Kept.{is_from, counter_in, key_of as key_for};
 
-use acc_base::Attachment;
+use acc_base::{Attachment, Fault};
+use acc_rows::{Place, Rows};
+use acc_tree::Entry;
+use std::alloc::Global;
+use std::marker::Model;
 
-/// It is the counter of this pointer in the block.
-fn is_of(counter: Attachment, block: u64, pointer: u64) -> bool
-    ensures { result ≡ is_of block pointer counter }
+/// The keys of two blocks that follow one another lie so far apart: one for each host address.
+const ADDRESSES: u128 = 0x1_0000_0000_0000_0000;
+
+/// The key of the counter of a pointer in a block.
+fn key_of(block: u64, pointer: u64) -> u128
+    ensures { result ≡ key_for block pointer }
 {
-    counter.block == block && counter.pointer == pointer
+    u128::from(block) * ADDRESSES + u128::from(pointer)
 }
 
-/// The counter stands before that of this pointer in the block.
-fn is_below(counter: Attachment, block: u64, pointer: u64) -> bool
-    ensures { result ≡ is_below block pointer counter }
+/// The entry of a key, if there is one.
+fn entry_of(rows: &Rows<u64>, key: u128) -> Option<Entry<u64>>
+    ensures { result ≡ at_key key rows.now.entries }
 {
-    counter.block < block || counter.block == block && counter.pointer < pointer
+    match rows.get(key, Place::default()) {
+        Some(entry) => Some(*entry),
+        None => None,
+    }
+}
+
+/// The entry of least key from a key on, if there is one.
+fn entry_from(rows: &Rows<u64>, key: u128) -> Option<Entry<u64>>
+    ensures { result ≡ first_from key rows.now.entries }
+{
+    match rows.next(key) {
+        Some(entry) => Some(*entry),
+        None => None,
+    }
+}
+
+/// The counter of an entry.
+fn to_counter(entry: Entry<u64>) -> Attachment
+    ensures { result ≡ counter_in entry }
+{
+    Attachment {
+        block: (entry.key / ADDRESSES) as u64,
+        pointer: (entry.key % ADDRESSES) as u64,
+        count: entry.value,
+    }
 }
 
 /// The counter is of a pointer of the block that begins at or below an address.
@@ -29,157 +60,129 @@ fn begins_by(counter: Attachment, block: u64, address: u64) -> bool
     counter.block == block && counter.pointer <= address
 }
 
-/// The place of the counter of a pointer, or the place at which it would stand.
-fn place_of(attached: &[Attachment], block: u64, pointer: u64) -> usize
-    requires { EachPair IsBefore attached.now }
-    ensures { IsSplitBy (is_below block pointer) attached.now result }
-{
-    attached.partition_point(|a| is_below(*a, block, pointer))
+/// The counters above zero, and room for more of them.
+#[derive(Drop)]
+pub struct Counters {
+    // Each count stands under the key of its pointer.
+    rows: Rows<u64>,
 }
 
-/// The counter of the first pointer of a block at or above an address, or else the first counter of a later block.
-fn first_from(attached: &[Attachment], block: u64, pointer: u64) -> Option<Attachment>
-    requires { EachPair IsBefore attached.now }
-    ensures { result ≡ find (is_from block pointer) attached.now }
-{
-    let at = place_of(attached, block, pointer);
-    if at < attached.len() {
-        Some(attached[at])
-    } else {
-        None
+impl Model for Counters {
+    ghost use Rattle.acc_attach.specs.Kept.{CountersState, counters_in};
+
+    ghost Value = { CountersState };
+
+    ghost view = { λ c. record { counters = counters_in c.rows.entries; room = c.rows.room } };
+}
+
+impl Counters {
+    /// No counter. It needs no memory.
+    pub fn new(alloc: Global) -> Counters
+        ensures { result.counters ≡ [] }
+    {
+        Counters {
+            rows: Rows::new(alloc),
+        }
     }
-}
 
-/// How often a pointer of a block is attached.
-pub fn count_of(attached: &[Attachment], block: u64, pointer: u64) -> u64
-    requires { EachPair IsBefore attached.now }
-    ensures { result ≡ count_at block pointer attached.now }
-{
-    let Some(counter) = first_from(attached, block, pointer) else {
-        return 0;
-    };
-    if is_of(counter, block, pointer) {
-        counter.count
-    } else {
-        0
+    /// Makes room for `count` more counters. It is refused only where that room was missing.
+    pub fn reserve(&mut self, count: u64) -> Result<(), Fault>
+        ensures counters { self.new.counters ≡ self.old.counters }
+        ensures ok { OnOk result (count ≤ self.new.room) }
+        ensures only { IfErr result (λ fault. fault ≡ Fault.Memory) }
+        ensures needed { OnErr result (self.old.room < count) }
+        ensures room { self.old.room ≤ self.new.room }
+    {
+        self.rows.reserve(count)
     }
-}
 
-/// The least address, from one on, at which an attached pointer of a block begins.
-pub fn next_of(attached: &[Attachment], block: u64, from: u64) -> Option<u64>
-    requires { EachPair IsBefore attached.now }
-    ensures { result ≡ next_pointer block from attached.now }
-{
-    let counter = first_from(attached, block, from)?;
-    if counter.block == block {
-        Some(counter.pointer)
-    } else {
-        None
+    /// How often a pointer of a block is attached.
+    pub fn count(&self, block: u64, pointer: u64) -> u64
+        ensures { result ≡ count_at block pointer self.now.counters }
+    {
+        match entry_of(&self.rows, key_of(block, pointer)) {
+            Some(entry) => entry.value,
+            None => 0,
+        }
     }
-}
 
-/// The address is one of the eight bytes of an attached pointer of the block.
-pub fn skips(attached: &[Attachment], block: u64, address: u64) -> bool
-    requires { EachPair IsBefore attached.now }
-    ensures { result ≡ is_skipped block attached.now address }
-{
-    // A pointer that begins more than seven bytes below ends before the address.
-    match first_from(attached, block, address.saturating_sub(7)) {
-        Some(counter) => begins_by(counter, block, address),
-        None => false,
+    /// The counter of the first pointer of a block at or above an address, or else the first counter of a later block.
+    fn first_from(&self, block: u64, pointer: u64) -> Option<Attachment>
+        ensures found { result ≡ find (is_from block pointer) self.now.counters }
+        ensures rising { EachPair IsBefore self.now.counters }
+    {
+        self.rows.laws();
+        match entry_from(&self.rows, key_of(block, pointer)) {
+            Some(entry) => Some(to_counter(entry)),
+            None => None,
+        }
     }
-}
 
-/// A counter that was zero is one, where there is room for it.
-pub fn add(attached: &mut Vec<Attachment>, block: u64, pointer: u64)
-    requires rising { EachPair IsBefore attached.old.items }
-    requires new { find (is_of block pointer) attached.old.items ≡ None }
-    requires room { vec_len attached.old < vec_capacity attached.old }
-    ensures attached { attached.new.items ≡ with_count block pointer 1 attached.old.items }
-    ensures len { vec_len attached.new ≡ vec_len attached.old + 1 }
-    ensures capacity { vec_capacity attached.old ≤ vec_capacity attached.new }
-{
-    let at = place_of(attached, block, pointer);
-    let new = Attachment {
-        block,
-        pointer,
-        count: 1,
-    };
-    let _ = attached.insert(at, new);
-}
-
-/// Gives a counter that is not zero another value, which is not zero.
-pub fn set(attached: &mut Vec<Attachment>, block: u64, pointer: u64, count: u64)
-    requires rising { EachPair IsBefore attached.old.items }
-    requires some { 0 < count }
-    requires there { IsSome (find (is_of block pointer) attached.old.items) }
-    ensures attached { attached.new.items ≡ with_count block pointer count attached.old.items }
-    ensures len { vec_len attached.new ≡ vec_len attached.old }
-    ensures capacity { vec_capacity attached.new ≡ vec_capacity attached.old }
-{
-    let at = place_of(attached, block, pointer);
-    attached[at] = Attachment {
-        block,
-        pointer,
-        count,
-    };
-}
-
-/// Takes out a counter, which then is zero.
-pub fn take_out(attached: &mut Vec<Attachment>, block: u64, pointer: u64)
-    requires rising { EachPair IsBefore attached.old.items }
-    requires there { IsSome (find (is_of block pointer) attached.old.items) }
-    ensures attached { attached.new.items ≡ without_attachment block pointer attached.old.items }
-    ensures len { vec_len attached.new + 1 ≡ vec_len attached.old }
-    ensures capacity { vec_capacity attached.new ≡ vec_capacity attached.old }
-{
-    let at = place_of(attached, block, pointer);
-    attached.remove(at);
-}
-
-/// The place of the first counter of a block, or the place at which it would stand.
-fn first_of(attached: &[Attachment], block: u64) -> usize
-    requires { EachPair IsBefore attached.now }
-    ensures { IsSplitBy (λ a. nat_lt a.block block) attached.now result }
-{
-    attached.partition_point(|a| a.block < block)
-}
-
-/// The place of the first counter of a later block, or how many counters there are.
-fn first_behind(attached: &[Attachment], block: u64) -> usize
-    requires { EachPair IsBefore attached.now }
-    ensures { IsSplitBy (λ a. nat_le a.block block) attached.now result }
-{
-    attached.partition_point(|a| a.block <= block)
-}
-
-/// Where the counters of a block stand.
-struct Run {
-    first: usize,
-    behind: usize,
-}
-
-/// Where the counters of a block stand.
-fn run_of(attached: &[Attachment], block: u64) -> Run
-    requires { EachPair IsBefore attached.now }
-    ensures order { result.first ≤ result.behind }
-    ensures bound { result.behind ≤ length attached.now }
-    ensures others { take result.first attached.now ++ drop result.behind attached.now ≡ without_attachments block attached.now }
-{
-    Run {
-        first: first_of(attached, block),
-        behind: first_behind(attached, block),
+    /// The least address, from one on, at which an attached pointer of a block begins.
+    pub fn next(&self, block: u64, from: u64) -> Option<u64>
+        ensures { result ≡ next_pointer block from self.now.counters }
+    {
+        let counter = self.first_from(block, from)?;
+        if counter.block == block {
+            Some(counter.pointer)
+        } else {
+            None
+        }
     }
-}
 
-/// Takes out the counters of a block. Those behind move once, together.
-pub fn take_out_all(attached: &mut Vec<Attachment>, block: u64)
-    requires rising { EachPair IsBefore attached.old.items }
-    ensures attached { attached.new.items ≡ without_attachments block attached.old.items }
-    ensures len { vec_len attached.new ≤ vec_len attached.old }
-    ensures capacity { vec_capacity attached.new ≡ vec_capacity attached.old }
-{
-    let Run { first, behind } = run_of(attached, block);
-    attached.copy_within(behind.., first);
-    attached.truncate(attached.len() - (behind - first));
+    /// The address is one of the eight bytes of an attached pointer of the block.
+    pub fn skips(&self, block: u64, address: u64) -> bool
+        ensures { result ≡ is_skipped block self.now.counters address }
+    {
+        // A pointer that begins more than seven bytes below ends before the address.
+        match self.first_from(block, address.saturating_sub(7)) {
+            Some(counter) => begins_by(counter, block, address),
+            None => false,
+        }
+    }
+
+    /// A counter that was zero is one, where there is room for it.
+    pub fn add(&mut self, block: u64, pointer: u64)
+        requires new { find (is_of block pointer) self.old.counters ≡ None }
+        requires room { 1 ≤ self.old.room }
+        ensures counters { self.new.counters ≡ with_count block pointer 1 self.old.counters }
+        ensures room { self.old.room ≤ self.new.room + 1 }
+    {
+        self.rows.insert(Entry {
+            key: key_of(block, pointer),
+            size: 0,
+            value: 1,
+        });
+    }
+
+    /// Gives a counter that is not zero another value, which is not zero.
+    pub fn set(&mut self, block: u64, pointer: u64, count: u64)
+        requires some { 0 < count }
+        requires there { IsSome (find (is_of block pointer) self.old.counters) }
+        ensures counters { self.new.counters ≡ with_count block pointer count self.old.counters }
+        ensures room { self.old.room ≤ self.new.room }
+    {
+        self.rows.laws();
+        self.rows
+            .set(key_of(block, pointer), count, Place::default());
+    }
+
+    /// Takes out a counter, which then is zero.
+    pub fn take_out(&mut self, block: u64, pointer: u64)
+        requires { IsSome (find (is_of block pointer) self.old.counters) }
+        ensures counters { self.new.counters ≡ without_attachment block pointer self.old.counters }
+        ensures room { self.old.room ≤ self.new.room }
+    {
+        self.rows.remove(key_of(block, pointer), Place::default());
+    }
+
+    /// Takes out the counters of a block.
+    pub fn take_out_all(&mut self, block: u64)
+        ensures counters { self.new.counters ≡ without_attachments block self.old.counters }
+        ensures room { self.old.room ≤ self.new.room }
+    {
+        while let Some(pointer) = self.next(block, 0) {
+            self.take_out(block, pointer);
+        }
+    }
 }

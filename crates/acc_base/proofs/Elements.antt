@@ -120,6 +120,11 @@ pub filter-kept : {X : Type 0} (p : X → Bool) (xs : List X) → AllByRecursion
 filter-kept p [] h = refl
 filter-kept p (x ∷ xs) h = rw h.0 (ap (λ ys. x ∷ ys) (filter-kept p xs h.1))
 
+-- and one that none passes leaves none
+pub filter-none : {X : Type 0} (p : X → Bool) (xs : List X) → AllByRecursion (λ x. p x ≡ false) xs → filter p xs ≡ []
+filter-none p [] h = refl
+filter-none p (x ∷ xs) h = rw h.0 (filter-none p xs h.1)
+
 -- an element that a search finds has what all have
 pub found_has : {X : Type 0} (P : X → Type 0) (p : X → Bool) (xs : List X) (x : X) → AllByRecursion P xs → find p xs ≡ Some x → P x × (p x ≡ true)
 found_has P p [] x h e = cc

@@ -1,12 +1,16 @@
 -- Lists of ranges, with one more and with one whose counters change: what all have, and that section and block stay.
-use Rattle.std.proofs.Common.{ℕ, ◌≡◌, refl, Bool, true, false, cond, List}
-use Rattle.std.specs.Prelude.{◌==◌, nat_lt}
+use Rattle.std.proofs.Common.{ℕ, ◌≡◌, ◌<◌, ◌≤◌, refl, Bool, true, false, cond, List, [], ◌∷◌, arith}
+use Rattle.std.specs.Prelude.{◌⊎◌, ◌==◌, nat_lt}
+use Rattle.std.proofs.lemmas.Bool.Decides.{nat_tests}
 use Rattle.std.specs.List.{AllByRecursion}
-use Rattle.acc_base.specs.Words.{Counter, Range}
+use Rattle.acc_base.specs.Words.{Section, Counter, Range}
+use Rattle.acc_base.specs.Section.{is_apart, end_of}
+use Rattle.acc_base.specs.Accounts.{EachPair, IsBelow}
 use Rattle.acc_base.specs.declared.mappings.Counter.TheVariants.{Structured, Dynamic}
 use Rattle.acc_base.specs.Ranges.{with_range, risen, fallen, cleared}
 use Rattle.acc_base.proofs.Lookups.{change_at, number-change}
-use Rattle.acc_base.proofs.InPlace.{IsPut, all-put}
+use Rattle.acc_base.proofs.InPlace.{IsPut, all-put, pairs-put}
+use Rattle.acc_base.proofs.Elements.{AllByRecursion-weaker, AllByRecursion-both}
 
 -- ---- one range more
 
@@ -17,6 +21,26 @@ put_range new = record { alone = refl; among = λ r rs. refl }
 -- what all ranges have and the new one, all have then
 pub all_with : (P : Range → Type 0) (new : Range) (rs : List Range) → P new → AllByRecursion P rs → AllByRecursion P (with_range new rs)
 all_with P new rs n h = all-put (put_range new) P rs n h
+
+-- what each two ranges have, and each with a new one on either side
+pub apart_with : (R : Range → Range → Type 0) (new : Range) (rs : List Range) → AllByRecursion (λ r. R new r × R r new) rs → EachPair R rs → EachPair R (with_range new rs)
+apart_with R new [] a h = (tt, tt)
+apart_with R new (r ∷ rs) a h = elim (nat_lt new.section.start r.section.start) as (λ b. EachPair R (cond b (new ∷ r ∷ rs) (r ∷ with_range new rs))) [
+  | true ↦ ((a.0.0, AllByRecursion-weaker (λ t. R new t × R t new) (R new) rs (λ t p. p.0) a.1), h)
+  | false ↦ (all_with (R r) new rs a.0.1 h.0, apart_with R new rs a.1 h.1)
+]
+
+below_apart : (s t : Section) → is_apart s t ≡ true → (end_of s ≤ t.start) ⊎ (end_of t ≤ s.start)
+below_apart s t e = grind (arith, nat_tests)
+
+-- a section apart from all goes where it rises
+pub rising_with : (new : Range) (rs : List Range) → 0 < new.section.len → AllByRecursion (λ (r : Range). 0 < r.section.len) rs → AllByRecursion (λ r. is_apart new.section r.section ≡ true) rs
+    → EachPair (λ (r : Range) (t : Range). IsBelow r.section t.section) rs → EachPair (λ (r : Range) (t : Range). IsBelow r.section t.section) (with_range new rs)
+rising_with new rs some filled a h = pairs-put (put_range new) (λ (r : Range) (t : Range). IsBelow r.section t.section) (λ r t below next. omega arith) rs
+    (AllByRecursion-both (λ (r : Range). 0 < r.section.len) (λ r. is_apart new.section r.section ≡ true) (λ r. (nat_lt new.section.start r.section.start ≡ true → IsBelow new.section r.section) × (nat_lt new.section.start r.section.start ≡ false → IsBelow r.section new.section)) rs (λ r len apart. sides r len apart) filled a) h
+  where
+    sides : (r : Range) → 0 < r.section.len → is_apart new.section r.section ≡ true → (nat_lt new.section.start r.section.start ≡ true → IsBelow new.section r.section) × (nat_lt new.section.start r.section.start ≡ false → IsBelow r.section new.section)
+    sides r len apart = let either : (end_of new.section ≤ r.section.start) ⊎ (end_of r.section ≤ new.section.start) = below_apart new.section r.section apart in (λ e. grind (arith, nat_tests), λ e. grind (arith, nat_tests))
 
 -- ---- a change of the range of one block
 

@@ -1,6 +1,6 @@
 -- What is open after a region is entered or left: numbers that rise, and how often a block is held.
 use Rattle.std.proofs.Common.{ℕ, ◌≡◌, ◌+◌, ◌<◌, ◌≤◌, refl, sym, ◌∙◌, ap, subst, Bool, true, false, cond, List, [], ◌∷◌, ◌++◌, length, Some, arith, length-append}
-use Rattle.std.specs.Prelude.{◌==◌, not, nat_lt, filter, option_map}
+use Rattle.std.specs.Prelude.{◌==◌, not, nat_lt, filter, option_map, IsSome}
 use Rattle.std.specs.List.{AllByRecursion}
 use Rattle.std.proofs.lemmas.Bool.Decides.{nat_tests}
 use Rattle.std.proofs.lemmas.List.Sums.{sum_by-cons, sum_by_push}
@@ -108,6 +108,22 @@ held_without b number holdings (r ∷ rs) h e = go (held_without b number holdin
         let later : held_in b rs ≡ held_in b (without_region number rs) + count_held b holdings = rest q in
         let kept : held_in b (r ∷ without_region number rs) ≡ count_held b r.holdings + held_in b (without_region number rs) = sum_by-cons (λ (t : Region). count_held b t.holdings) r (without_region number rs) in
         all_of ∙ omega arith
+
+-- an exit leaves one region fewer open
+one_without : (number : ℕ) (rs : List Region) → EachPair (λ (r : Region) (t : Region). r.number < t.number) rs → IsSome (holdings_at number rs) → length (without_region number rs) + 1 ≡ length rs
+one_without number [] h there = absurd cc
+one_without number (r ∷ rs) h there = go (one_without number rs h.1) (r.number == number) refl there
+  where
+    go : (IsSome (holdings_at number rs) → length (without_region number rs) + 1 ≡ length rs) → (t : Bool) → (r.number == number) ≡ t
+        → IsSome (option_map (λ (x : Region). x.holdings) (cond t (Some r) (region_at number rs))) → length (cond (not t) (r ∷ without_region number rs) (without_region number rs)) + 1 ≡ length (r ∷ rs)
+    go rest true e q =
+        let others : without_region number rs ≡ rs = no_region_without number rs (subst (λ n. AllByRecursion (λ (t : Region). n < t.number) rs) (equal _ _ e) h.0) in
+        let left : length (without_region number rs) ≡ length rs = ap (λ (xs : List Region). length xs) others in
+        omega arith
+    go rest false e q = let later : length (without_region number rs) + 1 ≡ length rs = rest q in omega arith
+
+pub closed_one : (number : ℕ) (g : Register) → IsNumbered g → IsSome (holdings_at number g.regions) → length (closed number g).regions + 1 ≡ length g.regions
+closed_one number g h there = one_without number g.regions h.rising there
 
 pub closed_held : (b number : ℕ) (holdings : List Holding) (g : Register) → IsNumbered g → holdings_at number g.regions ≡ Some holdings → held_in b g.regions ≡ held_in b (closed number g).regions + count_held b holdings
 closed_held b number holdings g h e = held_without b number holdings g.regions h.rising e

@@ -1,6 +1,6 @@
 -- A task that was judged keeps the records sound: ranges and blocks stay apart, each range has a block of its own, and no range has both counters zero.
 use Rattle.std.proofs.Common.{ℕ, zero, suc, ◌≡◌, ◌+◌, ◌%◌, ◌<◌, ◌≤◌, refl, sym, ◌∙◌, ap, subst, Bool, true, false, cond, List, [], ◌∷◌, ◌++◌, Option, Some, None, arith}
-use Rattle.std.specs.Prelude.{◌⊎◌, ◌==◌, ◌&&◌, ◌||◌, not, nat_lt, nat_le, unwrap_or, option_map, is_some, length, replicate, IsSome, IfSome, ⊤}
+use Rattle.std.specs.Prelude.{◌⊎◌, ◌==◌, ◌&&◌, ◌||◌, not, nat_le, unwrap_or, option_map, is_some, length, replicate, IsSome, IfSome, ⊤}
 use Rattle.std.specs.List.{AllByRecursion, list_all}
 use Rattle.std.proofs.lemmas.Bool.Decides.{nat_tests}
 use Rattle.acc_base.specs.Words.{Section, Item, RegionClause, Counter, Range, Block, Attachment, Transfer, Task, Loan}
@@ -20,8 +20,7 @@ use Rattle.acc_base.specs.Accounts.{EachPair, IsHostSection, IsBelow, AreRangesA
 use Rattle.acc_base.proofs.Results.{and_true, equal}
 use Rattle.acc_base.proofs.Elements.{AllByRecursion-weaker, AllByRecursion-both, AllByRecursion-filter, AllByRecursion-passed, AllByRecursion-map, AllByRecursion-append, EachPair-filter, EachPair-push, EachPair-map, list_all-from, find_none, found_has}
 use Rattle.acc_base.proofs.Options.{still_some}
-use Rattle.acc_base.proofs.InPlace.{pairs-put}
-use Rattle.acc_base.proofs.RangeChanges.{all_with, put_range, block_of, KeepsPlace, section-change, block-change, risen_keeps, fallen_keeps, cleared_keeps}
+use Rattle.acc_base.proofs.RangeChanges.{all_with, apart_with, rising_with, block_of, KeepsPlace, section-change, block-change, risen_keeps, fallen_keeps, cleared_keeps}
 use Rattle.acc_base.proofs.Lookups.{change_at, at-changed, at-without_other, at-push_there, at-push_new, at-own, at-none}
 use Rattle.acc_base.proofs.Counting.{with_there, with_new}
 use Rattle.acc_base.proofs.Where.{absent_says}
@@ -285,26 +284,6 @@ drained_sound l [] w h = h
 drained_sound l (q ∷ qs) w h = drained_sound l qs (records_stepped q w) (stepped_sound l q w h)
 
 -- ---- a birth
-
--- what each two ranges have, and each with a new one on either side
-apart_with : (R : Range → Range → Type 0) (new : Range) (rs : List Range) → AllByRecursion (λ r. R new r × R r new) rs → EachPair R rs → EachPair R (with_range new rs)
-apart_with R new [] a h = (tt, tt)
-apart_with R new (r ∷ rs) a h = elim (nat_lt new.section.start r.section.start) as (λ b. EachPair R (cond b (new ∷ r ∷ rs) (r ∷ with_range new rs))) [
-  | true ↦ ((a.0.0, AllByRecursion-weaker (λ t. R new t × R t new) (R new) rs (λ t p. p.0) a.1), h)
-  | false ↦ (all_with (R r) new rs a.0.1 h.0, apart_with R new rs a.1 h.1)
-]
-
-below_apart : (s t : Section) → is_apart s t ≡ true → (end_of s ≤ t.start) ⊎ (end_of t ≤ s.start)
-below_apart s t e = grind (arith, nat_tests)
-
--- a section apart from all goes where it rises
-rising_with : (new : Range) (rs : List Range) → 0 < new.section.len → AllByRecursion (λ (r : Range). 0 < r.section.len) rs → AllByRecursion (λ r. is_apart new.section r.section ≡ true) rs
-    → EachPair (λ (r : Range) (t : Range). IsBelow r.section t.section) rs → EachPair (λ (r : Range) (t : Range). IsBelow r.section t.section) (with_range new rs)
-rising_with new rs some filled a h = pairs-put (put_range new) (λ (r : Range) (t : Range). IsBelow r.section t.section) (λ r t below next. omega arith) rs
-    (AllByRecursion-both (λ (r : Range). 0 < r.section.len) (λ r. is_apart new.section r.section ≡ true) (λ r. (nat_lt new.section.start r.section.start ≡ true → IsBelow new.section r.section) × (nat_lt new.section.start r.section.start ≡ false → IsBelow r.section new.section)) rs (λ r len apart. sides r len apart) filled a) h
-  where
-    sides : (r : Range) → 0 < r.section.len → is_apart new.section r.section ≡ true → (nat_lt new.section.start r.section.start ≡ true → IsBelow new.section r.section) × (nat_lt new.section.start r.section.start ≡ false → IsBelow r.section new.section)
-    sides r len apart = let either : (end_of new.section ≤ r.section.start) ⊎ (end_of r.section ≤ new.section.start) = below_apart new.section r.section apart in (λ e. grind (arith, nat_tests), λ e. grind (arith, nat_tests))
 
 -- the new block
 abbrev born_block : ℕ → ℕ → ℕ → Block

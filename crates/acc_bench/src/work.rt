@@ -179,19 +179,28 @@ pub fn write(table: &mut Table, alloc: Global, addr: u64, bytes: &[u8]) -> Resul
     Ok(())
 }
 
-/// A list of one item, allocated at its length.
+/// A list of one item.
 fn one_item<C: Copy + Drop>(
     alloc: Global,
     clause: C,
     section: Section,
 ) -> Result<List<Item<C>>, AllocError> {
+    Ok(List::from_vec(only_item(alloc, clause, section)?))
+}
+
+/// One item, allocated at its length.
+pub fn only_item<C: Copy + Drop>(
+    alloc: Global,
+    clause: C,
+    section: Section,
+) -> Result<Vec<Item<C>>, AllocError> {
     let mut items = Vec::with_capacity(alloc, 1)?;
     items.push(Item {
         clause,
         section,
         pointer: None,
     })?;
-    Ok(List::from_vec(items))
+    Ok(items)
 }
 
 /// Carries out a directive.

@@ -8,10 +8,10 @@ use std::rt::Clock;
 use std::time::{Duration, Instant};
 
 /// How many bytes are worked on: 64 MiB.
-const LEN: usize = 67_108_864;
+pub const LEN: usize = 67_108_864;
 
 /// How often each is measured; the least time counts.
-const ROUNDS: u32 = 5;
+pub const ROUNDS: u32 = 5;
 
 /// Prints how long a plain loop takes over 64 MiB, and each kernel, and the kernel beside the loop.
 pub fn run<R: Print + Clock + AllocGlobal>(rt: &R) -> Result<()> {
@@ -25,7 +25,7 @@ pub fn run<R: Print + Clock + AllocGlobal>(rt: &R) -> Result<()> {
 }
 
 /// How long the plain loop takes.
-fn measure_loop<R: Clock + AllocGlobal>(rt: &R) -> Result<Duration> {
+pub fn measure_loop<R: Clock + AllocGlobal>(rt: &R) -> Result<Duration> {
     let mut bytes = vec![in rt.alloc(); 1u8; LEN]?;
     let mut least = Duration::MAX;
     for _ in 0..ROUNDS {
@@ -51,7 +51,7 @@ fn add_to_each(bytes: &mut [u8], number: u8) {
 }
 
 /// The first byte, or 0.
-fn first_of(bytes: &[u8]) -> u64 {
+pub fn first_of(bytes: &[u8]) -> u64 {
     match bytes.first() {
         Some(byte) => u64::from(*byte),
         None => 0,
@@ -75,7 +75,7 @@ fn measure_kernel<R: Print + Clock + AllocGlobal, K: Kernel>(
 }
 
 /// A lease of a whole block.
-fn new_lease(alloc: Global) -> Result<Lease, AllocError> {
+pub fn new_lease(alloc: Global) -> Result<Lease, AllocError> {
     let bytes = vec![in alloc; 1u8; LEN]?;
     Ok(Lease::of(1, 1, 0, LEN, bytes))
 }

@@ -1,5 +1,5 @@
 -- What a device keeps, and what a look-up in it finds.
-use Rattle.std.proofs.Common.{ℕ, ◌≡◌, ◌+◌, ◌^◌, ◌<◌, ◌≤◌, refl, sym, ap, ◌∙◌, subst, List, [], ◌∷◌, false, length, get_or, Option, Some, None, Vec, Global, vec_len, vec_capacity, arith, ◌↔◌}
+use Rattle.std.proofs.Common.{ℕ, ◌≡◌, ◌+◌, ◌^◌, ◌<◌, ◌≤◌, refl, sym, ap, ◌∙◌, subst, List, [], ◌∷◌, false, length, get_or, Option, Some, None, Vec, Global, arith, ◌↔◌}
 use Rattle.std.specs.Prelude.{map, find, nat_le, option_map, IsSome, IfSome, IfNone, IsTrue, is_some}
 use Rattle.std.specs.List.{AllByRecursion}
 use Rattle.std.proofs.lemmas.Bool.{false≢true}
@@ -101,9 +101,9 @@ loans_on h s xs births room k =
 -- ---- look-ups
 
 -- the block of a number is there exactly where the search finds it
-pub found_there : (s : List (Option Stored)) (xs : List (ℕ × ℕ)) (n : ℕ) (o : Option ℕ) → IsIndexRising xs → IfSome o (IsEntry xs n) → IfNone o (AllByRecursion (λ e. e.0 ≡ n → ⊥) xs) → IsTrue (is_some o) ↔ IsSome (block_at n (blocks_in s xs))
+pub found_there : (s : List (Option Stored)) (xs : List (ℕ × ℕ)) (n : ℕ) (o : Option ℕ) → IsIndexRising xs → IfSome o (IsSlotOf xs n) → IfNone o (AllByRecursion (λ e. e.0 ≡ n → ⊥) xs) → IsTrue (is_some o) ↔ IsSome (block_at n (blocks_in s xs))
 found_there s xs n None rise found none = (λ e. absurd (false≢true e), λ some. subst IsSome (block_at-none s xs n none) some)
-found_there s xs n (Some i) rise found none = (λ e. subst IsSome (sym (block_at-entry s xs i n rise found)) refl, λ some. refl)
+found_there s xs n (Some slot) rise found none = (λ e. subst IsSome (sym (block_at-entry s xs found.at n rise found.entry)) refl, λ some. refl)
 
 all-unmap : {X Y : Type 0} (P : Y → Type 0) (f : X → Y) (xs : List X) → AllByRecursion P (map f xs) → AllByRecursion (λ x. P (f x)) xs
 all-unmap P f [] h = tt
@@ -139,8 +139,8 @@ slot_known : (P : Option Stored → Type 0) (s : List (Option Stored)) (xs : Lis
 slot_known P s xs n k slot known = subst (λ (j : ℕ). P (get_or s j None)) slot.is known
 
 -- a block that is there has an entry
-pub block_listed : (d : Inside) (now : DeviceState) (n : ℕ) → device_of d.holes d.slab.slots d.index.items d.births (room_ready d) ≡ now → HasBlock now n → AllByRecursion (λ e. e.0 ≡ n → ⊥) d.index.items → ⊥
-block_listed d now n is there none = false≢true (subst IsSome (block_at-none d.slab.slots d.index.items n none) (subst (λ (x : DeviceState). HasBlock x n) (sym is) there))
+pub block_listed : (d : Inside) (now : DeviceState) (n : ℕ) → device_of d.holes d.slab.slots d.index.entries d.births (room_ready d) ≡ now → HasBlock now n → AllByRecursion (λ e. e.0 ≡ n → ⊥) d.index.entries → ⊥
+block_listed d now n is there none = false≢true (subst IsSome (block_at-none d.slab.slots d.index.entries n none) (subst (λ (x : DeviceState). HasBlock x n) (sym is) there))
 
 -- the slot of a block is not empty
 pub filled_slot : (h : Space) (s : List (Option Stored)) (xs : List (ℕ × ℕ)) (n k : ℕ) → AreSlotsKept h s xs → IsSlotOf xs n k → IsSome (get_or s k None)
@@ -196,12 +196,12 @@ stored_of h s xs births n k room x kept slot is =
 
 -- a change of a slot leaves the room that was made
 pub room_kept : (d : Inside) (t : Slab Stored) → HasRoom d → slab_len t ≡ slab_len d.slab → t.capacity ≡ d.slab.capacity → HasRoom (record d { slab = t })
-room_kept d t r slots capacity = record { few = r.few; empty = r.empty; holes = r.holes; slots = omega (arith, r.slots, slots, capacity); entries = r.entries }
+room_kept d t r slots capacity = record { few = r.few; empty = r.empty; holes = r.holes; slots = omega (arith, r.slots, slots, capacity); entries = r.entries; ended = r.ended }
 
 -- a birth for which room was made leaves the room of those behind it
-pub room_used : (d e : Inside) (v : Vec ℕ Global) → HasRoom d → d.ready.items ≡ v ∷ e.ready.items → d.holes.spare ≤ e.holes.spare + 1 → slab_len e.slab ≡ slab_len d.slab + 1 → e.slab.capacity ≡ d.slab.capacity → vec_len e.index ≡ vec_len d.index + 1 → vec_capacity e.index ≡ vec_capacity d.index
+pub room_used : (d e : Inside) (v : Vec ℕ Global) → HasRoom d → d.ready.items ≡ v ∷ e.ready.items → d.holes.spare ≤ e.holes.spare + 1 → slab_len e.slab ≡ slab_len d.slab + 1 → e.slab.capacity ≡ d.slab.capacity → d.index.room ≤ e.index.room + 1 → d.ended_blocks.room ≤ e.ended_blocks.room + 1
     → HasRoom e
-room_used d e v r items spare slots slab_capacity entries capacity =
+room_used d e v r items spare slots slab_capacity entries ended =
     let longer = ap length items in
     let empty = subst (λ (vs : List (Vec ℕ Global)). AllByRecursion (λ u. u.items ≡ []) vs) items r.empty in
     record {
@@ -209,5 +209,6 @@ room_used d e v r items spare slots slab_capacity entries capacity =
       empty = empty.1;
       holes = omega (arith, r.holes, longer, spare);
       slots = omega (arith, r.slots, longer, slots, slab_capacity);
-      entries = omega (arith, r.entries, longer, entries, capacity);
+      entries = omega (arith, r.entries, longer, entries);
+      ended = omega (arith, r.ended, longer, ended);
     }

@@ -9,4 +9,6 @@ pub mod Births
 pub mod Ends
 pub mod Writes
 pub mod Lends
-pub mod Ended
+pub mod EndedPlaces
+pub mod Ending
+pub mod Indexing

@@ -1,13 +1,12 @@
 -- How a device keeps its blocks: each in a slot of a slab, and an index of their numbers and slots. No public clause cites this module.
-use Rattle.std.specs.Prelude.{ℕ, ◌≡◌, ◌≢◌, ◌+◌, ◌^◌, ◌<◌, ◌≤◌, ◌&&◌, if◌then◌else◌, nat_le, Bool, true, false, List, [], ◌∷◌, map, length, Option, Some, None, IsSome, slice_index_or}
-use Rattle.std.specs.List.{AllByRecursion}
+use Rattle.std.specs.Prelude.{ℕ, ◌≡◌, ◌≢◌, ◌+◌, ◌^◌, ◌<◌, ◌≤◌, Bool, true, false, List, [], ◌∷◌, map, length, Option, Some, None, IsSome, slice_index_or}
+use Rattle.std.specs.List.{AllByRecursion, remove}
 use Rattle.acc_base.specs.declared.addresses.TheConstants.{MEMORY_MAX}
 use Rattle.acc_base.specs.declared.loans.Loan.{Loan}
 use Rattle.acc_base.specs.declared.mappings.Block.{Block}
-use Rattle.acc_base.specs.declared.mappings.Ended.{Ended}
 use Rattle.acc_base.specs.Limits.{IsFromOne}
 use Rattle.acc_base.specs.declared.items.Section.{Section}
-use Rattle.acc_base.specs.Blocks.{rounded, block_at}
+use Rattle.acc_base.specs.Blocks.{block_at}
 use Rattle.acc_base.specs.Bytes.{bytes_of}
 use Rattle.acc_base.specs.Loans.{loan_of, is_lent}
 use Rattle.acc_base.specs.Records.{Memory}
@@ -140,6 +139,23 @@ pub record IsSlotOf (index : List (ℕ × ℕ)) (block slot : ℕ) : Type 0 wher
   pub entry : IsEntry index block at
   pub is : (slice_index_or index at (0, 0)).1 ≡ slot
 
+-- the entry of a block, which had this slot, is taken out
+pub record IsEntryLost (old new : List (ℕ × ℕ)) (block slot : ℕ) : Type 0 where
+  pub at : ℕ
+  pub entry : IsEntry old block at
+  pub is : (slice_index_or old at (0, 0)).1 ≡ slot
+  pub left : new ≡ remove old at
+
+-- what the blocks of an index are without one of them
+pub record IsBlockLost (s t : List (Option Stored)) (old new : List (ℕ × ℕ)) (block : ℕ) : Type 0 where
+  pub at : ℕ
+  pub entry : IsEntry old block at
+  pub index : new ≡ remove old at
+  pub blocks : blocks_in t new ≡ remove (blocks_in s old) at
+  pub memories : memories_in t new ≡ remove (memories_in s old) at
+  pub marks : marks_in t new ≡ remove (marks_in s old) at
+  pub loans : loans_in t new ≡ loans_in s old
+
 -- what a slot has is the block's, as contracts see it
 pub record IsStoredOf (d : DeviceState) (block : ℕ) (s : Stored) : Type 0 where
   pub block_is : block_at block d.blocks ≡ Some (record { number = block; place = s.place; len = s.len })
@@ -184,23 +200,3 @@ pub record IsRelent (old new : Slab Stored) (slot : ℕ) (loan : Option Loan) (b
   pub loan_is : stored_loan (get new slot) ≡ loan
   pub bytes_are : stored_bytes (get new slot) ≡ bytes
   pub others : (other : ℕ) → other ≢ slot → get new other ≡ get old other
-
--- ---- blocks that have ended
-
--- what is told of the block of a slot where it has ended and lies at or above a device address
-abbrev pub told_of : ℕ → Option Stored → Option Ended
-told_of from slot =
-    if stored_ended slot && nat_le from (stored_place slot)
-    then Some (record { place = stored_place slot; size = rounded (stored_len slot); pins = stored_pins slot })
-    else None
-
--- the one of two that lies lower, of which each may be missing
-abbrev pub lower_of : Option Ended → Option Ended → Option Ended
-lower_of None b = b
-lower_of (Some a) None = Some a
-lower_of (Some a) (Some b) = Some (if nat_le a.place b.place then a else b)
-
--- the lowest of those that the slots of an index tell
-abbrev pub lowest_told : ℕ → List (Option Stored) → List (ℕ × ℕ) → Option Ended
-lowest_told from slots [] = None
-lowest_told from slots (e ∷ es) = lower_of (told_of from (slot_of slots e)) (lowest_told from slots es)

@@ -15,10 +15,10 @@ ghost use Rattle.acc_dev.specs.Marks.{Mark, pins_at, is_ended_at, lowest_ended a
 ghost use Rattle.acc_dev.specs.Device.{HasBlock, IsNew, IsUnchanged, IsBorn, IsBornWith, IsNextRoom, IsBlockWritten, IsMarked, IsPinned, IsUnpinned, IsEnded, IsRetired, IsLoanOn, AreLoansRising, HasBlocksApart, birth_place, planned_blocks};
 ghost use Rattle.acc_dev.specs.Kept.{IsStoredOf};
 
-use crate::entries::{
-    Stored, lowest_ended, make_room, position_of, put, remove_at, set_mark, slot_of_block, write_at,
-};
+use crate::ended::EndedBlocks;
+use crate::entries::{Stored, make_room, put, remove_block, set_mark, slot_of_block, write_at};
 use crate::filling::{fill, filled, make_vectors};
+use crate::index::Index;
 use acc_base::{DEVICE_BASE, Ended, Fault, Hole, MEMORY_MAX};
 use acc_placement::{Holes, rounded};
 use slab::Slab;
@@ -39,20 +39,20 @@ use std::marker::Model;
 /// A mapped block can be lent: [`Device::take_out`] moves its bytes into a lease, and [`Device::put_back`] moves them
 /// back (OpenACC 3.3, section 2.5, compute constructs). In between the block stays where it is and has no bytes here.
 ///
-/// A number finds its block by a binary search, or in one step where no block was given back between it and the first
-/// or the last one. [`Device::born`] adds a block at the end of the index. Where
-/// [`Device::retire`] or [`Device::unpin`] gives its block back, it moves the entries behind that of the block, of 16
-/// bytes each, by one place; else it costs the search alone, as [`Device::pin`], [`Device::take_out`] and
-/// [`Device::put_back`] do. Beside that a birth and a block that is given back cost what the placement costs for its
-/// list of holes, and a birth the writing of its bytes; where there is no room for one block more, it also moves the
-/// lists that grow. [`Device::ended`] looks at each block once.
+/// A number finds its block by a binary search, or mostly in one step, since its entry stays in its place while others
+/// are given back; once more than half of the entries are those of blocks that were, these are cleared away. Beside that
+/// a birth and a block that is given back cost what the placement costs for its holes, and a birth the writing of its
+/// bytes; where there is no room for one block more, it also moves the lists that grow. [`Device::ended`] finds its block
+/// in a walk from the top of a tree.
 #[derive(Drop)]
 pub struct Device {
     pub(crate) alloc: Global,
     holes: Holes,
     pub(crate) slab: Slab<Stored>,
     // The number and the slot of each block, by rising number.
-    pub(crate) index: Vec<(u64, usize)>,
+    pub(crate) index: Index,
+    // Where each block lies whose mapping has ended, and room for those that are mapped.
+    ended_blocks: EndedBlocks,
     births: u64,
     // For each birth to come for which room was made, an empty vector that its bytes fit into.
     ready: VecDeque<Vec<u8>>,
@@ -61,21 +61,22 @@ pub struct Device {
 impl Model for Device {
     ghost use Rattle.acc_dev.specs.Device.{DeviceState};
     ghost use Rattle.acc_dev.specs.Kept.{memory_of, blocks_in, memories_in, marks_in, loans_in, AreSlotsKept, AreNumbersBorn};
+    ghost use Rattle.acc_dev.specs.Ending.{AreEndedKept};
     ghost use Rattle.acc_dev.specs.Room.{room_ready, HasRoom};
 
     ghost Value = { DeviceState };
 
     ghost view = { λ d. record {
       memory = memory_of d.holes;
-      blocks = blocks_in d.slab.slots d.index.items;
-      memories = memories_in d.slab.slots d.index.items;
-      marks = marks_in d.slab.slots d.index.items;
-      loans = loans_in d.slab.slots d.index.items;
+      blocks = blocks_in d.slab.slots d.index.entries;
+      memories = memories_in d.slab.slots d.index.entries;
+      marks = marks_in d.slab.slots d.index.entries;
+      loans = loans_in d.slab.slots d.index.entries;
       births = d.births;
       room = room_ready d;
     } };
 
-    ghost invariant = { λ d. AreSlotsKept d.holes d.slab.slots d.index.items × AreNumbersBorn d.index.items d.births × HasRoom d };
+    ghost invariant = { λ d. AreSlotsKept d.holes d.slab.slots d.index.entries × AreNumbersBorn d.index.entries d.births × HasRoom d × AreEndedKept d.ended_blocks (blocks_in d.slab.slots d.index.entries) (marks_in d.slab.slots d.index.entries) d.births };
 }
 
 impl Device {
@@ -93,7 +94,8 @@ impl Device {
             alloc,
             holes: Holes::new(alloc, DEVICE_BASE, size)?,
             slab: Slab::new(alloc),
-            index: Vec::new(alloc),
+            index: Index::new(alloc),
+            ended_blocks: EndedBlocks::new(alloc),
             births: 0,
             ready: VecDeque::new(alloc),
         })
@@ -134,12 +136,19 @@ impl Device {
         };
         let bytes = filled(self.alloc, len, zero)?;
         let count = self.ready.len() as u64 + 1;
-        make_room(&mut self.holes, &mut self.slab, &mut self.index, count)?;
+        make_room(
+            &mut self.holes,
+            &mut self.slab,
+            &mut self.index,
+            &mut self.ended_blocks,
+            count,
+        )?;
         let number = self.births + 1;
         put(
             &mut self.holes,
             &mut self.slab,
             &mut self.index,
+            &mut self.ended_blocks,
             number,
             bytes,
         );
@@ -164,7 +173,13 @@ impl Device {
     {
         self.ready.clear();
         let count = lens.len() as u64;
-        make_room(&mut self.holes, &mut self.slab, &mut self.index, count)?;
+        make_room(
+            &mut self.holes,
+            &mut self.slab,
+            &mut self.index,
+            &mut self.ended_blocks,
+            count,
+        )?;
         make_vectors(&mut self.ready, self.alloc, lens)
     }
 
@@ -189,6 +204,7 @@ impl Device {
             &mut self.holes,
             &mut self.slab,
             &mut self.index,
+            &mut self.ended_blocks,
             number,
             bytes,
         );
@@ -219,6 +235,7 @@ impl Device {
             &mut self.holes,
             &mut self.slab,
             &mut self.index,
+            &mut self.ended_blocks,
             number,
             bytes,
         );
@@ -250,7 +267,7 @@ impl Device {
     pub fn has(&self, block: u64) -> bool
         ensures { IsTrue result ↔ HasBlock self.now block }
     {
-        position_of(&self.index, block).is_some()
+        self.index.slot(block).is_some()
     }
 
     /// Where a block of the device lies: the device address of its first byte, and how many bytes of device memory it
@@ -336,7 +353,7 @@ impl Device {
             self.give_back(block);
             return true;
         }
-        self.mark(block, pins, true);
+        self.end(block, pins);
         false
     }
 
@@ -362,7 +379,13 @@ impl Device {
     pub fn ended(&self, from: u64) -> Option<Ended>
         ensures { result ≡ lowest_ended_of from self.now.marks self.now.blocks }
     {
-        lowest_ended(&self.slab, &self.index, from)
+        let block = self.ended_blocks.next(from)?;
+        let stored = self.stored(block);
+        Some(Ended {
+            place: stored.place,
+            size: rounded(stored.len),
+            pins: stored.pins,
+        })
     }
 
     /// The hole of least place at or above the device address `from`; `None` where there is none. A hole is free addresses
@@ -408,10 +431,10 @@ impl Device {
         requires free { is_lent block self.old.loans ≡ false }
         ensures { IsRetired self.old self.new block }
     {
-        let Some(at) = position_of(&self.index, block) else {
-            unreachable!()
-        };
-        remove_at(&mut self.holes, &mut self.slab, &mut self.index, at);
+        let stored = self.stored(block);
+        let (place, ended) = (stored.place, stored.ended);
+        self.ended_blocks.leave(place, ended);
+        remove_block(&mut self.holes, &mut self.slab, &mut self.index, block);
     }
 
     /// How many queued transfers name a block of the device, and whether its mapping has ended, as that of no lent
@@ -427,9 +450,10 @@ impl Device {
         (stored.pins, stored.ended)
     }
 
-    /// Sets how many queued transfers name a block of the device, and whether its mapping has ended.
+    /// Sets how many queued transfers name a block of the device, whose mapping has ended or not.
     fn mark(&mut self, block: u64, pins: u64, ended: bool)
         requires there { HasBlock self.old block }
+        requires is { ended ≡ is_ended_at block self.old.marks }
         requires few { pins ≤ 2 ^ 32 }
         requires held { ended ≡ true → 0 < pins }
         requires free { ended ≡ true → is_lent block self.old.loans ≡ false }
@@ -437,6 +461,21 @@ impl Device {
     {
         let slot = slot_of_block(&self.index, block);
         set_mark(&mut self.slab, slot, pins, ended);
+    }
+
+    /// Says that the mapping of a block of the device has ended, which is not lent and which queued transfers name.
+    fn end(&mut self, block: u64, pins: u64)
+        requires there { HasBlock self.old block }
+        requires mapped { is_ended_at block self.old.marks ≡ false }
+        requires free { is_lent block self.old.loans ≡ false }
+        requires pins { pins ≡ pins_at block self.old.marks }
+        requires held { 0 < pins }
+        ensures { IsEnded self.old self.new block }
+    {
+        let place = self.stored(block).place;
+        let slot = slot_of_block(&self.index, block);
+        set_mark(&mut self.slab, slot, pins, true);
+        self.ended_blocks.end(place, block);
     }
 
     /// What the slot of a block of the device has.

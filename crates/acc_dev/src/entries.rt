@@ -1,7 +1,7 @@
 //! The slots of blocks, and the index by which a number finds its slot.
 
-ghost use Rattle.std.specs.Prelude.{◌≡◌, ℕ, ◌+◌, ◌^◌, ◌<◌, ◌≤◌, ◌≢◌, List, [], ◌∷◌, ◌++◌, ◌&&◌, ◌==◌, length, is_some, IfSome, IfNone, IfErr, OnOk, IsOk, IsSome, Some, None, slice_index_or, vec_len, vec_capacity};
-ghost use Rattle.std.specs.List.{AllByRecursion, remove};
+ghost use Rattle.std.specs.Prelude.{◌≡◌, ℕ, ◌+◌, ◌^◌, ◌<◌, ◌≤◌, ◌≢◌, List, [], ◌∷◌, ◌++◌, ◌&&◌, ◌==◌, length, is_some, IfSome, IfErr, OnOk, IsOk, IsSome, Some, None, slice_index_or};
+ghost use Rattle.std.specs.List.{AllByRecursion};
 ghost use Rattle.slab.specs.Slab.{get, slab_len, HasRoomFor};
 ghost use Rattle.acc_base.specs.Limits.{IsFromOne};
 ghost use Rattle.acc_base.specs.Blocks.{rounded as rounded_of};
@@ -10,11 +10,13 @@ ghost use Rattle.acc_placement.specs.Ranges.{IsFit, IsLeastFit};
 ghost use Rattle.acc_placement.specs.Space.{IsSameSpace};
 ghost use Rattle.acc_base.specs.Overwriting.{overwritten};
 ghost use Rattle.acc_dev.specs.Marks.{new_mark};
-ghost use Rattle.acc_dev.specs.Kept.{memory_of, stored_place, stored_len, stored_bytes, stored_pins, stored_ended, stored_loan, slot_of, blocks_in, memories_in, marks_in, loans_in, lower_of as lower_one, lowest_told, told_of, IsIndexRising, IsEntry, IsSlotOf, IsBacked, AreSlotsKept, IsRewritten, IsRemarked, IsRelent};
+ghost use Rattle.acc_dev.specs.Kept.{memory_of, stored_place, stored_len, stored_bytes, stored_pins, stored_ended, stored_loan, slot_of, blocks_in, memories_in, marks_in, loans_in, IsIndexRising, IsEntry, IsBlockLost, IsSlotOf, IsBacked, AreSlotsKept, IsRewritten, IsRemarked, IsRelent};
 
-use acc_base::{Ended, Fault, Loan, MEMORY_MAX};
+use crate::ended::EndedBlocks;
+use crate::index::Index;
+use acc_base::{Fault, Loan, MEMORY_MAX};
 use acc_lend::Lease;
-use acc_placement::{Holes, rounded};
+use acc_placement::Holes;
 use slab::Slab;
 use std::alloc::Global;
 use std::mem;
@@ -36,52 +38,13 @@ pub struct Stored {
     pub loan: Option<Loan>,
 }
 
-/// The place in the index of a block's entry, if it stands there as far behind the first entry as its number is greater,
-/// or as far before the last one as its number is less. So it does where no block in between was given back.
-fn place_by_number(index: &[(u64, usize)], block: u64) -> Option<usize>
-    ensures { IfSome result (IsEntry index.now block) }
-{
-    let ahead = block.wrapping_sub(index.first()?.0) as usize;
-    if ahead < index.len() && index[ahead].0 == block {
-        return Some(ahead);
-    }
-    let behind = index.last()?.0.wrapping_sub(block) as usize;
-    let at = index.len().checked_sub(1)?.checked_sub(behind)?;
-    if at < index.len() && index[at].0 == block {
-        return Some(at);
-    }
-    None
-}
-
-/// The place in the index of a block's entry.
-pub fn position_of(index: &[(u64, usize)], block: u64) -> Option<usize>
-    requires { IsIndexRising index.now }
-    ensures found { IfSome result (IsEntry index.now block) }
-    ensures none { IfNone result (AllByRecursion (λ e. e.0 ≡ block → ⊥) index.now) }
-{
-    if let Some(at) = place_by_number(index, block) {
-        return Some(at);
-    }
-    index.binary_search_by_key(&block, |entry| entry.0).ok()
-}
-
-/// The slot of a block, if it has one.
-fn find_slot(index: &[(u64, usize)], block: u64) -> Option<usize>
-    requires { IsIndexRising index.now }
-    ensures found { IfSome result (IsSlotOf index.now block) }
-    ensures none { IfNone result (AllByRecursion (λ e. e.0 ≡ block → ⊥) index.now) }
-{
-    let at = position_of(index, block)?;
-    Some(index[at].1)
-}
-
 /// The slot of a block that has one.
-pub fn slot_of_block(index: &[(u64, usize)], block: u64) -> usize
-    requires rising { IsIndexRising index.now }
-    requires there { AllByRecursion (λ e. e.0 ≡ block → ⊥) index.now → ⊥ }
-    ensures { IsSlotOf index.now block result }
+pub fn slot_of_block(index: &Index, block: u64) -> usize
+    requires rising { IsIndexRising index.now.entries }
+    requires there { AllByRecursion (λ e. e.0 ≡ block → ⊥) index.now.entries → ⊥ }
+    ensures { IsSlotOf index.now.entries block result }
 {
-    let Some(slot) = find_slot(index, block) else {
+    let Some(slot) = index.slot(block) else {
         unreachable!()
     };
     slot
@@ -92,57 +55,67 @@ pub fn slot_of_block(index: &[(u64, usize)], block: u64) -> usize
 pub fn make_room(
     holes: &mut Holes,
     slab: &mut Slab<Stored>,
-    index: &mut Vec<(u64, usize)>,
+    index: &mut Index,
+    ended: &mut EndedBlocks,
     count: u64,
 ) -> Result<(), Fault>
-    requires { count ≤ 2 ^ 32 }
-    ensures kept { AreSlotsKept holes.old slab.old.slots index.old.items → AreSlotsKept holes.new slab.new.slots index.new.items }
+    requires count { count ≤ 2 ^ 32 }
+    requires mapped { ended.old.mapped ≤ 2 ^ 48 }
+    ensures kept { AreSlotsKept holes.old slab.old.slots index.old.entries → AreSlotsKept holes.new slab.new.slots index.new.entries }
     ensures holes { IsSameSpace holes.old holes.new }
     ensures slots { slab.new.slots ≡ slab.old.slots }
-    ensures index { index.new.items ≡ index.old.items }
+    ensures index { index.new.entries ≡ index.old.entries }
+    ensures ended { ended.new.entries ≡ ended.old.entries }
+    ensures mapped { ended.new.mapped ≡ ended.old.mapped }
     ensures room_taken { OnOk result (count ≤ holes.new.spare) }
     ensures room_slot { OnOk result (HasRoomFor slab.new count) }
-    ensures room_entry { OnOk result (vec_len index.new + count ≤ vec_capacity index.new) }
+    ensures room_entry { OnOk result (count ≤ index.new.room) }
+    ensures room_ended { OnOk result (count ≤ ended.new.room) }
     ensures spare { holes.old.spare ≤ holes.new.spare }
     ensures slab_capacity { slab.old.capacity ≤ slab.new.capacity }
-    ensures capacity { vec_capacity index.old ≤ vec_capacity index.new }
-    ensures succeeds { count ≤ holes.old.spare → HasRoomFor slab.old count → vec_len index.old + count ≤ vec_capacity index.old → IsOk result }
+    ensures room_index { index.old.room ≤ index.new.room }
+    ensures room_nodes { ended.old.room ≤ ended.new.room }
+    ensures succeeds { count ≤ holes.old.spare → HasRoomFor slab.old count → count ≤ index.old.room → count ≤ ended.old.room → IsOk result }
     ensures only { IfErr result (λ fault. fault ≡ Fault.Memory) }
 {
     holes.reserve(count)?;
     slab.reserve(count as usize)?;
     index.reserve(count as usize)?;
-    Ok(())
+    ended.reserve(count)
 }
 
 /// Puts a new block with these bytes, which no transfer names, where it fits first, and answers its place.
 pub fn put(
     holes: &mut Holes,
     slab: &mut Slab<Stored>,
-    index: &mut Vec<(u64, usize)>,
+    index: &mut Index,
+    ended: &mut EndedBlocks,
     number: u64,
     bytes: Vec<u8>,
 ) -> u64
-    requires kept { AreSlotsKept holes.old slab.old.slots index.old.items }
-    requires above { AllByRecursion (λ e. e.0 < number) index.old.items }
+    requires kept { AreSlotsKept holes.old slab.old.slots index.old.entries }
+    requires above { AllByRecursion (λ e. e.0 < number) index.old.entries }
     requires len { IsFromOne MEMORY_MAX (length bytes.items) }
     requires room_taken { 1 ≤ holes.old.spare }
     requires room_slot { HasRoomFor slab.old 1 }
-    requires room_entry { vec_len index.old < vec_capacity index.old }
+    requires room_entry { 1 ≤ index.old.room }
+    requires room_ended { 1 ≤ ended.old.room }
     requires fits { (q : ℕ) × IsFit holes.old.holes (rounded_of (length bytes.items)) q }
     ensures place { IsLeastFit holes.old.holes (rounded_of (length bytes.items)) result }
     ensures memory { memory_of holes.new ≡ memory_of holes.old }
-    ensures kept { AreSlotsKept holes.new slab.new.slots index.new.items }
-    ensures index { (slot : ℕ) × (index.new.items ≡ index.old.items ++ (number, slot) ∷ []) }
-    ensures blocks { blocks_in slab.new.slots index.new.items ≡ blocks_in slab.old.slots index.old.items ++ record { number = number; place = result; len = length bytes.items } ∷ [] }
-    ensures memories { memories_in slab.new.slots index.new.items ≡ memories_in slab.old.slots index.old.items ++ record { block = number; bytes = bytes.items } ∷ [] }
-    ensures marks { marks_in slab.new.slots index.new.items ≡ marks_in slab.old.slots index.old.items ++ new_mark number ∷ [] }
-    ensures loans { loans_in slab.new.slots index.new.items ≡ loans_in slab.old.slots index.old.items }
+    ensures kept { AreSlotsKept holes.new slab.new.slots index.new.entries }
+    ensures index { (slot : ℕ) × (index.new.entries ≡ index.old.entries ++ (number, slot) ∷ []) }
+    ensures blocks { blocks_in slab.new.slots index.new.entries ≡ blocks_in slab.old.slots index.old.entries ++ record { number = number; place = result; len = length bytes.items } ∷ [] }
+    ensures memories { memories_in slab.new.slots index.new.entries ≡ memories_in slab.old.slots index.old.entries ++ record { block = number; bytes = bytes.items } ∷ [] }
+    ensures marks { marks_in slab.new.slots index.new.entries ≡ marks_in slab.old.slots index.old.entries ++ new_mark number ∷ [] }
+    ensures loans { loans_in slab.new.slots index.new.entries ≡ loans_in slab.old.slots index.old.entries }
     ensures spare { holes.old.spare ≤ holes.new.spare + 1 }
     ensures slots { slab_len slab.new ≡ slab_len slab.old + 1 }
     ensures slab_capacity { slab.new.capacity ≡ slab.old.capacity }
-    ensures capacity { vec_capacity index.new ≡ vec_capacity index.old }
-    ensures entries { vec_len index.new ≡ vec_len index.old + 1 }
+    ensures room_index { index.old.room ≤ index.new.room + 1 }
+    ensures ended { ended.new.entries ≡ ended.old.entries }
+    ensures mapped { ended.new.mapped ≡ ended.old.mapped + 1 }
+    ensures room_nodes { ended.old.room ≤ ended.new.room + 1 }
 {
     let len = bytes.len() as u64;
     let place = holes.take_reserved(len);
@@ -154,34 +127,25 @@ pub fn put(
         ended: false,
         loan: None,
     });
-    index.push_reserved((number, slot));
+    index.push(number, slot);
+    ended.born();
     place
 }
 
-/// Takes away the block, which is not lent, whose entry is at a place of the index, and gives its addresses back.
-pub fn remove_at(
-    holes: &mut Holes,
-    slab: &mut Slab<Stored>,
-    index: &mut Vec<(u64, usize)>,
-    at: usize,
-)
-    requires kept { AreSlotsKept holes.old slab.old.slots index.old.items }
-    requires in_bounds { at < length index.old.items }
-    requires free { stored_loan (slot_of slab.old.slots (slice_index_or index.old.items at (0, 0))) ≡ None }
+/// Takes away a block, which is not lent, and gives its addresses back.
+pub fn remove_block(holes: &mut Holes, slab: &mut Slab<Stored>, index: &mut Index, block: u64)
+    requires kept { AreSlotsKept holes.old slab.old.slots index.old.entries }
+    requires there { AllByRecursion (λ e. e.0 ≡ block → ⊥) index.old.entries → ⊥ }
+    requires free { (at : ℕ) → IsEntry index.old.entries block at → stored_loan (slot_of slab.old.slots (slice_index_or index.old.entries at (0, 0))) ≡ None }
     ensures memory { memory_of holes.new ≡ memory_of holes.old }
-    ensures kept { AreSlotsKept holes.new slab.new.slots index.new.items }
-    ensures index { index.new.items ≡ remove index.old.items at }
-    ensures blocks { blocks_in slab.new.slots index.new.items ≡ remove (blocks_in slab.old.slots index.old.items) at }
-    ensures memories { memories_in slab.new.slots index.new.items ≡ remove (memories_in slab.old.slots index.old.items) at }
-    ensures marks { marks_in slab.new.slots index.new.items ≡ remove (marks_in slab.old.slots index.old.items) at }
-    ensures loans { loans_in slab.new.slots index.new.items ≡ loans_in slab.old.slots index.old.items }
+    ensures kept { AreSlotsKept holes.new slab.new.slots index.new.entries }
+    ensures lost { IsBlockLost slab.old.slots slab.new.slots index.old.entries index.new.entries block }
     ensures spare { holes.old.spare ≤ holes.new.spare }
     ensures slots { slab_len slab.new ≤ slab_len slab.old }
     ensures slab_capacity { slab.new.capacity ≡ slab.old.capacity }
-    ensures capacity { vec_capacity index.new ≡ vec_capacity index.old }
-    ensures entries { vec_len index.new ≤ vec_len index.old }
+    ensures room_index { index.old.room ≤ index.new.room }
 {
-    let (_, slot) = index.remove(at);
+    let slot = index.take_out(block);
     let Stored { place, len, .. } = slab.remove(slot);
     holes.give_back(place, len);
 }
@@ -245,14 +209,14 @@ fn is_loan_at(slab: &Slab<Stored>, slot: usize, lease: &Lease) -> bool
 }
 
 /// The slot whose block a lease brings back, if there is one.
-pub fn slot_back(slab: &Slab<Stored>, index: &[(u64, usize)], lease: &Lease) -> Option<usize>
-    requires rising { IsIndexRising index.now }
-    requires backed { AllByRecursion (λ e. IsBacked e.0 (slot_of slab.now.slots e)) index.now }
-    ensures returnable { is_some result ≡ is_returnable lease.now (blocks_in slab.now.slots index.now) (loans_in slab.now.slots index.now) }
-    ensures slot { IfSome result (IsSlotOf index.now lease.now.block) }
+pub fn slot_back(slab: &Slab<Stored>, index: &Index, lease: &Lease) -> Option<usize>
+    requires rising { IsIndexRising index.now.entries }
+    requires backed { AllByRecursion (λ e. IsBacked e.0 (slot_of slab.now.slots e)) index.now.entries }
+    ensures returnable { is_some result ≡ is_returnable lease.now (blocks_in slab.now.slots index.now.entries) (loans_in slab.now.slots index.now.entries) }
+    ensures slot { IfSome result (IsSlotOf index.now.entries lease.now.block) }
     ensures len { IfSome result (λ slot. stored_len (get slab.now slot) ≡ length lease.now.bytes) }
 {
-    let slot = find_slot(index, lease.block())?;
+    let slot = index.slot(lease.block())?;
     if is_loan_at(slab, slot, lease) {
         return Some(slot);
     }
@@ -294,43 +258,4 @@ pub fn restore_at(slab: &mut Slab<Stored>, slot: usize, bytes: Vec<u8>)
         stored.bytes = bytes;
         stored.loan = None;
     }
-}
-
-/// The block of a slot, where it has ended and lies at or above the device address `from`.
-fn told_at(slab: &Slab<Stored>, slot: usize, from: u64) -> Option<Ended>
-    requires { stored_len (get slab.now slot) ≤ MEMORY_MAX }
-    ensures { result ≡ told_of from (get slab.now slot) }
-{
-    let stored = slab.get(slot)?;
-    if stored.ended && from <= stored.place {
-        return Some(Ended {
-            place: stored.place,
-            size: rounded(stored.len),
-            pins: stored.pins,
-        });
-    }
-    None
-}
-
-/// The lower of two blocks that have ended, of which each may be missing.
-fn lower_of(first: Option<Ended>, second: Option<Ended>) -> Option<Ended>
-    ensures { result ≡ lower_one first second }
-{
-    match (first, second) {
-        (Some(first), Some(second)) if second.place < first.place => Some(second),
-        (None, second) => second,
-        (first, _) => first,
-    }
-}
-
-/// The lowest block of an index that has ended and lies at or above the device address `from`.
-pub fn lowest_ended(slab: &Slab<Stored>, index: &[(u64, usize)], from: u64) -> Option<Ended>
-    requires { AllByRecursion (λ b. IsFromOne MEMORY_MAX b.len) (blocks_in slab.now.slots index.now) }
-    ensures { result ≡ lowest_told from slab.now.slots index.now }
-{
-    let mut lowest = None;
-    for (_, slot) in index {
-        lowest = lower_of(lowest, told_at(slab, *slot, from));
-    }
-    lowest
 }

@@ -2,8 +2,10 @@
 #![tactic(auto)]
 
 mod devices;
+mod ended;
 mod entries;
 mod filling;
+mod index;
 mod lending;
 
 pub use acc_base::DEVICE_BASE;

@@ -1,5 +1,5 @@
 -- How a loan is cut into parts: the parts' lengths, in order.
-use Rattle.std.specs.Prelude.{ℕ, ◌+◌, ◌-◌, ◌/◌, ◌%◌, ◌<◌, ◌≤◌, List, [], ◌∷◌, ◌++◌, length, sum, replicate, All, zero, suc}
+use Rattle.std.specs.Prelude.{◌≡◌, ℕ, ◌+◌, ◌-◌, ◌/◌, ◌%◌, ◌<◌, ◌≤◌, List, [], ◌∷◌, ◌++◌, length, sum, replicate, All, zero, suc}
 use Rattle.acc_base.specs.declared.addresses.TheConstants.{MEMORY_MAX}
 
 -- the numbers are the lengths of parts: there are 1 to 64 parts, none is empty, and in all they are no longer than a memory may be
@@ -31,6 +31,13 @@ parts_of len size = replicate (len / size) size ++ last_part (len % size)
 
 abbrev pub even_cuts : ℕ → ℕ → List ℕ
 even_cuts len n = parts_of len (even_len len n)
+
+-- bytes that begin at a place of a loan are cut into parts of these lengths, which are numbered from first on
+pub record IsCutInto (first at : ℕ) (lengths : List ℕ) (len : ℕ) : Type 0 where
+  pub some : 0 < length lengths
+  pub few : first + length lengths ≤ 64
+  pub whole : sum lengths ≡ len
+  pub capped : at + len ≤ MEMORY_MAX
 
 -- the length of the next part and those of the later ones; 0 where no part is left
 abbrev pub lengths_from : ℕ → List ℕ → List ℕ

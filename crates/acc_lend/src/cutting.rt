@@ -57,7 +57,7 @@ impl Cuts {
     }
 
     /// Parts of `len / n` bytes, rounded up, for a loan of `len` bytes: as many as are needed, the last one the rest.
-    /// So there are at most `n`.
+    /// So there are at most `n`, and in all they have `len` bytes.
     ///
     /// # Errors
     ///
@@ -65,6 +65,7 @@ impl Cuts {
     /// [`Fault::Memory`].
     pub fn even(alloc: Global, len: usize, n: usize) -> Result<Cuts, Fault>
         ensures value { IfOk result (λ cuts. cuts ≡ even_cuts len n) }
+        ensures whole { IfOk result (λ cuts. sum cuts ≡ len) }
         ensures bad_cuts { IsErrOf result Fault.BadCuts ↔ ¬ CanCut len n }
         ensures only { IfErr result (λ fault. (fault ≡ Fault.BadCuts) ⊎ (fault ≡ Fault.Memory)) }
     {

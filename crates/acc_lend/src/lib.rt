@@ -4,6 +4,7 @@
 
 mod bytewise;
 mod cutting;
+mod gates;
 mod kernels;
 mod leases;
 mod running;
@@ -12,8 +13,9 @@ mod taking;
 
 pub use bytewise::{Add, Number, Plus, Xor};
 pub use cutting::{Cuts, PARTS_MAX};
+pub use gates::{Gate, Open};
 pub use kernels::{Kernel, Pointwise};
 pub use leases::Lease;
-pub use running::run_one;
+pub use running::{run_one, run_parts};
 pub use slices::split;
 pub use taking::Parts;

@@ -7,6 +7,7 @@ ghost use Rattle.acc_placement.specs.Space.{IsPartition};
 use acc_base::{DEVICE_BASE, Fault, MEMORY_MAX};
 use acc_placement::{Holes, rounded};
 use acc_tree::Visits;
+use std::alloc::Global;
 use std::process::Abort;
 use std::test::Fail;
 
@@ -113,6 +114,92 @@ fn each_call_answers_its_row(rt: HostRuntime) -> Result<(), Fail> {
         assert_eq!(rt; shown.next(), None);
         assert_eq!(rt; holes.used(), *used);
     }
+    Ok(())
+}
+
+/// The least place in a space of 1,024 bytes, from 0 on, at which so many bytes are in none of the ranges.
+fn first_free(taken: &[(u64, u64)], size: u64) -> Option<u64> {
+    for unit in 0..64 {
+        let place = 16 * unit;
+        let end = size.saturating_add(place);
+        if end <= 1_024
+            && taken
+                .iter()
+                .all(|t| end <= t.0 || t.0.saturating_add(t.1) <= place)
+        {
+            return Some(place);
+        }
+    }
+    None
+}
+
+/// Takes a range where the list of those that are taken leaves a place for it, and answers whether it is the place that
+/// is taken. Else the take is refused.
+fn take_as_listed(
+    rt: &impl Abort,
+    holes: &mut Holes,
+    taken: &mut Vec<(u64, u64)>,
+    need: u64,
+) -> Result<bool, Fault>
+    requires need { IsFromOne MEMORY_MAX need }
+    requires partition { IsPartition holes.old taken.old.items }
+    ensures { OnOk result (IsPartition holes.new taken.new.items) }
+{
+    match first_free(taken, rounded(need)) {
+        Some(free) => {
+            let place = take(holes, taken, need)?;
+            Ok(place == free)
+        }
+        None => {
+            refuse(rt, holes, need, rounded(need));
+            Ok(true)
+        }
+    }
+}
+
+/// Takes a range, or gives one back, as a number says, and answers whether the space and the list agree.
+fn step(
+    rt: &impl Abort,
+    holes: &mut Holes,
+    taken: &mut Vec<(u64, u64)>,
+    number: u64,
+) -> Result<bool, Fault>
+    requires { IsPartition holes.old taken.old.items }
+    ensures { OnOk result (IsPartition holes.new taken.new.items) }
+{
+    let len = taken.len() as u64;
+    if number % 2 == 0 || len == 0 {
+        return take_as_listed(rt, holes, taken, number / 2 % 100 + 1);
+    }
+    give_back(rt, holes, taken, (number / 2 % len) as usize);
+    Ok(true)
+}
+
+/// The number after this one in a fixed list of 2,147,483,646 numbers.
+fn following(number: u64) -> u64
+    requires { number < 2147483647 }
+    ensures { result < 2147483647 }
+{
+    number * 48271 % 2147483647
+}
+
+/// The first of so many steps at which the space and the list did not agree, or `None`.
+fn first_difference(rt: &impl Abort, alloc: Global, steps: u64) -> Result<Option<u64>, Fault> {
+    let mut holes = Holes::new(alloc, 0, 1_024)?;
+    let mut taken = Vec::new(alloc);
+    let mut number = 1;
+    for count in 0..steps {
+        number = following(number);
+        if !step(rt, &mut holes, &mut taken, number)? {
+            return Ok(Some(count));
+        }
+    }
+    Ok(None)
+}
+
+#[test]
+fn ten_thousand_steps_agree_with_a_list(rt: HostRuntime) -> Result<(), Fail> {
+    assert_eq!(rt; first_difference(&rt, rt.alloc(), 10_000)?, None);
     Ok(())
 }
 

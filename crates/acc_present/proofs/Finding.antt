@@ -1,32 +1,24 @@
 -- Where a section lies, one range after the other.
-use Rattle.std.proofs.Common.{ℕ, zero, suc, ◌≡◌, ◌<◌, ◌≤◌, refl, sym, ap, ◌∙◌, subst, Bool, true, false, cond, List, [], ◌∷◌, length, get_or, take, drop, drop-cons, None, arith}
-use Rattle.std.specs.Prelude.{◌==◌, ◌-◌, not, nat_lt}
+use Rattle.std.proofs.Common.{ℕ, ◌≡◌, ◌+◌, ◌<◌, ◌≤◌, refl, sym, ap, ◌∙◌, subst, Bool, true, false, cond, List, [], ◌∷◌, ◌++◌, length, Option, Some, None, arith}
+use Rattle.std.specs.Prelude.{◌==◌, ◌-◌, not, nat_lt, nat_le, filter}
+use Rattle.std.specs.Option.{option_or}
 use Rattle.std.specs.List.{AllByRecursion, list_all, list_any}
 use Rattle.std.proofs.lemmas.Bool.Decides.{nat_tests}
+use Rattle.std.proofs.lemmas.Option.{same_Some}
 use Rattle.acc_base.specs.declared.items.Section.{Section}
 use Rattle.acc_base.specs.declared.mappings.Range.{Range}
 use Rattle.acc_base.specs.declared.mappings.Found.{Found}
 use Rattle.acc_base.specs.declared.mappings.Found.TheVariants.{Inside, Partly, Absent}
 use Rattle.acc_base.specs.Section.{is_empty, is_within, is_apart, end_of}
-use Rattle.acc_base.specs.Ranges.{where_is, where_is_apart, without_ranges, range_around, found_in}
-use Rattle.acc_base.specs.Splits.{IsSplitBy}
+use Rattle.acc_base.specs.Ranges.{where_is, where_is_apart, without_ranges, range_around, range_from, found_in}
 use Rattle.acc_base.specs.Accounts.{EachPair, IsBelow}
-use Rattle.acc_base.proofs.Elements.{AllByRecursion-weaker, AllByRecursion-both, AllByRecursion-filter, find-none, list_all-to}
+use Rattle.acc_base.proofs.Elements.{AllByRecursion-weaker, AllByRecursion-both, AllByRecursion-filter, EachPair-filter, find-none, find_none, filter-kept, filter-none, found_has, list_all-to}
+use Rattle.acc_tree.proofs.Steps.{all_behind}
 use Rattle.acc_present.specs.Present.{AreMapped}
-use Rattle.acc_present.specs.Kept.{no_range}
-use Rattle.acc_base.proofs.Keyed.{all-drop, pairs-drop, keys_below}
 
 -- one of the listed blocks is this one
 abbrev pub is_listed : List ℕ → ℕ → Bool
 is_listed blocks block = list_any (λ b. b == block) blocks
-
--- the ranges from a place on are mapped as all are
-pub mapped-drop : (rs : List Range) (i : ℕ) → AreMapped rs → AreMapped (drop i rs)
-mapped-drop rs i m = record {
-  some = all-drop (λ (r : Range). 0 < r.section.len) rs i m.some;
-  rising = pairs-drop (λ (r : Range) (t : Range). IsBelow r.section t.section) rs i m.rising;
-  own_block = pairs-drop (λ (r : Range) (t : Range). r.block ≡ t.block → ⊥) rs i m.own_block;
-}
 
 -- where a section that is not empty lies
 pub where_is-some : (s : Section) (rs : List Range) → 0 < s.len → where_is s rs ≡ found_in s (range_around s rs) (cond (list_all (λ r. is_apart s r.section) rs) Absent Partly)
@@ -80,39 +72,213 @@ partly_first s blocks r rs some m free out reaches reached =
     let none : range_around s (without_ranges blocks rs) ≡ None = find-none (λ r. is_within s r.section) (without_ranges blocks rs) (AllByRecursion-filter (λ (t : Range). is_within s t.section ≡ false) (λ t. not (is_listed blocks t.block)) rs (AllByRecursion-weaker (λ (t : Range). IsBelow r.section t.section) (λ (t : Range). is_within s t.section ≡ false) rs (λ t below. grind (arith, nat_tests)) m.rising.0)) in
     rw free (rw (t, out, touches, none) refl)
 
--- ---- the front
+-- ---- the ranges on both sides of an address
 
--- of the ranges that start below an address only the last can reach behind it
-ends_below : (rs : List Range) (i a : ℕ) → EachPair (λ (r : Range) (t : Range). IsBelow r.section t.section) rs → i < length rs → AllByRecursion (λ (r : Range). r.section.start < a) (take (suc i) rs) → AllByRecursion (λ (r : Range). end_of r.section ≤ a) (take i rs)
-ends_below [] i a rise within below = absurd (omega arith)
-ends_below (r ∷ rs) zero a rise within below = tt
-ends_below (r ∷ []) (suc i) a rise within below = absurd (omega arith)
-ends_below (r ∷ t ∷ rs) (suc i) a rise within below =
-    let before : end_of r.section ≤ t.section.start = rise.0.0 in
-    let start : t.section.start < a = below.1.0 in
-    (omega arith, ends_below (t ∷ rs) i a rise.1 (omega arith) below.1)
+-- the ranges that begin at an address or behind it
+abbrev pub ranges_from : ℕ → List Range → List Range
+ranges_from k rs = filter (λ r. nat_le k r.section.start) rs
 
-skip_front : (s : Section) (blocks : List ℕ) (rs : List Range) (i : ℕ) → 0 < s.len → AllByRecursion (λ (r : Range). 0 < r.section.len) rs → AllByRecursion (λ (r : Range). end_of r.section ≤ s.start) (take i rs) → where_is_apart s blocks rs ≡ where_is_apart s blocks (drop i rs)
-skip_front s blocks [] zero some lens ends = refl
-skip_front s blocks [] (suc i) some lens ends = refl
-skip_front s blocks (r ∷ rs) zero some lens ends = refl
-skip_front s blocks (r ∷ rs) (suc i) some lens ends = skip_below s blocks r rs some lens.0 ends.0 ∙ skip_front s blocks rs i some lens.1 ends.1
+-- the last that begins below it
+abbrev pub last_below : ℕ → List Range → Option Range
+last_below k [] = None
+last_below k (r ∷ rs) = option_or (last_below k rs) (cond (nat_lt r.section.start k) (Some r) None)
 
--- so a search may begin at the place before that of the section's start
-pub found_from : (s : Section) (blocks : List ℕ) (rs : List Range) (at from : ℕ) → 0 < s.len → AreMapped rs → IsSplitBy (λ (r : Range). nat_lt r.section.start s.start) rs at → from ≡ at - 1 → where_is_apart s blocks rs ≡ where_is_apart s blocks (drop from rs)
-found_from s blocks rs zero from some m parts is = let zero_is : from ≡ 0 = omega arith in rw zero_is refl
-found_from s blocks rs (suc i) from some m parts is =
-    let within = parts.bound in
-    let same : from ≡ i = omega arith in
-    rw same (skip_front s blocks rs i some m.some (ends_below rs i s.start m.rising (omega arith) (keys_below (λ r. r.section.start) s.start rs (suc i) parts)))
+abbrev pub StartsRise : List Range → Type 0
+StartsRise rs = EachPair (λ (r : Range) (t : Range). r.section.start < t.section.start) rs
 
--- what the range at a place tells of the ranges from it on, it tells of all, where those before it say nothing
-pub told_here : (s : Section) (blocks : List ℕ) (rs : List Range) (i : ℕ) (found : Found) → i < length rs → AreMapped rs
-    → ((others : List Range) → AreMapped (get_or rs i no_range ∷ others) → where_is_apart s blocks (get_or rs i no_range ∷ others) ≡ found)
-    → where_is_apart s blocks (drop i rs) ≡ where_is_apart s blocks rs → found ≡ where_is_apart s blocks rs
-told_here s blocks rs i found within m told so_far =
-    let parts : drop i rs ≡ get_or rs i no_range ∷ drop (suc i) rs = drop-cons rs i no_range within in
-    sym (told (drop (suc i) rs) (subst AreMapped parts (mapped-drop rs i m))) ∙ ap (where_is_apart s blocks) (sym parts) ∙ so_far
+-- mapped ranges have rising starts
+pub starts_rise : (rs : List Range) → AreMapped rs → StartsRise rs
+starts_rise rs m = go rs m.some m.rising
+  where
+    go : (rs : List Range) → AllByRecursion (λ (r : Range). 0 < r.section.len) rs → EachPair (λ (r : Range) (t : Range). IsBelow r.section t.section) rs → StartsRise rs
+    go [] some rise = tt
+    go (r ∷ rs) some rise =
+        let len : 0 < r.section.len = some.0 in
+        (AllByRecursion-weaker (λ (t : Range). IsBelow r.section t.section) (λ t. r.section.start < t.section.start) rs (λ t below. omega arith) rise.0, go rs some.1 rise.1)
+
+-- mapped ranges stay so without the first
+pub mapped_rest : (r : Range) (rs : List Range) → AreMapped (r ∷ rs) → AreMapped rs
+mapped_rest r rs m = record { some = m.some.1; rising = m.rising.1; own_block = m.own_block.1 }
+
+-- and those from an address on are mapped
+pub mapped_rest_from : (k : ℕ) (rs : List Range) → AreMapped rs → AreMapped (ranges_from k rs)
+mapped_rest_from k rs m = record {
+  some = AllByRecursion-filter (λ (r : Range). 0 < r.section.len) (λ r. nat_le k r.section.start) rs m.some;
+  rising = EachPair-filter (λ (r : Range) (t : Range). IsBelow r.section t.section) (λ r. nat_le k r.section.start) rs m.rising;
+  own_block = EachPair-filter (λ (r : Range) (t : Range). r.block ≡ t.block → ⊥) (λ r. nat_le k r.section.start) rs m.own_block;
+}
+
+-- all that stand behind a range that begins at the address or behind it
+all_behind_from : (k : ℕ) (r : Range) (rs : List Range) → k ≤ r.section.start → AllByRecursion (λ t. r.section.start < t.section.start) rs → ranges_from k rs ≡ rs
+all_behind_from k r rs le later = filter-kept (λ t. nat_le k t.section.start) rs (AllByRecursion-weaker (λ t. r.section.start < t.section.start) (λ t. nat_le k t.section.start ≡ true) rs (λ t less. grind (arith, nat_tests)) later)
+
+-- ---- the last range below
+
+-- the range begins below the address, and all before it end before it
+pub record IsLastBelow (k : ℕ) (rs : List Range) (r : Range) : Type 0 where
+  pub front : List Range
+  pub parts : rs ≡ front ++ r ∷ ranges_from k rs
+  pub starts : r.section.start < k
+  pub before : AllByRecursion (λ (t : Range). IsBelow t.section r.section) front
+  pub mapped : AreMapped (r ∷ ranges_from k rs)
+
+-- none begins below
+none_below : (k : ℕ) (rs : List Range) → last_below k rs ≡ None → AllByRecursion (λ t. nat_le k t.section.start ≡ true) rs
+none_below k [] none = tt
+none_below k (r ∷ rs) none = go (λ e. none_below k rs e) (last_below k rs) refl (nat_lt r.section.start k) refl none
+  where
+    go : (last_below k rs ≡ None → AllByRecursion (λ t. nat_le k t.section.start ≡ true) rs) → (o : Option Range) → last_below k rs ≡ o → (b : Bool) → nat_lt r.section.start k ≡ b → option_or o (cond b (Some r) None) ≡ None → (nat_le k r.section.start ≡ true) × AllByRecursion (λ t. nat_le k t.section.start ≡ true) rs
+    go rest None e true t h = cc
+    go rest None e false t h = (grind (arith, nat_tests), rest e)
+    go rest (Some x) e b t h = cc
+
+pub all_from_below : (k : ℕ) (rs : List Range) → last_below k rs ≡ None → ranges_from k rs ≡ rs
+all_from_below k rs none = filter-kept (λ t. nat_le k t.section.start) rs (none_below k rs none)
+
+pub last_is : (k : ℕ) (rs : List Range) (r : Range) → AreMapped rs → last_below k rs ≡ Some r → IsLastBelow k rs r
+last_is k [] r m e = cc
+last_is k (x ∷ rs) r m e = go (last_is k rs r (mapped_rest x rs m)) (last_below k rs) refl (nat_lt x.section.start k) refl e
+  where
+    first : last_below k rs ≡ None → nat_lt x.section.start k ≡ true → x ≡ r → IsLastBelow k (x ∷ rs) r
+    first none t same =
+        let rest : ranges_from k rs ≡ rs = all_from_below k rs none in
+        let out : nat_le k x.section.start ≡ false = grind (arith, nat_tests) in
+        let from : ranges_from k (x ∷ rs) ≡ rs = rw out rest in
+        rw (← same) record { front = []; parts = ap (λ ts. x ∷ ts) (sym from); starts = grind (arith, nat_tests); before = tt; mapped = subst (λ (ts : List Range). AreMapped (x ∷ ts)) (sym from) m }
+
+    later : IsLastBelow k rs r → IsLastBelow k (x ∷ rs) r
+    later l =
+        let below : AllByRecursion (λ (t : Range). IsBelow x.section t.section) (l.front ++ r ∷ ranges_from k rs) = subst (λ (ts : List Range). AllByRecursion (λ (t : Range). IsBelow x.section t.section) ts) l.parts m.rising.0 in
+        let last : IsBelow x.section r.section = (all_behind (λ (t : Range). IsBelow x.section t.section) l.front (r ∷ ranges_from k rs) below).0 in
+        let starts = l.starts in
+        let out : nat_le k x.section.start ≡ false = grind (arith, nat_tests) in
+        let from : ranges_from k (x ∷ rs) ≡ ranges_from k rs = rw out refl in
+        record {
+          front = x ∷ l.front;
+          parts = ap (λ ts. x ∷ ts) l.parts ∙ ap (λ ts. x ∷ (l.front ++ r ∷ ts)) (sym from);
+          starts = l.starts;
+          before = (last, l.before);
+          mapped = subst (λ (ts : List Range). AreMapped (r ∷ ts)) (sym from) l.mapped;
+        }
+
+    go : (last_below k rs ≡ Some r → IsLastBelow k rs r) → (o : Option Range) → last_below k rs ≡ o → (b : Bool) → nat_lt x.section.start k ≡ b → option_or o (cond b (Some x) None) ≡ Some r → IsLastBelow k (x ∷ rs) r
+    go rest None none true t h = first none t (same_Some x r h)
+    go rest None none false t h = cc
+    go rest (Some y) is b t h = later (rest (is ∙ h))
+
+-- ranges that end before a section say nothing of it
+skip_all : (s : Section) (blocks : List ℕ) (front rs : List Range) → 0 < s.len → AllByRecursion (λ (r : Range). 0 < r.section.len) (front ++ rs) → AllByRecursion (λ (r : Range). end_of r.section ≤ s.start) front → where_is_apart s blocks (front ++ rs) ≡ where_is_apart s blocks rs
+skip_all s blocks [] rs some lens ends = refl
+skip_all s blocks (r ∷ front) rs some lens ends = skip_below s blocks r (front ++ rs) some lens.0 ends.0 ∙ skip_all s blocks front rs some lens.1 ends.1
+
+-- so a search may begin at the last range below the address behind a section's first
+from_last : (s : Section) (blocks : List ℕ) (rs : List Range) (r : Range) → 0 < s.len → AreMapped rs → last_below (s.start + 1) rs ≡ Some r → where_is_apart s blocks rs ≡ where_is_apart s blocks (r ∷ ranges_from (s.start + 1) rs)
+from_last s blocks rs r some m e =
+    let l = last_is (s.start + 1) rs r m e in
+    let starts = l.starts in
+    let lens = subst (λ (ts : List Range). AllByRecursion (λ (t : Range). 0 < t.section.len) ts) l.parts m.some in
+    ap (where_is_apart s blocks) l.parts ∙ skip_all s blocks l.front (r ∷ ranges_from (s.start + 1) rs) some lens (AllByRecursion-weaker (λ (t : Range). IsBelow t.section r.section) (λ (t : Range). end_of t.section ≤ s.start) l.front (λ t below. omega arith) l.before)
+
+-- what that one tells holds of all
+pub told_last : (s : Section) (blocks : List ℕ) (rs : List Range) (r : Range) (found : Found) → 0 < s.len → AreMapped rs → last_below (s.start + 1) rs ≡ Some r
+    → ((others : List Range) → AreMapped (r ∷ others) → where_is_apart s blocks (r ∷ others) ≡ found) → found ≡ where_is_apart s blocks rs
+told_last s blocks rs r found some m e told = sym (from_last s blocks rs r some m e ∙ told (ranges_from (s.start + 1) rs) (last_is (s.start + 1) rs r m e).mapped)
+
+pub last_filled : (k : ℕ) (rs : List Range) (r : Range) → AreMapped rs → last_below k rs ≡ Some r → 0 < r.section.len
+last_filled k rs r m e = (last_is k rs r m e).mapped.some.0
+
+-- ---- one range after the other
+
+-- the first of the ranges that are left, which say what all say
+abbrev pub IsNext : Section → List ℕ → List Range → Option Range → Type 0
+IsNext s blocks rs None = where_is_apart s blocks rs ≡ Absent
+IsNext s blocks rs (Some r) = (range_from r.section.start rs ≡ Some r) × (where_is_apart s blocks rs ≡ where_is_apart s blocks (ranges_from r.section.start rs))
+
+-- nothing begins between an address and the first range from there on
+nothing_between : (k : ℕ) (rs : List Range) (r : Range) → StartsRise rs → range_from k rs ≡ Some r → (ranges_from k rs ≡ ranges_from r.section.start rs) × (range_from r.section.start rs ≡ Some r) × (k ≤ r.section.start)
+nothing_between k [] r rise e = cc
+nothing_between k (x ∷ rs) r rise e = go (nothing_between k rs r rise.1) (nat_le k x.section.start) refl e
+  where
+    self : nat_le x.section.start x.section.start ≡ true
+    self = grind (arith, nat_tests)
+
+    go : (range_from k rs ≡ Some r → (ranges_from k rs ≡ ranges_from r.section.start rs) × (range_from r.section.start rs ≡ Some r) × (k ≤ r.section.start))
+        → (b : Bool) → nat_le k x.section.start ≡ b → cond b (Some x) (range_from k rs) ≡ Some r
+        → (ranges_from k (x ∷ rs) ≡ ranges_from r.section.start (x ∷ rs)) × (range_from r.section.start (x ∷ rs) ≡ Some r) × (k ≤ r.section.start)
+    go rest true t h =
+        let le : k ≤ x.section.start = grind (arith, nat_tests) in
+        let same : x ≡ r = same_Some x r h in
+        subst (λ (y : Range). (ranges_from k (x ∷ rs) ≡ ranges_from y.section.start (x ∷ rs)) × (range_from y.section.start (x ∷ rs) ≡ Some y) × (k ≤ y.section.start)) same (rw (t, self) (ap (λ ts. x ∷ ts) (all_behind_from k x rs le rise.0 ∙ sym (all_behind_from x.section.start x rs (omega arith) rise.0)), refl, le))
+    go rest false t h =
+        let p = rest h in
+        let le = p.2 in
+        let out : nat_le r.section.start x.section.start ≡ false = grind (arith, nat_tests) in
+        rw (t, out) p
+
+no_range_from : (k : ℕ) (rs : List Range) → range_from k rs ≡ None → ranges_from k rs ≡ []
+no_range_from k rs none = filter-none (λ r. nat_le k r.section.start) rs (find_none (λ r. nat_le k r.section.start) rs none)
+
+-- the first from an address on, where those from there on say what all say
+pub next_is : (s : Section) (blocks : List ℕ) (rs : List Range) (k : ℕ) → 0 < s.len → AreMapped rs → where_is_apart s blocks rs ≡ where_is_apart s blocks (ranges_from k rs) → IsNext s blocks rs (range_from k rs)
+next_is s blocks rs k some m same = go (range_from k rs) refl
+  where
+    go : (o : Option Range) → range_from k rs ≡ o → IsNext s blocks rs o
+    go None e = same ∙ ap (where_is_apart s blocks) (no_range_from k rs e) ∙ absent_from s [] some tt
+    go (Some r) e = let p = nothing_between k rs r (starts_rise rs m) e in (p.1, same ∙ ap (where_is_apart s blocks) p.0)
+
+-- the ranges from a range's start on are that range and those behind it
+pub rest_parts : (rs : List Range) (r : Range) → StartsRise rs → range_from r.section.start rs ≡ Some r → ranges_from r.section.start rs ≡ r ∷ ranges_from (r.section.start + 1) rs
+rest_parts [] r rise e = cc
+rest_parts (x ∷ rs) r rise e = go (rest_parts rs r rise.1) (nat_le r.section.start x.section.start) refl e
+  where
+    go : (range_from r.section.start rs ≡ Some r → ranges_from r.section.start rs ≡ r ∷ ranges_from (r.section.start + 1) rs)
+        → (b : Bool) → nat_le r.section.start x.section.start ≡ b → cond b (Some x) (range_from r.section.start rs) ≡ Some r
+        → cond b (x ∷ ranges_from r.section.start rs) (ranges_from r.section.start rs) ≡ r ∷ cond (nat_le (r.section.start + 1) x.section.start) (x ∷ ranges_from (r.section.start + 1) rs) (ranges_from (r.section.start + 1) rs)
+    go rest true t h =
+        let same : x ≡ r = same_Some x r h in
+        let out : nat_le (x.section.start + 1) x.section.start ≡ false = grind (arith, nat_tests) in
+        let behind : ranges_from (x.section.start + 1) rs ≡ rs = filter-kept (λ y. nat_le (x.section.start + 1) y.section.start) rs (AllByRecursion-weaker (λ y. x.section.start < y.section.start) (λ y. nat_le (x.section.start + 1) y.section.start ≡ true) rs (λ y less. grind (arith, nat_tests)) rise.0) in
+        rw (← same) (rw out (ap (λ ts. x ∷ ts) (all_behind_from x.section.start x rs (omega arith) rise.0 ∙ sym behind)))
+    go rest false t h =
+        let out : nat_le (r.section.start + 1) x.section.start ≡ false = grind (arith, nat_tests) in
+        rw out (rest h)
+
+-- where no range begins below the address behind a section's first
+pub no_last : (s : Section) (blocks : List ℕ) (rs : List Range) → 0 < s.len → AreMapped rs → last_below (s.start + 1) rs ≡ None → IsNext s blocks rs (range_from (s.start + 1) rs)
+no_last s blocks rs some m none = next_is s blocks rs (s.start + 1) some m (ap (where_is_apart s blocks) (sym (all_from_below (s.start + 1) rs none)))
+
+-- or the last of them says nothing
+pub silent_last : (s : Section) (blocks : List ℕ) (rs : List Range) (r : Range) → 0 < s.len → AreMapped rs → last_below (s.start + 1) rs ≡ Some r
+    → ((others : List Range) → where_is_apart s blocks (r ∷ others) ≡ where_is_apart s blocks others) → IsNext s blocks rs (range_from (s.start + 1) rs)
+silent_last s blocks rs r some m e silent = next_is s blocks rs (s.start + 1) some m (from_last s blocks rs r some m e ∙ silent (ranges_from (s.start + 1) rs))
+
+-- what the next one tells holds of all
+pub told_next : (s : Section) (blocks : List ℕ) (rs : List Range) (r : Range) (found : Found) → AreMapped rs → IsNext s blocks rs (Some r)
+    → ((others : List Range) → AreMapped (r ∷ others) → where_is_apart s blocks (r ∷ others) ≡ found) → found ≡ where_is_apart s blocks rs
+told_next s blocks rs r found m n told =
+    let parts = rest_parts rs r (starts_rise rs m) n.0 in
+    sym (n.1 ∙ ap (where_is_apart s blocks) parts ∙ told (ranges_from (r.section.start + 1) rs) (subst (λ (ts : List Range). AreMapped ts) parts (mapped_rest_from r.section.start rs m)))
+
+-- where it says nothing, those behind it say what all say
+pub silent_next : (s : Section) (blocks : List ℕ) (rs : List Range) (r : Range) → 0 < s.len → AreMapped rs → IsNext s blocks rs (Some r)
+    → ((others : List Range) → where_is_apart s blocks (r ∷ others) ≡ where_is_apart s blocks others) → IsNext s blocks rs (range_from (r.section.start + 1) rs)
+silent_next s blocks rs r some m n silent = next_is s blocks rs (r.section.start + 1) some m (n.1 ∙ ap (where_is_apart s blocks) (rest_parts rs r (starts_rise rs m) n.0) ∙ silent (ranges_from (r.section.start + 1) rs))
+
+pub next_filled : (s : Section) (blocks : List ℕ) (rs : List Range) (r : Range) → AreMapped rs → IsNext s blocks rs (Some r) → 0 < r.section.len
+next_filled s blocks rs r m n = (found_has (λ (t : Range). 0 < t.section.len) (λ t. nat_le r.section.start t.section.start) rs r m.some n.0).0
+
+-- how many are left
+abbrev pub ranges_left : Option Range → List Range → ℕ
+ranges_left None rs = 0
+ranges_left (Some r) rs = length (ranges_from r.section.start rs)
+
+-- each step leaves fewer
+pub left_less : (s : Section) (blocks : List ℕ) (rs : List Range) (r : Range) → AreMapped rs → IsNext s blocks rs (Some r) → ranges_left (range_from (r.section.start + 1) rs) rs < ranges_left (Some r) rs
+left_less s blocks rs r m n = let parts = ap (λ (ts : List Range). length ts) (rest_parts rs r (starts_rise rs m) n.0) in go (range_from (r.section.start + 1) rs) refl parts
+  where
+    go : (o : Option Range) → range_from (r.section.start + 1) rs ≡ o → length (ranges_from r.section.start rs) ≡ length (r ∷ ranges_from (r.section.start + 1) rs) → ranges_left o rs < length (ranges_from r.section.start rs)
+    go None e parts = omega arith
+    go (Some t) e parts = let p = ap (λ (ts : List Range). length ts) (nothing_between (r.section.start + 1) rs t (starts_rise rs m) e).0 in omega arith
 
 -- with no block listed every range counts
 without_none : (rs : List Range) → without_ranges [] rs ≡ rs

@@ -1,5 +1,4 @@
 pub mod Finding
-pub mod Indexing
 pub mod Mapping
 pub mod Registering
 pub mod Limits

@@ -1,5 +1,5 @@
 -- No counter is above the limit, as mappings begin, change and end.
-use Rattle.std.proofs.Common.{ℕ, zero, suc, ◌≡◌, ◌<◌, ◌≤◌, Bool, true, false, cond, List, [], ◌∷◌, get_or, set, Some, arith}
+use Rattle.std.proofs.Common.{ℕ, ◌≡◌, ◌<◌, ◌≤◌, refl, sym, ap, subst, ◌∙◌, Bool, true, false, cond, List, [], ◌∷◌, Some, arith}
 use Rattle.std.specs.Prelude.{◌==◌, option_map, unwrap_or}
 use Rattle.std.specs.List.{AllByRecursion}
 use Rattle.acc_base.specs.declared.mappings.Range.{Range}
@@ -7,6 +7,12 @@ use Rattle.acc_base.specs.declared.mappings.Counter.{Counter}
 use Rattle.acc_base.specs.declared.mappings.Counter.TheVariants.{Structured, Dynamic}
 use Rattle.acc_base.specs.Ranges.{changed_at, risen, fallen, cleared, counter_in, counter_of, range_of, bare_range}
 use Rattle.acc_base.specs.declared.items.Section.{Section}
+use Rattle.std.proofs.lemmas.Option.{same_Some}
+use Rattle.acc_base.specs.Accounts.{EachPair}
+use Rattle.acc_base.proofs.Results.{equal}
+use Rattle.acc_base.proofs.Lookups.{at-own}
+use Rattle.acc_base.proofs.RangeChanges.{block_of}
+use Rattle.acc_base.proofs.Elements.{AllByRecursion-map, AllByRecursion-both}
 use Rattle.acc_present.specs.Present.{IsWithinLimit}
 
 pub limit_changed : (m block : ℕ) (f : Range → Range) (rs : List Range) → ((r : Range) → IsWithinLimit m r → IsWithinLimit m (f r)) → AllByRecursion (IsWithinLimit m) rs → AllByRecursion (IsWithinLimit m) (changed_at block f rs)
@@ -28,10 +34,13 @@ pub limit_risen : (m : ℕ) (counter : Counter) (r : Range) → counter_in count
 limit_risen m Structured r less h = record { structured = omega arith; dynamic = h.dynamic }
 limit_risen m Dynamic r less h = record { structured = h.structured; dynamic = omega arith }
 
-pub limit_set : (m : ℕ) (rs : List Range) (i : ℕ) (new d : Range) → (IsWithinLimit m (get_or rs i d) → IsWithinLimit m new) → AllByRecursion (IsWithinLimit m) rs → AllByRecursion (IsWithinLimit m) (set rs i new)
-limit_set m [] i new d keeps h = tt
-limit_set m (r ∷ rs) zero new d keeps h = (keeps h.0, h.1)
-limit_set m (r ∷ rs) (suc i) new d keeps h = (h.0, limit_set m rs i new d keeps h.1)
+-- where the one that rises is below the limit
+pub limit_raised : (m : ℕ) (counter : Counter) (block : ℕ) (rs : List Range) (r : Range) → EachPair (λ (s : Range) (t : Range). s.block ≡ t.block → ⊥) rs → range_of block rs ≡ Some r → counter_in counter r < m → AllByRecursion (IsWithinLimit m) rs → AllByRecursion (IsWithinLimit m) (changed_at block (risen counter) rs)
+limit_raised m counter block rs r own found less h = AllByRecursion-map (IsWithinLimit m) (λ x. cond (x.block == block) (risen counter x) x) rs (AllByRecursion-both (λ x. range_of x.block rs ≡ Some x) (IsWithinLimit m) (λ x. IsWithinLimit m (cond (x.block == block) (risen counter x) x)) rs (λ x o l. go x o l (x.block == block) refl) (at-own block_of rs own) h)
+  where
+    go : (x : Range) → range_of x.block rs ≡ Some x → IsWithinLimit m x → (b : Bool) → (x.block == block) ≡ b → IsWithinLimit m (cond b (risen counter x) x)
+    go x o l true t = let same : x ≡ r = same_Some x r (sym o ∙ ap (λ n. range_of n rs) (equal x.block block t) ∙ found) in limit_risen m counter x (subst (λ y. counter_in counter y < m) (sym same) less) l
+    go x o l false t = l
 
 -- the counter of a block is not above the limit
 counter_limit : (m : ℕ) (counter : Counter) (block : ℕ) (rs : List Range) → AllByRecursion (IsWithinLimit m) rs → counter_of counter block rs ≤ m

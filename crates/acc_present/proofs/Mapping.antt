@@ -1,27 +1,32 @@
--- The mapped ranges and their index, as mappings begin and end.
-use Rattle.std.proofs.Common.{ℕ, ◌≡◌, ◌<◌, ◌≤◌, refl, sym, ap, ◌∙◌, Bool, true, false, cond, List, [], ◌∷◌, length, get_or, set, take, drop, insert, Option, Some, None, IsSome, arith}
-use Rattle.std.specs.Prelude.{◌==◌, not, option_map, nat_lt}
-use Rattle.std.specs.List.{AllByRecursion, remove}
+-- The entries of the mapped ranges and of their starts, as mappings begin and end.
+use Rattle.std.proofs.Common.{ℕ, ◌≡◌, ◌+◌, ◌^◌, ◌<◌, refl, sym, ap, subst, ◌∙◌, Bool, true, false, cond, List, [], ◌∷◌, Option, Some, None, IsSome, arith}
+use Rattle.std.specs.Prelude.{◌==◌, not, option_map, nat_lt, nat_le, IfSome, IfNone, Contains, ⊤}
+use Rattle.std.specs.Option.{option_or}
+use Rattle.std.specs.List.{AllByRecursion}
+use Rattle.std.specs.Borrow.{Bor}
 use Rattle.std.proofs.lemmas.Bool.Decides.{nat_tests}
+use Rattle.std.proofs.lemmas.Option.{same_Some}
+use Rattle.acc_base.specs.declared.items.Section.{Section}
 use Rattle.acc_base.specs.declared.mappings.Range.{Range}
 use Rattle.acc_base.specs.declared.mappings.Found.TheVariants.{Absent}
 use Rattle.acc_base.specs.Section.{is_apart}
-use Rattle.acc_base.specs.Ranges.{where_is, range_of, with_range, without_range, changed_at}
-use Rattle.acc_base.specs.Splits.{IsSplitBy}
+use Rattle.acc_base.specs.Ranges.{where_is, range_of, range_from, with_range, without_range, changed_at}
 use Rattle.acc_base.specs.Accounts.{EachPair, IsBelow}
-use Rattle.acc_base.proofs.RangeChanges.{put_range, KeepsPlace, section-change, block-change}
+use Rattle.acc_base.proofs.RangeChanges.{all_with, apart_with, rising_with, KeepsPlace, section-change, block-change}
 use Rattle.acc_base.proofs.Where.{absent_says}
-use Rattle.acc_base.proofs.InPlace.{put-insert}
-use Rattle.acc_base.proofs.Results.{equal}
+use Rattle.acc_base.proofs.Results.{equal, differ}
+use Rattle.acc_base.proofs.InPlace.{IsPut, all-put, find-put_other, find-put_new}
 use Rattle.acc_base.proofs.Lookups.{at, at-own}
-use Rattle.acc_base.proofs.Options.{some_mapped, none_mapped, still_some}
-use Rattle.acc_base.proofs.Splitting.{all_at}
-use Rattle.acc_base.proofs.Elements.{AllByRecursion-weaker, AllByRecursion-both, AllByRecursion-filter, AllByRecursion-map, EachPair-filter, EachPair-map, find_none, list_all-from}
-use Rattle.acc_present.specs.declared.index.Entry.{Entry}
-use Rattle.acc_present.specs.Present.{AreMapped}
-use Rattle.acc_present.specs.Kept.{AreBlocksRising, start_in, start_at, IsIndexed, IsRangeAt, no_range}
+use Rattle.acc_base.proofs.Options.{some_mapped, none_mapped, still_some, from_some, from_none}
+use Rattle.acc_base.proofs.Elements.{AllByRecursion-weaker, AllByRecursion-both, AllByRecursion-filter, AllByRecursion-map, EachPair-filter, EachPair-map, find-map, find-none, find_none, find_passes, found_has, list_all-from}
 use Rattle.acc_base.proofs.Keyed as keyed
-use Rattle.acc_base.proofs.Keyed.{all-take, all-drop, all-insert, pairs-insert}
+use Rattle.acc_tree.specs.declared.entries.Entry.{Entry}
+use Rattle.acc_tree.specs.Listing.{at_key, first_from, last_before, with_entry, without_key, value_written, with_value, seen}
+use Rattle.acc_tree.proofs.Values.{key-written}
+use Rattle.acc_present.specs.declared.entries.Mapping.{Mapping}
+use Rattle.acc_present.specs.Present.{AreMapped}
+use Rattle.acc_present.specs.Kept.{range_in, ranges_in, mapping_of, AreBounded, IsEntryOf, start_in, start_at, IsIndexed}
+use Rattle.acc_present.proofs.Finding.{last_below, starts_rise}
 
 -- a range's start and its block
 abbrev pub start_key : Range → ℕ
@@ -30,158 +35,343 @@ start_key r = r.section.start
 abbrev pub block_key : Range → ℕ
 block_key r = r.block
 
--- ---- starts
+-- the same of an entry
+abbrev pub key_of : Entry Mapping → ℕ
+key_of e = e.key
 
--- mapped ranges have rising starts
-pub starts_rise : (rs : List Range) → AllByRecursion (λ (r : Range). 0 < r.section.len) rs → EachPair (λ (r : Range) (t : Range). IsBelow r.section t.section) rs → keyed.Rise start_key rs
-starts_rise [] some rise = tt
-starts_rise (r ∷ rs) some rise =
-    let len : 0 < r.section.len = some.0 in
-    (AllByRecursion-weaker (λ (t : Range). IsBelow r.section t.section) (λ t. r.section.start < t.section.start) rs (λ t below. omega arith) rise.0, starts_rise rs some.1 rise.1)
+abbrev pub mapped_block : Entry Mapping → ℕ
+mapped_block e = e.value.block
 
--- a range that has the block is the one that is mapped to it
-pub range_here : (block i : ℕ) (rs : List Range) → AreMapped rs → i < length rs → (get_or rs i no_range).block ≡ block → IsRangeAt block rs i
-range_here block i rs m within is =
-    let own : range_of (get_or rs i no_range).block rs ≡ Some (get_or rs i no_range) = all_at (λ r. range_of r.block rs ≡ Some r) rs i no_range within (at-own block_key rs m.own_block) in
-    record { bound = within; found = ap (λ b. range_of b rs) (sym is) ∙ own }
+-- ---- what a search among the entries finds
 
--- the range at the place of the start that the index gives is that of the block
-pub indexed_range_there : (block start i : ℕ) (rs : List Range) (index : List Entry) → IsIndexed rs index → start_in block index ≡ Some start → IsSplitBy (keyed.is_key_below start_key start) rs i → IsRangeAt block rs i
-indexed_range_there block start i rs index kept given parts = go (range_of block rs) refl
+pub first-ranges : (k : ℕ) (es : List (Entry Mapping)) → option_map range_in (first_from k es) ≡ range_from k (ranges_in es)
+first-ranges k es = sym (find-map range_in (λ e. nat_le k e.key) (λ r. nat_le k r.section.start) es (λ e. refl))
+
+pub last-ranges : (k : ℕ) (es : List (Entry Mapping)) → option_map range_in (last_before k es) ≡ last_below k (ranges_in es)
+last-ranges k [] = refl
+last-ranges k (e ∷ es) = go (last-ranges k es) (last_before k es) refl (nat_lt e.key k)
   where
-    go : (o : Option Range) → range_of block rs ≡ o → IsRangeAt block rs i
-    go None e = let none : start_in block index ≡ None = kept.agrees block ∙ ap (option_map start_key) e in cc
-    go (Some r) e =
-        let rise = starts_rise rs kept.mapped.some kept.mapped.rising in
-        let starts : Some start ≡ Some (start_key r) = sym given ∙ kept.agrees block ∙ ap (option_map start_key) e in
-        let same : start ≡ start_key r = cc in
-        let own : at start_key (start_key r) rs ≡ Some r = keyed.at-found start_key (λ t. t.block == block) rs r rise e in
-        let own_there : IsSome (at start_key start rs) = rw same (rw own refl) in
-        let found = keyed.found_at start_key start rs i no_range rise parts own_there in
-        let is : Some (get_or rs i no_range) ≡ Some r = sym found.found ∙ ap (λ n. at start_key n rs) same ∙ own in
-        record { bound = found.bound; found = e ∙ sym is }
+    go : option_map range_in (last_before k es) ≡ last_below k (ranges_in es) → (o : Option (Entry Mapping)) → last_before k es ≡ o → (b : Bool)
+        → option_map range_in (option_or o (cond b (Some e) None)) ≡ option_or (last_below k (ranges_in es)) (cond b (Some (range_in e)) None)
+    go rest None is true = rw (← rest, is) refl
+    go rest None is false = rw (← rest, is) refl
+    go rest (Some x) is b = rw (← rest, is) refl
 
--- the index has an entry where a range has the block
-pub indexed_there : (block : ℕ) (rs : List Range) (index : List Entry) → IsIndexed rs index → IsSome (range_of block rs) → IsSome (start_in block index)
-indexed_there block rs index kept there = rw (kept.agrees block) (still_some start_key (range_of block rs) there)
+pub block-ranges : (block : ℕ) (es : List (Entry Mapping)) → range_of block (ranges_in es) ≡ option_map range_in (at mapped_block block es)
+block-ranges block es = find-map range_in (λ e. e.value.block == block) (λ r. r.block == block) es (λ e. refl)
 
--- and none where no range has it
-pub indexed_new : (block : ℕ) (rs : List Range) (index : List Entry) → IsIndexed rs index → range_of block rs ≡ None → start_in block index ≡ None
-indexed_new block rs index kept none = kept.agrees block ∙ ap (option_map start_key) none
+pub start-ranges : (start : ℕ) (es : List (Entry Mapping)) → at start_key start (ranges_in es) ≡ option_map range_in (at_key start es)
+start-ranges start es = find-map range_in (λ e. e.key == start) (λ r. r.section.start == start) es (λ e. refl)
 
--- the block of the range at the place
-pub block_there : (block i : ℕ) (rs : List Range) → IsRangeAt block rs i → (get_or rs i no_range).block ≡ block
-block_there block i rs at = let r = get_or rs i no_range in equal _ _ (go rs at.found)
+-- what a search finds is an address
+pub bounded_first : (k : ℕ) (es : List (Entry Mapping)) → AreBounded es → IfSome (first_from k es) (λ e. e.key < 2 ^ 64)
+bounded_first k es bounded = go (first_from k es) refl
   where
-    go : (xs : List Range) → range_of block xs ≡ Some (get_or rs i no_range) → ((get_or rs i no_range).block == block) ≡ true
-    go [] e = cc
-    go (x ∷ xs) e = pick (go xs) (x.block == block) refl e
-      where
-        pick : (range_of block xs ≡ Some (get_or rs i no_range) → ((get_or rs i no_range).block == block) ≡ true) → (b : Bool) → (x.block == block) ≡ b → cond b (Some x) (range_of block xs) ≡ Some (get_or rs i no_range) → ((get_or rs i no_range).block == block) ≡ true
-        pick rest true t h = let same : x ≡ get_or rs i no_range = cc in rw (← same) t
-        pick rest false t h = rest h
+    go : (o : Option (Entry Mapping)) → first_from k es ≡ o → IfSome o (λ e. e.key < 2 ^ 64)
+    go None e = tt
+    go (Some x) e = (found_has (λ (x : Entry Mapping). x.key < 2 ^ 64) (λ e. nat_le k e.key) es x bounded e).0
+
+pub bounded_last : (k : ℕ) (es : List (Entry Mapping)) → AreBounded es → IfSome (last_before k es) (λ e. e.key < 2 ^ 64)
+bounded_last k [] bounded = tt
+bounded_last k (e ∷ es) bounded = go (last_before k es) (nat_lt e.key k) (bounded_last k es bounded.1)
+  where
+    go : (o : Option (Entry Mapping)) (b : Bool) → IfSome o (λ x. x.key < 2 ^ 64) → IfSome (option_or o (cond b (Some e) None)) (λ x. x.key < 2 ^ 64)
+    go None true h = bounded.0
+    go None false h = tt
+    go (Some x) b h = h
+
+-- the range of the last entry below an address is the last range below
+pub last_found : (k start : ℕ) (es : List (Entry Mapping)) (before : Option (Entry Mapping)) (o want : Option Range) → k ≡ start → before ≡ last_before (k + 1) es → o ≡ option_map range_in before → o ≡ want → last_below (start + 1) (ranges_in es) ≡ want
+last_found k start es before o want same is image wanted = ap (λ n. last_below (n + 1) (ranges_in es)) (sym same) ∙ sym (last-ranges (k + 1) es) ∙ ap (option_map range_in) (sym is) ∙ sym image ∙ wanted
+
+-- that of the first entry from an address on is the first range
+pub next_range_found : (k start : ℕ) (es : List (Entry Mapping)) (from : Option (Entry Mapping)) (o : Option Range) → k ≡ start → from ≡ first_from (k + 1) es → o ≡ option_map range_in from → o ≡ range_from (start + 1) (ranges_in es)
+next_range_found k start es from o same is image = image ∙ ap (option_map range_in) is ∙ first-ranges (k + 1) es ∙ ap (λ n. range_from (n + 1) (ranges_in es)) same
+
+-- an entry is found by its own key
+pub key_found : (k : ℕ) (es : List (Entry Mapping)) (e : Entry Mapping) → at_key k es ≡ Some e → at_key e.key es ≡ Some e
+key_found k es e found =
+    let passes = subst (λ o. IfSome o (λ x. Contains es x × ((x.key == k) ≡ true))) found (find_passes (λ x. x.key == k) es) in
+    subst (λ n. at_key n es ≡ Some e) (sym (equal e.key k passes.1)) found
+
+-- ---- each entry has its own start and its own block
+
+all_unmapped : (P : Range → Type 0) (es : List (Entry Mapping)) → AllByRecursion P (ranges_in es) → AllByRecursion (λ e. P (range_in e)) es
+all_unmapped P [] h = tt
+all_unmapped P (e ∷ es) h = (h.0, all_unmapped P es h.1)
+
+pairs_unmapped : (R : Range → Range → Type 0) (es : List (Entry Mapping)) → EachPair R (ranges_in es) → EachPair (λ (e f : Entry Mapping). R (range_in e) (range_in f)) es
+pairs_unmapped R [] h = tt
+pairs_unmapped R (e ∷ es) h = (all_unmapped (R (range_in e)) es h.0, pairs_unmapped R es h.1)
+
+own_key : (es : List (Entry Mapping)) → AreMapped (ranges_in es) → AllByRecursion (λ e. at_key e.key es ≡ Some e) es
+own_key es m = at-own key_of es (keyed.rise_distinct key_of es (pairs_unmapped (λ (r : Range) (t : Range). r.section.start < t.section.start) es (starts_rise (ranges_in es) m)))
+
+own_mapped_block : (es : List (Entry Mapping)) → AreMapped (ranges_in es) → AllByRecursion (λ e. at mapped_block e.value.block es ≡ Some e) es
+own_mapped_block es m = at-own mapped_block es (pairs_unmapped (λ (r : Range) (t : Range). r.block ≡ t.block → ⊥) es m.own_block)
+
+-- the entry of a key is that of a block, by both
+pub record IsEntryBoth (block : ℕ) (es : List (Entry Mapping)) (e : Entry Mapping) : Type 0 where
+  pub key : at_key e.key es ≡ Some e
+  pub by_block : at mapped_block block es ≡ Some e
+  pub is : e.value.block ≡ block
+
+-- an entry that a key finds is that of its block
+pub by_key : (block : ℕ) (es : List (Entry Mapping)) (e : Entry Mapping) → AreMapped (ranges_in es) → at_key e.key es ≡ Some e → e.value.block ≡ block → IsEntryBoth block es e
+by_key block es e m found is = record { key = found; by_block = subst (λ n. at mapped_block n es ≡ Some e) is (found_has (λ (x : Entry Mapping). at mapped_block x.value.block es ≡ Some x) (λ x. x.key == e.key) es e (own_mapped_block es m) found).0; is = is }
+
+pub entry_by_key : (block : ℕ) (es : List (Entry Mapping)) (e : Entry Mapping) → AreMapped (ranges_in es) → at_key e.key es ≡ Some e → e.value.block ≡ block → IsEntryOf block es e
+entry_by_key block es e m found is = record { found = found; range = block-ranges block es ∙ ap (option_map range_in) (by_key block es e m found is).by_block }
+
+-- and one that is found as the range of a block is found by its key
+pub both_of : (block : ℕ) (es : List (Entry Mapping)) (e : Entry Mapping) → AreMapped (ranges_in es) → IsEntryOf block es e → IsEntryBoth block es e
+both_of block es e m h =
+    let has = (found_has (λ (r : Range). ⊤) (λ r. r.block == block) (ranges_in es) (range_in e) (all_true (ranges_in es)) h.range).1 in
+    by_key block es e m h.found (equal e.value.block block has)
+  where
+    all_true : (rs : List Range) → AllByRecursion (λ (r : Range). ⊤) rs
+    all_true [] = tt
+    all_true (r ∷ rs) = (tt, all_true rs)
+
+-- it begins at an address
+pub entry_bound : (block : ℕ) (es : List (Entry Mapping)) (e : Entry Mapping) → AreBounded es → IsEntryOf block es e → e.key < 2 ^ 64
+entry_bound block es e bounded h = (found_has (λ (x : Entry Mapping). x.key < 2 ^ 64) (λ x. x.key == e.key) es e bounded h.found).0
+
+pub entry_bound_if : (block : ℕ) (es : List (Entry Mapping)) (o : Option (Bor (Entry Mapping))) → AreBounded es → IfSome o (λ e. IsEntryOf block es e.now) → IfSome (seen o) (λ e. e.key < 2 ^ 64)
+entry_bound_if block es None bounded h = tt
+entry_bound_if block es (Some e) bounded h = entry_bound block es e.now bounded h
+
+-- ---- the start of a block's range
+
+-- the entry at the start that is kept for a block
+at_start : (block start : ℕ) (es : List (Entry Mapping)) (starts : List (Entry ℕ)) (e : Entry Mapping) → IsIndexed es starts → start_in block starts ≡ Some start → at_key start es ≡ Some e → IsEntryOf block es e
+at_start block start es starts e kept given found = go (range_of block (ranges_in es)) refl
+  where
+    key_is : e.key ≡ start
+    key_is = equal e.key start (found_has (λ (x : Entry Mapping). x.key < 2 ^ 64) (λ x. x.key == start) es e kept.bounded found).1
+
+    go : (o : Option Range) → range_of block (ranges_in es) ≡ o → IsEntryOf block es e
+    go None is = let none : start_in block starts ≡ None = kept.agrees block ∙ ap (option_map start_key) is in cc
+    go (Some r) is =
+        let same : start ≡ start_key r = same_Some start (start_key r) (sym given ∙ kept.agrees block ∙ ap (option_map start_key) is) in
+        let own : at start_key (start_key r) (ranges_in es) ≡ Some r = keyed.at-found start_key (λ t. t.block == block) (ranges_in es) r (starts_rise (ranges_in es) kept.mapped) is in
+        let here : at start_key start (ranges_in es) ≡ Some (range_in e) = start-ranges start es ∙ ap (option_map range_in) found in
+        let both : Some (range_in e) ≡ Some r = sym here ∙ ap (λ n. at start_key n (ranges_in es)) same ∙ own in
+        record { found = subst (λ n. at_key n es ≡ Some e) (sym key_is) found; range = is ∙ sym both }
+
+-- there is one
+start_there : (block start : ℕ) (es : List (Entry Mapping)) (starts : List (Entry ℕ)) → IsIndexed es starts → start_in block starts ≡ Some start → at_key start es ≡ None → ⊥
+start_there block start es starts kept given none = go (range_of block (ranges_in es)) refl
+  where
+    go : (o : Option Range) → range_of block (ranges_in es) ≡ o → ⊥
+    go None is = let absent : start_in block starts ≡ None = kept.agrees block ∙ ap (option_map start_key) is in cc
+    go (Some r) is =
+        let same : start ≡ start_key r = same_Some start (start_key r) (sym given ∙ kept.agrees block ∙ ap (option_map start_key) is) in
+        let own : at start_key (start_key r) (ranges_in es) ≡ Some r = keyed.at-found start_key (λ t. t.block == block) (ranges_in es) r (starts_rise (ranges_in es) kept.mapped) is in
+        let here : at start_key start (ranges_in es) ≡ None = start-ranges start es ∙ ap (option_map range_in) none in
+        let both : None ≡ Some r = sym here ∙ ap (λ n. at start_key n (ranges_in es)) same ∙ own in
+        cc
+
+pub start_found : (block start : ℕ) (es : List (Entry Mapping)) (starts : List (Entry ℕ)) (o : Option (Bor (Entry Mapping))) → IsIndexed es starts → start_in block starts ≡ Some start → seen o ≡ at_key start es → IfSome o (λ e. IsEntryOf block es e.now)
+start_found block start es starts None kept given is = tt
+start_found block start es starts (Some e) kept given is = at_start block start es starts e.now kept given (sym is)
+
+pub start_found_none : (block start : ℕ) (es : List (Entry Mapping)) (starts : List (Entry ℕ)) (o : Option (Bor (Entry Mapping))) → IsIndexed es starts → start_in block starts ≡ Some start → seen o ≡ at_key start es → IfNone o (range_of block (ranges_in es) ≡ None)
+start_found_none block start es starts None kept given is = absurd (start_there block start es starts kept given (sym is))
+start_found_none block start es starts (Some e) kept given is = tt
+
+-- no range has a block for which no start is kept
+pub no_start : (block : ℕ) (es : List (Entry Mapping)) (starts : List (Entry ℕ)) → IsIndexed es starts → at_key block starts ≡ None → range_of block (ranges_in es) ≡ None
+no_start block es starts kept none = from_none start_key (range_of block (ranges_in es)) (sym (kept.agrees block) ∙ ap (option_map (λ e. e.value)) none)
+
+-- and no start is kept for a block that no range has
+pub start_new : (block : ℕ) (es : List (Entry Mapping)) (starts : List (Entry ℕ)) → IsIndexed es starts → range_of block (ranges_in es) ≡ None → at_key block starts ≡ None
+start_new block es starts kept none = from_none (λ e. e.value) (at_key block starts) (kept.agrees block ∙ ap (option_map start_key) none)
+
+pub start_old : (block : ℕ) (es : List (Entry Mapping)) (starts : List (Entry ℕ)) → IsIndexed es starts → IsSome (range_of block (ranges_in es)) → IsSome (at_key block starts)
+start_old block es starts kept there = from_some (λ e. e.value) (at_key block starts) (rw (kept.agrees block) (still_some start_key (range_of block (ranges_in es)) there))
 
 -- ---- a range more
 
--- a range goes in at the place of its start
-pub with_range-insert : (new : Range) (rs : List Range) (i : ℕ) → AllByRecursion (λ r. r.section.start < new.section.start) (take i rs) → AllByRecursion (λ r. new.section.start < r.section.start) (drop i rs) → with_range new rs ≡ insert rs i new
-with_range-insert new rs i below above = put-insert (put_range new) rs i
-    (AllByRecursion-weaker (λ r. r.section.start < new.section.start) (λ r. nat_lt new.section.start r.section.start ≡ false) (take i rs) (λ r less. grind (arith, nat_tests)) below)
-    (AllByRecursion-weaker (λ r. new.section.start < r.section.start) (λ r. nat_lt new.section.start r.section.start ≡ true) (drop i rs) (λ r less. grind (arith, nat_tests)) above)
+-- its entry goes in by its start
+pub with_entry-ranges : (new : Entry Mapping) (es : List (Entry Mapping)) → ranges_in (with_entry new es) ≡ with_range (range_in new) (ranges_in es)
+with_entry-ranges new [] = refl
+with_entry-ranges new (e ∷ es) = go (with_entry-ranges new es) (nat_lt new.key e.key)
+  where
+    go : ranges_in (with_entry new es) ≡ with_range (range_in new) (ranges_in es) → (b : Bool) → ranges_in (cond b (new ∷ e ∷ es) (e ∷ with_entry new es)) ≡ cond b (range_in new ∷ range_in e ∷ ranges_in es) (range_in e ∷ with_range (range_in new) (ranges_in es))
+    go rest true = refl
+    go rest false = ap (λ rs. range_in e ∷ rs) rest
 
--- the ranges below the place of a new one end before it, and those above begin behind it
-pub record IsPlaced (new : Range) (rs : List Range) (i : ℕ) : Type 0 where
-  pub some : 0 < new.section.len
-  pub below : AllByRecursion (λ (r : Range). IsBelow r.section new.section) (take i rs)
-  pub above : AllByRecursion (λ (r : Range). IsBelow new.section r.section) (drop i rs)
-  pub later : AllByRecursion (λ (r : Range). new.section.start < r.section.start) (drop i rs)
+put_in_entries : {T : Type 0} (new : Entry T) → IsPut new (λ e. nat_lt new.key e.key) (with_entry new)
+put_in_entries new = record { alone = refl; among = λ e es. refl }
 
--- an absent section finds its place
-pub range_placed : (new : Range) (rs : List Range) (i : ℕ) → AreMapped rs → where_is new.section rs ≡ Absent → IsSplitBy (keyed.is_key_below start_key new.section.start) rs i → IsPlaced new rs i
-range_placed new rs i m absent parts =
+all-with_entry : (new : Entry Mapping) (es : List (Entry Mapping)) → new.key < 2 ^ 64 → AreBounded es → AreBounded (with_entry new es)
+all-with_entry new es bound bounded = all-put (put_in_entries new) (λ (e : Entry Mapping). e.key < 2 ^ 64) es bound bounded
+
+-- the entry of a key once one more is in
+at-with_entry : {T : Type 0} (new : Entry T) (es : List (Entry T)) (key : ℕ) → at_key new.key es ≡ None → at_key key (with_entry new es) ≡ cond (new.key == key) (Some new) (at_key key es)
+at-with_entry {T} new es key none = go (new.key == key) refl
+  where
+    go : (b : Bool) → (new.key == key) ≡ b → at_key key (with_entry new es) ≡ cond b (Some new) (at_key key es)
+    go true t = find-put_new (put_in_entries new) (λ e. e.key == key) es t (let same = equal new.key key t in subst (λ n. at_key n es ≡ None) same none)
+    go false t = find-put_other (put_in_entries new) (λ e. e.key == key) es t
+
+-- the range of a block once one more is mapped
+of-with_range : (new : Range) (rs : List Range) (block : ℕ) → range_of new.block rs ≡ None → range_of block (with_range new rs) ≡ cond (new.block == block) (Some new) (range_of block rs)
+of-with_range new rs block none = go (new.block == block) refl
+  where
+    put : IsPut new (λ r. nat_lt new.section.start r.section.start) (with_range new)
+    put = record { alone = refl; among = λ r rs. refl }
+
+    go : (b : Bool) → (new.block == block) ≡ b → range_of block (with_range new rs) ≡ cond b (Some new) (range_of block rs)
+    go true t = find-put_new put (λ r. r.block == block) rs t (let same = equal new.block block t in subst (λ n. range_of n rs ≡ None) same none)
+    go false t = find-put_other put (λ r. r.block == block) rs t
+
+-- no range begins where an absent section does
+pub absent_start : (new : Range) (es : List (Entry Mapping)) → AreMapped (ranges_in es) → where_is new.section (ranges_in es) ≡ Absent → at_key new.section.start es ≡ None
+absent_start new es m absent =
+    let says = absent_says new.section (ranges_in es) absent in
+    let len : 0 < new.section.len = grind (arith, nat_tests, says.1) in
+    let apart = list_all-from (λ r. is_apart new.section r.section) (ranges_in es) says.0 in
+    let off : AllByRecursion (λ (r : Range). (r.section.start == new.section.start) ≡ false) (ranges_in es) = AllByRecursion-both (λ (r : Range). 0 < r.section.len) (λ r. is_apart new.section r.section ≡ true) (λ (r : Range). (r.section.start == new.section.start) ≡ false) (ranges_in es) (λ r l a. let filled : 0 < r.section.len = l in grind (arith, nat_tests)) m.some apart in
+    from_none range_in (at_key new.section.start es) (sym (start-ranges new.section.start es) ∙ find-none (λ r. r.section.start == new.section.start) (ranges_in es) off)
+
+-- ranges stay mapped with one more
+mapped-with : (new : Range) (rs : List Range) → AreMapped rs → where_is new.section rs ≡ Absent → range_of new.block rs ≡ None → AreMapped (with_range new rs)
+mapped-with new rs m absent none =
     let says = absent_says new.section rs absent in
     let len : 0 < new.section.len = grind (arith, nat_tests, says.1) in
-    let apart = list_all-from (λ r. is_apart new.section r.section) rs says.0 in
-    let clear : AllByRecursion (λ (r : Range). (0 < r.section.len) × (is_apart new.section r.section ≡ true)) rs = AllByRecursion-both (λ (r : Range). 0 < r.section.len) (λ r. is_apart new.section r.section ≡ true) (λ (r : Range). (0 < r.section.len) × (is_apart new.section r.section ≡ true)) rs (λ r l a. (l, a)) m.some apart in
-    let above : AllByRecursion (λ (r : Range). IsBelow new.section r.section) (drop i rs) = AllByRecursion-both (λ (r : Range). new.section.start ≤ r.section.start) (λ (r : Range). (0 < r.section.len) × (is_apart new.section r.section ≡ true)) (λ (r : Range). IsBelow new.section r.section) (drop i rs) (λ r le h. let l = h.0 in let a = h.1 in grind (arith, nat_tests)) (keyed.keys_from start_key new.section.start rs i parts) (all-drop (λ (r : Range). (0 < r.section.len) × (is_apart new.section r.section ≡ true)) rs i clear) in
     record {
-      some = len;
-      below = AllByRecursion-both (λ (r : Range). r.section.start < new.section.start) (λ (r : Range). (0 < r.section.len) × (is_apart new.section r.section ≡ true)) (λ (r : Range). IsBelow r.section new.section) (take i rs) (λ r less h. let l = h.0 in let a = h.1 in grind (arith, nat_tests)) (keyed.keys_below start_key new.section.start rs i parts) (all-take (λ (r : Range). (0 < r.section.len) × (is_apart new.section r.section ≡ true)) rs i clear);
-      above = above;
-      later = AllByRecursion-weaker (λ (r : Range). IsBelow new.section r.section) (λ (r : Range). new.section.start < r.section.start) (drop i rs) (λ r below. omega arith) above;
+      some = all_with (λ (r : Range). 0 < r.section.len) new rs len m.some;
+      rising = rising_with new rs len m.some (list_all-from (λ r. is_apart new.section r.section) rs says.0) m.rising;
+      own_block = apart_with (λ r t. r.block ≡ t.block → ⊥) new rs (AllByRecursion-weaker (λ (r : Range). (r.block == new.block) ≡ false) (λ r. (new.block ≡ r.block → ⊥) × (r.block ≡ new.block → ⊥)) rs (λ r f. (λ same. grind (arith, nat_tests), λ same. grind (arith, nat_tests))) (find_none (λ (r : Range). r.block == new.block) rs none)) m.own_block;
     }
 
--- ranges stay mapped with a new one in its place
-pub mapped-insert : (new : Range) (rs : List Range) (i : ℕ) → AreMapped rs → IsPlaced new rs i → range_of new.block rs ≡ None → AreMapped (insert rs i new)
-mapped-insert new rs i m p none =
-    let others = find_none (λ (r : Range). r.block == new.block) rs none in
-    record {
-      some = all-insert (λ (r : Range). 0 < r.section.len) rs i new m.some p.some;
-      rising = pairs-insert (λ (r : Range) (t : Range). IsBelow r.section t.section) rs i new m.rising p.below p.above;
-      own_block = pairs-insert (λ (r : Range) (t : Range). r.block ≡ t.block → ⊥) rs i new m.own_block
-          (AllByRecursion-weaker (λ (r : Range). (r.block == new.block) ≡ false) (λ r. r.block ≡ new.block → ⊥) (take i rs) (λ r f same. grind (arith, nat_tests)) (all-take (λ (r : Range). (r.block == new.block) ≡ false) rs i others))
-          (AllByRecursion-weaker (λ (r : Range). (r.block == new.block) ≡ false) (λ r. new.block ≡ r.block → ⊥) (drop i rs) (λ r f same. grind (arith, nat_tests)) (all-drop (λ (r : Range). (r.block == new.block) ≡ false) rs i others));
-    }
+pub mapped_now : (new : Entry Mapping) (start : Entry ℕ) (es : List (Entry Mapping)) (starts : List (Entry ℕ)) → IsIndexed es starts → new.key < 2 ^ 64 → where_is (range_in new).section (ranges_in es) ≡ Absent → range_of new.value.block (ranges_in es) ≡ None
+    → start.key ≡ new.value.block → start.value ≡ new.key → IsIndexed (with_entry new es) (with_entry start starts)
+mapped_now new start es starts kept bound absent none key_is value_is = record {
+  mapped = rw (with_entry-ranges new es) (mapped-with (range_in new) (ranges_in es) kept.mapped absent none);
+  bounded = all-put_entry;
+  agrees = λ block.
+      ap (option_map (λ e. e.value)) (at-with_entry start starts block (subst (λ n. at_key n starts ≡ None) (sym key_is) (start_new new.value.block es starts kept none)))
+      ∙ some_mapped (λ e. e.value) (start.key == block) start (at_key block starts)
+      ∙ same block
+      ∙ sym (some_mapped start_key (new.value.block == block) (range_in new) (range_of block (ranges_in es)))
+      ∙ ap (option_map start_key) (sym (of-with_range (range_in new) (ranges_in es) block none))
+      ∙ ap (start_at block) (sym (with_entry-ranges new es));
+}
+  where
+    all-put_entry : AreBounded (with_entry new es)
+    all-put_entry = all-with_entry new es bound kept.bounded
 
--- what the lists are once a new range stands in its place
-pub record IsMappedNow (new : Range) (rs ts : List Range) (index : List Entry) : Type 0 where
-  pub ranges : ts ≡ with_range new rs
-  pub indexed : IsIndexed ts index
-
--- a new range in its place, and an index that gives its start
-pub mapped_now : (new : Range) (rs ts : List Range) (i : ℕ) (old index : List Entry) → IsIndexed rs old → where_is new.section rs ≡ Absent → range_of new.block rs ≡ None → IsSplitBy (keyed.is_key_below start_key new.section.start) rs i → ts ≡ insert rs i new
-    → AreBlocksRising index → ((block : ℕ) → start_in block index ≡ cond (new.block == block) (Some new.section.start) (start_in block old)) → IsMappedNow new rs ts index
-mapped_now new rs ts i old index kept absent none parts is rising starts =
-    let p = range_placed new rs i kept.mapped absent parts in
-    record {
-      ranges = is ∙ sym (with_range-insert new rs i (keyed.keys_below start_key new.section.start rs i parts) p.later);
-      indexed = record {
-        mapped = rw is (mapped-insert new rs i kept.mapped p none);
-        rising = rising;
-        agrees = λ block. starts block ∙ ap (cond (new.block == block) (Some new.section.start)) (kept.agrees block) ∙ sym (some_mapped start_key (new.block == block) new (range_of block rs)) ∙ ap (option_map start_key) (sym (keyed.at-insert block_key rs i new block none)) ∙ ap (λ xs. start_at block xs) (sym is);
-      };
-    }
+    same : (block : ℕ) → cond (start.key == block) (Some start.value) (start_in block starts) ≡ cond (new.value.block == block) (Some new.key) (start_at block (ranges_in es))
+    same block = rw (key_is, value_is, kept.agrees block) refl
 
 -- ---- a range less
 
--- ranges stay mapped without one
-pub mapped-without : (block : ℕ) (rs : List Range) → AreMapped rs → AreMapped (without_range block rs)
+mapped-without : (block : ℕ) (rs : List Range) → AreMapped rs → AreMapped (without_range block rs)
 mapped-without block rs m = record {
   some = AllByRecursion-filter (λ (r : Range). 0 < r.section.len) (λ r. not (r.block == block)) rs m.some;
   rising = EachPair-filter (λ (r : Range) (t : Range). IsBelow r.section t.section) (λ r. not (r.block == block)) rs m.rising;
   own_block = EachPair-filter (λ (r : Range) (t : Range). r.block ≡ t.block → ⊥) (λ r. not (r.block == block)) rs m.own_block;
 }
 
--- what the lists are once a range is taken out
-pub record IsUnmappedNow (block : ℕ) (rs ts : List Range) (index : List Entry) : Type 0 where
-  pub ranges : ts ≡ without_range block rs
-  pub indexed : IsIndexed ts index
+-- of each entry, its key is that of the block's exactly where its block is the block
+pub record IsOnlyOne (block : ℕ) (e x : Entry Mapping) : Type 0 where
+  pub tests : (x.key == e.key) ≡ (x.value.block == block)
+  pub same : (x.key == e.key) ≡ true → x ≡ e
 
--- a range taken out, and an index without its block
-pub unmapped_now : (block i : ℕ) (rs ts : List Range) (old index : List Entry) → IsIndexed rs old → IsRangeAt block rs i → ts ≡ remove rs i
-    → AreBlocksRising index → ((other : ℕ) → start_in other index ≡ cond (block == other) None (start_in other old)) → IsUnmappedNow block rs ts index
-unmapped_now block i rs ts old index kept place is rising starts =
-    let e : ts ≡ without_range block rs = is ∙ keyed.remove-filter block_key rs i block no_range kept.mapped.own_block place.bound (block_there block i rs place) in
+pub only_one : (block : ℕ) (es : List (Entry Mapping)) (e : Entry Mapping) → AreMapped (ranges_in es) → IsEntryBoth block es e → AllByRecursion (IsOnlyOne block e) es
+only_one block es e m h = AllByRecursion-both (λ x. at_key x.key es ≡ Some x) (λ x. at mapped_block x.value.block es ≡ Some x) (IsOnlyOne block e) es (λ x k b. record { tests = tests x k b; same = λ t. by_its_key x k t }) (own_key es m) (own_mapped_block es m)
+  where
+    by_its_key : (x : Entry Mapping) → at_key x.key es ≡ Some x → (x.key == e.key) ≡ true → x ≡ e
+    by_its_key x k t = same_Some x e (sym k ∙ ap (λ n. at_key n es) (equal x.key e.key t) ∙ h.key)
+
+    by_its_block : (x : Entry Mapping) → at mapped_block x.value.block es ≡ Some x → (x.value.block == block) ≡ true → x ≡ e
+    by_its_block x b t = same_Some x e (sym b ∙ ap (λ n. at mapped_block n es) (equal x.value.block block t) ∙ h.by_block)
+
+    tests : (x : Entry Mapping) → at_key x.key es ≡ Some x → at mapped_block x.value.block es ≡ Some x → (x.key == e.key) ≡ (x.value.block == block)
+    tests x k b = go (x.key == e.key) refl (x.value.block == block) refl
+      where
+        go : (s : Bool) → (x.key == e.key) ≡ s → (t : Bool) → (x.value.block == block) ≡ t → s ≡ t
+        go true s true t = refl
+        go false s false t = refl
+        go true s false t = let same : x ≡ e = by_its_key x k s in let is : x.value.block ≡ block = ap mapped_block same ∙ h.is in absurd (differ x.value.block block t is)
+        go false s true t = let same : x ≡ e = by_its_block x b t in absurd (differ x.key e.key s (ap key_of same))
+
+ranges-without : (block : ℕ) (e : Entry Mapping) (es : List (Entry Mapping)) → AllByRecursion (IsOnlyOne block e) es → ranges_in (without_key e.key es) ≡ without_range block (ranges_in es)
+ranges-without block e [] only = refl
+ranges-without block e (x ∷ es) only = rw only.0.tests (go (ranges-without block e es only.1) (x.value.block == block))
+  where
+    go : ranges_in (without_key e.key es) ≡ without_range block (ranges_in es) → (b : Bool) → ranges_in (cond (not b) (x ∷ without_key e.key es) (without_key e.key es)) ≡ cond (not b) (range_in x ∷ without_range block (ranges_in es)) (without_range block (ranges_in es))
+    go rest true = rest
+    go rest false = ap (λ rs. range_in x ∷ rs) rest
+
+-- what the entries are once a range is taken out
+pub record IsUnmappedNow (block : ℕ) (es ts : List (Entry Mapping)) (starts : List (Entry ℕ)) : Type 0 where
+  pub ranges : ranges_in ts ≡ without_range block (ranges_in es)
+  pub indexed : IsIndexed ts starts
+
+pub unmapped_now : (block : ℕ) (es : List (Entry Mapping)) (starts : List (Entry ℕ)) (e : Entry Mapping) → IsIndexed es starts → IsEntryOf block es e → IsUnmappedNow block es (without_key e.key es) (without_key block starts)
+unmapped_now block es starts e kept h =
+    let ranges = ranges-without block e es (only_one block es e kept.mapped (both_of block es e kept.mapped h)) in
     record {
-      ranges = e;
+      ranges = ranges;
       indexed = record {
-        mapped = rw e (mapped-without block rs kept.mapped);
-        rising = rising;
-        agrees = λ other. starts other ∙ ap (cond (block == other) None) (kept.agrees other) ∙ sym (none_mapped start_key (block == other) (range_of other rs)) ∙ ap (option_map start_key) (sym (keyed.at-without block_key rs block other)) ∙ ap (λ xs. start_at other xs) (sym e);
+        mapped = rw ranges (mapped-without block (ranges_in es) kept.mapped);
+        bounded = AllByRecursion-filter (λ (x : Entry Mapping). x.key < 2 ^ 64) (λ x. not (x.key == e.key)) es kept.bounded;
+        agrees = λ other.
+            ap (option_map (λ x. x.value)) (keyed.at-without (λ (x : Entry ℕ). x.key) starts block other)
+            ∙ none_mapped (λ x. x.value) (block == other) (at_key other starts)
+            ∙ ap (cond (block == other) None) (kept.agrees other)
+            ∙ sym (none_mapped start_key (block == other) (range_of other (ranges_in es)))
+            ∙ ap (option_map start_key) (sym (keyed.at-without block_key (ranges_in es) block other))
+            ∙ ap (start_at other) (sym ranges);
       };
     }
 
 -- ---- a range changed
 
--- a change of counters leaves the index as it is
-pub changed_indexed : (block : ℕ) (f : Range → Range) (rs : List Range) (index : List Entry) → KeepsPlace f → IsIndexed rs index → IsIndexed (changed_at block f rs) index
-changed_indexed block f rs index keeps kept = record { mapped = changed_mapped; rising = kept.rising; agrees = λ other. kept.agrees other ∙ sym (start_same other rs) }
+abbrev range_made : Section → Mapping → Range
+range_made s m = record { section = s; block = m.block; structured = m.structured; dynamic = m.dynamic }
+
+ranges-changed : (block : ℕ) (f : Range → Range) (e : Entry Mapping) (es : List (Entry Mapping)) → KeepsPlace f → AllByRecursion (IsOnlyOne block e) es → ranges_in (with_value e.key (mapping_of (f (range_in e))) es) ≡ changed_at block f (ranges_in es)
+ranges-changed block f e [] keeps only = refl
+ranges-changed block f e (x ∷ es) keeps only = ap (λ r. r ∷ ranges_in (with_value e.key (mapping_of (f (range_in e))) es)) (one only.0) ∙ ap (λ rs. cond (x.value.block == block) (f (range_in x)) (range_in x) ∷ rs) (ranges-changed block f e es keeps only.1)
   where
-    changed_mapped : AreMapped (changed_at block f rs)
+    whole : (r : Range) (s : Section) → r.section ≡ s → range_made s (mapping_of r) ≡ r
+    whole r s is = ap (λ t. range_made t (mapping_of r)) (sym is)
+
+    one : IsOnlyOne block e x → range_in (value_written e.key (mapping_of (f (range_in e))) x) ≡ cond (x.value.block == block) (f (range_in x)) (range_in x)
+    one o = rw (← o.tests) (go (x.key == e.key) refl)
+      where
+        go : (b : Bool) → (x.key == e.key) ≡ b → range_in (cond b (record x { value = mapping_of (f (range_in e)) }) x) ≡ cond b (f (range_in x)) (range_in x)
+        go true t = let same : x ≡ e = o.same t in rw same (whole (f (range_in e)) (range_in e).section (keeps.section (range_in e)))
+        go false t = refl
+
+-- what the entries are once the range of a block is changed
+pub record IsChangedNow (block : ℕ) (f : Range → Range) (es ts : List (Entry Mapping)) (starts : List (Entry ℕ)) : Type 0 where
+  pub ranges : ranges_in ts ≡ changed_at block f (ranges_in es)
+  pub indexed : IsIndexed ts starts
+
+changed_now : (block : ℕ) (f : Range → Range) (es : List (Entry Mapping)) (starts : List (Entry ℕ)) (e : Entry Mapping) → KeepsPlace f → IsIndexed es starts → IsEntryOf block es e → IsChangedNow block f es (with_value e.key (mapping_of (f (range_in e))) es) starts
+changed_now block f es starts e keeps kept h = record {
+  ranges = ranges;
+  indexed = record {
+    mapped = rw ranges changed_mapped;
+    bounded = AllByRecursion-map (λ (x : Entry Mapping). x.key < 2 ^ 64) (value_written e.key (mapping_of (f (range_in e)))) es (AllByRecursion-weaker (λ (x : Entry Mapping). x.key < 2 ^ 64) (λ x. (value_written e.key (mapping_of (f (range_in e))) x).key < 2 ^ 64) es (λ x l. rw (key-written e.key (mapping_of (f (range_in e))) x) l) kept.bounded);
+    agrees = λ other. kept.agrees other ∙ sym (start_same other (ranges_in es)) ∙ ap (start_at other) (sym ranges);
+  };
+}
+  where
+    ranges : ranges_in (with_value e.key (mapping_of (f (range_in e))) es) ≡ changed_at block f (ranges_in es)
+    ranges = ranges-changed block f e es keeps (only_one block es e kept.mapped (both_of block es e kept.mapped h))
+
+    changed_mapped : AreMapped (changed_at block f (ranges_in es))
     changed_mapped = record {
-      some = AllByRecursion-map (λ (r : Range). 0 < r.section.len) (λ r. cond (r.block == block) (f r) r) rs (AllByRecursion-weaker (λ (r : Range). 0 < r.section.len) (λ r. 0 < (cond (r.block == block) (f r) r).section.len) rs (λ r l. rw (section-change block f keeps r) l) kept.mapped.some);
-      rising = EachPair-map (λ (r : Range) (t : Range). IsBelow r.section t.section) (λ r. cond (r.block == block) (f r) r) rs (λ r t b. rw (section-change block f keeps r, section-change block f keeps t) b) kept.mapped.rising;
-      own_block = EachPair-map (λ (r : Range) (t : Range). r.block ≡ t.block → ⊥) (λ r. cond (r.block == block) (f r) r) rs (λ r t d. rw (block-change block f keeps r, block-change block f keeps t) d) kept.mapped.own_block;
+      some = AllByRecursion-map (λ (r : Range). 0 < r.section.len) (λ r. cond (r.block == block) (f r) r) (ranges_in es) (AllByRecursion-weaker (λ (r : Range). 0 < r.section.len) (λ r. 0 < (cond (r.block == block) (f r) r).section.len) (ranges_in es) (λ r l. rw (section-change block f keeps r) l) kept.mapped.some);
+      rising = EachPair-map (λ (r : Range) (t : Range). IsBelow r.section t.section) (λ r. cond (r.block == block) (f r) r) (ranges_in es) (λ r t b. rw (section-change block f keeps r, section-change block f keeps t) b) kept.mapped.rising;
+      own_block = EachPair-map (λ (r : Range) (t : Range). r.block ≡ t.block → ⊥) (λ r. cond (r.block == block) (f r) r) (ranges_in es) (λ r t d. rw (block-change block f keeps r, block-change block f keeps t) d) kept.mapped.own_block;
     }
 
     start_same : (other : ℕ) (xs : List Range) → start_at other (changed_at block f xs) ≡ start_at other xs
@@ -194,6 +384,9 @@ changed_indexed block f rs index keeps kept = record { mapped = changed_mapped; 
         pick rest true = ap (λ s. Some s.start) (section-change block f keeps x)
         pick rest false = rest
 
--- writing a changed range in its place changes that of the block
-pub set_changed : (block i : ℕ) (f : Range → Range) (rs : List Range) (new : Range) → AreMapped rs → IsRangeAt block rs i → new ≡ f (get_or rs i no_range) → set rs i new ≡ changed_at block f rs
-set_changed block i f rs new m place is = ap (set rs i) is ∙ keyed.set-map block_key rs i block no_range f m.own_block place.bound (block_there block i rs place)
+-- the same where the changed range was written over it
+pub written_now : (block : ℕ) (f : Range → Range) (es ts : List (Entry Mapping)) (starts : List (Entry ℕ)) (e : Entry Mapping) (r : Range) → KeepsPlace f → IsIndexed es starts → IsEntryOf block es e
+    → r ≡ f (range_in e) → ts ≡ with_value r.section.start (mapping_of r) es → IsChangedNow block f es ts starts
+written_now block f es ts starts e r keeps kept h is now =
+    let same : ts ≡ with_value e.key (mapping_of (f (range_in e))) es = now ∙ ap (λ (x : Range). with_value x.section.start (mapping_of x) es) is ∙ ap (λ (s : Section). with_value s.start (mapping_of (f (range_in e))) es) (keeps.section (range_in e)) in
+    rw same (changed_now block f es starts e keeps kept h)

@@ -1,6 +1,7 @@
 //! Where a look-up found a range, so that the calls after it need not look for it again.
 
 use acc_base::Found;
+use acc_rows::Place;
 
 /// Where the range of a block stands, as a look-up found it.
 ///
@@ -9,8 +10,10 @@ use acc_base::Found;
 /// of another section or the default one. So a hint that is stale costs a search, and nothing else.
 #[derive(Clone, Copy, Debug, Default, PartialEq, Eq)]
 pub struct Hint {
+    // The host address at which the range begins.
+    pub(crate) start: Option<u64>,
     // A place among the ranges by rising start.
-    pub(crate) at: usize,
+    pub(crate) place: Place,
 }
 
 /// Where a section lies, and where the range stands that tells it.

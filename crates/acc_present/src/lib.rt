@@ -2,8 +2,9 @@
 //! register of open data regions (OpenACC 3.3, sections 2.6.5 and 2.6.7).
 #![tactic(auto)]
 
+mod entries;
 mod hints;
-mod index;
+mod mappings;
 mod presence;
 mod ranges;
 mod register;

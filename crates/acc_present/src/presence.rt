@@ -1,6 +1,6 @@
 //! The present table as one value.
 
-ghost use Rattle.std.specs.Prelude.{◌≡◌, ◌+◌, ◌^◌, ◌<◌, ◌≤◌, ◌↔◌, length, MatchResult, None, Some, Err, IfErr, OnOk, OnErr, MatchOption};
+ghost use Rattle.std.specs.Prelude.{◌≡◌, ℕ, ◌+◌, ◌*◌, ◌^◌, ◌<◌, ◌≤◌, ◌↔◌, length, MatchResult, None, Some, Err, IfErr, OnOk, OnErr, MatchOption};
 ghost use Rattle.acc_base.specs.declared.mappings.Counter.TheVariants.{Structured, Dynamic};
 ghost use Rattle.acc_base.specs.declared.mappings.Found.TheVariants.{Absent};
 ghost use Rattle.acc_base.specs.Ranges.{where_is, where_is_apart, range_of, range_from, structured_of, dynamic_of, counter_of, with_range, without_range, changed_at, bare_range, risen, fallen, cleared};
@@ -8,9 +8,10 @@ ghost use Rattle.acc_base.specs.Register.{region_at, newest_region, holdings_at,
 ghost use Rattle.acc_present.specs.Present.{new_table, with_ranges, with_regions, HasRange, HasRegion, IsRoomKept, IsRangeRoomTaken, IsRegionRoomTaken, IsRoomMissing, IsLawful};
 
 use crate::hints::{Hint, Located};
-use crate::ranges::Mappings;
+use crate::mappings::Mappings;
 use crate::register::Register;
 use acc_base::{Counter, Counters, Fault, Holding, Range, Section};
+use acc_tree::Visits;
 use std::alloc::Global;
 use std::marker::Model;
 
@@ -20,9 +21,8 @@ use std::marker::Model;
 /// Contracts see the table, and the room that was made for more beside it. A refused call leaves the table as it was.
 /// Only `new`, `add`, `enter` and `reserve` take memory.
 ///
-/// A section is searched for by halves, and so is a block number in an index of them, unless the range stands where a
-/// [`Hint`] says. Adding and removing move entries beside that: of the ranges those that start behind, of the index of
-/// blocks those of higher numbers.
+/// A section is searched for by halves, and so is a block number, unless the range stands where a [`Hint`] says. Adding
+/// and removing move few entries beside that, however many ranges are mapped.
 #[derive(Drop)]
 pub struct Present {
     counter_max: u64,
@@ -76,7 +76,18 @@ impl Present {
     pub fn find(&self, section: Section) -> Located
         ensures { result.found ≡ where_is section self.now.table.ranges }
     {
-        self.mappings.find(section, &[])
+        self.find_counted(section, &mut Visits::new())
+    }
+
+    /// As [`Present::find`], with the steps of its search counted: at most two for each binary digit of the number of
+    /// mapped ranges.
+    pub fn find_counted(&self, section: Section, visits: &mut Visits) -> Located
+        requires limit { visits.old ≤ 2 ^ 63 }
+        ensures found { result.found ≡ where_is section self.now.table.ranges }
+        ensures not_fewer { visits.old ≤ visits.new }
+        ensures visits { (d : ℕ) → length self.now.table.ranges < 2 ^ d → visits.new ≤ visits.old + 2 * d }
+    {
+        self.mappings.find_counted(section, visits)
     }
 
     /// Where a section would lie if the mappings to the listed blocks had ended, and where its range stands.
@@ -323,7 +334,7 @@ impl Present {
         ensures needed { OnErr result (IsRoomMissing ranges regions holdings self.old.room) }
         ensures room { IsRoomKept self.old.room self.new.room }
     {
-        self.mappings.reserve(ranges as usize)?;
+        self.mappings.reserve(ranges)?;
         self.register.reserve(regions as usize, holdings as usize)?;
         Ok(())
     }

@@ -5,8 +5,10 @@ ghost use Rattle.acc_lend.specs.Loans.{section, with_section};
 ghost use Rattle.acc_script.specs.Kernels.{source_of, image_of};
 
 use acc_base::Section;
-use acc_lend::{Add, Lease, Number, Plus, Xor, run_one};
+use acc_lend::{Add, Cuts, Lease, Number, Open, Plus, Pointwise, Xor, run_one, run_parts};
 use acc_read::ScriptKernel;
+use std::sync::Wait;
+use std::thread::Threads;
 
 /// The section of host memory that a kernel reads; an empty one but for `plus`.
 pub fn source_of(kernel: ScriptKernel) -> Section
@@ -21,14 +23,37 @@ pub fn source_of(kernel: ScriptKernel) -> Section
 }
 
 /// Runs a kernel over all the bytes of a loan, with the bytes of its source (OpenACC 3.3, section 2.5, compute
-/// constructs). Takes no memory.
-pub fn run_kernel(kernel: ScriptKernel, lease: &mut Lease, src: &[u8])
+/// constructs), in so many parts at most.
+pub fn run_kernel<R: Threads + Wait + Sync + AllocGlobal>(
+    rt: &R,
+    parts: usize,
+    kernel: ScriptKernel,
+    lease: &mut Lease,
+    src: &[u8],
+)
     ensures { lease.new ≡ with_section lease.old (image_of kernel (section lease.old) src.now) }
 {
     match kernel {
-        ScriptKernel::Add(number) => run_one(lease, &Add(number), src),
-        ScriptKernel::Xor(number) => run_one(lease, &Xor(number), src),
-        ScriptKernel::Number(number) => run_one(lease, &Number(number), src),
-        ScriptKernel::Plus(_) => run_one(lease, &Plus, src),
+        ScriptKernel::Add(number) => run_evenly(rt, parts, &Add(number), lease, src),
+        ScriptKernel::Xor(number) => run_evenly(rt, parts, &Xor(number), lease, src),
+        ScriptKernel::Number(number) => run_evenly(rt, parts, &Number(number), lease, src),
+        ScriptKernel::Plus(_) => run_evenly(rt, parts, &Plus, lease, src),
+    }
+}
+
+/// Runs a kernel over all the bytes of a loan, in so many parts of one length at most, which are worked on at the same
+/// time. Where there is no memory for the list of the parts, it runs as one, so memory is never wanting for it.
+fn run_evenly<R: Threads + Wait + Sync + AllocGlobal, K: Pointwise + Sync>(
+    rt: &R,
+    parts: usize,
+    kernel: &K,
+    lease: &mut Lease,
+    src: &[u8],
+)
+    ensures { lease.new ≡ with_section lease.old (K.image kernel.now 0 (section lease.old) src.now) }
+{
+    match Cuts::even(rt.alloc(), lease.len(), parts) {
+        Ok(cuts) => run_parts(rt, lease, &cuts, kernel, src, &Open),
+        Err(_) => run_one(lease, kernel, src),
     }
 }

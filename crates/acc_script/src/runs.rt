@@ -12,7 +12,6 @@ use crate::sessions::Session;
 use crate::{Sink, Source};
 use acc_base::{Config, Fault, ScriptFault};
 use acc_read::{Trouble, line_at, next_line};
-use std::alloc::Global;
 use std::sync::Wait;
 use std::thread::Threads;
 
@@ -27,8 +26,9 @@ pub enum Status {
 
 /// Reads a whole script, and then runs it line by line on a new table of these limits.
 ///
-/// `parts`, from 1 to 64, is how many parts the work of a kernel may be cut into. What is printed does not depend on
-/// it, and each kernel still runs as one part.
+/// `parts`, from 1 to 64, is into how many parts the work of a kernel is cut at most, each of which runs in a thread of
+/// its own. What is printed does not depend on it. Where a thread cannot be had, or memory for the list of the parts, a
+/// kernel goes on with fewer.
 ///
 /// What is said here of bytes read and written is proved where the source and the sink tell theirs ([`Source`],
 /// [`Sink`]).
@@ -53,28 +53,28 @@ pub fn run<R: Threads + Wait + Sync + AllocGlobal, S: Source, W: Sink>(
     requires few { parts ≤ 64 }
     ensures { Ran config (S.told reader.old) (S.told reader.new) (W.told writer.old) (W.told writer.new) result }
 {
-    let _ = parts;
     let input = read_all(rt.alloc(), reader)?;
-    play(rt.alloc(), config, &input, writer)
+    play(rt, config, parts, &input, writer)
 }
 
-/// Runs all lines of an input on a new table.
+/// Runs all lines of an input on a new table, and each kernel in so many parts at most.
 #[tactic(auto, unfolding(crate::specs::Scripts::transcript))]
-fn play<W: Sink>(
-    alloc: Global,
+fn play<R: Threads + Wait + Sync + AllocGlobal, W: Sink>(
+    rt: &R,
     config: Config,
+    parts: usize,
     input: &[u8],
     writer: &mut W,
 ) -> Result<Status, Fault>
     ensures { Played (transcript config input.now) (W.told writer.old) (W.told writer.new) result }
 {
-    let mut session = Session::new(alloc, config)?;
-    play_lines(alloc, &mut session, input, writer)
+    let mut session = Session::new(rt.alloc(), config, parts)?;
+    play_lines(rt, &mut session, input, writer)
 }
 
 /// Runs all lines of an input.
-fn play_lines<W: Sink>(
-    alloc: Global,
+fn play_lines<R: Threads + Wait + Sync + AllocGlobal, W: Sink>(
+    rt: &R,
     session: &mut Session,
     input: &[u8],
     writer: &mut W,
@@ -86,7 +86,7 @@ fn play_lines<W: Sink>(
     let mut refused = false;
     'lines: while !rest.is_empty() {
         let (line, after) = next_line(rest);
-        let is_refused = run_line(alloc, done + 1, session, line, writer)?;
+        let is_refused = run_line(rt, done + 1, session, line, writer)?;
         refused |= is_refused;
         rest = after;
         done += 1;
@@ -102,8 +102,8 @@ fn play_lines<W: Sink>(
 
 /// Runs the line of a number and writes what it prints; answers whether it was refused.
 #[tactic(auto, unfolding(crate::specs::Scripts::line_turned))]
-fn run_line<W: Sink>(
-    alloc: Global,
+fn run_line<R: Threads + Wait + Sync + AllocGlobal, W: Sink>(
+    rt: &R,
     number: u64,
     session: &mut Session,
     line: &[u8],
@@ -112,12 +112,12 @@ fn run_line<W: Sink>(
     ensures { LineRuns number (session_state session.old) line.now (W.told writer.old) (W.told writer.new) (session_state session.new) result }
 {
     let innermost = session.table.newest_region();
-    let statement = match line_at(alloc, &session.arrays, innermost, line) {
+    let statement = match line_at(rt.alloc(), &session.arrays, innermost, line) {
         Ok(statement) => statement,
         Err(Trouble::Memory) => return Err(Fault::Memory),
         Err(Trouble::Line(kind)) => return Err(Fault::Script { line: number, kind }),
     };
-    let effect = session.perform(alloc, statement)?;
+    let effect = session.perform(rt, statement)?;
     if !write_effect(writer, number, &session.table, effect) {
         return Err(Fault::Write);
     }

@@ -15,28 +15,33 @@ use acc_lend::Lease;
 use acc_read::{Arrays, ScriptKernel, Statement};
 use acc_table::{Call, Reply, Table, abandon};
 use std::alloc::Global;
+use std::sync::Wait;
+use std::thread::Threads;
 
-/// A table, and the arrays that the script has declared.
+/// A table, the arrays that the script has declared, and how kernels run.
 #[derive(Drop)]
 pub struct Session {
     /// The table.
     pub table: Table,
     /// The arrays.
     pub arrays: Arrays,
+    /// Into how many parts the work of a kernel is cut at most.
+    parts: usize,
 }
 
 impl Session {
-    /// A new table of these limits, and no array.
+    /// A new table of these limits, and no array. Each kernel is to run in so many parts at most.
     ///
     /// # Errors
     ///
     /// [`Fault::Memory`] alone.
-    pub fn new(alloc: Global, config: Config) -> Result<Session, Fault>
+    pub fn new(alloc: Global, config: Config, parts: usize) -> Result<Session, Fault>
         ensures { Opens config result }
     {
         Ok(Session {
             table: Table::new(alloc, config)?,
             arrays: Arrays::new(alloc, config.host() as u32),
+            parts,
         })
     }
 
@@ -46,13 +51,17 @@ impl Session {
     ///
     /// [`Fault::Memory`] alone, for a statement that declares, or makes a call that the table accepts and makes an
     /// event of. Nothing changed, but a kernel's block is lent where memory is wanting to bring it back.
-    pub fn perform(&mut self, alloc: Global, statement: Statement<'_>) -> Result<Effect, Fault>
+    pub fn perform<R: Threads + Wait + Sync + AllocGlobal>(
+        &mut self,
+        rt: &R,
+        statement: Statement<'_>,
+    ) -> Result<Effect, Fault>
         ensures { Performs (session_state self.old) (meaning_of statement.entry) (session_state self.new) result }
     {
         match statement {
             Statement::Blank => Ok(Effect::Nothing),
             Statement::Declare { name, array } => {
-                self.arrays.insert(alloc, name, array)?;
+                self.arrays.insert(rt.alloc(), name, array)?;
                 Ok(Effect::Nothing)
             }
             Statement::Direct(directive) => self.call(Call::Do(directive)),
@@ -60,7 +69,7 @@ impl Session {
                 region,
                 kernel,
                 section,
-            } => self.launch(region, kernel, section),
+            } => self.launch(rt, region, kernel, section),
             Statement::Write { addr, bytes } => self.call(Call::HostWrite { addr, bytes }),
             Statement::Show(section) => Ok(self.answer_show(section)),
             Statement::Peek(section) => Ok(Effect::DeviceBytes(section)),
@@ -84,8 +93,9 @@ impl Session {
     /// Runs a kernel over a section of host memory that is lent to it in an open region (OpenACC 3.3, section 2.5,
     /// compute constructs). The bytes of its source have to be in host memory.
     #[tactic(auto, using(crate::proofs::Launched::launch_refused, crate::proofs::Launched::launch_done))]
-    fn launch(
+    fn launch<R: Threads + Wait + Sync + AllocGlobal>(
         &mut self,
+        rt: &R,
         region: u64,
         kernel: ScriptKernel,
         section: Section,
@@ -96,7 +106,7 @@ impl Session {
             return Ok(Effect::Refused(Fault::OutOfHost { item: 1 }));
         }
         match self.table.apply(Call::Lend { region, section }) {
-            Ok(Reply::Lease(lease)) => self.work(kernel, lease),
+            Ok(Reply::Lease(lease)) => self.work(rt, kernel, lease),
             Ok(reply) => {
                 reply.abandon();
                 Ok(Effect::Nothing)
@@ -107,12 +117,17 @@ impl Session {
 
     /// Runs a kernel over a loan and brings it back. The lease is let go, so that its block stays lent, where that is
     /// refused or wants memory.
-    fn work(&mut self, kernel: ScriptKernel, mut lease: Lease) -> Result<Effect, Fault>
+    fn work<R: Threads + Wait + Sync + AllocGlobal>(
+        &mut self,
+        rt: &R,
+        kernel: ScriptKernel,
+        mut lease: Lease,
+    ) -> Result<Effect, Fault>
         ensures { IfSome (host_read_of (source_of kernel) (session_state self.old).world.state.host)
             (λ src. CallsFor (session_state self.old) (back_from kernel src lease) (session_state self.new) result) }
     {
         let src = self.table.host_read(source_of(kernel)).unwrap_or(&[]);
-        run_kernel(kernel, &mut lease, src);
+        run_kernel(rt, self.parts, kernel, &mut lease, src);
         self.call(Call::Gather(lease))
     }
 

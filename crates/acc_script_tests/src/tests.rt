@@ -1,6 +1,8 @@
 //! What no clause says: that calls succeed, that the definitions say what is meant, and what is left where an end or
 //! memory fails. What a script prints is a row of a table, and one function runs a row.
 
+ghost use Rattle.std.specs.Prelude.{◌≤◌};
+
 use acc_base::{Config, Fault, ScriptFault};
 use acc_script::{MemorySink, MemorySource, Status, run};
 use faults::{FAULTS, LONG, Long, PIECES, TEXTS};
@@ -73,18 +75,21 @@ fn same<R: Abort, T: PartialEq + Debug + Copy, P: Debug + Copy>(
     assert_eq!(rt; found, wanted, "at {place:?}");
 }
 
-/// Runs a script within limits, and compares what it prints and how it ends.
+/// Runs a script within limits, each kernel in so many parts at most; compares what it prints and how it ends.
 fn check<R: Abort + Threads + Wait + Sync + AllocGlobal>(
     rt: &R,
     limits: &Limits,
+    parts: usize,
     script: &[u8],
     printed: &str,
     end: End,
-) -> Result<(), Fault> {
+) -> Result<(), Fault>
+    requires { (1 ≤ parts) × (parts ≤ 64) }
+{
     let config = config(limits)?;
     let mut reader = MemorySource::new(script);
     let mut writer = MemorySink::new(rt.alloc());
-    let answer = run(rt, &mut reader, &mut writer, config, 1);
+    let answer = run(rt, &mut reader, &mut writer, config, parts);
     same(rt, writer.as_slice(), printed.as_bytes(), script);
     same(rt, answer, answer_of(end), script);
     Ok(())
@@ -98,13 +103,16 @@ fn answer_of(end: End) -> Result<Status, Fault> {
     }
 }
 
-/// Runs the scripts of some rows.
+/// Runs the scripts of some rows, each kernel in so many parts at most.
 fn check_rows<R: Abort + Threads + Wait + Sync + AllocGlobal>(
     rt: &R,
+    parts: usize,
     rows: &[Row],
-) -> Result<(), Fault> {
+) -> Result<(), Fault>
+    requires { (1 ≤ parts) × (parts ≤ 64) }
+{
     for (script, printed, end) in rows {
-        check(rt, &WIDE, script.as_bytes(), printed, *end)?;
+        check(rt, &WIDE, parts, script.as_bytes(), printed, *end)?;
     }
     Ok(())
 }
@@ -115,38 +123,40 @@ fn check_small_rows<R: Abort + Threads + Wait + Sync + AllocGlobal>(
     rows: &[SmallRow],
 ) -> Result<(), Fault> {
     for (limits, script, printed, end) in rows {
-        check(rt, limits, script.as_bytes(), printed, *end)?;
+        check(rt, limits, 1, script.as_bytes(), printed, *end)?;
     }
     Ok(())
 }
 
 #[test]
 fn scripts_print_and_end(rt: HostRuntime) -> Result<(), Fail> {
-    check_rows(&rt, SCRIPTS)?;
+    check_rows(&rt, 1, SCRIPTS)?;
     Ok(())
 }
 
 #[test]
 fn regions_print_and_end(rt: HostRuntime) -> Result<(), Fail> {
-    check_rows(&rt, REGIONS)?;
+    check_rows(&rt, 1, REGIONS)?;
     Ok(())
 }
 
 #[test]
 fn pointers_print_and_end(rt: HostRuntime) -> Result<(), Fail> {
-    check_rows(&rt, POINTERS)?;
+    check_rows(&rt, 1, POINTERS)?;
     Ok(())
 }
 
 #[test]
 fn queues_print_and_end(rt: HostRuntime) -> Result<(), Fail> {
-    check_rows(&rt, QUEUES)?;
+    check_rows(&rt, 1, QUEUES)?;
     Ok(())
 }
 
 #[test]
 fn kernels_print_and_end(rt: HostRuntime) -> Result<(), Fail> {
-    check_rows(&rt, KERNELS)?;
+    check_rows(&rt, 1, KERNELS)?;
+    check_rows(&rt, 3, KERNELS)?;
+    check_rows(&rt, 64, KERNELS)?;
     Ok(())
 }
 
@@ -189,7 +199,7 @@ fn check_joined<R: Abort + Threads + Wait + Sync + AllocGlobal>(
 ) -> Result<(), Fault> {
     let mut script = Vec::new(rt.alloc());
     join(&mut script, parts)?;
-    check(rt, &WIDE, &script, printed, end)
+    check(rt, &WIDE, 1, &script, printed, end)
 }
 
 /// Runs a script that is clean, and compares what it prints with the text of some parts.
@@ -203,6 +213,7 @@ fn check_text<R: Abort + Threads + Wait + Sync + AllocGlobal>(
     check(
         rt,
         &WIDE,
+        1,
         script.as_bytes(),
         str::from_utf8(&printed)?,
         CLEAN,

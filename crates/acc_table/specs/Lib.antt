@@ -1,6 +1,9 @@
 pub mod Kept
 pub mod Calls
+pub mod Counts
 pub mod Making
 pub mod Queries
 pub mod Turns
 pub mod Turning
+pub mod Laws
+pub mod Replies

@@ -6,6 +6,7 @@
 #![tactic(auto)]
 
 mod calls;
+pub mod laws;
 mod lending;
 mod making;
 mod queries;

@@ -4,3 +4,4 @@ pub mod Steps
 pub mod Fronts
 pub mod Values
 pub mod Kept
+pub mod Listed

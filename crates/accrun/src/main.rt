@@ -1,23 +1,30 @@
 //! Runs a script of OpenACC data directives, read on standard input, and writes what it prints on standard output.
 #![tactic(auto)]
 
+mod drills;
 mod options;
 mod outputs;
 #[cfg(test)]
 mod tests;
 mod tools;
+mod watching;
 mod words;
 
+use crate::outputs::Output;
 use crate::tools::{FAULTED, tell, tell_words, tool};
+use crate::watching::watched;
 use crate::words::read_words;
 use acc_base::Fault;
-use acc_script::{FromRead, ToWrite};
-use std::io::BufWriter;
+use acc_script::{FromRead, Sink, Source, ToWrite};
+use std::io::{BufWriter, IsTerminal};
 use std::process::ExitCode;
+use std::sync::Wait;
+use std::thread::Threads;
 
 fn main(rt: HostRuntime) -> ExitCode {
+    let rt = &rt;
     let mut err = ToWrite::new(rt.stderr());
-    let words = match read_words(&rt) {
+    let words = match read_words(rt) {
         Ok(words) => words,
         Err(fault) => return ExitCode::from(tell_words(&mut err, fault)),
     };
@@ -25,7 +32,45 @@ fn main(rt: HostRuntime) -> ExitCode {
         tell(&mut err, Fault::Memory);
         return ExitCode::from(FAULTED);
     };
-    let mut out = ToWrite::new(stdout);
-    let mut reader = FromRead::new(rt.stdin());
-    ExitCode::from(tool(&rt, words, &mut reader, &mut out, &mut err))
+    let run = Run {
+        rt,
+        words,
+        reader: FromRead::new(rt.stdin()),
+        out: ToWrite::new(stdout),
+        err,
+    };
+    ExitCode::from(if rt.stderr().is_terminal() {
+        watched(rt, move || run.status())
+    } else {
+        run.status()
+    })
+}
+
+/// A run of the program with its streams.
+#[derive(Drop)]
+struct Run<'a, R, S, O, E> {
+    rt: &'a R,
+    words: Vec<String>,
+    reader: S,
+    out: O,
+    err: E,
+}
+
+impl<
+    R: Threads + Wait + Sync + AllocGlobal,
+    S: Source + Drop,
+    O: Output + Drop,
+    E: Sink + Drop,
+> Run<'_, R, S, O, E> {
+    /// Runs the program, and answers its status.
+    fn status(self) -> u8 {
+        let Run {
+            rt,
+            words,
+            mut reader,
+            mut out,
+            mut err,
+        } = self;
+        tool(rt, words, &mut reader, &mut out, &mut err)
+    }
 }

@@ -7,13 +7,23 @@ use std::alloc::Global;
 /// finds no value.
 const DEFAULT_SIZE: u64 = 65_536;
 
-/// What the command line says.
+/// The default of `--threads`, as `DEFAULT_SIZE` is that of sizes.
+const DEFAULT_THREADS: u64 = 1;
+
+/// What a trace may keep of each event: what it did to counters, and no bytes.
+const TRACES: &[&str] = &["counts"];
+
+/// What the command line says. What the trace keeps is left out, since there is no choice.
 #[derive(Clone, Copy)]
 pub struct Options {
     /// The size of host memory in bytes.
     pub host: u64,
     /// The size of device memory in bytes.
     pub device: u64,
+    /// In how many threads each kernel works at most, or a drill.
+    pub threads: u64,
+    /// How often each thread of a drill enters and exits a region, where there is a drill in place of a script.
+    pub drill: Option<u64>,
 }
 
 /// An option that takes the size of a memory.
@@ -27,6 +37,39 @@ fn size_option<'a>(alloc: Global, name: &'a str, help: &'a str) -> Arg<'a> {
         .default_value("65536")
 }
 
+/// The option of how many threads each kernel works in.
+fn threads_option<'a>(alloc: Global) -> Arg<'a> {
+    Arg::new(alloc, "threads")
+        .long("threads")
+        .value_name("N")
+        .help("In how many threads each kernel works")
+        .action(ArgAction::Set)
+        .value_parser(value_parser!(u64).range(1..=64))
+        .default_value("1")
+}
+
+/// The option of a drill.
+fn drill_option<'a>(alloc: Global) -> Arg<'a> {
+    Arg::new(alloc, "drill")
+        .long("drill")
+        .value_name("ROUNDS")
+        .help("Enter and exit regions in N threads instead")
+        .action(ArgAction::Set)
+        .value_parser(value_parser!(u64).range(1..=1_000))
+}
+
+/// The option of what the trace keeps of each event.
+fn trace_option<'a>(alloc: Global) -> Arg<'a> {
+    Arg::new(alloc, "trace")
+        .long("trace")
+        .value_name("WHAT")
+        .help("What the trace keeps")
+        .action(ArgAction::Set)
+        .value_parser(TRACES)
+        .hide_possible_values(true)
+        .default_value("counts")
+}
+
 /// Reads the command line. The first word is the program's name.
 ///
 /// # Errors
@@ -38,11 +81,16 @@ pub fn parsed_options(alloc: Global, words: &[String]) -> Result<Options, Error>
         .override_usage(USAGE)
         .after_help(AFTER_HELP)
         .arg(size_option(alloc, "host", "Size of host memory"))?
-        .arg(size_option(alloc, "device", "Size of device memory"))?;
+        .arg(size_option(alloc, "device", "Size of device memory"))?
+        .arg(threads_option(alloc))?
+        .arg(drill_option(alloc))?
+        .arg(trace_option(alloc))?;
     let matches = command.try_get_matches_from(words)?;
     Ok(Options {
         host: matches.get_one::<u64>("host").unwrap_or(DEFAULT_SIZE),
         device: matches.get_one::<u64>("device").unwrap_or(DEFAULT_SIZE),
+        threads: matches.get_one::<u64>("threads").unwrap_or(DEFAULT_THREADS),
+        drill: matches.get_one::<u64>("drill"),
     })
 }
 
@@ -51,7 +99,12 @@ const USAGE: &str = "accrun [OPTIONS] < SCRIPT";
 
 /// What the help says after the options: the statements, an example, the status.
 const AFTER_HELP: &str = "\
-A size is from 16 to 67108864 bytes, a multiple of 16.
+A size is from 16 to 67108864 bytes, a multiple of 16. N is from 1 to 64, and
+the output of a script does not depend on it. WHAT is counts: of each event the
+trace keeps what it did to counters, and no bytes. ROUNDS is from 1 to 1000: how
+often each of the N threads enters and exits a region over one array. Then no
+script is read, and one line tells what is left: the allowance of regions, the
+number of events, and both counters of the array.
 
 The script is read whole before its first line runs.
 

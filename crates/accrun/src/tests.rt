@@ -4,7 +4,7 @@ use crate::outputs::Output;
 use crate::tools::{tell_words, tool};
 use crate::words::{WordsFault, read_words};
 use acc_script::{MemorySink, MemorySource};
-use rows::{COPIES, FAULTS, KERNELS, LIVES, QUEUES, REFUSALS, Row};
+use rows::{COPIES, DRILLS, FAULTS, KERNELS, LIVES, QUEUES, REFUSALS, Row};
 use std::alloc::{AllocError, Global};
 use std::env::{Env, FillError};
 use std::fmt::Debug;
@@ -110,19 +110,28 @@ fn scripts_print_and_end_as_they_should(rt: HostRuntime) -> Result<(), Fail> {
     check_rows(&rt, &COPIES)?;
     check_rows(&rt, &QUEUES)?;
     check_rows(&rt, &KERNELS)?;
+    check_rows(&rt, &DRILLS)?;
     check_rows(&rt, &REFUSALS)?;
     check_rows(&rt, &FAULTS)?;
     Ok(())
 }
 
 /// Command lines with an empty script, their status, and whether standard error gets text.
-const COMMAND_LINES: [(&str, u8, bool); 9] = [
+const COMMAND_LINES: [(&str, u8, bool); 17] = [
     ("--host 16 --device 67108864", 0, false),
+    ("--threads 1 --trace counts", 0, false),
+    ("--threads 64", 0, false),
     ("--help", 0, true),
     ("--host 15", 2, true),
     ("--device 67108865", 2, true),
     ("--device 99999999999", 2, true),
     ("--host many", 2, true),
+    ("--threads 0", 2, true),
+    ("--threads 65", 2, true),
+    ("--drill 0", 2, true),
+    ("--drill 1001", 2, true),
+    ("--trace full", 2, true),
+    ("--trace", 2, true),
     ("--nothing", 2, true),
     ("script", 2, true),
     ("--host", 2, true),
@@ -162,8 +171,11 @@ fn command_lines_are_read(rt: HostRuntime) -> Result<(), Fail> {
 }
 
 /// What the help has to name.
-const HELP_WORDS: [&str; 36] = [
+const HELP_WORDS: [&str; 39] = [
     "< SCRIPT",
+    "--threads <N>",
+    "--drill <ROUNDS>",
+    "--trace <WHAT>",
     "read whole",
     "array NAME",
     "write PLACE",

@@ -1,5 +1,8 @@
 //! The program, over any source and any two sinks.
 
+ghost use Rattle.std.specs.Prelude.{◌≤◌};
+
+use crate::drills::run_drill;
 use crate::options::{Options, parsed_options};
 use crate::outputs::Output;
 use crate::words::WordsFault;
@@ -69,10 +72,11 @@ pub fn tell_words<E: Sink>(err: &mut E, fault: WordsFault) -> u8 {
     FAULTED
 }
 
-/// Parses the command line, runs the script, flushes its output and answers the status: 0, 1 where a statement was
-/// refused, 2 for a fault.
+/// Parses the command line, runs the script or the drill, flushes the output and answers the status: 0, 1 where a
+/// statement was refused, 2 for a fault.
 ///
-/// `words` begins with the program's name. The script is read from `reader` and its output goes to `out`. A fault of
+/// `words` begins with the program's name. The script is read from `reader` and its output goes to `out`. For a drill
+/// nothing is read. A fault of
 /// the command line is told on `err` in the parser's words, and then nothing is read. Each other fault is told there in
 /// one line, after `out` was flushed: [`Fault::BadConfig`] before those of the run, and [`Fault::Write`] where the
 /// flush fails after a run without fault. Help that is asked for goes to `err` too, with status 0. A failure of `err`
@@ -88,7 +92,10 @@ pub fn tool<R: Threads + Wait + Sync + AllocGlobal, S: Source, O: Output, E: Sin
         Ok(options) => options,
         Err(error) => return tell_usage(rt, err, &error),
     };
-    let ending = run_script(rt, options, reader, out);
+    let ending = match options.drill {
+        Some(rounds) => drill_threads(rt, options, rounds, out),
+        None => run_script(rt, options, reader, out),
+    };
     match flushed(out, ending) {
         Ok(Status::Clean) => CLEAN,
         Ok(Status::Refused) => REFUSED,
@@ -107,14 +114,32 @@ fn flushed<O: Output>(out: &mut O, ending: Result<Status, Fault>) -> Result<Stat
     ending
 }
 
-/// Runs the script with the program's limits.
+/// Runs the script within the program's limits.
 fn run_script<R: Threads + Wait + Sync + AllocGlobal, S: Source, O: Sink>(
     rt: &R,
     options: Options,
     reader: &mut S,
     out: &mut O,
 ) -> Result<Status, Fault> {
-    let config = Config::new(
+    let config = limits(options)?;
+    run(rt, reader, out, config, threads(options))
+}
+
+/// Makes a drill of so many rounds within the program's limits.
+fn drill_threads<R: Threads + Wait + Sync + AllocGlobal, O: Sink>(
+    rt: &R,
+    options: Options,
+    rounds: u64,
+    out: &mut O,
+) -> Result<Status, Fault> {
+    let config = limits(options)?;
+    run_drill(rt, out, config, threads(options), rounds.clamp(1, 1_000))?;
+    Ok(Status::Clean)
+}
+
+/// The program's limits, with the sizes of the command line.
+fn limits(options: Options) -> Result<Config, Fault> {
+    Config::new(
         options.host,
         options.device,
         REGIONS,
@@ -122,8 +147,15 @@ fn run_script<R: Threads + Wait + Sync + AllocGlobal, S: Source, O: Sink>(
         COUNTER_MAX,
         QUEUE_CAP,
         TRACE_CAP,
-    )?;
-    run(rt, reader, out, config, 1)
+    )
+}
+
+/// How many threads work at a kernel, each at a part, or in a drill. The command line gives no other number: here it is
+/// only known to the prover too.
+fn threads(options: Options) -> usize
+    ensures { (1 ≤ result) × (result ≤ 64) }
+{
+    options.threads.clamp(1, 64) as usize
 }
 
 /// Writes what the command line's parser has to say: a fault of the command line, or help.

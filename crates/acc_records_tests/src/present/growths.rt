@@ -48,12 +48,12 @@ fn maps(present: &mut Present, asked: Section, block: u64) -> bool
     }
 }
 
-/// Maps so many sections of 16 bytes, at most 64, each apart from the others, and answers whether all were.
+/// Maps so many sections of 16 bytes, at most 256, each apart from the others, and answers whether all were.
 fn maps_all(alloc: Global, count: u64) -> bool {
     let mut present = Present::new(alloc, 2);
     let mut all = true;
     for block in 0..count {
-        let start = 0x1000 + block % 64 * 32;
+        let start = 0x1000 + block % 256 * 32;
         all = maps(&mut present, Section { start, len: 16 }, block) && all;
     }
     all
@@ -95,7 +95,7 @@ fn enters(present: &mut Present, alloc: Global, number: u64) -> bool
 
 #[test]
 fn refused_ranges_change_nothing(rt: HostRuntime) -> Result<(), Fail> {
-    assert!(rt; maps_all(rt.alloc(), 10));
+    assert!(rt; maps_all(rt.alloc(), 200));
     Ok(())
 }
 

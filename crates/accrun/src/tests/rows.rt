@@ -162,7 +162,7 @@ pub const QUEUES: [Row; 2] = [
 ];
 
 /// Kernels over what a region maps.
-pub const KERNELS: [Row; 3] = [
+pub const KERNELS: [Row; 5] = [
     (
         "",
         "array a 4\nwrite a[0] 01020304\nenter data copyin(a)\ndata copy(a)\nkernel add 1 a\nend data\nshow a\n\
@@ -172,7 +172,21 @@ pub const KERNELS: [Row; 3] = [
         0,
     ),
     (
+        "--threads 1",
+        "array a 127\ndata copy(a)\nkernel number 200 a\nend data\nshow a[54:4]\nshow a[125:2]\n",
+        "feff0001\n4546\n",
         "",
+        0,
+    ),
+    (
+        "--threads 3",
+        "array a 127\ndata copy(a)\nkernel number 200 a\nend data\nshow a[54:4]\nshow a[125:2]\n",
+        "feff0001\n4546\n",
+        "",
+        0,
+    ),
+    (
+        "--threads 64",
         "array a 127\ndata copy(a)\nkernel number 200 a\nend data\nshow a[54:4]\nshow a[125:2]\n",
         "feff0001\n4546\n",
         "",
@@ -185,6 +199,18 @@ pub const KERNELS: [Row; 3] = [
         "accrun: line 4: Number\n",
         2,
     ),
+];
+
+/// Drills, which read no script.
+pub const DRILLS: [Row; 2] = [
+    (
+        "--threads 4 --drill 250",
+        "this is no script\n",
+        "allowance 64 events 2001 structured 0 dynamic 1\n",
+        "",
+        0,
+    ),
+    ("--drill 1 --host 24", "", "", "accrun: 2 BadConfig\n", 2),
 ];
 
 /// Statements that are refused, after which the script goes on.

@@ -4,6 +4,6 @@ use Rattle.acc_attach.proofs.attaching.Attached.aim_again.Goals as goal
 
 pub invariant_of-self : goal.invariant_of-self
 invariant_of-self c =
-    let count = rw c.deref.ensures.value at c.count_of-count.ensures in
+    let count = c.count-count.ensures in
     let below = rw (← c.self.view_is) at c.requires.below in
-    rw c.set.ensures.attached (kept_with c.self.inside.counter_max c.args.block c.args.pointer _ c.self.inside.attached.items c.self.invariant (omega (arith, count, below)))
+    rw c.set.ensures.counters (kept_with c.self.inside.counter_max c.args.block c.args.pointer _ c.self.inside.counters.counters c.self.invariant (omega (arith, count, below)))

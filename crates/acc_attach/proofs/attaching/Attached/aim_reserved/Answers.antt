@@ -4,11 +4,11 @@ use Rattle.acc_attach.proofs.attaching.Attached.aim_reserved.Goals as goal
 
 pub add-requires-clause-new : goal.add-requires-clause-new
 add-requires-clause-new c =
-    let count = rw c.deref.ensures.value at c.count_of.ensures in
-    zero_none c.self.inside.counter_max c.args.block c.args.pointer c.self.inside.attached.items c.self.invariant (sym count ∙ c.if-count_of-eq0.true)
+    let count = c.count.ensures in
+    zero_none c.self.inside.counter_max c.args.block c.args.pointer c.self.inside.counters.counters c.self.invariant (sym count ∙ c.if-count-eq0.true)
 
 pub invariant_of-self : goal.invariant_of-self
-invariant_of-self c = rw c.add.ensures.attached (kept_with c.self.inside.counter_max c.args.block c.args.pointer 1 c.self.inside.attached.items c.self.invariant c.self.invariant.some)
+invariant_of-self c = rw c.add.ensures.counters (kept_with c.self.inside.counter_max c.args.block c.args.pointer 1 c.self.inside.counters.counters c.self.invariant c.self.invariant.some)
 
-pub invariant_of-self-else-count_of-eq0 : goal.invariant_of-self-else-count_of-eq0
-invariant_of-self-else-count_of-eq0 c = rw c.set.ensures.attached (kept_with c.self.inside.counter_max c.args.block c.args.pointer 1 c.self.inside.attached.items c.self.invariant c.self.invariant.some)
+pub invariant_of-self-else-count-eq0 : goal.invariant_of-self-else-count-eq0
+invariant_of-self-else-count-eq0 c = rw c.set.ensures.counters (kept_with c.self.inside.counter_max c.args.block c.args.pointer 1 c.self.inside.counters.counters c.self.invariant c.self.invariant.some)

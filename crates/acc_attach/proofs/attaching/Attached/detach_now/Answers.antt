@@ -3,4 +3,4 @@ use Rattle.acc_attach.proofs.Keeping.{kept_with}
 use Rattle.acc_attach.proofs.attaching.Attached.detach_now.Goals as goal
 
 pub invariant_of-self : goal.invariant_of-self
-invariant_of-self c = rw c.take_out.ensures.attached (kept_with c.self.inside.counter_max c.args.block c.args.pointer 0 c.self.inside.attached.items c.self.invariant (omega arith))
+invariant_of-self c = rw c.take_out.ensures.counters (kept_with c.self.inside.counter_max c.args.block c.args.pointer 0 c.self.inside.counters.counters c.self.invariant (omega arith))

@@ -9,10 +9,10 @@ returns-in_err-place c =
     let d = c.self.inside in
     rw c.from_residual.ensures
     (subst (λ (x : DeviceState). IsNextHole c.args.from x.memory x.blocks None) c.self.view_is
-    (next_found d.holes d.slab.slots d.index.items c.args.from None c.self.invariant.0 (sym c.in_err-place.was ∙ c.next_hole.ensures)))
+    (next_found d.holes d.slab.slots d.index.entries c.args.from None c.self.invariant.0 (sym c.in_err-place.was ∙ c.next_hole.ensures)))
 
 pub returns : goal.returns
 returns c =
     let d = c.self.inside in
     subst (λ (x : DeviceState). IsNextHole c.args.from x.memory x.blocks (Some (record { place = c.in_ok-place.place; size = c.in_ok-place.size }))) c.self.view_is
-    (next_found d.holes d.slab.slots d.index.items c.args.from (Some (c.in_ok-place.place, c.in_ok-place.size)) c.self.invariant.0 c.in_ok-place.ensures)
+    (next_found d.holes d.slab.slots d.index.entries c.args.from (Some (c.in_ok-place.place, c.in_ok-place.size)) c.self.invariant.0 c.in_ok-place.ensures)

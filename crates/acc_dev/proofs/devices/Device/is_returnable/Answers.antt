@@ -4,12 +4,12 @@ use Rattle.acc_dev.specs.Device.{DeviceState}
 use Rattle.acc_dev.proofs.devices.Device.is_returnable.Goals as goal
 
 pub slot_back-requires-clause-rising : goal.slot_back-requires-clause-rising
-slot_back-requires-clause-rising c = rw c.deref.ensures.value c.self.invariant.0.rising
+slot_back-requires-clause-rising c = c.self.invariant.0.rising
 
 pub slot_back-requires-clause-backed : goal.slot_back-requires-clause-backed
-slot_back-requires-clause-backed c = rw c.deref.ensures.value c.self.invariant.0.backed
+slot_back-requires-clause-backed c = c.self.invariant.0.backed
 
 pub returns : goal.returns
 returns c =
-    let told = rw c.deref.ensures.value at c.slot_back.ensures.returnable in
+    let told = c.slot_back.ensures.returnable in
     c.is_some.ensures ∙ told ∙ ap (λ (d : DeviceState). is_returnable c.args.lease.now d.blocks d.loans) c.self.view_is

@@ -6,17 +6,17 @@ use Rattle.acc_dev.proofs.Keeping.{block_listed, filled_slot, stored_of}
 use Rattle.acc_dev.proofs.devices.Device.stored.Goals as goal
 
 pub slot_of_block-requires-clause-there : goal.slot_of_block-requires-clause-there
-slot_of_block-requires-clause-there c = rw c.deref.ensures.value (block_listed c.self.inside c.args.self.now c.args.block c.self.view_is c.requires)
+slot_of_block-requires-clause-there c = (block_listed c.self.inside c.args.self.now c.args.block c.self.view_is c.requires)
 
 pub index-requires : goal.index-requires
 index-requires c =
     let s = c.self.inside in
-    let slot = rw c.deref.ensures.value at c.slot_of_block.ensures in
-    filled_slot s.holes s.slab.slots s.index.items c.args.block c.slot_of_block.result c.self.invariant.0 slot
+    let slot = c.slot_of_block.ensures in
+    filled_slot s.holes s.slab.slots s.index.entries c.args.block c.slot_of_block.result c.self.invariant.0 slot
 
 pub returns : goal.returns
 returns c =
     let s = c.self.inside in
-    let slot = rw c.deref.ensures.value at c.slot_of_block.ensures in
+    let slot = c.slot_of_block.ensures in
     subst (λ (d : DeviceState). IsStoredOf d c.args.block c.index.result.now) c.self.view_is
-    (stored_of s.holes s.slab.slots s.index.items s.births c.args.block c.slot_of_block.result (room_ready s) c.index.result.now c.self.invariant.0 slot c.index.ensures)
+    (stored_of s.holes s.slab.slots s.index.entries s.births c.args.block c.slot_of_block.result (room_ready s) c.index.result.now c.self.invariant.0 slot c.index.ensures)

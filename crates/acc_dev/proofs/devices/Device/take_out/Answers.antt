@@ -5,77 +5,81 @@ use Rattle.acc_base.specs.Loans.{Leased, is_lent, len_of}
 use Rattle.acc_dev.specs.Room.{room_ready}
 use Rattle.acc_dev.specs.Marks.{is_ended_at}
 use Rattle.acc_dev.specs.Device.{DeviceState, IsTakenOut}
-use Rattle.acc_dev.specs.Kept.{stored_bytes}
+use Rattle.acc_dev.specs.Kept.{stored_bytes, blocks_in, marks_in}
+use Rattle.acc_dev.proofs.EndedPlaces.{ended_same}
 use Rattle.acc_dev.proofs.Keeping.{device_of, block_listed, filled_slot, bytes_at, room_kept}
 use Rattle.acc_dev.proofs.Writes.{lent_kept, taken_out_of}
 use Rattle.acc_dev.proofs.Lends.{lent_at, none_here, section_within, capped_at}
 use Rattle.acc_dev.proofs.devices.Device.take_out.Goals as goal
 
 pub slot_of_block-slot-requires-clause-there : goal.slot_of_block-slot-requires-clause-there
-slot_of_block-slot-requires-clause-there c = rw c.deref.ensures.value (block_listed c.self.inside c.args.self.now c.args.block c.self.view_is c.requires.there)
+slot_of_block-slot-requires-clause-there c = (block_listed c.self.inside c.args.self.now c.args.block c.self.view_is c.requires.there)
 
 pub lend_at-requires-clause-filled : goal.lend_at-requires-clause-filled
 lend_at-requires-clause-filled c =
     let s = c.self.inside in
-    let slot = rw c.deref.ensures.value at c.slot_of_block-slot.ensures in
-    filled_slot s.holes s.slab.slots s.index.items c.args.block c.slot_of_block-slot.result c.self.invariant.0 slot
+    let slot = c.slot_of_block-slot.ensures in
+    filled_slot s.holes s.slab.slots s.index.entries c.args.block c.slot_of_block-slot.result c.self.invariant.0 slot
 
 pub returns-then-is_some-clause-lent : goal.returns-then-is_some-clause-lent
 returns-then-is_some-clause-lent c =
     let s = c.self.inside in
-    let slot = rw c.deref.ensures.value at c.slot_of_block-slot.ensures in
-    let is = lent_at s.slab.slots s.index.items c.args.block c.slot_of_block-slot.result c.loan_at.result true c.self.invariant.0.rising c.self.invariant.0.backed slot c.loan_at.ensures (sym c.is_some.ensures ∙ c.if-is_some.true) in
+    let slot = c.slot_of_block-slot.ensures in
+    let is = lent_at s.slab.slots s.index.entries c.args.block c.slot_of_block-slot.result c.loan_at.result true c.self.invariant.0.rising c.self.invariant.0.backed slot c.loan_at.ensures (sym c.is_some.ensures ∙ c.if-is_some.true) in
     (λ e. subst (λ (d : DeviceState). is_lent c.args.block d.loans ≡ true) c.self.view_is is, λ e. refl)
 
 pub lend_at-requires-clause-within : goal.lend_at-requires-clause-within
 lend_at-requires-clause-within c =
     let s = c.self.inside in
     let kept = c.self.invariant.0 in
-    let slot = rw c.deref.ensures.value at c.slot_of_block-slot.ensures in
-    let free = lent_at s.slab.slots s.index.items c.args.block c.slot_of_block-slot.result c.loan_at.result false kept.rising kept.backed slot c.loan_at.ensures (sym c.is_some.ensures ∙ c.if-is_some.false) in
+    let slot = c.slot_of_block-slot.ensures in
+    let free = lent_at s.slab.slots s.index.entries c.args.block c.slot_of_block-slot.result c.loan_at.result false kept.rising kept.backed slot c.loan_at.ensures (sym c.is_some.ensures ∙ c.if-is_some.false) in
     let within = subst (λ (d : DeviceState). c.args.offset + c.args.len ≤ len_of c.args.block d.blocks) (sym c.self.view_is) c.requires.within in
-    section_within s.slab.slots s.index.items c.args.block c.slot_of_block-slot.result c.args.offset c.args.len kept.rising kept.backed slot free within
+    section_within s.slab.slots s.index.entries c.args.block c.slot_of_block-slot.result c.args.offset c.args.len kept.rising kept.backed slot free within
 
 pub lend_at-requires-clause-capped : goal.lend_at-requires-clause-capped
 lend_at-requires-clause-capped c =
     let s = c.self.inside in
     let kept = c.self.invariant.0 in
-    let slot = rw c.deref.ensures.value at c.slot_of_block-slot.ensures in
-    let free = lent_at s.slab.slots s.index.items c.args.block c.slot_of_block-slot.result c.loan_at.result false kept.rising kept.backed slot c.loan_at.ensures (sym c.is_some.ensures ∙ c.if-is_some.false) in
-    capped_at s.holes s.slab.slots s.index.items c.args.block c.slot_of_block-slot.result kept slot free
+    let slot = c.slot_of_block-slot.ensures in
+    let free = lent_at s.slab.slots s.index.entries c.args.block c.slot_of_block-slot.result c.loan_at.result false kept.rising kept.backed slot c.loan_at.ensures (sym c.is_some.ensures ∙ c.if-is_some.false) in
+    capped_at s.holes s.slab.slots s.index.entries c.args.block c.slot_of_block-slot.result kept slot free
 
 pub invariant_of-self : goal.invariant_of-self
 invariant_of-self c =
     let s = c.self.inside in
-    let slot = rw c.deref.ensures.value at c.slot_of_block-slot.ensures in
+    let slot = c.slot_of_block-slot.ensures in
     let lent = c.lend_at.ensures in
     let mapped = subst (λ (d : DeviceState). is_ended_at c.args.block d.marks ≡ false) (sym c.self.view_is) c.requires.mapped in
-    let within = subst (λ (d : DeviceState). c.args.offset + c.args.len ≤ len_of c.args.block d.blocks) (sym c.self.view_is) c.requires.within in (
-      lent_kept s.holes s.slab c.lend_at.new.slab s.index.items c.slot_of_block-slot.result (record { serial = c.args.serial; block = c.args.block; offset = c.args.offset; len = c.args.len }) c.self.invariant.0 slot lent.lent mapped within,
+    let within = subst (λ (d : DeviceState). c.args.offset + c.args.len ≤ len_of c.args.block d.blocks) (sym c.self.view_is) c.requires.within in
+    let none = sym c.loan_at.ensures ∙ none_here c.loan_at.result (sym c.is_some.ensures ∙ c.if-is_some.false) in
+    let now = taken_out_of s.holes s.slab c.lend_at.new.slab s.index.entries s.births c.slot_of_block-slot.result (room_ready s) (record { serial = c.args.serial; block = c.args.block; offset = c.args.offset; len = c.args.len }) c.self.invariant.0 slot none lent.lent in (
+      lent_kept s.holes s.slab c.lend_at.new.slab s.index.entries c.slot_of_block-slot.result (record { serial = c.args.serial; block = c.args.block; offset = c.args.offset; len = c.args.len }) c.self.invariant.0 slot lent.lent mapped within,
       c.self.invariant.1,
       room_kept s c.lend_at.new.slab c.self.invariant.2 lent.slots lent.capacity,
+      ended_same s.ended_blocks s.ended_blocks (blocks_in s.slab.slots s.index.entries) (blocks_in c.lend_at.new.slab.slots s.index.entries) (marks_in s.slab.slots s.index.entries) (marks_in c.lend_at.new.slab.slots s.index.entries) s.births c.self.invariant.3 refl refl now.blocks now.marks,
     )
 
 pub returns-clause-lent : goal.returns-clause-lent
 returns-clause-lent c =
     let s = c.self.inside in
-    let slot = rw c.deref.ensures.value at c.slot_of_block-slot.ensures in
-    let is = lent_at s.slab.slots s.index.items c.args.block c.slot_of_block-slot.result c.loan_at.result false c.self.invariant.0.rising c.self.invariant.0.backed slot c.loan_at.ensures (sym c.is_some.ensures ∙ c.if-is_some.false) in
+    let slot = c.slot_of_block-slot.ensures in
+    let is = lent_at s.slab.slots s.index.entries c.args.block c.slot_of_block-slot.result c.loan_at.result false c.self.invariant.0.rising c.self.invariant.0.backed slot c.loan_at.ensures (sym c.is_some.ensures ∙ c.if-is_some.false) in
     let free = subst (λ (d : DeviceState). is_lent c.args.block d.loans ≡ false) c.self.view_is is in
     (λ e. absurd (false≢true e), λ e. sym free ∙ e)
 
 pub returns-clause-lease : goal.returns-clause-lease
 returns-clause-lease c =
     let s = c.self.inside in
-    let slot = rw c.deref.ensures.value at c.slot_of_block-slot.ensures in
-    let bytes = bytes_at s.slab.slots s.index.items c.args.block c.slot_of_block-slot.result c.self.invariant.0.rising slot in
+    let slot = c.slot_of_block-slot.ensures in
+    let bytes = bytes_at s.slab.slots s.index.entries c.args.block c.slot_of_block-slot.result c.self.invariant.0.rising slot in
     let now = subst (λ (d : DeviceState). bytes_of c.args.block d.memories ≡ stored_bytes (get_or s.slab.slots c.slot_of_block-slot.result None)) c.self.view_is bytes in
     c.lend_at.ensures.lease ∙ ap (λ (b : List ℕ). let l : Leased = record { serial = c.args.serial; block = c.args.block; offset = c.args.offset; len = c.args.len; bytes = b } in l) (sym now)
 
 pub returns-clause-out : goal.returns-clause-out
 returns-clause-out c =
     let s = c.self.inside in
-    let slot = rw c.deref.ensures.value at c.slot_of_block-slot.ensures in
+    let slot = c.slot_of_block-slot.ensures in
     let none = sym c.loan_at.ensures ∙ none_here c.loan_at.result (sym c.is_some.ensures ∙ c.if-is_some.false) in
-    subst (λ (d : DeviceState). IsTakenOut d (device_of s.holes c.lend_at.new.slab.slots s.index.items s.births (room_ready s)) (record { serial = c.args.serial; block = c.args.block; offset = c.args.offset; len = c.args.len })) c.self.view_is
-    (taken_out_of s.holes s.slab c.lend_at.new.slab s.index.items s.births c.slot_of_block-slot.result (room_ready s) (record { serial = c.args.serial; block = c.args.block; offset = c.args.offset; len = c.args.len }) c.self.invariant.0 slot none c.lend_at.ensures.lent)
+    subst (λ (d : DeviceState). IsTakenOut d (device_of s.holes c.lend_at.new.slab.slots s.index.entries s.births (room_ready s)) (record { serial = c.args.serial; block = c.args.block; offset = c.args.offset; len = c.args.len })) c.self.view_is
+    (taken_out_of s.holes s.slab c.lend_at.new.slab s.index.entries s.births c.slot_of_block-slot.result (room_ready s) (record { serial = c.args.serial; block = c.args.block; offset = c.args.offset; len = c.args.len }) c.self.invariant.0 slot none c.lend_at.ensures.lent)

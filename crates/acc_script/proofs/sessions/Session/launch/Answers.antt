@@ -9,7 +9,7 @@ use Rattle.acc_script.proofs.Launched.{found_bytes, launch_refused, launch_done}
 use Rattle.acc_script.proofs.sessions.Session.launch.Goals as goal
 
 pub returns-in-Ok-Lease : goal.returns-in-Ok-Lease
-returns-in-Ok-Lease c =
+returns-in-Ok-Lease g c =
     let old = session_state c.args.self.now in
     let over = c.args.section in
     let some : is_none c.host_read.result ≡ false = search rules in
@@ -17,7 +17,7 @@ returns-in-Ok-Lease c =
     launch_done old (session_state c.work.new.self) c.args.region c.args.kernel over found.0 found.1 c.apply.new.self c.in-Ok-Lease.lease c.work.result (rw c.in-Ok-Lease.field-0-is at c.in-Ok-Lease.ensures.done) c.work.ensures
 
 pub returns-in-Err : goal.returns-in-Err
-returns-in-Err c =
+returns-in-Err g c =
     let old = session_state c.args.self.now in
     let now : World → SessionState = λ w. record { world = w; layout = old.layout } in
     let some : is_none c.host_read.result ≡ false = search rules in

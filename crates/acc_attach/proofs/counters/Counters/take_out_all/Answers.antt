@@ -1,0 +1,19 @@
+use Rattle.std.proofs.Common.{sym, ap, ◌∙◌, arith}
+use Rattle.acc_base.specs.Attachments.{without_attachments}
+use Rattle.acc_attach.proofs.Keyed.{next_attached, none_left, forgotten_first, shorter}
+use Rattle.acc_attach.proofs.counters.Counters.take_out_all.Goals as goal
+
+pub take_out-requires : goal.take_out-requires
+take_out-requires c = next_attached c.args.block 0 c.in-Some.pointer c.loop-pointer.self.counters (sym c.in-Some.ensures)
+
+pub loop-pointer-preserved : goal.loop-pointer-preserved
+loop-pointer-preserved c = record {
+  counters = ap (without_attachments c.args.block) c.take_out.ensures.counters ∙ forgotten_first c.args.block c.in-Some.pointer c.loop-pointer.self.counters ∙ c.loop-pointer.invariant.counters;
+  room = omega (arith, c.take_out.ensures.room, c.loop-pointer.invariant.room);
+}
+
+pub loop-pointer-smaller : goal.loop-pointer-smaller
+loop-pointer-smaller c = rw c.take_out.ensures.counters (shorter c.args.block c.in-Some.pointer c.loop-pointer.self.counters (next_attached c.args.block 0 c.in-Some.pointer c.loop-pointer.self.counters (sym c.in-Some.ensures)))
+
+pub returns-clause-counters : goal.returns-clause-counters
+returns-clause-counters c = sym (none_left c.args.block c.loop-pointer.self.counters (sym c.next.ensures ∙ c.in_default.is)) ∙ c.loop-pointer.invariant.counters

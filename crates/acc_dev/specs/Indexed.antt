@@ -1,0 +1,36 @@
+-- How the index keeps the slots of blocks. No public clause cites this module.
+use Rattle.std.specs.Prelude.{ℕ, ◌≡◌, ◌<◌, Bool, not, false, List, [], ◌∷◌, map, filter, length, slice_index_or}
+use Rattle.acc_base.specs.Accounts.{EachPair}
+use Rattle.acc_dev.specs.declared.index.Entry.{Entry}
+
+-- the entries that are not gone, each a number with its slot, and how many more there is room for
+pub record IndexState : Type 0 where
+  pub entries : List (ℕ × ℕ)
+  pub room : ℕ
+
+-- the number of an entry with its slot
+abbrev pub pair_of : Entry → ℕ × ℕ
+pair_of e = (e.number, e.slot)
+
+-- the entries that are not gone
+abbrev pub live_entries : List Entry → List (ℕ × ℕ)
+live_entries items = map pair_of (filter (λ e. not e.gone) items)
+
+-- the numbers rise
+abbrev pub AreEntriesRising : List Entry → Type 0
+AreEntriesRising items = EachPair (λ (d : Entry) (e : Entry). d.number < e.number) items
+
+-- there is a last entry, and it is gone
+abbrev pub ends_gone : List Entry → Bool
+ends_gone [] = false
+ends_gone (e ∷ []) = e.gone
+ends_gone (e ∷ f ∷ es) = ends_gone (f ∷ es)
+
+-- what an index outside of a list reads
+abbrev pub blank_entry : Entry
+blank_entry = record { number = 0; slot = 0; gone = false }
+
+-- the number stands at this place
+pub record IsNumberAt (items : List Entry) (number at : ℕ) : Type 0 where
+  pub in_bounds : at < length items
+  pub is : (slice_index_or items at blank_entry).number ≡ number

@@ -1,0 +1,80 @@
+-- What the calls on rows answer, and how a value is written.
+use Rattle.std.proofs.Common.{ℕ, zero, suc, ◌≡◌, ◌+◌, ◌-◌, ◌<◌, refl, sym, ap, subst, ◌∙◌, Bool, true, false, cond, List, [], ◌∷◌, ◌++◌, length, get_or, set, take, Option, Some, None, IsSome, arith, rules}
+use Rattle.std.specs.Prelude.{◌==◌, map, slice_get}
+use Rattle.std.specs.declared.alloc.Global.{Global}
+use Rattle.std.specs.declared.vec.Vec.{Vec}
+use Rattle.std.proofs.lemmas.List.{set_at, map-append, set-append_left}
+use Rattle.acc_base.proofs.Results.{equal}
+use Rattle.acc_tree.specs.declared.entries.Entry.{Entry}
+use Rattle.acc_tree.specs.Listing.{KeysRise, at_key, last_before}
+use Rattle.acc_rows.specs.declared.places.Place.{Place}
+use Rattle.acc_rows.specs.Laid.{side_by_side, least_key, least_key_in, IsRow, AreInRows}
+use Rattle.acc_rows.specs.Spots.{index_of, IsRowAt, IsPlaceOf}
+use Rattle.acc_rows.proofs.Laying.{row_number_at, sides_of_row}
+use Rattle.acc_rows.proofs.Searched.{IsSplitAt, none_before, last_of_before}
+use Rattle.acc_rows.proofs.Changing.{all_set, replaced}
+
+set_between : {X : Type 0} (f r b : List X) (j n : ℕ) (x : X) → n ≡ length f + j → j < length r → set (f ++ (r ++ b)) n x ≡ f ++ (set r j x ++ b)
+set_between [] r b j n x e lt = let same : n ≡ j = omega arith in ap (λ k. set (r ++ b) k x) same ∙ set-append_left r b j x lt
+set_between (y ∷ f) r b j zero x e lt = absurd (omega arith)
+set_between (y ∷ f) r b j (suc n) x e lt = ap (λ zs. y ∷ zs) (set_between f r b j n x (omega arith) lt)
+
+module _ {T : Type 0} where
+  -- ---- the entry before a key
+
+  pub nothing_before : (key : ℕ) (rows : List (Vec (Entry T) Global)) (place : Place) → IsPlaceOf key rows place → place.at ≡ 0 → last_before key (side_by_side rows) ≡ None
+  nothing_before key rows place p at =
+      let row = ap (λ r. length (side_by_side (take r rows))) (p.first at) in
+      let none : index_of rows place ≡ 0 = omega (arith, row) in
+      let s : IsSplitAt key (side_by_side rows) 0 = rw none at p.split in
+      none_before key (side_by_side rows) s.failed
+
+  pub before_some : (key : ℕ) (rows : List (Vec (Entry T) Global)) (place : Place) (e : Entry T) → IsPlaceOf key rows place → 0 < place.at → slice_get (side_by_side rows) (index_of rows place - 1) ≡ Some e → last_before key (side_by_side rows) ≡ Some e
+  before_some key rows place e p some is =
+      let next : index_of rows place ≡ suc (index_of rows place - 1) = omega arith in
+      let s : IsSplitAt key (side_by_side rows) (suc (index_of rows place - 1)) = subst (λ (n : ℕ). IsSplitAt key (side_by_side rows) n) next p.split in
+      last_of_before key (side_by_side rows) (index_of rows place - 1) s ∙ is
+
+  pub rows_some : (key : ℕ) (rows : List (Vec (Entry T) Global)) (place : Place) → IsPlaceOf key rows place → 0 < place.at → 0 < length rows
+  rows_some key [] place p some = absurd (omega (arith, p.split.bound))
+  rows_some key (row ∷ rows) place p some = omega arith
+
+  pub key_of_found : (key : ℕ) (es : List (Entry T)) (e : Entry T) → at_key key es ≡ Some e → e.key ≡ key
+  key_of_found key [] e is = cc
+  key_of_found key (f ∷ es) e is = go (key_of_found key es e) (f.key == key) refl is
+    where
+      go : (at_key key es ≡ Some e → e.key ≡ key) → (b : Bool) → (f.key == key) ≡ b → cond b (Some f) (at_key key es) ≡ Some e → e.key ≡ key
+      go rest true t h = let same : f ≡ e = cc in ap (λ (x : Entry T). x.key) (sym same) ∙ equal _ _ t
+      go rest false t h = rest h
+
+  pub some_is : (o : Option (Entry T)) → IsSome o → (e : Entry T) × (o ≡ Some e)
+  some_is None there = absurd (search (rules, there))
+  some_is (Some e) there = (e, refl)
+
+  -- ---- a value that is written
+
+  pub write_row : (rows : List (Vec (Entry T) Global)) (place : Place) (row new : Vec (Entry T) Global) (e : Entry T) → IsRowAt rows place.row row → place.at < length row.items → new.items ≡ set row.items place.at e → side_by_side (set rows place.row new) ≡ set (side_by_side rows) (index_of rows place) e
+  write_row rows place row new e at lt is =
+      replaced rows place.row row new at
+      ∙ ap (λ es. side_by_side at.before ++ (es ++ side_by_side at.behind)) is
+      ∙ sym (set_between (side_by_side at.before) row.items (side_by_side at.behind) place.at (index_of rows place) e (row_number_at rows place row at) lt)
+      ∙ sym (ap (λ es. set es (index_of rows place) e) (sides_of_row rows place.row row at))
+
+  pub least_set : (es : List (Entry T)) (i : ℕ) (old new : Entry T) → i < length es → old ≡ get_or es i old → new.key ≡ old.key → least_key (set es i new) ≡ least_key es
+  least_set [] i old new lt is same = refl
+  least_set (f ∷ es) zero old new lt is same = same ∙ ap (λ (x : Entry T). x.key) is
+  least_set (f ∷ es) (suc i) old new lt is same = refl
+
+  pub in_rows_kept : (firsts : List ℕ) (rows : List (Vec (Entry T) Global)) (i : ℕ) (row new : Vec (Entry T) Global) → AreInRows firsts rows → IsRowAt rows i row → IsRow new → least_key_in new ≡ least_key_in row → KeysRise (side_by_side (set rows i new)) → AreInRows firsts (set rows i new)
+  in_rows_kept firsts rows i row new h at whole least rising = record {
+    rising = rising;
+    firsts_are =
+        h.firsts_are
+        ∙ ap (λ rs. map least_key_in rs) at.is
+        ∙ map-append least_key_in at.before (row ∷ at.behind)
+        ∙ ap (λ l. map least_key_in at.before ++ l ∷ map least_key_in at.behind) (sym least)
+        ∙ sym (map-append least_key_in at.before (new ∷ at.behind))
+        ∙ sym (ap (λ rs. map least_key_in rs) (set_at at.before row at.behind new i at.number_is))
+        ∙ sym (ap (λ rs. map least_key_in (set rs i new)) at.is);
+    each = all_set IsRow rows i new h.each whole;
+  }

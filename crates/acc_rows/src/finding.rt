@@ -1,0 +1,115 @@
+//! Where an entry stands, or would stand.
+ghost use Rattle.std.specs.Prelude.{◌≡◌, ℕ, ◌+◌, ◌-◌, ◌*◌, ◌^◌, ◌<◌, ◌≤◌, length, IfSome, IsSome, None, slice_get};
+ghost use Rattle.std.specs.List.{AllByRecursion};
+ghost use Rattle.acc_tree.specs.Listing.{at_key, seen};
+ghost use Rattle.acc_rows.specs.Laid.{side_by_side, IsRow, AreInRows};
+ghost use Rattle.acc_rows.specs.Spots.{index_of, IsTaken, IsInRow, IsPlaceOf, IsEntryAt};
+
+use crate::places::Place;
+use crate::search::count_below;
+use acc_tree::{Entry, Visits};
+
+/// Where an entry of a key would be put: behind all entries of lower keys, in the row of the last of them.
+#[inline]
+pub fn find<T: Copy>(
+    firsts: &[u128],
+    rows: &[Vec<Entry<T>>],
+    key: u128,
+    visits: &mut Visits,
+) -> Place
+    requires in_rows { AreInRows firsts.now rows.now }
+    requires limit { visits.old ≤ 2 ^ 63 }
+    ensures place { IsPlaceOf key rows.now result }
+    ensures not_fewer { visits.old ≤ visits.new }
+    ensures visits { (d : ℕ) → length (side_by_side rows.now) < 2 ^ d → visits.new ≤ visits.old + 2 * d }
+{
+    let behind = count_below(firsts, key, visits);
+    if behind == 0 {
+        return Place { row: 0, at: 0 };
+    }
+    let row = behind - 1;
+    let at = count_below(&rows[row], key, visits);
+    Place { row, at }
+}
+
+/// The first entry from a place on, if there is one.
+#[inline]
+pub fn entry_from<'a, T: Copy>(rows: &'a [Vec<Entry<T>>], place: Place) -> Option<&'a Entry<T>>
+    requires each { AllByRecursion IsRow rows.now }
+    requires within { 0 < length rows.now → IsInRow rows.now place }
+    ensures { seen result ≡ slice_get (side_by_side rows.now) (index_of rows.now place) }
+{
+    if rows.is_empty() {
+        return None;
+    }
+    let row = &rows[place.row];
+    if place.at < row.len() {
+        return Some(&row[place.at]);
+    }
+    if place.row + 1 == rows.len() {
+        return None;
+    }
+    Some(&rows[place.row + 1][0])
+}
+
+/// The last entry before a place of a row, which is not its first.
+#[inline]
+pub fn entry_before<'a, T: Copy>(rows: &'a [Vec<Entry<T>>], place: Place) -> &'a Entry<T>
+    requires within { IsInRow rows.now place }
+    requires some { 0 < place.at }
+    ensures { slice_get (side_by_side rows.now) (index_of rows.now place - 1) ≡ Some result.now }
+{
+    &rows[place.row][place.at - 1]
+}
+
+/// The entry of a key, if it stands at a place.
+#[inline]
+pub fn entry_of<'a, T: Copy>(
+    rows: &'a [Vec<Entry<T>>],
+    key: u128,
+    place: Place,
+) -> Option<&'a Entry<T>>
+    ensures there { IfSome result (λ entry. IsEntryAt rows.now place entry.now) }
+    ensures key { IfSome result (λ entry. entry.now.key ≡ key) }
+{
+    if place.row < rows.len() {
+        let row = &rows[place.row];
+        if place.at < row.len() && row[place.at].key == key {
+            return Some(&row[place.at]);
+        }
+    }
+    None
+}
+
+/// The place itself, or the first of the next row where it is behind all entries of its row.
+#[inline]
+fn ahead<T: Copy>(rows: &[Vec<Entry<T>>], place: Place) -> Place
+    requires each { AllByRecursion IsRow rows.now }
+    requires within { IsInRow rows.now place }
+    requires some { index_of rows.now place < length (side_by_side rows.now) }
+    ensures taken { IsTaken rows.now result }
+    ensures number { index_of rows.now result ≡ index_of rows.now place }
+{
+    if place.at < rows[place.row].len() {
+        place
+    } else {
+        Place {
+            row: place.row + 1,
+            at: 0,
+        }
+    }
+}
+
+/// Where the entry of a key stands, which is there.
+#[inline]
+pub fn locate<T: Copy>(firsts: &[u128], rows: &[Vec<Entry<T>>], key: u128, near: Place) -> Place
+    requires in_rows { AreInRows firsts.now rows.now }
+    requires there { IsSome (at_key key (side_by_side rows.now)) }
+    ensures taken { IsTaken rows.now result }
+    ensures entry { slice_get (side_by_side rows.now) (index_of rows.now result) ≡ at_key key (side_by_side rows.now) }
+{
+    if entry_of(rows, key, near).is_some() {
+        return near;
+    }
+    ahead(rows, find(firsts, rows, key, &mut Visits::new()))
+}

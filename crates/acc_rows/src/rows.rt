@@ -1,0 +1,188 @@
+//! A sorted list of entries in rows, each found by its key.
+ghost use Rattle.std.specs.Prelude.{◌≡◌, ℕ, ◌+◌, ◌*◌, ◌^◌, ◌<◌, ◌≤◌, [], length, Some, None, IsSome, IfErr, OnOk, OnErr};
+ghost use Rattle.acc_tree.specs.Listing.{KeysRise, at_key, first_from, last_before, with_entry, without_key, with_value, seen};
+
+use crate::changes::{make_place, make_rows, put, start, take_out, write};
+use crate::finding::{entry_before, entry_from, entry_of, find, locate};
+use crate::places::Place;
+use acc_base::Fault;
+use acc_tree::{Entry, Visits};
+use std::alloc::Global;
+use std::marker::Model;
+
+/// The entries on both sides of a key.
+#[derive(Clone, Copy)]
+pub struct Around<'a, T> {
+    /// The entry of greatest key before it.
+    pub before: Option<&'a Entry<T>>,
+    /// Where that entry stands.
+    pub place: Place,
+    /// The entry of least key from it on.
+    pub from: Option<&'a Entry<T>>,
+}
+
+/// Entries by rising key, and room for more of them.
+///
+/// They stand in rows of up to 64, and the least key of each row in a list of its own. A look-up is a search by halves
+/// in that list and one in a row. A change moves entries of one row or two, and the rows behind where one comes or goes.
+/// Memory is asked for by [`Rows::reserve`] alone: an entry more uses up at most one row that waits.
+#[derive(Drop)]
+pub struct Rows<T: Copy> {
+    alloc: Global,
+    // The least key of each row.
+    firsts: Vec<u128>,
+    // By rising key. None is empty.
+    rows: Vec<Vec<Entry<T>>>,
+    // Rows without entries, which wait for more.
+    spare: Vec<Vec<Entry<T>>>,
+}
+
+impl<T: Copy> Model for Rows<T> {
+    ghost use Rattle.acc_tree.specs.Listing.{Listing};
+
+    ghost Value = { Listing T };
+
+    ghost use Rattle.acc_rows.specs.Sound.{listing_in_rows, AreSoundRows};
+
+    ghost view = { listing_in_rows };
+
+    ghost invariant = { AreSoundRows };
+}
+
+impl<T: Copy> Rows<T> {
+    /// No entries and no room. It needs no memory.
+    pub fn new(alloc: Global) -> Rows<T>
+        ensures entries { result.entries ≡ [] }
+        ensures room { result.room ≡ 0 }
+    {
+        Rows {
+            alloc,
+            firsts: Vec::new(alloc),
+            rows: Vec::new(alloc),
+            spare: Vec::new(alloc),
+        }
+    }
+
+    /// Makes room for `count` more entries.
+    ///
+    /// # Errors
+    ///
+    /// [`Fault::Memory`] alone, where the room was missing. The entries are as before, and the room never shrinks here.
+    pub fn reserve(&mut self, count: u64) -> Result<(), Fault>
+        ensures ok { OnOk result (count ≤ self.new.room) }
+        ensures entries { self.new.entries ≡ self.old.entries }
+        ensures room { self.old.room ≤ self.new.room }
+        ensures only { IfErr result (λ fault. fault ≡ Fault.Memory) }
+        ensures memory { OnErr result (self.old.room < count) }
+    {
+        make_rows(
+            self.alloc,
+            &mut self.firsts,
+            &mut self.rows,
+            &mut self.spare,
+            count as usize,
+        )
+    }
+
+    /// The entry of a key, if it is there. It is looked for first near a place.
+    #[inline]
+    pub fn get(&self, key: u128, near: Place) -> Option<&Entry<T>>
+        ensures { seen result ≡ at_key key self.now.entries }
+    {
+        if let Some(entry) = entry_of(&self.rows, key, near) {
+            return Some(entry);
+        }
+        let place = find(&self.firsts, &self.rows, key, &mut Visits::new());
+        let entry = entry_from(&self.rows, place)?;
+        if entry.key == key { Some(entry) } else { None }
+    }
+
+    /// The entries on both sides of a key.
+    #[inline]
+    pub fn around(&self, key: u128) -> Around<'_, T>
+        ensures before { seen result.before ≡ last_before key self.now.entries }
+        ensures from { seen result.from ≡ first_from key self.now.entries }
+    {
+        self.around_counted(key, &mut Visits::new())
+    }
+
+    /// The entries on both sides of a key, by at most two visits for each binary digit of the number of entries.
+    #[inline]
+    pub fn around_counted<'a>(&'a self, key: u128, visits: &mut Visits) -> Around<'a, T>
+        requires limit { visits.old ≤ 2 ^ 63 }
+        ensures before { seen result.before ≡ last_before key self.now.entries }
+        ensures from { seen result.from ≡ first_from key self.now.entries }
+        ensures not_fewer { visits.old ≤ visits.new }
+        ensures visits { (d : ℕ) → length self.now.entries < 2 ^ d → visits.new ≤ visits.old + 2 * d }
+    {
+        let place = find(&self.firsts, &self.rows, key, visits);
+        let from = entry_from(&self.rows, place);
+        if place.at == 0 {
+            return Around {
+                before: None,
+                place,
+                from,
+            };
+        }
+        Around {
+            before: Some(entry_before(&self.rows, place)),
+            place: Place {
+                row: place.row,
+                at: place.at - 1,
+            },
+            from,
+        }
+    }
+
+    /// The entry of least key from `key` on.
+    pub fn next(&self, key: u128) -> Option<&Entry<T>>
+        ensures { seen result ≡ first_from key self.now.entries }
+    {
+        self.around(key).from
+    }
+
+    /// Puts an entry in its place by its key, which is not there yet, and answers where it stands. It needs no memory.
+    pub fn insert(&mut self, entry: Entry<T>) -> Place
+        requires room { 1 ≤ self.old.room }
+        requires new { at_key entry.key self.old.entries ≡ None }
+        ensures entries { self.new.entries ≡ with_entry entry self.old.entries }
+        ensures room { self.old.room ≤ self.new.room + 1 }
+    {
+        if self.rows.is_empty() {
+            start(&mut self.firsts, &mut self.rows, &mut self.spare, entry);
+            return Place { row: 0, at: 0 };
+        }
+        let found = find(&self.firsts, &self.rows, entry.key, &mut Visits::new());
+        let place = make_place(&mut self.firsts, &mut self.rows, &mut self.spare, found);
+        put(&mut self.firsts, &mut self.rows, place, entry);
+        place
+    }
+
+    /// Takes out the entry of a key that is there, and answers it. It is looked for first near a place.
+    pub fn remove(&mut self, key: u128, near: Place) -> Entry<T>
+        requires there { IsSome (at_key key self.old.entries) }
+        ensures entry { at_key key self.old.entries ≡ Some result }
+        ensures entries { self.new.entries ≡ without_key key self.old.entries }
+        ensures room { self.old.room ≤ self.new.room }
+    {
+        let place = locate(&self.firsts, &self.rows, key, near);
+        take_out(&mut self.firsts, &mut self.rows, &mut self.spare, place)
+    }
+
+    /// Writes the value of a key that is there. It is looked for first near a place.
+    pub fn set(&mut self, key: u128, value: T, near: Place)
+        requires there { IsSome (at_key key self.old.entries) }
+        ensures entries { self.new.entries ≡ with_value key value self.old.entries }
+        ensures room { self.old.room ≤ self.new.room }
+    {
+        let place = locate(&self.firsts, &self.rows, key, near);
+        write(&mut self.rows, place, value);
+    }
+
+    /// That the keys rise. Nothing is done.
+    pub fn laws(&self)
+        ensures { KeysRise self.now.entries }
+    {
+        let _ = &self.rows;
+    }
+}

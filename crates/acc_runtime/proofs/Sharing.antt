@@ -1,0 +1,17 @@
+-- What is known of a call once the lock is free again.
+use Rattle.std.proofs.Common.{Result, Ok, Err}
+use Rattle.std.specs.Prelude.{IfOk, IfErr}
+use Rattle.acc_base.specs.declared.calls.Call.{Call}
+use Rattle.acc_base.specs.declared.faults.Fault.{Fault}
+use Rattle.acc_base.specs.Loans.{Leased}
+use Rattle.acc_base.specs.Calls.{World}
+use Rattle.acc_table.specs.declared.calls.Reply.{Reply}
+use Rattle.acc_table.specs.Laws.{IsLawful}
+use Rattle.acc_runtime.specs.Shares.{Shares}
+use Rattle.acc_runtime.specs.Acts.{IsActed}
+use Rattle.acc_runtime.specs.Shared.{WasAccepted}
+
+pub was_accepted : {E : Type 0} (r : Result Reply E) (p q : Shares) (w v : World) (call : Call Leased) → IsLawful w → IsLawful v
+    → IfOk r (λ reply. IsActed p w call reply q v) → IfOk r (λ reply. WasAccepted p call reply q)
+was_accepted (Ok reply) p q w v call lawful still acted = record { before = w; next = v; lawful = lawful; still = still; acted = acted }
+was_accepted (Err back) p q w v call lawful still acted = tt

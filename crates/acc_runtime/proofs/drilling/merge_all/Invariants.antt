@@ -1,0 +1,14 @@
+use Rattle.std.proofs.Common.{◌≡◌, ◌+◌, ◌*◌, All, vec_len, None}
+use Rattle.acc_runtime.specs.Drills.{IsWorked}
+use Rattle.acc_runtime.proofs.drilling.merge_all.Given as goal
+
+abbrev pub invariant-loop-worker : goal.invariant-loop-worker
+invariant-loop-worker g l = record {
+  worked : All (λ w. IsWorked l.rounds w.caller w.fault) l.workers.items;
+  kept : l.caller.made + l.caller.tickets + 2 * l.rounds * vec_len l.workers ≡ l.fn.caller.made + l.fn.caller.tickets + 2 * l.rounds * vec_len l.fn.workers;
+  made : l.first ≡ None → l.caller.made + 2 * l.rounds * vec_len l.workers ≡ l.fn.caller.made + 2 * l.rounds * vec_len l.fn.workers;
+  back : l.first ≡ None → l.caller.allowance + vec_len l.workers ≡ l.fn.caller.allowance + vec_len l.fn.workers;
+}
+
+abbrev pub decreases-loop-worker : goal.decreases-loop-worker
+decreases-loop-worker g l = vec_len l.workers

@@ -1,0 +1,225 @@
+//! The ten calls that make events, on the table behind the lock. Each is one [`Locked::act`] of the call that its name
+//! says, with exactly what was handed in, and answers what that answered. A call that is refused changes nothing, neither
+//! the table nor the shares of its caller.
+
+ghost use Rattle.std.specs.Prelude.{◌≡◌, if◌then◌else◌, IfOk, IfErr, OnOk, OnErr};
+ghost use Rattle.acc_base.specs.declared.calls.Call.TheVariants.{Do, HostWrite, Lend, Gather};
+ghost use Rattle.acc_base.specs.declared.directives.Directive.TheVariants.{Enter, Exit, EnterData, ExitData, Update, Wait, Step};
+ghost use Rattle.acc_table.specs.declared.calls.Reply.TheVariants.{Done, Entered, Drained, Idle, Lease as Lent};
+ghost use Rattle.acc_runtime.specs.Acts.{IsActed, IsDenied};
+
+use crate::callers::Caller;
+use crate::laws::Locked;
+use crate::outcomes::{done, drained, entered, exited, gathered, leased, stepped};
+use crate::regions::Region;
+use acc_base::{
+    Directive, EnterClause, ExitClause, Fault, Item, List, RegionClause, Section, UpdateClause,
+};
+use acc_lend::Lease;
+use acc_table::Call;
+use std::sync::ledger::Ledger;
+
+impl<Regions: Ledger, Tickets: Ledger, Events: Ledger> Locked<Regions, Tickets, Events> {
+    /// Enters a data region (OpenACC 3.3, section 2.6.5, data construct).
+    ///
+    /// # Errors
+    ///
+    /// Those of [`act`](Locked::act).
+    pub fn enter(
+        &mut self,
+        caller: &mut Caller<Regions, Tickets, Events>,
+        items: Vec<Item<RegionClause>>,
+    ) -> Result<Region, Fault>
+        ensures done { IfOk result (λ region. IsActed caller.old self.old (Do (Enter items.items)) (Entered region) caller.new self.new) }
+        ensures refused { IfErr result (IsDenied caller.old self.old (Do (Enter items.items))) }
+        ensures same { OnErr result ((self.new ≡ self.old) × (caller.new ≡ caller.old)) }
+    {
+        let items = List::from_vec(items);
+        entered(self.act(caller, Call::Do(Directive::Enter { items })))
+    }
+
+    /// Exits from an open data region, which is spent (OpenACC 3.3, section 2.6.5, data construct).
+    ///
+    /// # Errors
+    ///
+    /// Those of [`act`](Locked::act). The region comes back.
+    pub fn exit(
+        &mut self,
+        caller: &mut Caller<Regions, Tickets, Events>,
+        region: Region,
+    ) -> Result<(), (Region, Fault)>
+        ensures done { OnOk result (IsActed caller.old self.old (Do (Exit region)) Done caller.new self.new) }
+        ensures refused { IfErr result (λ back. IsDenied caller.old self.old (Do (Exit region)) back.1) }
+        ensures same { IfErr result (λ back. (back.0 ≡ region) × (self.new ≡ self.old) × (caller.new ≡ caller.old)) }
+    {
+        let number = region.number();
+        exited(
+            self.act(caller, Call::Do(Directive::Exit { number })),
+            region,
+        )
+    }
+
+    /// Carries out an `enter data` directive (OpenACC 3.3, section 2.6.6).
+    ///
+    /// # Errors
+    ///
+    /// Those of [`act`](Locked::act).
+    pub fn enter_data(
+        &mut self,
+        caller: &mut Caller<Regions, Tickets, Events>,
+        items: Vec<Item<EnterClause>>,
+        queue: Option<u64>,
+    ) -> Result<(), Fault>
+        ensures done { OnOk result (IsActed caller.old self.old (Do (EnterData items.items queue)) Done caller.new self.new) }
+        ensures refused { IfErr result (IsDenied caller.old self.old (Do (EnterData items.items queue))) }
+        ensures same { OnErr result ((self.new ≡ self.old) × (caller.new ≡ caller.old)) }
+    {
+        let items = List::from_vec(items);
+        done(self.act(caller, Call::Do(Directive::EnterData { items, queue })))
+    }
+
+    /// Carries out an `exit data` directive (OpenACC 3.3, section 2.6.6).
+    ///
+    /// # Errors
+    ///
+    /// Those of [`act`](Locked::act).
+    pub fn exit_data(
+        &mut self,
+        caller: &mut Caller<Regions, Tickets, Events>,
+        items: Vec<Item<ExitClause>>,
+        finalize: bool,
+        queue: Option<u64>,
+    ) -> Result<(), Fault>
+        ensures done { OnOk result (IsActed caller.old self.old (Do (ExitData items.items finalize queue)) Done caller.new self.new) }
+        ensures refused { IfErr result (IsDenied caller.old self.old (Do (ExitData items.items finalize queue))) }
+        ensures same { OnErr result ((self.new ≡ self.old) × (caller.new ≡ caller.old)) }
+    {
+        let items = List::from_vec(items);
+        done(self.act(
+            caller,
+            Call::Do(Directive::ExitData {
+                items,
+                finalize,
+                queue,
+            }),
+        ))
+    }
+
+    /// Carries out an `update` directive (OpenACC 3.3, the update directive).
+    ///
+    /// # Errors
+    ///
+    /// Those of [`act`](Locked::act).
+    pub fn update(
+        &mut self,
+        caller: &mut Caller<Regions, Tickets, Events>,
+        items: Vec<Item<UpdateClause>>,
+        if_present: bool,
+        queue: Option<u64>,
+    ) -> Result<(), Fault>
+        ensures done { OnOk result (IsActed caller.old self.old (Do (Update items.items if_present queue)) Done caller.new self.new) }
+        ensures refused { IfErr result (IsDenied caller.old self.old (Do (Update items.items if_present queue))) }
+        ensures same { OnErr result ((self.new ≡ self.old) × (caller.new ≡ caller.old)) }
+    {
+        let items = List::from_vec(items);
+        done(self.act(
+            caller,
+            Call::Do(Directive::Update {
+                items,
+                if_present,
+                queue,
+            }),
+        ))
+    }
+
+    /// Makes the transfers of a queue, or of all queues (OpenACC 3.3, the wait directive), and answers how many they
+    /// were.
+    ///
+    /// # Errors
+    ///
+    /// Those of [`act`](Locked::act).
+    pub fn wait(
+        &mut self,
+        caller: &mut Caller<Regions, Tickets, Events>,
+        queue: Option<u64>,
+    ) -> Result<u64, Fault>
+        ensures done { IfOk result (λ count. IsActed caller.old self.old (Do (Wait queue)) (Drained count) caller.new self.new) }
+        ensures refused { IfErr result (IsDenied caller.old self.old (Do (Wait queue))) }
+        ensures same { OnErr result ((self.new ≡ self.old) × (caller.new ≡ caller.old)) }
+    {
+        drained(self.act(caller, Call::Do(Directive::Wait { queue })))
+    }
+
+    /// Makes the next transfer of a queue (OpenACC 3.3, section 2.16), and answers whether there was one. The step of an
+    /// empty queue is no event.
+    ///
+    /// # Errors
+    ///
+    /// Those of [`act`](Locked::act).
+    pub fn step(
+        &mut self,
+        caller: &mut Caller<Regions, Tickets, Events>,
+        queue: u64,
+    ) -> Result<bool, Fault>
+        ensures done { IfOk result (λ made. IsActed caller.old self.old (Do (Step queue)) (if made then Done else Idle) caller.new self.new) }
+        ensures refused { IfErr result (IsDenied caller.old self.old (Do (Step queue))) }
+        ensures same { OnErr result ((self.new ≡ self.old) × (caller.new ≡ caller.old)) }
+    {
+        stepped(self.act(caller, Call::Do(Directive::Step { queue })))
+    }
+
+    /// Writes bytes into host memory, from a host address on.
+    ///
+    /// # Errors
+    ///
+    /// Those of [`act`](Locked::act).
+    pub fn host_write(
+        &mut self,
+        caller: &mut Caller<Regions, Tickets, Events>,
+        addr: u64,
+        bytes: Vec<u8>,
+    ) -> Result<(), Fault>
+        ensures done { OnOk result (IsActed caller.old self.old (HostWrite addr bytes.items) Done caller.new self.new) }
+        ensures refused { IfErr result (IsDenied caller.old self.old (HostWrite addr bytes.items)) }
+        ensures same { OnErr result ((self.new ≡ self.old) × (caller.new ≡ caller.old)) }
+    {
+        let bytes = List::from_vec(bytes);
+        done(self.act(caller, Call::HostWrite { addr, bytes }))
+    }
+
+    /// Lends the block of a section, in an open data region (OpenACC 3.3, section 2.5, compute constructs).
+    ///
+    /// # Errors
+    ///
+    /// Those of [`act`](Locked::act).
+    pub fn lend(
+        &mut self,
+        caller: &mut Caller<Regions, Tickets, Events>,
+        region: &Region,
+        section: Section,
+    ) -> Result<Lease, Fault>
+        ensures done { IfOk result (λ lease. IsActed caller.old self.old (Lend region.now section) (Lent lease) caller.new self.new) }
+        ensures refused { IfErr result (IsDenied caller.old self.old (Lend region.now section)) }
+        ensures same { OnErr result ((self.new ≡ self.old) × (caller.new ≡ caller.old)) }
+    {
+        let region = region.number();
+        leased(self.act(caller, Call::Lend { region, section }))
+    }
+
+    /// Brings a lease back, which is spent (OpenACC 3.3, section 2.5, compute constructs).
+    ///
+    /// # Errors
+    ///
+    /// Those of [`act`](Locked::act). The lease comes back with its bytes.
+    pub fn gather(
+        &mut self,
+        caller: &mut Caller<Regions, Tickets, Events>,
+        lease: Lease,
+    ) -> Result<(), (Lease, Fault)>
+        ensures done { OnOk result (IsActed caller.old self.old (Gather lease) Done caller.new self.new) }
+        ensures refused { IfErr result (λ back. IsDenied caller.old self.old (Gather lease) back.1) }
+        ensures same { IfErr result (λ back. (back.0 ≡ lease) × (self.new ≡ self.old) × (caller.new ≡ caller.old)) }
+    {
+        gathered(self.act(caller, Call::Gather(lease)))
+    }
+}

@@ -1,0 +1,408 @@
+//! A table under one lock, for any number of threads.
+
+ghost use Rattle.std.specs.Prelude.{◌≡◌, ◌≤◌, if◌then◌else◌, vec_len, vec_capacity, Ok, IfOk, IfErr, OnOk, OnErr, IfSome, MatchResult};
+ghost use Rattle.std.specs.Fn.{FnOnceReturnsAt, FnOnceTakesAt};
+ghost use Rattle.acc_base.specs.declared.calls.Call.TheVariants.{Do, HostWrite, Lend, Gather};
+ghost use Rattle.acc_base.specs.declared.directives.Directive.TheVariants.{Enter, Exit, EnterData, ExitData, Update, Wait as WaitFor, Step};
+ghost use Rattle.acc_base.specs.declared.faults.Fault.TheVariants.{Memory};
+ghost use Rattle.acc_base.specs.Calls.{World};
+ghost use Rattle.acc_base.specs.Clauses.{in_host};
+ghost use Rattle.acc_table.specs.declared.calls.Reply.TheVariants.{Done, Entered, Drained, Idle, Lease as Lent};
+ghost use Rattle.acc_table.specs.Replies.{IsReplyTo};
+ghost use Rattle.acc_runtime.specs.Books.{IsSettled};
+ghost use Rattle.acc_runtime.specs.Shared.{WasAccepted, WasRefused, WasRead};
+
+use crate::callers::Caller;
+use crate::laws::Locked;
+use crate::ledgers::Blanks;
+use crate::outcomes::{Outcome, done, drained, entered, exited, gathered, leased, stepped};
+use crate::regions::Region;
+use acc_base::{
+    Config, Directive, EnterClause, ExitClause, Fault, HOST_BASE, Item, List, RegionClause,
+    Section, UpdateClause,
+};
+use acc_lend::Lease;
+use acc_table::{Call, Table};
+use std::marker::Model;
+use std::sync::ledger::{Blank, Ledger};
+use std::sync::{Mutex, Wait};
+
+/// One table and its lock, which any number of threads share by reference.
+///
+/// Each call takes the lock once, and may wait for it. The lock covers one [`Table::apply`], one look, or one copy, and
+/// nothing else: lists are made before it is taken, and dropped after it is released. Whenever it is free, the laws of
+/// [`Locked`] hold of the table.
+///
+/// Which table a call meets is up to the threads. So contracts say that it met one of which the laws hold, and what
+/// came of the call there. They see a runtime as its limits.
+#[derive(Drop)]
+pub struct Runtime<Regions: Ledger, Tickets: Ledger, Events: Ledger> {
+    lock: Mutex<Locked<Regions, Tickets, Events>>,
+    // A copy of the table's, to be read without the lock.
+    config: Config,
+}
+
+impl<Regions: Ledger, Tickets: Ledger, Events: Ledger> Model for Runtime<Regions, Tickets, Events> {
+    ghost use Rattle.acc_base.specs.Limits.{Limits};
+
+    ghost Value = { Limits };
+
+    ghost view = { λ runtime. runtime.config };
+}
+
+impl<Regions: Ledger, Tickets: Ledger, Events: Ledger> Runtime<Regions, Tickets, Events> {
+    /// A runtime with a new table: nothing is mapped, no region is open, and host memory is zero. And its first caller,
+    /// which has all regions and all tickets, and made no event. The blanks are those that [`blanks`] makes of the same
+    /// configuration, each for the ledger whose type stands for it.
+    ///
+    /// # Errors
+    ///
+    /// [`Fault::Memory`] alone.
+    pub fn new<R: AllocGlobal>(
+        rt: &R,
+        config: Config,
+        blanks: Blanks,
+    ) -> Result<
+        (
+            Runtime<Regions, Tickets, Events>,
+            Caller<Regions, Tickets, Events>,
+        ),
+        Fault,
+    >
+        requires regions { (blanks.regions.name ≡ Regions.name) × (blanks.regions.parts ≡ Regions.parts) × (config.regions ≡ Regions.parts) }
+        requires tickets { (blanks.tickets.name ≡ Tickets.name) × (blanks.tickets.parts ≡ Tickets.parts) × (config.tickets ≡ Tickets.parts) }
+        requires events { (blanks.events.name ≡ Events.name) × (blanks.events.parts ≡ Events.parts) × (config.tickets ≡ Events.parts) }
+        ensures runtime { IfOk result (λ made. made.0 ≡ config) }
+        ensures caller { IfOk result (λ made. made.1 ≡ record { allowance = config.regions; tickets = config.tickets; made = 0 }) }
+        ensures err { IfErr result (λ fault. fault ≡ Memory) }
+    {
+        let (locked, caller) = Locked::new(rt.alloc(), config, blanks)?;
+        let lock = Mutex::new(locked);
+        Ok((Runtime { lock, config }, caller))
+    }
+
+    /// The limits.
+    pub fn config(&self) -> Config
+        ensures { result ≡ self.now }
+    {
+        self.config
+    }
+
+    /// Makes one call, with the lock held for no longer.
+    fn act<R: Wait>(
+        &self,
+        rt: &R,
+        caller: &mut Caller<Regions, Tickets, Events>,
+        call: Call,
+    ) -> Outcome
+        ensures accepted { IfOk result (λ reply. WasAccepted caller.old call reply caller.new) }
+        ensures reply { IfOk result (IsReplyTo call) }
+        ensures refused { IfErr result (λ back. WasRefused caller.old call back.1) }
+        ensures same { IfErr result (λ back. (back.0 ≡ call) × (caller.new ≡ caller.old)) }
+    {
+        let mut locked = self.lock.lock(rt);
+        locked.laws();
+        let outcome = locked.act(caller, call);
+        locked.laws();
+        outcome
+    }
+
+    /// Enters a data region (OpenACC 3.3, section 2.6.5, data construct).
+    ///
+    /// # Errors
+    ///
+    /// Those of [`Locked::act`].
+    pub fn enter<R: Wait>(
+        &self,
+        rt: &R,
+        caller: &mut Caller<Regions, Tickets, Events>,
+        items: Vec<Item<RegionClause>>,
+    ) -> Result<Region, Fault>
+        ensures accepted { IfOk result (λ region. WasAccepted caller.old (Do (Enter items.items)) (Entered region) caller.new) }
+        ensures refused { IfErr result (WasRefused caller.old (Do (Enter items.items))) }
+        ensures same { OnErr result (caller.new ≡ caller.old) }
+    {
+        let items = List::from_vec(items);
+        entered(self.act(rt, caller, Call::Do(Directive::Enter { items })))
+    }
+
+    /// Exits from an open data region, which is spent (OpenACC 3.3, section 2.6.5, data construct).
+    ///
+    /// # Errors
+    ///
+    /// Those of [`Locked::act`]. The region comes back.
+    pub fn exit<R: Wait>(
+        &self,
+        rt: &R,
+        caller: &mut Caller<Regions, Tickets, Events>,
+        region: Region,
+    ) -> Result<(), (Region, Fault)>
+        ensures accepted { OnOk result (WasAccepted caller.old (Do (Exit region)) Done caller.new) }
+        ensures refused { IfErr result (λ back. WasRefused caller.old (Do (Exit region)) back.1) }
+        ensures same { IfErr result (λ back. (back.0 ≡ region) × (caller.new ≡ caller.old)) }
+    {
+        let number = region.number();
+        exited(
+            self.act(rt, caller, Call::Do(Directive::Exit { number })),
+            region,
+        )
+    }
+
+    /// Carries out an `enter data` directive, with an `async` clause where a queue is named (OpenACC 3.3, section
+    /// 2.6.6).
+    ///
+    /// # Errors
+    ///
+    /// Those of [`Locked::act`].
+    pub fn enter_data<R: Wait>(
+        &self,
+        rt: &R,
+        caller: &mut Caller<Regions, Tickets, Events>,
+        items: Vec<Item<EnterClause>>,
+        queue: Option<u64>,
+    ) -> Result<(), Fault>
+        ensures accepted { OnOk result (WasAccepted caller.old (Do (EnterData items.items queue)) Done caller.new) }
+        ensures refused { IfErr result (WasRefused caller.old (Do (EnterData items.items queue))) }
+        ensures same { OnErr result (caller.new ≡ caller.old) }
+    {
+        let items = List::from_vec(items);
+        done(self.act(rt, caller, Call::Do(Directive::EnterData { items, queue })))
+    }
+
+    /// Carries out an `exit data` directive, with a `finalize` clause or without, and with an `async` clause where a
+    /// queue is named (OpenACC 3.3, section 2.6.6).
+    ///
+    /// # Errors
+    ///
+    /// Those of [`Locked::act`].
+    pub fn exit_data<R: Wait>(
+        &self,
+        rt: &R,
+        caller: &mut Caller<Regions, Tickets, Events>,
+        items: Vec<Item<ExitClause>>,
+        finalize: bool,
+        queue: Option<u64>,
+    ) -> Result<(), Fault>
+        ensures accepted { OnOk result (WasAccepted caller.old (Do (ExitData items.items finalize queue)) Done caller.new) }
+        ensures refused { IfErr result (WasRefused caller.old (Do (ExitData items.items finalize queue))) }
+        ensures same { OnErr result (caller.new ≡ caller.old) }
+    {
+        let items = List::from_vec(items);
+        done(self.act(
+            rt,
+            caller,
+            Call::Do(Directive::ExitData {
+                items,
+                finalize,
+                queue,
+            }),
+        ))
+    }
+
+    /// Carries out an `update` directive, with an `if_present` clause or without, and with an `async` clause where a
+    /// queue is named (OpenACC 3.3, the update directive).
+    ///
+    /// # Errors
+    ///
+    /// Those of [`Locked::act`].
+    pub fn update<R: Wait>(
+        &self,
+        rt: &R,
+        caller: &mut Caller<Regions, Tickets, Events>,
+        items: Vec<Item<UpdateClause>>,
+        if_present: bool,
+        queue: Option<u64>,
+    ) -> Result<(), Fault>
+        ensures accepted { OnOk result (WasAccepted caller.old (Do (Update items.items if_present queue)) Done caller.new) }
+        ensures refused { IfErr result (WasRefused caller.old (Do (Update items.items if_present queue))) }
+        ensures same { OnErr result (caller.new ≡ caller.old) }
+    {
+        let items = List::from_vec(items);
+        done(self.act(
+            rt,
+            caller,
+            Call::Do(Directive::Update {
+                items,
+                if_present,
+                queue,
+            }),
+        ))
+    }
+
+    /// Makes the transfers that wait in a queue, or in all queues, and answers how many they were (OpenACC 3.3, the wait
+    /// directive).
+    ///
+    /// # Errors
+    ///
+    /// Those of [`Locked::act`].
+    pub fn wait<R: Wait>(
+        &self,
+        rt: &R,
+        caller: &mut Caller<Regions, Tickets, Events>,
+        queue: Option<u64>,
+    ) -> Result<u64, Fault>
+        ensures accepted { IfOk result (λ count. WasAccepted caller.old (Do (WaitFor queue)) (Drained count) caller.new) }
+        ensures refused { IfErr result (WasRefused caller.old (Do (WaitFor queue))) }
+        ensures same { OnErr result (caller.new ≡ caller.old) }
+    {
+        drained(self.act(rt, caller, Call::Do(Directive::Wait { queue })))
+    }
+
+    /// Makes the next transfer of a queue, and answers whether there was one (OpenACC 3.3, section 2.16, asynchronous
+    /// behavior). The step of an empty queue is no event.
+    ///
+    /// # Errors
+    ///
+    /// Those of [`Locked::act`].
+    pub fn step<R: Wait>(
+        &self,
+        rt: &R,
+        caller: &mut Caller<Regions, Tickets, Events>,
+        queue: u64,
+    ) -> Result<bool, Fault>
+        ensures accepted { IfOk result (λ made. WasAccepted caller.old (Do (Step queue)) (if made then Done else Idle) caller.new) }
+        ensures refused { IfErr result (WasRefused caller.old (Do (Step queue))) }
+        ensures same { OnErr result (caller.new ≡ caller.old) }
+    {
+        stepped(self.act(rt, caller, Call::Do(Directive::Step { queue })))
+    }
+
+    /// Writes bytes into host memory, from a host address on.
+    ///
+    /// # Errors
+    ///
+    /// Those of [`Locked::act`].
+    pub fn host_write<R: Wait>(
+        &self,
+        rt: &R,
+        caller: &mut Caller<Regions, Tickets, Events>,
+        addr: u64,
+        bytes: Vec<u8>,
+    ) -> Result<(), Fault>
+        ensures accepted { OnOk result (WasAccepted caller.old (HostWrite addr bytes.items) Done caller.new) }
+        ensures refused { IfErr result (WasRefused caller.old (HostWrite addr bytes.items)) }
+        ensures same { OnErr result (caller.new ≡ caller.old) }
+    {
+        let bytes = List::from_vec(bytes);
+        done(self.act(rt, caller, Call::HostWrite { addr, bytes }))
+    }
+
+    /// Lends the block of a mapped section in an open data region, and answers its lease (OpenACC 3.3, section 2.5,
+    /// compute constructs).
+    ///
+    /// # Errors
+    ///
+    /// Those of [`Locked::act`].
+    pub fn lend<R: Wait>(
+        &self,
+        rt: &R,
+        caller: &mut Caller<Regions, Tickets, Events>,
+        region: &Region,
+        section: Section,
+    ) -> Result<Lease, Fault>
+        ensures accepted { IfOk result (λ lease. WasAccepted caller.old (Lend region.now section) (Lent lease) caller.new) }
+        ensures refused { IfErr result (WasRefused caller.old (Lend region.now section)) }
+        ensures same { OnErr result (caller.new ≡ caller.old) }
+    {
+        let region = region.number();
+        leased(self.act(rt, caller, Call::Lend { region, section }))
+    }
+
+    /// Brings a lease back, which is spent (OpenACC 3.3, section 2.5, compute constructs).
+    ///
+    /// # Errors
+    ///
+    /// Those of [`Locked::act`]. The lease comes back with its bytes.
+    pub fn gather<R: Wait>(
+        &self,
+        rt: &R,
+        caller: &mut Caller<Regions, Tickets, Events>,
+        lease: Lease,
+    ) -> Result<(), (Lease, Fault)>
+        ensures accepted { OnOk result (WasAccepted caller.old (Gather lease) Done caller.new) }
+        ensures refused { IfErr result (λ back. WasRefused caller.old (Gather lease) back.1) }
+        ensures same { IfErr result (λ back. (back.0 ≡ lease) × (caller.new ≡ caller.old)) }
+    {
+        gathered(self.act(rt, caller, Call::Gather(lease)))
+    }
+
+    /// The bytes of a section of host memory, as many as it is long; an empty one has none, wherever it starts.
+    ///
+    /// # Errors
+    ///
+    /// [`Fault::OutOfHost`] with item 0, exactly where the section is not empty and not in host memory; else
+    /// [`Fault::Memory`] alone.
+    pub fn host_read<R: Wait + AllocGlobal>(
+        &self,
+        rt: &R,
+        section: Section,
+    ) -> Result<Vec<u8>, Fault>
+        ensures inside { OnOk result (in_host self.now 0 section ≡ Ok tt) }
+        ensures bytes { IfOk result (λ bytes. WasRead section bytes.items) }
+        ensures err { IfErr result (λ fault. MatchResult (in_host self.now 0 section) (λ _. fault ≡ Memory) (λ outside. fault ≡ outside)) }
+    {
+        check_host(&self.config, section)?;
+        let copy = Vec::with_capacity(rt.alloc(), section.len as usize)?;
+        match self.copied(rt, section, copy) {
+            Some(bytes) => Ok(bytes),
+            // The table has the size that the configuration says, which no type tells.
+            None => Err(Fault::Memory),
+        }
+    }
+
+    /// Copies the bytes of a section of host memory, with the lock held for no longer.
+    fn copied<R: Wait>(&self, rt: &R, section: Section, copy: Vec<u8>) -> Option<Vec<u8>>
+        requires empty { vec_len copy ≡ 0 }
+        requires room { section.len ≤ vec_capacity copy }
+        ensures { IfSome result (λ bytes. WasRead section bytes.items) }
+    {
+        let locked = self.lock.lock(rt);
+        locked.laws();
+        locked.host_read(section, copy)
+    }
+
+    /// Calls `look` once on the table, and answers what it answers. The table is as it was when the lock was taken. All
+    /// laws of [`Locked`] hold of it, and all that [`Locked::settled`] tells of this caller: with the whole allowance no
+    /// region is open there, and every structured counter is zero. Until `look` returns, no other thread gets on.
+    pub fn look<R: Wait, T, F: FnOnce(&Table) -> T>(
+        &self,
+        rt: &R,
+        caller: &mut Caller<Regions, Tickets, Events>,
+        look: F,
+    ) -> T
+        requires { (w : World) → IsSettled Regions.parts Tickets.parts caller.old w → FnOnceTakesAt F.FnOnce look w }
+        ensures same { caller.new ≡ caller.old }
+        ensures called { (w : World) × IsSettled Regions.parts Tickets.parts caller.old w × FnOnceReturnsAt F.FnOnce look w result }
+    {
+        self.lock.lock(rt).look(caller, look)
+    }
+}
+
+/// The blanks of the ledgers of a runtime: a part for each region that may be open, one for each ticket, and one for each
+/// event that a ticket allows.
+pub fn blanks(config: &Config) -> Blanks
+    ensures regions { result.regions.parts ≡ config.now.regions }
+    ensures tickets { result.tickets.parts ≡ config.now.tickets }
+    ensures events { result.events.parts ≡ config.now.tickets }
+{
+    Blanks {
+        regions: Blank::new(config.regions()),
+        tickets: Blank::new(config.tickets()),
+        events: Blank::new(config.tickets()),
+    }
+}
+
+/// The section is empty, or lies in host memory.
+fn check_host(config: &Config, section: Section) -> Result<(), Fault>
+    ensures { result ≡ in_host config.now 0 section }
+{
+    let inside = match section.start.checked_sub(HOST_BASE) {
+        Some(offset) => section.len <= config.host() && offset <= config.host() - section.len,
+        None => false,
+    };
+    if section.len == 0 || inside {
+        Ok(())
+    } else {
+        Err(Fault::OutOfHost { item: 0 })
+    }
+}

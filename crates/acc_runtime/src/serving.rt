@@ -1,0 +1,75 @@
+//! A worker that makes the transfers of the queues that it is told of.
+
+ghost use Rattle.std.specs.Prelude.{◌≡◌, ◌+◌, ◌≤◌};
+
+use crate::callers::Caller;
+use crate::runtime::Runtime;
+use acc_lend::Gate;
+use crossbeam_channel::Receiver;
+use std::sync::Wait;
+use std::sync::ledger::Ledger;
+
+/// What a worker did.
+#[derive(Clone, Copy, Debug, Default, PartialEq, Eq)]
+pub struct Served {
+    /// How many transfers it made.
+    pub steps: u64,
+    /// How often a step was refused, where more than 2^64 are not counted.
+    pub refusals: u64,
+}
+
+/// Steps a queue until it is empty, or a step is refused, or as many are made as a queue may have. Answers whether one
+/// was refused.
+fn drain<Regions: Ledger, Tickets: Ledger, Events: Ledger, R: Wait>(
+    rt: &R,
+    runtime: &Runtime<Regions, Tickets, Events>,
+    caller: &mut Caller<Regions, Tickets, Events>,
+    queue: u64,
+) -> bool
+    ensures events { caller.new.made + caller.new.tickets ≡ caller.old.made + caller.old.tickets }
+    ensures more { caller.old.made ≤ caller.new.made }
+    ensures allowance { caller.new.allowance ≡ caller.old.allowance }
+{
+    for _i in 0..runtime.config().queue_cap() {
+        match runtime.step(rt, caller, queue) {
+            Ok(true) => {}
+            Ok(false) => return false,
+            Err(_) => return true,
+        }
+    }
+    false
+}
+
+/// Makes the transfers of each queue whose number is received, until the channel is closed (OpenACC 3.3, section 2.16,
+/// asynchronous behavior). For the n-th number, counted from 0, the gate's `before(n)` is called, and `after(n)` when the
+/// queue is empty, or a step was refused, or as many steps were made as a queue may have. The lock is free between two
+/// steps, and while the gate is called.
+///
+/// A number that is no queue's is a refusal, as every step is that the table or the caller's shares refuse.
+pub fn serve<Regions: Ledger, Tickets: Ledger, Events: Ledger, R: Wait, G: Gate<R>>(
+    rt: &R,
+    runtime: &Runtime<Regions, Tickets, Events>,
+    caller: &mut Caller<Regions, Tickets, Events>,
+    bells: Receiver<u64>,
+    gate: &G,
+) -> Served
+    ensures steps { caller.new.made ≡ caller.old.made + result.steps }
+    ensures tickets { caller.new.tickets + result.steps ≡ caller.old.tickets }
+    ensures allowance { caller.new.allowance ≡ caller.old.allowance }
+{
+    let before = caller.made();
+    let mut number: usize = 0;
+    let mut refusals: u64 = 0;
+    for queue in bells.iter(rt) {
+        gate.before(rt, number);
+        if drain(rt, runtime, caller, queue) {
+            refusals = refusals.saturating_add(1);
+        }
+        gate.after(rt, number);
+        number = number.saturating_add(1);
+    }
+    Served {
+        steps: caller.made() - before,
+        refusals,
+    }
+}

@@ -1,0 +1,60 @@
+//! A gate that makes two pieces of work meet.
+
+use acc_lend::Gate;
+use std::rt::Clock;
+use std::sync::atomic::{AtomicBool, Ordering};
+use std::thread::sleep;
+use std::time::Duration;
+
+/// How often work that is held waits a millisecond before it gives up.
+const WAITS: u32 = 10_000;
+
+/// Holds the work of one number before it begins, until that of another is done. Both are at work at the same time then.
+#[derive(Drop)]
+pub struct Meeting {
+    held: usize,
+    first: usize,
+    is_done: AtomicBool,
+    has_given_up: AtomicBool,
+}
+
+impl Meeting {
+    pub fn new(held: usize, first: usize) -> Meeting {
+        Meeting {
+            held,
+            first,
+            is_done: AtomicBool::new(false),
+            has_given_up: AtomicBool::new(false),
+        }
+    }
+
+    /// The one work was done, and the other did not wait for it in vain.
+    pub fn took_place(&self) -> bool {
+        self.is_done.load(Ordering::SeqCst) && !self.has_given_up.load(Ordering::SeqCst)
+    }
+
+    /// Waits until the other work is done; false where that took too long.
+    fn wait<R: Clock>(&self, rt: &R) -> bool {
+        for _ in 0..WAITS {
+            if self.is_done.load(Ordering::SeqCst) {
+                return true;
+            }
+            sleep(rt, Duration::from_millis(1));
+        }
+        false
+    }
+}
+
+impl<R: Clock> Gate<R> for Meeting {
+    fn before(&self, rt: &R, n: usize) {
+        if n == self.held && !self.wait(rt) {
+            self.has_given_up.store(true, Ordering::SeqCst);
+        }
+    }
+
+    fn after(&self, _rt: &R, n: usize) {
+        if n == self.first {
+            self.is_done.store(true, Ordering::SeqCst);
+        }
+    }
+}

@@ -1,0 +1,36 @@
+-- Which of the replies a call is answered.
+use Rattle.std.specs.Prelude.{◌≡◌, ◌⊎◌, ⊤}
+use Rattle.acc_clauses.specs.Words.{Call, Directive}
+use Rattle.acc_base.specs.declared.calls.Call.TheVariants.{Do, HostWrite, Lend, Gather}
+use Rattle.acc_base.specs.declared.directives.Directive.TheVariants.{Enter, Exit, EnterData, ExitData, Update, Wait, Step}
+use Rattle.acc_base.specs.Loans.{Leased}
+use Rattle.acc_table.specs.declared.calls.Reply.{Reply}
+use Rattle.acc_table.specs.declared.calls.Reply.TheVariants as replies
+
+-- it has the number of a region that was entered
+abbrev pub HasNumber : Reply → Type 0
+HasNumber (replies.Entered number) = ⊤
+HasNumber _ = ⊥
+
+-- it has how many transfers were made
+abbrev pub HasCount : Reply → Type 0
+HasCount (replies.Drained count) = ⊤
+HasCount _ = ⊥
+
+-- it has a lease
+abbrev pub HasLease : Reply → Type 0
+HasLease (replies.Lease lease) = ⊤
+HasLease _ = ⊥
+
+-- a directive is answered so: an entry to a region its number, a wait how many transfers it made, and a step whether there was one
+abbrev pub IsReplyToDirective : Directive → Reply → Type 0
+IsReplyToDirective (Enter items) reply = HasNumber reply
+IsReplyToDirective (Wait queue) reply = HasCount reply
+IsReplyToDirective (Step queue) reply = (reply ≡ replies.Done) ⊎ (reply ≡ replies.Idle)
+IsReplyToDirective _ reply = reply ≡ replies.Done
+
+-- a call is answered so: a loan its lease
+abbrev pub IsReplyTo : Call Leased → Reply → Type 0
+IsReplyTo (Do directive) reply = IsReplyToDirective directive reply
+IsReplyTo (Lend region section) reply = HasLease reply
+IsReplyTo _ reply = reply ≡ replies.Done

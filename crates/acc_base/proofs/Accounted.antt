@@ -11,10 +11,10 @@ use Rattle.acc_base.specs.Ranges.{range_of}
 use Rattle.acc_base.specs.Loans.{Leased}
 use Rattle.acc_base.specs.Acting.{after}
 use Rattle.acc_base.specs.Walk.{walk, walk_all, register_after, holdings_of}
-use Rattle.acc_base.specs.Calls.{History, World, new_history, with_event, judge, world_after, new_world, bytes_brought, open_regions}
+use Rattle.acc_base.specs.Calls.{History, World, new_history, with_event, event_count, rebased, judge, world_after, new_world, bytes_brought, open_regions}
 use Rattle.acc_base.specs.Judge.{Makes}
 use Rattle.acc_base.specs.History.{entries_in, exits_in, IsLegal, AreLegal}
-use Rattle.acc_base.specs.Accounts.{IsRegisterSound, IsTraced, IsHistoryLegal, IsAccounted}
+use Rattle.acc_base.specs.Accounts.{IsRegisterSound, IsTraced, IsFounded, IsHistoryLegal, IsAccounted}
 use Rattle.acc_base.proofs.Elements.{AllByRecursion-weaker}
 use Rattle.acc_base.proofs.Lookups.{at-own}
 use Rattle.acc_base.proofs.Walked.{layout-after}
@@ -42,8 +42,9 @@ legal-push l (x ∷ events) e lay h k = (h.0, legal-push l events e (walk x lay)
 -- a history that is legal and leads to a layout, with one event more that is legal there
 pub history_after : (l : Limits) (h : History) (e : Event) (lay new : Layout) → IsHistoryLegal l h lay → IsLegal l e lay → new ≡ walk e lay → IsHistoryLegal l (with_event e h) new
 history_after l h e lay new legal now is = record {
-  legal = legal-push l h.trace e new_layout legal.legal (subst (IsLegal l e) (sym legal.leads) now);
-  leads = walk_all-push h.trace e new_layout ∙ (ap (walk e) legal.leads ∙ sym is);
+  founded = legal.founded;
+  legal = legal-push l h.trace e h.base.layout legal.legal (subst (IsLegal l e) (sym legal.leads) now);
+  leads = walk_all-push h.trace e h.base.layout ∙ (ap (walk e) legal.leads ∙ sym is);
 }
 
 -- ---- the world after it
@@ -109,7 +110,7 @@ accepted_accounted w call e bounds h accounted = accounted_after w call e bounds
 pub new_accounted : (l : Limits) → IsWithinBounds l → IsAccounted (new_world l)
 unfolding walk_all
 new_accounted l bounds =
-    let history : IsHistoryLegal l new_history new_layout = record { legal = tt; leads = refl } in
+    let history : IsHistoryLegal l new_history new_layout = record { founded = record { events = []; count = refl; legal = tt; leads = refl }; legal = tt; leads = refl } in
     let now : IsLedTo l new_history new_layout = legal_told l new_history new_layout bounds history in
     record {
       sound = record {
@@ -121,4 +122,43 @@ new_accounted l bounds =
       attachments_traced = attachments_traced l new_history new_layout bounds history;
       history_legal = history;
       books_counted = record { tickets = omega arith; trace = omega arith; regions = omega arith };
+    }
+
+-- ---- a world with a new base
+
+-- what one list of events and then another lead to
+walk_all-append : (events more : List Event) (lay : Layout) → walk_all (events ++ more) lay ≡ walk_all more (walk_all events lay)
+unfolding walk_all
+walk_all-append [] more lay = refl
+walk_all-append (e ∷ events) more lay = walk_all-append events more (walk e lay)
+
+-- they are legal, one after the other
+legal-append : (l : Limits) (events more : List Event) (lay : Layout) → AreLegal l events lay → AreLegal l more (walk_all events lay) → AreLegal l (events ++ more) lay
+unfolding walk_all
+legal-append l [] more lay h k = k
+legal-append l (e ∷ events) more lay h k = (h.0, legal-append l events more (walk e lay) h.1 k)
+
+-- a legal history founds a base
+founded_by : (l : Limits) (h : History) (lay : Layout) → IsHistoryLegal l h lay → IsFounded l (record { layout = lay; events = event_count h })
+founded_by l h lay legal =
+    let before = legal.founded in
+    record {
+      events = before.events ++ h.trace;
+      count = length-append before.events h.trace ∙ ap (λ n. n + length h.trace) before.count;
+      legal = legal-append l before.events h.trace new_layout before.legal (subst (AreLegal l h.trace) (sym before.leads) legal.legal);
+      leads = walk_all-append before.events h.trace new_layout ∙ (ap (walk_all h.trace) before.leads ∙ legal.leads);
+    }
+
+-- so the world is accounted for
+pub rebased_accounted : (w : World) → IsWithinBounds w.limits → IsAccounted w → IsAccounted (rebased w)
+unfolding walk_all
+rebased_accounted w bounds h =
+    let since : History = (rebased w).history in
+    let history : IsHistoryLegal w.limits since (layout_of w.state) = record { founded = founded_by w.limits w.history (layout_of w.state) h.history_legal; legal = tt; leads = refl } in
+    record {
+      sound = h.sound;
+      counters_traced = traced w.limits since (layout_of w.state) (legal_told w.limits since (layout_of w.state) bounds history);
+      attachments_traced = attachments_traced w.limits since (layout_of w.state) bounds history;
+      history_legal = history;
+      books_counted = record { tickets = omega (arith, h.books_counted.tickets); trace = omega arith; regions = h.books_counted.regions };
     }

@@ -16,8 +16,8 @@ use Rattle.acc_base.specs.Steps.{act_all}
 use Rattle.acc_base.specs.Waits.{records_drained}
 use Rattle.acc_base.specs.Walk.{enter_task, enter_data_task, exit_task, move_task, asked_in, done_in, stepped_in, register_after, holdings_of, walk, walk_all, loaned}
 use Rattle.acc_base.specs.History.{NamesRight, drops, count_counted, count_dropped, entries_of, exits_of, entries_in, exits_in, dynamic_in, dynamic_after, IsLegal, AreLegal}
-use Rattle.acc_base.specs.Calls.{History}
-use Rattle.acc_base.specs.Accounts.{AreRecordsSound, AreHeld, IsHistoryLegal}
+use Rattle.acc_base.specs.Calls.{Base, History}
+use Rattle.acc_base.specs.Accounts.{AreRecordsSound, AreHeld, IsFounded, IsHistoryLegal}
 use Rattle.acc_base.proofs.Results.{equal_self}
 use Rattle.acc_base.proofs.Elements.{AllByRecursion-weaker, IfSome-weaker}
 use Rattle.acc_base.proofs.Sound.{ranges-drained, drained_sound, new_sound}
@@ -151,6 +151,18 @@ walks_told l (e ∷ events) lay entries exits dynamics bounds h legal =
 pub new_told : (l : Limits) → IsTold l new_layout (λ b. 0) (λ b. 0) (λ b. 0)
 new_told l = record { sound = new_sound l; numbered = new_numbered; held = λ b. refl; structured = λ b. refl; dynamic = λ b. refl }
 
+-- a base is told by its own counters
+pub base_told : (l : Limits) (base : Base) → IsWithinBounds l → IsFounded l base → IsTold l base.layout (λ b. structured_of b base.layout.records.ranges) (λ b. 0) (λ b. dynamic_of b base.layout.records.ranges)
+base_told l base bounds founded =
+    let all_of = walks_told l founded.events new_layout (λ b. 0) (λ b. 0) (λ b. 0) bounds (new_told l) founded.legal in
+    subst (λ (x : Layout). IsTold l x (λ b. structured_of b x.records.ranges) (λ b. 0) (λ b. dynamic_of b x.records.ranges)) founded.leads (record {
+      sound = all_of.sound;
+      numbered = all_of.numbered;
+      held = all_of.held;
+      structured = λ b. omega arith;
+      dynamic = λ b. refl;
+    })
+
 -- what a history says of the layout that it leads to
 pub record IsLedTo (l : Limits) (h : History) (lay : Layout) : Type 0 where
   pub sound : AreRecordsSound l lay.records
@@ -162,8 +174,9 @@ pub record IsLedTo (l : Limits) (h : History) (lay : Layout) : Type 0 where
 -- a legal history leads to sound records, and tells both counters of every block
 pub legal_told : (l : Limits) (h : History) (lay : Layout) → IsWithinBounds l → IsHistoryLegal l h lay → IsLedTo l h lay
 legal_told l h lay bounds legal =
-    let all_of : IsTold l (walk_all h.trace new_layout) (λ b. 0 + sum_by (entries_of b) h.trace) (λ b. 0 + sum_by (exits_of b) h.trace) (λ b. fold (dynamic_after b) 0 h.trace)
-    = walks_told l h.trace new_layout (λ b. 0) (λ b. 0) (λ b. 0) bounds (new_told l) legal.legal in
+    let ranges : List Range = h.base.layout.records.ranges in
+    let all_of : IsTold l (walk_all h.trace h.base.layout) (λ b. structured_of b ranges + sum_by (entries_of b) h.trace) (λ b. 0 + sum_by (exits_of b) h.trace) (λ b. fold (dynamic_after b) (dynamic_of b ranges) h.trace)
+    = walks_told l h.trace h.base.layout (λ b. structured_of b ranges) (λ b. 0) (λ b. dynamic_of b ranges) bounds (base_told l h.base bounds legal.founded) legal.legal in
     subst (IsLedTo l h) legal.leads (record {
       sound = all_of.sound;
       numbered = all_of.numbered;

@@ -8,7 +8,7 @@ use Rattle.acc_base.specs.declared.tasks.Task.TheVariants.{Enter, Leave, Exit, M
 use Rattle.acc_base.specs.declared.events.Step.TheVariants.{Nothing, Counted, Born, Dropped, Moved}
 use Rattle.acc_base.specs.declared.events.Event.TheVariants.{Lent, Gathered}
 use Rattle.acc_base.specs.Limits.{Limits, IsWithinBounds}
-use Rattle.acc_base.specs.Records.{Records, Layout, new_layout}
+use Rattle.acc_base.specs.Records.{Records, Layout}
 use Rattle.acc_base.specs.Ranges.{bare_range, without_range}
 use Rattle.acc_base.specs.Blocks.{block_at, without_block}
 use Rattle.acc_base.specs.Attachments.{is_of, count_at, count_after, without_attachments}
@@ -17,7 +17,7 @@ use Rattle.acc_base.specs.Tasks.{section_of, recounted}
 use Rattle.acc_base.specs.Steps.{is_in_use, released, records_after_birth, records_after_end, with_range_changed, act_row, with_put, act_step, records_aimed, act, act_all}
 use Rattle.acc_base.specs.Waits.{records_made, records_stepped, records_drained}
 use Rattle.acc_base.specs.Walk.{asked_in, done_in, stepped_in, walk, walk_all, loaned}
-use Rattle.acc_base.specs.Calls.{History}
+use Rattle.acc_base.specs.Calls.{Base, History}
 use Rattle.acc_base.specs.History.{attached_after, IsAimLegal, AreJudged, AreLegal}
 use Rattle.acc_base.specs.Accounts.{AreRecordsSound, AreAttachmentsTraced, IsHistoryLegal}
 use Rattle.acc_base.proofs.Results.{equal}
@@ -27,10 +27,11 @@ use Rattle.acc_base.proofs.Attached.{same_block, count_at-attached_by, count_at-
 use Rattle.acc_base.proofs.Judged.{IsJudgedTo, step_judged, task_says, IsStepFree}
 use Rattle.acc_base.proofs.Memories.{recounted-block}
 use Rattle.acc_base.proofs.Aimed.{IsAimThere, attach_block, leave_block, exit_block, leave_sound, exit_sound, move_sound, says_aimed, IsLeft, task_left}
-use Rattle.acc_base.proofs.Sound.{drained_sound, new_sound}
+use Rattle.acc_base.proofs.Sound.{drained_sound}
 use Rattle.acc_base.proofs.Puts.{acted_sound}
 use Rattle.acc_base.proofs.Loaned.{loaned_sound}
 use Rattle.acc_base.proofs.AllTasks.{AreLeft, all_left}
+use Rattle.acc_base.proofs.Told.{base_told}
 
 number_in : Block → ℕ
 number_in b = b.number
@@ -220,11 +221,16 @@ pointer_walks_told l (e ∷ events) lay pointers bounds sound legal h =
     pointer_walks_told l events (walk e lay) (λ block pointer. attached_after block pointer (pointers block pointer) e) bounds (loaned_sound l e lay legal.0.names (drained_sound l qs v left.sound)) legal.1
     (loaned_told e (records_drained qs v) (λ block pointer. attached_after block pointer (pointers block pointer) e) told)
 
-nothing_told : ArePointersTold (λ block pointer. 0) new_layout.records
-nothing_told = record { there = λ block pointer there. refl; unborn = λ block pointer later. refl }
+-- a base is told by its own counters
+base_pointers_told : (l : Limits) (base : Base) → AreRecordsSound l base.layout.records → ArePointersTold (λ block pointer. count_at block pointer base.layout.records.attached) base.layout.records
+base_pointers_told l base sound = record {
+  there = λ block pointer there. refl;
+  unborn = λ block pointer later. count_at-unborn l base.layout.records block pointer sound later;
+}
 
 -- a legal history tells the attachment counters of every block that it leads to
 pub attachments_traced : (l : Limits) (h : History) (lay : Layout) → IsWithinBounds l → IsHistoryLegal l h lay → AreAttachmentsTraced h lay.records
 attachments_traced l h lay bounds history =
-    let told = pointer_walks_told l h.trace new_layout (λ block pointer. 0) bounds (new_sound l) history.legal nothing_told in
+    let sound : AreRecordsSound l h.base.layout.records = (base_told l h.base bounds history.founded).sound in
+    let told = pointer_walks_told l h.trace h.base.layout (λ block pointer. count_at block pointer h.base.layout.records.attached) bounds sound history.legal (base_pointers_told l h.base sound) in
     subst (λ (x : Layout). AreAttachmentsTraced h x.records) history.leads told.there

@@ -1,7 +1,7 @@
 -- What holds of every world that accepted calls lead to: ranges and blocks are apart and account for every used byte, and every counter is what the history gives.
 use Rattle.std.specs.Prelude.{ℕ, ◌+◌, ◌%◌, ◌≡◌, ◌<◌, ◌≤◌, ◌⊎◌, true, false, List, [], ◌∷◌, length, Some, IsSome, ⊤}
 use Rattle.std.specs.List.{AllByRecursion, AllZip}
-use Rattle.acc_base.specs.Words.{Section, Range, Block, Attachment, Transfer, Loan}
+use Rattle.acc_base.specs.Words.{Section, Range, Block, Attachment, Transfer, Loan, Event}
 use Rattle.acc_base.specs.declared.transfers.TheConstants.{QUEUE_COUNT}
 use Rattle.acc_base.specs.Limits.{Limits}
 use Rattle.acc_base.specs.Section.{end_of, is_within, host_memory, device_memory}
@@ -13,7 +13,7 @@ use Rattle.acc_base.specs.Register.{Region, Register, held_in}
 use Rattle.acc_base.specs.Records.{Records, Memory, Layout, State, new_layout, layout_of}
 use Rattle.acc_base.specs.Steps.{is_in_use}
 use Rattle.acc_base.specs.Walk.{walk_all}
-use Rattle.acc_base.specs.Calls.{History, World, event_count, open_regions}
+use Rattle.acc_base.specs.Calls.{Base, History, World, event_count, open_regions}
 use Rattle.acc_base.specs.History.{entries_in, exits_in, dynamic_in, attached_in, AreLegal}
 
 -- each one is related to each later one
@@ -172,10 +172,18 @@ pub record IsTraced (h : History) (r : Range) : Type 0 where
 abbrev pub AreAttachmentsTraced : History → Records → Type 0
 AreAttachmentsTraced h w = (block pointer : ℕ) → IsSome (block_at block w.blocks) → count_at block pointer w.attached ≡ attached_in block pointer h
 
--- the history is legal and leads to the layout
+-- some legal events, as many as the base says, lead to it from a new table
+pub record IsFounded (l : Limits) (base : Base) : Type 0 where
+  pub events : List Event
+  pub count : length events ≡ base.events
+  pub legal : AreLegal l events new_layout
+  pub leads : walk_all events new_layout ≡ base.layout
+
+-- the history is legal from its base on and leads to the layout
 pub record IsHistoryLegal (l : Limits) (h : History) (lay : Layout) : Type 0 where
-  pub legal : AreLegal l h.trace new_layout
-  pub leads : walk_all h.trace new_layout ≡ lay
+  pub founded : IsFounded l h.base
+  pub legal : AreLegal l h.trace h.base.layout
+  pub leads : walk_all h.trace h.base.layout ≡ lay
 
 -- there are no more events than tickets and places in the trace, and no more open regions than the limit says
 pub record AreBooksCounted (w : World) : Type 0 where

@@ -1,5 +1,5 @@
 -- A call on a table: its refusal, or its event with the world after it. A world is a history and the state that it led to.
-use Rattle.std.specs.Prelude.{ℕ, nat_le, List, [], ◌∷◌, ◌++◌, length, Result, Ok, ⊤}
+use Rattle.std.specs.Prelude.{ℕ, ◌+◌, nat_le, List, [], ◌∷◌, ◌++◌, length, Result, Ok, ⊤}
 use Rattle.acc_base.specs.Words.{Directive, Call, Event, Fault}
 use Rattle.acc_base.specs.declared.directives.Directive.TheVariants.{Enter}
 use Rattle.acc_base.specs.declared.calls.Call.TheVariants.{Do, HostWrite, Lend, Gather}
@@ -7,12 +7,18 @@ use Rattle.acc_base.specs.declared.faults.Fault.TheVariants.{NoTickets, NoAllowa
 use Rattle.acc_base.specs.Results.{◌>>=◌, ◌>>◌, refuse_if}
 use Rattle.acc_base.specs.Limits.{Limits}
 use Rattle.acc_base.specs.Loans.{Leased}
-use Rattle.acc_base.specs.Records.{State, new_state}
+use Rattle.acc_base.specs.Records.{Layout, State, layout_of, new_layout, new_state}
 use Rattle.acc_base.specs.Acting.{after}
 use Rattle.acc_base.specs.Judge.{Verdict, Makes, few_items, directive_verdict, host_write_event, lend_event, gather_event}
 
--- the events since a table was new
+-- what a table had when its trace was last made empty: everything but bytes, and how many events had led there
+pub record Base : Type 0 where
+  pub layout : Layout
+  pub events : ℕ
+
+-- a base, and the events since
 pub record History : Type 0 where
+  pub base : Base
   pub trace : List Event
 
 -- the limits, which stay; what happened; and what it led to
@@ -21,20 +27,28 @@ pub record World : Type 0 where
   pub history : History
   pub state : State
 
--- no event
+-- a new table, and no event
 abbrev pub new_history : History
-new_history = record { trace = [] }
+new_history = record { base = record { layout = new_layout; events = 0 }; trace = [] }
 
 -- one event more
 abbrev pub with_event : Event → History → History
-with_event e h = record { trace = h.trace ++ e ∷ [] }
+with_event e h = record { base = h.base; trace = h.trace ++ e ∷ [] }
 
--- the number of all events
+-- the number of all events, those before the base too
 abbrev pub event_count : History → ℕ
-event_count h = length h.trace
+event_count h = h.base.events + length h.trace
 
 abbrev pub new_world : Limits → World
 new_world l = record { limits = l; history = new_history; state = new_state l.host }
+
+-- what a world has is its base now, and there is no event since; nothing else changes
+abbrev pub rebased : World → World
+rebased w = record {
+  limits = w.limits;
+  history = record { base = record { layout = layout_of w.state; events = event_count w.history }; trace = [] };
+  state = w.state;
+}
 
 -- how many data regions are open
 abbrev pub open_regions : State → ℕ

@@ -1,4 +1,4 @@
--- The counters as counts over the events, and which lists of events are legal.
+-- The counters as counts over the events since a base, from its own values on; and which lists of events are legal.
 use Rattle.std.specs.Prelude.{ℕ, suc, ◌+◌, ◌-◌, ◌≡◌, ◌<◌, Bool, false, if◌then◌else◌, ◌==◌, List, [], ◌∷◌, length, Option, option_map, Some, Ok, count_by, sum_by, fold, IsSome, ⊤}
 use Rattle.acc_base.specs.Words.{Step, Did, Event, Aim, Task}
 use Rattle.acc_base.specs.declared.events.Step.TheVariants.{Counted, Born, Dropped}
@@ -7,7 +7,7 @@ use Rattle.acc_base.specs.declared.attachments.Aim.TheVariants as aims
 use Rattle.acc_base.specs.declared.tasks.Task.TheVariants.{Enter, Leave, Exit, Move}
 use Rattle.acc_base.specs.Limits.{Limits}
 use Rattle.acc_base.specs.Records.{Records, Layout}
-use Rattle.acc_base.specs.Ranges.{where_is}
+use Rattle.acc_base.specs.Ranges.{where_is, structured_of, dynamic_of}
 use Rattle.acc_base.specs.Register.{holdings_at}
 use Rattle.acc_base.specs.Clauses.{in_host}
 use Rattle.acc_base.specs.Attachments.{count_at, count_after}
@@ -51,11 +51,11 @@ abbrev pub exits_of : ℕ → Event → ℕ
 exits_of block (Left number did) = count_dropped block did
 exits_of block _ = 0
 
--- how often all entries counted the block
+-- how often all entries counted the block, and its counter in the base
 abbrev pub entries_in : ℕ → History → ℕ
-entries_in block h = sum_by (entries_of block) h.trace
+entries_in block h = structured_of block h.base.layout.records.ranges + sum_by (entries_of block) h.trace
 
--- how often all exits dropped it
+-- how often all exits since dropped it
 abbrev pub exits_in : ℕ → History → ℕ
 exits_in block h = sum_by (exits_of block) h.trace
 
@@ -72,7 +72,7 @@ dynamic_after block n (ExitedData items finalize queue did) = fold (dynamic_drop
 dynamic_after block n _ = n
 
 abbrev pub dynamic_in : ℕ → History → ℕ
-dynamic_in block h = fold (dynamic_after block) 0 h.trace
+dynamic_in block h = fold (dynamic_after block) (dynamic_of block h.base.layout.records.ranges) h.trace
 
 -- ---- the attachment counter of a pointer in a block (OpenACC 3.3, section 2.6.7): what attaching and detaching makes of it
 
@@ -81,7 +81,7 @@ abbrev pub attached_after : ℕ → ℕ → ℕ → Event → ℕ
 attached_after block pointer n e = fold (λ m d. count_after block pointer d.aim m) n (done_in e)
 
 abbrev pub attached_in : ℕ → ℕ → History → ℕ
-attached_in block pointer h = fold (attached_after block pointer) 0 h.trace
+attached_in block pointer h = fold (attached_after block pointer) (count_at block pointer h.base.layout.records.attached) h.trace
 
 -- ---- legal events: of bytes, an event tells alone whether an attachment acts, and the target that it writes
 

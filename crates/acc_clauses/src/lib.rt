@@ -8,6 +8,7 @@ mod acted;
 mod acting;
 mod aim_effects;
 mod aims;
+mod bases;
 mod copies;
 mod drafts;
 mod draining;
@@ -33,6 +34,7 @@ mod tasks;
 mod transfers;
 
 pub use acted::Acted;
+pub use bases::Base;
 pub use planning::check_items;
 pub use plans::Plan;
 pub use stores::Store;

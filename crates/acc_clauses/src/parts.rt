@@ -25,6 +25,7 @@ mod changes;
 mod mappings;
 mod queues;
 mod regions;
+mod snapshots;
 
 /// The parts of a data environment, which fit one another, with the limits, the numbers of the next region and the
 /// next loan, and how many blocks are lent.

@@ -11,6 +11,7 @@ ghost use Rattle.acc_base.specs.Loans.{is_lent};
 ghost use Rattle.acc_base.specs.Blocks.{block_at, place_of, used_bytes};
 ghost use Rattle.acc_base.specs.Bytes.{bytes_of, host_after_write};
 ghost use Rattle.acc_base.specs.Pointers.{attachment_of};
+ghost use Rattle.acc_base.specs.Records.{layout_of};
 ghost use Rattle.acc_base.specs.Acting.{after};
 ghost use Rattle.acc_base.specs.Queues.{queue_at, head_of};
 ghost use Rattle.acc_base.specs.Waits.{steps_of, ended_from};
@@ -25,6 +26,7 @@ ghost use Rattle.acc_clauses.specs.Contents.{AreNew};
 ghost use Rattle.acc_clauses.specs.Planned.{IsPlanOf, state_by};
 ghost use Rattle.acc_clauses.specs.Acts.{CanWrite, HasPlanRoom, LacksPlanRoom};
 
+use crate::bases::Base;
 use crate::draining::waiting;
 use crate::effects::puts_in;
 use crate::finishing::finish;
@@ -73,6 +75,18 @@ impl Store {
     {
         let parts = Parts::new(alloc, config)?;
         Ok(Store { parts })
+    }
+
+    /// What the store has, but for bytes, where so many events had led here.
+    ///
+    /// # Errors
+    ///
+    /// [`Fault::Memory`] alone.
+    pub fn base(&self, alloc: Global, events: u64) -> Result<Base, Fault>
+        ensures ok { IfOk result (λ base. base ≡ record { layout = layout_of self.now.state; events = events }) }
+        ensures only { IfErr result (λ fault. fault ≡ Memory) }
+    {
+        self.parts.base(alloc, events)
     }
 
     /// The state is sound, the limits lie within their bounds, and the blocks and the holes that [`Store::hole`] answers are

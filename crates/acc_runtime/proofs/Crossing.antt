@@ -21,6 +21,7 @@ use Rattle.acc_clauses.specs.contracts.numbers.Numbers as Numbers
 use Rattle.acc_base.specs.contracts.configs.Config as Config
 use denote.Struct.Declared.{shape}
 use Rattle.acc_clauses.specs.contracts.stores.Store as Store
+use Rattle.acc_clauses.specs.contracts.bases.Base as Base
 use Rattle.acc_clauses.specs.contracts.plans.Plan as Plan
 use Rattle.acc_table.specs.contracts.tables.Table as Table
 use Rattle.acc_runtime.specs.contracts.laws.Locked as Locked
@@ -70,11 +71,14 @@ parts_send = view_send _ _ _ _ _ (recorded_send inside.the_field.row _ _ inside.
 pub store_send : IsSend Store.the_row
 store_send = search (sendable, crosses, parts_send) depth 60 fits 100000
 
+base_send : IsSend Base.the_row
+base_send = search (sendable, crosses) depth 60 fits 100000
+
 plan_send : IsSend Plan.the_row
 plan_send = search (sendable, crosses) depth 40 fits 100000
 
 table_send : IsSend Table.the_row
-table_send = search (sendable, crosses, store_send, plan_send) depth 60 fits 100000
+table_send = search (sendable, crosses, store_send, base_send, plan_send) depth 60 fits 100000
 
 -- ---- under the lock, and shared, for ledgers of any types that cross
 

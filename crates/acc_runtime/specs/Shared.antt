@@ -1,5 +1,5 @@
 -- What a call on a shared table came to. Which table it met is known only while the lock is held: one that keeps the laws.
-use Rattle.std.specs.Prelude.{ℕ, ◌≡◌, List, Some}
+use Rattle.std.specs.Prelude.{ℕ, ◌≡◌, List, Some, length}
 use Rattle.acc_base.specs.declared.items.Section.{Section}
 use Rattle.acc_base.specs.declared.calls.Call.{Call}
 use Rattle.acc_base.specs.declared.faults.Fault.{Fault}
@@ -30,3 +30,7 @@ pub record WasRead (section : Section) (bytes : List ℕ) : Type 0 where
   pub world : World
   pub lawful : IsLawful world
   pub read : host_read_of section world.state.host ≡ Some bytes
+
+-- a table of which the laws held had so many stored events when they were folded into its base
+abbrev pub WasRebased : ℕ → Type 0
+WasRebased folded = (w : World) × IsLawful w × (folded ≡ length w.history.trace)

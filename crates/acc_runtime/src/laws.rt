@@ -1,11 +1,11 @@
 //! The type behind the lock, with what it keeps in every value that the lock hands out.
 
-ghost use Rattle.std.specs.Prelude.{◌≡◌, ◌<◌, ◌≤◌, ◌↔◌, true, false, IsTrue, [], vec_len, vec_capacity, option_map, IfOk, IfErr};
+ghost use Rattle.std.specs.Prelude.{◌≡◌, ◌<◌, ◌≤◌, ◌↔◌, true, false, IsTrue, [], length, vec_len, vec_capacity, option_map, IfOk, IfErr, OnOk, OnErr};
 ghost use Rattle.std.specs.Fn.{FnOnceReturnsAt, FnOnceTakesAt};
 ghost use Rattle.std.specs.List.{AllByRecursion};
 ghost use Rattle.acc_base.specs.declared.mappings.Range.{Range};
 ghost use Rattle.acc_base.specs.declared.faults.Fault.TheVariants.{Memory};
-ghost use Rattle.acc_base.specs.Calls.{new_world, event_count, open_regions};
+ghost use Rattle.acc_base.specs.Calls.{new_world, rebased, event_count, open_regions};
 ghost use Rattle.acc_table.specs.Calls.{IsDone, IsRefusal};
 ghost use Rattle.acc_table.specs.Counts.{is_entry, is_exit, answers_idle, is_shortage, IsCountedOnce};
 ghost use Rattle.acc_table.specs.Laws.{IsLawful};
@@ -187,6 +187,23 @@ impl<Regions: Ledger, Tickets: Ledger, Events: Ledger> Locked<Regions, Tickets, 
             return Ok(reply);
         }
         Ok(reply)
+    }
+
+    /// Makes what the table has its base, as [`Table::rebase`] does, and answers how many events were stored. It is no
+    /// event: no caller's shares change, and no book.
+    ///
+    /// # Errors
+    ///
+    /// [`Fault::Memory`] alone, and nothing changed.
+    pub fn rebase(&mut self) -> Result<u64, Fault>
+        ensures folded { IfOk result (λ folded. folded ≡ length self.old.history.trace) }
+        ensures rebased { OnOk result (self.new ≡ rebased self.old) }
+        ensures same { OnErr result (self.new ≡ self.old) }
+        ensures err { IfErr result (λ fault. fault ≡ Memory) }
+    {
+        let outcome = self.table.rebase();
+        hold(&self.table);
+        outcome
     }
 
     /// Compares the shares of a caller with the books, and answers whether it has the whole allowance. Then no region is

@@ -10,7 +10,7 @@ ghost use Rattle.acc_base.specs.Clauses.{in_host};
 ghost use Rattle.acc_table.specs.declared.calls.Reply.TheVariants.{Done, Entered, Drained, Idle, Lease as Lent};
 ghost use Rattle.acc_table.specs.Replies.{IsReplyTo};
 ghost use Rattle.acc_runtime.specs.Books.{IsSettled};
-ghost use Rattle.acc_runtime.specs.Shared.{WasAccepted, WasRefused, WasRead};
+ghost use Rattle.acc_runtime.specs.Shared.{WasAccepted, WasRefused, WasRead, WasRebased};
 
 use crate::callers::Caller;
 use crate::laws::Locked;
@@ -359,6 +359,22 @@ impl<Regions: Ledger, Tickets: Ledger, Events: Ledger> Runtime<Regions, Tickets,
         let locked = self.lock.lock(rt);
         locked.laws();
         locked.host_read(section, copy)
+    }
+
+    /// Makes what the table has its base, and answers how many events were stored, as [`Table::rebase`] does. It is no
+    /// event and takes no caller. A program that runs for long calls it now and then, so that the trace never gets full
+    /// and its memory is used again.
+    ///
+    /// # Errors
+    ///
+    /// [`Fault::Memory`] alone, and nothing changed.
+    pub fn rebase<R: Wait>(&self, rt: &R) -> Result<u64, Fault>
+        ensures folded { IfOk result WasRebased }
+        ensures err { IfErr result (λ fault. fault ≡ Memory) }
+    {
+        let mut locked = self.lock.lock(rt);
+        locked.laws();
+        locked.rebase()
     }
 
     /// Calls `look` once on the table, and answers what it answers. The table is as it was when the lock was taken. All

@@ -11,11 +11,11 @@ use Rattle.acc_base.specs.Steps.{act, act_all}
 use Rattle.acc_base.specs.Waits.{records_drained}
 use Rattle.acc_base.specs.Walk.{walk, asked_in, done_in, stepped_in, loaned}
 use Rattle.acc_base.specs.Acting.{after}
-use Rattle.acc_base.specs.Calls.{World, judge, world_after, bytes_brought, new_world}
+use Rattle.acc_base.specs.Calls.{Base, World, judge, world_after, bytes_brought, new_world, rebased}
 use Rattle.acc_base.specs.Judge.{Verdict, Makes, Idle, verdict_of}
 use Rattle.acc_base.proofs.SameMapping.{mapping-act}
 use Rattle.acc_base.proofs.Walked.{layout-after}
-use Rattle.acc_base.proofs.Accounted.{accepted_accounted, new_accounted}
+use Rattle.acc_base.proofs.Accounted.{accepted_accounted, new_accounted, rebased_accounted}
 use Rattle.acc_base.proofs.Births.{births_most, births-drained}
 use Rattle.acc_clauses.specs.Contents.{Contents, AreNew}
 use Rattle.acc_clauses.specs.Planned.{Planned, IsPlanOf}
@@ -91,34 +91,46 @@ pub kept_alone : (w : World) (call : Call Leased) (e : Event) → IsKept w → j
 kept_alone w call e k h none = kept_after w call e [] k h none (omega arith)
 
 -- what a store and a trace keep that were made into those after an event, or only had room made
-pub kept_called : (call : Call Leased) (e : Event) (old new : Contents) (trace longer : List Event) (reply : Reply) → IsKept (world_after call e (world_of old trace)) → IsMadeInto e (bytes_brought call) reply old new trace longer → IsKept (world_of new longer)
-kept_called call e old new trace longer reply k m = subst (λ (w : World). IsKept w) (sym (event_made call e reply old new trace longer m)) k
+pub kept_called : (base : Base) (call : Call Leased) (e : Event) (old new : Contents) (trace longer : List Event) (reply : Reply) → IsKept (world_after call e (world_of base old trace)) → IsMadeInto e (bytes_brought call) reply old new trace longer → IsKept (world_of base new longer)
+kept_called base call e old new trace longer reply k m = subst (λ (w : World). IsKept w) (sym (event_made base call e reply old new trace longer m)) k
 
-kept_same : (old new : Contents) (trace same : List Event) → IsKept (world_of old trace) → IsAsBefore old new trace same → IsKept (world_of new same)
-kept_same old new trace same k h = subst (λ (w : World). IsKept w) (sym (unchanged old new trace same h)) k
+kept_same : (base : Base) (old new : Contents) (trace same : List Event) → IsKept (world_of base old trace) → IsAsBefore old new trace same → IsKept (world_of base new same)
+kept_same base old new trace same k h = subst (λ (w : World). IsKept w) (sym (unchanged base old new trace same h)) k
 
-pub kept_either : {E : Type 0} (call : Call Leased) (e : Event) (old new : Contents) (trace longer : List Event) (r : Result Reply E) → IsKept (world_of old trace) → IsKept (world_after call e (world_of old trace))
-    → IfOk r (λ reply. IsMadeInto e (bytes_brought call) reply old new trace longer) → OnErr r (IsAsBefore old new trace longer) → IsKept (world_of new longer)
-kept_either call e old new trace longer (Ok reply) k next m same = kept_called call e old new trace longer reply next m
-kept_either call e old new trace longer (Err x) k next m same = kept_same old new trace longer k same
+pub kept_either : (base : Base) {E : Type 0} (call : Call Leased) (e : Event) (old new : Contents) (trace longer : List Event) (r : Result Reply E) → IsKept (world_of base old trace) → IsKept (world_after call e (world_of base old trace))
+    → IfOk r (λ reply. IsMadeInto e (bytes_brought call) reply old new trace longer) → OnErr r (IsAsBefore old new trace longer) → IsKept (world_of base new longer)
+kept_either base call e old new trace longer (Ok reply) k next m same = kept_called base call e old new trace longer reply next m
+kept_either base call e old new trace longer (Err x) k next m same = kept_same base old new trace longer k same
 
 -- what a store and a trace keep that carried a directive out, or were asked in vain
-pub kept_carried : (d : Directive) (p : Planned) (old new : Contents) (trace longer : List Event) (r : Result Reply (Directive × Fault)) → IsKept (world_of old trace) → OnOk r (IsPlanOf old.limits d old.state p)
-    → OnOk r (judge (world_of old trace) (Do d) ≡ Ok (planned_verdict d p old)) → IfOk r (λ reply. IsCommitted (planned_verdict d p old) reply old new trace longer) → OnErr r (IsAsBefore old new trace longer) → IsKept (world_of new longer)
-kept_carried d p old new trace longer (Ok reply) k planned h done same = go (planned_verdict d p old) refl done
+pub kept_carried : (base : Base) (d : Directive) (p : Planned) (old new : Contents) (trace longer : List Event) (r : Result Reply (Directive × Fault)) → IsKept (world_of base old trace) → OnOk r (IsPlanOf old.limits d old.state p)
+    → OnOk r (judge (world_of base old trace) (Do d) ≡ Ok (planned_verdict d p old)) → IfOk r (λ reply. IsCommitted (planned_verdict d p old) reply old new trace longer) → OnErr r (IsAsBefore old new trace longer) → IsKept (world_of base new longer)
+kept_carried base d p old new trace longer (Ok reply) k planned h done same = go (planned_verdict d p old) refl done
   where
-    go : (v : Verdict) → planned_verdict d p old ≡ v → IsCommitted v reply old new trace longer → IsKept (world_of new longer)
-    go (Makes e) is x = subst (λ (w : World). IsKept w) (sym (event_made (Do d) e reply old new trace longer x)) (kept_directive (world_of old trace) d p e k planned is (h ∙ ap Ok is))
-    go Idle is x = subst (λ (w : World). IsKept w) (sym (unchanged old new trace longer x.1)) k
-kept_carried d p old new trace longer (Err back) k planned h done same = subst (λ (w : World). IsKept w) (sym (unchanged old new trace longer same)) k
+    go : (v : Verdict) → planned_verdict d p old ≡ v → IsCommitted v reply old new trace longer → IsKept (world_of base new longer)
+    go (Makes e) is x = subst (λ (w : World). IsKept w) (sym (event_made base (Do d) e reply old new trace longer x)) (kept_directive (world_of base old trace) d p e k planned is (h ∙ ap Ok is))
+    go Idle is x = subst (λ (w : World). IsKept w) (sym (unchanged base old new trace longer x.1)) k
+kept_carried base d p old new trace longer (Err back) k planned h done same = subst (λ (w : World). IsKept w) (sym (unchanged base old new trace longer same)) k
 
 -- ---- a new table
 
 new_world_kept : (l : Limits) → IsWithinBounds l → IsKept (new_world l)
 new_world_kept l bounds = record { bounds = bounds; accounted = new_accounted l bounds; births = omega arith; regions = omega arith; serials = omega arith }
 
-pub new_is : (l : Limits) (c : Contents) → AreNew l c → world_of c [] ≡ new_world l
-new_is l c new = rw (new.limits, new.state) refl
+pub new_is : (base : Base) (l : Limits) (c : Contents) → AreNew l c → base ≡ record { layout = layout_of c.state; events = 0 } → world_of base c [] ≡ new_world l
+new_is base l c new is = rw (is, new.limits, new.state) refl
 
-pub new_kept : (l : Limits) (c : Contents) → IsWithinBounds l → AreNew l c → IsKept (world_of c [])
-new_kept l c bounds new = subst (λ (w : World). IsKept w) (sym (new_is l c new)) (new_world_kept l bounds)
+pub new_kept : (base : Base) (l : Limits) (c : Contents) → IsWithinBounds l → AreNew l c → base ≡ record { layout = layout_of c.state; events = 0 } → IsKept (world_of base c [])
+new_kept base l c bounds new is = subst (λ (w : World). IsKept w) (sym (new_is base l c new is)) (new_world_kept l bounds)
+
+-- ---- a new base
+
+rebased_kept : (w : World) → IsKept w → IsKept (rebased w)
+rebased_kept w k = record { bounds = k.bounds; accounted = rebased_accounted w k.bounds k.accounted; births = omega (arith, k.births); regions = omega (arith, k.regions); serials = omega (arith, k.serials) }
+
+-- the world of a base that was made of a store and its events is the world with a new base
+pub rebased_is : (base new : Base) (c : Contents) (trace : List Event) → new ≡ record { layout = layout_of c.state; events = base.events + length trace } → world_of new c [] ≡ rebased (world_of base c trace)
+rebased_is base new c trace is = rw is refl
+
+pub kept_rebased : (base new : Base) (c : Contents) (trace : List Event) → IsKept (world_of base c trace) → new ≡ record { layout = layout_of c.state; events = base.events + length trace } → IsKept (world_of new c [])
+kept_rebased base new c trace k is = subst (λ (w : World). IsKept w) (sym (rebased_is base new c trace is)) (rebased_kept (world_of base c trace) k)

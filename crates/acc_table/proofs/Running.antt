@@ -13,7 +13,7 @@ use Rattle.acc_base.specs.declared.events.Event.TheVariants.{Lent, Gathered}
 use Rattle.acc_base.specs.declared.faults.Fault.TheVariants.{Memory, NoLease}
 use Rattle.acc_base.specs.Loans.{Leased}
 use Rattle.acc_base.specs.Records.{State}
-use Rattle.acc_base.specs.Calls.{World, judge}
+use Rattle.acc_base.specs.Calls.{Base, World, judge}
 use Rattle.acc_base.specs.Judge.{Verdict, Makes, Idle, gather_event}
 use Rattle.acc_table.specs.declared.calls.Turn.{Turn}
 use Rattle.acc_table.specs.declared.calls.Turn.TheVariants.{Back}
@@ -145,21 +145,21 @@ returned {serial = serial} {bytes = bytes} {leases = leases} {at = at} {lease = 
     })
 
 -- what a store and a trace keep that took it back
-pub back_kept : {serial : ℕ} {bytes : List ℕ} {leases : List Leased} {at : ℕ} {lease : Leased} {reply : Reply} (old new : Contents) (trace room longer : List Event) → IsKept (world_of old trace) → IsReturned (world_of old trace) serial bytes leases at lease → room ≡ trace
-    → IsMadeInto (Gathered lease.serial lease.block) lease.bytes reply old new room longer → IsKept (world_of new longer)
-back_kept {lease = lease} {reply = reply} old new trace room longer k returned same m =
+pub back_kept : (base : Base) {serial : ℕ} {bytes : List ℕ} {leases : List Leased} {at : ℕ} {lease : Leased} {reply : Reply} (old new : Contents) (trace room longer : List Event) → IsKept (world_of base old trace) → IsReturned (world_of base old trace) serial bytes leases at lease → room ≡ trace
+    → IsMadeInto (Gathered lease.serial lease.block) lease.bytes reply old new room longer → IsKept (world_of base new longer)
+back_kept base {lease = lease} {reply = reply} old new trace room longer k returned same m =
     let made = subst (λ (before : List Event). IsMadeInto (Gathered lease.serial lease.block) lease.bytes reply old new before longer) same m in
-    kept_called (Gather lease) (Gathered lease.serial lease.block) old new trace longer reply (kept_alone (world_of old trace) (Gather lease) (Gathered lease.serial lease.block) k returned.judged refl) made
+    kept_called base (Gather lease) (Gathered lease.serial lease.block) old new trace longer reply (kept_alone (world_of base old trace) (Gather lease) (Gathered lease.serial lease.block) k returned.judged refl) made
 
 -- the turn is made that brought it back
-pub back_made : {serial : ℕ} {bytes : List ℕ} {leases : List Leased} {at : ℕ} {lease : Leased} {reply : Reply} (old new : Contents) (trace room longer : List Event) → IsReturned (world_of old trace) serial bytes leases at lease → room ≡ trace
-    → IsMadeInto (Gathered lease.serial lease.block) lease.bytes reply old new room longer → IsTurnMade (world_of old trace) leases (Back serial bytes) reply (world_of new longer) (remove leases at)
-back_made {lease = lease} {reply = reply} old new trace room longer returned same m =
+pub back_made : (base : Base) {serial : ℕ} {bytes : List ℕ} {leases : List Leased} {at : ℕ} {lease : Leased} {reply : Reply} (old new : Contents) (trace room longer : List Event) → IsReturned (world_of base old trace) serial bytes leases at lease → room ≡ trace
+    → IsMadeInto (Gathered lease.serial lease.block) lease.bytes reply old new room longer → IsTurnMade (world_of base old trace) leases (Back serial bytes) reply (world_of base new longer) (remove leases at)
+back_made base {lease = lease} {reply = reply} old new trace room longer returned same m =
     let made = subst (λ (before : List Event). IsMadeInto (Gathered lease.serial lease.block) lease.bytes reply old new before longer) same m in
     record {
       call = Gather lease;
       asked = returned.asked;
-      done = made_done (Gather lease) (Gathered lease.serial lease.block) reply old new trace longer returned.judged made;
+      done = made_done base (Gather lease) (Gathered lease.serial lease.block) reply old new trace longer returned.judged made;
       kept_is = returned.kept;
       idle = λ idle. (let both : ◌≡◌ {A = Reply} replies.Done replies.Idle = sym m.reply ∙ idle in cc);
       few = (let none : lent_by reply ≡ [] = ap lent_by m.reply in omega (arith, ap length none));

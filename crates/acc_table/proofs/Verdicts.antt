@@ -21,7 +21,7 @@ use Rattle.acc_base.specs.Waits.{drained}
 use Rattle.acc_base.specs.Acting.{act_all_state, after}
 use Rattle.acc_base.specs.Clauses.{in_host}
 use Rattle.acc_base.specs.Judge.{few_items, step_verdict, verdict_of, directive_verdict, plan_of, host_write_event, gather_event}
-use Rattle.acc_base.specs.Calls.{World, judge, ticket, allowance, trace_room, bytes_brought, world_after}
+use Rattle.acc_base.specs.Calls.{Base, World, judge, ticket, allowance, trace_room, bytes_brought, world_after}
 use Rattle.acc_base.specs.Judge.{Verdict, Makes, Idle}
 use Rattle.acc_clauses.specs.Contents.{Contents}
 use Rattle.acc_clauses.specs.Planned.{Planned, in_written_order}
@@ -60,19 +60,19 @@ told_idle _ s dids e = cc
 -- ---- the world
 
 -- the world of a store and a trace after a call is the world after its event
-pub event_made : (call : Call Leased) (e : Event) (reply : Reply) (old new : Contents) (trace longer : List Event) → IsMadeInto e (bytes_brought call) reply old new trace longer → world_of new longer ≡ world_after call e (world_of old trace)
+pub event_made : (base : Base) (call : Call Leased) (e : Event) (reply : Reply) (old new : Contents) (trace longer : List Event) → IsMadeInto e (bytes_brought call) reply old new trace longer → world_of base new longer ≡ world_after call e (world_of base old trace)
 unfolding world_after
-event_made call e reply old new trace longer h = rw (h.limits, h.state, h.trace) refl
+event_made base call e reply old new trace longer h = rw (h.limits, h.state, h.trace) refl
 
 -- and as before where only room was made
-pub unchanged : (old new : Contents) (trace same : List Event) → IsAsBefore old new trace same → world_of new same ≡ world_of old trace
-unchanged old new trace same h = rw (h.limits, h.state, h.trace) refl
+pub unchanged : (base : Base) (old new : Contents) (trace same : List Event) → IsAsBefore old new trace same → world_of base new same ≡ world_of base old trace
+unchanged base old new trace same h = rw (h.limits, h.state, h.trace) refl
 
 -- the world of a store and a trace after a write of the host
-pub written : (addr : ℕ) (bytes : List ℕ) (old new : Contents) (trace longer : List Event) → new.limits ≡ old.limits → new.state ≡ record old.state { host = host_after_write addr (length bytes) bytes old.state.host } → longer ≡ trace ++ HostWritten addr (length bytes) ∷ []
-    → world_of new longer ≡ world_after (HostWrite addr bytes) (HostWritten addr (length bytes)) (world_of old trace)
+pub written : (base : Base) (addr : ℕ) (bytes : List ℕ) (old new : Contents) (trace longer : List Event) → new.limits ≡ old.limits → new.state ≡ record old.state { host = host_after_write addr (length bytes) bytes old.state.host } → longer ≡ trace ++ HostWritten addr (length bytes) ∷ []
+    → world_of base new longer ≡ world_after (HostWrite addr bytes) (HostWritten addr (length bytes)) (world_of base old trace)
 unfolding world_after after act_all_state drained loaned
-written addr bytes old new trace longer l s t = rw (l, s, t) refl
+written base addr bytes old new trace longer l s t = rw (l, s, t) refl
 
 -- ---- the verdict
 
@@ -181,14 +181,14 @@ write_no_loan w addr bytes e h =
 -- ---- a call that was carried out
 
 -- a call that was judged so and made its event is done
-pub made_done : (call : Call Leased) (e : Event) (reply : Reply) (old new : Contents) (trace longer : List Event) → judge (world_of old trace) call ≡ Ok (Makes e) → IsMadeInto e (bytes_brought call) reply old new trace longer
-    → IsDone (world_of old trace) call reply (world_of new longer)
-made_done call e reply old new trace longer h m = rw h (m.reply, event_made call e reply old new trace longer m)
+pub made_done : (base : Base) (call : Call Leased) (e : Event) (reply : Reply) (old new : Contents) (trace longer : List Event) → judge (world_of base old trace) call ≡ Ok (Makes e) → IsMadeInto e (bytes_brought call) reply old new trace longer
+    → IsDone (world_of base old trace) call reply (world_of base new longer)
+made_done base call e reply old new trace longer h m = rw h (m.reply, event_made base call e reply old new trace longer m)
 
-pub done_either : {E : Type 0} (call : Call Leased) (e : Event) (old new : Contents) (trace longer : List Event) (r : Result Reply E) → judge (world_of old trace) call ≡ Ok (Makes e)
-    → IfOk r (λ reply. IsMadeInto e (bytes_brought call) reply old new trace longer) → IfOk r (λ reply. IsDone (world_of old trace) call reply (world_of new longer))
-done_either call e old new trace longer (Ok reply) h m = made_done call e reply old new trace longer h m
-done_either call e old new trace longer (Err x) h m = tt
+pub done_either : (base : Base) {E : Type 0} (call : Call Leased) (e : Event) (old new : Contents) (trace longer : List Event) (r : Result Reply E) → judge (world_of base old trace) call ≡ Ok (Makes e)
+    → IfOk r (λ reply. IsMadeInto e (bytes_brought call) reply old new trace longer) → IfOk r (λ reply. IsDone (world_of base old trace) call reply (world_of base new longer))
+done_either base call e old new trace longer (Ok reply) h m = made_done base call e reply old new trace longer h m
+done_either base call e old new trace longer (Err x) h m = tt
 
 -- and may be refused for want of memory
 pub made_wanted : (w : World) (call : Call Leased) (e : Event) → judge w call ≡ Ok (Makes e) → IsRefusal w call Memory
@@ -199,25 +199,25 @@ pub judged_refused : (w : World) (call : Call Leased) (fault : Fault) → judge 
 judged_refused w call fault h = rw h refl
 
 -- what a directive came to, which was judged so, is done
-carried_out : (d : Directive) (v : Verdict) (reply : Reply) (old new : Contents) (trace longer : List Event) → IsCommitted v reply old new trace longer → IsCarriedOut (world_of old trace) (Do d) v reply (world_of new longer)
-carried_out d (Makes e) reply old new trace longer h = (h.reply, event_made (Do d) e reply old new trace longer h)
-carried_out d Idle reply old new trace longer h = (h.0, unchanged old new trace longer h.1)
+carried_out : (base : Base) (d : Directive) (v : Verdict) (reply : Reply) (old new : Contents) (trace longer : List Event) → IsCommitted v reply old new trace longer → IsCarriedOut (world_of base old trace) (Do d) v reply (world_of base new longer)
+carried_out base d (Makes e) reply old new trace longer h = (h.reply, event_made base (Do d) e reply old new trace longer h)
+carried_out base d Idle reply old new trace longer h = (h.0, unchanged base old new trace longer h.1)
 
-pub directive_done : (d : Directive) (p : Planned) (old new : Contents) (trace longer : List Event) (r : Result Reply (Directive × Fault)) → OnOk r (judge (world_of old trace) (Do d) ≡ Ok (planned_verdict d p old))
-    → IfOk r (λ reply. IsCommitted (planned_verdict d p old) reply old new trace longer) → IfOk r (λ reply. IsDone (world_of old trace) (Do d) reply (world_of new longer))
-directive_done d p old new trace longer (Ok reply) h done = rw h (carried_out d (planned_verdict d p old) reply old new trace longer done)
-directive_done d p old new trace longer (Err back) h done = tt
+pub directive_done : (base : Base) (d : Directive) (p : Planned) (old new : Contents) (trace longer : List Event) (r : Result Reply (Directive × Fault)) → OnOk r (judge (world_of base old trace) (Do d) ≡ Ok (planned_verdict d p old))
+    → IfOk r (λ reply. IsCommitted (planned_verdict d p old) reply old new trace longer) → IfOk r (λ reply. IsDone (world_of base old trace) (Do d) reply (world_of base new longer))
+directive_done base d p old new trace longer (Ok reply) h done = rw h (carried_out base d (planned_verdict d p old) reply old new trace longer done)
+directive_done base d p old new trace longer (Err back) h done = tt
 
-pub directive_judged : (d : Directive) (p : Planned) (old : Contents) (trace : List Event) (r : Result Reply (Directive × Fault)) → admitted (world_of old trace) d ≡ Ok tt
-    → OnOk r (plan_of old.limits d old.state ≡ Ok (planned_verdict d p old)) → OnOk r (judge (world_of old trace) (Do d) ≡ Ok (planned_verdict d p old))
-directive_judged d p old trace (Ok reply) ok h = judged_plan (world_of old trace) d (planned_verdict d p old) ok h
-directive_judged d p old trace (Err back) ok h = tt
+pub directive_judged : (base : Base) (d : Directive) (p : Planned) (old : Contents) (trace : List Event) (r : Result Reply (Directive × Fault)) → admitted (world_of base old trace) d ≡ Ok tt
+    → OnOk r (plan_of old.limits d old.state ≡ Ok (planned_verdict d p old)) → OnOk r (judge (world_of base old trace) (Do d) ≡ Ok (planned_verdict d p old))
+directive_judged base d p old trace (Ok reply) ok h = judged_plan (world_of base old trace) d (planned_verdict d p old) ok h
+directive_judged base d p old trace (Err back) ok h = tt
 
-pub directive_refused : (d : Directive) (old : Contents) (trace : List Event) (r : Result Reply (Directive × Fault)) → admitted (world_of old trace) d ≡ Ok tt
-    → IfErr r (λ back. MayBeToldOf (plan_of old.limits d old.state) back.1) → IfErr r (λ back. IsRefusal (world_of old trace) (Do d) back.1)
-directive_refused d old trace (Ok reply) ok h = tt
-directive_refused d old trace (Err back) ok h = refused_plan (world_of old trace) d back.1 ok h
+pub directive_refused : (base : Base) (d : Directive) (old : Contents) (trace : List Event) (r : Result Reply (Directive × Fault)) → admitted (world_of base old trace) d ≡ Ok tt
+    → IfErr r (λ back. MayBeToldOf (plan_of old.limits d old.state) back.1) → IfErr r (λ back. IsRefusal (world_of base old trace) (Do d) back.1)
+directive_refused base d old trace (Ok reply) ok h = tt
+directive_refused base d old trace (Err back) ok h = refused_plan (world_of base old trace) d back.1 ok h
 
-pub write_done : (addr : ℕ) (bytes : List ℕ) (old new : Contents) (trace longer : List Event) → judge (world_of old trace) (HostWrite addr bytes) ≡ Ok (Makes (HostWritten addr (length bytes)))
-    → world_of new longer ≡ world_after (HostWrite addr bytes) (HostWritten addr (length bytes)) (world_of old trace) → IsDone (world_of old trace) (HostWrite addr bytes) Done (world_of new longer)
-write_done addr bytes old new trace longer h is = rw h (refl, is)
+pub write_done : (base : Base) (addr : ℕ) (bytes : List ℕ) (old new : Contents) (trace longer : List Event) → judge (world_of base old trace) (HostWrite addr bytes) ≡ Ok (Makes (HostWritten addr (length bytes)))
+    → world_of base new longer ≡ world_after (HostWrite addr bytes) (HostWritten addr (length bytes)) (world_of base old trace) → IsDone (world_of base old trace) (HostWrite addr bytes) Done (world_of base new longer)
+write_done base addr bytes old new trace longer h is = rw h (refl, is)

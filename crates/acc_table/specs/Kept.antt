@@ -3,12 +3,12 @@ use Rattle.std.specs.Prelude.{◌≤◌, ◌*◌, ◌+◌, List}
 use Rattle.acc_base.specs.declared.events.Event.{Event}
 use Rattle.acc_base.specs.Limits.{IsWithinBounds}
 use Rattle.acc_base.specs.Accounts.{IsAccounted}
-use Rattle.acc_base.specs.Calls.{World, event_count}
+use Rattle.acc_base.specs.Calls.{Base, World, event_count}
 use Rattle.acc_clauses.specs.Contents.{Contents}
 
--- the world of a store and a trace
-abbrev pub world_of : Contents → List Event → World
-world_of c trace = record { limits = c.limits; history = record { trace = trace }; state = c.state }
+-- the world of a base, a store and a trace
+abbrev pub world_of : Base → Contents → List Event → World
+world_of base c trace = record { limits = c.limits; history = record { base = base; trace = trace }; state = c.state }
 
 -- the limits are within their bounds, the world is accounted for, and there were at most 64 births, one region and one loan to an event
 pub record IsKept (w : World) : Type 0 where

@@ -2,7 +2,7 @@
 //!
 //! A [`Table`] holds both memories, the mapped ranges with their reference counters (OpenACC 3.3, section 2.6.7), the
 //! open data regions, the device blocks with those that are lent to kernels, the queues of transfers, and the trace of
-//! all events. Its contracts say what `acc_base` defines.
+//! all events since its [`Base`]. Its contracts say what `acc_base` defines.
 #![tactic(auto)]
 
 mod calls;
@@ -10,9 +10,11 @@ pub mod laws;
 mod lending;
 mod making;
 mod queries;
+mod rebasing;
 mod runs;
 mod tables;
 
+pub use acc_clauses::Base;
 pub use acc_lend::Lease;
 pub use calls::{Answer, Call, Mapped, Reply, Turn, abandon, abandon_all};
 pub use tables::Table;

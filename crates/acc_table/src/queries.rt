@@ -16,6 +16,7 @@ ghost use Rattle.acc_table.specs.Queries.{is_inside, counters_of_section, mapped
 use crate::calls::Mapped;
 use crate::tables::Table;
 use acc_base::{Config, Counters, Ended, Event, Found, Hole, Section};
+use acc_clauses::Base;
 
 /// The section is inside one range.
 fn is_inside(found: Found) -> bool
@@ -169,11 +170,12 @@ impl Table {
         self.store.newest_region()
     }
 
-    /// How many events there were in all.
+    /// How many events there were in all, those before the base too.
     pub fn events(&self) -> u64
         ensures { result ≡ event_count self.now.history }
     {
-        self.trace.len() as u64
+        self.laws();
+        self.base.events() + self.trace.len() as u64
     }
 
     /// How many more events there may be.
@@ -184,7 +186,14 @@ impl Table {
         self.config().tickets() - self.events()
     }
 
-    /// The stored events, in the order in which they came.
+    /// What the table had when its trace was last made empty by [`Table::rebase`]; before that, what a new table has.
+    pub fn base(&self) -> &Base
+        ensures { result.now ≡ self.now.history.base }
+    {
+        &self.base
+    }
+
+    /// The stored events, in the order in which they came: those since the base.
     pub fn trace(&self) -> &[Event]
         ensures { result.now ≡ self.now.history.trace }
     {

@@ -18,7 +18,7 @@ use crate::calls::{Call, Reply};
 use crate::lending::{gather, lend};
 use crate::making::{carry_out, write_host};
 use acc_base::{Config, Directive, Event, Fault, Loan, Section};
-use acc_clauses::{Plan, Store, check_items};
+use acc_clauses::{Base, Plan, Store, check_items};
 use acc_lend::Lease;
 use std::alloc::Global;
 use std::marker::Model;
@@ -30,6 +30,8 @@ use std::marker::Model;
 #[derive(Drop)]
 pub struct Table {
     pub(crate) store: Store,
+    pub(crate) base: Base,
+    // The events since the base.
     pub(crate) trace: Vec<Event>,
     // What was planned last; it stands here so that no call has to make one.
     plan: Plan,
@@ -41,9 +43,9 @@ impl Model for Table {
 
     ghost Value = { World };
 
-    ghost view = { λ t. world_of t.store t.trace.items };
+    ghost view = { λ t. world_of t.base t.store t.trace.items };
 
-    ghost invariant = { λ t. IsKept (world_of t.store t.trace.items) };
+    ghost invariant = { λ t. IsKept (world_of t.base t.store t.trace.items) };
 }
 
 impl Table {
@@ -58,8 +60,10 @@ impl Table {
     {
         config.laws();
         let store = Store::new(alloc, &config)?;
+        let base = store.base(alloc, 0)?;
         Ok(Table {
             store,
+            base,
             trace: Vec::new(alloc),
             plan: Plan::new(),
         })
@@ -164,7 +168,7 @@ impl Table {
     pub(crate) fn admit_ticket(&self) -> Result<(), Fault>
         ensures { result ≡ ticket self.now }
     {
-        if self.store.config().tickets() <= self.trace.len() as u64 {
+        if self.store.config().tickets() <= self.events() {
             Err(Fault::NoTickets { left: 0 })
         } else {
             Ok(())

@@ -14,6 +14,7 @@ use std::test::Fail;
 
 mod growth;
 mod leases;
+mod rebasing;
 mod rows;
 
 /// The limits in which rows differ. Both memories have 64 bytes.

@@ -62,6 +62,23 @@ fn told(table: &Table) -> (u64, u64, Option<Mapped>) {
     (table.events(), table.used(), table.mapped(0))
 }
 
+/// How many events are before the base, and how many are stored.
+fn folded(table: &Table) -> (u64, usize) {
+    (table.base().events(), table.trace().len())
+}
+
+/// Folds the events into the base, and once more where memory is refused.
+fn rebase_twice(rt: &impl Abort, table: &mut Table) {
+    let before = (told(table), folded(table));
+    if let Err(fault) = table.rebase() {
+        same(rt, "a refused base", fault, Fault::Memory);
+        same(rt, "a refused base", (told(table), folded(table)), before);
+        same(rt, "a refused base", table.rebase(), Ok(before.1.1 as u64));
+    }
+    same(rt, "a refused base", told(table), before.0);
+    same(rt, "a refused base", folded(table), (before.0.0, 0));
+}
+
 /// The call came back for want of memory: nothing changed, and it is accepted now.
 fn retry(
     rt: &impl Abort,
@@ -90,8 +107,12 @@ fn apply_twice(rt: &impl Abort, table: &mut Table, call: Call) -> Reply {
     }
 }
 
-/// Makes the calls one after the other. A block that is lent comes back at once.
-fn live(rt: &(impl Abort + AllocGlobal), table: &mut Table) -> Result<(), AllocError> {
+/// Makes the calls one after the other, each with a rebase behind it or none. A block that is lent comes back at once.
+fn live(
+    rt: &(impl Abort + AllocGlobal),
+    table: &mut Table,
+    is_rebased: bool,
+) -> Result<(), AllocError> {
     for &ask in LIFE {
         let turn = twice(rt.alloc(), ask)?;
         let Some(call) = call_from(turn) else {
@@ -101,13 +122,20 @@ fn live(rt: &(impl Abort + AllocGlobal), table: &mut Table) -> Result<(), AllocE
             Reply::Lease(lease) => apply_twice(rt, table, Call::Gather(lease)).abandon(),
             reply => reply.abandon(),
         }
+        if is_rebased {
+            rebase_twice(rt, table);
+        }
     }
     Ok(())
 }
 
-/// Lives the whole life, behind which the table has its events and no block.
-fn live_whole(rt: &(impl Abort + AllocGlobal), table: &mut Table) -> Result<(), Fail> {
-    live(rt, table)?;
+/// Lives the whole life on a new table, behind which the table has its events and no block.
+fn live_whole(rt: &(impl Abort + AllocGlobal), is_rebased: bool) -> Result<(), Fail> {
+    let mut table = match table_of(rt.alloc(), WIDE) {
+        Ok(table) => table,
+        Err(_) => table_of(rt.alloc(), WIDE)?,
+    };
+    live(rt, &mut table, is_rebased)?;
     same(rt, "a refused growth", table.events(), 18);
     same(rt, "a refused growth", table.used(), 0);
     Ok(())
@@ -116,9 +144,11 @@ fn live_whole(rt: &(impl Abort + AllocGlobal), table: &mut Table) -> Result<(), 
 /// To be run with each allocation failing in turn: what is made here is made a second time where the first failed.
 #[test]
 fn a_refused_growth_changes_nothing(rt: HostRuntime) -> Result<(), Fail> {
-    let mut table = match table_of(rt.alloc(), WIDE) {
-        Ok(table) => table,
-        Err(_) => table_of(rt.alloc(), WIDE)?,
-    };
-    live_whole(&rt, &mut table)
+    live_whole(&rt, false)
+}
+
+/// The same, where each event is folded into the base.
+#[test]
+fn a_refused_growth_of_a_base_changes_nothing(rt: HostRuntime) -> Result<(), Fail> {
+    live_whole(&rt, true)
 }

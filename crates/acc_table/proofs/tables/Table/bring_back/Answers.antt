@@ -34,23 +34,23 @@ overwrite-requires c =
 
 pub take_back-requires-clause-ready : goal.take_back-requires-clause-ready
 take_back-requires-clause-ready c =
-    let w : World = world_of c.self.inside.store c.self.inside.trace.items in
+    let w : World = world_of c.self.inside.base c.self.inside.store c.self.inside.trace.items in
     let back : IsBackAt c.args.serial c.args.bytes.now c.args.leases.now.items c.in-Some.at c.index.result.now = back_at c.deref.ensures.value c.place_of.ensures c.in-Some.is c.index.ensures in
     let lease : IsReturned w c.args.serial c.args.bytes.now c.args.leases.now.items c.in-Some.at c.overwrite.new.self = returned back c.remove-lease.ensures.value c.overwrite.ensures c.self.view_is c.in_ok-admit_lease.ensures in
     lease.event
 
 pub invariant_of-self-2 : goal.invariant_of-self-2
 invariant_of-self-2 c =
-    let w : World = world_of c.self.inside.store c.self.inside.trace.items in
+    let w : World = world_of c.self.inside.base c.self.inside.store c.self.inside.trace.items in
     let back : IsBackAt c.args.serial c.args.bytes.now c.args.leases.now.items c.in-Some.at c.index.result.now = back_at c.deref.ensures.value c.place_of.ensures c.in-Some.is c.index.ensures in
     let lease : IsReturned w c.args.serial c.args.bytes.now c.args.leases.now.items c.in-Some.at c.overwrite.new.self = returned back c.remove-lease.ensures.value c.overwrite.ensures c.self.view_is c.in_ok-admit_lease.ensures in
-    back_kept c.self.inside.store c.take_back.new.store c.self.inside.trace.items _ c.take_back.new.trace.items c.self.invariant lease c.reserve.ensures.items c.take_back.ensures
+    back_kept c.self.inside.base c.self.inside.store c.take_back.new.store c.self.inside.trace.items _ c.take_back.new.trace.items c.self.invariant lease c.reserve.ensures.items c.take_back.ensures
 
 pub returns-clause-done : goal.returns-clause-done
 returns-clause-done c =
-    let w : World = world_of c.self.inside.store c.self.inside.trace.items in
+    let w : World = world_of c.self.inside.base c.self.inside.store c.self.inside.trace.items in
     let back : IsBackAt c.args.serial c.args.bytes.now c.args.leases.now.items c.in-Some.at c.index.result.now = back_at c.deref.ensures.value c.place_of.ensures c.in-Some.is c.index.ensures in
     let lease : IsReturned w c.args.serial c.args.bytes.now c.args.leases.now.items c.in-Some.at c.overwrite.new.self = returned back c.remove-lease.ensures.value c.overwrite.ensures c.self.view_is c.in_ok-admit_lease.ensures in
-    let made : IsTurnMade w c.args.leases.now.items (Back c.args.serial c.args.bytes.now) c.take_back.result (world_of c.take_back.new.store c.take_back.new.trace.items) (remove c.args.leases.now.items c.in-Some.at) = back_made c.self.inside.store c.take_back.new.store c.self.inside.trace.items _ c.take_back.new.trace.items lease c.reserve.ensures.items c.take_back.ensures in
-    subst (λ (rest : List Leased). IsTurnMade c.args.self.now c.args.leases.now.items (Back c.args.serial c.args.bytes.now) c.take_back.result (world_of c.take_back.new.store c.take_back.new.trace.items) rest) (sym c.remove-lease.ensures.items)
-    (subst (λ (x : World). IsTurnMade x c.args.leases.now.items (Back c.args.serial c.args.bytes.now) c.take_back.result (world_of c.take_back.new.store c.take_back.new.trace.items) (remove c.args.leases.now.items c.in-Some.at)) c.self.view_is made)
+    let made : IsTurnMade w c.args.leases.now.items (Back c.args.serial c.args.bytes.now) c.take_back.result (world_of c.self.inside.base c.take_back.new.store c.take_back.new.trace.items) (remove c.args.leases.now.items c.in-Some.at) = back_made c.self.inside.base c.self.inside.store c.take_back.new.store c.self.inside.trace.items _ c.take_back.new.trace.items lease c.reserve.ensures.items c.take_back.ensures in
+    subst (λ (rest : List Leased). IsTurnMade c.args.self.now c.args.leases.now.items (Back c.args.serial c.args.bytes.now) c.take_back.result (world_of c.self.inside.base c.take_back.new.store c.take_back.new.trace.items) rest) (sym c.remove-lease.ensures.items)
+    (subst (λ (x : World). IsTurnMade x c.args.leases.now.items (Back c.args.serial c.args.bytes.now) c.take_back.result (world_of c.self.inside.base c.take_back.new.store c.take_back.new.trace.items) (remove c.args.leases.now.items c.in-Some.at)) c.self.view_is made)

@@ -10,7 +10,7 @@ use Rattle.acc_table.proofs.tables.Table.device_address.Goals as goal
 
 pub overflow_add-result : goal.overflow_add-result
 overflow_add-result c =
-    let w : World = world_of c.self.inside.store c.self.inside.trace.items in
+    let w : World = world_of c.self.inside.base c.self.inside.store c.self.inside.trace.items in
     let found : where_is (only c.args.address) w.state.records.ranges ≡ Inside c.in-Inside.block c.in-Inside.offset = sym c.in-Inside.ensures in
     let offset : c.in-Inside.offset < 2 ^ 40 = offset_low w (only c.args.address) c.in-Inside.block c.in-Inside.offset c.self.invariant.bounds c.self.invariant.accounted (omega arith) found in
     let place : place_of c.in-Inside.block w.state.records.blocks < 2 ^ 41 = place_low w c.in-Inside.block c.self.invariant.bounds c.self.invariant.accounted in

@@ -8,7 +8,7 @@ use Rattle.acc_table.proofs.tables.Table.device_read.Goals as goal
 
 pub returns-in_err-bytes-in-Inside : goal.returns-in_err-bytes-in-Inside
 returns-in_err-bytes-in-Inside c =
-    let w : World = world_of c.self.inside.store c.self.inside.trace.items in
+    let w : World = world_of c.self.inside.base c.self.inside.store c.self.inside.trace.items in
     let part : IsPartOf c.args.section c.in-Inside.block c.in-Inside.offset w.state = section_part w c.args.section c.in-Inside.block c.in-Inside.offset c.self.invariant.bounds c.self.invariant.accounted (sym c.in-Inside.ensures) in
     let out : is_lent c.in-Inside.block w.state.records.loans ≡ false → ⊥ = λ free. let never : false ≡ true = c.in_err-bytes-in-Inside.ensures.there.1 (part.there, free) in cc in
     let none : device_read_of c.args.section c.args.self.now.state ≡ None = subst (λ (x : World). device_read_of c.args.section x.state ≡ None) c.self.view_is (read_lent c.args.section c.in-Inside.block c.in-Inside.offset w.state (sym c.in-Inside.ensures) out) in
@@ -16,7 +16,7 @@ returns-in_err-bytes-in-Inside c =
 
 pub overflow_add-result : goal.overflow_add-result
 overflow_add-result c =
-    let w : World = world_of c.self.inside.store c.self.inside.trace.items in
+    let w : World = world_of c.self.inside.base c.self.inside.store c.self.inside.trace.items in
     let part : IsPartOf c.args.section c.in-Inside.block c.in-Inside.offset w.state = section_part w c.args.section c.in-Inside.block c.in-Inside.offset c.self.invariant.bounds c.self.invariant.accounted (sym c.in-Inside.ensures) in
     let there : true ≡ true = refl in
     let free : is_lent c.in-Inside.block w.state.records.loans ≡ false = (c.in_ok-bytes-in-Inside.ensures.there.0 there).1 in
@@ -24,7 +24,7 @@ overflow_add-result c =
 
 pub slice_bounds-result-end : goal.slice_bounds-result-end
 slice_bounds-result-end c =
-    let w : World = world_of c.self.inside.store c.self.inside.trace.items in
+    let w : World = world_of c.self.inside.base c.self.inside.store c.self.inside.trace.items in
     let part : IsPartOf c.args.section c.in-Inside.block c.in-Inside.offset w.state = section_part w c.args.section c.in-Inside.block c.in-Inside.offset c.self.invariant.bounds c.self.invariant.accounted (sym c.in-Inside.ensures) in
     let there : true ≡ true = refl in
     let free : is_lent c.in-Inside.block w.state.records.loans ≡ false = (c.in_ok-bytes-in-Inside.ensures.there.0 there).1 in

@@ -7,6 +7,6 @@ use Rattle.acc_table.proofs.tables.Table.find.Goals as goal
 
 pub returns-clause-addresses : goal.returns-clause-addresses
 returns-clause-addresses c =
-    let w : World = world_of c.self.inside.store c.self.inside.trace.items in
+    let w : World = world_of c.self.inside.base c.self.inside.store c.self.inside.trace.items in
     let same : c.find.result ≡ where_is c.args.section c.args.self.now.state.records.ranges = search rules in
     rw same (subst (λ (x : World). IsPlacedAt c.args.section x.state.records.ranges (where_is c.args.section x.state.records.ranges)) c.self.view_is (placed w c.args.section c.self.invariant.accounted))

@@ -13,16 +13,16 @@ use Rattle.acc_table.proofs.tables.Table.gather.Goals as goal
 
 pub invariant_of-self : goal.invariant_of-self
 invariant_of-self c =
-    let w : World = world_of c.self.inside.store c.self.inside.trace.items in
+    let w : World = world_of c.self.inside.base c.self.inside.store c.self.inside.trace.items in
     let e : Event = Gathered c.args.lease.serial c.args.lease.block in
     let judged : judge w (Gather c.args.lease) ≡ Ok (Makes e) = subst (λ (x : World). judge x (Gather c.args.lease) ≡ Ok (Makes e)) (sym c.self.view_is) c.in-Ok.ensures.1 in
-    kept_either (Gather c.args.lease) e c.self.inside.store c.gather.new.store c.self.inside.trace.items c.gather.new.trace.items c.gather.result c.self.invariant
+    kept_either c.self.inside.base (Gather c.args.lease) e c.self.inside.store c.gather.new.store c.self.inside.trace.items c.gather.new.trace.items c.gather.result c.self.invariant
     (kept_alone w (Gather c.args.lease) e c.self.invariant judged refl) c.gather.ensures.done c.gather.ensures.same
 
 pub returns-in-Ok-clause-done : goal.returns-in-Ok-clause-done
 returns-in-Ok-clause-done c =
-    let w : World = world_of c.self.inside.store c.self.inside.trace.items in
+    let w : World = world_of c.self.inside.base c.self.inside.store c.self.inside.trace.items in
     let e : Event = Gathered c.args.lease.serial c.args.lease.block in
     let judged : judge w (Gather c.args.lease) ≡ Ok (Makes e) = subst (λ (x : World). judge x (Gather c.args.lease) ≡ Ok (Makes e)) (sym c.self.view_is) c.in-Ok.ensures.1 in
-    subst (λ (x : World). IfOk c.gather.result (λ reply. IsDone x (Gather c.args.lease) reply (world_of c.gather.new.store c.gather.new.trace.items))) c.self.view_is
-    (done_either (Gather c.args.lease) e c.self.inside.store c.gather.new.store c.self.inside.trace.items c.gather.new.trace.items c.gather.result judged c.gather.ensures.done)
+    subst (λ (x : World). IfOk c.gather.result (λ reply. IsDone x (Gather c.args.lease) reply (world_of c.self.inside.base c.gather.new.store c.gather.new.trace.items))) c.self.view_is
+    (done_either c.self.inside.base (Gather c.args.lease) e c.self.inside.store c.gather.new.store c.self.inside.trace.items c.gather.new.trace.items c.gather.result judged c.gather.ensures.done)

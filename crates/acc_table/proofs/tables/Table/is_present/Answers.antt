@@ -10,6 +10,6 @@ use Rattle.acc_table.proofs.tables.Table.is_present.Goals as goal
 
 pub returns-clause-addresses : goal.returns-clause-addresses
 returns-clause-addresses c =
-    let w : World = world_of c.self.inside.store c.self.inside.trace.items in
+    let w : World = world_of c.self.inside.base c.self.inside.store c.self.inside.trace.items in
     let same : c.is_inside.result ≡ is_inside (where_is c.args.section c.args.self.now.state.records.ranges) = search rules in
     rw same (subst (λ (x : World). IsTrue (is_inside (where_is c.args.section x.state.records.ranges)) ↔ IsInsideOne c.args.section x.state.records.ranges) c.self.view_is (present w c.args.section c.self.invariant.accounted))

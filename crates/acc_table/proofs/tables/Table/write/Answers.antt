@@ -13,24 +13,24 @@ use Rattle.acc_table.proofs.tables.Table.write.Goals as goal
 
 pub write_host-requires : goal.write_host-requires
 write_host-requires c =
-    let w : World = world_of c.self.inside.store c.self.inside.trace.items in
+    let w : World = world_of c.self.inside.base c.self.inside.store c.self.inside.trace.items in
     let section : Section = record { start = c.args.addr; len = length c.args.bytes.now } in
     let admitted : write_admitted w section ≡ Ok tt = subst (λ (x : World). write_admitted x section ≡ Ok tt) (sym c.self.view_is) (sym c.admit_write.ensures ∙ c.in_ok-admit_write.was) in
     can_write w section admitted c.self.invariant.accounted.sound.memories_sized.host
 
 pub invariant_of-self-2 : goal.invariant_of-self-2
 invariant_of-self-2 c =
-    let w : World = world_of c.self.inside.store c.self.inside.trace.items in
+    let w : World = world_of c.self.inside.base c.self.inside.store c.self.inside.trace.items in
     let section : Section = record { start = c.args.addr; len = length c.args.bytes.now } in
     let admitted : write_admitted w section ≡ Ok tt = subst (λ (x : World). write_admitted x section ≡ Ok tt) (sym c.self.view_is) (sym c.admit_write.ensures ∙ c.in_ok-admit_write.was) in
-    subst (λ (x : World). IsKept x) (sym (written c.args.addr c.args.bytes.now c.self.inside.store c.write_host.new.store c.self.inside.trace.items c.write_host.new.trace.items c.in_ok-write_host.ensures.limits c.in_ok-write_host.ensures.state c.in_ok-write_host.ensures.trace))
+    subst (λ (x : World). IsKept x) (sym (written c.self.inside.base c.args.addr c.args.bytes.now c.self.inside.store c.write_host.new.store c.self.inside.trace.items c.write_host.new.trace.items c.in_ok-write_host.ensures.limits c.in_ok-write_host.ensures.state c.in_ok-write_host.ensures.trace))
     (kept_alone w (HostWrite c.args.addr c.args.bytes.now) (HostWritten c.args.addr (length c.args.bytes.now)) c.self.invariant (judged_write w c.args.addr c.args.bytes.now admitted) refl)
 
 pub returns-clause-done : goal.returns-clause-done
 returns-clause-done c =
-    let w : World = world_of c.self.inside.store c.self.inside.trace.items in
+    let w : World = world_of c.self.inside.base c.self.inside.store c.self.inside.trace.items in
     let section : Section = record { start = c.args.addr; len = length c.args.bytes.now } in
     let admitted : write_admitted w section ≡ Ok tt = subst (λ (x : World). write_admitted x section ≡ Ok tt) (sym c.self.view_is) (sym c.admit_write.ensures ∙ c.in_ok-admit_write.was) in
-    subst (λ (x : World). IsDone x (HostWrite c.args.addr c.args.bytes.now) Done (world_of c.write_host.new.store c.write_host.new.trace.items)) c.self.view_is
-    (write_done c.args.addr c.args.bytes.now c.self.inside.store c.write_host.new.store c.self.inside.trace.items c.write_host.new.trace.items (judged_write w c.args.addr c.args.bytes.now admitted)
-    (written c.args.addr c.args.bytes.now c.self.inside.store c.write_host.new.store c.self.inside.trace.items c.write_host.new.trace.items c.in_ok-write_host.ensures.limits c.in_ok-write_host.ensures.state c.in_ok-write_host.ensures.trace))
+    subst (λ (x : World). IsDone x (HostWrite c.args.addr c.args.bytes.now) Done (world_of c.self.inside.base c.write_host.new.store c.write_host.new.trace.items)) c.self.view_is
+    (write_done c.self.inside.base c.args.addr c.args.bytes.now c.self.inside.store c.write_host.new.store c.self.inside.trace.items c.write_host.new.trace.items (judged_write w c.args.addr c.args.bytes.now admitted)
+    (written c.self.inside.base c.args.addr c.args.bytes.now c.self.inside.store c.write_host.new.store c.self.inside.trace.items c.write_host.new.trace.items c.in_ok-write_host.ensures.limits c.in_ok-write_host.ensures.state c.in_ok-write_host.ensures.trace))

@@ -1,0 +1,112 @@
+//! What a data environment had at one moment, but for bytes.
+
+ghost use Rattle.std.specs.Prelude.{◌≡◌, map};
+ghost use Rattle.acc_base.specs.Queues.{queue_at};
+
+use acc_base::{Attachment, Block, Loan, Range, Transfer};
+use acc_present::OpenRegion;
+use std::marker::Model;
+
+/// What a data environment had when so many events had led there: everything but bytes. The events since are counted
+/// from here on.
+#[derive(Drop)]
+pub struct Base {
+    pub(crate) events: u64,
+    pub(crate) ranges: Vec<Range>,
+    pub(crate) blocks: Vec<Block>,
+    pub(crate) attached: Vec<Attachment>,
+    pub(crate) births: u64,
+    pub(crate) queues: Vec<Vec<Transfer>>,
+    pub(crate) loans: Vec<Loan>,
+    pub(crate) regions: Vec<OpenRegion>,
+    pub(crate) next_region: u64,
+    pub(crate) next_serial: u64,
+}
+
+impl Model for Base {
+    ghost use Rattle.std.specs.Prelude.{map};
+    ghost use Rattle.acc_base.specs.Calls.{Base as BaseValue};
+    ghost use Rattle.acc_present.specs.Kept.{region_of};
+
+    ghost Value = { BaseValue };
+
+    ghost view = { λ b. record {
+      layout = record {
+        records = record { ranges = b.ranges.items; blocks = b.blocks.items; attached = b.attached.items; births = b.births; queues = map (λ q. q.items) b.queues.items; loans = b.loans.items };
+        register = record { regions = map region_of b.regions.items; next = b.next_region; serial = b.next_serial };
+      };
+      events = b.events;
+    } };
+}
+
+impl Base {
+    /// How many events had led there.
+    pub fn events(&self) -> u64
+        ensures { result ≡ self.now.events }
+    {
+        self.events
+    }
+
+    /// The mapped ranges by rising host address, each with its block and both counters (OpenACC 3.3, section 2.6.7).
+    pub fn ranges(&self) -> &[Range]
+        ensures { result.now ≡ self.now.layout.records.ranges }
+    {
+        &self.ranges
+    }
+
+    /// The device blocks by rising number, those too whose mapping had ended.
+    pub fn blocks(&self) -> &[Block]
+        ensures { result.now ≡ self.now.layout.records.blocks }
+    {
+        &self.blocks
+    }
+
+    /// The attachment counters above zero, by rising block and host address (OpenACC 3.3, section 2.6.8).
+    pub fn attached(&self) -> &[Attachment]
+        ensures { result.now ≡ self.now.layout.records.attached }
+    {
+        &self.attached
+    }
+
+    /// How many blocks were ever born.
+    pub fn births(&self) -> u64
+        ensures { result ≡ self.now.layout.records.births }
+    {
+        self.births
+    }
+
+    /// The blocks that were lent, by rising number.
+    pub fn loans(&self) -> &[Loan]
+        ensures { result.now ≡ self.now.layout.records.loans }
+    {
+        &self.loans
+    }
+
+    /// The transfers that waited in each queue, the next one first (OpenACC 3.3, section 2.16, asynchronous behavior).
+    pub fn queues(&self) -> &[Vec<Transfer>]
+        ensures { map (λ q. q.items) result.now ≡ self.now.layout.records.queues }
+    {
+        &self.queues
+    }
+
+    /// The open data regions by rising number, each with what its entry counted (OpenACC 3.3, section 2.6.5).
+    pub fn regions(&self) -> &[OpenRegion]
+        ensures { map region_of result.now ≡ self.now.layout.register.regions }
+    {
+        &self.regions
+    }
+
+    /// The number that the next region gets.
+    pub fn next_region(&self) -> u64
+        ensures { result ≡ self.now.layout.register.next }
+    {
+        self.next_region
+    }
+
+    /// The number that the next loan gets.
+    pub fn next_serial(&self) -> u64
+        ensures { result ≡ self.now.layout.register.serial }
+    {
+        self.next_serial
+    }
+}

@@ -5,6 +5,7 @@
 #![tactic(auto)]
 
 mod all_over;
+mod bases;
 mod clauses;
 mod copies;
 mod device;

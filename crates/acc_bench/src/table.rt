@@ -1,9 +1,9 @@
 //! How long the calls of `acc_table` take.
 
-use crate::all_over;
 use crate::copies::time_copies;
 use crate::rows::tell;
 use crate::work::{Work, map, map_others, new_table, repeat, sixteen_bytes_at, time, write};
+use crate::{all_over, bases};
 use acc_base::{EnterClause, Fault, HOST_BASE, Section};
 use acc_table::Table;
 use anyhow::Result;
@@ -79,11 +79,13 @@ const TRANSFER: [(&str, Work); 2] = [
 /// that leaves 1,000 attached pointers out; and how long `enter data` with `exit data`, and a data region, take for 16
 /// bytes beside growing numbers of other ranges: where they map the bytes, and where the bytes are present. And how long
 /// an `update` of 16 bytes takes beside other ranges: made at once, put into a queue and stepped, and made by a `wait`
-/// for many. At last how long calls take on ranges all over the table.
+/// for many. Then how long pairs take with a rebase now and then, and at last how long calls take on ranges all over the
+/// table.
 pub fn run<R: Print + Clock + AllocGlobal>(rt: &R) -> Result<()> {
     for subject in &SUBJECTS {
         measure(rt, *subject)?;
     }
+    bases::run(rt)?;
     all_over::run(rt)
 }
 

@@ -1,0 +1,64 @@
+//! How long pairs of directives take where their events are folded into a base now and then, and where they are not.
+
+use crate::rows::tell;
+use crate::times::each_since;
+use crate::work::{Work, new_table, repeat, sixteen_bytes_at};
+use acc_base::Fault;
+use acc_table::Table;
+use anyhow::Result;
+use std::alloc::Global;
+use std::rt::Clock;
+use std::time::{Duration, Instant};
+
+/// How many pairs are made between two rebases: they make 4,096 events.
+const PAIRS: u32 = 2_048;
+
+/// How often so many are made.
+const TURNS: u32 = 40;
+
+/// How often a time is taken, by turns. The least is told.
+const TRIES: u32 = 5;
+
+/// Prints how long a pair of `enter data` and `exit data` of 16 bytes takes beside no other range, without a rebase and
+/// with one after each 4,096 events.
+pub fn run<R: Print + Clock + AllocGlobal>(rt: &R) -> Result<()> {
+    let mut kept = Duration::MAX;
+    let mut folded = Duration::MAX;
+    for _ in 0..TRIES {
+        kept = kept.min(time_pairs(rt, false)?);
+        folded = folded.min(time_pairs(rt, true)?);
+    }
+    tell(
+        rt,
+        "table: a pair, no rebase after events",
+        4_096,
+        "pair",
+        kept,
+    )?;
+    tell(
+        rt,
+        "table: a pair, a rebase after events",
+        4_096,
+        "pair",
+        folded,
+    )
+}
+
+/// How long a pair takes on a new table.
+fn time_pairs<R: Clock + AllocGlobal>(rt: &R, is_folded: bool) -> Result<Duration> {
+    let mut table = new_table(rt.alloc())?;
+    let start = Instant::now(rt)?;
+    make_turns(&mut table, rt.alloc(), is_folded)?;
+    each_since(rt, start, PAIRS * TURNS, 0)
+}
+
+/// Makes all pairs.
+fn make_turns(table: &mut Table, alloc: Global, is_folded: bool) -> Result<(), Fault> {
+    for _ in 0..TURNS {
+        repeat(table, alloc, Work::Data, sixteen_bytes_at(0), PAIRS)?;
+        if is_folded {
+            table.rebase()?;
+        }
+    }
+    Ok(())
+}

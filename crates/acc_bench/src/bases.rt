@@ -28,20 +28,9 @@ pub fn run<R: Print + Clock + AllocGlobal>(rt: &R) -> Result<()> {
         kept = kept.min(time_pairs(rt, false)?);
         folded = folded.min(time_pairs(rt, true)?);
     }
-    tell(
-        rt,
-        "table: a pair, no rebase after events",
-        4_096,
-        "pair",
-        kept,
-    )?;
-    tell(
-        rt,
-        "table: a pair, a rebase after events",
-        4_096,
-        "pair",
-        folded,
-    )
+    let place = "table: a pair of enter data and exit data, events";
+    let calls = [("no rebase", kept), ("a rebase after so many", folded)];
+    tell(rt, place, 4_096, &calls)
 }
 
 /// How long a pair takes on a new table.

@@ -9,6 +9,7 @@ mod clauses;
 mod copies;
 mod device;
 mod limits;
+mod pairs;
 mod placement;
 mod present;
 mod rows;

@@ -1,12 +1,12 @@
-use Rattle.std.proofs.Common.{◌≡◌, ◌+◌, ◌-◌, ◌<◌, ◌≤◌, refl, arith}
+use Rattle.std.proofs.Common.{◌≡◌, ◌+◌, ◌-◌, ◌<◌, ◌≤◌, refl, subst, arith}
 use Rattle.acc_base.specs.Section.{end_of}
 use Rattle.acc_script.specs.Texts.{pointer_text, pointers_text}
-use Rattle.acc_script.proofs.LeftToWrite.{leaves_all, leaves_less, leaves_lost, leaves_none}
+use Rattle.acc_script.proofs.LeftToWrite.{Leaves, leaves_all, leaves_less, leaves_lost, leaves_none}
 use Rattle.acc_script.proofs.AttachedPointers.{behind, first_covered, pointers_none, pointers_turn}
 use Rattle.acc_script.proofs.print.pointers.write_pointers.Goals as goal
 
 pub each-init : goal.each-init
-each-init g c = record { ends = refl; left = leaves_all (g.W.Sink.told c.args.writer.now) (pointers_text c.args.section c.args.table.now.state.records) }
+each-init g c = record { ends = refl; low = c.requires; left = leaves_all (g.W.Sink.told c.args.writer.now) (pointers_text c.args.section c.args.table.now.state.records) }
 
 pub returns-then-not-write_pointer : goal.returns-then-not-write_pointer
 returns-then-not-write_pointer g c =
@@ -20,10 +20,10 @@ returns-then-not-write_pointer g c =
 pub overflow_add-start : goal.overflow_add-start
 overflow_add-start g c =
     let covered = first_covered c.each.rest c.args.table.now.state.records c.in-Some.attached c.in-Some.ensures in
-    omega (arith, covered.1, c.each.invariant.ends, c.requires)
+    omega (arith, covered.1, c.each.invariant.ends, c.each.invariant.low)
 
-pub overflow_sub-len : goal.overflow_sub-len
-overflow_sub-len g c =
+pub overflow_sub-rest : goal.overflow_sub-rest
+overflow_sub-rest g c =
     let covered = first_covered c.each.rest c.args.table.now.state.records c.in-Some.attached c.in-Some.ensures in
     omega (arith, covered.1, c.each.invariant.ends)
 
@@ -42,7 +42,8 @@ each-preserved g c =
     let turn = pointers_turn c.each.rest w a sound.ranges_apart.rising sound.attached.rising c.in-Some.ensures in
     record {
       ends = omega (arith, covered.1, c.each.invariant.ends);
-      left = rw (← c.each.invariant.ends) (leaves_less (told c.args.writer.now) (told c.each.writer) (told c.write_pointer.new.writer) (pointers_text c.args.section w) (pointers_text c.each.rest w) (pointer_text a) (pointers_text (behind c.each.rest a) w) turn c.each.invariant.left c.if-not-write_pointer.ensures);
+      low = c.each.invariant.low;
+      left = subst (λ n. Leaves (told c.args.writer.now) (told c.write_pointer.new.writer) (pointers_text c.args.section w) (pointers_text (record { start = a.pointer + 1; len = n - (a.pointer + 1) }) w)) c.each.invariant.ends (leaves_less (told c.args.writer.now) (told c.each.writer) (told c.write_pointer.new.writer) (pointers_text c.args.section w) (pointers_text c.each.rest w) (pointer_text a) (pointers_text (behind c.each.rest a) w) turn c.each.invariant.left c.if-not-write_pointer.ensures);
     }
 
 pub returns : goal.returns

@@ -10,6 +10,7 @@ mod clauses;
 mod copies;
 mod device;
 mod limits;
+mod pairs;
 mod placement;
 mod present;
 mod rows;

@@ -3,6 +3,7 @@
 ghost use Rattle.std.specs.Prelude.{◌≡◌, ◌<◌, ◌≤◌};
 
 use crate::limits::largest;
+use crate::pairs::time_pairs;
 use crate::times::each_since;
 use crate::work::{Work, new_table, repeat, sixteen_bytes_at};
 use acc_base::Config;
@@ -15,18 +16,31 @@ use std::sync::ledger::Ledger;
 use std::thread::Threads;
 use std::time::{Duration, Instant};
 
-/// How many rounds each thread makes.
+/// How many rounds are made on a table alone.
 const ROUNDS: u32 = 10_000;
+
+/// What threads do on a table that they share.
+#[derive(Clone, Copy)]
+enum Shared {
+    /// Rounds of `enter data` and `exit data`, each thread on bytes of its own.
+    Pairs,
+    /// A drill.
+    Drill,
+}
 
 /// How often a time is taken. The least is told.
 const TRIES: u32 = 5;
 
-/// Prints how long a round of `enter data` and `exit data` takes on a table of its own. Then, how long a round of a drill
-/// takes, which enters a region and exits from it: 1 to 64 threads make 1,000 rounds each.
+/// Prints how long a round of `enter data` and `exit data` takes on a table of its own, and on one that 1 to 4 threads
+/// share. Then, how long a round of a drill takes, which enters a region and exits from it: 1 to 64 threads make 1,000
+/// rounds each.
 pub fn run<R: Print + Clock + Threads + Wait + Sync + AllocGlobal>(rt: &R) -> Result<()> {
     tell(rt, "a table alone", 1, least_alone(rt)?)?;
+    for threads in [1, 2, 4] {
+        tell(rt, "a shared table", threads, least(rt, Shared::Pairs, threads)?)?;
+    }
     for threads in [1, 2, 4, 16, 64] {
-        tell(rt, "a round of a drill", threads, time_drill(rt, threads)?)?;
+        tell(rt, "a round of a drill", threads, time_on_new(rt, Shared::Drill, threads)?)?;
     }
     Ok(())
 }
@@ -61,33 +75,56 @@ fn time_alone<R: Clock + AllocGlobal>(rt: &R) -> Result<Duration> {
     each_since(rt, start, ROUNDS, 0)
 }
 
-/// Makes a drill on a new runtime, and answers how long a round of one thread takes.
-fn time_drill<R: Clock + Threads + Wait + Sync + AllocGlobal>(
+/// The least time of a round on a table that threads share.
+fn least<R: Clock + Threads + Wait + Sync + AllocGlobal>(
     rt: &R,
+    shared: Shared,
+    threads: usize,
+) -> Result<Duration> {
+    let mut least = Duration::MAX;
+    for _ in 0..TRIES {
+        least = least.min(time_on_new(rt, shared, threads)?);
+    }
+    Ok(least)
+}
+
+/// How long a round of one thread takes on a new runtime.
+fn time_on_new<R: Clock + Threads + Wait + Sync + AllocGlobal>(
+    rt: &R,
+    shared: Shared,
     threads: usize,
 ) -> Result<Duration> {
     let config = largest()?;
     let blanks = blanks(&config);
-    drill_on::<Brand, Brand, Brand, R>(rt, threads, config, blanks)
+    time_on::<Brand, Brand, Brand, R>(rt, shared, threads, config, blanks)
 }
 
-/// Makes a drill on the table of a new runtime, and answers how long a round of one thread takes.
-fn drill_on<
+/// How long a round of one thread takes on the table of a new runtime.
+fn time_on<
     Regions: Ledger + Send + Sync,
     Tickets: Ledger + Send + Sync,
     Events: Ledger + Send + Sync,
     R: Clock + Threads + Wait + Sync + AllocGlobal,
->(rt: &R, threads: usize, config: Config, blanks: Blanks) -> Result<Duration>
+>(
+    rt: &R,
+    shared: Shared,
+    threads: usize,
+    config: Config,
+    blanks: Blanks,
+) -> Result<Duration>
     requires regions { (blanks.regions.name ≡ Regions.name) × (blanks.regions.parts ≡ Regions.parts) × (config.regions ≡ Regions.parts) }
     requires tickets { (blanks.tickets.name ≡ Tickets.name) × (blanks.tickets.parts ≡ Tickets.parts) × (config.tickets ≡ Tickets.parts) }
     requires events { (blanks.events.name ≡ Events.name) × (blanks.events.parts ≡ Events.parts) × (config.tickets ≡ Events.parts) }
 {
     let (runtime, caller) = Runtime::<Regions, Tickets, Events>::new(rt, config, blanks)?;
-    time_rounds(rt, &runtime, caller, threads.clamp(1, 64))
+    match shared {
+        Shared::Pairs => time_pairs(rt, &runtime, caller, threads),
+        Shared::Drill => time_drill(rt, &runtime, caller, threads.clamp(1, 64)),
+    }
 }
 
 /// How long a round of one thread of a drill takes, after which the whole allowance is back.
-fn time_rounds<
+fn time_drill<
     Regions: Ledger + Send + Sync,
     Tickets: Ledger + Send + Sync,
     Events: Ledger + Send + Sync,

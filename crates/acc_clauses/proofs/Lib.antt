@@ -10,6 +10,7 @@ pub mod Events
 mod Freed
 mod Runs
 mod Copying
+pub mod NextAttached
 mod Moving
 pub mod Marked
 mod Changes

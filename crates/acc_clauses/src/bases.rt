@@ -1,7 +1,8 @@
 //! What a data environment had at one moment, but for bytes.
 
 ghost use Rattle.std.specs.Prelude.{◌≡◌, map};
-ghost use Rattle.acc_base.specs.Queues.{queue_at};
+ghost use Rattle.std.specs.Vec.{vec_items};
+ghost use Rattle.acc_present.specs.Kept.{region_of};
 
 use acc_base::{Attachment, Block, Loan, Range, Transfer};
 use acc_present::OpenRegion;
@@ -25,6 +26,7 @@ pub struct Base {
 
 impl Model for Base {
     ghost use Rattle.std.specs.Prelude.{map};
+    ghost use Rattle.std.specs.Vec.{vec_items};
     ghost use Rattle.acc_base.specs.Calls.{Base as BaseValue};
     ghost use Rattle.acc_present.specs.Kept.{region_of};
 
@@ -32,7 +34,7 @@ impl Model for Base {
 
     ghost view = { λ b. record {
       layout = record {
-        records = record { ranges = b.ranges.items; blocks = b.blocks.items; attached = b.attached.items; births = b.births; queues = map (λ q. q.items) b.queues.items; loans = b.loans.items };
+        records = record { ranges = b.ranges.items; blocks = b.blocks.items; attached = b.attached.items; births = b.births; queues = map vec_items b.queues.items; loans = b.loans.items };
         register = record { regions = map region_of b.regions.items; next = b.next_region; serial = b.next_serial };
       };
       events = b.events;
@@ -84,7 +86,7 @@ impl Base {
 
     /// The transfers that waited in each queue, the next one first (OpenACC 3.3, section 2.16, asynchronous behavior).
     pub fn queues(&self) -> &[Vec<Transfer>]
-        ensures { map (λ q. q.items) result.now ≡ self.now.layout.records.queues }
+        ensures { map vec_items result.now ≡ self.now.layout.records.queues }
     {
         &self.queues
     }

@@ -1,10 +1,10 @@
 //! Everything that a table keeps beside its trace, as one value.
 
-ghost use Rattle.std.specs.Prelude.{ℕ, ◌≡◌, ◌+◌, ◌<◌, ◌≤◌, ◌^◌, ◌↔◌, [], IfOk, IfErr, OnOk, OnErr, MatchResult, Ok, Err, IfSome, IfNone, IsSome, length, option_map, false};
+ghost use Rattle.std.specs.Prelude.{ℕ, ◌≡◌, ◌+◌, ◌<◌, ◌≤◌, ◌^◌, ◌↔◌, [], IfOk, IfErr, OnOk, OnErr, MatchResult, Ok, Err, IfSome, IfNone, IsSome, ◌==◌, ◌&&◌, find, length, option_map, false};
 ghost use Rattle.acc_base.specs.declared.faults.Fault.TheVariants.{Memory};
 ghost use Rattle.acc_base.specs.Limits.{IsWithinBounds};
 ghost use Rattle.acc_base.specs.Clauses.{in_host};
-ghost use Rattle.acc_base.specs.Section.{device_memory};
+ghost use Rattle.acc_base.specs.Section.{covers, device_memory};
 ghost use Rattle.acc_base.specs.Holes.{IsDevice, IsNextHole};
 ghost use Rattle.acc_base.specs.Ranges.{where_is, range_from, structured_of, dynamic_of};
 ghost use Rattle.acc_base.specs.Loans.{is_lent};
@@ -37,7 +37,9 @@ use crate::planning::{self, queue_in, regions_entered};
 use crate::plans::Plan;
 use crate::pointers::pointers_in;
 use crate::running::act_all;
-use acc_base::{Config, Counters, Directive, Ended, Fault, Found, Hole, Loan, Range, Section};
+use acc_base::{
+    Attachment, Config, Counters, Directive, Ended, Fault, Found, Hole, Loan, Range, Section,
+};
 use acc_lend::Lease;
 use acc_present::Hint;
 use std::alloc::Global;
@@ -277,6 +279,13 @@ impl Store {
         ensures { result ≡ attachment_of pointer self.now.state.records }
     {
         self.parts.attachment(pointer)
+    }
+
+    /// The attached pointer of a block that has the least host address in a section, with its counter.
+    pub fn next_attached(&self, block: u64, section: Section) -> Option<Attachment>
+        ensures { result ≡ find (λ a. a.block == block && covers section a.pointer) self.now.state.records.attached }
+    {
+        self.parts.next_attached(block, section)
     }
 
     /// The device address of a block's first byte; 0 where there is no such block.

@@ -19,6 +19,7 @@ mod drills;
 mod eight;
 pub mod gates;
 mod life;
+mod messages;
 mod shares;
 
 use actors::Actor;
@@ -57,6 +58,15 @@ enum Scene {
     },
     /// A worker that is told which queues to serve.
     Bells,
+    /// Two workers, of which one is held until the other is done.
+    Workers {
+        held: usize,
+        first: usize,
+    },
+    /// A thread that is told of what another did.
+    Tell,
+    /// A thread that exits from what another entered.
+    HandOver,
 }
 
 /// 4,096 bytes of host memory and as many of the device, with a queue of one transfer.
@@ -76,14 +86,12 @@ fn play<
     requires events { (blanks.events.name ≡ Events.name) × (blanks.events.parts ≡ Events.parts) × (config.tickets ≡ Events.parts) }
 {
     let (runtime, caller) = Runtime::<Regions, Tickets, Events>::new(rt, config, blanks)?;
-    act(
-        Actor {
-            rt,
-            runtime: &runtime,
-            caller,
-        },
-        scene,
-    )
+    let mut actor = Actor {
+        rt,
+        runtime: &runtime,
+        caller,
+    };
+    act(&mut actor, scene)
 }
 
 /// Plays a scene.
@@ -92,7 +100,7 @@ fn act<
     Tickets: Ledger + Send + Sync,
     Events: Ledger + Send + Sync,
     R: Abort + Clock + Threads + Wait + AllocGlobal + Sync,
->(actor: Actor<Regions, Tickets, Events, R>, scene: Scene) -> Result<(), Fail> {
+>(actor: &mut Actor<Regions, Tickets, Events, R>, scene: Scene) -> Result<(), Fail> {
     match scene {
         Scene::Reads => calls::read_ends(actor),
         Scene::Queues => calls::map_and_queue(actor),
@@ -107,6 +115,9 @@ fn act<
         } => drills::run(actor, threads, rounds, wanted),
         Scene::Meet { held, first } => drills::meet(actor, held, first),
         Scene::Bells => bells::ring(actor),
+        Scene::Workers { held, first } => bells::meet(actor, held, first),
+        Scene::Tell => messages::tell(actor),
+        Scene::HandOver => messages::hand_over(actor),
     }
 }
 

@@ -11,7 +11,7 @@ pub mod LineByLine
 pub mod Rising
 pub mod RisingRanges
 pub mod LeftToWrite
-pub mod AttachedWords
+pub mod AttachedPointers
 pub mod RisingBlocks
 pub mod WaitingQueues
 pub mod Encoded

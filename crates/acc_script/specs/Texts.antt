@@ -1,5 +1,5 @@
 -- What a script prints.
-use Rattle.std.specs.Prelude.{ℕ, zero, suc, Bool, ◌+◌, ◌-◌, ◌*◌, ◌/◌, false, List, [], ◌∷◌, ◌++◌, length, ◌==◌, nat_le, if◌then◌else◌, codes}
+use Rattle.std.specs.Prelude.{ℕ, zero, suc, Bool, ◌+◌, false, List, [], ◌∷◌, ◌++◌, length, filter, ◌==◌, ◌&&◌, nat_le, if◌then◌else◌, codes}
 use Rattle.std.specs.Fmt.{decimal, digits}
 use Rattle.std.specs.List.{flat_map}
 use Rattle.acc_base.specs.declared.faults.Fault.{Fault}
@@ -7,9 +7,14 @@ use Rattle.acc_base.specs.Faults.{number_of, name_of, fault_text}
 use Rattle.acc_base.specs.declared.mappings.Block.{Block}
 use Rattle.acc_base.specs.declared.mappings.Ended.{Ended}
 use Rattle.acc_base.specs.declared.transfers.Transfer.{Transfer}
+use Rattle.acc_base.specs.declared.mappings.Found.{Found}
+use Rattle.acc_base.specs.declared.mappings.Found.TheVariants.{Inside}
+use Rattle.acc_base.specs.declared.attachments.Attachment.{Attachment}
+use Rattle.acc_base.specs.declared.items.Section.{Section}
+use Rattle.acc_base.specs.Section.{covers}
+use Rattle.acc_base.specs.Ranges.{where_is}
 use Rattle.acc_base.specs.Blocks.{used_bytes}
 use Rattle.acc_base.specs.Records.{Records}
-use Rattle.acc_base.specs.Pointers.{attachment_of}
 use Rattle.acc_base.specs.Waits.{ended_blocks, told_ended}
 use Rattle.acc_base.specs.Calls.{World, event_count, open_regions}
 use Rattle.acc_table.specs.declared.calls.Mapped.{Mapped}
@@ -67,33 +72,21 @@ totals_text regions events =
     codes "regions " ++ (decimal regions ++ (codes " events " ++ (decimal events ++ codes "\n")))
 
 -- a pointer and its attachment counter
-abbrev pub pointer_text : ℕ → ℕ → List ℕ
-pointer_text pointer count = codes "pointer " ++ (address pointer ++ (codes " count " ++ (decimal count ++ codes "\n")))
+abbrev pub pointer_text : Attachment → List ℕ
+pointer_text a = codes "pointer " ++ (address a.pointer ++ (codes " count " ++ (decimal a.count ++ codes "\n")))
 
--- a pointer with this counter, where it is attached
-abbrev pub attached_text : ℕ → ℕ → List ℕ
-attached_text pointer count = if count == 0 then [] else pointer_text pointer count
+-- the attached pointers that begin in a section inside one range, by rising address
+abbrev pub attached_within : Found → Section → List Attachment → List Attachment
+attached_within (Inside block offset) s attached = filter (λ a. a.block == block && covers s a.pointer) attached
+attached_within _ s attached = []
 
--- the attached pointers among so many words of eight bytes from an address on, by rising address
-unfoldable pub words_text : (words : ℕ) → ℕ → Records → List ℕ
-words_text zero from w = []
-words_text (suc words) from w = attached_text from (attachment_of from w) ++ words_text words (from + 8) w
-
--- the least multiple of eight at or after an address: a pointer lies at one
-abbrev pub first_word : ℕ → ℕ
-first_word start = 8 * ((start + 7) / 8)
-
--- how many words of eight bytes a range has from its first multiple of eight on
-abbrev pub word_count : ℕ → ℕ → ℕ
-word_count start len = (start + len - first_word start) / 8
-
--- the attached pointers of a range
-abbrev pub pointers_text : ℕ → ℕ → Records → List ℕ
-pointers_text start len w = words_text (word_count start len) (first_word start) w
+-- a line for each
+abbrev pub pointers_text : Section → Records → List ℕ
+pointers_text s w = flat_map pointer_text (attached_within (where_is s w.ranges) s w.attached)
 
 -- a mapped range, and the attached pointers in it
 abbrev pub range_text : Records → Mapped → List ℕ
-range_text w m = mapped_text m ++ pointers_text m.start m.len w
+range_text w m = mapped_text m ++ pointers_text (record { start = m.start; len = m.len }) w
 
 -- each mapped range by rising start
 abbrev pub ranges_text : Records → List ℕ

@@ -1,9 +1,10 @@
 -- What the queries of a table answer.
-use Rattle.std.specs.Prelude.{ℕ, ◌-◌, ◌<◌, ◌≤◌, Bool, true, false, ◌||◌, if◌then◌else◌, List, length, take, drop, Option, Some, None, option_map}
+use Rattle.std.specs.Prelude.{ℕ, ◌-◌, ◌<◌, ◌≤◌, Bool, true, false, ◌||◌, if◌then◌else◌, ◌==◌, ◌&&◌, List, length, take, drop, find, Option, Some, None, option_map}
 use Rattle.std.specs.List.{AllByRecursion}
 use Rattle.acc_clauses.specs.Words.{Section, Range, Block, Counters, Loan, Found}
 use Rattle.acc_base.specs.declared.mappings.Found.TheVariants.{Inside}
-use Rattle.acc_base.specs.Section.{is_empty, is_within, host_memory, host_base}
+use Rattle.acc_base.specs.declared.attachments.Attachment.{Attachment}
+use Rattle.acc_base.specs.Section.{covers, is_empty, is_within, host_memory, host_base}
 use Rattle.acc_base.specs.Ranges.{where_is, range_from, dynamic_of, structured_of}
 use Rattle.acc_base.specs.Blocks.{place_of}
 use Rattle.acc_base.specs.Loans.{is_lent}
@@ -37,6 +38,15 @@ mapped_from address w = option_map (mapped_as w.blocks w.loans) (range_from addr
 abbrev pub IsLeastFrom : ℕ → List Range → Option Mapped → Type 0
 IsLeastFrom address ranges None = AllByRecursion (λ r. r.section.start < address) ranges
 IsLeastFrom address ranges (Some m) = (address ≤ m.start) × AllByRecursion (λ r. address ≤ r.section.start → m.start ≤ r.section.start) ranges
+
+-- the attached pointer of least address that begins in a section inside one range, with its counter
+abbrev pub attached_inside : Found → Section → List Attachment → Option Attachment
+attached_inside (Inside block offset) s attached = find (λ a. a.block == block && covers s a.pointer) attached
+attached_inside _ s attached = None
+
+-- the same, of these records
+abbrev pub first_attached : Section → Records → Option Attachment
+first_attached s w = attached_inside (where_is s w.ranges) s w.attached
 
 -- the bytes of a section of host memory; an empty one has none, wherever it starts
 abbrev pub host_read_of : Section → List ℕ → Option (List ℕ)

@@ -11,11 +11,11 @@ ghost use Rattle.acc_base.specs.Section.{device_memory};
 ghost use Rattle.acc_base.specs.Holes.{IsNextHole};
 ghost use Rattle.acc_base.specs.Waits.{ended_from};
 ghost use Rattle.acc_base.specs.Inside.{IsInsideOne};
-ghost use Rattle.acc_table.specs.Queries.{is_inside, counters_of_section, mapped_from, IsLeastFrom, host_read_of, device_read_of};
+ghost use Rattle.acc_table.specs.Queries.{is_inside, counters_of_section, mapped_from, first_attached, IsLeastFrom, host_read_of, device_read_of};
 
 use crate::calls::Mapped;
 use crate::tables::Table;
-use acc_base::{Config, Counters, Ended, Event, Found, Hole, Section};
+use acc_base::{Attachment, Config, Counters, Ended, Event, Found, Hole, Section};
 use acc_clauses::Base;
 
 /// The section is inside one range.
@@ -63,6 +63,17 @@ impl Table {
         ensures { result ≡ attachment_of pointer self.now.state.records }
     {
         self.store.attachment(pointer)
+    }
+
+    /// The attached pointer that has the least host address in a section, with its counter, where the section is inside
+    /// one mapped range; else `None` (OpenACC 3.3, section 2.6.8). So a caller finds all of a range, one after the other.
+    pub fn next_attached(&self, section: Section) -> Option<Attachment>
+        ensures { result ≡ first_attached section self.now.state.records }
+    {
+        match self.store.find(section) {
+            Found::Inside { block, .. } => self.store.next_attached(block, section),
+            Found::Empty | Found::Partly | Found::Absent => None,
+        }
     }
 
     /// The reference counters of the mapped range that the section is inside (OpenACC 3.3, section 2.6.7), if it is

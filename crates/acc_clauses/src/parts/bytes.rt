@@ -1,18 +1,18 @@
 //! The bytes of both memories, and the pointers among them.
 
-ghost use Rattle.std.specs.Prelude.{◌≡◌, ◌^◌, ◌<◌, ◌≤◌, ◌↔◌, IfSome, IfNone, IsSome, Some, true, false};
-ghost use Rattle.acc_base.specs.Section.{is_within, host_memory};
+ghost use Rattle.std.specs.Prelude.{◌≡◌, ◌^◌, ◌<◌, ◌≤◌, ◌↔◌, ◌==◌, ◌&&◌, find, IfSome, IfNone, IsSome, Some, true, false};
+ghost use Rattle.acc_base.specs.Section.{covers, is_within, host_memory};
 ghost use Rattle.acc_base.specs.Loans.{is_lent};
 ghost use Rattle.acc_base.specs.Blocks.{block_at};
 ghost use Rattle.acc_base.specs.Bytes.{bytes_of};
 ghost use Rattle.acc_base.specs.Pointers.{attachment_of, host_pointer, device_pointer};
-ghost use Rattle.acc_base.specs.Attachments.{pointer_at, count_at};
+ghost use Rattle.acc_base.specs.Attachments.{pointer_at, count_at, next_pointer};
 ghost use Rattle.acc_base.specs.Detaching.{block_with};
 ghost use Rattle.acc_host.specs.Host.{bytes_in, IsRead, IsOutOfHost};
 
 use crate::parts::Parts;
 use crate::sections::pointer_at;
-use acc_base::{Found, Section};
+use acc_base::{Attachment, Found, Section};
 use acc_present::Hint;
 
 impl Parts {
@@ -56,6 +56,34 @@ impl Parts {
     {
         self.laws();
         self.environment.attached.count(block, pointer)
+    }
+
+    /// The least host address, from one on, at which an attached pointer of a block begins.
+    fn next_pointer(&self, block: u64, from: u64) -> Option<u64>
+        ensures { result ≡ next_pointer block from self.now.state.records.attached }
+    {
+        self.environment.attached.next_pointer(block, from)
+    }
+
+    /// The attached pointer of a block that has the least address in a section, with its counter.
+    pub(crate) fn next_attached(&self, block: u64, section: Section) -> Option<Attachment>
+        ensures { result ≡ find (λ a. a.block == block && covers section a.pointer) self.now.state.records.attached }
+    {
+        self.laws();
+        match self.next_pointer(block, section.start) {
+            Some(pointer) => {
+                if section.len <= pointer - section.start {
+                    return None;
+                }
+                let count = self.count(block, pointer);
+                Some(Attachment {
+                    block,
+                    pointer,
+                    count,
+                })
+            }
+            None => None,
+        }
     }
 
     /// The address that a pointer in host memory holds.

@@ -29,7 +29,7 @@ fn read<Regions: Ledger, Tickets: Ledger, Events: Ledger, R: Wait + AllocGlobal>
 }
 
 pub fn read_ends<Regions: Ledger, Tickets: Ledger, Events: Ledger, R: Abort + Wait + AllocGlobal>(
-    actor: Actor<Regions, Tickets, Events, R>,
+    actor: &mut Actor<Regions, Tickets, Events, R>,
 ) -> Result<(), Fail> {
     for &(start, len, is_read) in &ENDS {
         let wanted = if is_read {
@@ -37,7 +37,7 @@ pub fn read_ends<Regions: Ledger, Tickets: Ledger, Events: Ledger, R: Abort + Wa
         } else {
             Err(Fault::OutOfHost { item: 0 })
         };
-        same(actor.rt, read(&actor, Section { start, len }), wanted);
+        same(actor.rt, read(actor, Section { start, len }), wanted);
     }
     Ok(())
 }
@@ -68,9 +68,9 @@ pub fn map_and_queue<
     Tickets: Ledger,
     Events: Ledger,
     R: Abort + Wait + AllocGlobal,
->(mut actor: Actor<Regions, Tickets, Events, R>) -> Result<(), Fail> {
+>(actor: &mut Actor<Regions, Tickets, Events, R>) -> Result<(), Fail> {
     same(actor.rt, actor.enter_data(), Ok(()));
-    queue_two(&mut actor);
+    queue_two(actor);
     let ended = actor.exit_data(ExitClause::Delete, false, None);
     same(actor.rt, ended, Ok(()));
     same(actor.rt, actor.state(), (0, 6, false));
@@ -122,9 +122,9 @@ pub fn enter_and_lend<
     Tickets: Ledger,
     Events: Ledger,
     R: Abort + Wait + AllocGlobal,
->(mut actor: Actor<Regions, Tickets, Events, R>) -> Result<(), Fail> {
+>(actor: &mut Actor<Regions, Tickets, Events, R>) -> Result<(), Fail> {
     let region = actor.enter(RegionClause::Copy)?;
-    lend_and_exit(&mut actor, region);
+    lend_and_exit(actor, region);
     same(actor.rt, actor.state(), (0, 4, false));
     same(actor.rt, actor.shares(), (64, 96, 4));
     Ok(())

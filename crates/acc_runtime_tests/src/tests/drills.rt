@@ -56,7 +56,7 @@ pub fn run<
     Events: Ledger + Send + Sync,
     R: Abort + Threads + Wait + AllocGlobal + Sync,
 >(
-    mut actor: Actor<Regions, Tickets, Events, R>,
+    actor: &mut Actor<Regions, Tickets, Events, R>,
     threads: usize,
     rounds: u64,
     wanted: Result<Drilled, Fault>,
@@ -94,7 +94,7 @@ pub fn meet<
     Tickets: Ledger + Send + Sync,
     Events: Ledger + Send + Sync,
     R: Abort + Clock + Threads + Wait + AllocGlobal + Sync,
->(mut actor: Actor<Regions, Tickets, Events, R>, held: usize, first: usize) -> Result<(), Fail> {
+>(actor: &mut Actor<Regions, Tickets, Events, R>, held: usize, first: usize) -> Result<(), Fail> {
     let meeting = Meeting::new(held, first);
     let left = drill(actor.rt, actor.runtime, &mut actor.caller, 2, 3, &meeting);
     same(actor.rt, (left.is_ok(), meeting.took_place()), (true, true));

@@ -111,7 +111,7 @@ pub fn run_and_look<
     Tickets: Ledger + Send + Sync,
     Events: Ledger + Send + Sync,
     R: Abort + Threads + Wait + AllocGlobal + Sync,
->(mut actor: Actor<Regions, Tickets, Events, R>) -> Result<(), Fail> {
+>(actor: &mut Actor<Regions, Tickets, Events, R>) -> Result<(), Fail> {
     let mut callers = Vec::new(actor.rt.alloc());
     split(&mut actor.caller, &mut callers)?;
     run_all(actor.rt, actor.runtime, callers.as_mut_slice());

@@ -58,3 +58,19 @@ impl<R: Clock> Gate<R> for Meeting {
         }
     }
 }
+
+/// Lets a worker take part in a meeting, under a number of its own for all that it does.
+pub struct Numbered<'a> {
+    pub meeting: &'a Meeting,
+    pub number: usize,
+}
+
+impl<R: Clock> Gate<R> for Numbered<'_> {
+    fn before(&self, rt: &R, _n: usize) {
+        self.meeting.before(rt, self.number);
+    }
+
+    fn after(&self, rt: &R, _n: usize) {
+        self.meeting.after(rt, self.number);
+    }
+}

@@ -185,12 +185,12 @@ fn in_region<Regions: Ledger, Tickets: Ledger, Events: Ledger, R: Abort + Wait +
 }
 
 pub fn live<Regions: Ledger, Tickets: Ledger, Events: Ledger, R: Abort + Wait + AllocGlobal>(
-    mut actor: Actor<Regions, Tickets, Events, R>,
+    actor: &mut Actor<Regions, Tickets, Events, R>,
 ) -> Result<(), Fail> {
     let mapped = actor.enter_data();
-    made(&mut actor, 1, mapped, ())?;
+    made(actor, 1, mapped, ())?;
     let region = actor.enter(RegionClause::Present)?;
-    in_region(&mut actor, region)?;
+    in_region(actor, region)?;
     same(actor.rt, actor.state(), (0, 13, false));
     same(actor.rt, actor.shares(), (64, 87, 13));
     Ok(())

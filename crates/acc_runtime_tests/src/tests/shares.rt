@@ -46,15 +46,15 @@ pub fn split_and_merge<
     Tickets: Ledger,
     Events: Ledger,
     R: Abort + Wait + AllocGlobal,
->(mut actor: Actor<Regions, Tickets, Events, R>) -> Result<(), Fail> {
+>(actor: &mut Actor<Regions, Tickets, Events, R>) -> Result<(), Fail> {
     for &(regions, tickets, fault) in &REFUSED {
         let refused = actor.caller.split(regions, tickets).err();
         same(actor.rt, refused, Some(fault));
     }
     for &(regions, tickets, fault) in &SHORT {
-        same(actor.rt, entered(&mut actor, regions, tickets), Err(fault));
+        same(actor.rt, entered(actor, regions, tickets), Err(fault));
     }
-    same(actor.rt, entered(&mut actor, 1, 2), Ok(()));
+    same(actor.rt, entered(actor, 1, 2), Ok(()));
     same(actor.rt, actor.shares(), (64, 98, 2));
     Ok(())
 }

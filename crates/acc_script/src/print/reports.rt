@@ -11,7 +11,7 @@ use crate::print::addresses::AddressBuffer;
 use crate::print::blocks::write_ended;
 use crate::print::pointers::write_pointers;
 use crate::print::queues::write_queues;
-use acc_base::Fault;
+use acc_base::{Fault, Section};
 use acc_table::{Mapped, Table};
 use itoa::Buffer;
 
@@ -85,7 +85,11 @@ fn write_range<W: Sink>(table: &Table, writer: &mut W, mapped: Mapped) -> bool
     if !write_mapped(writer, mapped) {
         return false;
     }
-    write_pointers(table, writer, mapped.start, mapped.len)
+    let section = Section {
+        start: mapped.start,
+        len: mapped.len,
+    };
+    write_pointers(table, writer, section)
 }
 
 /// The line of a mapped range; false where the sink failed.

@@ -1,12 +1,16 @@
-use Rattle.std.proofs.Common.{◌≡◌, ◌+◌, ◌-◌, ◌*◌}
-use Rattle.acc_script.specs.Texts.{words_text, first_word, word_count, pointers_text}
+use Rattle.std.proofs.Common.{◌≡◌, ◌<◌, ◌^◌}
+use Rattle.acc_base.specs.Section.{end_of}
+use Rattle.acc_script.specs.Texts.{pointers_text}
 use Rattle.acc_script.proofs.LeftToWrite.{Leaves}
 use Rattle.acc_script.proofs.print.pointers.write_pointers.Given as goal
 
--- the words before this one are written
-abbrev pub invariant-loop : goal.invariant-loop
-invariant-loop g l = let w = l.table.state.records in record {
-  place : l.at ≡ first_word l.start + 8 * l.counter;
-  left : Leaves (g.W.Sink.told l.fn.writer) (g.W.Sink.told l.writer) (pointers_text l.start l.len w)
-      (words_text (word_count l.start l.len - l.counter) l.at w);
+-- the pointers that begin before the rest of the section are written
+abbrev pub invariant-each : goal.invariant-each
+invariant-each g l = let w = l.table.state.records in record {
+  ends : end_of l.rest ≡ l.end;
+  low : l.end < 2 ^ 32;
+  left : Leaves (g.W.Sink.told l.fn.writer) (g.W.Sink.told l.writer) (pointers_text l.fn.section w) (pointers_text l.rest w);
 }
+
+abbrev pub decreases-each : goal.decreases-each
+decreases-each g l = l.rest.len

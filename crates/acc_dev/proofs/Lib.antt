@@ -12,3 +12,4 @@ pub mod Lends
 pub mod EndedPlaces
 pub mod Ending
 pub mod Indexing
+pub mod Copied

@@ -61,6 +61,13 @@ impl Index {
         let _ = &self.items;
     }
 
+    /// All entries by rising number, those that are gone too.
+    pub fn items(&self) -> &[Entry]
+        ensures { live_entries result.now ≡ self.now.entries }
+    {
+        &self.items
+    }
+
     /// Makes room for `count` more entries. It is refused only where that room was missing.
     pub fn reserve(&mut self, count: usize) -> Result<(), Fault>
         ensures entries { self.new.entries ≡ self.old.entries }

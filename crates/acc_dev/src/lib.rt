@@ -1,6 +1,7 @@
 //! Device memory: blocks with a number, a place and bytes each.
 #![tactic(auto)]
 
+mod copying;
 mod devices;
 mod ended;
 mod entries;

@@ -1,6 +1,6 @@
 //! One queue.
 
-ghost use Rattle.std.specs.Prelude.{◌≡◌, ◌+◌, ◌<◌, ◌≤◌, [], ◌∷◌, ◌++◌, length, drop, slice_get, IfErr, OnOk, OnErr};
+ghost use Rattle.std.specs.Prelude.{◌≡◌, ◌+◌, ◌<◌, ◌≤◌, [], ◌∷◌, ◌++◌, length, drop, slice_get, IfOk, IfErr, OnOk, OnErr};
 ghost use Rattle.std.specs.Option.{option_copied};
 
 use acc_base::{Fault, Transfer};
@@ -51,6 +51,18 @@ impl Ring {
         ensures { option_copied result ≡ slice_get self.now.transfers i }
     {
         self.waiting.get(i as usize)
+    }
+
+    /// Its transfers in a vector of their own, the one that is next at the front. It takes memory for exactly so many.
+    pub fn copy(&self, alloc: Global) -> Result<Vec<Transfer>, Fault>
+        ensures ok { IfOk result (λ transfers. transfers.items ≡ self.now.transfers) }
+        ensures only { IfErr result (λ fault. fault ≡ Fault.Memory) }
+    {
+        let (front, back) = self.waiting.as_slices();
+        let mut transfers = Vec::with_capacity(alloc, self.waiting.len())?;
+        transfers.extend_from_slice(front)?;
+        transfers.extend_from_slice(back)?;
+        Ok(transfers)
     }
 
     /// Puts a transfer at the end, where there is room for it.

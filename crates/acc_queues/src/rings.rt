@@ -1,6 +1,7 @@
 //! The rings that keep the queues: one each, by the queue's number.
 
-ghost use Rattle.std.specs.Prelude.{◌≡◌, ◌<◌, ◌≤◌, length, vec_len, IfOk, IfErr, OnOk, OnErr};
+ghost use Rattle.std.specs.Prelude.{◌≡◌, ◌<◌, ◌≤◌, length, map, vec_len, IfOk, IfErr, OnOk, OnErr};
+ghost use Rattle.std.specs.Vec.{vec_items};
 ghost use Rattle.std.specs.Option.{option_copied};
 ghost use Rattle.acc_base.specs.Queues.{new_queues, head_of, put, popped};
 ghost use Rattle.acc_queues.specs.Queued.{spare_at, AreRoomsKept, IsRoomTaken};
@@ -20,6 +21,18 @@ pub fn new_rings(alloc: Global) -> Result<Vec<Ring>, Fault>
         rings.push(Ring::new(alloc))?;
     }
     Ok(rings)
+}
+
+/// The transfers of each ring in a vector of their own. It takes memory for exactly so many rings and transfers.
+pub fn copy_rings(rings: &[Ring], alloc: Global) -> Result<Vec<Vec<Transfer>>, Fault>
+    ensures ok { IfOk result (λ copied. map vec_items copied.items ≡ queues_in rings.now) }
+    ensures only { IfErr result (λ fault. fault ≡ Fault.Memory) }
+{
+    let mut copied = Vec::with_capacity(alloc, rings.len())?;
+    for ring in rings {
+        copied.push(ring.copy(alloc)?)?;
+    }
+    Ok(copied)
 }
 
 /// Puts a transfer at the end of a queue that has room for it.

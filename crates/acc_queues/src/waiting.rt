@@ -1,13 +1,14 @@
 //! The queues of transfers as one value.
 
-ghost use Rattle.std.specs.Prelude.{◌≡◌, ◌+◌, ◌<◌, ◌≤◌, ◌⊎◌, ◌↔◌, length, slice_get, Ok, Err, IfOk, IfErr, IfNone, OnOk, OnErr};
+ghost use Rattle.std.specs.Prelude.{◌≡◌, ◌+◌, ◌<◌, ◌≤◌, ◌⊎◌, ◌↔◌, length, map, slice_get, Ok, Err, IfOk, IfErr, IfNone, OnOk, OnErr};
 ghost use Rattle.std.specs.Option.{option_copied};
+ghost use Rattle.std.specs.Vec.{vec_items};
 ghost use Rattle.acc_base.specs.Limits.{IsFromOne};
 ghost use Rattle.acc_base.specs.Queues.{new_queues, queue_at, head_of, put, popped};
 ghost use Rattle.acc_queues.specs.Queued.{AreQueues, judge_put, spare_at, AreRoomsKept, IsRoomTaken};
 
 use crate::ring::Ring;
-use crate::rings::{make_room, new_rings, pop_from, put_into};
+use crate::rings::{copy_rings, make_room, new_rings, pop_from, put_into};
 use acc_base::{Fault, QUEUE_COUNT, Transfer};
 use std::alloc::Global;
 use std::marker::Model;
@@ -18,7 +19,8 @@ use std::marker::Model;
 /// most as many as a limit says.
 ///
 /// Contracts see the limit, the transfers of each queue, the next one first, and beside them for how many more each
-/// queue has room. A refused call leaves the transfers as they were. Only `new`, `put` and `reserve` take memory.
+/// queue has room. A refused call leaves the transfers as they were. Only `new`, `put`, `reserve` and `copy_queues` take
+/// memory.
 ///
 /// A look-up and a removal take the same time however many transfers wait, and so does `put`, but where a queue's room
 /// grows: then that queue's transfers may move.
@@ -134,6 +136,21 @@ impl Queues {
         ensures { option_copied result ≡ slice_get (queue_at q self.now.queues) i }
     {
         self.rings.get(q as usize)?.at(i)
+    }
+
+    /// The transfers of each queue in a vector of their own: the queues by rising number, and in each the transfer that
+    /// it makes next at the front. The queues stay as they are.
+    ///
+    /// It takes memory for the answer alone, for exactly so many queues and transfers, and copies each transfer once.
+    ///
+    /// # Errors
+    ///
+    /// [`Fault::Memory`] alone.
+    pub fn copy_queues(&self, alloc: Global) -> Result<Vec<Vec<Transfer>>, Fault>
+        ensures ok { IfOk result (λ queues. map vec_items queues.items ≡ self.now.queues) }
+        ensures only { IfErr result (λ fault. fault ≡ Fault.Memory) }
+    {
+        copy_rings(&self.rings, alloc)
     }
 
     // ---- room

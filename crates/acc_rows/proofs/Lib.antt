@@ -7,3 +7,4 @@ pub mod Changing
 pub mod Starting
 pub mod Answering
 pub mod Joining
+pub mod Walking

@@ -2,6 +2,7 @@
 #![tactic(auto)]
 
 mod changes;
+mod counting;
 mod finding;
 mod places;
 mod rows;

@@ -1,8 +1,10 @@
 //! A sorted list of entries in rows, each found by its key.
-ghost use Rattle.std.specs.Prelude.{◌≡◌, ℕ, ◌+◌, ◌*◌, ◌^◌, ◌<◌, ◌≤◌, [], length, Some, None, IsSome, IfErr, OnOk, OnErr};
+ghost use Rattle.std.specs.Prelude.{◌≡◌, ℕ, ◌+◌, ◌*◌, ◌^◌, ◌<◌, ◌≤◌, [], length, min, Some, None, IsSome, IfErr, OnOk, OnErr};
 ghost use Rattle.acc_tree.specs.Listing.{KeysRise, at_key, first_from, last_before, with_entry, without_key, with_value, seen};
+ghost use Rattle.acc_rows.specs.Laid.{side_by_side};
 
 use crate::changes::{make_place, make_rows, put, start, take_out, write};
+use crate::counting::count_in;
 use crate::finding::{entry_before, entry_from, entry_of, find, locate};
 use crate::places::Place;
 use acc_base::Fault;
@@ -177,6 +179,21 @@ impl<T: Copy> Rows<T> {
     {
         let place = locate(&self.firsts, &self.rows, key, near);
         write(&mut self.rows, place, value);
+    }
+
+    /// How many entries there are, or the greatest `usize` where they are more than that. It counts them row by row.
+    pub fn len(&self) -> usize
+        ensures { result ≡ min (length self.now.entries) usize.MAX }
+    {
+        count_in(&self.rows)
+    }
+
+    /// All entries by rising key, in the rows in which they stand: those of a row, and then those of the next. So a walk
+    /// over them all needs no search.
+    pub fn rows(&self) -> &[Vec<Entry<T>>]
+        ensures { side_by_side result.now ≡ self.now.entries }
+    {
+        &self.rows
     }
 
     /// That the keys rise. Nothing is done.

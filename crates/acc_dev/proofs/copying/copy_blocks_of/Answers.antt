@@ -1,0 +1,11 @@
+use Rattle.std.proofs.Common.{◌≡◌, ◌<◌, false, length, get_or, arith}
+use Rattle.acc_dev.specs.Indexed.{blank_entry}
+use Rattle.acc_dev.proofs.Copied.{slot_filled}
+use Rattle.acc_dev.proofs.copying.copy_blocks_of.Goals as goal
+
+pub block_at-requires : goal.block_at-requires
+block_at-requires c =
+    let items = c.items-entry-items.result.now in
+    let filled = c.requires.filled in
+    let live = c.items-entry-items.ensures in
+    slot_filled c.args.slab.now.slots c.items-entry-items.result.now c.loop-entry.entry-index (omega arith) c.if-not-entry.true (rw live filled)

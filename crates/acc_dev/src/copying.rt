@@ -1,0 +1,89 @@
+//! Copies of the blocks and of the loans of a device, in vectors of their own.
+
+ghost use Rattle.std.specs.Prelude.{◌≡◌, IfOk, IfErr, IsSome};
+ghost use Rattle.std.specs.List.{AllByRecursion};
+ghost use Rattle.slab.specs.Slab.{get};
+ghost use Rattle.acc_dev.specs.Kept.{slot_of, block_from, blocks_in, loans_in};
+
+use crate::devices::Device;
+use crate::entries::{Stored, loan_at};
+use crate::index::Index;
+use acc_base::{Block, Fault, Loan};
+use slab::Slab;
+use std::alloc::Global;
+
+impl Device {
+    /// The blocks of the device in a vector of their own, by rising number: of each its number, its place and its length.
+    /// The device stays as it is.
+    ///
+    /// It takes memory for the answer alone, for exactly so many blocks, and goes through the device once.
+    ///
+    /// # Errors
+    ///
+    /// [`Fault::Memory`] alone.
+    pub fn copy_blocks(&self, alloc: Global) -> Result<Vec<Block>, Fault>
+        ensures ok { IfOk result (λ blocks. blocks.items ≡ self.now.blocks) }
+        ensures only { IfErr result (λ fault. fault ≡ Fault.Memory) }
+    {
+        copy_blocks_of(&self.slab, &self.index, alloc)
+    }
+
+    /// The loans of the device in a vector of their own, by rising block. The device stays as it is.
+    ///
+    /// It takes memory for the answer alone, and goes through the device once.
+    ///
+    /// # Errors
+    ///
+    /// [`Fault::Memory`] alone.
+    pub fn copy_loans(&self, alloc: Global) -> Result<Vec<Loan>, Fault>
+        ensures ok { IfOk result (λ loans. loans.items ≡ self.now.loans) }
+        ensures only { IfErr result (λ fault. fault ≡ Fault.Memory) }
+    {
+        copy_loans_of(&self.slab, &self.index, alloc)
+    }
+}
+
+/// The block of a number, which stands in a slot.
+fn block_at(slab: &Slab<Stored>, slot: usize, number: u64) -> Block
+    requires { IsSome (get slab.now slot) }
+    ensures { result ≡ block_from number (get slab.now slot) }
+{
+    let stored = &slab[slot];
+    Block {
+        number,
+        place: stored.place,
+        len: stored.len,
+    }
+}
+
+/// The blocks of an index, each of which stands in its slot.
+fn copy_blocks_of(slab: &Slab<Stored>, index: &Index, alloc: Global) -> Result<Vec<Block>, Fault>
+    requires filled { AllByRecursion (λ e. IsSome (slot_of slab.now.slots e)) index.now.entries }
+    ensures ok { IfOk result (λ blocks. blocks.items ≡ blocks_in slab.now.slots index.now.entries) }
+    ensures only { IfErr result (λ fault. fault ≡ Fault.Memory) }
+{
+    let mut blocks = Vec::with_capacity(alloc, slab.len())?;
+    for entry in index.items() {
+        if !entry.gone {
+            blocks.push(block_at(slab, entry.slot, entry.number))?;
+        }
+    }
+    Ok(blocks)
+}
+
+/// The loans of the blocks of an index.
+fn copy_loans_of(slab: &Slab<Stored>, index: &Index, alloc: Global) -> Result<Vec<Loan>, Fault>
+    ensures ok { IfOk result (λ loans. loans.items ≡ loans_in slab.now.slots index.now.entries) }
+    ensures only { IfErr result (λ fault. fault ≡ Fault.Memory) }
+{
+    let mut loans = Vec::new(alloc);
+    for entry in index.items() {
+        if entry.gone {
+            continue;
+        }
+        if let Some(loan) = loan_at(slab, entry.slot) {
+            loans.push(loan)?;
+        }
+    }
+    Ok(loans)
+}

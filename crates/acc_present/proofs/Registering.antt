@@ -10,7 +10,8 @@ use Rattle.acc_base.proofs.Lookups.{at}
 use Rattle.acc_base.proofs.Options.{from_none, from_some}
 use Rattle.acc_present.specs.declared.register.OpenRegion.{OpenRegion}
 use Rattle.acc_present.specs.Present.{AreNumbered}
-use Rattle.acc_present.specs.Kept.{AreNumbersRising, region_of}
+use Rattle.acc_present.specs.Present.{region_of}
+use Rattle.acc_present.specs.Kept.{AreNumbersRising}
 use Rattle.acc_base.proofs.Keyed as keyed
 
 -- a region's number

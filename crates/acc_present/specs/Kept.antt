@@ -63,10 +63,6 @@ pub record RegisterState : Type 0 where
   pub room : ℕ
   pub holdings : ℕ
 
--- the region that an element stands for
-abbrev pub region_of : OpenRegion → Region
-region_of o = record { number = o.number; holdings = o.holdings.items }
-
 -- the numbers of the regions rise
 abbrev pub AreNumbersRising : List OpenRegion → Type 0
 AreNumbersRising open_regions = EachPair (λ (o : OpenRegion) (p : OpenRegion). o.number < p.number) open_regions

@@ -5,6 +5,7 @@ use Rattle.acc_base.specs.declared.mappings.Range.{Range}
 use Rattle.acc_base.specs.Ranges.{range_of}
 use Rattle.acc_base.specs.Register.{Region, region_at}
 use Rattle.acc_base.specs.Accounts.{EachPair, IsBelow}
+use Rattle.acc_present.specs.declared.register.OpenRegion.{OpenRegion}
 
 -- the limit of the reference counters, the mapped ranges by rising start, and the open regions by rising number
 pub record PresentTable : Type 0 where
@@ -42,6 +43,10 @@ HasRange t block = IsSome (range_of block t.ranges)
 -- a region of the number is open
 abbrev pub HasRegion : PresentTable → ℕ → Type 0
 HasRegion t number = IsSome (region_at number t.regions)
+
+-- the region that an open region of the code stands for
+abbrev pub region_of : OpenRegion → Region
+region_of o = record { number = o.number; holdings = o.holdings.items }
 
 -- ---- room
 

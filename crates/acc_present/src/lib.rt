@@ -2,6 +2,7 @@
 //! register of open data regions (OpenACC 3.3, sections 2.6.5 and 2.6.7).
 #![tactic(auto)]
 
+mod copying;
 mod entries;
 mod hints;
 mod mappings;
@@ -11,3 +12,4 @@ mod register;
 
 pub use hints::{Hint, Located};
 pub use presence::Present;
+pub use register::OpenRegion;

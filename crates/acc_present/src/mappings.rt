@@ -1,6 +1,6 @@
 //! The mapped ranges by rising start, and the start of each block's range.
 
-ghost use Rattle.std.specs.Prelude.{◌≡◌, ℕ, IfSome, IfNone, ◌+◌, ◌*◌, ◌<◌, ◌≤◌, ◌^◌, [], length, option_map, None, Some, IsSome, OnOk, OnErr, IfErr};
+ghost use Rattle.std.specs.Prelude.{◌≡◌, ℕ, IfOk, IfSome, IfNone, ◌+◌, ◌*◌, ◌<◌, ◌≤◌, ◌^◌, [], length, option_map, None, Some, IsSome, OnOk, OnErr, IfErr};
 ghost use Rattle.std.specs.Bool.{OnTrue, OnFalse};
 ghost use Rattle.std.specs.List.{AllByRecursion};
 ghost use Rattle.acc_base.specs.Ranges.{where_is, where_is_apart, range_of, range_from, counter_of, with_range, without_range, changed_at, bare_range, risen, fallen, cleared};
@@ -8,6 +8,7 @@ ghost use Rattle.acc_present.specs.Present.{AreMapped, IsWithinLimit};
 ghost use Rattle.acc_tree.specs.Listing.{at_key, with_value, seen};
 ghost use Rattle.acc_present.specs.Kept.{range_in, ranges_in, mapping_of, AreBounded, IsIndexed, IsEntryOf};
 
+use crate::copying::copy_ranges_of;
 use crate::entries::{Mapping, to_entry, to_range};
 use crate::hints::{Hint, Located};
 use crate::ranges::{lowered, raised, told_by, value_of};
@@ -277,6 +278,14 @@ impl Mappings {
         ensures { AreMapped self.now.ranges }
     {
         let _ = &self.ranges;
+    }
+
+    /// The mapped ranges by rising start, in a vector of their own.
+    pub fn copy_ranges(&self, alloc: Global) -> Result<Vec<Range>, Fault>
+        ensures ok { IfOk result (λ ranges. ranges.items ≡ self.now.ranges) }
+        ensures only { IfErr result (λ fault. fault ≡ Fault.Memory) }
+    {
+        copy_ranges_of(&self.ranges, alloc)
     }
 
     /// Where a section lies among the ranges without those of the listed blocks, and where its range stands.

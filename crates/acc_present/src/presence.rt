@@ -1,15 +1,15 @@
 //! The present table as one value.
 
-ghost use Rattle.std.specs.Prelude.{◌≡◌, ℕ, ◌+◌, ◌*◌, ◌^◌, ◌<◌, ◌≤◌, ◌↔◌, length, MatchResult, None, Some, Err, IfErr, OnOk, OnErr, MatchOption};
+ghost use Rattle.std.specs.Prelude.{◌≡◌, ℕ, ◌+◌, ◌*◌, ◌^◌, ◌<◌, ◌≤◌, ◌↔◌, length, map, MatchResult, None, Some, Err, IfOk, IfErr, OnOk, OnErr, MatchOption};
 ghost use Rattle.acc_base.specs.declared.mappings.Counter.TheVariants.{Structured, Dynamic};
 ghost use Rattle.acc_base.specs.declared.mappings.Found.TheVariants.{Absent};
 ghost use Rattle.acc_base.specs.Ranges.{where_is, where_is_apart, range_of, range_from, structured_of, dynamic_of, counter_of, with_range, without_range, changed_at, bare_range, risen, fallen, cleared};
 ghost use Rattle.acc_base.specs.Register.{region_at, newest_region, holdings_at, with_region, without_region};
-ghost use Rattle.acc_present.specs.Present.{new_table, with_ranges, with_regions, HasRange, HasRegion, IsRoomKept, IsRangeRoomTaken, IsRegionRoomTaken, IsRoomMissing, IsLawful};
+ghost use Rattle.acc_present.specs.Present.{new_table, with_ranges, with_regions, HasRange, HasRegion, IsRoomKept, IsRangeRoomTaken, IsRegionRoomTaken, IsRoomMissing, IsLawful, region_of};
 
 use crate::hints::{Hint, Located};
 use crate::mappings::Mappings;
-use crate::register::Register;
+use crate::register::{OpenRegion, Register};
 use acc_base::{Counter, Counters, Fault, Holding, Range, Section};
 use acc_tree::Visits;
 use std::alloc::Global;
@@ -19,7 +19,7 @@ use std::marker::Model;
 /// device memory, each with its two reference counters, and the register of open data regions.
 ///
 /// Contracts see the table, and the room that was made for more beside it. A refused call leaves the table as it was.
-/// Only `new`, `add`, `enter` and `reserve` take memory.
+/// Only `new`, `add`, `enter` and `reserve` take memory for it, and `copy_ranges` and `copy_regions` for their answers.
 ///
 /// A section is searched for by halves, and so is a block number, unless the range stands where a [`Hint`] says. Adding
 /// and removing move few entries beside that, however many ranges are mapped.
@@ -315,6 +315,37 @@ impl Present {
         ensures { result ≡ newest_region self.now.table.regions }
     {
         self.register.newest()
+    }
+
+    // ---- copies
+
+    /// The mapped ranges in a vector of their own, by rising start. The table stays as it is.
+    ///
+    /// It takes memory for the answer alone, for exactly so many ranges, and goes through them once.
+    ///
+    /// # Errors
+    ///
+    /// [`Fault::Memory`] alone.
+    pub fn copy_ranges(&self, alloc: Global) -> Result<Vec<Range>, Fault>
+        ensures ok { IfOk result (λ ranges. ranges.items ≡ self.now.table.ranges) }
+        ensures only { IfErr result (λ fault. fault ≡ Fault.Memory) }
+    {
+        self.mappings.copy_ranges(alloc)
+    }
+
+    /// The open regions in a vector of their own, by rising number: each with its number, and with what each item of its
+    /// entry counted, in written order. The table stays as it is.
+    ///
+    /// It takes memory for the answer alone, for exactly so many regions and holdings, and goes through them once.
+    ///
+    /// # Errors
+    ///
+    /// [`Fault::Memory`] alone.
+    pub fn copy_regions(&self, alloc: Global) -> Result<Vec<OpenRegion>, Fault>
+        ensures ok { IfOk result (λ regions. map region_of regions.items ≡ self.now.table.regions) }
+        ensures only { IfErr result (λ fault. fault ≡ Fault.Memory) }
+    {
+        self.register.copy_regions(alloc)
     }
 
     // ---- room

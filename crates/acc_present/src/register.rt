@@ -1,17 +1,18 @@
 //! The register of open data regions.
 
-ghost use Rattle.std.specs.Prelude.{◌≡◌, ◌+◌, ◌<◌, ◌≤◌, ◌⊎◌, [], ◌∷◌, ◌++◌, length, map, nat_lt, None, Some, IsSome, IfErr, OnOk, OnErr, MatchOption, vec_len, vec_capacity};
+ghost use Rattle.std.specs.Prelude.{◌≡◌, ◌+◌, ◌<◌, ◌≤◌, ◌⊎◌, [], ◌∷◌, ◌++◌, length, map, nat_lt, None, Some, IsSome, IfOk, IfErr, OnOk, OnErr, MatchOption, vec_len, vec_capacity};
 ghost use Rattle.acc_base.specs.Register.{region_at, newest_region, holdings_at, with_region, without_region};
 ghost use Rattle.acc_base.specs.Splits.{IsSplitBy};
-ghost use Rattle.acc_present.specs.Present.{AreNumbered};
-ghost use Rattle.acc_present.specs.Kept.{AreNumbersRising, region_of};
+ghost use Rattle.acc_present.specs.Present.{AreNumbered, region_of};
+ghost use Rattle.acc_present.specs.Kept.{AreNumbersRising};
 
+use crate::copying::copy_regions_of;
 use acc_base::{Fault, Holding};
 use std::alloc::Global;
 use std::marker::Model;
 use std::mem;
 
-/// An open region.
+/// An open region (OpenACC 3.3, section 2.6.5, the data construct).
 #[derive(Drop)]
 pub struct OpenRegion {
     /// The number of the region.
@@ -91,7 +92,8 @@ pub struct Register {
 
 impl Model for Register {
     ghost use Rattle.std.specs.Prelude.{◌≡◌, ◌-◌, [], map, vec_len, vec_capacity};
-    ghost use Rattle.acc_present.specs.Kept.{RegisterState, AreNumbersRising, region_of};
+    ghost use Rattle.acc_present.specs.Present.{region_of};
+    ghost use Rattle.acc_present.specs.Kept.{RegisterState, AreNumbersRising};
 
     ghost Value = { RegisterState };
 
@@ -142,6 +144,14 @@ impl Register {
         ensures { MatchOption result (holdings_at number self.now.regions ≡ None) (λ h. holdings_at number self.now.regions ≡ Some h.now) }
     {
         holdings_of(&self.regions, number)
+    }
+
+    /// The open regions by rising number, in a vector of their own.
+    pub fn copy_regions(&self, alloc: Global) -> Result<Vec<OpenRegion>, Fault>
+        ensures ok { IfOk result (λ regions. map region_of regions.items ≡ self.now.regions) }
+        ensures only { IfErr result (λ fault. fault ≡ Fault.Memory) }
+    {
+        copy_regions_of(&self.regions, alloc)
     }
 
     /// Makes room for so many more regions, the next of which has so many holdings. It is refused only where some of that

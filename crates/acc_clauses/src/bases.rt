@@ -2,7 +2,7 @@
 
 ghost use Rattle.std.specs.Prelude.{◌≡◌, map};
 ghost use Rattle.std.specs.Vec.{vec_items};
-ghost use Rattle.acc_present.specs.Kept.{region_of};
+ghost use Rattle.acc_present.specs.Present.{region_of};
 
 use acc_base::{Attachment, Block, Loan, Range, Transfer};
 use acc_present::OpenRegion;
@@ -28,7 +28,7 @@ impl Model for Base {
     ghost use Rattle.std.specs.Prelude.{map};
     ghost use Rattle.std.specs.Vec.{vec_items};
     ghost use Rattle.acc_base.specs.Calls.{Base as BaseValue};
-    ghost use Rattle.acc_present.specs.Kept.{region_of};
+    ghost use Rattle.acc_present.specs.Present.{region_of};
 
     ghost Value = { BaseValue };
 

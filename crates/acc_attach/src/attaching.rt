@@ -6,7 +6,7 @@ ghost use Rattle.acc_attach.specs.Attached.{AreAttached, left_of};
 
 use crate::counters::Counters;
 use crate::left::Left;
-use acc_base::{Aim, Fault};
+use acc_base::{Aim, Attachment, Fault};
 use std::alloc::Global;
 use std::marker::Model;
 
@@ -16,7 +16,8 @@ use std::marker::Model;
 /// counter is zero until the pointer is attached. Targets are device addresses.
 ///
 /// Contracts see the counters above zero, and beside them for how many more of them there is room. A refused call
-/// leaves the counters as they were. Only `attach` and `reserve` take memory.
+/// leaves the counters as they were. Only `attach` and `reserve` take memory for them, and `copy_counters` for its
+/// answer.
 ///
 /// Counters are searched for by halves. One that becomes one or zero moves few of the others, however many there are.
 #[derive(Drop)]
@@ -204,6 +205,22 @@ impl Attached {
         ensures { result ≡ next_pointer block from self.now.attached }
     {
         self.counters.next(block, from)
+    }
+
+    // ---- copies
+
+    /// The counters above zero in a vector of their own, by rising block and pointer. They stay as they are.
+    ///
+    /// It takes memory for the answer alone, for exactly so many counters, and goes through them once.
+    ///
+    /// # Errors
+    ///
+    /// [`Fault::Memory`] alone.
+    pub fn copy_counters(&self, alloc: Global) -> Result<Vec<Attachment>, Fault>
+        ensures ok { IfOk result (λ counters. counters.items ≡ self.now.attached) }
+        ensures only { IfErr result (λ fault. fault ≡ Fault.Memory) }
+    {
+        self.counters.copy_counters(alloc)
     }
 
     // ---- room

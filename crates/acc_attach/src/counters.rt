@@ -1,11 +1,12 @@
 //! The counters by rising block and pointer, each found by halves.
 
-ghost use Rattle.std.specs.Prelude.{◌≡◌, ◌+◌, ◌<◌, ◌≤◌, ◌&&◌, ◌==◌, [], find, nat_le, None, IsSome, OnOk, OnErr, IfErr};
+ghost use Rattle.std.specs.Prelude.{◌≡◌, ◌+◌, ◌<◌, ◌≤◌, ◌&&◌, ◌==◌, [], find, nat_le, None, IsSome, OnOk, OnErr, IfOk, IfErr};
 ghost use Rattle.acc_base.specs.Accounts.{EachPair};
 ghost use Rattle.acc_base.specs.Attachments.{IsBefore, is_of, count_at, with_count, without_attachment, without_attachments, is_skipped, next_pointer};
 ghost use Rattle.acc_tree.specs.Listing.{at_key, first_from};
 ghost use Rattle.acc_attach.specs.Kept.{is_from, counter_in, key_of as key_for};
 
+use crate::copying::copy_counters_of;
 use acc_base::{Attachment, Fault};
 use acc_rows::{Place, Rows};
 use acc_tree::Entry;
@@ -43,7 +44,7 @@ fn entry_from(rows: &Rows<u64>, key: u128) -> Option<Entry<u64>>
 }
 
 /// The counter of an entry.
-fn to_counter(entry: Entry<u64>) -> Attachment
+pub fn to_counter(entry: Entry<u64>) -> Attachment
     ensures { result ≡ counter_in entry }
 {
     Attachment {
@@ -94,6 +95,14 @@ impl Counters {
         ensures room { self.old.room ≤ self.new.room }
     {
         self.rows.reserve(count)
+    }
+
+    /// The counters above zero by rising block and pointer, in a vector of their own.
+    pub fn copy_counters(&self, alloc: Global) -> Result<Vec<Attachment>, Fault>
+        ensures ok { IfOk result (λ counters. counters.items ≡ self.now.counters) }
+        ensures only { IfErr result (λ fault. fault ≡ Fault.Memory) }
+    {
+        copy_counters_of(&self.rows, alloc)
     }
 
     /// How often a pointer of a block is attached.

@@ -3,6 +3,7 @@
 #![tactic(auto)]
 
 mod attaching;
+mod copying;
 mod counters;
 mod left;
 

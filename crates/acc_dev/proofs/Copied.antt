@@ -1,5 +1,5 @@
 -- A walk along the index: one entry more of those that are not gone.
-use Rattle.std.proofs.Common.{ℕ, ◌≡◌, ◌+◌, ◌<◌, refl, sym, ap, ◌∙◌, true, false, List, [], ◌∷◌, ◌++◌, length, get_or, take, Option, Some, None, IsSome, arith}
+use Rattle.std.proofs.Common.{ℕ, ◌≡◌, ◌+◌, ◌<◌, refl, sym, ap, ◌∙◌, false, List, [], ◌∷◌, ◌++◌, length, get_or, take, Option, Some, None, IsSome}
 use Rattle.std.specs.List.{AllByRecursion}
 use Rattle.std.proofs.lemmas.List.{take_more}
 use Rattle.acc_base.proofs.Splitting.{all_at}
@@ -10,16 +10,9 @@ use Rattle.acc_dev.specs.Kept.{stored_loan, loan_before, slot_of, loans_in}
 use Rattle.acc_dev.specs.Indexed.{pair_of, live_entries, blank_entry}
 use Rattle.acc_dev.proofs.Lent.{loans_in-push}
 use Rattle.acc_dev.proofs.Rising.{start}
-use Rattle.acc_dev.proofs.Indexing.{entries-append, nothing_behind, entry_here}
+use Rattle.acc_dev.proofs.Indexing.{entries-append, entry_here}
 
--- an entry that is gone is none more
-pub live_gone : (xs : List Entry) (i : ℕ) → i < length xs → (get_or xs i blank_entry).gone ≡ true → live_entries (take (i + 1) xs) ≡ live_entries (take i xs)
-live_gone xs i lt gone =
-    ap live_entries (take_more xs i blank_entry lt)
-    ∙ entries-append (take i xs) (get_or xs i blank_entry ∷ [])
-    ∙ rw gone (nothing_behind (live_entries (take i xs)))
-
--- another one is one more
+-- an entry that is not gone is one more
 pub live_more : (xs : List Entry) (i : ℕ) → i < length xs → (get_or xs i blank_entry).gone ≡ false → live_entries (take (i + 1) xs) ≡ live_entries (take i xs) ++ pair_of (get_or xs i blank_entry) ∷ []
 live_more xs i lt here =
     ap live_entries (take_more xs i blank_entry lt)
@@ -41,9 +34,6 @@ loans_in-append s (x ∷ xs) e = ap (loan_before (stored_loan (slot_of s x))) (l
     before_append : (l : Option Loan) → loan_before l (loans_in s xs ++ loan_before (stored_loan (slot_of s e)) []) ≡ loan_before l (loans_in s xs) ++ loan_before (stored_loan (slot_of s e)) []
     before_append None = refl
     before_append (Some l) = refl
-
-pub loans_gone : (s : List (Option Stored)) (xs : List Entry) (i : ℕ) → i < length xs → (get_or xs i blank_entry).gone ≡ true → loans_in s (live_entries (take (i + 1) xs)) ≡ loans_in s (live_entries (take i xs))
-loans_gone s xs i lt gone = ap (loans_in s) (live_gone xs i lt gone)
 
 loans_here : (s : List (Option Stored)) (xs : List Entry) (i : ℕ) → i < length xs → (get_or xs i blank_entry).gone ≡ false
     → loans_in s (live_entries (take (i + 1) xs)) ≡ loans_in s (live_entries (take i xs)) ++ loan_before (stored_loan (slot_of s (pair_of (get_or xs i blank_entry)))) []

@@ -1,12 +1,8 @@
 -- A walk over all entries, row by row.
-use Rattle.std.proofs.Common.{ℕ, ◌≡◌, ◌+◌, ◌<◌, sym, ap, ◌∙◌, List, [], ◌∷◌, ◌++◌, length, get_or, take, zero, suc, arith}
-use Rattle.std.specs.Prelude.{map}
+use Rattle.std.proofs.Common.{ℕ, ◌≡◌, ◌<◌, List, [], ◌∷◌, ◌++◌, length, get_or, zero, suc, arith}
 use Rattle.std.specs.List.{AllByRecursion}
-use Rattle.std.specs.Vec.{vec_items}
 use Rattle.std.specs.declared.alloc.Global.{Global}
 use Rattle.std.specs.declared.vec.Vec.{Vec}
-use Rattle.std.proofs.lemmas.List.{take_more, map-append, append-nil}
-use Rattle.std.proofs.lemmas.List.Concat.{flat_map-append}
 use Rattle.acc_tree.specs.declared.entries.Entry.{Entry}
 use Rattle.acc_rows.specs.Laid.{side_by_side}
 
@@ -20,18 +16,6 @@ all_behind P [] ys h = h
 all_behind P (x ∷ xs) ys h = all_behind P xs ys h.1
 
 module _ {T : Type 0} where
-  -- with the next row there are its entries more
-  pub entries_more : (rows : List (Vec (Entry T) Global)) (i : ℕ) (row : Vec (Entry T) Global) → i < length rows → row ≡ get_or rows i row → side_by_side (take (i + 1) rows) ≡ side_by_side (take i rows) ++ row.items
-  entries_more rows i row lt is =
-      ap side_by_side (take_more rows i row lt)
-      ∙ flat_map-append vec_items (take i rows) (get_or rows i row ∷ [])
-      ∙ ap (λ (r : Vec (Entry T) Global). side_by_side (take i rows) ++ (r.items ++ [])) (sym is)
-      ∙ ap (λ es. side_by_side (take i rows) ++ es) (append-nil row.items)
-
-  -- and so there are of what is made of each entry
-  pub made_more : {X : Type 0} (f : Entry T → X) (rows : List (Vec (Entry T) Global)) (i : ℕ) (row : Vec (Entry T) Global) → i < length rows → row ≡ get_or rows i row → map f (side_by_side (take (i + 1) rows)) ≡ map f (side_by_side (take i rows)) ++ map f row.items
-  made_more f rows i row lt is = ap (map f) (entries_more rows i row lt is) ∙ map-append f (side_by_side (take i rows)) row.items
-
   -- what all entries have, those of a row have
   pub all_in_row : (P : Entry T → Type 0) (rows : List (Vec (Entry T) Global)) (i : ℕ) (row : Vec (Entry T) Global) → i < length rows → row ≡ get_or rows i row → AllByRecursion P (side_by_side rows) → AllByRecursion P row.items
   all_in_row P [] i row lt is h = absurd (omega arith)

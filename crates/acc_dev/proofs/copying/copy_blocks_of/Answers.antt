@@ -1,5 +1,4 @@
-use Rattle.std.proofs.Common.{◌≡◌, ◌<◌, false, length, get_or, arith}
-use Rattle.acc_dev.specs.Indexed.{blank_entry}
+use Rattle.std.proofs.Common.{arith}
 use Rattle.acc_dev.proofs.Copied.{slot_filled}
 use Rattle.acc_dev.proofs.copying.copy_blocks_of.Goals as goal
 

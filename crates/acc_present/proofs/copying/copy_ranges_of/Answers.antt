@@ -1,4 +1,4 @@
-use Rattle.std.proofs.Common.{◌<◌, ◌^◌, sym, ap, ◌∙◌, arith}
+use Rattle.std.proofs.Common.{◌<◌, ◌^◌, arith}
 use Rattle.acc_rows.proofs.Walking.{all_in_row}
 use Rattle.acc_present.proofs.copying.copy_ranges_of.Goals as goal
 

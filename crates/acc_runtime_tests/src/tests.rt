@@ -3,7 +3,7 @@
 ghost use Rattle.std.specs.Prelude.{◌≡◌};
 
 use acc_base::{Config, Fault, HOST_BASE, Section};
-use acc_runtime::{Blanks, Drilled, Runtime, blanks};
+use acc_runtime::{Blanks, Caller, Drilled, Runtime, blanks};
 use std::marker::Brand;
 use std::process::Abort;
 use std::rt::Clock;
@@ -86,9 +86,24 @@ fn play<
     requires events { (blanks.events.name ≡ Events.name) × (blanks.events.parts ≡ Events.parts) × (config.tickets ≡ Events.parts) }
 {
     let (runtime, caller) = Runtime::<Regions, Tickets, Events>::new(rt, config, blanks)?;
+    play_on(rt, &runtime, caller, scene)
+}
+
+/// Plays a scene with the first caller of a runtime.
+fn play_on<
+    Regions: Ledger + Send + Sync,
+    Tickets: Ledger + Send + Sync,
+    Events: Ledger + Send + Sync,
+    R: Abort + Clock + Threads + Wait + AllocGlobal + Sync,
+>(
+    rt: &R,
+    runtime: &Runtime<Regions, Tickets, Events>,
+    caller: Caller<Regions, Tickets, Events>,
+    scene: Scene,
+) -> Result<(), Fail> {
     let mut actor = Actor {
         rt,
-        runtime: &runtime,
+        runtime,
         caller,
     };
     act(&mut actor, scene)

@@ -60,6 +60,7 @@ impl<R: Clock> Gate<R> for Meeting {
 }
 
 /// Lets a worker take part in a meeting, under a number of its own for all that it does.
+#[derive(Drop)]
 pub struct Numbered<'a> {
     pub meeting: &'a Meeting,
     pub number: usize,

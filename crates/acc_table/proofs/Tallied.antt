@@ -129,7 +129,7 @@ event_counted w call e lawful h =
     let count : length (register_after e w.state.register).regions + (if is_left e then 1 else 0) ≡ length w.state.register.regions + (if is_entered e then 1 else 0) = regions_after w.limits e (layout_of w.state) (numbered w.state.register lawful.regions) acc.legal.names in
     record {
       limits = refl;
-      events = rw none more;
+      events = rw none (omega (arith, more));
       regions = rw (entry, exit) count;
       idle = λ nothing. absurd cc;
     }

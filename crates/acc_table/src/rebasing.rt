@@ -24,7 +24,9 @@ impl Table {
         ensures err { IfErr result (λ fault. fault ≡ Memory) }
     {
         let folded = self.trace.len() as u64;
-        self.base = self.store.base(*self.trace.allocator(), self.events())?;
+        let alloc = *self.trace.allocator();
+        let base = self.store.base(alloc, self.events())?;
+        self.base = base;
         self.trace.clear();
         Ok(folded)
     }

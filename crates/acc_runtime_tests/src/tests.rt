@@ -43,8 +43,11 @@ enum Scene {
     Eight,
     /// Callers that are split and merged, and refused by their own shares.
     Shares,
-    /// A life of an array, with what the trace ends with after each call.
-    Life,
+    /// A life of an array, with what the trace ends with after each call; where the events are folded into the base then,
+    /// or not.
+    Life {
+        folds: bool,
+    },
     /// A drill, and what it leaves.
     Drill {
         threads: usize,
@@ -105,6 +108,7 @@ fn play_on<
         rt,
         runtime,
         caller,
+        folds: false,
     };
     act(&mut actor, scene)
 }
@@ -122,7 +126,7 @@ fn act<
         Scene::Loans => calls::enter_and_lend(actor),
         Scene::Eight => eight::run_and_look(actor),
         Scene::Shares => shares::split_and_merge(actor),
-        Scene::Life => life::live(actor),
+        Scene::Life { folds } => life::live(actor, folds),
         Scene::Drill {
             threads,
             rounds,

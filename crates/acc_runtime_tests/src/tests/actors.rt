@@ -16,6 +16,8 @@ pub struct Actor<'a, Regions: Ledger, Tickets: Ledger, Events: Ledger, R> {
     pub rt: &'a R,
     pub runtime: &'a Runtime<Regions, Tickets, Events>,
     pub caller: Caller<Regions, Tickets, Events>,
+    /// Whether the events are folded into the table's base behind each look at the trace.
+    pub folds: bool,
 }
 
 /// Ends the test where what was found is not what is wanted.

@@ -37,7 +37,8 @@ fn reads(alloc: Global, table: &Table, count: u64, wanted: &str) -> Result<bool,
             let text = format!(in alloc; "{event:?}")?;
             Ok(table.events() == count && text.as_str() == wanted)
         }
-        None => Ok(false),
+        // Where all events are folded, a call that makes none leaves it so.
+        None => Ok(table.events() == count && table.base().events() == count),
     }
 }
 
@@ -55,7 +56,24 @@ fn ends<Regions: Ledger, Tickets: Ledger, Events: Ledger, R: Abort + Wait + Allo
         |table: &Table| reads(alloc, table, count, wanted),
     )?;
     same(actor.rt, (number, found), (number, true));
+    if actor.folds {
+        fold(actor, count);
+    }
     Ok(())
+}
+
+/// Folds the events into the table's base, which are so many in all.
+fn fold<Regions: Ledger, Tickets: Ledger, Events: Ledger, R: Abort + Wait + AllocGlobal>(
+    actor: &mut Actor<Regions, Tickets, Events, R>,
+    count: u64,
+) {
+    same(actor.rt, actor.runtime.rebase(actor.rt).is_ok(), true);
+    let told = actor.runtime.look(
+        actor.rt,
+        &mut actor.caller,
+        |table: &Table| (table.base().events(), table.trace().len(), table.events()),
+    );
+    same(actor.rt, told, (count, 0, count));
 }
 
 /// The n-th call was answered as it should be, and made the n-th of the wanted events.
@@ -186,7 +204,9 @@ fn in_region<Regions: Ledger, Tickets: Ledger, Events: Ledger, R: Abort + Wait +
 
 pub fn live<Regions: Ledger, Tickets: Ledger, Events: Ledger, R: Abort + Wait + AllocGlobal>(
     actor: &mut Actor<Regions, Tickets, Events, R>,
+    folds: bool,
 ) -> Result<(), Fail> {
+    actor.folds = folds;
     let mapped = actor.enter_data();
     made(actor, 1, mapped, ())?;
     let region = actor.enter(RegionClause::Present)?;
@@ -198,5 +218,10 @@ pub fn live<Regions: Ledger, Tickets: Ledger, Events: Ledger, R: Abort + Wait + 
 
 #[test]
 fn each_call_makes_its_event(rt: HostRuntime) -> Result<(), Fail> {
-    on_new_runtime(&rt, Scene::Life, limits(64, 100)?)
+    on_new_runtime(&rt, Scene::Life { folds: false }, limits(64, 100)?)
+}
+
+#[test]
+fn each_call_makes_its_event_behind_a_new_base(rt: HostRuntime) -> Result<(), Fail> {
+    on_new_runtime(&rt, Scene::Life { folds: true }, limits(64, 100)?)
 }

@@ -32,6 +32,7 @@ fn find_when_told<Regions: Ledger, Tickets: Ledger, Events: Ledger, R: Wait + Cl
         rt,
         runtime,
         caller,
+        folds: false,
     };
     meeting.before(rt, TOLD);
     let finding = (actor.state(), actor.has_everywhere(7), actor.enter_data());
@@ -90,6 +91,7 @@ fn enter<Regions: Ledger, Tickets: Ledger, Events: Ledger, R: Wait + AllocGlobal
         rt,
         runtime,
         caller,
+        folds: false,
     };
     let region = actor.enter(RegionClause::Copy);
     let Actor { caller, .. } = actor;

@@ -31,6 +31,7 @@ fn entered<Regions: Ledger, Tickets: Ledger, Events: Ledger, R: Wait + AllocGlob
         rt: actor.rt,
         runtime: actor.runtime,
         caller,
+        folds: false,
     };
     let outcome = match other.enter(RegionClause::Copy) {
         Ok(region) => other.exit_or_leave(region),

@@ -24,7 +24,8 @@ use std::alloc::Global;
 use std::marker::Model;
 
 /// The data environment of one device: both memories, the mapped ranges and blocks, the open data regions, the blocks
-/// that are lent to kernels, the queues of transfers, and the trace of all events since its base (OpenACC 3.3, sections 2.5 and 2.6).
+/// that are lent to kernels, the queues of transfers, and the trace of all events since its base (OpenACC 3.3, sections
+/// 2.5 and 2.6).
 ///
 /// One call is one event or no change. Contracts see a table as a world: its limits, its history and its state.
 #[derive(Drop)]

@@ -1,9 +1,8 @@
 //! How long calls of the table take on mapped ranges all over it.
 
-use crate::rows::tell;
-use crate::times::each_since;
-use crate::work::{Work, make_round, map_others, new_table, sixteen_bytes_at};
 use acc_base::{Fault, Section};
+use acc_bench_work::work::{Work, make_round, map_others, new_table, sixteen_bytes_at};
+use acc_bench_work::{each_since, tell};
 use acc_table::Table;
 use anyhow::Result;
 use std::alloc::Global;

@@ -1,9 +1,8 @@
 //! How long pairs of directives take where their events are folded into a base now and then, and where they are not.
 
-use crate::rows::tell;
-use crate::times::each_since;
-use crate::work::{Work, new_table, repeat, sixteen_bytes_at};
 use acc_base::Fault;
+use acc_bench_work::work::{Work, new_table, repeat, sixteen_bytes_at};
+use acc_bench_work::{each_since, tell};
 use acc_table::Table;
 use anyhow::Result;
 use std::alloc::Global;

@@ -2,10 +2,8 @@
 
 ghost use Rattle.std.specs.Prelude.{◌+◌, ◌<◌, ◌≤◌, ◌^◌};
 
-use crate::limits::largest;
-use crate::rows::tell;
-use crate::times::each_since;
 use acc_base::{Directive, EnterClause, ExitClause, Fault, HOST_BASE, Item, List, Section};
+use acc_bench_work::{each_since, largest, tell};
 use acc_clauses::{Plan, Store};
 use anyhow::Result;
 use std::alloc::{AllocError, Global};

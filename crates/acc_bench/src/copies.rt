@@ -1,6 +1,6 @@
 //! How long a plain copy takes, beside which the copies of a table are measured.
 
-use crate::times::each_since;
+use acc_bench_work::each_since;
 use anyhow::Result;
 use std::rt::Clock;
 use std::time::{Duration, Instant};

@@ -2,9 +2,8 @@
 
 ghost use Rattle.std.specs.Prelude.{◌≡◌, ◌+◌, ◌^◌, ◌≤◌, IfOk, OnOk};
 
-use crate::rows::tell;
-use crate::times::each_since;
 use acc_base::Fault;
+use acc_bench_work::{each_since, tell};
 use acc_dev::Device;
 use anyhow::Result;
 use std::alloc::Global;

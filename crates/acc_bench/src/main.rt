@@ -1,7 +1,7 @@
 //! Measures the crates of the runtime: `acc_bench placement` prints how long the calls of the placement take,
 //! `acc_bench device` those of device memory, `acc_bench present` those of the present table, `acc_bench clauses` how
-//! long directives of many items take, `acc_bench table` how long the calls of the table, `acc_bench threads`
-//! how long calls on a table that threads share, and `acc_bench script` how long scripts.
+//! long directives of many items take, `acc_bench table` how long the calls of the table, and `acc_bench script` how long
+//! scripts.
 #![tactic(auto)]
 
 mod all_over;
@@ -9,16 +9,10 @@ mod bases;
 mod clauses;
 mod copies;
 mod device;
-mod limits;
-mod pairs;
 mod placement;
 mod present;
-mod rows;
 mod script;
 mod table;
-mod threads;
-mod times;
-mod work;
 
 use anyhow::Result;
 use std::env;
@@ -44,7 +38,6 @@ fn measure<R: Print + Clock + Threads + Wait + Sync + AllocGlobal>(
         "present" => present::run(rt),
         "clauses" => clauses::run(rt),
         "table" => table::run(rt),
-        "threads" => threads::run(rt),
         "script" => script::run(rt),
         _ => tell_usage(rt),
     }
@@ -52,6 +45,6 @@ fn measure<R: Print + Clock + Threads + Wait + Sync + AllocGlobal>(
 
 /// Prints how the program is called.
 fn tell_usage<R: Print>(rt: &R) -> Result<()> {
-    println!(rt; "usage: acc_bench placement|device|present|clauses|table|threads|script")?;
+    println!(rt; "usage: acc_bench placement|device|present|clauses|table|script")?;
     Ok(())
 }

@@ -3,9 +3,8 @@
 ghost use Rattle.std.specs.Prelude.{◌≡◌, ◌+◌, ◌^◌, ◌<◌, ◌≤◌, length, IfOk};
 ghost use Rattle.acc_bench.specs.Held.{IsHeld};
 
-use crate::rows::tell;
-use crate::times::each_since;
 use acc_base::{DEVICE_BASE, Fault};
+use acc_bench_work::{each_since, tell};
 use acc_placement::Holes;
 use anyhow::Result;
 use std::alloc::Global;

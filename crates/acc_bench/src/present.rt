@@ -4,9 +4,8 @@ ghost use Rattle.std.specs.Prelude.{◌+◌, ◌*◌, ◌<◌, ◌≤◌, ◌^�
 ghost use Rattle.std.specs.List.{AllByRecursion};
 ghost use Rattle.acc_present.specs.Present.{HasRange};
 
-use crate::rows::tell;
-use crate::times::each_since;
 use acc_base::{Counters, Fault, Found, HOST_BASE, Section};
+use acc_bench_work::{each_since, tell};
 use acc_present::{Hint, Located, Present};
 use anyhow::Result;
 use std::alloc::Global;

@@ -1,8 +1,6 @@
 //! How long scripts take.
 
-use crate::limits::largest;
-use crate::rows::tell;
-use crate::times::each_since;
+use acc_bench_work::{each_since, largest, tell};
 use acc_script::{MemorySink, MemorySource, Status, run as run_script};
 use anyhow::Result;
 use std::alloc::{AllocError, Global};

@@ -1,10 +1,12 @@
 //! How long the calls of `acc_table` take.
 
 use crate::copies::time_copies;
-use crate::rows::tell;
-use crate::work::{Work, map, map_others, new_table, repeat, sixteen_bytes_at, time, write};
 use crate::{all_over, bases};
 use acc_base::{EnterClause, Fault, HOST_BASE, Section};
+use acc_bench_work::tell;
+use acc_bench_work::work::{
+    Work, map, map_others, new_table, repeat, sixteen_bytes_at, time, write,
+};
 use acc_table::Table;
 use anyhow::Result;
 use std::alloc::Global;

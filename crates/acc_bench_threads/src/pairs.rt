@@ -1,8 +1,9 @@
 //! Threads that map and unmap bytes of their own, on a table that they share.
 
-use crate::times::each_since;
-use crate::work::{only_item, sixteen_bytes_at};
+use crate::settings::{Setting, play};
 use acc_base::{EnterClause, ExitClause, Fault};
+use acc_bench_work::each_since;
+use acc_bench_work::work::{Work, new_table, only_item, repeat, sixteen_bytes_at};
 use acc_runtime::{Caller, Runtime};
 use anyhow::{Result, anyhow};
 use std::rt::Clock;
@@ -13,6 +14,51 @@ use std::time::{Duration, Instant};
 
 /// How many pairs each thread makes.
 const PAIRS: u32 = 10_000;
+
+/// How often a time is taken on a table alone. The least is told.
+const TRIES: u32 = 5;
+
+/// Prints how long a pair of `enter data` and `exit data` takes on a table alone, and then, five times each, on one that
+/// 1, 2 and 4 threads share.
+pub fn run<R: Print + Clock + Threads + Wait + Sync + AllocGlobal>(rt: &R) -> Result<()> {
+    tell(rt, "a pair on a table alone", 1, least_alone(rt)?)?;
+    for threads in [1, 2, 4] {
+        for _ in 0..TRIES {
+            play(rt, Setting::Pairs { threads })?;
+        }
+    }
+    Ok(())
+}
+
+/// Prints how long a round takes, and how many there are in a second.
+pub fn tell<R: Print>(rt: &R, name: &str, threads: usize, taken: Duration) -> Result<()> {
+    let second = 1_000_000_000 / taken.as_nanos().max(1);
+    println!(rt; "threads {threads}: {name} {taken:?}, {second} in a second")?;
+    Ok(())
+}
+
+/// The least time of a pair on a table of its own.
+fn least_alone<R: Clock + AllocGlobal>(rt: &R) -> Result<Duration> {
+    let mut least = Duration::MAX;
+    for _ in 0..TRIES {
+        least = least.min(time_alone(rt)?);
+    }
+    Ok(least)
+}
+
+/// How long a pair takes on a table of its own.
+fn time_alone<R: Clock + AllocGlobal>(rt: &R) -> Result<Duration> {
+    let mut table = new_table(rt.alloc())?;
+    let start = Instant::now(rt)?;
+    repeat(
+        &mut table,
+        rt.alloc(),
+        Work::Data,
+        sixteen_bytes_at(0),
+        PAIRS,
+    )?;
+    each_since(rt, start, PAIRS, 0)
+}
 
 /// Maps the bytes of a thread by `enter data`, and unmaps them by `exit data`.
 fn make_pair<Regions: Ledger, Tickets: Ledger, Events: Ledger, R: Wait + AllocGlobal>(
@@ -63,41 +109,51 @@ fn make_all<
     );
 }
 
-/// A caller for each thread, with as many tickets as its pairs need.
-fn split<Regions: Ledger, Tickets: Ledger, Events: Ledger, R: AllocGlobal>(
+/// A caller for each thread, with so many regions and tickets.
+pub fn split<Regions: Ledger, Tickets: Ledger, Events: Ledger, R: AllocGlobal>(
     rt: &R,
     caller: &mut Caller<Regions, Tickets, Events>,
     threads: usize,
+    regions: u64,
+    tickets: u64,
 ) -> Result<Vec<Caller<Regions, Tickets, Events>>, Fault> {
     let mut callers = Vec::new(rt.alloc());
     for _ in 0..threads {
-        callers.push(caller.split(0, 2 * PAIRS as u64)?)?;
+        callers.push(caller.split(regions, tickets)?)?;
     }
     Ok(callers)
 }
 
-/// How long a pair of one thread takes, where all threads made all of theirs.
+/// Takes the shares of all callers back.
+pub fn merge<Regions: Ledger, Tickets: Ledger, Events: Ledger>(
+    caller: &mut Caller<Regions, Tickets, Events>,
+    callers: Vec<Caller<Regions, Tickets, Events>>,
+) {
+    for other in callers {
+        caller.merge(other);
+    }
+}
+
+/// Prints how long a pair of one thread takes, where all threads made all of theirs.
 pub fn time_pairs<
     Regions: Ledger + Send + Sync,
     Tickets: Ledger + Send + Sync,
     Events: Ledger + Send + Sync,
-    R: Clock + Threads + Wait + Sync + AllocGlobal,
+    R: Print + Clock + Threads + Wait + Sync + AllocGlobal,
 >(
     rt: &R,
     runtime: &Runtime<Regions, Tickets, Events>,
-    mut caller: Caller<Regions, Tickets, Events>,
+    caller: &mut Caller<Regions, Tickets, Events>,
     threads: usize,
-) -> Result<Duration> {
+) -> Result<()> {
     let threads = threads.clamp(1, 64);
-    let mut callers = split(rt, &mut caller, threads)?;
+    let mut callers = split(rt, caller, threads, 0, 2 * PAIRS as u64)?;
     let start = Instant::now(rt)?;
     make_all(rt, runtime, callers.as_mut_slice());
     let taken = each_since(rt, start, PAIRS * threads as u32, 0)?;
-    for other in callers {
-        caller.merge(other);
-    }
+    merge(caller, callers);
     if caller.made() != 2 * PAIRS as u64 * threads as u64 {
         return Err(anyhow!("a pair was refused"));
     }
-    Ok(taken)
+    tell(rt, "a pair on a shared table", threads, taken)
 }

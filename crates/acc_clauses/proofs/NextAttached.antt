@@ -30,7 +30,7 @@ module _ (block : ℕ) (s : Section) where
           → (b : Bool) → (x.block == block) ≡ b → (t : Bool) → nat_le s.start x.pointer ≡ t
           → option_map (λ (a : Attachment). a.pointer) (cond (b && t) (Some x) (find (λ a. a.block == block && nat_le s.start a.pointer) xs)) ≡ Some p
           → cond (b && (t && nat_lt x.pointer (end_of s))) (Some x) (find begins xs)
-              ≡ Some (record { block = block; pointer = p; count = unwrap_or (option_map (λ (a : Attachment). a.count) (cond (b && x.pointer == p) (Some x) (find (is_of block p) xs))) 0 })
+          ≡ Some (record { block = block; pointer = p; count = unwrap_or (option_map (λ (a : Attachment). a.count) (cond (b && x.pointer == p) (Some x) (find (is_of block p) xs))) 0 })
       go rest low true f true g h =
           let is : x.pointer ≡ p = cc in
           let inside : nat_lt x.pointer (end_of s) ≡ true = grind (arith, nat_tests) in

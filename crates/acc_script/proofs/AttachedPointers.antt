@@ -65,6 +65,7 @@ module _ (block : ℕ) where
       above : IsBefore x y → y.block ≡ block → x.pointer < y.pointer
       above (inl k) e = absurd (omega arith)
       above (inr k) e = k.1
+
       go : filter (begins s) ys ≡ filter (begins (behind s x)) ys → (b : Bool) → (y.block == block) ≡ b
           → cond (b && covers s y.pointer) (y ∷ filter (begins s) ys) (filter (begins s) ys) ≡ cond (b && covers (behind s x) y.pointer) (y ∷ filter (begins (behind s x)) ys) (filter (begins (behind s x)) ys)
       go rest true e =

@@ -30,11 +30,7 @@ const SHORT: Limits = Limits {
 const LIFE: &[(Deed, u64, usize)] = &[
     (Turn(Enter(&[(RegionClause::Copyin, A, 16)]), FIRST), 1, 1),
     (Turn(UpdateLater(&[(ToSelf, A, 16)], 0), DONE), 2, 2),
-    (
-        Turn(Wait(None), Refused(Fault::TraceFull { len: 2 })),
-        2,
-        2,
-    ),
+    (Turn(Wait(None), Refused(Fault::TraceFull { len: 2 })), 2, 2),
     (Rebase(2), 2, 0),
     (
         Turn(
@@ -92,7 +88,12 @@ fn a_full_trace_has_room_after_a_rebase(rt: HostRuntime) -> Result<(), Fail> {
         act(&rt, &mut table, deed)?;
         let found = (table.events(), table.trace().len());
         same(&rt, "a short trace", found, (events, stored));
-        same(&rt, "a short trace", table.base().events(), events - stored as u64);
+        same(
+            &rt,
+            "a short trace",
+            table.base().events(),
+            events - stored as u64,
+        );
     }
     check_one(&rt, "a short trace", &table, Check::Present((A, 16), false));
     Ok(())

@@ -81,20 +81,30 @@ fn act(rt: &(impl Abort + AllocGlobal), table: &mut Table, deed: Deed) -> Result
     Ok(())
 }
 
+/// Compares how many events there are in all, in the trace, and before the base.
+fn check_counts(rt: &impl Abort, table: &Table, events: u64, stored: usize) {
+    let found = (table.events(), table.trace().len(), table.base().events());
+    same(
+        rt,
+        "a short trace",
+        found,
+        (events, stored, events.saturating_sub(stored as u64)),
+    );
+}
+
+/// Does all of it, with the counts behind each.
+fn live(rt: &(impl Abort + AllocGlobal), table: &mut Table) -> Result<(), Fault> {
+    for &(deed, events, stored) in LIFE {
+        act(rt, table, deed)?;
+        check_counts(rt, table, events, stored);
+    }
+    Ok(())
+}
+
 #[test]
 fn a_full_trace_has_room_after_a_rebase(rt: HostRuntime) -> Result<(), Fail> {
     let mut table = table_of(rt.alloc(), SHORT)?;
-    for &(deed, events, stored) in LIFE {
-        act(&rt, &mut table, deed)?;
-        let found = (table.events(), table.trace().len());
-        same(&rt, "a short trace", found, (events, stored));
-        same(
-            &rt,
-            "a short trace",
-            table.base().events(),
-            events - stored as u64,
-        );
-    }
+    live(&rt, &mut table)?;
     check_one(&rt, "a short trace", &table, Check::Present((A, 16), false));
     Ok(())
 }
@@ -120,18 +130,28 @@ fn is_of_trace(check: Check) -> bool {
     matches!(check, Check::Step(..) | Check::Aim(..))
 }
 
-/// All turns of a row are answered, and all queries answer, as without a rebase.
-fn run_row(rt: &(impl Abort + AllocGlobal), row: &Row) -> Result<(), Fault> {
-    let mut table = table_of(rt.alloc(), row.limits)?;
-    let mut leases = Vec::new(rt.alloc());
-    let outcome = take_turns(rt, &mut table, row, &mut leases);
-    abandon_all(leases);
-    outcome?;
+/// All queries that are not answered from the trace answer as without a rebase.
+fn check_rest(rt: &impl Abort, row: &Row, table: &Table) {
     for &check in row.checks {
         if !is_of_trace(check) {
-            check_one(rt, row.name, &table, check);
+            check_one(rt, row.name, table, check);
         }
     }
+}
+
+/// All turns of a row are answered as without a rebase.
+fn run_on(rt: &(impl Abort + AllocGlobal), row: &Row, table: &mut Table) -> Result<(), Fault> {
+    let mut leases = Vec::new(rt.alloc());
+    let outcome = take_turns(rt, table, row, &mut leases);
+    abandon_all(leases);
+    outcome
+}
+
+/// Takes the turns of a row on a new table.
+fn run_row(rt: &(impl Abort + AllocGlobal), row: &Row) -> Result<(), Fault> {
+    let mut table = table_of(rt.alloc(), row.limits)?;
+    run_on(rt, row, &mut table)?;
+    check_rest(rt, row, &table);
     Ok(())
 }
 

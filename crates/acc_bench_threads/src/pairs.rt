@@ -65,9 +65,9 @@ fn make_pair<Regions: Ledger, Tickets: Ledger, Events: Ledger, R: Wait + AllocGl
     rt: &R,
     runtime: &Runtime<Regions, Tickets, Events>,
     caller: &mut Caller<Regions, Tickets, Events>,
-    thread: u32,
+    thread: usize,
 ) -> Result<(), Fault> {
-    let section = sixteen_bytes_at(thread);
+    let section = sixteen_bytes_at((thread % 64) as u32);
     let items = only_item(rt.alloc(), EnterClause::Copyin, section)?;
     runtime.enter_data(rt, caller, items, None)?;
     let items = only_item(rt.alloc(), ExitClause::Delete, section)?;
@@ -79,7 +79,7 @@ fn make_pairs<Regions: Ledger, Tickets: Ledger, Events: Ledger, R: Wait + AllocG
     rt: &R,
     runtime: &Runtime<Regions, Tickets, Events>,
     caller: &mut Caller<Regions, Tickets, Events>,
-    thread: u32,
+    thread: usize,
 ) -> Result<(), Fault> {
     for _ in 0..PAIRS {
         make_pair(rt, runtime, caller, thread)?;
@@ -104,7 +104,7 @@ fn make_all<
         callers,
         threads,
         &|thread, caller| {
-            let _ = make_pairs(rt, runtime, caller, thread as u32);
+            let _ = make_pairs(rt, runtime, caller, thread);
         },
     );
 }

@@ -38,7 +38,7 @@ const CALLS: [(&str, Call); 4] = [
 
 /// Prints, for growing numbers of mapped ranges of 16 bytes, how long calls take on one of them, another in each round.
 pub fn run<R: Print + Clock + AllocGlobal>(rt: &R) -> Result<()> {
-    for count in [1, 1_000, 10_000] {
+    for count in [1, 1_000, 10_000, 100_000] {
         measure(rt, count)?;
     }
     Ok(())

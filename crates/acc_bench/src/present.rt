@@ -4,7 +4,7 @@ ghost use Rattle.std.specs.Prelude.{◌+◌, ◌*◌, ◌<◌, ◌≤◌, ◌^�
 ghost use Rattle.std.specs.List.{AllByRecursion};
 ghost use Rattle.acc_present.specs.Present.{HasRange};
 
-use acc_base::{Counters, Fault, Found, HOST_BASE, Section};
+use acc_base::{Counters, Fault, Found, HOST_BASE, Range, Section};
 use acc_bench_work::{each_since, tell};
 use acc_present::{Hint, Located, Present};
 use anyhow::Result;
@@ -29,8 +29,8 @@ const LEN: u64 = 16;
 const STEP: u64 = 32;
 
 /// Prints, for growing numbers of mapped ranges, how long a look-up of a section takes that is inside one of them and
-/// of one that is absent, beside them a plain search by halves over as many starts, and how long it takes to add a range
-/// and to remove one, behind all others and in the middle.
+/// of one that is absent, beside them plain searches by halves over as many starts and over as many ranges, and how long
+/// it takes to add a range and to remove one, behind all others and in the middle.
 pub fn run<R: Print + Clock + AllocGlobal>(rt: &R) -> Result<()> {
     for count in [100, 1_000, 10_000, 100_000] {
         measure(rt, count)?;
@@ -67,11 +67,13 @@ fn measure_look_ups<R: Print + Clock + AllocGlobal>(
 ) -> Result<()> {
     let inside = time_look_ups(rt, present, count, 0)?;
     let absent = time_look_ups(rt, present, count, STRIDE / 2)?;
-    let plain = time_plain(rt, count)?;
+    let starts = time_starts(rt, count)?;
+    let ranges = time_ranges(rt, count)?;
     let rows = [
         ("find inside", inside),
         ("find absent", absent),
-        ("a plain search by halves", plain),
+        ("a plain search by halves over starts", starts),
+        ("a plain search by halves over ranges", ranges),
     ];
     tell(rt, "present: ranges", count, &rows)
 }
@@ -260,7 +262,7 @@ fn mapped(present: &Present, section: Section) -> u64 {
 }
 
 /// How long a plain search by halves lasts, over as many starts.
-fn time_plain<R: Clock + AllocGlobal>(rt: &R, count: u64) -> Result<Duration> {
+fn time_starts<R: Clock + AllocGlobal>(rt: &R, count: u64) -> Result<Duration> {
     let starts = make_starts(rt.alloc(), count)?;
     time_searches(rt, &starts, count)
 }
@@ -280,4 +282,53 @@ fn search(starts: &[u64], count: u64) -> u64 {
         found = found.wrapping_add(u64::from(starts.binary_search(&start).is_ok()));
     }
     found
+}
+
+/// As many ranges, by rising start.
+fn make_ranges(alloc: Global, count: u64) -> Result<Vec<Range>, Fault> {
+    let mut ranges = Vec::new(alloc);
+    for index in 0..count {
+        ranges.push(Range {
+            section: section_at(start_at(index)),
+            block: index,
+            structured: 0,
+            dynamic: 1,
+        })?;
+    }
+    Ok(ranges)
+}
+
+/// How long a plain search by halves lasts, over as many ranges.
+fn time_ranges<R: Clock + AllocGlobal>(rt: &R, count: u64) -> Result<Duration> {
+    let ranges = make_ranges(rt.alloc(), count)?;
+    time_range_searches(rt, &ranges, count)
+}
+
+/// How long a plain search by halves lasts, over these ranges.
+fn time_range_searches<R: Clock>(rt: &R, ranges: &[Range], count: u64) -> Result<Duration> {
+    let start = Instant::now(rt)?;
+    let found = search_ranges(ranges, count);
+    each_since(rt, start, ROUNDS as u32, found)
+}
+
+/// Searches sections all over the ranges, and answers how many are inside one.
+fn search_ranges(ranges: &[Range], count: u64) -> u64 {
+    let mut found = 0u64;
+    for round in 0..ROUNDS {
+        let start = start_at(place_of(round, count));
+        found = found.wrapping_add(held(ranges, Section { start, len: 8 }));
+    }
+    found
+}
+
+/// 1 where the section is inside the last range that begins at or before its start, and else 0.
+fn held(ranges: &[Range], section: Section) -> u64 {
+    let behind = ranges.partition_point(|range| range.section.start <= section.start);
+    match ranges.get(behind.wrapping_sub(1)) {
+        Some(range) => {
+            let offset = section.start.wrapping_sub(range.section.start);
+            u64::from(offset.wrapping_add(section.len) <= range.section.len)
+        }
+        None => 0,
+    }
 }

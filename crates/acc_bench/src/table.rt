@@ -33,7 +33,7 @@ enum Subject {
 }
 
 /// All that is measured.
-const SUBJECTS: [Subject; 8] = [
+const SUBJECTS: [Subject; 9] = [
     Subject::Updates {
         len: 65_536,
         rounds: ROUNDS,
@@ -46,6 +46,7 @@ const SUBJECTS: [Subject; 8] = [
     Subject::Mappings { count: 0 },
     Subject::Mappings { count: 1_000 },
     Subject::Mappings { count: 10_000 },
+    Subject::Mappings { count: 100_000 },
     Subject::Queues { count: 0 },
     Subject::Queues { count: 10_000 },
 ];

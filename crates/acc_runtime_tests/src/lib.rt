@@ -3,8 +3,27 @@
 #![tactic(auto)]
 
 #[cfg(test)]
+mod calls;
+#[cfg(test)]
+mod eight;
+#[cfg(test)]
 mod example;
+#[cfg(test)]
+mod meetings;
+#[cfg(test)]
+mod messages;
 #[cfg(test)]
 mod parts;
 #[cfg(test)]
-mod tests;
+mod shares;
+
+#[cfg(test)]
+use std::fmt::Debug;
+#[cfg(test)]
+use std::process::Abort;
+
+/// Ends the test where what was found is not what is wanted.
+#[cfg(test)]
+fn same<T: PartialEq + Debug + Copy>(rt: &impl Abort, found: T, wanted: T) {
+    assert_eq!(rt; found, wanted);
+}

@@ -1,8 +1,8 @@
 //! Two parts of a kernel that work at the same time.
 
-use crate::tests::gates::Meeting;
 use acc_base::Fault;
 use acc_lend::{Cuts, Gate, Lease, Number, run_parts};
+use acc_runtime_scenes::Meeting;
 use std::process::Abort;
 use std::rt::Clock;
 use std::sync::Wait;

@@ -5,7 +5,7 @@ ghost use Rattle.std.specs.Prelude.{◌≤◌};
 
 use acc_base::{Config, Fault, ScriptFault};
 use acc_script::{MemorySink, MemorySource, Status, run};
-use faults::{FAULTS, LONG, Long, PIECES, TEXTS};
+use faults::{FAULTS, INPUTS, LONG, Long, PIECES, TEXTS};
 use kernels::{KERNELS, SCARCE};
 use pointers::POINTERS;
 use queues::QUEUES;
@@ -17,6 +17,7 @@ use std::sync::Wait;
 use std::test::Fail;
 use std::thread::Threads;
 
+mod cuts;
 mod ends;
 mod faults;
 mod kernels;
@@ -253,6 +254,14 @@ fn lines_at_fault_are_told(rt: HostRuntime) -> Result<(), Fail> {
         for line in lines {
             check_fault(&rt, kind, line)?;
         }
+    }
+    Ok(())
+}
+
+#[test]
+fn inputs_at_fault_are_told(rt: HostRuntime) -> Result<(), Fail> {
+    for &(input, end) in &INPUTS {
+        check(&rt, &WIDE, 1, input, "", end)?;
     }
     Ok(())
 }

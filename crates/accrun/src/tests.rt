@@ -116,6 +116,26 @@ fn scripts_print_and_end_as_they_should(rt: HostRuntime) -> Result<(), Fail> {
     Ok(())
 }
 
+/// Runs a line of 4,097 bytes, and compares.
+fn check_long_line<R: Threads + Wait + Sync + AllocGlobal + Abort>(
+    rt: &R,
+    out: &mut MemorySink,
+    err: &mut MemorySink,
+) -> Result<(), AllocError> {
+    let line = "#".repeat(rt.alloc(), 4_097)?;
+    let found = run_tool(rt, "", &line, out, err)?;
+    check_status(rt, err, found, "accrun: line 1: TooLong\n", 2, "a long line");
+    Ok(())
+}
+
+#[test]
+fn a_line_that_is_too_long_is_told(rt: HostRuntime) -> Result<(), Fail> {
+    let mut out = MemorySink::new(rt.alloc());
+    let mut err = MemorySink::new(rt.alloc());
+    check_long_line(&rt, &mut out, &mut err)?;
+    Ok(())
+}
+
 /// Command lines with an empty script, their status, and whether standard error gets text.
 const COMMAND_LINES: [(&str, u8, bool); 17] = [
     ("--host 16 --device 67108864", 0, false),

@@ -1,7 +1,8 @@
 //! What is left where a source, a sink or memory fails, and that the ends of std can be used.
 
+use super::queues::ENDED_BLOCK;
 use super::rows::WIDE;
-use super::{Limits, config, same};
+use super::{Limits, REFUSED, Row, answer_of, config, same};
 use acc_base::{Config, Fault};
 use acc_script::{FromRead, MemorySink, MemorySource, Sink, Source, Status, ToWrite, report, run};
 use acc_table::Table;
@@ -143,7 +144,7 @@ impl<'a> Source for Trickle<'a> {
 /// Takes bytes one by one into its place, and then fails or takes none.
 #[derive(Drop)]
 struct Narrow {
-    bytes: [u8; 256],
+    bytes: [u8; 512],
     len: usize,
     room: usize,
     fails: bool,
@@ -152,18 +153,23 @@ struct Narrow {
 impl Narrow {
     fn new(room: usize, fails: bool) -> Narrow {
         Narrow {
-            bytes: [0; 256],
+            bytes: [0; 512],
             len: 0,
-            room: room.min(256),
+            room: room.min(512),
             fails,
         }
+    }
+
+    /// What it took.
+    fn taken(&self) -> Option<&[u8]> {
+        self.bytes.get(..self.len)
     }
 }
 
 impl Sink for Narrow {
     fn write(&mut self, piece: &[u8]) -> Option<usize> {
         match piece.first() {
-            Some(first) if self.len < self.room && self.len < 256 => {
+            Some(first) if self.len < self.room && self.len < 512 => {
                 self.bytes[self.len] = *first;
                 self.len += 1;
                 Some(1)
@@ -174,88 +180,126 @@ impl Sink for Narrow {
     }
 }
 
-/// A script that takes memory for its input, its names, its bytes, its items, its events, its region and its loan.
-const SCRIPT: &[u8; 123] =
-    b"array a 16\narray b 16\nwrite a[0] 0102\nshow a[0:2]\ndata copyin(b)\nreport\nkernel add 1 b\n\
-        enter data copyin(b[8:16])\nend data\n";
-
-/// What it prints, and a zero: 5 bytes for those shown, 103 for the report, and 40 for the refusal.
-const PRINTED: &[u8; 149] =
-    b"0102\nhost 65536 device 65536 used 16\nmap 0x1010 16 at 0x100000000 structured 1 dynamic 0\nregions 1 events 2\n\
-        line 8: refused 10 PartlyPresent item 0\n\0";
+/// A script that takes memory for its input, its names, its bytes, its items, its events, its region and its loan. It
+/// prints 5 bytes for those shown, 103 for the report, and 40 for the refusal.
+const LOAN: Row = (
+    "array a 16\narray b 16\nwrite a[0] 0102\nshow a[0:2]\ndata copyin(b)\nreport\nkernel add 1 b\n\
+        enter data copyin(b[8:16])\nend data\n",
+    "0102\nhost 65536 device 65536 used 16\nmap 0x1010 16 at 0x100000000 structured 1 dynamic 0\nregions 1 events 2\n\
+        line 8: refused 10 PartlyPresent item 0\n",
+    REFUSED,
+);
 
 /// Runs the script from a source that gives its bytes one by one, and compares the answer and how much was printed.
 fn check_trickle<R: Abort + Threads + Wait + Sync + AllocGlobal>(
     rt: &R,
+    row: Row,
+    given: usize,
     fails: bool,
-    answer: Result<Status, Fault>,
-    len: usize,
 ) -> Result<(), Fault> {
     let config = config(&WIDE)?;
     let mut reader = Trickle {
-        bytes: SCRIPT,
+        bytes: &row.0.as_bytes()[..given.min(row.0.len())],
         fails,
     };
-    let mut writer = Narrow::new(256, true);
+    let mut writer = Narrow::new(512, true);
     let got = run(rt, &mut reader, &mut writer, config, 1);
-    same(rt, got, answer, fails);
-    same(rt, writer.len, len, fails);
+    let (answer, len) = if fails {
+        (Err(Fault::Read), 0)
+    } else {
+        (answer_of(row.2), row.1.len())
+    };
+    same(rt, got, answer, given);
+    same(rt, writer.len, len, given);
     Ok(())
 }
 
+/// Runs the script from a source that fails behind each of its bytes in turn, and from one that does not fail.
+fn check_failing_reads<R: Abort + Threads + Wait + Sync + AllocGlobal>(
+    rt: &R,
+    row: Row,
+) -> Result<(), Fault> {
+    for given in 0..row.0.len() {
+        check_trickle(rt, row, given, true)?;
+    }
+    check_trickle(rt, row, row.0.len(), true)?;
+    check_trickle(rt, row, row.0.len(), false)
+}
+
 #[test]
-fn a_slow_source_is_read(rt: HostRuntime) -> Result<(), Fail> {
-    check_trickle(&rt, false, Ok(Status::Refused), 148)?;
-    check_trickle(&rt, true, Err(Fault::Read), 0)?;
+fn a_source_may_fail_anywhere(rt: HostRuntime) -> Result<(), Fail> {
+    check_failing_reads(&rt, LOAN)?;
+    check_failing_reads(&rt, ENDED_BLOCK)?;
     Ok(())
 }
 
 /// Runs the script into a sink of this room, which then fails, and compares what it took.
 fn check_narrow<R: Abort + Threads + Wait + Sync + AllocGlobal>(
     rt: &R,
+    row: Row,
     room: usize,
     fails: bool,
 ) -> Result<(), Fault> {
     let config = config(&WIDE)?;
-    let mut reader = MemorySource::new(SCRIPT);
+    let mut reader = MemorySource::new(row.0.as_bytes());
     let mut writer = Narrow::new(room, fails);
     let got = run(rt, &mut reader, &mut writer, config, 1);
     same(rt, got, Err(Fault::Write), room);
-    same(rt, writer.len, room, room);
-    assert!(rt; room <= 148);
-    same(rt, &writer.bytes[..room], &PRINTED[..room], room);
+    same(rt, writer.taken(), row.1.as_bytes().get(..room), room);
+    Ok(())
+}
+
+/// Runs the script into sinks that fail, or take no more, behind each byte of what it prints in turn.
+fn check_failing_writes<R: Abort + Threads + Wait + Sync + AllocGlobal>(
+    rt: &R,
+    row: Row,
+) -> Result<(), Fault> {
+    for room in 0..row.1.len() {
+        check_narrow(rt, row, room, false)?;
+        check_narrow(rt, row, room, true)?;
+    }
     Ok(())
 }
 
 #[test]
 fn a_sink_may_fail_anywhere(rt: HostRuntime) -> Result<(), Fail> {
-    for room in 0..148usize {
-        check_narrow(&rt, room, false)?;
-        check_narrow(&rt, room, true)?;
-    }
+    check_failing_writes(&rt, LOAN)?;
+    check_failing_writes(&rt, ENDED_BLOCK)?;
     Ok(())
 }
 
 /// Compares what was printed where memory may have been wanting: then the text of the first lines stands, and else all.
-fn check_front<R: Abort>(rt: &R, got: Result<Status, Fault>, writer: &Narrow) {
+fn check_front<R: Abort>(rt: &R, row: Row, got: Result<Status, Fault>, writer: &Narrow) {
     let len = writer.len;
-    let is_front = match got {
-        Ok(Status::Refused) => len == 148,
-        Err(Fault::Memory) => [0, 5, 108, 148].contains(&len),
-        _ => false,
-    };
-    assert!(rt; is_front, "{got:?} at {len}");
-    assert!(rt; len <= 149);
-    same(rt, &writer.bytes[..len], &PRINTED[..len], len);
+    match got {
+        Err(Fault::Memory) => {
+            same(rt, writer.taken(), row.1.as_bytes().get(..len), len);
+            let is_line = len == 0 || row.1.as_bytes().get(len.wrapping_sub(1)) == Some(&b'\n');
+            assert!(rt; is_line, "{len} bytes are no lines");
+        }
+        answer => {
+            same(rt, answer, answer_of(row.2), len);
+            same(rt, writer.taken(), Some(row.1.as_bytes()), len);
+        }
+    }
 }
 
-/// With `rt try --test --fail-alloc N` the growth N is refused.
-#[test]
-fn each_growth_may_be_refused(rt: HostRuntime) -> Result<(), Fail> {
+/// Runs the script where memory may be wanting.
+fn check_scarce<R: Abort + Threads + Wait + Sync + AllocGlobal>(
+    rt: &R,
+    row: Row,
+) -> Result<(), Fault> {
     let config = config(&WIDE)?;
-    let mut reader = MemorySource::new(SCRIPT);
-    let mut writer = Narrow::new(256, true);
-    let got = run(&rt, &mut reader, &mut writer, config, 1);
-    check_front(&rt, got, &writer);
+    let mut reader = MemorySource::new(row.0.as_bytes());
+    let mut writer = Narrow::new(512, true);
+    let got = run(rt, &mut reader, &mut writer, config, 1);
+    check_front(rt, row, got, &writer);
+    Ok(())
+}
+
+#[test]
+fn a_refused_growth_leaves_the_text_of_the_first_lines(rt: HostRuntime) -> Result<(), Fail> {
+    check_scarce(&rt, LOAN)?;
+    check_scarce(&rt, ENDED_BLOCK)?;
     Ok(())
 }

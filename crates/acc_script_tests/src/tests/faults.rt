@@ -207,6 +207,41 @@ pub const FAULTS: [(ScriptFault, &[&str]); 6] = [
     ),
 ];
 
+/// Inputs that are at fault, or nearly so, how they end, and where a fault is.
+pub const INPUTS: [(&[u8], End); 16] = [
+    (b"# \x80", CLEAN),
+    (b"\x80", Err((1, ScriptFault::NotText))),
+    (b"\xff\n", Err((1, ScriptFault::NotText))),
+    (b"report\x7f # \x00\n", Err((1, ScriptFault::NotText))),
+    (b"array a 0", Err((1, ScriptFault::Number))),
+    (b"array a 4294967296", Err((1, ScriptFault::Number))),
+    (b"array a 4294967295", Err((1, ScriptFault::HostFull))),
+    (
+        b"array a 65536\narray b 1\n",
+        Err((2, ScriptFault::HostFull)),
+    ),
+    (b"array a 65536", CLEAN),
+    (
+        b"array a 16\nwrite a[0] 012\n",
+        Err((2, ScriptFault::Number)),
+    ),
+    (
+        b"array a 16\narray a 16\n",
+        Err((2, ScriptFault::NameTaken)),
+    ),
+    (b"show b", Err((1, ScriptFault::UnknownName))),
+    (b"end data", Err((1, ScriptFault::NoOpenRegion))),
+    (
+        b"array a 16\ndata create(a)\n",
+        Err((3, ScriptFault::Unclosed)),
+    ),
+    (
+        b"array a 16\ndata create(a)",
+        Err((3, ScriptFault::Unclosed)),
+    ),
+    (b"\n\r\n\r", CLEAN),
+];
+
 /// The parts of a script, what it prints, and how it ends.
 pub type Long = (Parts<'static>, &'static str, End);
 

@@ -2,17 +2,19 @@
 
 use super::{CLEAN, REFUSED, Row};
 
+/// A block whose mapping has ended stays until the queued copy out of it is made, with the bytes of that moment.
+pub const ENDED_BLOCK: Row = (
+    "array a 16\nwrite a[0] 07\nenter data copyin(a)\nwrite a[0] 09\nexit data copyout(a) async(1)\n\
+        enter data create(a)\nreport\nshow a[0:1]\nwait(1)\nshow a[0:1]\nreport\n",
+    "host 65536 device 65536 used 32\nmap 0x1000 16 at 0x100000010 structured 0 dynamic 1\n\
+        ended 0x100000000 16 pins 1\nqueue 1 length 1\nregions 0 events 5\n09\n07\n\
+        host 65536 device 65536 used 16\nmap 0x1000 16 at 0x100000010 structured 0 dynamic 1\nregions 0 events 6\n",
+    CLEAN,
+);
+
 /// Scripts with queues within wide limits.
 pub const QUEUES: &[Row] = &[
-    // A block whose mapping has ended stays until the queued copy out of it is made, with the bytes of that moment.
-    (
-        "array a 16\nwrite a[0] 07\nenter data copyin(a)\nwrite a[0] 09\nexit data copyout(a) async(1)\n\
-            enter data create(a)\nreport\nshow a[0:1]\nwait(1)\nshow a[0:1]\nreport\n",
-        "host 65536 device 65536 used 32\nmap 0x1000 16 at 0x100000010 structured 0 dynamic 1\n\
-            ended 0x100000000 16 pins 1\nqueue 1 length 1\nregions 0 events 5\n09\n07\n\
-            host 65536 device 65536 used 16\nmap 0x1000 16 at 0x100000010 structured 0 dynamic 1\nregions 0 events 6\n",
-        CLEAN,
-    ),
+    ENDED_BLOCK,
     // The first queue is meant where none is numbered; each step makes one transfer, and an empty queue is idle.
     (
         "array a 1\nwrite a[0] 01\nenter data copyin(a)\nupdate self(a) device(a) async\nwrite a[0] 02\n\

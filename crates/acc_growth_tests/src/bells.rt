@@ -1,0 +1,105 @@
+//! A worker that is told which queues to serve.
+
+use crate::again::{lacked, told, twice};
+use crate::same;
+use acc_base::{Fault, UpdateClause};
+use acc_runtime::{Open, Served, serve};
+use acc_runtime_scenes::{Actor, Scene, bells};
+use std::process::Abort;
+use std::rt::Clock;
+use std::sync::Wait;
+use std::sync::ledger::Ledger;
+use std::thread::Threads;
+
+/// The words that a worker is told, and what it did: a transfer waits in queue 3.
+const ROWS: [(&[u64], Served); 2] = [
+    (
+        &[],
+        Served {
+            steps: 0,
+            refusals: 0,
+        },
+    ),
+    (
+        &[3, 3, 16],
+        Served {
+            steps: 1,
+            refusals: 1,
+        },
+    ),
+];
+
+/// A worker that is told which queues to serve.
+#[derive(Clone, Copy)]
+pub struct Bells {
+    /// Whether calls are made once more that memory was refused for, and a step may be refused for it.
+    pub retries: bool,
+}
+
+impl<R: Abort + Clock + Threads + Wait + AllocGlobal + Sync> Scene<R> for Bells {
+    fn play<
+        Regions: Ledger + Send + Sync,
+        Tickets: Ledger + Send + Sync,
+        Events: Ledger + Send + Sync,
+    >(&self, actor: &mut Actor<Regions, Tickets, Events, R>) -> Result<(), Fault> {
+        ring(actor, self.retries)
+    }
+}
+
+/// Serves what the words tell, after a copy of the array was put into queue 3.
+fn served<Regions: Ledger, Tickets: Ledger, Events: Ledger, R: Abort + Wait + AllocGlobal>(
+    actor: &mut Actor<Regions, Tickets, Events, R>,
+    retries: bool,
+    words: &[u64],
+) -> Result<Served, Fault> {
+    let put = twice!(
+        actor,
+        retries,
+        actor.update(UpdateClause::ToSelf, false, Some(3))
+    );
+    same(actor.rt, put, Ok(()));
+    let from = match bells(actor.rt, actor.rt.alloc(), words) {
+        Err(_) if retries => bells(actor.rt, actor.rt.alloc(), words)?,
+        from => from?,
+    };
+    Ok(serve(actor.rt, actor.runtime, &mut actor.caller, from, &Open))
+}
+
+/// What a worker did is what is wanted; or a step was refused once more, for memory.
+fn check<R: Abort>(rt: &R, retries: bool, found: Served, wanted: Served) {
+    let Served { steps, refusals } = wanted;
+    let lacking = Served {
+        steps,
+        refusals: refusals.saturating_add(1),
+    };
+    if found != lacking || !retries {
+        same(rt, found, wanted);
+    }
+}
+
+/// Serves the words of a row, and waits for what is left.
+fn serve_row<Regions: Ledger, Tickets: Ledger, Events: Ledger, R: Abort + Wait + AllocGlobal>(
+    actor: &mut Actor<Regions, Tickets, Events, R>,
+    retries: bool,
+    words: &[u64],
+    wanted: Served,
+) -> Result<(), Fault> {
+    let found = served(actor, retries, words)?;
+    check(actor.rt, retries, found, wanted);
+    let left = twice!(actor, retries, actor.wait(Some(3)));
+    same(actor.rt, left, Ok(1 - wanted.steps.min(1)));
+    Ok(())
+}
+
+/// Tells a worker the words of each row.
+fn ring<Regions: Ledger, Tickets: Ledger, Events: Ledger, R: Abort + Wait + AllocGlobal>(
+    actor: &mut Actor<Regions, Tickets, Events, R>,
+    retries: bool,
+) -> Result<(), Fault> {
+    let mapped = twice!(actor, retries, actor.enter_data());
+    same(actor.rt, mapped, Ok(()));
+    for &(words, wanted) in &ROWS {
+        serve_row(actor, retries, words, wanted)?;
+    }
+    Ok(())
+}

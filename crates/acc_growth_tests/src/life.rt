@@ -1,0 +1,280 @@
+//! A life of an array: what the trace ends with after each call.
+
+use crate::again::{exit, exit_or_leave, gather_or_drop, lacked, told, twice};
+use crate::same;
+use acc_base::{ExitClause, Fault, RegionClause, UpdateClause};
+use acc_lend::{Add, run_one};
+use acc_runtime::{Lease, Region};
+use acc_runtime_scenes::{Actor, Scene};
+use acc_table::Table;
+use std::alloc::{AllocError, Global};
+use std::fmt::Debug;
+use std::process::Abort;
+use std::rt::Clock;
+use std::sync::Wait;
+use std::sync::ledger::Ledger;
+use std::thread::Threads;
+
+/// What the trace ends with after each accepted call of the life, in order.
+const ENDS: [&str; 13] = [
+    "EnteredData { items: List { items: [Item { clause: Copyin, section: Section { start: 4096, len: 16 }, pointer: None }] }, queue: None, did: List { items: [Did { step: Born { block: 1, place: 4294967296 }, aim: None }] } }",
+    "Entered { number: 1, items: List { items: [Item { clause: Present, section: Section { start: 4096, len: 16 }, pointer: None }] }, did: List { items: [Did { step: Counted { block: 1 }, aim: None }] } }",
+    "HostWritten { addr: 4096, len: 16 }",
+    "Updated { items: List { items: [Item { clause: ToDevice, section: Section { start: 4096, len: 16 }, pointer: None }] }, if_present: true, queue: None, did: List { items: [Did { step: Moved { block: 1 }, aim: None }] } }",
+    "HostWritten { addr: 4096, len: 16 }",
+    "Lent { region: 1, section: Section { start: 4096, len: 16 }, block: 1, serial: 1 }",
+    "Waited { queue: None, count: 0 }",
+    "Gathered { serial: 1, block: 1 }",
+    "Updated { items: List { items: [Item { clause: ToSelf, section: Section { start: 4096, len: 16 }, pointer: None }] }, if_present: false, queue: Some(0), did: List { items: [Did { step: Moved { block: 1 }, aim: None }] } }",
+    "Stepped { queue: 0, block: 1 }",
+    "ExitedData { items: List { items: [Item { clause: Copyout, section: Section { start: 4096, len: 16 }, pointer: None }] }, finalize: true, queue: Some(1), did: List { items: [Did { step: Dropped { block: 1, ended: false }, aim: None }] } }",
+    "Left { number: 1, did: List { items: [Did { step: Dropped { block: 1, ended: true }, aim: None }] } }",
+    "Waited { queue: Some(1), count: 0 }",
+];
+
+/// A life of an array, with what the trace ends with after each call.
+#[derive(Clone, Copy)]
+pub struct Life {
+    /// Whether the events are folded into the base then.
+    pub folds: bool,
+    /// Whether calls are made once more that memory was refused for.
+    pub retries: bool,
+}
+
+impl<R: Abort + Clock + Threads + Wait + AllocGlobal + Sync> Scene<R> for Life {
+    fn play<
+        Regions: Ledger + Send + Sync,
+        Tickets: Ledger + Send + Sync,
+        Events: Ledger + Send + Sync,
+    >(&self, actor: &mut Actor<Regions, Tickets, Events, R>) -> Result<(), Fault> {
+        live(actor, *self)
+    }
+}
+
+/// Whether a table made so many events, of which the last reads so.
+fn reads(alloc: Global, table: &Table, count: u64, wanted: &str) -> Result<bool, AllocError> {
+    match table.trace().last() {
+        Some(event) => {
+            let text = format!(in alloc; "{event:?}")?;
+            Ok(table.events() == count && text.as_str() == wanted)
+        }
+        // Where all events are folded, a call that makes none leaves it so.
+        None => Ok(table.events() == count && table.base().events() == count),
+    }
+}
+
+/// Looks whether so many events were made, of which the last reads so.
+fn look<Regions: Ledger, Tickets: Ledger, Events: Ledger, R: Wait + AllocGlobal>(
+    actor: &mut Actor<Regions, Tickets, Events, R>,
+    count: u64,
+    wanted: &str,
+) -> Result<bool, AllocError> {
+    let alloc = actor.rt.alloc();
+    actor.runtime.look(
+        actor.rt,
+        &mut actor.caller,
+        |table: &Table| reads(alloc, table, count, wanted),
+    )
+}
+
+/// The trace ends with the n-th of the wanted events, which is the last.
+fn ends<Regions: Ledger, Tickets: Ledger, Events: Ledger, R: Abort + Wait + AllocGlobal>(
+    actor: &mut Actor<Regions, Tickets, Events, R>,
+    life: Life,
+    number: usize,
+) -> Result<(), AllocError> {
+    let wanted = ENDS[number.clamp(1, ENDS.len()) - 1];
+    let count = number as u64;
+    let found = match look(actor, count, wanted) {
+        Err(_) if life.retries => look(actor, count, wanted)?,
+        found => found?,
+    };
+    same(actor.rt, (number, found), (number, true));
+    if life.folds {
+        fold(actor, life, count);
+    }
+    Ok(())
+}
+
+/// Folds the events into the table's base, which are so many in all.
+fn fold<Regions: Ledger, Tickets: Ledger, Events: Ledger, R: Abort + Wait + AllocGlobal>(
+    actor: &mut Actor<Regions, Tickets, Events, R>,
+    life: Life,
+    count: u64,
+) {
+    same(
+        actor.rt,
+        twice!(actor, life.retries, actor.runtime.rebase(actor.rt)).is_ok(),
+        true,
+    );
+    let told = actor.runtime.look(
+        actor.rt,
+        &mut actor.caller,
+        |table: &Table| (table.base().events(), table.trace().len(), table.events()),
+    );
+    same(actor.rt, told, (count, 0, count));
+}
+
+/// The n-th call was answered as it should be, and made the n-th of the wanted events.
+fn made<
+    T: PartialEq + Debug + Copy,
+    Regions: Ledger,
+    Tickets: Ledger,
+    Events: Ledger,
+    R: Abort + Wait + AllocGlobal,
+>(
+    actor: &mut Actor<Regions, Tickets, Events, R>,
+    life: Life,
+    number: usize,
+    answer: Result<T, Fault>,
+    wanted: T,
+) -> Result<(), AllocError> {
+    same(actor.rt, answer, Ok(wanted));
+    ends(actor, life, number)
+}
+
+/// Writes 7 everywhere, copies it to the device, and writes 0 everywhere.
+fn fill<Regions: Ledger, Tickets: Ledger, Events: Ledger, R: Abort + Wait + AllocGlobal>(
+    actor: &mut Actor<Regions, Tickets, Events, R>,
+    life: Life,
+) -> Result<(), AllocError> {
+    let written = twice!(actor, life.retries, actor.write(7));
+    made(actor, life, 3, written, ())?;
+    let updated = twice!(
+        actor,
+        life.retries,
+        actor.update(UpdateClause::ToDevice, true, None)
+    );
+    made(actor, life, 4, updated, ())?;
+    let cleared = twice!(actor, life.retries, actor.write(0));
+    made(actor, life, 5, cleared, ())
+}
+
+/// Adds 1 to each byte of a loan. Until it is back, its region is not exited.
+fn work<Regions: Ledger, Tickets: Ledger, Events: Ledger, R: Abort + Wait + AllocGlobal>(
+    actor: &mut Actor<Regions, Tickets, Events, R>,
+    life: Life,
+    region: Region,
+    mut lease: Lease,
+) -> Option<Region> {
+    run_one(&mut lease, &Add(1), &[]);
+    let refused = exit(actor, life.retries, region);
+    let drained = twice!(actor, life.retries, actor.wait(None));
+    same(actor.rt, drained, Ok(0));
+    let gathered = gather_or_drop(actor, life.retries, lease);
+    same(actor.rt, gathered, Ok(()));
+    match refused {
+        Ok(()) => None,
+        Err((region, fault)) => {
+            same(actor.rt, fault, Fault::Lent { block: 1 });
+            Some(region)
+        }
+    }
+}
+
+/// Copies the bytes back through a queue, of which the second step finds nothing.
+fn copy_back<Regions: Ledger, Tickets: Ledger, Events: Ledger, R: Abort + Wait + AllocGlobal>(
+    actor: &mut Actor<Regions, Tickets, Events, R>,
+    life: Life,
+) -> Result<(), AllocError> {
+    ends(actor, life, 8)?;
+    let updated = twice!(
+        actor,
+        life.retries,
+        actor.update(UpdateClause::ToSelf, false, Some(0))
+    );
+    made(actor, life, 9, updated, ())?;
+    let stepped = twice!(actor, life.retries, actor.step(0));
+    made(actor, life, 10, stepped, true)?;
+    let idle = twice!(actor, life.retries, actor.step(0));
+    made_none(actor, life, 10, idle)
+}
+
+/// A step that found nothing, after so many events.
+fn made_none<Regions: Ledger, Tickets: Ledger, Events: Ledger, R: Abort + Wait + AllocGlobal>(
+    actor: &mut Actor<Regions, Tickets, Events, R>,
+    life: Life,
+    number: usize,
+    idle: Result<bool, Fault>,
+) -> Result<(), AllocError> {
+    made(actor, life, number, idle, false)?;
+    same(
+        actor.rt,
+        twice!(actor, life.retries, actor.has_everywhere(8)),
+        Ok(true),
+    );
+    Ok(())
+}
+
+/// Takes the dynamic counter away, and exits from the region, which ends the mapping.
+fn end<Regions: Ledger, Tickets: Ledger, Events: Ledger, R: Abort + Wait + AllocGlobal>(
+    actor: &mut Actor<Regions, Tickets, Events, R>,
+    life: Life,
+    region: Region,
+) -> Result<(), AllocError> {
+    let cleared = twice!(
+        actor,
+        life.retries,
+        actor.exit_data(ExitClause::Copyout, true, Some(1))
+    );
+    let found = made(actor, life, 11, cleared, ());
+    let exited = exit_or_leave(actor, life.retries, region);
+    found?;
+    made(actor, life, 12, exited, ())?;
+    let drained = twice!(actor, life.retries, actor.wait(Some(1)));
+    made(actor, life, 13, drained, 0)
+}
+
+/// Lends the array in a region, and brings it back.
+fn lend_and_work<Regions: Ledger, Tickets: Ledger, Events: Ledger, R: Abort + Wait + AllocGlobal>(
+    actor: &mut Actor<Regions, Tickets, Events, R>,
+    life: Life,
+    region: Region,
+) -> Option<Region> {
+    match twice!(actor, life.retries, actor.lend(&region)) {
+        Ok(lease) => {
+            let found = ends(actor, life, 6);
+            let left = work(actor, life, region, lease);
+            same(actor.rt, found.is_ok(), true);
+            left
+        }
+        Err(fault) => {
+            region.abandon();
+            panic!(actor.rt; "a mapped array was not lent: {fault}")
+        }
+    }
+}
+
+/// What is done in a region.
+fn in_region<Regions: Ledger, Tickets: Ledger, Events: Ledger, R: Abort + Wait + AllocGlobal>(
+    actor: &mut Actor<Regions, Tickets, Events, R>,
+    life: Life,
+    region: Region,
+) -> Result<(), AllocError> {
+    let filled = match ends(actor, life, 2) {
+        Ok(()) => fill(actor, life),
+        Err(error) => Err(error),
+    };
+    let Some(region) = lend_and_work(actor, life, region) else {
+        panic!(actor.rt; "a region was exited whose block is lent")
+    };
+    let copied = copy_back(actor, life);
+    let ended = end(actor, life, region);
+    filled?;
+    copied?;
+    ended
+}
+
+/// Lives the whole life, to its end.
+fn live<Regions: Ledger, Tickets: Ledger, Events: Ledger, R: Abort + Wait + AllocGlobal>(
+    actor: &mut Actor<Regions, Tickets, Events, R>,
+    life: Life,
+) -> Result<(), Fault> {
+    let mapped = twice!(actor, life.retries, actor.enter_data());
+    made(actor, life, 1, mapped, ())?;
+    let region = twice!(actor, life.retries, actor.enter(RegionClause::Present))?;
+    in_region(actor, life, region)?;
+    same(actor.rt, actor.state(), (0, 13, false));
+    same(actor.rt, actor.shares(), (64, 87, 13));
+    Ok(())
+}

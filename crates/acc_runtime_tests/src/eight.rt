@@ -1,0 +1,146 @@
+//! Eight threads that enter and exit regions over one array and over their own.
+
+use crate::same;
+use acc_base::{Fault, HOST_BASE, Item, RegionClause, Section};
+use acc_runtime::{Caller, Runtime};
+use acc_runtime_scenes::{ARRAY, Actor, Scene, limits, on_new_runtime};
+use std::alloc::{AllocError, Global};
+use std::process::Abort;
+use std::rt::Clock;
+use std::sync::Wait;
+use std::sync::ledger::Ledger;
+use std::test::Fail;
+use std::thread::{Threads, for_each_mut};
+
+const THREADS: usize = 8;
+
+/// How often each thread enters a region, and exits it.
+const ROUNDS: u64 = 1_000;
+
+/// The array that a thread alone uses: each is 16 bytes behind the one before.
+fn own(thread: usize) -> Section {
+    let place = (thread % THREADS) as u64;
+    Section {
+        start: HOST_BASE + 16 + 16 * place,
+        len: 16,
+    }
+}
+
+fn both(alloc: Global, thread: usize) -> Result<Vec<Item<RegionClause>>, AllocError> {
+    let shared = Item {
+        clause: RegionClause::Copy,
+        section: ARRAY,
+        pointer: None,
+    };
+    let own = Item {
+        section: own(thread),
+        ..shared
+    };
+    Ok(vec![in alloc; shared, own]?)
+}
+
+fn make_round<Regions: Ledger, Tickets: Ledger, Events: Ledger, R: Wait + AllocGlobal>(
+    rt: &R,
+    runtime: &Runtime<Regions, Tickets, Events>,
+    caller: &mut Caller<Regions, Tickets, Events>,
+    thread: usize,
+) -> Result<(), Fault> {
+    let items = both(rt.alloc(), thread)?;
+    let region = runtime.enter(rt, caller, items)?;
+    if let Err((region, fault)) = runtime.exit(rt, caller, region) {
+        region.abandon();
+        return Err(fault);
+    }
+    Ok(())
+}
+
+fn make_rounds<Regions: Ledger, Tickets: Ledger, Events: Ledger, R: Wait + AllocGlobal>(
+    rt: &R,
+    runtime: &Runtime<Regions, Tickets, Events>,
+    caller: &mut Caller<Regions, Tickets, Events>,
+    thread: usize,
+) -> Result<(), Fault> {
+    for _ in 0..ROUNDS {
+        make_round(rt, runtime, caller, thread)?;
+    }
+    Ok(())
+}
+
+/// A caller for each thread, with one region, and a ticket for each entry and each exit.
+fn split<Regions: Ledger, Tickets: Ledger, Events: Ledger>(
+    caller: &mut Caller<Regions, Tickets, Events>,
+    callers: &mut Vec<Caller<Regions, Tickets, Events>>,
+) -> Result<(), Fault> {
+    for _ in 0..THREADS {
+        callers.push(caller.split(1, 2 * ROUNDS)?)?;
+    }
+    Ok(())
+}
+
+fn merge<Regions: Ledger, Tickets: Ledger, Events: Ledger>(
+    caller: &mut Caller<Regions, Tickets, Events>,
+    callers: Vec<Caller<Regions, Tickets, Events>>,
+) {
+    for other in callers {
+        caller.merge(other);
+    }
+}
+
+fn run_all<
+    Regions: Ledger + Send + Sync,
+    Tickets: Ledger + Send + Sync,
+    Events: Ledger + Send + Sync,
+    R: Threads + Wait + AllocGlobal + Sync,
+>(
+    rt: &R,
+    runtime: &Runtime<Regions, Tickets, Events>,
+    callers: &mut [Caller<Regions, Tickets, Events>],
+) {
+    for_each_mut(
+        rt,
+        callers,
+        THREADS,
+        &|thread, caller| {
+            let _ = make_rounds(rt, runtime, caller, thread);
+        },
+    );
+}
+
+/// Eight threads over one array: each call was accepted where all events were made.
+#[derive(Clone, Copy)]
+struct Eight;
+
+impl<R: Abort + Clock + Threads + Wait + AllocGlobal + Sync> Scene<R> for Eight {
+    fn play<
+        Regions: Ledger + Send + Sync,
+        Tickets: Ledger + Send + Sync,
+        Events: Ledger + Send + Sync,
+    >(&self, actor: &mut Actor<Regions, Tickets, Events, R>) -> Result<(), Fault> {
+        run_and_look(actor)
+    }
+}
+
+/// All threads make their rounds, and the table is looked at.
+fn run_and_look<
+    Regions: Ledger + Send + Sync,
+    Tickets: Ledger + Send + Sync,
+    Events: Ledger + Send + Sync,
+    R: Abort + Clock + Threads + Wait + AllocGlobal + Sync,
+>(actor: &mut Actor<Regions, Tickets, Events, R>) -> Result<(), Fault> {
+    let mut callers = Vec::new(actor.rt.alloc());
+    split(&mut actor.caller, &mut callers)?;
+    run_all(actor.rt, actor.runtime, callers.as_mut_slice());
+    merge(&mut actor.caller, callers);
+    same(actor.rt, actor.shares(), (64, 0, 16_000));
+    same(actor.rt, actor.state(), (0, 16_000, false));
+    let used = actor
+        .runtime
+        .look(actor.rt, &mut actor.caller, |table| table.used());
+    same(actor.rt, used, 0);
+    Ok(())
+}
+
+#[test]
+fn eight_threads_leave_nothing_mapped(rt: HostRuntime) -> Result<(), Fail> {
+    on_new_runtime(&rt, &Eight, limits(64, 16_000)?)
+}

@@ -124,7 +124,14 @@ fn check_long_line<R: Threads + Wait + Sync + AllocGlobal + Abort>(
 ) -> Result<(), AllocError> {
     let line = "#".repeat(rt.alloc(), 4_097)?;
     let found = run_tool(rt, "", &line, out, err)?;
-    check_status(rt, err, found, "accrun: line 1: TooLong\n", 2, "a long line");
+    check_status(
+        rt,
+        err,
+        found,
+        "accrun: line 1: TooLong\n",
+        2,
+        "a long line",
+    );
     Ok(())
 }
 

@@ -3,11 +3,11 @@
 #![tactic(auto)]
 
 mod actors;
-mod bells;
+mod doorbells;
 mod gates;
 mod playing;
 
 pub use actors::{Actor, list};
-pub use bells::bells;
+pub use doorbells::bells;
 pub use gates::{Meeting, Numbered};
 pub use playing::{ARRAY, Scene, limits, on_new_runtime, try_on_new_runtime};

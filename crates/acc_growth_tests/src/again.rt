@@ -12,7 +12,7 @@ use std::sync::ledger::Ledger;
 /// allowance, tickets and events.
 pub type Told = ((u64, u64, bool), (u64, u64, u64));
 
-pub fn told<Regions: Ledger, Tickets: Ledger, Events: Ledger, R: Wait + AllocGlobal>(
+pub fn told_by<Regions: Ledger, Tickets: Ledger, Events: Ledger, R: Wait + AllocGlobal>(
     actor: &mut Actor<Regions, Tickets, Events, R>,
 ) -> Told {
     (actor.state(), actor.shares())
@@ -27,7 +27,7 @@ pub fn lacked<Regions: Ledger, Tickets: Ledger, Events: Ledger, R: Abort + Wait 
     if fault != Fault::Memory {
         return false;
     }
-    let after = told(actor);
+    let after = told_by(actor);
     same(actor.rt, after, before);
     true
 }
@@ -35,7 +35,7 @@ pub fn lacked<Regions: Ledger, Tickets: Ledger, Events: Ledger, R: Abort + Wait 
 /// Makes a call of an actor, and once more where that is wanted, and memory was refused.
 macro_rules! twice {
     ($actor:ident, $retries:expr, $call:expr) => {{
-        let before = told($actor);
+        let before = told_by($actor);
         match $call {
             Err(fault) => {
                 if $retries && lacked($actor, before, fault) {
@@ -57,7 +57,7 @@ pub fn exit<Regions: Ledger, Tickets: Ledger, Events: Ledger, R: Abort + Wait + 
     retries: bool,
     region: Region,
 ) -> Result<(), (Region, Fault)> {
-    let before = told(actor);
+    let before = told_by(actor);
     match actor.exit(region) {
         Ok(()) => Ok(()),
         Err((region, fault)) => {
@@ -101,7 +101,7 @@ pub fn gather_or_drop<
     retries: bool,
     lease: Lease,
 ) -> Result<(), Fault> {
-    let before = told(actor);
+    let before = told_by(actor);
     match actor.gather(lease) {
         Ok(()) => Ok(()),
         Err((lease, fault)) => {

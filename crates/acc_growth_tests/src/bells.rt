@@ -1,6 +1,6 @@
 //! A worker that is told which queues to serve.
 
-use crate::again::{lacked, told, twice};
+use crate::again::{lacked, told_by, twice};
 use crate::same;
 use acc_base::{Fault, UpdateClause};
 use acc_runtime::{Open, Served, serve};

@@ -1,6 +1,6 @@
 //! A life of an array: what the trace ends with after each call.
 
-use crate::again::{exit, exit_or_leave, gather_or_drop, lacked, told, twice};
+use crate::again::{exit, exit_or_leave, gather_or_drop, lacked, told_by, twice};
 use crate::same;
 use acc_base::{ExitClause, Fault, RegionClause, UpdateClause};
 use acc_lend::{Add, run_one};

@@ -75,7 +75,7 @@ struct Told {
     queues: [u64; 3],
 }
 
-fn told(table: &Table) -> Told {
+fn told_by(table: &Table) -> Told {
     Told {
         events: (table.events(), table.trace().len()),
         books: (table.ticket_book(), table.region_book(), table.regions()),
@@ -90,18 +90,18 @@ fn told(table: &Table) -> Told {
 
 /// Folds the events into the base, and once more where memory is refused.
 fn rebase_twice(rt: &impl Abort, table: &mut Table) {
-    let before = told(table);
+    let before = told_by(table);
     let (events, stored) = before.events;
     if let Err(fault) = table.rebase() {
         same(rt, "a refused base", fault, Fault::Memory);
-        same(rt, "a refused base", told(table), before);
+        same(rt, "a refused base", told_by(table), before);
         same(rt, "a refused base", table.rebase(), Ok(stored as u64));
     }
     let after = Told {
         events: (events, 0),
         ..before
     };
-    same(rt, "a refused base", told(table), after);
+    same(rt, "a refused base", told_by(table), after);
     same(rt, "a refused base", table.base().events(), events);
 }
 
@@ -109,7 +109,7 @@ fn rebase_twice(rt: &impl Abort, table: &mut Table) {
 fn retry(rt: &impl Abort, table: &mut Table, before: Told, back: (Call, Fault)) -> Reply {
     let (call, fault) = back;
     same(rt, "a refused growth", fault, Fault::Memory);
-    same(rt, "a refused growth", told(table), before);
+    same(rt, "a refused growth", told_by(table), before);
     match table.apply(call) {
         Ok(reply) => reply,
         Err((call, fault)) => {
@@ -121,7 +121,7 @@ fn retry(rt: &impl Abort, table: &mut Table, before: Told, back: (Call, Fault)) 
 
 /// Makes a call, and once more where memory is refused.
 fn apply_twice(rt: &impl Abort, table: &mut Table, call: Call) -> Reply {
-    let before = told(table);
+    let before = told_by(table);
     match table.apply(call) {
         Ok(reply) => reply,
         Err(back) => retry(rt, table, before, back),
@@ -198,10 +198,10 @@ fn take_twice(
     ask: Ask,
     leases: &mut Vec<Lease>,
 ) -> Result<Option<Answer>, Fault> {
-    let before = told(table);
+    let before = told_by(table);
     match take(table, rt.alloc(), ask, leases) {
         Err(Fault::Memory) | Ok(Some(Answer::Refused(Fault::Memory))) => {
-            same(rt, "a refused growth", told(table), before);
+            same(rt, "a refused growth", told_by(table), before);
             take(table, rt.alloc(), ask, leases)
         }
         answer => answer,

@@ -66,12 +66,12 @@ impl<R: Abort + Clock + Threads + Wait + AllocGlobal + Sync> Scene<R> for Tell {
         Tickets: Ledger + Send + Sync,
         Events: Ledger + Send + Sync,
     >(&self, actor: &mut Actor<Regions, Tickets, Events, R>) -> Result<(), Fault> {
-        tell(actor)
+        tell_and_find(actor)
     }
 }
 
 /// Each thread does its part.
-fn tell<
+fn tell_and_find<
     Regions: Ledger + Send + Sync,
     Tickets: Ledger + Send + Sync,
     Events: Ledger + Send + Sync,

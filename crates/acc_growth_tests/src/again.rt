@@ -3,7 +3,7 @@
 use crate::same;
 use acc_base::Fault;
 use acc_runtime::{Lease, Region};
-use acc_runtime_scenes::Actor;
+use acc_runtime_actors::Actor;
 use std::process::Abort;
 use std::sync::Wait;
 use std::sync::ledger::Ledger;

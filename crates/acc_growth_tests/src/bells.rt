@@ -4,7 +4,7 @@ use crate::again::{lacked, told_by, twice};
 use crate::same;
 use acc_base::{Fault, UpdateClause};
 use acc_runtime::{Open, Served, serve};
-use acc_runtime_scenes::{Actor, Scene, bells};
+use acc_runtime_actors::{Actor, bells};
 use std::process::Abort;
 use std::rt::Clock;
 use std::sync::Wait;
@@ -28,23 +28,6 @@ const ROWS: [(&[u64], Served); 2] = [
         },
     ),
 ];
-
-/// A worker that is told which queues to serve.
-#[derive(Clone, Copy)]
-pub struct Bells {
-    /// Whether calls are made once more that memory was refused for, and a step may be refused for it.
-    pub retries: bool,
-}
-
-impl<R: Abort + Clock + Threads + Wait + AllocGlobal + Sync> Scene<R> for Bells {
-    fn play<
-        Regions: Ledger + Send + Sync,
-        Tickets: Ledger + Send + Sync,
-        Events: Ledger + Send + Sync,
-    >(&self, actor: &mut Actor<Regions, Tickets, Events, R>) -> Result<(), Fault> {
-        ring(actor, self.retries)
-    }
-}
 
 /// Serves what the words tell, after a copy of the array was put into queue 3.
 fn served<Regions: Ledger, Tickets: Ledger, Events: Ledger, R: Abort + Wait + AllocGlobal>(
@@ -92,7 +75,7 @@ fn serve_row<Regions: Ledger, Tickets: Ledger, Events: Ledger, R: Abort + Wait +
 }
 
 /// Tells a worker the words of each row.
-fn ring<Regions: Ledger, Tickets: Ledger, Events: Ledger, R: Abort + Wait + AllocGlobal>(
+pub fn ring<Regions: Ledger, Tickets: Ledger, Events: Ledger, R: Abort + Wait + AllocGlobal>(
     actor: &mut Actor<Regions, Tickets, Events, R>,
     retries: bool,
 ) -> Result<(), Fault> {

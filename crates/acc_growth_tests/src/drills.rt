@@ -3,7 +3,7 @@
 use crate::same;
 use acc_base::{Config, Fault};
 use acc_runtime::{Drilled, Open, drill};
-use acc_runtime_scenes::{Actor, Scene, limits};
+use acc_runtime_actors::{Actor, limits};
 use std::process::Abort;
 use std::rt::Clock;
 use std::sync::Wait;
@@ -62,23 +62,13 @@ impl Drilling {
     }
 }
 
-impl<R: Abort + Clock + Threads + Wait + AllocGlobal + Sync> Scene<R> for Drilling {
-    fn play<
-        Regions: Ledger + Send + Sync,
-        Tickets: Ledger + Send + Sync,
-        Events: Ledger + Send + Sync,
-    >(&self, actor: &mut Actor<Regions, Tickets, Events, R>) -> Result<(), Fault> {
-        run(actor, self)
-    }
-}
-
 /// Makes the drill.
-fn run<
+pub fn run<
     Regions: Ledger + Send + Sync,
     Tickets: Ledger + Send + Sync,
     Events: Ledger + Send + Sync,
     R: Abort + Threads + Wait + AllocGlobal + Sync,
->(actor: &mut Actor<Regions, Tickets, Events, R>, drilling: &Drilling) -> Result<(), Fault> {
+>(actor: &mut Actor<Regions, Tickets, Events, R>, drilling: Drilling) -> Result<(), Fault> {
     let threads = drilling.threads.clamp(1, 64);
     let rounds = drilling.rounds.clamp(1, 1_000);
     let left = drill(

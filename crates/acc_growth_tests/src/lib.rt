@@ -15,6 +15,8 @@ mod lives;
 #[cfg(test)]
 mod parts;
 #[cfg(test)]
+mod scenes;
+#[cfg(test)]
 mod tables;
 
 #[cfg(test)]

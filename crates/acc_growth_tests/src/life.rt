@@ -5,7 +5,7 @@ use crate::same;
 use acc_base::{ExitClause, Fault, RegionClause, UpdateClause};
 use acc_lend::{Add, run_one};
 use acc_runtime::{Lease, Region};
-use acc_runtime_scenes::{Actor, Scene};
+use acc_runtime_actors::Actor;
 use acc_table::Table;
 use std::alloc::{AllocError, Global};
 use std::fmt::Debug;
@@ -39,16 +39,6 @@ pub struct Life {
     pub folds: bool,
     /// Whether calls are made once more that memory was refused for.
     pub retries: bool,
-}
-
-impl<R: Abort + Clock + Threads + Wait + AllocGlobal + Sync> Scene<R> for Life {
-    fn play<
-        Regions: Ledger + Send + Sync,
-        Tickets: Ledger + Send + Sync,
-        Events: Ledger + Send + Sync,
-    >(&self, actor: &mut Actor<Regions, Tickets, Events, R>) -> Result<(), Fault> {
-        live(actor, *self)
-    }
 }
 
 /// Whether a table made so many events, of which the last reads so.
@@ -266,7 +256,7 @@ fn in_region<Regions: Ledger, Tickets: Ledger, Events: Ledger, R: Abort + Wait +
 }
 
 /// Lives the whole life, to its end.
-fn live<Regions: Ledger, Tickets: Ledger, Events: Ledger, R: Abort + Wait + AllocGlobal>(
+pub fn live<Regions: Ledger, Tickets: Ledger, Events: Ledger, R: Abort + Wait + AllocGlobal>(
     actor: &mut Actor<Regions, Tickets, Events, R>,
     life: Life,
 ) -> Result<(), Fault> {

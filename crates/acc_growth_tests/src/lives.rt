@@ -1,10 +1,10 @@
 //! Lives of an array on a runtime, drills and workers.
 
-use crate::bells::Bells;
 use crate::drills::DRILLS;
 use crate::life::Life;
+use crate::scenes::{Scene, on_new_runtime};
 use acc_base::{Config, Fault};
-use acc_runtime_scenes::{Scene, limits, on_new_runtime, try_on_new_runtime};
+use acc_runtime_actors::limits;
 use std::process::Abort;
 use std::rt::Clock;
 use std::sync::Wait;
@@ -12,15 +12,16 @@ use std::test::Fail;
 use std::thread::Threads;
 
 /// Plays a scene on a new runtime, and on another one where memory was refused for the first.
-fn on_a_runtime<R: Abort + Clock + Threads + Wait + AllocGlobal + Sync, S: Scene<R>>(
+fn on_a_runtime<R: Abort + Clock + Threads + Wait + AllocGlobal + Sync>(
     rt: &R,
-    scene: &S,
+    scene: Scene,
     config: Config,
 ) -> Result<(), Fail> {
-    match try_on_new_runtime(rt, scene, config) {
-        Err(Fault::Memory) => on_new_runtime(rt, scene, config),
-        answer => Ok(answer?),
+    match on_new_runtime(rt, scene, config) {
+        Err(Fault::Memory) => on_new_runtime(rt, scene, config)?,
+        answer => answer?,
     }
+    Ok(())
 }
 
 /// Each call is accepted at once.
@@ -29,7 +30,8 @@ fn live_at_once<R: Abort + Clock + Threads + Wait + AllocGlobal + Sync>(
     folds: bool,
 ) -> Result<(), Fail> {
     let retries = false;
-    on_new_runtime(rt, &Life { folds, retries }, limits(64, 100)?)
+    on_new_runtime(rt, Scene::Life(Life { folds, retries }), limits(64, 100)?)?;
+    Ok(())
 }
 
 #[test]
@@ -44,13 +46,14 @@ fn each_call_makes_its_event_behind_a_new_base(rt: HostRuntime) -> Result<(), Fa
 
 #[test]
 fn queues_are_served_as_the_words_say(rt: HostRuntime) -> Result<(), Fail> {
-    on_new_runtime(&rt, &Bells { retries: false }, limits(64, 100)?)
+    on_new_runtime(&rt, Scene::Bells { retries: false }, limits(64, 100)?)?;
+    Ok(())
 }
 
 #[test]
 fn drills_leave_what_they_should(rt: HostRuntime) -> Result<(), Fail> {
     for drill in &DRILLS {
-        on_new_runtime(&rt, drill, drill.limits()?)?;
+        on_new_runtime(&rt, Scene::Drill(*drill), drill.limits()?)?;
     }
     Ok(())
 }
@@ -61,7 +64,7 @@ fn live<R: Abort + Clock + Threads + Wait + AllocGlobal + Sync>(
     folds: bool,
 ) -> Result<(), Fail> {
     let retries = true;
-    on_a_runtime(rt, &Life { folds, retries }, limits(64, 100)?)
+    on_a_runtime(rt, Scene::Life(Life { folds, retries }), limits(64, 100)?)
 }
 
 #[test]
@@ -76,14 +79,14 @@ fn a_refused_growth_changes_no_runtime_with_a_base(rt: HostRuntime) -> Result<()
 
 #[test]
 fn a_refused_growth_is_counted_by_a_worker(rt: HostRuntime) -> Result<(), Fail> {
-    on_a_runtime(&rt, &Bells { retries: true }, limits(64, 100)?)
+    on_a_runtime(&rt, Scene::Bells { retries: true }, limits(64, 100)?)
 }
 
 /// The last two drills are short, so that there is time to refuse each growth.
 #[test]
 fn a_refused_growth_ends_a_drill(rt: HostRuntime) -> Result<(), Fail> {
     for drill in &DRILLS[1..] {
-        on_a_runtime(&rt, drill, drill.limits()?)?;
+        on_a_runtime(&rt, Scene::Drill(*drill), drill.limits()?)?;
     }
     Ok(())
 }

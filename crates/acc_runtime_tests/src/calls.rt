@@ -1,9 +1,10 @@
 //! Each call once, by one thread.
 
 use crate::same;
+use crate::scenes::{Scene, on_new_runtime};
 use acc_base::{ExitClause, Fault, HOST_BASE, RegionClause, Section, UpdateClause};
 use acc_runtime::{Lease, Region};
-use acc_runtime_scenes::{Actor, Scene, limits, on_new_runtime};
+use acc_runtime_actors::{Actor, limits};
 use std::process::Abort;
 use std::rt::Clock;
 use std::sync::Wait;
@@ -30,31 +31,24 @@ fn read<Regions: Ledger, Tickets: Ledger, Events: Ledger, R: Wait + AllocGlobal>
     Ok(bytes.len() as u64)
 }
 
-/// Reads of host memory at its ends.
-#[derive(Clone, Copy)]
-struct Reads;
-
-impl<R: Abort + Clock + Threads + Wait + AllocGlobal + Sync> Scene<R> for Reads {
-    fn play<
-        Regions: Ledger + Send + Sync,
-        Tickets: Ledger + Send + Sync,
-        Events: Ledger + Send + Sync,
-    >(&self, actor: &mut Actor<Regions, Tickets, Events, R>) -> Result<(), Fault> {
-        for &(start, len, is_read) in &ENDS {
-            let wanted = if is_read {
-                Ok(len)
-            } else {
-                Err(Fault::OutOfHost { item: 0 })
-            };
-            same(actor.rt, read(actor, Section { start, len }), wanted);
-        }
-        Ok(())
+pub fn read_ends<Regions: Ledger, Tickets: Ledger, Events: Ledger, R: Abort + Wait + AllocGlobal>(
+    actor: &mut Actor<Regions, Tickets, Events, R>,
+) -> Result<(), Fault> {
+    for &(start, len, is_read) in &ENDS {
+        let wanted = if is_read {
+            Ok(len)
+        } else {
+            Err(Fault::OutOfHost { item: 0 })
+        };
+        same(actor.rt, read(actor, Section { start, len }), wanted);
     }
+    Ok(())
 }
 
 #[test]
 fn bytes_are_read_inside_of_host_memory_alone(rt: HostRuntime) -> Result<(), Fail> {
-    on_new_runtime(&rt, &Reads, limits(64, 100)?)
+    on_new_runtime(&rt, Scene::Reads, limits(64, 100)?)?;
+    Ok(())
 }
 
 /// Two transfers are queued, each in a queue of its own: one is stepped, and the other is waited for.
@@ -73,29 +67,25 @@ fn queue_two<Regions: Ledger, Tickets: Ledger, Events: Ledger, R: Abort + Wait +
     same(actor.rt, actor.wait(Some(16)), unknown);
 }
 
-/// Queued transfers.
-#[derive(Clone, Copy)]
-struct Queues;
-
-impl<R: Abort + Clock + Threads + Wait + AllocGlobal + Sync> Scene<R> for Queues {
-    fn play<
-        Regions: Ledger + Send + Sync,
-        Tickets: Ledger + Send + Sync,
-        Events: Ledger + Send + Sync,
-    >(&self, actor: &mut Actor<Regions, Tickets, Events, R>) -> Result<(), Fault> {
-        same(actor.rt, actor.enter_data(), Ok(()));
-        queue_two(actor);
-        let ended = actor.exit_data(ExitClause::Delete, false, None);
-        same(actor.rt, ended, Ok(()));
-        same(actor.rt, actor.state(), (0, 6, false));
-        same(actor.rt, actor.shares(), (64, 94, 6));
-        Ok(())
-    }
+pub fn map_and_queue<
+    Regions: Ledger,
+    Tickets: Ledger,
+    Events: Ledger,
+    R: Abort + Wait + AllocGlobal,
+>(actor: &mut Actor<Regions, Tickets, Events, R>) -> Result<(), Fault> {
+    same(actor.rt, actor.enter_data(), Ok(()));
+    queue_two(actor);
+    let ended = actor.exit_data(ExitClause::Delete, false, None);
+    same(actor.rt, ended, Ok(()));
+    same(actor.rt, actor.state(), (0, 6, false));
+    same(actor.rt, actor.shares(), (64, 94, 6));
+    Ok(())
 }
 
 #[test]
 fn queued_transfers_are_stepped_and_waited_for(rt: HostRuntime) -> Result<(), Fail> {
-    on_new_runtime(&rt, &Queues, limits(64, 100)?)
+    on_new_runtime(&rt, Scene::Queues, limits(64, 100)?)?;
+    Ok(())
 }
 
 /// Exits from a region while its block is lent, in vain, and once more when the lease is back.
@@ -132,25 +122,21 @@ fn lend_and_exit<Regions: Ledger, Tickets: Ledger, Events: Ledger, R: Abort + Wa
     }
 }
 
-/// A region that is not exited while its block is lent.
-#[derive(Clone, Copy)]
-struct Loans;
-
-impl<R: Abort + Clock + Threads + Wait + AllocGlobal + Sync> Scene<R> for Loans {
-    fn play<
-        Regions: Ledger + Send + Sync,
-        Tickets: Ledger + Send + Sync,
-        Events: Ledger + Send + Sync,
-    >(&self, actor: &mut Actor<Regions, Tickets, Events, R>) -> Result<(), Fault> {
-        let region = actor.enter(RegionClause::Copy)?;
-        lend_and_exit(actor, region);
-        same(actor.rt, actor.state(), (0, 4, false));
-        same(actor.rt, actor.shares(), (64, 96, 4));
-        Ok(())
-    }
+pub fn enter_and_lend<
+    Regions: Ledger,
+    Tickets: Ledger,
+    Events: Ledger,
+    R: Abort + Wait + AllocGlobal,
+>(actor: &mut Actor<Regions, Tickets, Events, R>) -> Result<(), Fault> {
+    let region = actor.enter(RegionClause::Copy)?;
+    lend_and_exit(actor, region);
+    same(actor.rt, actor.state(), (0, 4, false));
+    same(actor.rt, actor.shares(), (64, 96, 4));
+    Ok(())
 }
 
 #[test]
 fn a_region_is_exited_when_its_lease_is_back(rt: HostRuntime) -> Result<(), Fail> {
-    on_new_runtime(&rt, &Loans, limits(64, 100)?)
+    on_new_runtime(&rt, Scene::Loans, limits(64, 100)?)?;
+    Ok(())
 }

@@ -1,9 +1,10 @@
 //! Eight threads that enter and exit regions over one array and over their own.
 
 use crate::same;
+use crate::scenes::{Scene, on_new_runtime};
 use acc_base::{Fault, HOST_BASE, Item, RegionClause, Section};
 use acc_runtime::{Caller, Runtime};
-use acc_runtime_scenes::{ARRAY, Actor, Scene, limits, on_new_runtime};
+use acc_runtime_actors::{ARRAY, Actor, limits};
 use std::alloc::{AllocError, Global};
 use std::process::Abort;
 use std::rt::Clock;
@@ -106,22 +107,8 @@ fn run_all<
     );
 }
 
-/// Eight threads over one array: each call was accepted where all events were made.
-#[derive(Clone, Copy)]
-struct Eight;
-
-impl<R: Abort + Clock + Threads + Wait + AllocGlobal + Sync> Scene<R> for Eight {
-    fn play<
-        Regions: Ledger + Send + Sync,
-        Tickets: Ledger + Send + Sync,
-        Events: Ledger + Send + Sync,
-    >(&self, actor: &mut Actor<Regions, Tickets, Events, R>) -> Result<(), Fault> {
-        run_and_look(actor)
-    }
-}
-
 /// All threads make their rounds, and the table is looked at.
-fn run_and_look<
+pub fn run_and_look<
     Regions: Ledger + Send + Sync,
     Tickets: Ledger + Send + Sync,
     Events: Ledger + Send + Sync,
@@ -142,5 +129,6 @@ fn run_and_look<
 
 #[test]
 fn eight_threads_leave_nothing_mapped(rt: HostRuntime) -> Result<(), Fail> {
-    on_new_runtime(&rt, &Eight, limits(64, 16_000)?)
+    on_new_runtime(&rt, Scene::Eight, limits(64, 16_000)?)?;
+    Ok(())
 }

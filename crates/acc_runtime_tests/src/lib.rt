@@ -15,6 +15,8 @@ mod messages;
 #[cfg(test)]
 mod parts;
 #[cfg(test)]
+mod scenes;
+#[cfg(test)]
 mod shares;
 
 #[cfg(test)]

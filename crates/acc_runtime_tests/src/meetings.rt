@@ -1,9 +1,10 @@
 //! That the threads of a drill work at the same time, and so do workers that serve queues.
 
 use crate::same;
+use crate::scenes::{Scene, on_new_runtime};
 use acc_base::{Fault, UpdateClause};
 use acc_runtime::{Caller, Open, Runtime, Served, drill, serve};
-use acc_runtime_scenes::{Actor, Meeting, Numbered, Scene, bells, limits, on_new_runtime};
+use acc_runtime_actors::{Actor, Meeting, Numbered, bells, limits};
 use std::process::Abort;
 use std::rt::Clock;
 use std::sync::Wait;
@@ -11,25 +12,8 @@ use std::sync::ledger::Ledger;
 use std::test::Fail;
 use std::thread::{Threads, join};
 
-/// Two threads of a drill, of which one is held until the other is done.
-#[derive(Clone, Copy)]
-struct Drill {
-    held: usize,
-    first: usize,
-}
-
-impl<R: Abort + Clock + Threads + Wait + AllocGlobal + Sync> Scene<R> for Drill {
-    fn play<
-        Regions: Ledger + Send + Sync,
-        Tickets: Ledger + Send + Sync,
-        Events: Ledger + Send + Sync,
-    >(&self, actor: &mut Actor<Regions, Tickets, Events, R>) -> Result<(), Fault> {
-        meet_in_drill(actor, self.held, self.first)
-    }
-}
-
 /// The drill, whose threads have to meet.
-fn meet_in_drill<
+pub fn meet_in_drill<
     Regions: Ledger + Send + Sync,
     Tickets: Ledger + Send + Sync,
     Events: Ledger + Send + Sync,
@@ -44,8 +28,8 @@ fn meet_in_drill<
 #[test]
 fn either_thread_of_a_drill_waits_for_the_other(rt: HostRuntime) -> Result<(), Fail> {
     for (held, first) in [(0, 1), (1, 0)] {
-        let scene = Drill { held, first };
-        on_new_runtime(&rt, &scene, limits(64, 100)?)?;
+        let scene = Scene::Drill { held, first };
+        on_new_runtime(&rt, scene, limits(64, 100)?)?;
     }
     Ok(())
 }
@@ -83,25 +67,8 @@ fn serve_apart<Regions: Ledger, Tickets: Ledger, Events: Ledger, R: Clock + Wait
     (caller, served)
 }
 
-/// Two workers that serve queues, of which one is held until the other is done.
-#[derive(Clone, Copy)]
-struct Workers {
-    held: usize,
-    first: usize,
-}
-
-impl<R: Abort + Clock + Threads + Wait + AllocGlobal + Sync> Scene<R> for Workers {
-    fn play<
-        Regions: Ledger + Send + Sync,
-        Tickets: Ledger + Send + Sync,
-        Events: Ledger + Send + Sync,
-    >(&self, actor: &mut Actor<Regions, Tickets, Events, R>) -> Result<(), Fault> {
-        serve_both(actor, self.held, self.first)
-    }
-}
-
 /// Both workers serve, and have to meet.
-fn serve_both<
+pub fn serve_both<
     Regions: Ledger + Send + Sync,
     Tickets: Ledger + Send + Sync,
     Events: Ledger + Send + Sync,
@@ -130,8 +97,8 @@ fn serve_both<
 #[test]
 fn either_worker_waits_for_the_other(rt: HostRuntime) -> Result<(), Fail> {
     for (held, first) in [(0, 1), (1, 0)] {
-        let scene = Workers { held, first };
-        on_new_runtime(&rt, &scene, limits(64, 100)?)?;
+        let scene = Scene::Workers { held, first };
+        on_new_runtime(&rt, scene, limits(64, 100)?)?;
     }
     Ok(())
 }

@@ -1,9 +1,10 @@
 //! Threads that find what another did, and exit from what another entered.
 
 use crate::same;
+use crate::scenes::{Scene, on_new_runtime};
 use acc_base::{Fault, RegionClause};
 use acc_runtime::{Caller, Gate, Region, Runtime};
-use acc_runtime_scenes::{Actor, Meeting, Scene, limits, on_new_runtime};
+use acc_runtime_actors::{Actor, Meeting, limits};
 use std::process::Abort;
 use std::rt::Clock;
 use std::sync::Wait;
@@ -56,22 +57,8 @@ fn map_and_tell<
     same(actor.rt, (mapped, written), (Ok(()), Ok(())));
 }
 
-/// One thread maps the array and writes it. The other, which may make no event, finds that when it is told.
-#[derive(Clone, Copy)]
-struct Tell;
-
-impl<R: Abort + Clock + Threads + Wait + AllocGlobal + Sync> Scene<R> for Tell {
-    fn play<
-        Regions: Ledger + Send + Sync,
-        Tickets: Ledger + Send + Sync,
-        Events: Ledger + Send + Sync,
-    >(&self, actor: &mut Actor<Regions, Tickets, Events, R>) -> Result<(), Fault> {
-        tell_and_find(actor)
-    }
-}
-
 /// Each thread does its part.
-fn tell_and_find<
+pub fn tell<
     Regions: Ledger + Send + Sync,
     Tickets: Ledger + Send + Sync,
     Events: Ledger + Send + Sync,
@@ -95,7 +82,8 @@ fn tell_and_find<
 
 #[test]
 fn a_thread_finds_what_another_tells_it_of(rt: HostRuntime) -> Result<(), Fail> {
-    on_new_runtime(&rt, &Tell, limits(64, 100)?)
+    on_new_runtime(&rt, Scene::Tell, limits(64, 100)?)?;
+    Ok(())
 }
 
 /// Enters a region over the array.
@@ -114,22 +102,8 @@ fn enter<Regions: Ledger, Tickets: Ledger, Events: Ledger, R: Abort + Wait + All
     (caller, region)
 }
 
-/// One thread enters a region, and another exits from it, which gets the place.
-#[derive(Clone, Copy)]
-struct HandOver;
-
-impl<R: Abort + Clock + Threads + Wait + AllocGlobal + Sync> Scene<R> for HandOver {
-    fn play<
-        Regions: Ledger + Send + Sync,
-        Tickets: Ledger + Send + Sync,
-        Events: Ledger + Send + Sync,
-    >(&self, actor: &mut Actor<Regions, Tickets, Events, R>) -> Result<(), Fault> {
-        hand_over(actor)
-    }
-}
-
 /// Each thread does its part.
-fn hand_over<
+pub fn hand_over<
     Regions: Ledger + Send + Sync,
     Tickets: Ledger + Send + Sync,
     Events: Ledger + Send + Sync,
@@ -156,5 +130,6 @@ fn hand_over<
 
 #[test]
 fn a_thread_exits_from_what_another_entered(rt: HostRuntime) -> Result<(), Fail> {
-    on_new_runtime(&rt, &HandOver, limits(64, 100)?)
+    on_new_runtime(&rt, Scene::HandOver, limits(64, 100)?)?;
+    Ok(())
 }

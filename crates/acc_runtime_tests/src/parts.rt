@@ -2,7 +2,7 @@
 
 use acc_base::Fault;
 use acc_lend::{Cuts, Gate, Lease, Number, run_parts};
-use acc_runtime_scenes::Meeting;
+use acc_runtime_actors::Meeting;
 use std::process::Abort;
 use std::rt::Clock;
 use std::sync::Wait;

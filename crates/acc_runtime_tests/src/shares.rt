@@ -1,8 +1,9 @@
 //! Callers that are split and merged, and refused by their own shares.
 
 use crate::same;
+use crate::scenes::{Scene, on_new_runtime};
 use acc_base::{Fault, RegionClause};
-use acc_runtime_scenes::{Actor, Scene, limits, on_new_runtime};
+use acc_runtime_actors::{Actor, limits};
 use std::process::Abort;
 use std::rt::Clock;
 use std::sync::Wait;
@@ -43,30 +44,26 @@ fn entered<Regions: Ledger, Tickets: Ledger, Events: Ledger, R: Abort + Wait + A
     outcome
 }
 
-/// Callers that are split and merged, and refused by their own shares.
-#[derive(Clone, Copy)]
-struct Shares;
-
-impl<R: Abort + Clock + Threads + Wait + AllocGlobal + Sync> Scene<R> for Shares {
-    fn play<
-        Regions: Ledger + Send + Sync,
-        Tickets: Ledger + Send + Sync,
-        Events: Ledger + Send + Sync,
-    >(&self, actor: &mut Actor<Regions, Tickets, Events, R>) -> Result<(), Fault> {
-        for &(regions, tickets, fault) in &REFUSED {
-            let refused = actor.caller.split(regions, tickets).err();
-            same(actor.rt, refused, Some(fault));
-        }
-        for &(regions, tickets, fault) in &SHORT {
-            same(actor.rt, entered(actor, regions, tickets), Err(fault));
-        }
-        same(actor.rt, entered(actor, 1, 2), Ok(()));
-        same(actor.rt, actor.shares(), (64, 98, 2));
-        Ok(())
+pub fn split_and_merge<
+    Regions: Ledger,
+    Tickets: Ledger,
+    Events: Ledger,
+    R: Abort + Wait + AllocGlobal,
+>(actor: &mut Actor<Regions, Tickets, Events, R>) -> Result<(), Fault> {
+    for &(regions, tickets, fault) in &REFUSED {
+        let refused = actor.caller.split(regions, tickets).err();
+        same(actor.rt, refused, Some(fault));
     }
+    for &(regions, tickets, fault) in &SHORT {
+        same(actor.rt, entered(actor, regions, tickets), Err(fault));
+    }
+    same(actor.rt, entered(actor, 1, 2), Ok(()));
+    same(actor.rt, actor.shares(), (64, 98, 2));
+    Ok(())
 }
 
 #[test]
 fn callers_are_refused_by_their_own_shares(rt: HostRuntime) -> Result<(), Fail> {
-    on_new_runtime(&rt, &Shares, limits(64, 100)?)
+    on_new_runtime(&rt, Scene::Shares, limits(64, 100)?)?;
+    Ok(())
 }

@@ -1,6 +1,6 @@
 //! Who makes calls in a scene: each names the one array.
 
-use crate::limits::ARRAY;
+use crate::settings::ARRAY;
 use acc_base::{EnterClause, ExitClause, Fault, Item, RegionClause, Section, UpdateClause};
 use acc_runtime::{Caller, Lease, Region, Runtime};
 use acc_table::Table;

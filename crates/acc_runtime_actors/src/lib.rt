@@ -5,9 +5,9 @@
 mod actors;
 mod doorbells;
 mod gates;
-mod limits;
+mod settings;
 
 pub use actors::{Actor, list};
 pub use doorbells::bells;
 pub use gates::{Meeting, Numbered};
-pub use limits::{ARRAY, limits};
+pub use settings::{ARRAY, limits};

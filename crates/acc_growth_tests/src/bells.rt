@@ -1,6 +1,6 @@
 //! A worker that is told which queues to serve.
 
-use crate::again::{lacked, told_by, twice};
+use crate::again::{Deed, make};
 use crate::same;
 use acc_base::{Fault, UpdateClause};
 use acc_runtime::{Open, Served, serve};
@@ -35,12 +35,12 @@ fn served<Regions: Ledger, Tickets: Ledger, Events: Ledger, R: Abort + Wait + Al
     retries: bool,
     words: &[u64],
 ) -> Result<Served, Fault> {
-    let put = twice!(
+    let put = make(
         actor,
         retries,
-        actor.update(UpdateClause::ToSelf, false, Some(3))
+        Deed::Update(UpdateClause::ToSelf, false, Some(3)),
     );
-    same(actor.rt, put, Ok(()));
+    same(actor.rt, put, Ok(0));
     let from = match bells(actor.rt, actor.rt.alloc(), words) {
         Err(_) if retries => bells(actor.rt, actor.rt.alloc(), words)?,
         from => from?,
@@ -69,7 +69,7 @@ fn serve_row<Regions: Ledger, Tickets: Ledger, Events: Ledger, R: Abort + Wait +
 ) -> Result<(), Fault> {
     let found = served(actor, retries, words)?;
     check(actor.rt, retries, found, wanted);
-    let left = twice!(actor, retries, actor.wait(Some(3)));
+    let left = make(actor, retries, Deed::Wait(Some(3)));
     same(actor.rt, left, Ok(1 - wanted.steps.min(1)));
     Ok(())
 }
@@ -79,8 +79,8 @@ pub fn ring<Regions: Ledger, Tickets: Ledger, Events: Ledger, R: Abort + Wait + 
     actor: &mut Actor<Regions, Tickets, Events, R>,
     retries: bool,
 ) -> Result<(), Fault> {
-    let mapped = twice!(actor, retries, actor.enter_data());
-    same(actor.rt, mapped, Ok(()));
+    let mapped = make(actor, retries, Deed::EnterData);
+    same(actor.rt, mapped, Ok(0));
     for &(words, wanted) in &ROWS {
         serve_row(actor, retries, words, wanted)?;
     }

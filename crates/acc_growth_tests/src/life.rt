@@ -1,14 +1,13 @@
 //! A life of an array: what the trace ends with after each call.
 
-use crate::again::{exit, exit_or_leave, gather_or_drop, lacked, told_by, twice};
+use crate::again::{Deed, enter, exit, exit_or_leave, gather_or_drop, lend, make};
 use crate::same;
-use acc_base::{ExitClause, Fault, RegionClause, UpdateClause};
+use acc_base::{ExitClause, Fault, UpdateClause};
 use acc_lend::{Add, run_one};
 use acc_runtime::{Lease, Region};
 use acc_runtime_actors::Actor;
 use acc_table::Table;
 use std::alloc::{AllocError, Global};
-use std::fmt::Debug;
 use std::process::Abort;
 use std::rt::Clock;
 use std::sync::Wait;
@@ -94,7 +93,7 @@ fn fold<Regions: Ledger, Tickets: Ledger, Events: Ledger, R: Abort + Wait + Allo
 ) {
     same(
         actor.rt,
-        twice!(actor, life.retries, actor.runtime.rebase(actor.rt)).is_ok(),
+        make(actor, life.retries, Deed::Rebase).is_ok(),
         true,
     );
     let told = actor.runtime.look(
@@ -105,39 +104,50 @@ fn fold<Regions: Ledger, Tickets: Ledger, Events: Ledger, R: Abort + Wait + Allo
     same(actor.rt, told, (count, 0, count));
 }
 
-/// The n-th call was answered as it should be, and made the n-th of the wanted events.
-fn made<
-    T: PartialEq + Debug + Copy,
-    Regions: Ledger,
-    Tickets: Ledger,
-    Events: Ledger,
-    R: Abort + Wait + AllocGlobal,
->(
+/// A call, what it answers, and the number of events then.
+type Row = (Deed, u64, usize);
+
+/// Writes 7 everywhere, copies it to the device, and writes 0 everywhere.
+const FILL: [Row; 3] = [
+    (Deed::Write(7), 0, 3),
+    (Deed::Update(UpdateClause::ToDevice, true, None), 0, 4),
+    (Deed::Write(0), 0, 5),
+];
+
+/// Copies the bytes back through a queue, of which the second step finds nothing.
+const COPY_BACK: [Row; 4] = [
+    (Deed::Update(UpdateClause::ToSelf, false, Some(0)), 0, 9),
+    (Deed::Step(0), 1, 10),
+    (Deed::Step(0), 0, 10),
+    (Deed::Read(8), 1, 10),
+];
+
+/// Takes the dynamic counter away.
+const LET_GO: [Row; 1] = [(Deed::ExitData(ExitClause::Copyout, true, Some(1)), 0, 11)];
+
+/// Waits for nothing, since the mapping has ended.
+const WAIT: [Row; 1] = [(Deed::Wait(Some(1)), 0, 13)];
+
+fn make_row<Regions: Ledger, Tickets: Ledger, Events: Ledger, R: Abort + Wait + AllocGlobal>(
     actor: &mut Actor<Regions, Tickets, Events, R>,
     life: Life,
-    number: usize,
-    answer: Result<T, Fault>,
-    wanted: T,
+    row: Row,
 ) -> Result<(), AllocError> {
-    same(actor.rt, answer, Ok(wanted));
+    let (deed, wanted, number) = row;
+    let answer = make(actor, life.retries, deed);
+    same(actor.rt, (number, answer), (number, Ok(wanted)));
     ends(actor, life, number)
 }
 
-/// Writes 7 everywhere, copies it to the device, and writes 0 everywhere.
-fn fill<Regions: Ledger, Tickets: Ledger, Events: Ledger, R: Abort + Wait + AllocGlobal>(
+fn make_rows<Regions: Ledger, Tickets: Ledger, Events: Ledger, R: Abort + Wait + AllocGlobal>(
     actor: &mut Actor<Regions, Tickets, Events, R>,
     life: Life,
+    rows: &[Row],
 ) -> Result<(), AllocError> {
-    let written = twice!(actor, life.retries, actor.write(7));
-    made(actor, life, 3, written, ())?;
-    let updated = twice!(
-        actor,
-        life.retries,
-        actor.update(UpdateClause::ToDevice, true, None)
-    );
-    made(actor, life, 4, updated, ())?;
-    let cleared = twice!(actor, life.retries, actor.write(0));
-    made(actor, life, 5, cleared, ())
+    for &row in rows {
+        make_row(actor, life, row)?;
+    }
+    Ok(())
 }
 
 /// Adds 1 to each byte of a loan. Until it is back, its region is not exited.
@@ -149,7 +159,7 @@ fn work<Regions: Ledger, Tickets: Ledger, Events: Ledger, R: Abort + Wait + Allo
 ) -> Option<Region> {
     run_one(&mut lease, &Add(1), &[]);
     let refused = exit(actor, life.retries, region);
-    let drained = twice!(actor, life.retries, actor.wait(None));
+    let drained = make(actor, life.retries, Deed::Wait(None));
     same(actor.rt, drained, Ok(0));
     let gathered = gather_or_drop(actor, life.retries, lease);
     same(actor.rt, gathered, Ok(()));
@@ -162,57 +172,18 @@ fn work<Regions: Ledger, Tickets: Ledger, Events: Ledger, R: Abort + Wait + Allo
     }
 }
 
-/// Copies the bytes back through a queue, of which the second step finds nothing.
-fn copy_back<Regions: Ledger, Tickets: Ledger, Events: Ledger, R: Abort + Wait + AllocGlobal>(
-    actor: &mut Actor<Regions, Tickets, Events, R>,
-    life: Life,
-) -> Result<(), AllocError> {
-    ends(actor, life, 8)?;
-    let updated = twice!(
-        actor,
-        life.retries,
-        actor.update(UpdateClause::ToSelf, false, Some(0))
-    );
-    made(actor, life, 9, updated, ())?;
-    let stepped = twice!(actor, life.retries, actor.step(0));
-    made(actor, life, 10, stepped, true)?;
-    let idle = twice!(actor, life.retries, actor.step(0));
-    made_none(actor, life, 10, idle)
-}
-
-/// A step that found nothing, after so many events.
-fn made_none<Regions: Ledger, Tickets: Ledger, Events: Ledger, R: Abort + Wait + AllocGlobal>(
-    actor: &mut Actor<Regions, Tickets, Events, R>,
-    life: Life,
-    number: usize,
-    idle: Result<bool, Fault>,
-) -> Result<(), AllocError> {
-    made(actor, life, number, idle, false)?;
-    same(
-        actor.rt,
-        twice!(actor, life.retries, actor.has_everywhere(8)),
-        Ok(true),
-    );
-    Ok(())
-}
-
 /// Takes the dynamic counter away, and exits from the region, which ends the mapping.
 fn end<Regions: Ledger, Tickets: Ledger, Events: Ledger, R: Abort + Wait + AllocGlobal>(
     actor: &mut Actor<Regions, Tickets, Events, R>,
     life: Life,
     region: Region,
 ) -> Result<(), AllocError> {
-    let cleared = twice!(
-        actor,
-        life.retries,
-        actor.exit_data(ExitClause::Copyout, true, Some(1))
-    );
-    let found = made(actor, life, 11, cleared, ());
+    let found = make_rows(actor, life, &LET_GO);
     let exited = exit_or_leave(actor, life.retries, region);
     found?;
-    made(actor, life, 12, exited, ())?;
-    let drained = twice!(actor, life.retries, actor.wait(Some(1)));
-    made(actor, life, 13, drained, 0)
+    same(actor.rt, exited, Ok(()));
+    ends(actor, life, 12)?;
+    make_rows(actor, life, &WAIT)
 }
 
 /// Lends the array in a region, and brings it back.
@@ -221,7 +192,7 @@ fn lend_and_work<Regions: Ledger, Tickets: Ledger, Events: Ledger, R: Abort + Wa
     life: Life,
     region: Region,
 ) -> Option<Region> {
-    match twice!(actor, life.retries, actor.lend(&region)) {
+    match lend(actor, life.retries, &region) {
         Ok(lease) => {
             let found = ends(actor, life, 6);
             let left = work(actor, life, region, lease);
@@ -235,16 +206,31 @@ fn lend_and_work<Regions: Ledger, Tickets: Ledger, Events: Ledger, R: Abort + Wa
     }
 }
 
+/// Fills the array, after the entry to the region.
+fn fill<Regions: Ledger, Tickets: Ledger, Events: Ledger, R: Abort + Wait + AllocGlobal>(
+    actor: &mut Actor<Regions, Tickets, Events, R>,
+    life: Life,
+) -> Result<(), AllocError> {
+    ends(actor, life, 2)?;
+    make_rows(actor, life, &FILL)
+}
+
+/// Copies the array back, after the lease is back.
+fn copy_back<Regions: Ledger, Tickets: Ledger, Events: Ledger, R: Abort + Wait + AllocGlobal>(
+    actor: &mut Actor<Regions, Tickets, Events, R>,
+    life: Life,
+) -> Result<(), AllocError> {
+    ends(actor, life, 8)?;
+    make_rows(actor, life, &COPY_BACK)
+}
+
 /// What is done in a region.
 fn in_region<Regions: Ledger, Tickets: Ledger, Events: Ledger, R: Abort + Wait + AllocGlobal>(
     actor: &mut Actor<Regions, Tickets, Events, R>,
     life: Life,
     region: Region,
 ) -> Result<(), AllocError> {
-    let filled = match ends(actor, life, 2) {
-        Ok(()) => fill(actor, life),
-        Err(error) => Err(error),
-    };
+    let filled = fill(actor, life);
     let Some(region) = lend_and_work(actor, life, region) else {
         panic!(actor.rt; "a region was exited whose block is lent")
     };
@@ -260,9 +246,8 @@ pub fn live<Regions: Ledger, Tickets: Ledger, Events: Ledger, R: Abort + Wait + 
     actor: &mut Actor<Regions, Tickets, Events, R>,
     life: Life,
 ) -> Result<(), Fault> {
-    let mapped = twice!(actor, life.retries, actor.enter_data());
-    made(actor, life, 1, mapped, ())?;
-    let region = twice!(actor, life.retries, actor.enter(RegionClause::Present))?;
+    make_row(actor, life, (Deed::EnterData, 0, 1))?;
+    let region = enter(actor, life.retries)?;
     in_region(actor, life, region)?;
     same(actor.rt, actor.state(), (0, 13, false));
     same(actor.rt, actor.shares(), (64, 87, 13));

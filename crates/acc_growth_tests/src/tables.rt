@@ -158,25 +158,34 @@ fn table_twice(alloc: Global, limits: Limits) -> Result<Table, Fault> {
     }
 }
 
-/// Lives the whole life on a new table, behind which the table has its events and no block.
-fn live_whole(rt: &(impl Abort + AllocGlobal), is_rebased: bool) -> Result<(), Fail> {
-    let mut table = table_twice(rt.alloc(), WIDE)?;
-    live(rt, &mut table, is_rebased)?;
+/// Lives the whole life, behind which the table has its events and no block.
+fn live_whole(
+    rt: &(impl Abort + AllocGlobal),
+    table: &mut Table,
+    is_rebased: bool,
+) -> Result<(), Fail> {
+    live(rt, table, is_rebased)?;
     same(rt, "a refused growth", table.events(), 18);
     same(rt, "a refused growth", table.used(), 0);
     Ok(())
 }
 
-/// To be run with each allocation failing in turn: what is made here is made a second time where the first failed.
+/// Lives the whole life on a new table.
+fn live_on_new(rt: &(impl Abort + AllocGlobal), is_rebased: bool) -> Result<(), Fail> {
+    let mut table = table_twice(rt.alloc(), WIDE)?;
+    live_whole(rt, &mut table, is_rebased)
+}
+
+/// What is made here is made a second time where the first failed.
 #[test]
 fn a_refused_growth_changes_nothing(rt: HostRuntime) -> Result<(), Fail> {
-    live_whole(&rt, false)
+    live_on_new(&rt, false)
 }
 
 /// The same, where each event is folded into the base.
 #[test]
 fn a_refused_growth_of_a_base_changes_nothing(rt: HostRuntime) -> Result<(), Fail> {
-    live_whole(&rt, true)
+    live_on_new(&rt, true)
 }
 
 /// Ends the test where the answer is not the one that is wanted.
@@ -231,11 +240,15 @@ fn take_all(rt: &(impl Abort + AllocGlobal), table: &mut Table, row: &Row) -> Re
 }
 
 /// Takes the turns of a row on a table, and compares what it says then.
+fn take_row_on(rt: &(impl Abort + AllocGlobal), table: &mut Table, row: &Row) -> Result<(), Fault> {
+    take_all(rt, table, row)?;
+    check_all(rt, row, table);
+    Ok(())
+}
+
 fn take_row(rt: &(impl Abort + AllocGlobal), row: &Row) -> Result<(), Fault> {
     let mut table = table_twice(rt.alloc(), row.limits)?;
-    take_all(rt, &mut table, row)?;
-    check_all(rt, row, &table);
-    Ok(())
+    take_row_on(rt, &mut table, row)
 }
 
 fn take_rows(rt: &(impl Abort + AllocGlobal), rows: &[Row]) -> Result<(), Fault> {

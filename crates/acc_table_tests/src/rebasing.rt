@@ -89,12 +89,17 @@ fn live(rt: &(impl Abort + AllocGlobal), table: &mut Table) -> Result<(), Fault>
     Ok(())
 }
 
+/// Does all of it, after which the array is absent.
+fn live_whole(rt: &(impl Abort + AllocGlobal), table: &mut Table) -> Result<(), Fail> {
+    live(rt, table)?;
+    check_one(rt, "a short trace", table, Check::Present((A, 16), false));
+    Ok(())
+}
+
 #[test]
 fn a_full_trace_has_room_after_a_rebase(rt: HostRuntime) -> Result<(), Fail> {
     let mut table = table_of(rt.alloc(), SHORT)?;
-    live(&rt, &mut table)?;
-    check_one(&rt, "a short trace", &table, Check::Present((A, 16), false));
-    Ok(())
+    live_whole(&rt, &mut table)
 }
 
 /// Takes the turns of a row, each with a rebase behind it.
@@ -127,20 +132,25 @@ fn check_rest(rt: &impl Abort, row: &Row, table: &Table) {
     }
 }
 
-/// All turns of a row are answered as without a rebase.
-fn run_on(rt: &(impl Abort + AllocGlobal), row: &Row, table: &mut Table) -> Result<(), Fault> {
+/// Takes the turns of a row on a table that lends nothing.
+fn take_all(rt: &(impl Abort + AllocGlobal), row: &Row, table: &mut Table) -> Result<(), Fault> {
     let mut leases = Vec::new(rt.alloc());
     let outcome = take_turns(rt, table, row, &mut leases);
     abandon_all(leases);
     outcome
 }
 
+/// All turns of a row are answered as without a rebase, and so are the queries then.
+fn run_on(rt: &(impl Abort + AllocGlobal), row: &Row, table: &mut Table) -> Result<(), Fault> {
+    take_all(rt, row, table)?;
+    check_rest(rt, row, table);
+    Ok(())
+}
+
 /// Takes the turns of a row on a new table.
 fn run_row(rt: &(impl Abort + AllocGlobal), row: &Row) -> Result<(), Fault> {
     let mut table = table_of(rt.alloc(), row.limits)?;
-    run_on(rt, row, &mut table)?;
-    check_rest(rt, row, &table);
-    Ok(())
+    run_on(rt, row, &mut table)
 }
 
 /// The rows of a subject whose trace has room for all of their events.

@@ -26,7 +26,7 @@ pub struct Drilling {
 }
 
 /// Drills on new runtimes.
-pub const DRILLS: [Drilling; 3] = [
+pub const DRILLS: [Drilling; 4] = [
     Drilling {
         regions: 64,
         tickets: 1_048_576,
@@ -35,6 +35,18 @@ pub const DRILLS: [Drilling; 3] = [
         wanted: Ok(Drilled {
             allowance: 64,
             events: 2_001,
+            structured: 0,
+            dynamic: 1,
+        }),
+    },
+    Drilling {
+        regions: 64,
+        tickets: 100,
+        threads: 2,
+        rounds: 3,
+        wanted: Ok(Drilled {
+            allowance: 64,
+            events: 13,
             structured: 0,
             dynamic: 1,
         }),
@@ -86,7 +98,7 @@ pub fn run<
     Ok(())
 }
 
-/// A drill that memory was refused for left no ticket and no region that is not told of.
+/// A drill that memory was refused for keeps no share back: what is not its allowance is open, and it made all events.
 fn left_by_a_fault<Regions: Ledger, Tickets: Ledger, Events: Ledger, R: Abort + Wait + AllocGlobal>(
     actor: &mut Actor<Regions, Tickets, Events, R>,
 ) -> Fault {

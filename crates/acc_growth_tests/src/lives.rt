@@ -82,7 +82,7 @@ fn a_refused_growth_is_counted_by_a_worker(rt: HostRuntime) -> Result<(), Fail> 
     on_a_runtime(&rt, Scene::Bells { retries: true }, limits(64, 100)?)
 }
 
-/// The last two drills are short, so that there is time to refuse each growth.
+/// All but the first drill are short, so that there is time to refuse each growth.
 #[test]
 fn a_refused_growth_ends_a_drill(rt: HostRuntime) -> Result<(), Fail> {
     for drill in &DRILLS[1..] {

@@ -71,7 +71,7 @@ struct Told {
     /// How often the pointer of the rows is attached.
     attached: u64,
     ended: Option<Ended>,
-    /// The lengths of the queues that the rows use.
+    /// The lengths of the queues into which rows put transfers.
     queues: [u64; 3],
 }
 
@@ -84,7 +84,7 @@ fn told_by(table: &Table) -> Told {
         mapped: table.mapped(0),
         attached: table.attachment(A + 8),
         ended: table.ended(0),
-        queues: [table.queue_len(0), table.queue_len(1), table.queue_len(2)],
+        queues: [table.queue_len(0), table.queue_len(1), table.queue_len(3)],
     }
 }
 

@@ -20,11 +20,7 @@ pub struct Actor<'a, Regions: Ledger, Tickets: Ledger, Events: Ledger, R> {
 }
 
 /// The items of a directive that names a section in one clause.
-pub fn list<C: Drop>(
-    alloc: Global,
-    clause: C,
-    section: Section,
-) -> Result<Vec<Item<C>>, AllocError> {
+fn list<C: Drop>(alloc: Global, clause: C, section: Section) -> Result<Vec<Item<C>>, AllocError> {
     let mut items = Vec::new(alloc);
     items.push(Item {
         clause,

@@ -7,7 +7,7 @@ mod doorbells;
 mod gates;
 mod settings;
 
-pub use actors::{Actor, list};
+pub use actors::Actor;
 pub use doorbells::bells;
 pub use gates::{Meeting, Numbered};
 pub use settings::{ARRAY, limits};

@@ -31,6 +31,7 @@ fn read<Regions: Ledger, Tickets: Ledger, Events: Ledger, R: Wait + AllocGlobal>
     Ok(bytes.len() as u64)
 }
 
+/// Reads sections at the ends of host memory.
 pub fn read_ends<Regions: Ledger, Tickets: Ledger, Events: Ledger, R: Abort + Wait + AllocGlobal>(
     actor: &mut Actor<Regions, Tickets, Events, R>,
 ) -> Result<(), Fault> {
@@ -67,6 +68,7 @@ fn queue_two<Regions: Ledger, Tickets: Ledger, Events: Ledger, R: Abort + Wait +
     same(actor.rt, actor.wait(Some(16)), unknown);
 }
 
+/// Maps the array, and copies it through queues.
 pub fn map_and_queue<
     Regions: Ledger,
     Tickets: Ledger,
@@ -122,6 +124,7 @@ fn lend_and_exit<Regions: Ledger, Tickets: Ledger, Events: Ledger, R: Abort + Wa
     }
 }
 
+/// Enters a region, and lends the array in it.
 pub fn enter_and_lend<
     Regions: Ledger,
     Tickets: Ledger,

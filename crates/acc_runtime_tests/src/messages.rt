@@ -57,7 +57,7 @@ fn map_and_tell<
     same(actor.rt, (mapped, written), (Ok(()), Ok(())));
 }
 
-/// Each thread does its part.
+/// One thread maps the array and writes it. The other, which may make no event, finds that when it is told.
 pub fn tell<
     Regions: Ledger + Send + Sync,
     Tickets: Ledger + Send + Sync,
@@ -102,7 +102,7 @@ fn enter<Regions: Ledger, Tickets: Ledger, Events: Ledger, R: Abort + Wait + All
     (caller, region)
 }
 
-/// Each thread does its part.
+/// One thread enters a region, and another exits from it, which gets the place.
 pub fn hand_over<
     Regions: Ledger + Send + Sync,
     Tickets: Ledger + Send + Sync,

@@ -44,6 +44,7 @@ fn entered<Regions: Ledger, Tickets: Ledger, Events: Ledger, R: Abort + Wait + A
     outcome
 }
 
+/// Splits callers off, lets them be refused, and merges them.
 pub fn split_and_merge<
     Regions: Ledger,
     Tickets: Ledger,

@@ -1,17 +1,19 @@
 -- What an accepted call finds: a ticket, places in the trace and the register, and a layout in which its event is legal.
-use Rattle.std.proofs.Common.{ℕ, ◌≡◌, ◌<◌, ◌≤◌, subst, false, List, [], length, Option, Some, None, Result, Ok, arith}
+use Rattle.std.proofs.Common.{ℕ, ◌≡◌, ◌<◌, ◌≤◌, refl, sym, subst, Bool, true, false, List, [], length, Option, Some, None, Result, Ok, arith}
 use Rattle.std.specs.Prelude.{nat_lt, ⊤}
+use Rattle.std.proofs.lemmas.Bool.{true≢false}
 use Rattle.std.proofs.lemmas.Bool.Decides.{nat_tests}
 use Rattle.acc_base.specs.Words.{Transfer, Directive, Call, Did, Event, Fault}
 use Rattle.acc_base.specs.declared.directives.Directive.TheVariants.{Enter, Exit, EnterData, ExitData, Update, Wait}
 use Rattle.acc_base.specs.declared.directives.Directive.TheVariants as directives
 use Rattle.acc_base.specs.declared.calls.Call.TheVariants.{Do, HostWrite, Lend, Gather}
-use Rattle.acc_base.specs.declared.events.Event.TheVariants.{Entered, HostWritten, Lent}
+use Rattle.acc_base.specs.declared.events.Event.TheVariants.{Entered, Lent}
 use Rattle.acc_base.specs.Results.{◌>>=◌, ◌>>◌}
 use Rattle.acc_base.specs.Records.{Records, State, layout_of}
 use Rattle.acc_base.specs.Loans.{Leased}
 use Rattle.acc_base.specs.Queues.{head_of}
-use Rattle.acc_base.specs.Judge.{few_items, step_verdict, verdict_of, directive_verdict, host_write_event, lend_event, gather_event}
+use Rattle.acc_base.specs.Judge.{few_items, step_verdict, verdict_of, directive_verdict, written, host_write_event, lend_event, gather_event}
+use Rattle.acc_base.specs.Replay.{bytes_told}
 use Rattle.acc_base.specs.Calls.{World, judge, ticket, allowance, trace_room, bytes_brought, event_count, open_regions}
 use Rattle.acc_base.specs.Judge.{Verdict, Makes}
 use Rattle.acc_base.specs.History.{IsLegal}
@@ -25,13 +27,14 @@ abbrev pub IsEntryAllowed : ℕ → ℕ → Event → Type 0
 IsEntryAllowed most regions (Entered number items did) = (length items ≤ 64) × (regions < most)
 IsEntryAllowed most regions _ = ⊤
 
--- what an accepted call's event finds: a ticket, places in the trace and the register, and a layout in which it is legal; and the bytes that it brings back are as many as the block has
+-- what an accepted call's event finds: a ticket, places in the trace and the register, and a layout in which it is legal; the bytes that it brings back are as many as the block has, and a full trace tells the bytes that it brought
 pub record IsAccepted (w : World) (brought : List ℕ) (e : Event) : Type 0 where
   pub tickets : event_count w.history < w.limits.tickets
   pub trace : length w.history.trace < w.limits.trace_cap
   pub room : IsEntryAllowed w.limits.regions (open_regions w.state) e
   pub legal : IsLegal w.limits e (layout_of w.state)
   pub fits : AreBrought e brought w.state.records
+  pub told : w.limits.full ≡ true → bytes_told e w.state ≡ brought
 
 at_most : (most n : ℕ) → nat_lt most n ≡ false → n ≤ most
 at_most most n e = grind (arith, nat_tests)
@@ -67,6 +70,20 @@ no_bytes (directives.Step queue) s dids e brought w h = go (head_of queue s.reco
     go (Some t) made = subst (λ x. AreBrought x brought w) (same_event _ _ made) tt
 no_bytes _ s dids e brought w h = subst (λ x. AreBrought x brought w) (same_event _ _ h) tt
 
+-- and tell none
+none_told : (d : Directive) (s : State) (dids : List Did) (e : Event) → verdict_of d s dids ≡ Makes e → bytes_told e s ≡ []
+none_told (directives.Step queue) s dids e h = go (head_of queue s.records.queues) h
+  where
+    go : (o : Option Transfer) → step_verdict queue o ≡ Makes e → bytes_told e s ≡ []
+    go None made = cc
+    go (Some t) made = subst (λ x. bytes_told x s ≡ []) (same_event _ _ made) refl
+none_told _ s dids e h = subst (λ x. bytes_told x s ≡ []) (same_event _ _ h) refl
+
+-- a write tells its bytes
+written_told : (full : Bool) (addr : ℕ) (bytes : List ℕ) (s : State) → full ≡ true → bytes_told (written full addr bytes) s ≡ bytes
+written_told true addr bytes s set = refl
+written_told false addr bytes s set = absurd (true≢false (sym set))
+
 -- a call with a ticket and a place in the trace, whose judgement is the event's
 event_admitted : (w : World) (r : Result Event Fault) (e : Event) → (ticket w >> (trace_room w >> makes r)) ≡ Ok (Makes e) → (event_count w.history < w.limits.tickets) × (length w.history.trace < w.limits.trace_cap) × (r ≡ Ok e)
 event_admitted w r e h =
@@ -90,16 +107,31 @@ accepted w (Do d) e sound h =
       room = some_room w d by.dids e second.0 third.0 by.verdict_is;
       legal = by.legal;
       fits = no_bytes d w.state by.dids e [] w.state.records by.verdict_is;
+      told = λ full. none_told d w.state by.dids e by.verdict_is;
     }
 accepted w (HostWrite addr bytes) e sound h =
-    let by = event_admitted w (host_write_event w.limits addr (length bytes)) e h in
-    let wrote : (HostWritten addr (length bytes) ≡ e) × IsLegal w.limits e (layout_of w.state) = host_write_legal w.limits addr (length bytes) (layout_of w.state) e by.2 in
-    record { tickets = by.0; trace = by.1; room = subst (IsEntryAllowed w.limits.regions (open_regions w.state)) wrote.0 tt; legal = wrote.1; fits = subst (λ x. AreBrought x bytes w.state.records) wrote.0 tt }
+    let by = event_admitted w (host_write_event w.limits addr bytes) e h in
+    let wrote : (written w.limits.full addr bytes ≡ e) × IsLegal w.limits e (layout_of w.state) = host_write_legal w.limits addr bytes (layout_of w.state) e by.2 in
+    record {
+      tickets = by.0;
+      trace = by.1;
+      room = subst (IsEntryAllowed w.limits.regions (open_regions w.state)) wrote.0 tt;
+      legal = wrote.1;
+      fits = subst (λ x. AreBrought x bytes w.state.records) wrote.0 tt;
+      told = λ full. subst (λ x. bytes_told x w.state ≡ bytes) wrote.0 (written_told w.limits.full addr bytes w.state full);
+    }
 accepted w (Lend region section) e sound h =
     let by = event_admitted w (lend_event w.limits region section w.state) e h in
     let lent : (block : ℕ) × (Lent region section block w.state.register.serial ≡ e) × IsLegal w.limits e (layout_of w.state) = lend_legal w.limits region section w.state e by.2 in
-    record { tickets = by.0; trace = by.1; room = subst (IsEntryAllowed w.limits.regions (open_regions w.state)) lent.1 tt; legal = lent.2; fits = subst (λ x. AreBrought x [] w.state.records) lent.1 tt }
+    record {
+      tickets = by.0;
+      trace = by.1;
+      room = subst (IsEntryAllowed w.limits.regions (open_regions w.state)) lent.1 tt;
+      legal = lent.2;
+      fits = subst (λ x. AreBrought x [] w.state.records) lent.1 tt;
+      told = λ full. subst (λ x. bytes_told x w.state ≡ []) lent.1 refl;
+    }
 accepted w (Gather lease) e sound h =
-    let by = event_admitted w (gather_event lease w.state.records) e h in
+    let by = event_admitted w (gather_event w.limits.full lease w.state) e h in
     let back : IsGathered w.limits lease w.state e = gather_legal w.limits lease w.state e sound by.2 in
-    record { tickets = by.0; trace = by.1; room = subst (IsEntryAllowed w.limits.regions (open_regions w.state)) back.event_is tt; legal = back.legal; fits = back.fits }
+    record { tickets = by.0; trace = by.1; room = subst (IsEntryAllowed w.limits.regions (open_regions w.state)) back.event_is tt; legal = back.legal; fits = back.fits; told = back.told }

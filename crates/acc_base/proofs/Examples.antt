@@ -26,7 +26,7 @@ use Rattle.acc_base.proofs.Runs.{ran_with}
 
 -- 64 bytes on either side, and a queue has room for two transfers
 abbrev limits : Limits
-limits = record { host = 64; device = 64; regions = 3; tickets = 100; counter_max = 64; queue_cap = 2; trace_cap = 100 }
+limits = record { host = 64; device = 64; regions = 3; tickets = 100; counter_max = 64; queue_cap = 2; trace_cap = 100; full = false }
 
 -- the same, but that nothing is counted more than twice
 abbrev twice_at_most : Limits
@@ -187,9 +187,9 @@ detaching_calls = attached_twice ++ point_to 0x20 ∷ enter_data_of (pointer_ite
 pointer_lives : (ran_with limits attached_twice).world.state.records.attached ≡ record { block = 1; pointer = 0x1008; count = 2 } ∷ []
     × attached_in 1 0x1008 (ran_with limits attached_twice).world.history ≡ 2
     × (ran_with limits detaching_calls).world.history.trace
-    ≡ events.HostWritten 0x1008 8 ∷ events.EnteredData (item enter.Copyin a ∷ item enter.Copyin b ∷ item enter.Copyin c ∷ []) None (did_of (Born 1 0x1_0000_0000) ∷ did_of (Born 2 0x1_0000_0010) ∷ did_of (Born 3 0x1_0000_0020) ∷ [])
+    ≡ events.HostWritten 0x1008 8 [] ∷ events.EnteredData (item enter.Copyin a ∷ item enter.Copyin b ∷ item enter.Copyin c ∷ []) None (did_of (Born 1 0x1_0000_0000) ∷ did_of (Born 2 0x1_0000_0010) ∷ did_of (Born 3 0x1_0000_0020) ∷ [])
     ∷ events.EnteredData (pointer_item enter.Attach ∷ []) None (did Nothing (aims.New 0x1008 1 0x1_0000_0010) ∷ []) ∷ events.EnteredData (pointer_item enter.Attach ∷ []) None (did Nothing (aims.Again 0x1008 1) ∷ [])
-    ∷ events.HostWritten 0x1008 8 ∷ events.EnteredData (pointer_item enter.Attach ∷ []) None (did Nothing (aims.New 0x1008 1 0x1_0000_0020) ∷ [])
+    ∷ events.HostWritten 0x1008 8 [] ∷ events.EnteredData (pointer_item enter.Attach ∷ []) None (did Nothing (aims.New 0x1008 1 0x1_0000_0020) ∷ [])
     ∷ events.ExitedData (pointer_item exit.Detach ∷ []) false None (did Nothing (aims.Less 0x1008 1) ∷ []) ∷ events.ExitedData (pointer_item exit.Detach ∷ []) false None (did_of Nothing ∷ []) ∷ []
     × (ran_with limits detaching_calls).world.state.memories ≡ memory 1 (replicate 8 0 ++ as_host 0x20) ∷ memory 2 zeros ∷ memory 3 zeros ∷ []
 unfolding ran_with
@@ -197,7 +197,7 @@ pointer_lives = (refl, refl, refl, refl)
 
 -- an item that ends the mapping that holds its own pointer detaches it first
 exited_own : (ran_with limits (point_to 0x10 ∷ enter_data_of (via enter.Copyin (at 0x1000 32) ∷ []) ∷ exit_data_of (via exit.Delete (at 0x1000 32) ∷ []) ∷ [])).world.history.trace
-    ≡ events.HostWritten 0x1008 8 ∷ events.EnteredData (via enter.Copyin (at 0x1000 32) ∷ []) None (did (Born 1 0x1_0000_0000) (aims.New 0x1008 1 0x1_0000_0010) ∷ [])
+    ≡ events.HostWritten 0x1008 8 [] ∷ events.EnteredData (via enter.Copyin (at 0x1000 32) ∷ []) None (did (Born 1 0x1_0000_0000) (aims.New 0x1008 1 0x1_0000_0010) ∷ [])
     ∷ events.ExitedData (via exit.Delete (at 0x1000 32) ∷ []) false None (did (Dropped 1 true) (aims.Less 0x1008 1) ∷ []) ∷ []
 unfolding ran_with
 exited_own = refl
@@ -222,7 +222,7 @@ stepped_leaves : (ran_with limits stepping_calls).world.state.host ≡ 7 ∷ rep
     × (ran_with limits stepping_calls).world.state.memories ≡ memory 2 (replicate 16 0xa5) ∷ []
     × (ran_with limits stepping_calls).world.state.records.queues ≡ new_queues
     × (ran_with limits stepping_calls).world.history.trace
-    ≡ events.HostWritten 0x1000 1 ∷ events.EnteredData (item enter.Copyin a ∷ []) None (did_of (Born 1 0x1_0000_0000) ∷ []) ∷ events.HostWritten 0x1000 1
+    ≡ events.HostWritten 0x1000 1 [] ∷ events.EnteredData (item enter.Copyin a ∷ []) None (did_of (Born 1 0x1_0000_0000) ∷ []) ∷ events.HostWritten 0x1000 1 []
     ∷ events.ExitedData (item exit.Copyout a ∷ []) false (Some 1) (did_of (Dropped 1 true) ∷ []) ∷ events.EnteredData (item (enter.Create false) a ∷ []) None (did_of (Born 2 0x1_0000_0010) ∷ [])
     ∷ events.Stepped 1 1 ∷ events.Waited None 0 ∷ []
 unfolding ran_with
@@ -239,7 +239,7 @@ loans_leave : refusals loans ≡ fine 4 ++ Some (Lent 1) ∷ Some (NotPresent 0)
     × (ran_with limits loans).world.state.memories ≡ memory 1 [] ∷ memory 2 [] ∷ []
     × (ran_with limits loans).world.history.trace
     ≡ events.Entered 1 [] [] ∷ events.EnteredData (item enter.Copyin a ∷ item enter.Copyin b ∷ []) None (did_of (Born 1 0x1_0000_0000) ∷ did_of (Born 2 0x1_0000_0010) ∷ [])
-    ∷ events.Lent 1 (at 0x1014 8) 2 1 ∷ events.Lent 1 a 1 2 ∷ events.Gathered 1 2 ∷ events.Lent 1 (at 0x1018 4) 2 3 ∷ []
+    ∷ events.Lent 1 (at 0x1014 8) 2 1 ∷ events.Lent 1 a 1 2 ∷ events.Gathered 1 2 [] ∷ events.Lent 1 (at 0x1018 4) 2 3 ∷ []
 unfolding ran_with
 loans_leave = (refl, refl, refl, refl, refl)
 
@@ -248,6 +248,30 @@ two_leased : leased (loan 1 1 1 2) (ran_with limits (HostWrite 0x1000 (0x0a ∷ 
     ≡ record { serial = 1; block = 1; offset = 1; len = 2; bytes = 0x0a ∷ 0x0b ∷ 0x0c ∷ 0x0d ∷ [] }
 unfolding ran_with
 two_leased = refl
+
+-- ---- a full trace stores the bytes of a write and of a section that comes back; a lent block keeps a copy, from which its lease may differ in the section alone
+
+abbrev full_trace : Limits
+full_trace = record limits { full = true }
+
+abbrev four : Section
+four = at 0x1000 4
+
+abbrev lending_calls : List (Call Leased)
+lending_calls = HostWrite 0x1000 (7 ∷ []) ∷ enter_data_of (item enter.Copyin four ∷ []) ∷ enter_of (item Present four ∷ []) ∷ Lend 1 (at 0x1001 2) ∷ []
+
+abbrev returning_calls : List (Call Leased)
+returning_calls = lending_calls ++ gather 1 1 1 2 (7 ∷ 8 ∷ 9 ∷ 1 ∷ []) ∷ gather 1 1 1 2 (7 ∷ 8 ∷ 9 ∷ 0 ∷ []) ∷ []
+
+full_tells : (ran_with full_trace lending_calls).world.state.memories ≡ memory 1 (7 ∷ 0 ∷ 0 ∷ 0 ∷ []) ∷ []
+    × (ran_with full_trace returning_calls).refused ≡ fine 4 ++ Some (NoLease 1) ∷ None ∷ []
+    × (ran_with full_trace returning_calls).world.state.memories ≡ memory 1 (7 ∷ 8 ∷ 9 ∷ 0 ∷ []) ∷ []
+    × (ran_with full_trace returning_calls).world.history.trace
+    ≡ events.HostWritten 0x1000 1 (7 ∷ []) ∷ events.EnteredData (item enter.Copyin four ∷ []) None (did_of (Born 1 0x1_0000_0000) ∷ []) ∷ events.Entered 1 (item Present four ∷ []) (did_of (Counted 1) ∷ [])
+    ∷ events.Lent 1 (at 0x1001 2) 1 1 ∷ events.Gathered 1 1 (8 ∷ 9 ∷ []) ∷ []
+    × (ran_with limits returning_calls).refused ≡ fine 5 ++ Some (NoLease 1) ∷ []
+unfolding ran_with
+full_tells = (refl, refl, refl, refl, refl)
 
 -- ---- what is told before a block is found lent, and what after
 

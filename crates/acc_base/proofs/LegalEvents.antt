@@ -1,32 +1,38 @@
 -- A directive, a write of the host, a loan and a lease that are not refused make a legal event.
-use Rattle.std.proofs.Common.{ℕ, suc, ◌≡◌, refl, sym, ◌∙◌, ap, subst, true, false, List, [], ◌∷◌, length, Option, Some, None, Result, Ok, arith}
-use Rattle.std.specs.Prelude.{◌==◌, not, take, drop, unwrap_or, option_map, is_none, ok_or, IsSome}
+use Rattle.std.proofs.Common.{ℕ, suc, ◌≡◌, ◌+◌, ◌≤◌, refl, sym, ◌∙◌, ap, subst, Bool, true, false, cond, List, [], ◌∷◌, ◌++◌, length, Option, Some, None, Result, Ok, arith, length-take, length-drop, take-append-drop, drop-drop}
+use Rattle.std.specs.Prelude.{◌==◌, not, ◌||◌, take, drop, unwrap_or, option_map, is_none, ok_or, IsSome}
+use Rattle.std.proofs.lemmas.Bool.{true≢false}
+use Rattle.std.proofs.lemmas.Slice.Eq.{bytes_eq-Decides}
 use Rattle.std.proofs.lemmas.Bool.Decides.{nat_tests}
-use Rattle.std.proofs.lemmas.List.{reverse-reverse}
-use Rattle.acc_base.specs.Words.{Section, Block, Found, Loan, Holding, Transfer, Task, Directive, Did, Event, Fault}
+use Rattle.std.proofs.lemmas.List.{reverse-reverse, append_assoc}
+use Rattle.acc_base.specs.Words.{Section, Range, Block, Found, Loan, Holding, Transfer, Task, Directive, Did, Event, Fault}
 use Rattle.acc_base.specs.declared.mappings.Found.TheVariants.{Inside}
 use Rattle.acc_base.specs.declared.directives.Directive.TheVariants.{Enter, Exit, EnterData, ExitData, Update, Wait}
 use Rattle.acc_base.specs.declared.directives.Directive.TheVariants as directives
-use Rattle.acc_base.specs.declared.events.Event.TheVariants.{HostWritten, Lent, Gathered}
+use Rattle.acc_base.specs.declared.events.Event.TheVariants.{Lent}
 use Rattle.acc_base.specs.declared.faults.Fault.TheVariants.{NoLease, NoRegion}
 use Rattle.acc_base.specs.Results.{◌>>=◌, ◌>>◌, refuse_if}
-use Rattle.acc_base.specs.Limits.{Limits}
-use Rattle.acc_base.specs.Records.{Layout, State, layout_of}
+use Rattle.acc_base.specs.Limits.{Limits, recorded}
+use Rattle.acc_base.specs.Overwriting.{overwritten}
+use Rattle.acc_base.specs.Records.{Records, Layout, State, layout_of}
 use Rattle.acc_base.specs.Register.{holdings_at}
 use Rattle.acc_base.specs.Ranges.{where_is}
 use Rattle.acc_base.specs.Blocks.{block_at}
-use Rattle.acc_base.specs.Loans.{Leased, loan_of, is_lent, not_lent, none_lent, is_loan_of, len_of, is_returnable}
+use Rattle.acc_base.specs.Loans.{Leased, loan_of, is_lent, not_lent, none_lent, is_loan_of, len_of}
+use Rattle.acc_base.specs.Bytes.{bytes_of}
+use Rattle.acc_base.specs.Leases.{section_bytes, is_kept_outside, is_of_loan, is_returnable}
 use Rattle.acc_base.specs.Clauses.{in_host}
 use Rattle.acc_base.specs.Queues.{queue_at, head_of, queue_named}
 use Rattle.acc_base.specs.Steps.{act}
 use Rattle.acc_base.specs.Detaching.{block_in}
 use Rattle.acc_base.specs.Acting.{judge_task, judge_all, act_state}
-use Rattle.acc_base.specs.Judge.{tasks_with, holdings_left, tasks_of, queue_in, step_verdict, transfers_in, verdict_of, directive_verdict, host_write_event, region_open, lend_there, lend_event, gather_event}
+use Rattle.acc_base.specs.Judge.{tasks_with, holdings_left, tasks_of, queue_in, step_verdict, transfers_in, verdict_of, directive_verdict, written, host_write_event, region_open, lend_there, lend_event, gathered, gather_event}
+use Rattle.acc_base.specs.Replay.{offset_lent, bytes_told}
 use Rattle.acc_base.specs.Judge.{Verdict, Makes}
-use Rattle.acc_base.specs.History.{AreJudged, IsLegal}
-use Rattle.acc_base.specs.Accounts.{IsClearOf, AreRecordsSound}
+use Rattle.acc_base.specs.History.{AreJudged, HasRecorded, IsLegal}
+use Rattle.acc_base.specs.Accounts.{IsClearOf, IsMapped, IsLoanSound, AreRecordsSound}
 use Rattle.acc_base.proofs.Results.{and_true, not_false, equal, bind_ok, then_ok, ok_same, refused_not}
-use Rattle.acc_base.proofs.Elements.{AllByRecursion-weaker, EachPair-weaker}
+use Rattle.acc_base.proofs.Elements.{AllByRecursion-weaker, EachPair-weaker, found_has}
 use Rattle.acc_base.proofs.Lookups.{at-own}
 use Rattle.acc_base.proofs.Walked.{records-act_state}
 use Rattle.acc_base.proofs.Legality.{IsJudgedItem, item_judged}
@@ -108,12 +114,20 @@ made_by l d s e h =
 
 -- ---- a write of the host
 
-pub host_write_legal : (l : Limits) (addr len : ℕ) (lay : Layout) (e : Event) → host_write_event l addr len ≡ Ok e → HostWritten addr len ≡ e × IsLegal l e lay
+-- the bytes that a full trace stores are as many as were brought
+length-recorded : (l : Limits) (bytes : List ℕ) → HasRecorded l (length bytes) (recorded l.full bytes)
+length-recorded l bytes = go l.full
+  where
+    go : (full : Bool) → length (recorded full bytes) ≡ cond full (length bytes) 0
+    go true = refl
+    go false = refl
+
+pub host_write_legal : (l : Limits) (addr : ℕ) (bytes : List ℕ) (lay : Layout) (e : Event) → host_write_event l addr bytes ≡ Ok e → written l.full addr bytes ≡ e × IsLegal l e lay
 unfolding host_write_event
-host_write_legal l addr len lay e h =
-    let both : (in_host l 0 (record { start = addr; len = len }) ≡ Ok tt) × (Ok (HostWritten addr len) ≡ Ok e) = then_ok (in_host l 0 (record { start = addr; len = len })) (Ok (HostWritten addr len)) e h in
-    let is : HostWritten addr len ≡ e = ok_same _ _ both.1 in
-    let legal : IsLegal l (HostWritten addr len) lay = record { names = both.0; judged = tt } in
+host_write_legal l addr bytes lay e h =
+    let both : (in_host l 0 (record { start = addr; len = length bytes }) ≡ Ok tt) × (Ok (written l.full addr bytes) ≡ Ok e) = then_ok (in_host l 0 (record { start = addr; len = length bytes })) (Ok (written l.full addr bytes)) e h in
+    let is : written l.full addr bytes ≡ e = ok_same _ _ both.1 in
+    let legal : IsLegal l (written l.full addr bytes) lay = record { names = (both.0, length-recorded l bytes); judged = tt } in
     (is, subst (λ x. IsLegal l x lay) is legal)
 
 -- ---- loans
@@ -139,26 +153,82 @@ lend_legal l region section s e h =
     go _ at there_is k = cc
 
 -- the loan that a lease brings back is there
-serial_returned : (lease : Leased) (o : Option Loan) → is_loan_of lease o ≡ true → option_map (λ (x : Loan). x.serial) o ≡ Some lease.serial
-serial_returned lease None e = cc
-serial_returned lease (Some x) e = ap Some (equal x.serial lease.serial (and_true _ _ (and_true _ _ e).0).0)
+record IsLoanBack (lease : Leased) (found : Option Loan) : Type 0 where
+  loan : Loan
+  there : found ≡ Some loan
+  serial : loan.serial ≡ lease.serial
+  offset : loan.offset ≡ lease.offset
+  len : loan.len ≡ lease.len
 
--- a lease brings a block back that is lent, with as many bytes as the block has
+loan_returned : (lease : Leased) (o : Option Loan) → is_loan_of lease o ≡ true → IsLoanBack lease o
+loan_returned lease None e = cc
+loan_returned lease (Some x) e =
+    let places = and_true _ _ e in
+    let both = and_true _ _ places.0 in
+    record { loan = x; there = refl; serial = equal x.serial lease.serial both.0; offset = equal x.offset lease.offset both.1; len = equal x.len lease.len places.1 }
+
+-- the section of the loan lies in its block
+within_block : (l : Limits) (w : Records) (loan : Loan) → AreRecordsSound l w → loan_of loan.block w.loans ≡ Some loan → loan.offset + loan.len ≤ len_of loan.block w.blocks
+within_block l w loan sound there =
+    let is = (found_has (IsLoanSound w.ranges) (λ (x : Loan). x.block == loan.block) w.loans loan sound.loans.sound there).0 in
+    let named = found_has (IsMapped w.blocks) (λ (r : Range). r.block == loan.block) w.ranges is.range sound.one_block_each.mapped is.mapped in
+    let at : block_at loan.block w.blocks ≡ Some named.0.0 = subst (λ n. block_at n w.blocks ≡ Some named.0.0) (equal _ _ named.1) named.0.1 in
+    rw at (omega (arith, is.within, named.0.2))
+
+-- a lease brings a block back that is lent, with as many bytes as the block has, and a full trace tells all of them
 pub record IsGathered (l : Limits) (lease : Leased) (s : State) (e : Event) : Type 0 where
-  pub event_is : Gathered lease.serial lease.block ≡ e
+  pub event_is : gathered l.full lease ≡ e
   pub legal : IsLegal l e (layout_of s)
   pub fits : AreBrought e lease.bytes s.records
+  pub told : l.full ≡ true → bytes_told e s ≡ lease.bytes
+
+-- as many as the section is long
+length-section : (lease : Leased) → lease.offset + lease.len ≤ length lease.bytes → length (section_bytes lease) ≡ lease.len
+length-section lease within = length-take lease.len (drop lease.offset lease.bytes) ∙ omega (arith, length-drop lease.offset lease.bytes, within)
+
+section_recorded : (lease : Leased) (full : Bool) → lease.offset + lease.len ≤ length lease.bytes → length (recorded full (section_bytes lease)) ≡ cond full lease.len 0
+section_recorded lease true within = length-section lease within
+section_recorded lease false within = refl
+
+-- with a copy that differs in the section alone, its bytes tell those of the lease
+section_over : (lease : Leased) (copy : List ℕ) → lease.offset + lease.len ≤ length lease.bytes → is_kept_outside lease copy ≡ true → overwritten lease.offset (section_bytes lease) copy ≡ lease.bytes
+section_over lease copy within kept =
+    let both = and_true _ _ kept in
+    let front : take lease.offset lease.bytes ≡ take lease.offset copy = (bytes_eq-Decides _ _).0 (and_true _ _ both.0).1 in
+    let back : drop (lease.offset + lease.len) lease.bytes ≡ drop (lease.offset + lease.len) copy = (bytes_eq-Decides _ _).0 both.1 in
+    append_assoc (take lease.offset copy) (section_bytes lease) (drop (lease.offset + length (section_bytes lease)) copy)
+    ∙ (ap (λ n. take lease.offset copy ++ (section_bytes lease ++ drop (lease.offset + n) copy)) (length-section lease within)
+    ∙ (ap (λ xs. xs ++ (section_bytes lease ++ drop (lease.offset + lease.len) copy)) (sym front)
+    ∙ (ap (λ xs. take lease.offset lease.bytes ++ (section_bytes lease ++ xs)) (sym back ∙ sym (drop-drop lease.len lease.offset lease.bytes))
+    ∙ (ap (λ xs. take lease.offset lease.bytes ++ xs) (take-append-drop lease.len (drop lease.offset lease.bytes)) ∙ take-append-drop lease.offset lease.bytes))))
+
+section_told : (lease : Leased) (full : Bool) (offset : ℕ) (copy : List ℕ) → offset ≡ lease.offset → lease.offset + lease.len ≤ length lease.bytes → (not full || is_kept_outside lease copy) ≡ true → full ≡ true → overwritten offset (recorded full (section_bytes lease)) copy ≡ lease.bytes
+section_told lease true offset copy is within kept set = ap (λ n. overwritten n (section_bytes lease) copy) is ∙ section_over lease copy within kept
+section_told lease false offset copy is within kept set = absurd (true≢false (sym set))
 
 -- a lease that is not refused
-pub gather_legal : (l : Limits) (lease : Leased) (s : State) (e : Event) → AreRecordsSound l s.records → gather_event lease s.records ≡ Ok e → IsGathered l lease s e
+pub gather_legal : (l : Limits) (lease : Leased) (s : State) (e : Event) → AreRecordsSound l s.records → gather_event l.full lease s ≡ Ok e → IsGathered l lease s e
 unfolding gather_event
 gather_legal l lease s e sound h =
-    let both : (refuse_if (not (is_returnable lease s.records.blocks s.records.loans)) (NoLease lease.serial) ≡ Ok tt) × (Ok (Gathered lease.serial lease.block) ≡ Ok e) = then_ok _ (Ok (Gathered lease.serial lease.block)) e h in
-    let returnable : is_returnable lease s.records.blocks s.records.loans ≡ true = not_false _ (refused_not _ _ both.0) in
-    let fits : (is_loan_of lease (loan_of lease.block s.records.loans) ≡ true) × ((len_of lease.block s.records.blocks == length lease.bytes) ≡ true) = and_true _ _ returnable in
-    let is : Gathered lease.serial lease.block ≡ e = ok_same _ _ both.1 in
-    let legal : IsLegal l (Gathered lease.serial lease.block) (layout_of s) = record { names = serial_returned lease (loan_of lease.block s.records.loans) fits.0; judged = tt } in
-    let long : AreBrought (Gathered lease.serial lease.block) lease.bytes s.records = AllByRecursion-weaker (λ (b : Block). block_at b.number s.records.blocks ≡ Some b) (λ (b : Block). b.number ≡ lease.block → length lease.bytes ≡ b.len) s.records.blocks
-    (λ b own same. sym (equal _ _ fits.1) ∙ (sym (ap (λ n. len_of n s.records.blocks) same) ∙ ap (λ (o : Option Block). unwrap_or (option_map (λ (x : Block). x.len) o) 0) own))
-    (at-own (λ (b : Block). b.number) s.records.blocks (EachPair-weaker IsClearOf (λ (b c : Block). b.number ≡ c.number → ⊥) s.records.blocks (λ b c clear same. omega (arith, clear.numbers, same)) sound.blocks_apart.apart)) in
-    record { event_is = is; legal = subst (λ x. IsLegal l x (layout_of s)) is legal; fits = subst (λ x. AreBrought x lease.bytes s.records) is long }
+    let w : Records = s.records in
+    let both = then_ok (refuse_if (not (is_returnable l.full lease w.blocks w.loans s.memories)) (NoLease lease.serial)) (Ok (gathered l.full lease)) e h in
+    let returnable : is_returnable l.full lease w.blocks w.loans s.memories ≡ true = not_false _ (refused_not _ _ both.0) in
+    let known : (is_of_loan lease w.blocks w.loans ≡ true) × ((not l.full || is_kept_outside lease (bytes_of lease.block s.memories)) ≡ true) = and_true _ _ returnable in
+    let fits : (is_loan_of lease (loan_of lease.block w.loans) ≡ true) × ((len_of lease.block w.blocks == length lease.bytes) ≡ true) = and_true _ _ known.0 in
+    let back : IsLoanBack lease (loan_of lease.block w.loans) = loan_returned lease (loan_of lease.block w.loans) fits.0 in
+    let own : back.loan.block ≡ lease.block = equal _ _ (found_has (IsLoanSound w.ranges) (λ (x : Loan). x.block == lease.block) w.loans back.loan sound.loans.sound back.there).1 in
+    let inside : back.loan.offset + back.loan.len ≤ len_of back.loan.block w.blocks = within_block l w back.loan sound (subst (λ n. loan_of n w.loans ≡ Some back.loan) (sym own) back.there) in
+    let within : lease.offset + lease.len ≤ length lease.bytes = omega (arith, subst (λ n. back.loan.offset + back.loan.len ≤ len_of n w.blocks) own inside, equal _ _ fits.1, back.offset, back.len) in
+    let stored : HasRecorded l back.loan.len (recorded l.full (section_bytes lease)) = rw back.len (section_recorded lease l.full within) in
+    let is : gathered l.full lease ≡ e = ok_same _ _ both.1 in
+    let legal : IsLegal l (gathered l.full lease) (layout_of s) = record { names = (back.loan, back.there, back.serial, stored); judged = tt } in
+    let long : AreBrought (gathered l.full lease) lease.bytes w = AllByRecursion-weaker (λ (b : Block). block_at b.number w.blocks ≡ Some b) (λ (b : Block). b.number ≡ lease.block → length lease.bytes ≡ b.len) w.blocks
+    (λ b own same. sym (equal _ _ fits.1) ∙ (sym (ap (λ n. len_of n w.blocks) same) ∙ ap (λ (o : Option Block). unwrap_or (option_map (λ (x : Block). x.len) o) 0) own))
+    (at-own (λ (b : Block). b.number) w.blocks (EachPair-weaker IsClearOf (λ (b c : Block). b.number ≡ c.number → ⊥) w.blocks (λ b c clear same. omega (arith, clear.numbers, same)) sound.blocks_apart.apart)) in
+    let offset : offset_lent lease.block w.loans ≡ lease.offset = ap (λ (o : Option Loan). unwrap_or (option_map (λ (x : Loan). x.offset) o) 0) back.there ∙ back.offset in
+    record {
+      event_is = is;
+      legal = subst (λ x. IsLegal l x (layout_of s)) is legal;
+      fits = subst (λ x. AreBrought x lease.bytes w) is long;
+      told = λ full. subst (λ x. bytes_told x s ≡ lease.bytes) is (section_told lease l.full _ (bytes_of lease.block s.memories) offset within known.1 full);
+    }

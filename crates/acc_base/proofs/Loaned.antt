@@ -107,5 +107,5 @@ unfolding loaned records_drained act_all
 loaned_sound l (Lent region section block serial) lay names h =
     let w : Records = lay.records in
     with_loans l w _ h (loans-with w.ranges (loan_at serial block section w.ranges) w.loans names.2 (placed_loan l serial block section w h names.1) h.loans)
-loaned_sound l (Gathered serial block) lay names h = with_loans l lay.records _ h (loans-without lay.records.ranges block lay.records.loans h.loans)
+loaned_sound l (Gathered serial block bytes) lay names h = with_loans l lay.records _ h (loans-without lay.records.ranges block lay.records.loans h.loans)
 loaned_sound l _ lay names h = h

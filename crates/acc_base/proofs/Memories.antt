@@ -11,7 +11,7 @@ use Rattle.acc_base.specs.declared.attachments.Aim.TheVariants as aims
 use Rattle.acc_base.specs.declared.tasks.Task.TheVariants.{Enter, Exit}
 use Rattle.acc_base.specs.declared.events.Step.TheVariants.{Born, Dropped}
 use Rattle.acc_base.specs.declared.events.Event.TheVariants.{HostWritten, Lent, Gathered}
-use Rattle.acc_base.specs.Limits.{Limits}
+use Rattle.acc_base.specs.Limits.{Limits, recorded}
 use Rattle.acc_base.specs.Records.{Records, Memory, State, new_state}
 use Rattle.acc_base.specs.Section.{covers, host_base}
 use Rattle.acc_base.specs.Ranges.{start_of, without_range, bare_range}
@@ -216,23 +216,23 @@ drained_sized l (q ∷ qs) s h = drained_sized l qs (stepped q s) (stepped_sized
 
 -- the bytes that a call brings keep the length of host memory
 pub length-host_after : (e : Event) (brought host : List ℕ) → length (host_after e brought host) ≡ length host
-length-host_after (HostWritten addr len) brought host = length-host_after_write addr len brought host
+length-host_after (HostWritten addr len bytes) brought host = length-host_after_write addr len brought host
 length-host_after _ brought host = refl
 
 -- the bytes that a call brings back are as many as the block has
 abbrev pub AreBrought : Event → List ℕ → Records → Type 0
-AreBrought (Gathered serial block) brought w = AllByRecursion (λ b. b.number ≡ block → length brought ≡ b.len) w.blocks
+AreBrought (Gathered serial block bytes) brought w = AllByRecursion (λ b. b.number ≡ block → length brought ≡ b.len) w.blocks
 AreBrought _ brought w = ⊤
 
 -- the memory of a block that is lent has no length to keep
-pub lent_sized : (new : Loan) (ls : List Loan) (ms : List Memory) (bs : List Block) → AllZip (IsMemoryOf ls) ms bs → AllZip (IsMemoryOf (with_loan new ls)) (map (memory_changed new.block (λ _. [])) ms) bs
-lent_sized new ls [] [] h = tt
-lent_sized new ls (m ∷ ms) (b ∷ bs) h = (go (m.block == new.block) refl, lent_sized new ls ms bs h.1)
+pub lent_sized : (new : Loan) (change : List ℕ → List ℕ) (ls : List Loan) (ms : List Memory) (bs : List Block) → AllZip (IsMemoryOf ls) ms bs → AllZip (IsMemoryOf (with_loan new ls)) (map (memory_changed new.block change) ms) bs
+lent_sized new change ls [] [] h = tt
+lent_sized new change ls (m ∷ ms) (b ∷ bs) h = (go (m.block == new.block) refl, lent_sized new change ls ms bs h.1)
   where
-    go : (t : Bool) → (m.block == new.block) ≡ t → IsMemoryOf (with_loan new ls) (cond t (record m { bytes = [] }) m) b
+    go : (t : Bool) → (m.block == new.block) ≡ t → IsMemoryOf (with_loan new ls) (cond t (record m { bytes = change m.bytes }) m) b
     go true e = record { block = h.0.block; len = λ free. absurd (true≢false (sym (is_lent-with_same new ls b.number (sym (equal _ _ e) ∙ h.0.block)) ∙ free)) }
     go false e = record { block = h.0.block; len = λ free. h.0.len (is_lent-with_free new ls b.number free) }
-lent_sized new ls _ _ h = absurd h
+lent_sized new change ls _ _ h = absurd h
 
 -- that of a block that came back has its length again
 pub gathered_sized : (k : ℕ) (brought : List ℕ) (ls : List Loan) (ms : List Memory) (bs : List Block) → AllByRecursion (λ b. b.number ≡ k → length brought ≡ b.len) bs → AllZip (IsMemoryOf ls) ms bs
@@ -246,26 +246,26 @@ gathered_sized k brought ls (m ∷ ms) (b ∷ bs) fits h = (go (m.block == k) re
 gathered_sized k brought ls _ _ fits h = absurd h
 
 -- and so are those after an event, whatever it did to loans
-loaned_sized : (e : Event) (brought : List ℕ) (w : Records) (ms : List Memory) → AreBrought e brought w → AllZip (IsMemoryOf w.loans) ms w.blocks → AllZip (IsMemoryOf (loaned e w).loans) (memories_after e brought ms) (loaned e w).blocks
+loaned_sized : (full : Bool) (e : Event) (brought : List ℕ) (w : Records) (ms : List Memory) → AreBrought e brought w → AllZip (IsMemoryOf w.loans) ms w.blocks → AllZip (IsMemoryOf (loaned e w).loans) (memories_after full e brought ms) (loaned e w).blocks
 unfolding loaned
-loaned_sized (Lent region section block serial) brought w ms fits h = lent_sized (loan_at serial block section w.ranges) w.loans ms w.blocks h
-loaned_sized (Gathered serial block) brought w ms fits h = gathered_sized block brought w.loans ms w.blocks fits h
-loaned_sized _ brought w ms fits h = h
+loaned_sized full (Lent region section block serial) brought w ms fits h = lent_sized (loan_at serial block section w.ranges) (recorded full) w.loans ms w.blocks h
+loaned_sized full (Gathered serial block bytes) brought w ms fits h = gathered_sized block brought w.loans ms w.blocks fits h
+loaned_sized full _ brought w ms fits h = h
 
 -- what an event asks of the bytes that are brought back is asked of the blocks before its call
 brought_last : (e : Event) (brought : List ℕ) (s : State) → AreBrought e brought s.records → AreBrought e brought (drained (stepped_in e s.records.queues) (act_all_state (asked_in e s.register) (done_in e) s)).records
 unfolding drained act_all_state
-brought_last (Gathered serial block) brought s fits = fits
+brought_last (Gathered serial block bytes) brought s fits = fits
 brought_last _ brought s fits = tt
 
 -- memories are as long as their blocks after an event
-pub event_sized : (l : Limits) (e : Event) (brought : List ℕ) (s : State) → AreBrought e brought s.records → AreMemoriesSized l s → AreMemoriesSized l (after e brought s)
+pub event_sized : (l : Limits) (full : Bool) (e : Event) (brought : List ℕ) (s : State) → AreBrought e brought s.records → AreMemoriesSized l s → AreMemoriesSized l (after full e brought s)
 unfolding after
-event_sized l e brought s fits h =
+event_sized l full e brought s fits h =
     let acted : AreMemoriesSized l (act_all_state (asked_in e s.register) (done_in e) s) = act_all_sized l (asked_in e s.register) (done_in e) s h in
     let last : State = drained (stepped_in e s.records.queues) (act_all_state (asked_in e s.register) (done_in e) s) in
     let made : AreMemoriesSized l last = drained_sized l (stepped_in e s.records.queues) (act_all_state (asked_in e s.register) (done_in e) s) acted in
-    record { host = length-host_after e brought last.host ∙ made.host; blocks = loaned_sized e brought last.records last.memories (brought_last e brought s fits) made.blocks }
+    record { host = length-host_after e brought last.host ∙ made.host; blocks = loaned_sized full e brought last.records last.memories (brought_last e brought s fits) made.blocks }
 
 -- and at first
 pub new_sized : (l : Limits) → AreMemoriesSized l (new_state l.host)

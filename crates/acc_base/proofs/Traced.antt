@@ -204,7 +204,7 @@ tasks_told l n _ _ w pointers bounds sound judged h = absurd judged
 loaned_told : (e : Event) (w : Records) (pointers : ℕ → ℕ → ℕ) → ArePointersTold pointers w → ArePointersTold pointers (loaned e w)
 unfolding loaned
 loaned_told (Lent region section block serial) w pointers h = record { there = h.there; unborn = h.unborn }
-loaned_told (Gathered serial block) w pointers h = record { there = h.there; unborn = h.unborn }
+loaned_told (Gathered serial block bytes) w pointers h = record { there = h.there; unborn = h.unborn }
 loaned_told _ w pointers h = h
 
 pointer_walks_told : (l : Limits) (events : List Event) (lay : Layout) (pointers : ℕ → ℕ → ℕ) → IsWithinBounds l → AreRecordsSound l lay.records → AreLegal l events lay → ArePointersTold pointers lay.records

@@ -1,5 +1,5 @@
 -- The layout after an event is the walk of the event.
-use Rattle.std.proofs.Common.{◌≡◌, refl, ◌∙◌, ap, List, [], ◌∷◌, ℕ, Option, Some, None}
+use Rattle.std.proofs.Common.{◌≡◌, refl, ◌∙◌, ap, Bool, List, [], ◌∷◌, ℕ, Option, Some, None}
 use Rattle.acc_base.specs.Words.{Transfer, Task, Did, Event}
 use Rattle.acc_base.specs.declared.tasks.Task.TheVariants.{Enter}
 use Rattle.acc_base.specs.Records.{State, Records, layout_of}
@@ -51,7 +51,7 @@ records-drained [] s = refl
 records-drained (q ∷ qs) s = records-drained qs (stepped q s) ∙ ap (records_drained qs) (records-stepped q s)
 
 -- the layout after an event, whatever bytes its call brought
-pub layout-after : (e : Event) (brought : List ℕ) (s : State) → layout_of (after e brought s) ≡ walk e (layout_of s)
+pub layout-after : (full : Bool) (e : Event) (brought : List ℕ) (s : State) → layout_of (after full e brought s) ≡ walk e (layout_of s)
 unfolding after walk
-layout-after e brought s = ap (λ (w : Records). record { records = loaned e w; register = register_after e s.register })
+layout-after full e brought s = ap (λ (w : Records). record { records = loaned e w; register = register_after e s.register })
     (records-drained (stepped_in e s.records.queues) (act_all_state (asked_in e s.register) (done_in e) s) ∙ ap (records_drained (stepped_in e s.records.queues)) (records-act_all_state (asked_in e s.register) (done_in e) s))

@@ -10,10 +10,11 @@ use Rattle.acc_base.specs.Blocks.{block_at, block_end, used_bytes}
 use Rattle.acc_base.specs.Attachments.{IsBefore, IsCountWithin, count_at}
 use Rattle.acc_base.specs.Loans.{is_lent}
 use Rattle.acc_base.specs.Register.{Region, Register, held_in}
-use Rattle.acc_base.specs.Records.{Records, Memory, Layout, State, new_layout, layout_of}
+use Rattle.acc_base.specs.Records.{Records, Memory, Layout, State, new_layout, new_state, layout_of}
 use Rattle.acc_base.specs.Steps.{is_in_use}
 use Rattle.acc_base.specs.Walk.{walk_all}
-use Rattle.acc_base.specs.Calls.{Base, History, World, event_count, open_regions}
+use Rattle.acc_base.specs.Replay.{replayed}
+use Rattle.acc_base.specs.Calls.{Base, History, World, state_in, event_count, open_regions}
 use Rattle.acc_base.specs.History.{entries_in, exits_in, dynamic_in, attached_in, AreLegal}
 
 -- each one is related to each later one
@@ -172,12 +173,13 @@ pub record IsTraced (h : History) (r : Range) : Type 0 where
 abbrev pub AreAttachmentsTraced : History → Records → Type 0
 AreAttachmentsTraced h w = (block pointer : ℕ) → IsSome (block_at block w.blocks) → count_at block pointer w.attached ≡ attached_in block pointer h
 
--- some legal events, as many as the base says, lead to it from a new table
+-- some legal events, as many as the base says, lead to it from a new table, with full traces to its bytes too
 pub record IsFounded (l : Limits) (base : Base) : Type 0 where
   pub events : List Event
   pub count : length events ≡ base.events
   pub legal : AreLegal l events new_layout
   pub leads : walk_all events new_layout ≡ base.layout
+  pub replayed : l.full ≡ true → replayed events (new_state l.host) ≡ state_in base
 
 -- the history is legal from its base on and leads to the layout
 pub record IsHistoryLegal (l : Limits) (h : History) (lay : Layout) : Type 0 where
@@ -191,9 +193,14 @@ pub record AreBooksCounted (w : World) : Type 0 where
   pub trace : length w.history.trace ≤ w.limits.trace_cap
   pub regions : open_regions w.state ≤ w.limits.regions
 
+-- with full traces both memories, and all else of the state, are what the stored events give from the base on
+abbrev pub IsReplayed : World → Type 0
+IsReplayed w = w.limits.full ≡ true → replayed w.history.trace (state_in w.history.base) ≡ w.state
+
 pub record IsAccounted (w : World) : Type 0 where
   pub sound : IsSound w.limits w.state
   pub counters_traced : AllByRecursion (IsTraced w.history) w.state.records.ranges
   pub attachments_traced : AreAttachmentsTraced w.history w.state.records
   pub history_legal : IsHistoryLegal w.limits w.history (layout_of w.state)
+  pub memories_replayed : IsReplayed w
   pub books_counted : AreBooksCounted w

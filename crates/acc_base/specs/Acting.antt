@@ -1,11 +1,11 @@
 -- What an item does, its step and what becomes of its pointer: judged, and done. And what a directive and an event leave of the state.
-use Rattle.std.specs.Prelude.{ℕ, suc, List, [], ◌∷◌, map, Option, Some, None, Result, Ok}
+use Rattle.std.specs.Prelude.{ℕ, suc, Bool, List, [], ◌∷◌, map, Option, Some, None, Result, Ok}
 use Rattle.acc_base.specs.Words.{Aim, Task, Step, Did, Event, Fault}
 use Rattle.acc_base.specs.declared.attachments.Aim.TheVariants as aims
 use Rattle.acc_base.specs.declared.tasks.Task.TheVariants.{Enter, Leave, Exit, Move}
 use Rattle.acc_base.specs.declared.events.Event.TheVariants.{HostWritten, Lent, Gathered}
 use Rattle.acc_base.specs.Results.{◌>>=◌}
-use Rattle.acc_base.specs.Limits.{Limits}
+use Rattle.acc_base.specs.Limits.{Limits, recorded}
 use Rattle.acc_base.specs.Records.{Memory, State}
 use Rattle.acc_base.specs.Steps.{pointer_aimed, judge_step}
 use Rattle.acc_base.specs.Waits.{drained}
@@ -60,17 +60,17 @@ act_all_state _ _ s = s
 
 -- what an event writes into host memory beside the transfers that it makes, from the bytes that its call brought
 abbrev pub host_after : Event → List ℕ → List ℕ → List ℕ
-host_after (HostWritten addr len) brought host = host_after_write addr len brought host
+host_after (HostWritten addr len bytes) brought host = host_after_write addr len brought host
 host_after _ brought host = host
 
--- what an event leaves of the blocks' bytes beside the transfers that it makes: those of a lent block are in its lease, until its call brings them back
-abbrev pub memories_after : Event → List ℕ → List Memory → List Memory
-memories_after (Lent region section block serial) brought memories = map (memory_changed block (λ _. [])) memories
-memories_after (Gathered serial block) brought memories = map (memory_changed block (λ _. brought)) memories
-memories_after _ brought memories = memories
+-- what an event leaves of the blocks' bytes beside the transfers that it makes: those of a lent block are in its lease, until its call brings them back, and with full traces a copy of them stays
+abbrev pub memories_after : Bool → Event → List ℕ → List Memory → List Memory
+memories_after full (Lent region section block serial) brought memories = map (memory_changed block (recorded full)) memories
+memories_after full (Gathered serial block bytes) brought memories = map (memory_changed block (λ _. brought)) memories
+memories_after full _ brought memories = memories
 
--- the state after an event, and with the bytes that its call brought
-unfoldable pub after : Event → List ℕ → State → State
-after e brought s =
+-- the state after an event, and with the bytes that its call brought, under full or counted traces
+unfoldable pub after : Bool → Event → List ℕ → State → State
+after full e brought s =
     let acted : State = drained (stepped_in e s.records.queues) (act_all_state (asked_in e s.register) (done_in e) s) in
-    record { records = loaned e acted.records; register = register_after e s.register; host = host_after e brought acted.host; memories = memories_after e brought acted.memories }
+    record { records = loaned e acted.records; register = register_after e s.register; host = host_after e brought acted.host; memories = memories_after full e brought acted.memories }

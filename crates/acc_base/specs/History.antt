@@ -1,6 +1,6 @@
 -- The counters as counts over the events since a base, from its own values on; and which lists of events are legal.
 use Rattle.std.specs.Prelude.{ℕ, suc, ◌+◌, ◌-◌, ◌≡◌, ◌<◌, Bool, false, if◌then◌else◌, ◌==◌, List, [], ◌∷◌, length, Option, option_map, Some, Ok, count_by, sum_by, fold, IsSome, ⊤}
-use Rattle.acc_base.specs.Words.{Step, Did, Event, Aim, Task}
+use Rattle.acc_base.specs.Words.{Step, Did, Event, Aim, Task, Loan}
 use Rattle.acc_base.specs.declared.events.Step.TheVariants.{Counted, Born, Dropped}
 use Rattle.acc_base.specs.declared.events.Event.TheVariants.{Entered, Left, EnteredData, ExitedData, Updated, Waited, Stepped, HostWritten, Lent, Gathered}
 use Rattle.acc_base.specs.declared.attachments.Aim.TheVariants as aims
@@ -109,7 +109,11 @@ AreJudged l n [] [] w = ⊤
 AreJudged l n (task ∷ tasks) (did ∷ dids) w = (judge_step l n task w ≡ Ok did.step) × IsAimLegal l task did w × AreJudged l (suc n) tasks dids (act task did w)
 AreJudged l n _ _ w = ⊥
 
--- what an event names is so: a new region has the next number, a region that is left is open, there is the queue, a wait makes as many transfers as wait there, a step makes the first one, none of them of a lent block, a write lies in host memory, a loan is of a section inside a range whose block is not lent, in an open region and under the next serial number, and a block comes back that is lent under that number
+-- so many bytes are stored where traces are full, and none where they are counted
+abbrev pub HasRecorded : Limits → ℕ → List ℕ → Type 0
+HasRecorded l len bytes = length bytes ≡ (if l.full then len else 0)
+
+-- what an event names is so: a new region has the next number, a region that is left is open, there is the queue, a wait makes as many transfers as wait there, a step makes the first one, none of them of a lent block, a write lies in host memory and its bytes are stored, a loan is of a section inside a range whose block is not lent, in an open region and under the next serial number, and a block comes back that is lent under that number, and the bytes of its section are stored
 abbrev pub NamesRight : Limits → Event → Layout → Type 0
 NamesRight l (Entered number items did) lay = number ≡ lay.register.next
 NamesRight l (Left number did) lay = IsSome (holdings_at number lay.register.regions)
@@ -118,9 +122,9 @@ NamesRight l (ExitedData items finalize queue did) lay = queue_named queue ≡ O
 NamesRight l (Updated items if_present queue did) lay = queue_named queue ≡ Ok tt
 NamesRight l (Waited queue count) lay = (queue_named queue ≡ Ok tt) × (count ≡ length (steps_of queue lay.records.queues)) × (none_lent (transfers_of queue lay.records.queues) lay.records.loans ≡ Ok tt)
 NamesRight l (Stepped queue block) lay = (option_map (λ t. t.block) (head_of queue lay.records.queues) ≡ Some block) × (is_lent block lay.records.loans ≡ false)
-NamesRight l (HostWritten addr len) lay = in_host l 0 (record { start = addr; len = len }) ≡ Ok tt
+NamesRight l (HostWritten addr len bytes) lay = (in_host l 0 (record { start = addr; len = len }) ≡ Ok tt) × HasRecorded l len bytes
 NamesRight l (Lent region section block serial) lay = IsSome (holdings_at region lay.register.regions) × (block_in (where_is section lay.records.ranges) ≡ Some block) × (is_lent block lay.records.loans ≡ false) × (serial ≡ lay.register.serial)
-NamesRight l (Gathered serial block) lay = option_map (λ l. l.serial) (loan_of block lay.records.loans) ≡ Some serial
+NamesRight l (Gathered serial block bytes) lay = (loan : Loan) × (loan_of block lay.records.loans ≡ Some loan) × (loan.serial ≡ serial) × HasRecorded l loan.len bytes
 
 pub record IsLegal (l : Limits) (e : Event) (lay : Layout) : Type 0 where
   pub names : NamesRight l e lay

@@ -1,17 +1,18 @@
 -- What each directive, write and loan is refused for, in order, and else the event that it makes.
-use Rattle.std.specs.Prelude.{ℕ, not, nat_lt, List, [], map, take, length, reverse, Option, is_none, ok_or, Some, None, Result, Ok, Err, ⊤}
+use Rattle.std.specs.Prelude.{ℕ, Bool, not, nat_lt, List, [], map, take, length, reverse, Option, is_none, ok_or, Some, None, Result, Ok, Err, ⊤}
 use Rattle.acc_base.specs.Words.{Directive, Section, Found, Loan, Holding, Transfer, Task, Did, Event, Fault}
 use Rattle.acc_base.specs.declared.directives.Directive.TheVariants.{Enter, Exit, EnterData, ExitData, Update, Wait, Step}
 use Rattle.acc_base.specs.declared.mappings.Found.TheVariants.{Empty, Inside, Partly, Absent}
 use Rattle.acc_base.specs.declared.events.Event.TheVariants as events
 use Rattle.acc_base.specs.declared.faults.Fault.TheVariants.{TooManyItems, PartlyPresent, NotPresent, NoRegion, NoLease}
 use Rattle.acc_base.specs.Results.{◌>>=◌, ◌>>◌, refuse_if}
-use Rattle.acc_base.specs.Limits.{Limits}
-use Rattle.acc_base.specs.Records.{Records, State}
+use Rattle.acc_base.specs.Limits.{Limits, recorded}
+use Rattle.acc_base.specs.Records.{State}
 use Rattle.acc_base.specs.Ranges.{where_is}
 use Rattle.acc_base.specs.Register.{Register, holdings_at}
-use Rattle.acc_base.specs.Loans.{Leased, not_lent, none_lent, is_returnable}
+use Rattle.acc_base.specs.Loans.{Leased, not_lent, none_lent}
 use Rattle.acc_base.specs.Bytes.{bytes_of}
+use Rattle.acc_base.specs.Leases.{section_bytes, is_returnable}
 use Rattle.acc_base.specs.Clauses.{in_host}
 use Rattle.acc_base.specs.Acting.{judge_all}
 use Rattle.acc_base.specs.Queues.{queue_at, head_of, queue_named}
@@ -101,9 +102,13 @@ directive_verdict l d s = do
 unfoldable pub plan_of : Limits → Directive → State → Result Verdict Fault
 plan_of l d s = few_items d >> directive_verdict l d s
 
--- the event of a write of so many bytes from a host address on
-unfoldable pub host_write_event : Limits → ℕ → ℕ → Result Event Fault
-host_write_event l addr len = in_host l 0 (record { start = addr; len = len }) >> Ok (events.HostWritten addr len)
+-- the event of a write of bytes from a host address on
+abbrev pub written : Bool → ℕ → List ℕ → Event
+written full addr bytes = events.HostWritten addr (length bytes) (recorded full bytes)
+
+-- the bytes are written into host memory
+unfoldable pub host_write_event : Limits → ℕ → List ℕ → Result Event Fault
+host_write_event l addr bytes = in_host l 0 (record { start = addr; len = length bytes }) >> Ok (written l.full addr bytes)
 
 -- ---- loans
 
@@ -126,6 +131,10 @@ lend_event l region section s = region_open region s.register >> (in_host l 0 se
 abbrev pub leased : Loan → State → Leased
 leased loan s = record { serial = loan.serial; block = loan.block; offset = loan.offset; len = loan.len; bytes = bytes_of loan.block s.memories }
 
+-- the event of a lease that brings its block back
+abbrev pub gathered : Bool → Leased → Event
+gathered full lease = events.Gathered lease.serial lease.block (recorded full (section_bytes lease))
+
 -- a lease brings its block back
-unfoldable pub gather_event : Leased → Records → Result Event Fault
-gather_event lease w = refuse_if (not (is_returnable lease w.blocks w.loans)) (NoLease lease.serial) >> Ok (events.Gathered lease.serial lease.block)
+unfoldable pub gather_event : Bool → Leased → State → Result Event Fault
+gather_event full lease s = refuse_if (not (is_returnable full lease s.records.blocks s.records.loans s.memories)) (NoLease lease.serial) >> Ok (gathered full lease)

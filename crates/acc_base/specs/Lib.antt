@@ -20,10 +20,12 @@ pub mod Transfers
 pub mod Detaching
 pub mod Steps
 pub mod Bytes
+pub mod Leases
 pub mod Waits
 pub mod Walk
 pub mod Pointers
 pub mod Acting
+pub mod Replay
 pub mod Judge
 pub mod Calls
 pub mod History

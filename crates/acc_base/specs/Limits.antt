@@ -1,5 +1,5 @@
--- The limits of a table, and the bounds that each of them keeps.
-use Rattle.std.specs.Prelude.{ℕ, ◌≡◌, ◌≤◌, ◌%◌, ◌^◌}
+-- The limits of a table, the bounds that each of them keeps, and whether its trace stores bytes.
+use Rattle.std.specs.Prelude.{ℕ, ◌≡◌, ◌≤◌, ◌%◌, ◌^◌, Bool, if◌then◌else◌, List, []}
 use Rattle.acc_base.specs.declared.addresses.TheConstants.{MEMORY_MAX}
 
 pub record Limits : Type 0 where
@@ -10,9 +10,11 @@ pub record Limits : Type 0 where
   pub counter_max : ℕ
   pub queue_cap : ℕ
   pub trace_cap : ℕ
+  -- the trace is a full one: it stores the bytes that calls bring, and not only how many
+  pub full : Bool
 
-abbrev pub limits_of : (host device regions tickets counter_max queue_cap trace_cap : ℕ) → Limits
-limits_of host device regions tickets counter_max queue_cap trace_cap = record {
+abbrev pub limits_of : (host device regions tickets counter_max queue_cap trace_cap : ℕ) (full : Bool) → Limits
+limits_of host device regions tickets counter_max queue_cap trace_cap full = record {
   host = host;
   device = device;
   regions = regions;
@@ -20,7 +22,12 @@ limits_of host device regions tickets counter_max queue_cap trace_cap = record {
   counter_max = counter_max;
   queue_cap = queue_cap;
   trace_cap = trace_cap;
+  full = full;
 }
+
+-- what is stored of bytes, or of memories: a full trace has all of them, a counted one none
+abbrev pub recorded : {A : Type 0} → Bool → List A → List A
+recorded full xs = if full then xs else []
 
 -- the number of bytes may be the size of a memory
 abbrev pub IsSize : ℕ → Type 0

@@ -53,7 +53,3 @@ is_loan_of lease (Some l) = l.serial == lease.serial && l.offset == lease.offset
 -- the length of a block
 abbrev pub len_of : ℕ → List Block → ℕ
 len_of block blocks = unwrap_or (option_map (λ b. b.len) (block_at block blocks)) 0
-
--- the lease's block is out under the lease's loan, and as long as the lease has bytes
-abbrev pub is_returnable : Leased → List Block → List Loan → Bool
-is_returnable lease blocks loans = is_loan_of lease (loan_of lease.block loans) && (len_of lease.block blocks == length lease.bytes)

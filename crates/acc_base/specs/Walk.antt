@@ -94,7 +94,7 @@ loan_at serial block section ranges = record { serial = serial; block = block; o
 
 unfoldable pub loaned : Event → Records → Records
 loaned (Lent region section block serial) w = record w { loans = with_loan (loan_at serial block section w.ranges) w.loans }
-loaned (Gathered serial block) w = record w { loans = without_loan block w.loans }
+loaned (Gathered serial block bytes) w = record w { loans = without_loan block w.loans }
 loaned _ w = w
 
 -- ---- the layout after an event

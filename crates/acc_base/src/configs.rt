@@ -1,6 +1,6 @@
 //! The limits of a table.
 
-ghost use Rattle.std.specs.Prelude.{◌≡◌, ◌^◌, ◌↔◌, IsTrue, MatchResult};
+ghost use Rattle.std.specs.Prelude.{◌≡◌, ◌^◌, ◌↔◌, false, true, IsTrue, MatchResult};
 ghost use Rattle.acc_base.specs.Limits.{limits_of, IsWithinBounds, IsSize, IsFromOne};
 
 use crate::{Fault, MEMORY_MAX};
@@ -18,6 +18,7 @@ pub struct Config {
     counter_max: u64,
     queue_cap: u64,
     trace_cap: u64,
+    full: bool,
 }
 
 impl Model for Config {
@@ -25,9 +26,9 @@ impl Model for Config {
 
     ghost Value = { Limits };
 
-    ghost view = { λ c. limits_of c.host c.device c.regions c.tickets c.counter_max c.queue_cap c.trace_cap };
+    ghost view = { λ c. limits_of c.host c.device c.regions c.tickets c.counter_max c.queue_cap c.trace_cap c.full };
 
-    ghost invariant = { λ c. IsWithinBounds (limits_of c.host c.device c.regions c.tickets c.counter_max c.queue_cap c.trace_cap) };
+    ghost invariant = { λ c. IsWithinBounds (limits_of c.host c.device c.regions c.tickets c.counter_max c.queue_cap c.trace_cap c.full) };
 
     ghost inverse = { λ l. record {
       host = l.host;
@@ -37,11 +38,12 @@ impl Model for Config {
       counter_max = l.counter_max;
       queue_cap = l.queue_cap;
       trace_cap = l.trace_cap;
+      full = l.full;
     } };
 }
 
 impl Config {
-    /// A configuration of these limits.
+    /// A configuration of these limits, of tables whose traces are counted.
     ///
     /// - `host` and `device`: the sizes of host and device memory in bytes, each a multiple of 16 from 16 to
     ///   67,108,864;
@@ -64,8 +66,8 @@ impl Config {
         trace_cap: u64,
     ) -> Result<Config, Fault>
         ensures { MatchResult result
-            (λ c. (c ≡ limits_of host device regions tickets counter_max queue_cap trace_cap) × IsWithinBounds c)
-            (λ e. (e ≡ Fault.BadConfig) × ¬ IsWithinBounds (limits_of host device regions tickets counter_max queue_cap trace_cap)) }
+            (λ c. (c ≡ limits_of host device regions tickets counter_max queue_cap trace_cap false) × IsWithinBounds c)
+            (λ e. (e ≡ Fault.BadConfig) × ¬ IsWithinBounds (limits_of host device regions tickets counter_max queue_cap trace_cap false)) }
     {
         if is_size(host)
             && is_size(device)
@@ -83,10 +85,20 @@ impl Config {
                 counter_max,
                 queue_cap,
                 trace_cap,
+                full: false,
             })
         } else {
             Err(Fault::BadConfig)
         }
+    }
+
+    /// The same limits, of tables whose traces are full: an event then stores the bytes that its call brought, a base the
+    /// bytes of both memories, and a lent block keeps a copy of its bytes. So both memories can be had again from a base
+    /// and the events since. A counted trace stores none of these.
+    pub fn with_full_trace(self) -> Config
+        ensures { result ≡ record self { full = true } }
+    {
+        Config { full: true, ..self }
     }
 
     /// Each limit is within the bounds that [`Config::new`] states. Nothing is done.
@@ -150,6 +162,13 @@ impl Config {
         ensures bounds { IsFromOne 16777216 result }
     {
         self.trace_cap
+    }
+
+    /// Whether traces are full.
+    pub fn full(&self) -> bool
+        ensures { result ≡ self.now.full }
+    {
+        self.full
     }
 }
 

@@ -107,12 +107,14 @@ pub enum Event {
         /// The number of the block that the transfer names.
         block: u64,
     },
-    /// The host wrote into its memory. The bytes are not stored here.
+    /// The host wrote into its memory.
     HostWritten {
         /// The first host address that was written.
         addr: u64,
         /// How many bytes were written.
         len: u64,
+        /// The bytes that were written, where the trace is full; none where it is counted.
+        bytes: List<u8>,
     },
     /// The block of a section was lent to a kernel.
     Lent {
@@ -125,11 +127,13 @@ pub enum Event {
         /// The serial number of the loan.
         serial: u64,
     },
-    /// A lent block came back. Its bytes are not stored here.
+    /// A lent block came back.
     Gathered {
         /// The serial number of the loan.
         serial: u64,
         /// The number of the block.
         block: u64,
+        /// The bytes with which the lent section came back, where the trace is full; none where it is counted.
+        bytes: List<u8>,
     },
 }

@@ -71,7 +71,7 @@ fn lend_again(device: &mut Device, alloc: Global, len: u64) -> Result<u64, Fault
 fn lend_once(device: &mut Device, alloc: Global, serial: u64, len: u64) -> Result<u64, Fault> {
     let mut lease = take_out(device, serial, len)?;
     let places = cut(&mut lease, alloc);
-    if let Err((lease, fault)) = device.put_back(lease) {
+    if let Err((lease, fault)) = device.put_back(lease, false) {
         lease.abandon();
         return Err(fault);
     }
@@ -93,7 +93,7 @@ fn take_out(device: &mut Device, serial: u64, len: u64) -> Result<Lease, Fault> 
         Some(bytes) if bytes.len() as u64 == len => {}
         Some(_) | None => return Err(Fault::NoLease { serial }),
     }
-    device.take_out(1, serial, 0, len)
+    device.take_out(1, serial, 0, len, false)
 }
 
 /// Takes each part of the loan, and answers the sum of the places where they end.

@@ -1,6 +1,6 @@
 -- What a planned directive makes of a store: the state after its event, and a store that is sound.
 use Rattle.std.proofs.lemmas.Bool.Decides.{nat_tests}
-use Rattle.std.proofs.Common.{◌≡◌, ◌≤◌, refl, sym, subst, ℕ, List, [], arith}
+use Rattle.std.proofs.Common.{◌≡◌, ◌≤◌, refl, sym, subst, ℕ, Bool, List, [], arith}
 use Rattle.acc_clauses.specs.Words.{Directive, Event}
 use Rattle.acc_base.specs.Limits.{Limits, IsWithinBounds}
 use Rattle.acc_base.specs.Records.{Layout, State, layout_of}
@@ -23,16 +23,16 @@ use Rattle.acc_clauses.proofs.Events.{IsEventOf, event_of_plan, idle_plan}
 -- ---- the state
 
 -- the state after the event of a plan is that after its tasks, and then its queues and its register
-pub after_plan : (d : Directive) (p : Planned) (s : State) (e : Event) → IsEventOf d p s e → after e [] s ≡ finished d p (act_all_state p.tasks p.dids s)
+pub after_plan : (full : Bool) (d : Directive) (p : Planned) (s : State) (e : Event) → IsEventOf d p s e → after full e [] s ≡ finished d p (act_all_state p.tasks p.dids s)
 unfolding after
-after_plan d p s e is = grind (arith, nat_tests, register-act_all_state)
+after_plan full d p s e is = grind (arith, nat_tests, register-act_all_state)
 
 -- it is the state after what the directive comes to
-pub finished_verdict : (l : Limits) (d : Directive) (s : State) (p : Planned) → IsPlanOf l d s p → finished d p (act_all_state p.tasks p.dids s) ≡ state_by (verdict_of d s p.dids) s
+pub finished_verdict : (l : Limits) (d : Directive) (s : State) (p : Planned) → IsPlanOf l d s p → finished d p (act_all_state p.tasks p.dids s) ≡ state_by l.full (verdict_of d s p.dids) s
 finished_verdict l d s p h = go (verdict_of d s p.dids) refl
   where
-    go : (v : Verdict) → verdict_of d s p.dids ≡ v → finished d p (act_all_state p.tasks p.dids s) ≡ state_by v s
-    go (Makes e) made = sym (after_plan d p s e (event_of_plan l d s p e h made))
+    go : (v : Verdict) → verdict_of d s p.dids ≡ v → finished d p (act_all_state p.tasks p.dids s) ≡ state_by l.full v s
+    go (Makes e) made = sym (after_plan l.full d p s e (event_of_plan l d s p e h made))
     go Idle idle = idle_plan l d s p h idle
 
 -- ---- the layout
@@ -49,16 +49,16 @@ layout_kept l e lay bounds h legal few =
     record { records = kept.sound; register = register_sound (register_after e lay.register) kept.numbered few; held = kept.held }
 
 -- a store is sound after a legal event
-pub event_sound : (l : Limits) (e : Event) (brought : List ℕ) (c f : Contents) → IsWithinBounds l → c.limits ≡ l → f.limits ≡ l → IsStoreSound c → IsLegal l e (layout_of c.state) → AreBrought e brought c.state.records → f.state ≡ after e brought c.state
+pub event_sound : (l : Limits) (e : Event) (brought : List ℕ) (c f : Contents) → IsWithinBounds l → c.limits ≡ l → f.limits ≡ l → IsStoreSound c → IsLegal l e (layout_of c.state) → AreBrought e brought c.state.records → f.state ≡ after l.full e brought c.state
     → AreFew (register_after e c.state.register) → used_bytes f.state.records.blocks ≤ l.device → AreHoldingsWithin f.state.records f.state.register.regions → IsStoreSound f
 event_sound l e brought c f bounds cl fl h legal fits is few used within =
     let before : IsSound l c.state = subst (λ (m : Limits). IsSound m c.state) cl h.sound in
-    let layout : IsLayoutSound l (layout_of (after e brought c.state)) = subst (IsLayoutSound l) (sym (layout-after e brought c.state)) (layout_kept l e (layout_of c.state) bounds before.layout legal few) in
+    let layout : IsLayoutSound l (layout_of (after l.full e brought c.state)) = subst (IsLayoutSound l) (sym (layout-after l.full e brought c.state)) (layout_kept l e (layout_of c.state) bounds before.layout legal few) in
     record {
       sound = subst (λ (m : Limits). IsSound m f.state) (sym fl) (record {
         layout = subst (λ (s : State). IsLayoutSound l (layout_of s)) (sym is) layout;
         bytes_accounted = used;
-        memories_sized = rw is (event_sized l e brought c.state fits before.memories_sized);
+        memories_sized = rw is (event_sized l l.full e brought c.state fits before.memories_sized);
       });
       holdings = within;
     }

@@ -177,7 +177,7 @@ made_sound d c f p e bounds h planned limits state used made =
     let l : Limits = c.limits in
     let is : IsEventOf d p c.state e = event_of_plan l d c.state p e planned made in
     let P : State → Type 0 = λ s. AreHoldingsWithin s.records s.register.regions in
-    event_sound l e [] c f bounds refl limits h (planned_legal l d c.state p e planned made) (is.brought c.state.records) (state ∙ sym (after_plan d p c.state e is))
+    event_sound l e [] c f bounds refl limits h (planned_legal l d c.state p e planned made) (is.brought c.state.records) (state ∙ sym (after_plan l.full d p c.state e is))
     (subst AreFew (sym is.register) (few_with_plan d c p h planned))
     (subst (λ (m : Limits). used_bytes f.state.records.blocks ≤ m.device) limits used)
     (subst P (sym state) (within_finished d c p bounds h planned))

@@ -1,6 +1,6 @@
 -- The event of a plan is legal, and has the tasks, the steps, the queues and the register of the plan. Where a plan makes none, it changes nothing.
 use Rattle.std.proofs.lemmas.Bool.Decides.{nat_tests}
-use Rattle.std.proofs.Common.{ℕ, ◌≡◌, refl, sym, ap, subst, ◌∙◌, List, [], ◌∷◌, Option, Some, None, Ok, arith}
+use Rattle.std.proofs.Common.{ℕ, ◌≡◌, refl, sym, ap, subst, ◌∙◌, Bool, List, [], ◌∷◌, Option, Some, None, Ok, arith}
 use Rattle.std.specs.Prelude.{map}
 use Rattle.std.proofs.lemmas.List.{reverse-reverse}
 use Rattle.acc_clauses.specs.Words.{Directive, Item, RegionClause, Task, Transfer, Did, Event}
@@ -27,7 +27,7 @@ pub record IsEventOf (d : Directive) (p : Planned) (s : State) (e : Event) : Typ
   pub register : register_after e s.register ≡ register_by d (holdings_by p.tasks p.dids) s.register
   pub host : (bytes : List ℕ) → host_after e [] bytes ≡ bytes
   pub records : (w : Records) → loaned e w ≡ w
-  pub memories : (ms : List Memory) → memories_after e [] ms ≡ ms
+  pub memories : (full : Bool) (ms : List Memory) → memories_after full e [] ms ≡ ms
   pub brought : (w : Records) → AreBrought e [] w
 
 -- ---- the tasks

@@ -5,16 +5,17 @@ use Rattle.std.proofs.lemmas.Bool.Decides.{nat_tests}
 use Rattle.std.specs.List.{AllByRecursion, AllZip}
 use Rattle.acc_clauses.specs.Words.{Section, Range, Block, Loan, Event}
 use Rattle.acc_base.specs.declared.faults.Fault.TheVariants.{NoLease}
-use Rattle.acc_base.specs.declared.events.Event.TheVariants.{Lent, Gathered}
+use Rattle.acc_base.specs.declared.events.Event.TheVariants.{Lent}
 use Rattle.acc_base.specs.Results.{refuse_if}
-use Rattle.acc_base.specs.Limits.{Limits, IsWithinBounds}
+use Rattle.acc_base.specs.Limits.{Limits, recorded, IsWithinBounds}
 use Rattle.acc_base.specs.Records.{Records, State, layout_of}
 use Rattle.acc_base.specs.Blocks.{block_at, used_bytes}
-use Rattle.acc_base.specs.Loans.{Leased, loan_of, is_loan_of, is_lent, with_loan, without_loan, len_of, is_returnable}
+use Rattle.acc_base.specs.Loans.{Leased, loan_of, is_loan_of, is_lent, with_loan, without_loan, len_of}
+use Rattle.acc_base.specs.Leases.{is_returnable}
 use Rattle.acc_base.specs.Walk.{loan_at, loaned}
 use Rattle.acc_base.specs.Waits.{drained}
 use Rattle.acc_base.specs.Acting.{act_all_state, after}
-use Rattle.acc_base.specs.Judge.{gather_event}
+use Rattle.acc_base.specs.Judge.{gathered, gather_event}
 use Rattle.acc_base.specs.History.{IsLegal}
 use Rattle.acc_base.specs.Accounts.{EachPair, IsLoanSound, AreRecordsSound, AreMemoriesSized}
 use Rattle.acc_base.proofs.Results.{equal, and_true, then_ok, refused_not, not_false}
@@ -96,19 +97,19 @@ loan_some : (lease : Leased) (o : Option Loan) → is_loan_of lease o ≡ true �
 loan_some lease o e = grind (arith, nat_tests)
 
 -- the block of a lease that is returnable is lent
-returnable_lent : (lease : Leased) (w : Records) → is_returnable lease w.blocks w.loans ≡ true → is_lent lease.block w.loans ≡ true
-returnable_lent lease w e = loan_some lease (loan_of lease.block w.loans) (and_true _ _ e).0
+returnable_lent : (full : Bool) (lease : Leased) (s : State) → is_returnable full lease s.records.blocks s.records.loans s.memories ≡ true → is_lent lease.block s.records.loans ≡ true
+returnable_lent full lease s e = loan_some lease (loan_of lease.block s.records.loans) (and_true _ _ (and_true _ _ e).0).0
 
-pub lent_is : (x : Environment) (n : Numbers) (d : DeviceState) (loan : Loan) → IsTakenOut x.device d loan → state_of (record x { device = d }) (numbered_on n) ≡ lent_state loan (state_of x n)
-lent_is x n d loan out = state_from_parts (record x { device = d }) (numbered_on n) (lent_state loan (state_of x n)) refl out.blocks refl out.births refl out.loans refl refl refl refl out.memories
+pub lent_is : (full : Bool) (x : Environment) (n : Numbers) (d : DeviceState) (loan : Loan) → IsTakenOut x.device d loan full → state_of (record x { device = d }) (numbered_on n) ≡ lent_state full loan (state_of x n)
+lent_is full x n d loan out = state_from_parts (record x { device = d }) (numbered_on n) (lent_state full loan (state_of x n)) refl out.blocks refl out.births refl out.loans refl refl refl refl out.memories
 
-pub lent_parts : (l : Limits) (x : Environment) (n : Numbers) (d : DeviceState) (loan : Loan) → ArePartsSound l x n → is_lent loan.block x.device.loans ≡ false → IsLoanSound x.present.table.ranges loan → IsTakenOut x.device d loan
+pub lent_parts : (l : Limits) (full : Bool) (x : Environment) (n : Numbers) (d : DeviceState) (loan : Loan) → ArePartsSound l x n → is_lent loan.block x.device.loans ≡ false → IsLoanSound x.present.table.ranges loan → IsTakenOut x.device d loan full
     → ArePartsSound l (record x { device = d }) (numbered_on n)
-lent_parts l x n d loan parts free sound out =
+lent_parts l full x n d loan parts free sound out =
     let s : State = state_of x n in
-    let records : AreRecordsSound l (lent_state loan s).records = with_loans l s.records (with_loan loan s.records.loans) parts.sound.records (loans-with s.records.ranges loan s.records.loans free sound parts.sound.records.loans) in
-    let memories : AreMemoriesSized l (lent_state loan s) = record { host = parts.sound.memories.host; blocks = lent_sized loan s.records.loans s.memories s.records.blocks parts.sound.memories.blocks } in
-    let is : state_of (record x { device = d }) (numbered_on n) ≡ lent_state loan s = lent_is x n d loan out in
+    let records : AreRecordsSound l (lent_state full loan s).records = with_loans l s.records (with_loan loan s.records.loans) parts.sound.records (loans-with s.records.ranges loan s.records.loans free sound parts.sound.records.loans) in
+    let memories : AreMemoriesSized l (lent_state full loan s) = record { host = parts.sound.memories.host; blocks = lent_sized loan (recorded full) s.records.loans s.memories s.records.blocks parts.sound.memories.blocks } in
+    let is : state_of (record x { device = d }) (numbered_on n) ≡ lent_state full loan s = lent_is full x n d loan out in
     record {
       sized = record { counters = parts.sized.counters; device = out.memory ∙ parts.sized.device; pointers = parts.sized.pointers; queues = parts.sized.queues };
       sound = record { records = subst (λ (t : State). AreRecordsSound l t.records) (sym is) records; memories = subst (AreMemoriesSized l) (sym is) memories };
@@ -121,18 +122,18 @@ pub gathered_is : (x : Environment) (n : Numbers) (d : DeviceState) (lease : Lea
 gathered_is x n d lease back = state_from_parts (record x { device = d }) (numbered_off n) (gathered_state lease (state_of x n)) refl back.blocks refl back.births refl back.loans refl refl refl refl back.memories
 
 -- a lease that a block fits is gathered
-pub gather_is : (lease : Leased) (w : Records) → is_returnable lease w.blocks w.loans ≡ true → gather_event lease w ≡ Ok (Gathered lease.serial lease.block)
+pub gather_is : (full : Bool) (lease : Leased) (s : State) → is_returnable full lease s.records.blocks s.records.loans s.memories ≡ true → gather_event full lease s ≡ Ok (gathered full lease)
 unfolding gather_event
-gather_is lease w e = rw e refl
+gather_is full lease s e = rw e refl
 
-pub returnable : (lease : Leased) (w : Records) (e : Event) → gather_event lease w ≡ Ok e → is_returnable lease w.blocks w.loans ≡ true
+pub returnable : (full : Bool) (lease : Leased) (s : State) (e : Event) → gather_event full lease s ≡ Ok e → is_returnable full lease s.records.blocks s.records.loans s.memories ≡ true
 unfolding gather_event
-returnable lease w e h = not_false _ (refused_not _ _ (then_ok (refuse_if (not (is_returnable lease w.blocks w.loans)) (NoLease lease.serial)) (Ok (Gathered lease.serial lease.block)) e h).0)
+returnable full lease s e h = not_false _ (refused_not _ _ (then_ok (refuse_if (not (is_returnable full lease s.records.blocks s.records.loans s.memories)) (NoLease lease.serial)) (Ok (gathered full lease)) e h).0)
 
-pub gathered_parts : (l : Limits) (x : Environment) (n : Numbers) (d : DeviceState) (lease : Leased) → ArePartsSound l x n → is_returnable lease x.device.blocks x.device.loans ≡ true → IsPutBack x.device d lease → ArePartsSound l (record x { device = d }) (numbered_off n)
+pub gathered_parts : (l : Limits) (x : Environment) (n : Numbers) (d : DeviceState) (lease : Leased) → ArePartsSound l x n → is_returnable l.full lease x.device.blocks x.device.loans x.device.memories ≡ true → IsPutBack x.device d lease → ArePartsSound l (record x { device = d }) (numbered_off n)
 gathered_parts l x n d lease parts fits back =
     let s : State = state_of x n in
-    let long : IsGathered l lease s (Gathered lease.serial lease.block) = gather_legal l lease s (Gathered lease.serial lease.block) parts.sound.records (gather_is lease s.records fits) in
+    let long : IsGathered l lease s (gathered l.full lease) = gather_legal l lease s (gathered l.full lease) parts.sound.records (gather_is l.full lease s fits) in
     let records : AreRecordsSound l (gathered_state lease s).records = with_loans l s.records (without_loan lease.block s.records.loans) parts.sound.records (loans-without s.records.ranges lease.block s.records.loans parts.sound.records.loans) in
     let memories : AreMemoriesSized l (gathered_state lease s) = record { host = parts.sound.memories.host; blocks = gathered_sized lease.block lease.bytes s.records.loans s.memories s.records.blocks long.fits parts.sound.memories.blocks } in
     let is : state_of (record x { device = d }) (numbered_off n) ≡ gathered_state lease s = gathered_is x n d lease back in
@@ -140,7 +141,7 @@ gathered_parts l x n d lease parts fits back =
       sized = record { counters = parts.sized.counters; device = back.memory ∙ parts.sized.device; pointers = parts.sized.pointers; queues = parts.sized.queues };
       sound = record { records = subst (λ (t : State). AreRecordsSound l t.records) (sym is) records; memories = subst (AreMemoriesSized l) (sym is) memories };
       marked = rw back.marks parts.marked;
-      lent = ap (λ k. k - 1) parts.lent ∙ (sym (length-without lease.block x.device.loans parts.sound.records.loans.rising (returnable_lent lease s.records fits)) ∙ ap length (sym back.loans));
+      lent = ap (λ k. k - 1) parts.lent ∙ (sym (length-without lease.block x.device.loans parts.sound.records.loans.rising (returnable_lent l.full lease s fits)) ∙ ap length (sym back.loans));
       few = omega (arith, parts.few);
     }
 
@@ -158,24 +159,24 @@ planned_says l region section s loan h p =
     let legal : IsLegal l e (layout_of s) = (lend_legal l region section s e p.event).2 in
     record { legal = legal; free = legal.names.2; sound = subst (IsLoanSound s.records.ranges) (sym p.loan_is) (placed_loan l loan.serial loan.block section s.records h legal.names.1) }
 
-pub lent_after : (region : ℕ) (section : Section) (loan : Loan) (s : State) → loan ≡ loan_at loan.serial loan.block section s.records.ranges → lent_state loan s ≡ after (Lent region section loan.block loan.serial) [] s
+pub lent_after : (full : Bool) (region : ℕ) (section : Section) (loan : Loan) (s : State) → loan ≡ loan_at loan.serial loan.block section s.records.ranges → lent_state full loan s ≡ after full (Lent region section loan.block loan.serial) [] s
 unfolding after loaned drained act_all_state
-lent_after region section loan s is = ap (λ (x : Loan). record (lent_state loan s) { records = record s.records { loans = with_loan x s.records.loans } }) is
+lent_after full region section loan s is = ap (λ (x : Loan). record (lent_state full loan s) { records = record s.records { loans = with_loan x s.records.loans } }) is
 
-pub gathered_after : (lease : Leased) (s : State) → gathered_state lease s ≡ after (Gathered lease.serial lease.block) lease.bytes s
+pub gathered_after : (full : Bool) (lease : Leased) (s : State) → gathered_state lease s ≡ after full (gathered full lease) lease.bytes s
 unfolding after loaned drained act_all_state
-gathered_after lease s = refl
+gathered_after full lease s = refl
 
-pub lent_store : (region : ℕ) (section : Section) (c f : Contents) (loan : Loan) → IsWithinBounds c.limits → IsStoreSound c → IsLoanPlanned c.limits region section c.state loan → f.limits ≡ c.limits → f.state ≡ lent_state loan c.state → IsStoreSound f
+pub lent_store : (region : ℕ) (section : Section) (c f : Contents) (loan : Loan) → IsWithinBounds c.limits → IsStoreSound c → IsLoanPlanned c.limits region section c.state loan → f.limits ≡ c.limits → f.state ≡ lent_state c.limits.full loan c.state → IsStoreSound f
 lent_store region section c f loan bounds h p limits is =
     let says : IsLendable c.limits region section c.state loan = planned_says c.limits region section c.state loan h.sound.layout.records p in
-    event_sound c.limits (Lent region section loan.block loan.serial) [] c f bounds refl limits h says.legal tt (is ∙ lent_after region section loan c.state p.loan_is) h.sound.layout.register.few
+    event_sound c.limits (Lent region section loan.block loan.serial) [] c f bounds refl limits h says.legal tt (is ∙ lent_after c.limits.full region section loan c.state p.loan_is) h.sound.layout.register.few
     (subst (λ (t : State). used_bytes t.records.blocks ≤ c.limits.device) (sym is) h.sound.bytes_accounted)
-    (subst (λ (t : State). AreHoldingsWithin t.records t.register.regions) (sym is) (holdings_same c.state.records (lent_state loan c.state).records c.state.register.regions refl refl h.holdings))
+    (subst (λ (t : State). AreHoldingsWithin t.records t.register.regions) (sym is) (holdings_same c.state.records (lent_state c.limits.full loan c.state).records c.state.register.regions refl refl h.holdings))
 
-pub gathered_store : (c f : Contents) (lease : Leased) → IsWithinBounds c.limits → IsStoreSound c → gather_event lease c.state.records ≡ Ok (Gathered lease.serial lease.block) → f.limits ≡ c.limits → f.state ≡ gathered_state lease c.state → IsStoreSound f
+pub gathered_store : (c f : Contents) (lease : Leased) → IsWithinBounds c.limits → IsStoreSound c → gather_event c.limits.full lease c.state ≡ Ok (gathered c.limits.full lease) → f.limits ≡ c.limits → f.state ≡ gathered_state lease c.state → IsStoreSound f
 gathered_store c f lease bounds h fits limits is =
-    let says : IsGathered c.limits lease c.state (Gathered lease.serial lease.block) = gather_legal c.limits lease c.state (Gathered lease.serial lease.block) h.sound.layout.records fits in
-    event_sound c.limits (Gathered lease.serial lease.block) lease.bytes c f bounds refl limits h says.legal says.fits (is ∙ gathered_after lease c.state) h.sound.layout.register.few
+    let says : IsGathered c.limits lease c.state (gathered c.limits.full lease) = gather_legal c.limits lease c.state (gathered c.limits.full lease) h.sound.layout.records fits in
+    event_sound c.limits (gathered c.limits.full lease) lease.bytes c f bounds refl limits h says.legal says.fits (is ∙ gathered_after c.limits.full lease c.state) h.sound.layout.register.few
     (subst (λ (t : State). used_bytes t.records.blocks ≤ c.limits.device) (sym is) h.sound.bytes_accounted)
     (subst (λ (t : State). AreHoldingsWithin t.records t.register.regions) (sym is) (holdings_same c.state.records (gathered_state lease c.state).records c.state.register.regions refl refl h.holdings))

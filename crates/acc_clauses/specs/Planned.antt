@@ -1,5 +1,5 @@
 -- What contracts see of a plan, and what it rests on.
-use Rattle.std.specs.Prelude.{ℕ, ◌≡◌, ◌≤◌, List, [], ◌∷◌, ◌++◌, length, reverse, Result, Ok}
+use Rattle.std.specs.Prelude.{ℕ, ◌≡◌, ◌≤◌, Bool, List, [], ◌∷◌, ◌++◌, length, reverse, Result, Ok}
 use Rattle.acc_clauses.specs.Words.{Directive, Holding, Task, Did, Fault, Transfer}
 use Rattle.acc_base.specs.declared.directives.Directive.TheVariants as directives
 use Rattle.acc_base.specs.declared.mappings.Counter.TheVariants.{Structured}
@@ -80,6 +80,6 @@ abbrev pub finished : Directive → Planned → State → State
 finished d p s = record (drained (steps_by d s.records.queues) s) { register = register_by d (holdings_by p.tasks p.dids) s.register }
 
 -- the state after what a directive comes to
-abbrev pub state_by : Verdict → State → State
-state_by (Makes e) s = after e [] s
-state_by Idle s = s
+abbrev pub state_by : Bool → Verdict → State → State
+state_by full (Makes e) s = after full e [] s
+state_by full Idle s = s

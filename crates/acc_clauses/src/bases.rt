@@ -1,15 +1,17 @@
-//! What a data environment had at one moment, but for bytes.
+//! What a data environment had at one moment.
 
 ghost use Rattle.std.specs.Prelude.{◌≡◌, map};
 ghost use Rattle.std.specs.Vec.{vec_items};
+ghost use Rattle.acc_dev.specs.Device.{memory_saved};
 ghost use Rattle.acc_present.specs.Present.{region_of};
 
 use acc_base::{Attachment, Block, Loan, Range, Transfer};
+use acc_dev::SavedBlock;
 use acc_present::OpenRegion;
 use std::marker::Model;
 
-/// What a data environment had when so many events had led there: everything but bytes. The events since are counted
-/// from here on.
+/// What a data environment had when so many events had led there: everything but bytes, and with full traces both
+/// memories too. The events since are counted from here on.
 #[derive(Drop)]
 pub struct Base {
     pub(crate) events: u64,
@@ -22,12 +24,15 @@ pub struct Base {
     pub(crate) regions: Vec<OpenRegion>,
     pub(crate) next_region: u64,
     pub(crate) next_serial: u64,
+    pub(crate) host: Vec<u8>,
+    pub(crate) memories: Vec<SavedBlock>,
 }
 
 impl Model for Base {
     ghost use Rattle.std.specs.Prelude.{map};
     ghost use Rattle.std.specs.Vec.{vec_items};
     ghost use Rattle.acc_base.specs.Calls.{Base as BaseValue};
+    ghost use Rattle.acc_dev.specs.Device.{memory_saved};
     ghost use Rattle.acc_present.specs.Present.{region_of};
 
     ghost Value = { BaseValue };
@@ -37,6 +42,8 @@ impl Model for Base {
         records = record { ranges = b.ranges.items; blocks = b.blocks.items; attached = b.attached.items; births = b.births; queues = map vec_items b.queues.items; loans = b.loans.items };
         register = record { regions = map region_of b.regions.items; next = b.next_region; serial = b.next_serial };
       };
+      host = b.host.items;
+      memories = map memory_saved b.memories.items;
       events = b.events;
     } };
 }
@@ -110,5 +117,20 @@ impl Base {
         ensures { result ≡ self.now.layout.register.serial }
     {
         self.next_serial
+    }
+
+    /// The bytes of host memory by rising address, where traces are full; none where they are counted.
+    pub fn host(&self) -> &[u8]
+        ensures { result.now ≡ self.now.host }
+    {
+        &self.host
+    }
+
+    /// The bytes of each block by rising number, where traces are full: of a block that was lent, as they were before. None
+    /// where traces are counted.
+    pub fn memories(&self) -> &[SavedBlock]
+        ensures { map memory_saved result.now ≡ self.now.memories }
+    {
+        &self.memories
     }
 }

@@ -3,8 +3,7 @@
 ghost use Rattle.std.specs.Prelude.{◌≡◌, Some, Ok, Err, MatchResult};
 ghost use Rattle.acc_base.specs.Queues.{queue_at};
 ghost use Rattle.acc_base.specs.Waits.{transfers_of};
-ghost use Rattle.acc_base.specs.declared.events.Event.TheVariants.{Gathered};
-ghost use Rattle.acc_base.specs.Judge.{transfers_in, region_open, lend_event, gather_event};
+ghost use Rattle.acc_base.specs.Judge.{transfers_in, region_open, lend_event, gathered, gather_event};
 ghost use Rattle.acc_clauses.specs.Lending.{IsLoanPlanned};
 ghost use Rattle.acc_base.specs.Loans.{not_lent, none_lent};
 
@@ -103,7 +102,7 @@ pub(crate) fn plan_loan(parts: &Parts, region: u64, section: Section) -> Result<
 /// The lease brings a lent block back, or what it is refused for.
 #[tactic(auto, unfolding(acc_base::specs::Judge::gather_event))]
 pub(crate) fn check_lease(parts: &Parts, lease: &Lease) -> Result<(), Fault>
-    ensures { MatchResult result (λ _. gather_event lease.now parts.now.state.records ≡ Ok (Gathered lease.now.serial lease.now.block)) (λ fault. gather_event lease.now parts.now.state.records ≡ Err fault) }
+    ensures { MatchResult result (λ _. gather_event parts.now.limits.full lease.now parts.now.state ≡ Ok (gathered parts.now.limits.full lease.now)) (λ fault. gather_event parts.now.limits.full lease.now parts.now.state ≡ Err fault) }
 {
     if parts.is_returnable(lease) {
         return Ok(());

@@ -1,6 +1,6 @@
 //! Everything that a table keeps beside its trace, as one value.
 
-ghost use Rattle.std.specs.Prelude.{ℕ, ◌≡◌, ◌+◌, ◌<◌, ◌≤◌, ◌^◌, ◌↔◌, [], IfOk, IfErr, OnOk, OnErr, MatchResult, Ok, Err, IfSome, IfNone, IsSome, ◌==◌, ◌&&◌, find, length, option_map, false};
+ghost use Rattle.std.specs.Prelude.{ℕ, ◌≡◌, ◌+◌, ◌<◌, ◌≤◌, ◌^◌, ◌↔◌, [], IfOk, IfErr, OnOk, OnErr, MatchResult, Ok, Err, IfSome, IfNone, IsSome, ◌==◌, ◌&&◌, find, length, option_map, true, false};
 ghost use Rattle.acc_base.specs.declared.faults.Fault.TheVariants.{Memory};
 ghost use Rattle.acc_base.specs.Limits.{IsWithinBounds};
 ghost use Rattle.acc_base.specs.Clauses.{in_host};
@@ -11,13 +11,13 @@ ghost use Rattle.acc_base.specs.Loans.{is_lent};
 ghost use Rattle.acc_base.specs.Blocks.{block_at, place_of, used_bytes};
 ghost use Rattle.acc_base.specs.Bytes.{bytes_of, host_after_write};
 ghost use Rattle.acc_base.specs.Pointers.{attachment_of};
-ghost use Rattle.acc_base.specs.Records.{layout_of};
+ghost use Rattle.acc_base.specs.Calls.{base_of};
 ghost use Rattle.acc_base.specs.Acting.{after};
 ghost use Rattle.acc_base.specs.Queues.{queue_at, head_of};
 ghost use Rattle.acc_base.specs.Waits.{steps_of, ended_from};
 ghost use Rattle.acc_base.specs.declared.items.Section.{Section};
-ghost use Rattle.acc_base.specs.declared.events.Event.TheVariants.{Lent, Gathered};
-ghost use Rattle.acc_base.specs.Judge.{verdict_of, plan_of, lend_event, leased, gather_event};
+ghost use Rattle.acc_base.specs.declared.events.Event.TheVariants.{Lent};
+ghost use Rattle.acc_base.specs.Judge.{verdict_of, plan_of, lend_event, leased, gathered, gather_event};
 ghost use Rattle.acc_clauses.specs.Lending.{IsLoanPlanned};
 ghost use Rattle.acc_base.specs.Register.{newest_region};
 ghost use Rattle.acc_base.specs.Accounts.{IsSound};
@@ -79,13 +79,13 @@ impl Store {
         Ok(Store { parts })
     }
 
-    /// What the store has, but for bytes, where so many events had led here.
+    /// What the store has as a base, where so many events had led here: the bytes of both memories with full traces alone.
     ///
     /// # Errors
     ///
     /// [`Fault::Memory`] alone.
     pub fn base(&self, alloc: Global, events: u64) -> Result<Base, Fault>
-        ensures ok { IfOk result (λ base. base ≡ record { layout = layout_of self.now.state; events = events }) }
+        ensures ok { IfOk result (λ base. base ≡ base_of self.now.limits.full self.now.state events) }
         ensures only { IfErr result (λ fault. fault ≡ Memory) }
     {
         self.parts.base(alloc, events)
@@ -158,7 +158,7 @@ impl Store {
         requires next { self.old.state.register.next < 2 ^ 48 }
         requires room { HasPlanRoom directive.now plan.now self.old.room }
         ensures limits { self.new.limits ≡ self.old.limits }
-        ensures state { self.new.state ≡ state_by (verdict_of directive.now self.old.state plan.now.dids) self.old.state }
+        ensures state { self.new.state ≡ state_by self.old.limits.full (verdict_of directive.now self.old.state plan.now.dids) self.old.state }
     {
         self.parts.laws();
         act_all(&mut self.parts, plan.acts(), plan.hints());
@@ -202,20 +202,26 @@ impl Store {
         plan_loan(&self.parts, region, section)
     }
 
-    /// Lends the block of a loan that was planned on this state: its bytes are moved into the lease. It takes no memory and
-    /// is never refused.
-    pub fn lend(&mut self, loan: Loan) -> Lease
+    /// Lends the block of a loan that was planned on this state: its bytes are moved into the lease. With full traces a copy
+    /// of them stays; else it takes no memory and is never refused.
+    ///
+    /// # Errors
+    ///
+    /// [`Fault::Memory`], and with full traces alone. Nothing changed.
+    pub fn lend(&mut self, loan: Loan) -> Result<Lease, Fault>
         requires planned { (region : ℕ) × (section : Section) × IsLoanPlanned self.old.limits region section self.old.state loan }
         requires serial { self.old.state.register.serial < 2 ^ 48 }
-        ensures lease { result ≡ leased loan self.old.state }
+        ensures lease { IfOk result (λ lease. lease ≡ leased loan self.old.state) }
         ensures limits { self.new.limits ≡ self.old.limits }
         ensures room { self.new.room ≡ self.old.room }
-        ensures state { (region : ℕ) (section : Section) → IsLoanPlanned self.old.limits region section self.old.state loan → self.new.state ≡ after (Lent region section loan.block loan.serial) [] self.old.state }
+        ensures state { OnOk result ((region : ℕ) (section : Section) → IsLoanPlanned self.old.limits region section self.old.state loan → self.new.state ≡ after self.old.limits.full (Lent region section loan.block loan.serial) [] self.old.state) }
+        ensures same { OnErr result (self.new.state ≡ self.old.state) }
+        ensures only { IfErr result (λ fault. (self.old.limits.full ≡ true) × (fault ≡ Memory)) }
     {
         self.parts.laws();
-        let lease = self.parts.lend(loan);
+        let lease = self.parts.lend(loan)?;
         self.parts.laws();
-        lease
+        Ok(lease)
     }
 
     /// What bringing a lease back is refused for. It takes no memory, and nothing changes.
@@ -223,19 +229,20 @@ impl Store {
     /// # Errors
     ///
     /// `NoLease` with the serial number of the lease, unless a block is lent under it with the lease's number of the block,
-    /// place and length of the section, and length of the block.
+    /// place and length of the section, and length of the block, and with full traces the lease's bytes outside of the
+    /// section are those that were kept.
     pub fn check_lease(&self, lease: &Lease) -> Result<(), Fault>
-        ensures { MatchResult result (λ _. gather_event lease.now self.now.state.records ≡ Ok (Gathered lease.now.serial lease.now.block)) (λ fault. gather_event lease.now self.now.state.records ≡ Err fault) }
+        ensures { MatchResult result (λ _. gather_event self.now.limits.full lease.now self.now.state ≡ Ok (gathered self.now.limits.full lease.now)) (λ fault. gather_event self.now.limits.full lease.now self.now.state ≡ Err fault) }
     {
         check_lease(&self.parts, lease)
     }
 
     /// Takes a block back that is lent: its bytes are moved out of the lease. It takes no memory and is never refused.
     pub fn gather(&mut self, lease: Lease)
-        requires { gather_event lease self.old.state.records ≡ Ok (Gathered lease.serial lease.block) }
+        requires { gather_event self.old.limits.full lease self.old.state ≡ Ok (gathered self.old.limits.full lease) }
         ensures limits { self.new.limits ≡ self.old.limits }
         ensures room { self.new.room ≡ self.old.room }
-        ensures state { self.new.state ≡ after (Gathered lease.serial lease.block) lease.bytes self.old.state }
+        ensures state { self.new.state ≡ after self.old.limits.full (gathered self.old.limits.full lease) lease.bytes self.old.state }
     {
         self.parts.laws();
         self.parts.gather(lease);

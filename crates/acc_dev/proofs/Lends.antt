@@ -1,17 +1,19 @@
 -- What the slot of an entry says of its loan, as contracts see it.
 use Rattle.std.proofs.Common.{ℕ, ◌≡◌, ◌+◌, ◌≤◌, refl, sym, ap, ap₂, ◌∙◌, subst, Bool, true, false, List, length, get_or, Option, Some, None}
-use Rattle.std.specs.Prelude.{◌==◌, ◌&&◌, is_some}
+use Rattle.std.specs.Prelude.{◌==◌, ◌&&◌, ◌||◌, not, is_some}
+use Rattle.acc_base.specs.Bytes.{bytes_of}
 use Rattle.std.specs.List.{AllByRecursion}
 use Rattle.acc_base.specs.declared.addresses.TheConstants.{MEMORY_MAX}
 use Rattle.acc_base.specs.declared.loans.Loan.{Loan}
-use Rattle.acc_base.specs.Loans.{Leased, is_lent, len_of, is_loan_of, is_returnable}
+use Rattle.acc_base.specs.Loans.{Leased, is_lent, len_of, is_loan_of}
+use Rattle.acc_base.specs.Leases.{is_kept_outside, is_returnable}
 use Rattle.acc_base.proofs.Results.{and_true, equal}
 use Rattle.acc_placement.specs.Space.{Space}
 use Rattle.acc_dev.specs.declared.entries.Stored.{Stored}
-use Rattle.acc_dev.specs.Kept.{stored_len, stored_bytes, stored_loan, blocks_in, loans_in, IsIndexRising, IsSlotOf, AreSlotsKept}
+use Rattle.acc_dev.specs.Kept.{stored_len, stored_bytes, stored_loan, blocks_in, memories_in, loans_in, is_back_at, IsIndexRising, IsSlotOf, AreSlotsKept}
 use Rattle.acc_dev.proofs.LoanLists.{loan_of-none}
 use Rattle.acc_dev.proofs.Lent.{AreBacked, loans_all}
-use Rattle.acc_dev.proofs.Keeping.{loan_of_slot, long_at, whole_at, len_slot}
+use Rattle.acc_dev.proofs.Keeping.{loan_of_slot, long_at, whole_at, len_slot, bytes_at}
 
 -- what a look at a slot answers is whether the block is lent
 pub lent_at : (s : List (Option Stored)) (xs : List (ℕ × ℕ)) (n k : ℕ) (loan : Option Loan) (is : Bool) → IsIndexRising xs → AreBacked s xs → IsSlotOf xs n k → loan ≡ stored_loan (get_or s k None) → is_some loan ≡ is → is_lent n (loans_in s xs) ≡ is
@@ -31,15 +33,16 @@ pub capped_at : (h : Space) (s : List (Option Stored)) (xs : List (ℕ × ℕ)) 
 capped_at h s xs n k kept slot free = subst (λ (m : ℕ). m ≤ MEMORY_MAX) (sym (whole_at s xs n k kept.rising kept.backed slot free)) (len_slot h s xs n k kept slot).1
 
 -- what a look at a slot answers is whether a lease brings its block back
-pub returnable_at : (s : List (Option Stored)) (xs : List (ℕ × ℕ)) (k : ℕ) (lease : Leased) (is : Bool) → IsIndexRising xs → AreBacked s xs → IsSlotOf xs lease.block k
-    → is ≡ (is_loan_of lease (stored_loan (get_or s k None)) && stored_len (get_or s k None) == length lease.bytes) → is_returnable lease (blocks_in s xs) (loans_in s xs) ≡ is
-returnable_at s xs k lease is rise backed slot here =
-    ap₂ (λ (o : Option Loan) (n : ℕ). is_loan_of lease o && n == length lease.bytes) (loan_of_slot s xs lease.block k rise backed slot) (long_at s xs lease.block k rise slot) ∙ sym here
+pub returnable_at : (s : List (Option Stored)) (xs : List (ℕ × ℕ)) (k : ℕ) (lease : Leased) (kept is : Bool) → IsIndexRising xs → AreBacked s xs → IsSlotOf xs lease.block k
+    → is ≡ is_back_at kept lease (get_or s k None) → is_returnable kept lease (blocks_in s xs) (loans_in s xs) (memories_in s xs) ≡ is
+returnable_at s xs k lease kept is rise backed slot here =
+    ap₂ (λ (o : Option Loan) (n : ℕ). is_loan_of lease o && n == length lease.bytes && (not kept || is_kept_outside lease (bytes_of lease.block (memories_in s xs)))) (loan_of_slot s xs lease.block k rise backed slot) (long_at s xs lease.block k rise slot)
+    ∙ (ap (λ (bytes : List ℕ). is_loan_of lease (stored_loan (get_or s k None)) && stored_len (get_or s k None) == length lease.bytes && (not kept || is_kept_outside lease bytes)) (bytes_at s xs lease.block k rise slot) ∙ sym here)
 
 -- a lease of a block that is not there brings none back
-pub unknown_block : (s : List (Option Stored)) (xs : List (ℕ × ℕ)) (lease : Leased) → AreBacked s xs → AllByRecursion (λ e. e.0 ≡ lease.block → ⊥) xs → is_returnable lease (blocks_in s xs) (loans_in s xs) ≡ false
-unknown_block s xs lease backed none = rw (loan_of-none lease.block (loans_in s xs) (loans_all (λ n. n ≡ lease.block → ⊥) s xs backed none))
+pub unknown_block : (s : List (Option Stored)) (xs : List (ℕ × ℕ)) (lease : Leased) (kept : Bool) → AreBacked s xs → AllByRecursion (λ e. e.0 ≡ lease.block → ⊥) xs → is_returnable kept lease (blocks_in s xs) (loans_in s xs) (memories_in s xs) ≡ false
+unknown_block s xs lease kept backed none = rw (loan_of-none lease.block (loans_in s xs) (loans_all (λ n. n ≡ lease.block → ⊥) s xs backed none))
 
 -- a lease that brings its block back has as many bytes as it is long
-pub long_lease : (len : ℕ) (o : Option Loan) (lease : Leased) (is : Bool) → is ≡ (is_loan_of lease o && len == length lease.bytes) → is ≡ true → len ≡ length lease.bytes
-long_lease len o lease is here fits = equal _ _ (and_true (is_loan_of lease o) (len == length lease.bytes) (sym here ∙ fits)).1
+pub long_lease : (o : Option Stored) (lease : Leased) (kept is : Bool) → is ≡ is_back_at kept lease o → is ≡ true → stored_len o ≡ length lease.bytes
+long_lease o lease kept is here fits = equal _ _ (and_true _ _ (and_true _ _ (sym here ∙ fits)).0).1

@@ -167,18 +167,13 @@ backed_kept s t k (x ∷ xs) others keeps backed = (
   backed_kept s t k xs others keeps backed.1,
 )
 
--- no bytes are none
-no_bytes_left : (bytes : List ℕ) → length bytes ≡ 0 → bytes ≡ []
-no_bytes_left [] e = refl
-no_bytes_left (b ∷ bytes) e = absurd (omega arith)
-
 -- a slot keeps its bytes or its loan where length and loan stay, the bytes stay as many, and no lent block ends
 pub backed_like : (n : ℕ) (a b : Option Stored) → stored_len b ≡ stored_len a → length (stored_bytes b) ≡ length (stored_bytes a) → stored_loan b ≡ stored_loan a → (IsSome (stored_loan a) → stored_ended a ≡ false → stored_ended b ≡ false) → IsBacked n a → IsBacked n b
 backed_like n a b len bytes loan mapped backed = subst (IsInOrOut n b) (sym loan) (go (stored_loan a) mapped backed)
   where
     go : (o : Option Loan) → (IsSome o → stored_ended a ≡ false → stored_ended b ≡ false) → IsInOrOut n a o → IsInOrOut n b o
     go None mapped h = bytes ∙ (h ∙ sym len)
-    go (Some l) mapped h = record { empty = no_bytes_left (stored_bytes b) (bytes ∙ ap length h.empty); mapped = mapped refl h.mapped; block = h.block; within = rw len h.within }
+    go (Some l) mapped h = record { mapped = mapped refl h.mapped; block = h.block; within = rw len h.within }
 
 -- ---- memories
 

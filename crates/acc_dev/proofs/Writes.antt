@@ -1,6 +1,7 @@
 -- What a change of one slot leaves: of its bytes, of its mark, or of its loan.
 use Rattle.std.proofs.Common.{ℕ, ◌≡◌, ◌+◌, ◌≤◌, refl, sym, ap, ◌∙◌, subst, Bool, true, false, List, [], ◌∷◌, length, get_or, Option, Some, None, arith, inl, inr, length-append, length-drop}
 use Rattle.std.specs.Prelude.{IsSome, is_some}
+use Rattle.acc_base.specs.Limits.{recorded}
 use Rattle.std.specs.List.{AllByRecursion}
 use Rattle.std.proofs.lemmas.Bool.{false≢true, cases_eq}
 use Rattle.std.proofs.lemmas.List.{length-take}
@@ -131,8 +132,8 @@ marked_of h s t xs births n k pins ended room change kept slot m is =
 -- ---- a loan
 
 -- a slot that is lent has its loan
-lent_backed : (n : ℕ) (o : Option Stored) (loan : Loan) → stored_loan o ≡ Some loan → stored_bytes o ≡ [] → stored_ended o ≡ false → loan.block ≡ n → loan.offset + loan.len ≤ stored_len o → IsBacked n o
-lent_backed n o loan is empty mapped block within = subst (IsInOrOut n o) (sym is) (record { empty = empty; mapped = mapped; block = block; within = within })
+lent_backed : (n : ℕ) (o : Option Stored) (loan : Loan) → stored_loan o ≡ Some loan → stored_ended o ≡ false → loan.block ≡ n → loan.offset + loan.len ≤ stored_len o → IsBacked n o
+lent_backed n o loan is mapped block within = subst (IsInOrOut n o) (sym is) (record { mapped = mapped; block = block; within = within })
 
 -- one that is not lent has its bytes
 restored_backed : (n : ℕ) (o : Option Stored) → stored_loan o ≡ None → length (stored_bytes o) ≡ stored_len o → IsBacked n o
@@ -146,11 +147,11 @@ relent_kept h s t xs n k loan bytes kept slot r backed =
     (backed_changed s.slots t.slots n k xs r.others (told_slot xs n k kept.rising kept.distinct slot) (λ was. backed) kept.backed)
 
 -- a device keeps what it keeps where a block is lent
-pub lent_kept : (h : Space) (s t : Slab Stored) (xs : List (ℕ × ℕ)) (k : ℕ) (loan : Loan) → AreSlotsKept h s.slots xs → IsSlotOf xs loan.block k → IsRelent s t k (Some loan) [] → is_ended_at loan.block (marks_in s.slots xs) ≡ false → loan.offset + loan.len ≤ len_of loan.block (blocks_in s.slots xs) → AreSlotsKept h t.slots xs
-lent_kept h s t xs k loan kept slot r mapped within =
+pub lent_kept : (h : Space) (s t : Slab Stored) (xs : List (ℕ × ℕ)) (k : ℕ) (loan : Loan) (stays : List ℕ) → AreSlotsKept h s.slots xs → IsSlotOf xs loan.block k → IsRelent s t k (Some loan) stays → is_ended_at loan.block (marks_in s.slots xs) ≡ false → loan.offset + loan.len ≤ len_of loan.block (blocks_in s.slots xs) → AreSlotsKept h t.slots xs
+lent_kept h s t xs k loan stays kept slot r mapped within =
     let ended : stored_ended (get_or t.slots k None) ≡ false = r.ended ∙ (sym (ended_at s.slots xs loan.block k kept.rising slot) ∙ mapped) in
     let long : len_of loan.block (blocks_in s.slots xs) ≡ stored_len (get_or t.slots k None) = long_at s.slots xs loan.block k kept.rising slot ∙ sym r.len in
-    relent_kept h s t xs loan.block k (Some loan) [] kept slot r (lent_backed loan.block (get_or t.slots k None) loan r.loan_is r.bytes_are ended refl (subst (λ (len : ℕ). loan.offset + loan.len ≤ len) long within))
+    relent_kept h s t xs loan.block k (Some loan) stays kept slot r (lent_backed loan.block (get_or t.slots k None) loan r.loan_is ended refl (subst (λ (len : ℕ). loan.offset + loan.len ≤ len) long within))
 
 -- and where it is lent no longer
 pub restored_kept : (h : Space) (s t : Slab Stored) (xs : List (ℕ × ℕ)) (n k : ℕ) (bytes : List ℕ) → AreSlotsKept h s.slots xs → IsSlotOf xs n k → IsRelent s t k None bytes → stored_len (get_or s.slots k None) ≡ length bytes → AreSlotsKept h t.slots xs
@@ -158,13 +159,13 @@ restored_kept h s t xs n k bytes kept slot r long =
     relent_kept h s t xs n k None bytes kept slot r (restored_backed n (get_or t.slots k None) r.loan_is (ap length r.bytes_are ∙ (sym long ∙ sym r.len)))
 
 -- what a new loan leaves, as contracts see it
-pub taken_out_of : (h : Space) (s t : Slab Stored) (xs : List (ℕ × ℕ)) (births k : ℕ) (room : List ℕ) (loan : Loan) → AreSlotsKept h s.slots xs → IsSlotOf xs loan.block k → stored_loan (get_or s.slots k None) ≡ None → IsRelent s t k (Some loan) []
-    → IsTakenOut (device_of h s.slots xs births room) (device_of h t.slots xs births room) loan
-taken_out_of h s t xs births k room loan kept slot free r =
+pub taken_out_of : (h : Space) (s t : Slab Stored) (xs : List (ℕ × ℕ)) (births k : ℕ) (room : List ℕ) (loan : Loan) (keep : Bool) (stays : List ℕ) → AreSlotsKept h s.slots xs → IsSlotOf xs loan.block k → stored_loan (get_or s.slots k None) ≡ None → stays ≡ recorded keep (stored_bytes (get_or s.slots k None)) → IsRelent s t k (Some loan) stays
+    → IsTakenOut (device_of h s.slots xs births room) (device_of h t.slots xs births room) loan keep
+taken_out_of h s t xs births k room loan keep stays kept slot free copied r =
     record {
       memory = refl;
       blocks = blocks_in-kept s.slots t.slots k xs r.others r.place r.len;
-      memories = memories_in-changed s.slots t.slots xs loan.block k (λ bytes. []) kept.rising kept.distinct slot r.others r.bytes_are;
+      memories = memories_in-changed s.slots t.slots xs loan.block k (recorded keep) kept.rising kept.distinct slot r.others (r.bytes_are ∙ copied);
       marks = marks_in-kept s.slots t.slots k xs r.others r.pins r.ended;
       loans = loans_in-lent s.slots t.slots xs slot.at loan kept.rising kept.distinct kept.backed slot.entry.in_bounds (rw slot.is r.others) (sym slot.entry.number) (rw slot.is free) (rw slot.is r.loan_is);
       births = refl;

@@ -1,5 +1,7 @@
 -- What a device holds, and what its calls make of it.
-use Rattle.std.specs.Prelude.{ℕ, suc, ◌≡◌, ◌+◌, ◌<◌, ◌≤◌, Bool, false, List, [], ◌∷◌, ◌++◌, replicate, map, Option, Some, IsSome}
+use Rattle.std.specs.Prelude.{ℕ, suc, ◌≡◌, ◌+◌, ◌<◌, ◌≤◌, ◌⊎◌, Bool, true, false, List, [], ◌∷◌, ◌++◌, replicate, map, Option, Some, IsSome}
+use Rattle.acc_base.specs.declared.faults.Fault.{Fault}
+use Rattle.acc_base.specs.declared.faults.Fault.TheVariants.{Lent, Memory as OutOfMemory}
 use Rattle.acc_base.specs.declared.loans.Loan.{Loan}
 use Rattle.acc_base.specs.declared.mappings.Block.{Block}
 use Rattle.acc_base.specs.declared.items.Section.{Section}
@@ -8,8 +10,10 @@ use Rattle.acc_base.specs.Records.{Memory}
 use Rattle.acc_base.specs.Blocks.{rounded, place_for, block_at, without_block}
 use Rattle.acc_base.specs.Bytes.{fill_byte, memory_changed, memories_kept}
 use Rattle.acc_base.specs.Overwriting.{overwritten}
-use Rattle.acc_base.specs.Loans.{Leased, len_of, with_loan, without_loan}
+use Rattle.acc_base.specs.Limits.{recorded}
+use Rattle.acc_base.specs.Loans.{Leased, is_lent, len_of, with_loan, without_loan}
 use Rattle.acc_base.specs.Accounts.{EachPair, AreBlocksApart}
+use Rattle.acc_dev.specs.declared.copying.SavedBlock.{SavedBlock}
 use Rattle.acc_dev.specs.Marks.{Mark, new_mark, is_ended_at, mark_changed, with_pin, without_pin, with_end, without_mark}
 
 -- where device memory begins and how long it is, the blocks by rising number, the bytes and the mark of each in step with them, the
@@ -121,17 +125,25 @@ pub record IsRetired (old new : DeviceState) (block : ℕ) : Type 0 where
   pub births : new.births ≡ old.births
   pub room : new.room ≡ old.room
 
+-- the bytes of a block in a vector of their own
+abbrev pub memory_saved : SavedBlock → Memory
+memory_saved b = record { block = b.block; bytes = b.bytes.items }
+
 -- ---- loans
 
--- the new device is the old one with a loan more: the bytes of its block are gone
-pub record IsTakenOut (old new : DeviceState) (loan : Loan) : Type 0 where
+-- the new device is the old one with a loan more: the bytes of its block are gone, but for a copy where one is kept
+pub record IsTakenOut (old new : DeviceState) (loan : Loan) (keep : Bool) : Type 0 where
   pub memory : new.memory ≡ old.memory
   pub blocks : new.blocks ≡ old.blocks
-  pub memories : new.memories ≡ map (memory_changed loan.block (λ bytes. [])) old.memories
+  pub memories : new.memories ≡ map (memory_changed loan.block (recorded keep)) old.memories
   pub marks : new.marks ≡ old.marks
   pub loans : new.loans ≡ with_loan loan old.loans
   pub births : new.births ≡ old.births
   pub room : new.room ≡ old.room
+
+-- a loan is refused of a block that is lent, and else for want of memory for the copy that is to be kept
+abbrev pub IsLoanRefused : DeviceState → ℕ → Bool → Fault → Type 0
+IsLoanRefused d block keep fault = ((is_lent block d.loans ≡ true) × (fault ≡ Lent block)) ⊎ ((is_lent block d.loans ≡ false) × (keep ≡ true) × (fault ≡ OutOfMemory))
 
 -- the new device is the old one with the bytes of a lease for those of its block, which is no longer lent
 pub record IsPutBack (old new : DeviceState) (lease : Leased) : Type 0 where

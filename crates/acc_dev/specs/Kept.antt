@@ -1,5 +1,5 @@
 -- How a device keeps its blocks: each in a slot of a slab, and an index of their numbers and slots. No public clause cites this module.
-use Rattle.std.specs.Prelude.{ℕ, ◌≡◌, ◌≢◌, ◌+◌, ◌^◌, ◌<◌, ◌≤◌, Bool, true, false, List, [], ◌∷◌, map, length, Option, Some, None, IsSome, slice_index_or}
+use Rattle.std.specs.Prelude.{ℕ, ◌≡◌, ◌≢◌, ◌+◌, ◌^◌, ◌<◌, ◌≤◌, ◌==◌, Bool, true, false, not, ◌&&◌, ◌||◌, List, [], ◌∷◌, map, length, Option, Some, None, IsSome, slice_index_or}
 use Rattle.std.specs.List.{AllByRecursion, remove}
 use Rattle.acc_base.specs.declared.addresses.TheConstants.{MEMORY_MAX}
 use Rattle.acc_base.specs.declared.loans.Loan.{Loan}
@@ -8,7 +8,8 @@ use Rattle.acc_base.specs.Limits.{IsFromOne}
 use Rattle.acc_base.specs.declared.items.Section.{Section}
 use Rattle.acc_base.specs.Blocks.{block_at}
 use Rattle.acc_base.specs.Bytes.{bytes_of}
-use Rattle.acc_base.specs.Loans.{loan_of, is_lent}
+use Rattle.acc_base.specs.Loans.{Leased, loan_of, is_lent, is_loan_of}
+use Rattle.acc_base.specs.Leases.{is_kept_outside}
 use Rattle.acc_base.specs.Records.{Memory}
 use Rattle.acc_base.specs.Holes.{taken_range}
 use Rattle.acc_base.specs.Accounts.{EachPair}
@@ -53,6 +54,10 @@ abbrev pub stored_loan : Option Stored → Option Loan
 stored_loan None = None
 stored_loan (Some s) = s.loan
 
+-- the lease brings the block of a slot back
+abbrev pub is_back_at : Bool → Leased → Option Stored → Bool
+is_back_at kept lease slot = is_loan_of lease (stored_loan slot) && (stored_len slot == length lease.bytes) && (not kept || is_kept_outside lease (stored_bytes slot))
+
 -- the block of a number, with what its slot has
 abbrev pub block_from : ℕ → Option Stored → Block
 block_from number slot = record { number = number; place = stored_place slot; len = stored_len slot }
@@ -95,9 +100,8 @@ loans_in slots (e ∷ es) = loan_before (stored_loan (slot_of slots e)) (loans_i
 abbrev pub IsIndexRising : List (ℕ × ℕ) → Type 0
 IsIndexRising index = EachPair (λ d e. d.0 < e.0) index
 
--- a slot that is lent has no bytes, its block is mapped, and its loan is the block's and lies in it
+-- the block of a slot that is lent is mapped, and its loan is the block's and lies in it
 pub record IsOut (number : ℕ) (slot : Option Stored) (loan : Loan) : Type 0 where
-  pub empty : stored_bytes slot ≡ []
   pub mapped : stored_ended slot ≡ false
   pub block : loan.block ≡ number
   pub within : loan.offset + loan.len ≤ stored_len slot

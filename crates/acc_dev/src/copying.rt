@@ -1,9 +1,10 @@
-//! Copies of the blocks and of the loans of a device, in vectors of their own.
+//! Copies of the blocks, of their bytes and of the loans of a device, in vectors of their own.
 
-ghost use Rattle.std.specs.Prelude.{◌≡◌, IfOk, IfErr, IsSome};
+ghost use Rattle.std.specs.Prelude.{◌≡◌, map, IfOk, IfErr, IsSome};
 ghost use Rattle.std.specs.List.{AllByRecursion};
 ghost use Rattle.slab.specs.Slab.{get};
-ghost use Rattle.acc_dev.specs.Kept.{slot_of, block_from, blocks_in, loans_in};
+ghost use Rattle.acc_dev.specs.Device.{memory_saved};
+ghost use Rattle.acc_dev.specs.Kept.{slot_of, block_from, memory_from, blocks_in, memories_in, loans_in};
 
 use crate::devices::Device;
 use crate::entries::{Stored, loan_at};
@@ -11,6 +12,15 @@ use crate::index::Index;
 use acc_base::{Block, Fault, Loan};
 use slab::Slab;
 use std::alloc::Global;
+
+/// The bytes that a block has at one moment.
+#[derive(Drop)]
+pub struct SavedBlock {
+    /// The number of the block.
+    pub block: u64,
+    /// Its bytes, each at its offset.
+    pub bytes: Vec<u8>,
+}
 
 impl Device {
     /// The blocks of the device in a vector of their own, by rising number: of each its number, its place and its length.
@@ -26,6 +36,19 @@ impl Device {
         ensures only { IfErr result (λ fault. fault ≡ Fault.Memory) }
     {
         copy_blocks_of(&self.slab, &self.index, alloc)
+    }
+
+    /// The bytes of each block of the device, by rising number: of a block that is lent, the copy that is kept, if one is.
+    /// The device stays as it is. It takes memory for the answer alone.
+    ///
+    /// # Errors
+    ///
+    /// [`Fault::Memory`] alone.
+    pub fn copy_memories(&self, alloc: Global) -> Result<Vec<SavedBlock>, Fault>
+        ensures ok { IfOk result (λ memories. map memory_saved memories.items ≡ self.now.memories) }
+        ensures only { IfErr result (λ fault. fault ≡ Fault.Memory) }
+    {
+        copy_memories_of(&self.slab, &self.index, alloc)
     }
 
     /// The loans of the device in a vector of their own, by rising block. The device stays as it is.
@@ -69,6 +92,43 @@ fn copy_blocks_of(slab: &Slab<Stored>, index: &Index, alloc: Global) -> Result<V
         }
     }
     Ok(blocks)
+}
+
+/// The bytes of the block of a number, which stands in a slot.
+fn memory_at(
+    slab: &Slab<Stored>,
+    slot: usize,
+    number: u64,
+    alloc: Global,
+) -> Result<SavedBlock, Fault>
+    requires { IsSome (get slab.now slot) }
+    ensures ok { IfOk result (λ saved. memory_saved saved ≡ memory_from number (get slab.now slot)) }
+    ensures only { IfErr result (λ fault. fault ≡ Fault.Memory) }
+{
+    let bytes = slab[slot].bytes.to_vec(alloc)?;
+    Ok(SavedBlock {
+        block: number,
+        bytes,
+    })
+}
+
+/// The bytes of the blocks of an index, each of which stands in its slot.
+fn copy_memories_of(
+    slab: &Slab<Stored>,
+    index: &Index,
+    alloc: Global,
+) -> Result<Vec<SavedBlock>, Fault>
+    requires filled { AllByRecursion (λ e. IsSome (slot_of slab.now.slots e)) index.now.entries }
+    ensures ok { IfOk result (λ memories. map memory_saved memories.items ≡ memories_in slab.now.slots index.now.entries) }
+    ensures only { IfErr result (λ fault. fault ≡ Fault.Memory) }
+{
+    let mut memories = Vec::with_capacity(alloc, slab.len())?;
+    for entry in index.items() {
+        if !entry.gone {
+            memories.push(memory_at(slab, entry.slot, entry.number, alloc)?)?;
+        }
+    }
+    Ok(memories)
 }
 
 /// The loans of the blocks of an index.

@@ -1,11 +1,10 @@
 //! The slots of blocks, and the index by which a number finds its slot.
 
-ghost use Rattle.std.specs.Prelude.{◌≡◌, ℕ, ◌+◌, ◌^◌, ◌<◌, ◌≤◌, ◌≢◌, List, [], ◌∷◌, ◌++◌, ◌&&◌, ◌==◌, length, is_some, IfSome, IfErr, OnOk, IsOk, IsSome, Some, None, slice_index_or};
+ghost use Rattle.std.specs.Prelude.{◌≡◌, ℕ, ◌+◌, ◌^◌, ◌<◌, ◌≤◌, ◌≢◌, List, [], ◌∷◌, ◌++◌, ◌&&◌, ◌==◌, length, is_some, IfSome, IfErr, OnOk, IsOk, IsSome, Some, None, slice_index_or, true, IfOk};
 ghost use Rattle.std.specs.List.{AllByRecursion};
 ghost use Rattle.slab.specs.Slab.{get, slab_len, HasRoomFor};
-ghost use Rattle.acc_base.specs.Limits.{IsFromOne};
+ghost use Rattle.acc_base.specs.Limits.{IsFromOne, recorded};
 ghost use Rattle.acc_base.specs.Blocks.{rounded as rounded_of};
-ghost use Rattle.acc_base.specs.Loans.{is_loan_of, is_returnable};
 ghost use Rattle.acc_placement.specs.Ranges.{IsFit, IsLeastFit};
 ghost use Rattle.acc_placement.specs.Space.{IsSameSpace};
 ghost use Rattle.acc_base.specs.Overwriting.{overwritten};
@@ -28,7 +27,7 @@ pub struct Stored {
     pub place: u64,
     /// The length in bytes.
     pub len: u64,
-    /// The bytes: as many as the length says, or none while the block is lent.
+    /// The bytes: as many as the length says. While the block is lent, a copy of them where one is kept, and else none.
     pub bytes: Vec<u8>,
     /// How many queued transfers name the block.
     pub pins: u64,
@@ -191,45 +190,33 @@ pub fn loan_at(slab: &Slab<Stored>, slot: usize) -> Option<Loan>
     slab.get(slot)?.loan
 }
 
-/// Whether a lease brings the block of a slot back: the slot is lent under the lease's serial number, for the same
-/// section, and its block is as long as the lease has bytes.
-fn is_loan_at(slab: &Slab<Stored>, slot: usize, lease: &Lease) -> bool
-    ensures { result ≡ (is_loan_of lease.now (stored_loan (get slab.now slot)) && stored_len (get slab.now slot) == length lease.now.bytes) }
+/// What stays of the bytes of a slot while its block is lent: a copy where one is to be kept, and else nothing.
+pub fn copy_at(
+    slab: &Slab<Stored>,
+    slot: usize,
+    alloc: Global,
+    keep: bool,
+) -> Result<Vec<u8>, Fault>
+    requires { IsSome (get slab.now slot) }
+    ensures copy { IfOk result (λ copy. copy.items ≡ recorded keep (stored_bytes (get slab.now slot))) }
+    ensures only { IfErr result (λ fault. (keep ≡ true) × (fault ≡ Fault.Memory)) }
 {
-    let Some(stored) = slab.get(slot) else {
-        return false;
-    };
-    let Some(loan) = stored.loan else {
-        return false;
-    };
-    loan.serial == lease.serial()
-        && loan.offset == lease.offset() as u64
-        && loan.len == lease.len() as u64
-        && stored.len == lease.block_bytes().len() as u64
-}
-
-/// The slot whose block a lease brings back, if there is one.
-pub fn slot_back(slab: &Slab<Stored>, index: &Index, lease: &Lease) -> Option<usize>
-    requires rising { IsIndexRising index.now.entries }
-    requires backed { AllByRecursion (λ e. IsBacked e.0 (slot_of slab.now.slots e)) index.now.entries }
-    ensures returnable { is_some result ≡ is_returnable lease.now (blocks_in slab.now.slots index.now.entries) (loans_in slab.now.slots index.now.entries) }
-    ensures slot { IfSome result (IsSlotOf index.now.entries lease.now.block) }
-    ensures len { IfSome result (λ slot. stored_len (get slab.now slot) ≡ length lease.now.bytes) }
-{
-    let slot = index.slot(lease.block())?;
-    if is_loan_at(slab, slot, lease) {
-        return Some(slot);
+    if !keep {
+        return Ok(Vec::new(alloc));
     }
-    None
+    let Some(stored) = slab.get(slot) else {
+        unreachable!()
+    };
+    Ok(stored.bytes.to_vec(alloc)?)
 }
 
-/// Moves the bytes of a slot into a lease of this loan, and leaves none.
-pub fn lend_at(slab: &mut Slab<Stored>, slot: usize, alloc: Global, loan: Loan) -> Lease
+/// Moves the bytes of a slot into a lease of this loan, and leaves those that stay.
+pub fn lend_at(slab: &mut Slab<Stored>, slot: usize, stays: Vec<u8>, loan: Loan) -> Lease
     requires filled { IsSome (get slab.old slot) }
     requires within { loan.offset + loan.len ≤ length (stored_bytes (get slab.old slot)) }
     requires capped { length (stored_bytes (get slab.old slot)) ≤ MEMORY_MAX }
     ensures lease { result ≡ record { serial = loan.serial; block = loan.block; offset = loan.offset; len = loan.len; bytes = stored_bytes (get slab.old slot) } }
-    ensures lent { IsRelent slab.old slab.new slot (Some loan) [] }
+    ensures lent { IsRelent slab.old slab.new slot (Some loan) stays.items }
     ensures slots { slab_len slab.new ≡ slab_len slab.old }
     ensures capacity { slab.new.capacity ≡ slab.old.capacity }
 {
@@ -237,7 +224,7 @@ pub fn lend_at(slab: &mut Slab<Stored>, slot: usize, alloc: Global, loan: Loan) 
         unreachable!()
     };
     stored.loan = Some(loan);
-    let bytes = mem::replace(&mut stored.bytes, Vec::new(alloc));
+    let bytes = mem::replace(&mut stored.bytes, stays);
     Lease::of(
         loan.serial,
         loan.block,

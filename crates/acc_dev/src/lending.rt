@@ -2,38 +2,42 @@
 
 ghost use Rattle.std.specs.Prelude.{◌≡◌, ◌+◌, ◌≤◌, ◌↔◌, IfOk, IfErr, OnOk, OnErr, IsOk, IsErr, true, false};
 ghost use Rattle.acc_base.specs.Bytes.{bytes_of};
-ghost use Rattle.acc_base.specs.Loans.{loan_of, is_lent, len_of, is_returnable};
+ghost use Rattle.acc_base.specs.Loans.{loan_of, is_lent, len_of};
+ghost use Rattle.acc_base.specs.Leases.{is_returnable};
 ghost use Rattle.acc_dev.specs.Marks.{is_ended_at};
-ghost use Rattle.acc_dev.specs.Device.{HasBlock, IsTakenOut, IsPutBack};
+ghost use Rattle.acc_dev.specs.Device.{HasBlock, IsTakenOut, IsLoanRefused, IsPutBack};
 
 use crate::devices::Device;
-use crate::entries::{lend_at, loan_at, restore_at, slot_back, slot_of_block};
+use crate::entries::{copy_at, lend_at, loan_at, restore_at, slot_of_block};
+use crate::returning::slot_back;
 use acc_base::{Fault, Loan};
 use acc_lend::Lease;
 
 impl Device {
     /// Moves the bytes of a block of the device, which is mapped, into a lease of `len` bytes of it from place `offset`
     /// on, which end within the block. The block stays where it is and is lent until [`Device::put_back`] takes the
-    /// lease. No byte is copied, and no memory is needed (OpenACC 3.3, sections 2.5, compute constructs, and 2.6, data
-    /// environment).
+    /// lease (OpenACC 3.3, sections 2.5, compute constructs, and 2.6, data environment). With `keep`, a copy of all bytes
+    /// of the block stays too; without it, no byte is copied, and no memory is needed.
     ///
     /// # Errors
     ///
-    /// [`Fault::Lent`] with the number of the block, exactly where it is lent already. The device is then as before.
+    /// [`Fault::Lent`] with the number of the block, exactly where it is lent already; else [`Fault::Memory`], and only
+    /// with `keep`. The device is then as before.
     pub fn take_out(
         &mut self,
         block: u64,
         serial: u64,
         offset: u64,
         len: u64,
+        keep: bool,
     ) -> Result<Lease, Fault>
         requires there { HasBlock self.old block }
         requires mapped { is_ended_at block self.old.marks ≡ false }
         requires within { offset + len ≤ len_of block self.old.blocks }
-        ensures lent { IsErr result ↔ (is_lent block self.old.loans ≡ true) }
-        ensures only { IfErr result (λ fault. fault ≡ Fault.Lent block) }
+        ensures free { IsOk result → is_lent block self.old.loans ≡ false }
+        ensures refused { IfErr result (IsLoanRefused self.old block keep) }
         ensures lease { IfOk result (λ lease. lease ≡ record { serial = serial; block = block; offset = offset; len = len; bytes = bytes_of block self.old.memories }) }
-        ensures out { OnOk result (IsTakenOut self.old self.new (record { serial = serial; block = block; offset = offset; len = len })) }
+        ensures out { OnOk result (IsTakenOut self.old self.new (record { serial = serial; block = block; offset = offset; len = len }) keep) }
         ensures same { OnErr result (self.new ≡ self.old) }
     {
         let slot = slot_of_block(&self.index, block);
@@ -46,25 +50,26 @@ impl Device {
             offset,
             len,
         };
-        Ok(lend_at(&mut self.slab, slot, self.alloc, loan))
+        let stays = copy_at(&self.slab, slot, self.alloc, keep)?;
+        Ok(lend_at(&mut self.slab, slot, stays, loan))
     }
 
-    /// Moves the bytes of a lease back into its block, which is no longer lent. No byte is copied, and no memory is
-    /// needed.
+    /// Moves the bytes of a lease back into its block, which is no longer lent, and lets a kept copy go. No byte is
+    /// copied, and no memory is needed. With `kept`, the lease's bytes are compared with the copy that was kept.
     ///
     /// # Errors
     ///
     /// [`Fault::NoLease`] with the lease's serial number, and the lease itself, exactly where the device has no loan of
     /// this serial number, block, place and length of the section, or the lease has not as many bytes as the block is
-    /// long. The device is then as before.
-    pub fn put_back(&mut self, lease: Lease) -> Result<(), (Lease, Fault)>
-        ensures fits { IsOk result ↔ (is_returnable lease self.old.blocks self.old.loans ≡ true) }
+    /// long, or, with `kept`, one of its bytes outside of the section is not the copy's. The device is then as before.
+    pub fn put_back(&mut self, lease: Lease, kept: bool) -> Result<(), (Lease, Fault)>
+        ensures fits { IsOk result ↔ (is_returnable kept lease self.old.blocks self.old.loans self.old.memories ≡ true) }
         ensures back { IfErr result (λ back. (back.0 ≡ lease) × (back.1 ≡ Fault.NoLease lease.serial)) }
         ensures put { OnOk result (IsPutBack self.old self.new lease) }
         ensures same { OnErr result (self.new ≡ self.old) }
     {
         let serial = lease.serial();
-        let Some(slot) = slot_back(&self.slab, &self.index, &lease) else {
+        let Some(slot) = slot_back(&self.slab, &self.index, &lease, kept) else {
             return Err((lease, Fault::NoLease { serial }));
         };
         restore_at(&mut self.slab, slot, lease.into_block());
@@ -80,9 +85,9 @@ impl Device {
     }
 
     /// Whether [`Device::put_back`] takes a lease. It needs no memory.
-    pub fn is_returnable(&self, lease: &Lease) -> bool
-        ensures { result ≡ is_returnable lease.now self.now.blocks self.now.loans }
+    pub fn is_returnable(&self, lease: &Lease, kept: bool) -> bool
+        ensures { result ≡ is_returnable kept lease.now self.now.blocks self.now.loans self.now.memories }
     {
-        slot_back(&self.slab, &self.index, lease).is_some()
+        slot_back(&self.slab, &self.index, lease, kept).is_some()
     }
 }

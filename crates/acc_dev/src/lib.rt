@@ -8,6 +8,8 @@ mod entries;
 mod filling;
 mod index;
 mod lending;
+mod returning;
 
 pub use acc_base::DEVICE_BASE;
+pub use copying::SavedBlock;
 pub use devices::Device;

@@ -8,7 +8,7 @@ use acc_table::{Answer, Call, Lease, Mapped, Reply, Table, Turn, abandon, abando
 use acc_table_rows::Ask::{
     Enter, EnterData, Exit, ExitData, ExitDataLater, Lend, Step, Update, UpdateLater, Wait, Write,
 };
-use acc_table_rows::subjects::{A, SUBJECTS, TO_HOST, WIDE};
+use acc_table_rows::subjects::{A, FULL, SUBJECTS, TO_HOST, WIDE};
 use acc_table_rows::{Ask, Limits, Row, holds, table_of, take, turn_of};
 use std::alloc::{AllocError, Global};
 use std::fmt::Debug;
@@ -171,21 +171,37 @@ fn live_whole(
 }
 
 /// Lives the whole life on a new table.
-fn live_on_new(rt: &(impl Abort + AllocGlobal), is_rebased: bool) -> Result<(), Fail> {
-    let mut table = table_twice(rt.alloc(), WIDE)?;
+fn live_on_new(
+    rt: &(impl Abort + AllocGlobal),
+    limits: Limits,
+    is_rebased: bool,
+) -> Result<(), Fail> {
+    let mut table = table_twice(rt.alloc(), limits)?;
     live_whole(rt, &mut table, is_rebased)
 }
 
 /// What is made here is made a second time where the first failed.
 #[test]
 fn a_refused_growth_changes_nothing(rt: HostRuntime) -> Result<(), Fail> {
-    live_on_new(&rt, false)
+    live_on_new(&rt, WIDE, false)
 }
 
 /// The same, where each event is folded into the base.
 #[test]
 fn a_refused_growth_of_a_base_changes_nothing(rt: HostRuntime) -> Result<(), Fail> {
-    live_on_new(&rt, true)
+    live_on_new(&rt, WIDE, true)
+}
+
+/// With full traces, where events, lent blocks and bases keep bytes too.
+#[test]
+fn a_refused_growth_of_a_full_trace_changes_nothing(rt: HostRuntime) -> Result<(), Fail> {
+    live_on_new(&rt, FULL, false)
+}
+
+/// The same, where each event is folded into the base.
+#[test]
+fn a_refused_growth_of_a_full_base_changes_nothing(rt: HostRuntime) -> Result<(), Fail> {
+    live_on_new(&rt, FULL, true)
 }
 
 /// Ends the test where the answer is not the one that is wanted.

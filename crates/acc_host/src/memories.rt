@@ -80,6 +80,18 @@ impl HostMem {
         Ok(())
     }
 
+    /// All bytes of the memory in a vector of their own. The memory stays as it is.
+    ///
+    /// # Errors
+    ///
+    /// [`Fault::Memory`] alone.
+    pub fn copy(&self, alloc: Global) -> Result<Vec<u8>, Fault>
+        ensures ok { IfOk result (λ bytes. bytes.items ≡ self.now) }
+        ensures only { IfErr result (λ fault. fault ≡ Fault.Memory) }
+    {
+        Ok(self.bytes.to_vec(alloc)?)
+    }
+
     /// The number, little-endian, that the eight bytes from `addr` on are: the host address that a pointer there
     /// holds.
     ///

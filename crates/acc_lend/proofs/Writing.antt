@@ -3,7 +3,7 @@ use Rattle.std.proofs.Common.{◌≡◌, ℕ, ◌+◌, ◌≤◌, List, ◌++◌
 use Rattle.std.proofs.lemmas.List.{take_all, length-take-le}
 use Rattle.std.proofs.Math.Seq.{take-append_seam, drop-append_seam}
 use Rattle.acc_base.specs.Loans.{Leased}
-use Rattle.acc_lend.specs.Loans.{IsLoan, with_section, written_over, IsKeptOutside}
+use Rattle.acc_lend.specs.Loans.{IsLoan, section, with_section, written_over, IsKeptOutside}
 
 -- where the bytes fit, nothing is cut off
 written_whole : (offset : ℕ) (bytes old : List ℕ) → offset + length bytes ≤ length old → written_over offset bytes old ≡ take offset old ++ (bytes ++ drop (offset + length bytes) old)
@@ -24,6 +24,15 @@ behind_written offset bytes old fits =
     let rest = drop (offset + length bytes) old in
     ap₂ drop seam (written_whole offset bytes old fits ∙ sym (append_assoc (take offset old) bytes rest))
     ∙ drop-append_seam (take offset old ++ bytes) rest
+
+-- the bytes of the section are those that were written over it
+pub section_written : (l : Leased) (bytes : List ℕ) → IsLoan l → length bytes ≡ l.len → section (with_section l bytes) ≡ bytes
+section_written l bytes laws long =
+    let fits : l.offset + length bytes ≤ length l.bytes = omega (arith, laws.within) in
+    let front : length (take l.offset l.bytes) ≡ l.offset = length-take-le l.offset l.bytes (omega arith) in
+    let rest = drop (l.offset + length bytes) l.bytes in
+    ap₂ (λ n xs. take n xs) (sym long) (ap₂ drop (sym front) (written_whole l.offset bytes l.bytes fits) ∙ drop-append_seam (take l.offset l.bytes) (bytes ++ rest))
+    ∙ take-append_seam bytes rest
 
 pub kept_outside : (l : Leased) (bytes : List ℕ) → IsLoan l → length bytes ≡ l.len → IsKeptOutside l (with_section l bytes)
 kept_outside l bytes laws long =

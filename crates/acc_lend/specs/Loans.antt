@@ -2,15 +2,13 @@
 use Rattle.std.specs.Prelude.{ℕ, ◌≡◌, ◌+◌, ◌≤◌, List, ◌++◌, length, take, drop}
 use Rattle.acc_base.specs.declared.addresses.TheConstants.{MEMORY_MAX}
 use Rattle.acc_base.specs.Loans.{Leased}
+-- the bytes of the section
+pub use Rattle.acc_base.specs.Leases.{section_bytes as section}
 
 -- the section lies in the block, and the block is no longer than a memory may be
 pub record IsLoan (l : Leased) : Type 0 where
   pub within : l.offset + l.len ≤ length l.bytes
   pub capped : length l.bytes ≤ MEMORY_MAX
-
--- the bytes of the section
-abbrev pub section : Leased → List ℕ
-section l = take l.len (drop l.offset l.bytes)
 
 -- bytes with others in place of those from an offset on, as many in all as before
 abbrev pub written_over : ℕ → List ℕ → List ℕ → List ℕ

@@ -53,6 +53,13 @@ impl Lease {
         }
     }
 
+    /// The section lies in the block, which has at most 67,108,864 bytes. Nothing is done.
+    pub fn laws(&self)
+        ensures { IsLoan self.now }
+    {
+        let _ = &self.serial;
+    }
+
     /// The serial number of the loan.
     pub fn serial(&self) -> u64
         ensures { result ≡ self.now.serial }

@@ -287,7 +287,7 @@ fn is_out(device: &mut Device, block: u64) -> bool {
     if !device.has(block) || device.has_ended(block) || device.bytes(block).is_some() {
         return false;
     }
-    match device.take_out(block, 9, 0, 0) {
+    match device.take_out(block, 9, 0, 0, false) {
         Ok(lease) => {
             lease.abandon();
             false
@@ -303,7 +303,7 @@ fn take_out(device: &mut Device, block: u64, serial: u64, offset: u64, len: u64)
     }
     let whole = device.bytes(block)?.len() as u64;
     if offset <= whole && len <= whole - offset {
-        device.take_out(block, serial, offset, len).ok()
+        device.take_out(block, serial, offset, len, false).ok()
     } else {
         None
     }
@@ -312,7 +312,7 @@ fn take_out(device: &mut Device, block: u64, serial: u64, offset: u64, len: u64)
 /// Puts a lease back, and answers the fault with which it was refused. Then it is as it was.
 fn put_back(rt: &impl Abort, device: &mut Device, lease: Lease) -> Option<Fault> {
     let (serial, block, offset, len) = (lease.serial(), lease.block(), lease.offset(), lease.len());
-    let Err((lease, fault)) = device.put_back(lease) else {
+    let Err((lease, fault)) = device.put_back(lease, false) else {
         return None;
     };
     let found = (lease.serial(), lease.block(), lease.offset(), lease.len());

@@ -11,7 +11,7 @@ use Rattle.acc_base.specs.Steps.{act, act_all}
 use Rattle.acc_base.specs.Waits.{records_drained}
 use Rattle.acc_base.specs.Walk.{walk, asked_in, done_in, stepped_in, loaned}
 use Rattle.acc_base.specs.Acting.{after}
-use Rattle.acc_base.specs.Calls.{Base, World, judge, world_after, bytes_brought, new_world, rebased}
+use Rattle.acc_base.specs.Calls.{Base, World, base_of, judge, world_after, bytes_brought, new_world, rebased}
 use Rattle.acc_base.specs.Judge.{Verdict, Makes, Idle, verdict_of}
 use Rattle.acc_base.proofs.SameMapping.{mapping-act}
 use Rattle.acc_base.proofs.Walked.{layout-after}
@@ -69,11 +69,11 @@ walk_serials _ lay = omega arith
 kept_after : (w : World) (call : Call Leased) (e : Event) (tasks : List Task) → IsKept w → judge w call ≡ Ok (Makes e) → asked_in e w.state.register ≡ tasks → length tasks ≤ 64 → IsKept (world_after call e w)
 unfolding world_after
 kept_after w call e tasks k h asked few =
-    let is : layout_of (after e (bytes_brought call) w.state) ≡ walk e (layout_of w.state) = layout-after e (bytes_brought call) w.state in
+    let is : layout_of (after w.limits.full e (bytes_brought call) w.state) ≡ walk e (layout_of w.state) = layout-after w.limits.full e (bytes_brought call) w.state in
     let more : length (w.history.trace ++ e ∷ []) ≡ length w.history.trace + 1 = length-append w.history.trace (e ∷ []) in
-    let births : (after e (bytes_brought call) w.state).records.births ≤ w.state.records.births + length tasks = subst (λ (lay : Layout). lay.records.births ≤ w.state.records.births + length tasks) (sym is) (walk_births e (layout_of w.state) tasks asked) in
-    let regions : (after e (bytes_brought call) w.state).register.next ≤ w.state.register.next + 1 = subst (λ (lay : Layout). lay.register.next ≤ w.state.register.next + 1) (sym is) (walk_regions e (layout_of w.state)) in
-    let serials : (after e (bytes_brought call) w.state).register.serial ≤ w.state.register.serial + 1 = subst (λ (lay : Layout). lay.register.serial ≤ w.state.register.serial + 1) (sym is) (walk_serials e (layout_of w.state)) in
+    let births : (after w.limits.full e (bytes_brought call) w.state).records.births ≤ w.state.records.births + length tasks = subst (λ (lay : Layout). lay.records.births ≤ w.state.records.births + length tasks) (sym is) (walk_births e (layout_of w.state) tasks asked) in
+    let regions : (after w.limits.full e (bytes_brought call) w.state).register.next ≤ w.state.register.next + 1 = subst (λ (lay : Layout). lay.register.next ≤ w.state.register.next + 1) (sym is) (walk_regions e (layout_of w.state)) in
+    let serials : (after w.limits.full e (bytes_brought call) w.state).register.serial ≤ w.state.register.serial + 1 = subst (λ (lay : Layout). lay.register.serial ≤ w.state.register.serial + 1) (sym is) (walk_serials e (layout_of w.state)) in
     record {
       bounds = k.bounds;
       accounted = accepted_accounted w call e k.bounds h k.accounted;
@@ -117,10 +117,10 @@ kept_carried base d p old new trace longer (Err back) k planned h done same = su
 new_world_kept : (l : Limits) → IsWithinBounds l → IsKept (new_world l)
 new_world_kept l bounds = record { bounds = bounds; accounted = new_accounted l bounds; births = omega arith; regions = omega arith; serials = omega arith }
 
-pub new_is : (base : Base) (l : Limits) (c : Contents) → AreNew l c → base ≡ record { layout = layout_of c.state; events = 0 } → world_of base c [] ≡ new_world l
+pub new_is : (base : Base) (l : Limits) (c : Contents) → AreNew l c → base ≡ base_of c.limits.full c.state 0 → world_of base c [] ≡ new_world l
 new_is base l c new is = rw (is, new.limits, new.state) refl
 
-pub new_kept : (base : Base) (l : Limits) (c : Contents) → IsWithinBounds l → AreNew l c → base ≡ record { layout = layout_of c.state; events = 0 } → IsKept (world_of base c [])
+pub new_kept : (base : Base) (l : Limits) (c : Contents) → IsWithinBounds l → AreNew l c → base ≡ base_of c.limits.full c.state 0 → IsKept (world_of base c [])
 new_kept base l c bounds new is = subst (λ (w : World). IsKept w) (sym (new_is base l c new is)) (new_world_kept l bounds)
 
 -- ---- a new base
@@ -129,8 +129,8 @@ rebased_kept : (w : World) → IsKept w → IsKept (rebased w)
 rebased_kept w k = record { bounds = k.bounds; accounted = rebased_accounted w k.bounds k.accounted; births = omega (arith, k.births); regions = omega (arith, k.regions); serials = omega (arith, k.serials) }
 
 -- the world of a base that was made of a store and its events is the world with a new base
-pub rebased_is : (base new : Base) (c : Contents) (trace : List Event) → new ≡ record { layout = layout_of c.state; events = base.events + length trace } → world_of new c [] ≡ rebased (world_of base c trace)
+pub rebased_is : (base new : Base) (c : Contents) (trace : List Event) → new ≡ base_of c.limits.full c.state (base.events + length trace) → world_of new c [] ≡ rebased (world_of base c trace)
 rebased_is base new c trace is = rw is refl
 
-pub kept_rebased : (base new : Base) (c : Contents) (trace : List Event) → IsKept (world_of base c trace) → new ≡ record { layout = layout_of c.state; events = base.events + length trace } → IsKept (world_of new c [])
+pub kept_rebased : (base new : Base) (c : Contents) (trace : List Event) → IsKept (world_of base c trace) → new ≡ base_of c.limits.full c.state (base.events + length trace) → IsKept (world_of new c [])
 kept_rebased base new c trace k is = subst (λ (w : World). IsKept w) (sym (rebased_is base new c trace is)) (rebased_kept (world_of base c trace) k)

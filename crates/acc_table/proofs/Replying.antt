@@ -10,13 +10,14 @@ use Rattle.acc_base.specs.declared.events.Event.TheVariants as events
 use Rattle.acc_base.specs.declared.faults.Fault.TheVariants.{NoLease}
 use Rattle.acc_base.specs.Results.{◌>>=◌, ◌>>◌, refuse_if}
 use Rattle.acc_base.specs.Limits.{Limits}
-use Rattle.acc_base.specs.Loans.{Leased, not_lent, none_lent, is_returnable}
+use Rattle.acc_base.specs.Loans.{Leased, not_lent, none_lent}
+use Rattle.acc_base.specs.Leases.{is_returnable}
 use Rattle.acc_base.specs.Records.{Records, State}
 use Rattle.acc_base.specs.Ranges.{where_is}
 use Rattle.acc_base.specs.Clauses.{in_host}
 use Rattle.acc_base.specs.Acting.{judge_all}
 use Rattle.acc_base.specs.Queues.{head_of, queue_named}
-use Rattle.acc_base.specs.Judge.{Verdict, Makes, Idle, few_items, tasks_of, queue_in, transfers_in, step_verdict, verdict_of, directive_verdict, plan_of, region_open, lend_there, lend_event, gather_event}
+use Rattle.acc_base.specs.Judge.{Verdict, Makes, Idle, few_items, tasks_of, queue_in, transfers_in, step_verdict, verdict_of, directive_verdict, plan_of, region_open, lend_there, lend_event, written, gathered, gather_event}
 use Rattle.acc_base.specs.Calls.{World, judge, ticket, trace_room}
 use Rattle.acc_table.specs.declared.calls.Reply.{Reply}
 use Rattle.acc_table.specs.declared.calls.Reply.TheVariants as replies
@@ -65,8 +66,8 @@ directive_replied w d v reply next h done =
 
 write_replied : (w : World) (addr : ℕ) (bytes : List ℕ) (v : Verdict) (reply : Reply) (next : World) → judge w (HostWrite addr bytes) ≡ Ok v → IsCarriedOut w (HostWrite addr bytes) v reply next → reply ≡ replies.Done
 write_replied w addr bytes v reply next h done =
-    let is = then_ok (write_admitted w (record { start = addr; len = length bytes })) (Ok (Makes (events.HostWritten addr (length bytes)))) v (sym (judge_write w addr bytes) ∙ h) in
-    (subst (λ x. IsCarriedOut w (HostWrite addr bytes) x reply next) (sym (ok_same (Makes (events.HostWritten addr (length bytes))) v is.1)) done).0
+    let is = then_ok (write_admitted w (record { start = addr; len = length bytes })) (Ok (Makes (written w.limits.full addr bytes))) v (sym (judge_write w addr bytes) ∙ h) in
+    (subst (λ x. IsCarriedOut w (HostWrite addr bytes) x reply next) (sym (ok_same (Makes (written w.limits.full addr bytes)) v is.1)) done).0
 
 -- what is made of the event of a call is that event
 pub made_of : (a b : Result ⊤ Fault) (r : Result Event Fault) (v : Verdict) → (a >> (b >> (r >>= λ e. Ok (Makes e)))) ≡ Ok v → (e : Event) × (r ≡ Ok e) × (Makes e ≡ v)
@@ -95,9 +96,9 @@ lend_replied w region section v reply next h done =
 gather_replied : (w : World) (lease : Leased) (v : Verdict) (reply : Reply) (next : World) → judge w (Gather lease) ≡ Ok v → IsCarriedOut w (Gather lease) v reply next → reply ≡ replies.Done
 unfolding judge gather_event
 gather_replied w lease v reply next h done =
-    let made = made_of (ticket w) (trace_room w) (gather_event lease w.state.records) v h in
-    let fits = then_ok (refuse_if (not (is_returnable lease w.state.records.blocks w.state.records.loans)) (NoLease lease.serial)) (Ok (events.Gathered lease.serial lease.block)) made.0 made.1 in
-    let same : events.Gathered lease.serial lease.block ≡ made.0 = ok_same _ _ fits.1 in
+    let made = made_of (ticket w) (trace_room w) (gather_event w.limits.full lease w.state) v h in
+    let fits = then_ok (refuse_if (not (is_returnable w.limits.full lease w.state.records.blocks w.state.records.loans w.state.memories)) (NoLease lease.serial)) (Ok (gathered w.limits.full lease)) made.0 made.1 in
+    let same : gathered w.limits.full lease ≡ made.0 = ok_same _ _ fits.1 in
     subst (λ x. reply ≡ reply_of x w.state) (sym same) (subst (λ x. IsCarriedOut w (Gather lease) x reply next) (sym made.2) done).0
 
 -- ---- a call

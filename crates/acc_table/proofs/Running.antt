@@ -9,16 +9,17 @@ use Rattle.std.proofs.lemmas.List.Quantifiers.{position-Some}
 use Rattle.acc_base.proofs.Results.{and_true, equal}
 use Rattle.acc_clauses.specs.Words.{Call, Directive, Event, Fault}
 use Rattle.acc_base.specs.declared.calls.Call.TheVariants.{Do, HostWrite, Gather}
-use Rattle.acc_base.specs.declared.events.Event.TheVariants.{Lent, Gathered}
+use Rattle.acc_base.specs.declared.events.Event.TheVariants.{Lent}
 use Rattle.acc_base.specs.declared.faults.Fault.TheVariants.{Memory, NoLease}
 use Rattle.acc_base.specs.Loans.{Leased}
 use Rattle.acc_base.specs.Records.{State}
 use Rattle.acc_base.specs.Calls.{Base, World, judge}
-use Rattle.acc_base.specs.Judge.{Verdict, Makes, Idle, gather_event}
+use Rattle.acc_base.specs.Judge.{Verdict, Makes, Idle, gathered, gather_event}
 use Rattle.acc_table.specs.declared.calls.Turn.{Turn}
 use Rattle.acc_table.specs.declared.calls.Turn.TheVariants.{Back}
 use Rattle.acc_table.specs.declared.calls.Turn.TheVariants as turns
-use Rattle.acc_lend.specs.Loans.{with_section}
+use Rattle.acc_lend.specs.Loans.{IsLoan, section, with_section}
+use Rattle.acc_lend.proofs.Writing.{section_written}
 use Rattle.acc_table.specs.declared.calls.Answer.{Answer}
 use Rattle.acc_table.specs.declared.calls.Answer.TheVariants.{Refused}
 use Rattle.acc_table.specs.declared.calls.Reply.{Reply}
@@ -29,7 +30,7 @@ use Rattle.acc_table.specs.Kept.{IsKept, world_of}
 use Rattle.acc_table.specs.Making.{is_loan, IsLeaseJudged, IsMadeInto}
 use Rattle.acc_table.specs.Turns.{is_meant, brought_back, asked_by, kept_by, lent_by, refuse_back, StaysRefused, MayCome, MayAnswer, IsRun}
 use Rattle.acc_table.specs.Turning.{is_lend, lends_in, IsTurnTaken, IsTurnMade, IsRefusalOf, IsTurnRefused}
-use Rattle.acc_table.proofs.Verdicts.{directive_no_loan, write_no_loan, gather_rewritten, judge_rewritten, judged_refused, made_wanted, made_done}
+use Rattle.acc_table.proofs.Verdicts.{directive_no_loan, write_no_loan, gather_rewritten, judged_rewritten, refused_rewritten, judged_refused, made_wanted, made_done}
 use Rattle.acc_table.proofs.Keeping.{kept_alone, kept_called}
 
 -- ---- which call lends
@@ -115,11 +116,11 @@ pub none_back : (w : World) (serial : ℕ) (bytes : List ℕ) (leases : List Lea
 none_back w serial bytes leases fault place told = subst (λ r. IsRefusalOf w r fault) (sym (ap (brought_back serial bytes) (position-None (is_meant serial (length bytes)) leases place))) told
 
 -- what is told of the lease as it is, is told of it with other bytes
-pub serial_told : {serial : ℕ} {bytes : List ℕ} {leases : List Leased} {at : ℕ} {lease : Leased} {fault : Fault} (w : World) → IsBackAt serial bytes leases at lease → judge w (Gather lease) ≡ Err fault → IsRefusalOf w (asked_by (Back serial bytes) leases) fault
-serial_told {bytes = bytes} {lease = lease} {fault = fault} w back h = subst (λ r. IsRefusalOf w r fault) (sym back.asked) (judged_refused w (Gather (with_section lease bytes)) fault (judge_rewritten w lease bytes ∙ h))
+pub serial_told : {serial : ℕ} {bytes : List ℕ} {leases : List Leased} {at : ℕ} {lease : Leased} {fault : Fault} (w : World) → IsBackAt serial bytes leases at lease → IsLoan lease → judge w (Gather lease) ≡ Err fault → IsRefusalOf w (asked_by (Back serial bytes) leases) fault
+serial_told {bytes = bytes} {lease = lease} {fault = fault} w back loan h = subst (λ r. IsRefusalOf w r fault) (sym back.asked) (judged_refused w (Gather (with_section lease bytes)) fault (refused_rewritten w lease bytes fault loan back.len h))
 
-pub wanted_of : {serial : ℕ} {bytes : List ℕ} {leases : List Leased} {at : ℕ} {lease : Leased} {e : Event} (w : World) → IsBackAt serial bytes leases at lease → judge w (Gather lease) ≡ Ok (Makes e) → IsRefusalOf w (asked_by (Back serial bytes) leases) Memory
-wanted_of {bytes = bytes} {lease = lease} {e = e} w back h = subst (λ r. IsRefusalOf w r Memory) (sym back.asked) (made_wanted w (Gather (with_section lease bytes)) e (judge_rewritten w lease bytes ∙ h))
+pub wanted_of : {serial : ℕ} {bytes : List ℕ} {leases : List Leased} {at : ℕ} {lease : Leased} (w : World) → IsBackAt serial bytes leases at lease → IsLoan lease → judge w (Gather lease) ≡ Ok (Makes (gathered w.limits.full lease)) → IsRefusalOf w (asked_by (Back serial bytes) leases) Memory
+wanted_of {bytes = bytes} {lease = lease} w back loan h = subst (λ r. IsRefusalOf w r Memory) (sym back.asked) (made_wanted w (Gather (with_section lease bytes)) (gathered w.limits.full (with_section lease bytes)) (judged_rewritten w lease bytes loan back.len h))
 
 -- a lease that is read at this place is the one that comes back
 pub same_back : {serial : ℕ} {bytes : List ℕ} {leases : List Leased} {at : ℕ} {lease removed : Leased} → IsBackAt serial bytes leases at lease → removed ≡ slice_index_or leases at removed → removed ≡ lease
@@ -129,51 +130,45 @@ same_back {leases = leases} {at = at} {lease = lease} {removed = removed} back i
 pub record IsReturned (w : World) (serial : ℕ) (bytes : List ℕ) (leases : List Leased) (at : ℕ) (lease : Leased) : Type 0 where
   pub asked : asked_by (Back serial bytes) leases ≡ Ok (Gather lease)
   pub kept : remove leases at ≡ kept_by (Back serial bytes) leases
-  pub event : gather_event lease w.state.records ≡ Ok (Gathered lease.serial lease.block)
-  pub judged : judge w (Gather lease) ≡ Ok (Makes (Gathered lease.serial lease.block))
+  pub event : gather_event w.limits.full lease w.state ≡ Ok (gathered w.limits.full lease)
+  pub judged : judge w (Gather lease) ≡ Ok (Makes (gathered w.limits.full lease))
+  pub stored : bytes ≡ section lease
 
 -- so does that which was judged in its place before these bytes were written over those that it lends
-pub returned : {serial : ℕ} {bytes : List ℕ} {leases : List Leased} {at : ℕ} {lease removed taken : Leased} {w now : World} → IsBackAt serial bytes leases at lease → removed ≡ slice_index_or leases at removed → taken ≡ with_section removed bytes → w ≡ now → IsLeaseJudged now lease (Ok tt) → IsReturned w serial bytes leases at taken
-returned {serial = serial} {bytes = bytes} {leases = leases} {at = at} {lease = lease} {taken = taken} {w = w} back is taken_is same judged =
-    let taken_of : with_section lease bytes ≡ taken = ap (λ (l : Leased). with_section l bytes) (sym (same_back back is)) ∙ sym taken_is in
+pub returned : {serial : ℕ} {bytes written : List ℕ} {leases : List Leased} {at : ℕ} {lease removed taken : Leased} {w now : World} → IsBackAt serial bytes leases at lease → removed ≡ slice_index_or leases at removed → taken ≡ with_section removed written → written ≡ bytes → w ≡ now → IsLoan lease → IsLeaseJudged now lease (Ok tt) → IsReturned w serial bytes leases at taken
+returned {serial = serial} {bytes = bytes} {leases = leases} {at = at} {lease = lease} {removed = removed} {taken = taken} {w = w} back is taken_is same_bytes same loan judged =
+    let taken_of : with_section lease bytes ≡ taken = ap (λ (l : Leased). with_section l bytes) (sym (same_back back is)) ∙ (ap (with_section removed) (sym same_bytes) ∙ sym taken_is) in
     let before : IsLeaseJudged w lease (Ok tt) = subst (λ (x : World). IsLeaseJudged x lease (Ok tt)) (sym same) judged in
     subst (λ (l : Leased). IsReturned w serial bytes leases at l) taken_of (record {
       asked = back.asked;
       kept = back.kept;
-      event = gather_rewritten lease bytes w.state.records ∙ before.0;
-      judged = judge_rewritten w lease bytes ∙ before.1;
+      event = gather_rewritten w.limits.full lease bytes w.state loan back.len before.0;
+      judged = judged_rewritten w lease bytes loan back.len before.1;
+      stored = sym (section_written lease bytes loan back.len);
     })
 
 -- what a store and a trace keep that took it back
 pub back_kept : (base : Base) {serial : ℕ} {bytes : List ℕ} {leases : List Leased} {at : ℕ} {lease : Leased} {reply : Reply} (old new : Contents) (trace room longer : List Event) → IsKept (world_of base old trace) → IsReturned (world_of base old trace) serial bytes leases at lease → room ≡ trace
-    → IsMadeInto (Gathered lease.serial lease.block) lease.bytes reply old new room longer → IsKept (world_of base new longer)
+    → IsMadeInto (gathered old.limits.full lease) lease.bytes reply old new room longer → IsKept (world_of base new longer)
 back_kept base {lease = lease} {reply = reply} old new trace room longer k returned same m =
-    let made = subst (λ (before : List Event). IsMadeInto (Gathered lease.serial lease.block) lease.bytes reply old new before longer) same m in
-    kept_called base (Gather lease) (Gathered lease.serial lease.block) old new trace longer reply (kept_alone (world_of base old trace) (Gather lease) (Gathered lease.serial lease.block) k returned.judged refl) made
+    let made = subst (λ (before : List Event). IsMadeInto (gathered old.limits.full lease) lease.bytes reply old new before longer) same m in
+    kept_called base (Gather lease) (gathered old.limits.full lease) old new trace longer reply (kept_alone (world_of base old trace) (Gather lease) (gathered old.limits.full lease) k returned.judged refl) made
 
 -- the turn is made that brought it back
 pub back_made : (base : Base) {serial : ℕ} {bytes : List ℕ} {leases : List Leased} {at : ℕ} {lease : Leased} {reply : Reply} (old new : Contents) (trace room longer : List Event) → IsReturned (world_of base old trace) serial bytes leases at lease → room ≡ trace
-    → IsMadeInto (Gathered lease.serial lease.block) lease.bytes reply old new room longer → IsTurnMade (world_of base old trace) leases (Back serial bytes) reply (world_of base new longer) (remove leases at)
+    → IsMadeInto (gathered old.limits.full lease) lease.bytes reply old new room longer → IsTurnMade (world_of base old trace) leases (Back serial bytes) reply (world_of base new longer) (remove leases at)
 back_made base {lease = lease} {reply = reply} old new trace room longer returned same m =
-    let made = subst (λ (before : List Event). IsMadeInto (Gathered lease.serial lease.block) lease.bytes reply old new before longer) same m in
+    let made = subst (λ (before : List Event). IsMadeInto (gathered old.limits.full lease) lease.bytes reply old new before longer) same m in
     record {
       call = Gather lease;
       asked = returned.asked;
-      done = made_done base (Gather lease) (Gathered lease.serial lease.block) reply old new trace longer returned.judged made;
+      done = made_done base (Gather lease) (gathered old.limits.full lease) reply old new trace longer returned.judged made;
       kept_is = returned.kept;
       idle = λ idle. (let both : ◌≡◌ {A = Reply} replies.Done replies.Idle = sym m.reply ∙ idle in cc);
       few = (let none : lent_by reply ≡ [] = ap lent_by m.reply in omega (arith, ap length none));
     }
 
 -- ---- a write of the host
-
-pub write_taken : (w next : World) (leases : List Leased) (addr : ℕ) (bytes : List ℕ) (turn : Turn) (r : Result Reply Fault) → turn ≡ turns.HostWrite addr bytes → IfOk r (λ reply. IsDone w (HostWrite addr bytes) reply next)
-    → IfErr r (IsRefusal w (HostWrite addr bytes)) → OnErr r (next ≡ w) → IsTurnTaken w leases turn r next leases
-write_taken w next leases addr bytes turn r is done told same = subst (λ (t : Turn). IsTurnTaken w leases t r next leases) (sym is) (go r done told same)
-  where
-    go : (q : Result Reply Fault) → IfOk q (λ reply. IsDone w (HostWrite addr bytes) reply next) → IfErr q (IsRefusal w (HostWrite addr bytes)) → OnErr q (next ≡ w) → IsTurnTaken w leases (turns.HostWrite addr bytes) q next leases
-    go (Ok reply) d t s = record { call = HostWrite addr bytes; asked = refl; done = d; kept_is = refl; idle = λ x. refl; few = write_lends_none w next addr bytes reply d }
-    go (Err fault) d t s = record { told = t; same = s; same_leases = refl }
 
 -- ---- one turn after the other
 

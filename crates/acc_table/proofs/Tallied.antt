@@ -13,7 +13,8 @@ use Rattle.acc_base.specs.declared.mappings.Counters.{Counters}
 use Rattle.acc_base.specs.declared.mappings.Found.{Found}
 use Rattle.acc_base.specs.declared.mappings.Found.TheVariants.{Inside}
 use Rattle.acc_base.specs.Ranges.{where_is, range_of, structured_of, dynamic_of}
-use Rattle.acc_base.specs.Loans.{Leased, is_returnable}
+use Rattle.acc_base.specs.Loans.{Leased}
+use Rattle.acc_base.specs.Leases.{is_returnable}
 use Rattle.acc_base.specs.Limits.{Limits}
 use Rattle.acc_base.specs.Records.{Records, State, Layout, layout_of}
 use Rattle.acc_base.specs.Register.{Region, Register, held_in}
@@ -22,7 +23,7 @@ use Rattle.acc_base.specs.Walk.{register_after, holdings_of}
 use Rattle.acc_base.specs.Acting.{after}
 use Rattle.acc_base.specs.History.{NamesRight}
 use Rattle.acc_base.specs.Accounts.{EachPair, AreRecordsSound, IsRegisterSound}
-use Rattle.acc_base.specs.Judge.{Verdict, Makes, Idle, verdict_of, step_verdict, host_write_event, lend_event, gather_event}
+use Rattle.acc_base.specs.Judge.{Verdict, Makes, Idle, verdict_of, step_verdict, written, host_write_event, lend_event, gathered, gather_event}
 use Rattle.acc_base.specs.Calls.{World, judge, ticket, trace_room, world_after, bytes_brought, event_count, open_regions}
 use Rattle.acc_base.proofs.Results.{then_ok, ok_same}
 use Rattle.acc_base.proofs.LegalEvents.{lend_legal}
@@ -67,18 +68,18 @@ kind : (w : World) (call : Call Leased) (e : Event) → judge w call ≡ Ok (Mak
 unfolding judge host_write_event lend_event gather_event
 kind w (Do d) e h = let told = judged_as w d (Makes e) h in verdict_kind d w.state told.0 e told.1
 kind w (HostWrite addr bytes) e h =
-    let made = made_of (ticket w) (trace_room w) (host_write_event w.limits addr (length bytes)) (Makes e) h in
-    let last = then_ok (in_host w.limits 0 (record { start = addr; len = length bytes })) (Ok (events.HostWritten addr (length bytes))) made.0 made.1 in
-    let same : events.HostWritten addr (length bytes) ≡ e = ok_same _ _ last.1 ∙ same_event _ _ made.2 in
+    let made = made_of (ticket w) (trace_room w) (host_write_event w.limits addr bytes) (Makes e) h in
+    let last = then_ok (in_host w.limits 0 (record { start = addr; len = length bytes })) (Ok (written w.limits.full addr bytes)) made.0 made.1 in
+    let same : written w.limits.full addr bytes ≡ e = ok_same _ _ last.1 ∙ same_event _ _ made.2 in
     subst (λ x. IsOfKind x (HostWrite addr bytes)) same (refl, refl)
 kind w (Lend region section) e h =
     let made = made_of (ticket w) (trace_room w) (lend_event w.limits region section w.state) (Makes e) h in
     let lent = lend_legal w.limits region section w.state made.0 made.1 in
     subst (λ x. IsOfKind x (Lend region section)) (lent.1 ∙ same_event _ _ made.2) (refl, refl)
 kind w (Gather lease) e h =
-    let made = made_of (ticket w) (trace_room w) (gather_event lease w.state.records) (Makes e) h in
-    let last = then_ok (refuse_if (not (is_returnable lease w.state.records.blocks w.state.records.loans)) (NoLease lease.serial)) (Ok (events.Gathered lease.serial lease.block)) made.0 made.1 in
-    let same : events.Gathered lease.serial lease.block ≡ e = ok_same _ _ last.1 ∙ same_event _ _ made.2 in
+    let made = made_of (ticket w) (trace_room w) (gather_event w.limits.full lease w.state) (Makes e) h in
+    let last = then_ok (refuse_if (not (is_returnable w.limits.full lease w.state.records.blocks w.state.records.loans w.state.memories)) (NoLease lease.serial)) (Ok (gathered w.limits.full lease)) made.0 made.1 in
+    let same : gathered w.limits.full lease ≡ e = ok_same _ _ last.1 ∙ same_event _ _ made.2 in
     subst (λ x. IsOfKind x (Gather lease)) same (refl, refl)
 
 -- where there is nothing to do, the call is neither

@@ -211,9 +211,9 @@ there_tells _ region section s = tt
 -- what a call is judged by where there are a ticket and a region left
 abbrev rest_of : World → Call Leased → Result Verdict Fault
 rest_of w (Do directive) = few_items directive >> (trace_room w >> directive_verdict w.limits directive w.state)
-rest_of w (HostWrite addr bytes) = trace_room w >> (host_write_event w.limits addr (length bytes) >>= λ e. Ok (Makes e))
+rest_of w (HostWrite addr bytes) = trace_room w >> (host_write_event w.limits addr bytes >>= λ e. Ok (Makes e))
 rest_of w (Lend region section) = trace_room w >> (lend_event w.limits region section w.state >>= λ e. Ok (Makes e))
-rest_of w (Gather lease) = trace_room w >> (gather_event lease w.state.records >>= λ e. Ok (Makes e))
+rest_of w (Gather lease) = trace_room w >> (gather_event w.limits.full lease w.state >>= λ e. Ok (Makes e))
 
 -- it tells others alone
 rest_tells : (w : World) (call : Call Leased) → Tells (rest_of w call)

@@ -9,23 +9,25 @@ use Rattle.acc_base.proofs.Results.{then_ok, ok_same, refused_not}
 use Rattle.acc_base.proofs.LegalEvents.{IsMadeBy, made_by}
 use Rattle.acc_base.specs.declared.directives.Directive.TheVariants.{Enter, Step}
 use Rattle.acc_base.specs.declared.calls.Call.TheVariants.{Do, HostWrite, Gather}
-use Rattle.acc_base.specs.declared.events.Event.TheVariants.{Stepped, HostWritten}
-use Rattle.acc_base.specs.declared.faults.Fault.TheVariants.{Memory}
-use Rattle.acc_base.specs.Results.{◌>>=◌, ◌>>◌}
+use Rattle.acc_base.specs.declared.events.Event.TheVariants.{Stepped}
+use Rattle.acc_base.specs.declared.faults.Fault.TheVariants.{Memory, NoLease}
+use Rattle.acc_base.specs.Results.{◌>>=◌, ◌>>◌, refuse_if}
 use Rattle.acc_base.specs.Loans.{Leased}
 use Rattle.acc_base.specs.Walk.{loaned}
-use Rattle.acc_base.specs.Records.{Records, State}
+use Rattle.acc_base.specs.Records.{State}
 use Rattle.acc_base.specs.Queues.{head_of}
 use Rattle.acc_base.specs.Bytes.{host_after_write}
 use Rattle.acc_base.specs.Waits.{drained}
 use Rattle.acc_base.specs.Acting.{act_all_state, after}
 use Rattle.acc_base.specs.Clauses.{in_host}
-use Rattle.acc_base.specs.Judge.{few_items, step_verdict, verdict_of, directive_verdict, plan_of, host_write_event, gather_event}
+use Rattle.acc_base.specs.Judge.{few_items, step_verdict, verdict_of, directive_verdict, plan_of, written, host_write_event, gathered, gather_event}
 use Rattle.acc_base.specs.Calls.{Base, World, judge, ticket, allowance, trace_room, bytes_brought, world_after}
 use Rattle.acc_base.specs.Judge.{Verdict, Makes, Idle}
 use Rattle.acc_clauses.specs.Contents.{Contents}
 use Rattle.acc_clauses.specs.Planned.{Planned, in_written_order}
-use Rattle.acc_lend.specs.Loans.{with_section, written_over}
+use Rattle.acc_base.specs.Leases.{is_returnable}
+use Rattle.acc_lend.specs.Loans.{IsLoan, with_section, written_over}
+use Rattle.acc_lend.proofs.Writing.{kept_outside}
 use Rattle.acc_table.specs.declared.calls.Reply.{Reply}
 use Rattle.acc_table.specs.declared.calls.Reply.TheVariants.{Done}
 use Rattle.acc_table.specs.Calls.{reply_of, IsCarriedOut, IsDone, IsRefusal}
@@ -69,10 +71,10 @@ pub unchanged : (base : Base) (old new : Contents) (trace same : List Event) →
 unchanged base old new trace same h = rw (h.limits, h.state, h.trace) refl
 
 -- the world of a store and a trace after a write of the host
-pub written : (base : Base) (addr : ℕ) (bytes : List ℕ) (old new : Contents) (trace longer : List Event) → new.limits ≡ old.limits → new.state ≡ record old.state { host = host_after_write addr (length bytes) bytes old.state.host } → longer ≡ trace ++ HostWritten addr (length bytes) ∷ []
-    → world_of base new longer ≡ world_after (HostWrite addr bytes) (HostWritten addr (length bytes)) (world_of base old trace)
+pub write_made : (base : Base) (addr : ℕ) (bytes : List ℕ) (old new : Contents) (trace longer : List Event) → new.limits ≡ old.limits → new.state ≡ record old.state { host = host_after_write addr (length bytes) bytes old.state.host } → longer ≡ trace ++ written old.limits.full addr bytes ∷ []
+    → world_of base new longer ≡ world_after (HostWrite addr bytes) (written old.limits.full addr bytes) (world_of base old trace)
 unfolding world_after after act_all_state drained loaned
-written base addr bytes old new trace longer l s t = rw (l, s, t) refl
+write_made base addr bytes old new trace longer l s t = rw (l, s, t) refl
 
 -- ---- the verdict
 
@@ -103,15 +105,15 @@ pub refused_before : (w : World) (d : Directive) (fault : Fault) → admitted w 
 refused_before w d fault e = let v : judge w (Do d) ≡ Err fault = judge_directive w d ∙ rw e refl in rw v refl
 
 -- the verdict on a write of the host
-pub judge_write : (w : World) (addr : ℕ) (bytes : List ℕ) → judge w (HostWrite addr bytes) ≡ (write_admitted w (record { start = addr; len = length bytes }) >> Ok (Makes (HostWritten addr (length bytes))))
+pub judge_write : (w : World) (addr : ℕ) (bytes : List ℕ) → judge w (HostWrite addr bytes) ≡ (write_admitted w (record { start = addr; len = length bytes }) >> Ok (Makes (written w.limits.full addr bytes)))
 unfolding judge write_admitted host_write_event
 judge_write w addr bytes = go (ticket w) (trace_room w) (in_host w.limits 0 (record { start = addr; len = length bytes }))
   where
-    go : (a b c : Result ⊤ Fault) → (a >> (b >> ((c >> Ok (HostWritten addr (length bytes))) >>= λ x. Ok (Makes x)))) ≡ ((a >> (b >> c)) >> Ok (Makes (HostWritten addr (length bytes))))
+    go : (a b c : Result ⊤ Fault) → (a >> (b >> ((c >> Ok (written w.limits.full addr bytes)) >>= λ x. Ok (Makes x)))) ≡ ((a >> (b >> c)) >> Ok (Makes (written w.limits.full addr bytes)))
     go (Ok x) (Ok y) (Err f) = refl
     go _ _ _ = refl
 
-pub judged_write : (w : World) (addr : ℕ) (bytes : List ℕ) → write_admitted w (record { start = addr; len = length bytes }) ≡ Ok tt → judge w (HostWrite addr bytes) ≡ Ok (Makes (HostWritten addr (length bytes)))
+pub judged_write : (w : World) (addr : ℕ) (bytes : List ℕ) → write_admitted w (record { start = addr; len = length bytes }) ≡ Ok tt → judge w (HostWrite addr bytes) ≡ Ok (Makes (written w.limits.full addr bytes))
 judged_write w addr bytes a = judge_write w addr bytes ∙ rw a refl
 
 -- where a write of the host is not refused, its addresses are in host memory
@@ -130,7 +132,7 @@ can_write w s admitted size some =
 
 -- ---- the verdict on a lease that comes back
 
--- no judgement reads the bytes of a lease, but only how many there are
+-- how many bytes a lease has stays
 written-len : (offset : ℕ) (bytes old : List ℕ) → length (written_over offset bytes old) ≡ length old
 written-len offset bytes old = length-take-le (length old) (take offset old ++ (bytes ++ drop (offset + length bytes) old)) (simp (length-append, length-drop) (go (nat_le offset (length old)) refl))
   where
@@ -138,13 +140,41 @@ written-len offset bytes old = length-take-le (length old) (take offset old ++ (
     go true e = let low : offset ≤ length old = grind (arith, nat_tests) in omega (arith, length-take-le offset old low)
     go false e = let high : length old < offset = grind (arith, nat_tests) in omega (arith, ap length (take_all offset old (omega arith)))
 
-pub gather_rewritten : (lease : Leased) (bytes : List ℕ) (w : Records) → gather_event (with_section lease bytes) w ≡ gather_event lease w
-unfolding gather_event
-gather_rewritten lease bytes w = rw (written-len lease.offset bytes lease.bytes) refl
+-- no judgement reads the bytes of a section
+returnable_rewritten : (full : Bool) (lease : Leased) (bytes : List ℕ) (s : State) → IsLoan lease → length bytes ≡ lease.len
+    → is_returnable full (with_section lease bytes) s.records.blocks s.records.loans s.memories ≡ is_returnable full lease s.records.blocks s.records.loans s.memories
+returnable_rewritten full lease bytes s loan long =
+    let kept = kept_outside lease bytes loan long in
+    rw (written-len lease.offset bytes lease.bytes, kept.before, kept.behind) refl
 
-pub judge_rewritten : (w : World) (lease : Leased) (bytes : List ℕ) → judge w (Gather (with_section lease bytes)) ≡ judge w (Gather lease)
-unfolding judge
-judge_rewritten w lease bytes = rw (gather_rewritten lease bytes w.state.records) refl
+made_alike : (c : Result ⊤ Fault) (x y : Event) → (c >> Ok x) ≡ Ok x → (c >> Ok y) ≡ Ok y
+made_alike (Ok t) x y h = refl
+made_alike (Err fault) x y h = cc
+
+-- so a lease makes its event with other bytes there too
+pub gather_rewritten : (full : Bool) (lease : Leased) (bytes : List ℕ) (s : State) → IsLoan lease → length bytes ≡ lease.len → gather_event full lease s ≡ Ok (gathered full lease) → gather_event full (with_section lease bytes) s ≡ Ok (gathered full (with_section lease bytes))
+unfolding gather_event
+gather_rewritten full lease bytes s loan long h =
+    rw (returnable_rewritten full lease bytes s loan long) (made_alike (refuse_if (not (is_returnable full lease s.records.blocks s.records.loans s.memories)) (NoLease lease.serial)) (gathered full lease) (gathered full (with_section lease bytes)) h)
+
+pub judged_rewritten : (w : World) (lease : Leased) (bytes : List ℕ) → IsLoan lease → length bytes ≡ lease.len → judge w (Gather lease) ≡ Ok (Makes (gathered w.limits.full lease)) → judge w (Gather (with_section lease bytes)) ≡ Ok (Makes (gathered w.limits.full (with_section lease bytes)))
+unfolding judge gather_event
+judged_rewritten w lease bytes loan long h =
+    rw (returnable_rewritten w.limits.full lease bytes w.state loan long) (go (ticket w) (trace_room w) (refuse_if (not (is_returnable w.limits.full lease w.state.records.blocks w.state.records.loans w.state.memories)) (NoLease lease.serial)) (gathered w.limits.full lease) (gathered w.limits.full (with_section lease bytes)) h)
+  where
+    go : (a b c : Result ⊤ Fault) (x y : Event) → (a >> (b >> ((c >> Ok x) >>= λ e. Ok (Makes e)))) ≡ Ok (Makes x) → (a >> (b >> ((c >> Ok y) >>= λ e. Ok (Makes e)))) ≡ Ok (Makes y)
+    go (Ok r) (Ok s) (Ok t) x y k = refl
+    go _ _ _ x y k = cc
+
+-- and is refused for the same
+pub refused_rewritten : (w : World) (lease : Leased) (bytes : List ℕ) (fault : Fault) → IsLoan lease → length bytes ≡ lease.len → judge w (Gather lease) ≡ Err fault → judge w (Gather (with_section lease bytes)) ≡ Err fault
+unfolding judge gather_event
+refused_rewritten w lease bytes fault loan long h =
+    rw (returnable_rewritten w.limits.full lease bytes w.state loan long) (go (ticket w) (trace_room w) (refuse_if (not (is_returnable w.limits.full lease w.state.records.blocks w.state.records.loans w.state.memories)) (NoLease lease.serial)) (gathered w.limits.full lease) (gathered w.limits.full (with_section lease bytes)) h)
+  where
+    go : (a b c : Result ⊤ Fault) (x y : Event) → (a >> (b >> ((c >> Ok x) >>= λ e. Ok (Makes e)))) ≡ Err fault → (a >> (b >> ((c >> Ok y) >>= λ e. Ok (Makes e)))) ≡ Err fault
+    go (Ok r) (Ok s) (Ok t) x y k = cc
+    go _ _ _ x y k = k
 
 -- ---- a directive or a write of the host is no loan
 
@@ -175,8 +205,8 @@ directive_no_loan w d e h =
 -- and that of a write of the host
 pub write_no_loan : (w : World) (addr : ℕ) (bytes : List ℕ) (e : Event) → judge w (HostWrite addr bytes) ≡ Ok (Makes e) → is_loan e ≡ false
 write_no_loan w addr bytes e h =
-    let is = then_ok (write_admitted w (record { start = addr; len = length bytes })) (Ok (Makes (HostWritten addr (length bytes)))) (Makes e) (sym (judge_write w addr bytes) ∙ h) in
-    no_loan_made e (HostWritten addr (length bytes)) (ok_same (Makes (HostWritten addr (length bytes))) (Makes e) is.1) refl
+    let is = then_ok (write_admitted w (record { start = addr; len = length bytes })) (Ok (Makes (written w.limits.full addr bytes))) (Makes e) (sym (judge_write w addr bytes) ∙ h) in
+    no_loan_made e (written w.limits.full addr bytes) (ok_same (Makes (written w.limits.full addr bytes)) (Makes e) is.1) refl
 
 -- ---- a call that was carried out
 
@@ -218,6 +248,6 @@ pub directive_refused : (base : Base) (d : Directive) (old : Contents) (trace : 
 directive_refused base d old trace (Ok reply) ok h = tt
 directive_refused base d old trace (Err back) ok h = refused_plan (world_of base old trace) d back.1 ok h
 
-pub write_done : (base : Base) (addr : ℕ) (bytes : List ℕ) (old new : Contents) (trace longer : List Event) → judge (world_of base old trace) (HostWrite addr bytes) ≡ Ok (Makes (HostWritten addr (length bytes)))
-    → world_of base new longer ≡ world_after (HostWrite addr bytes) (HostWritten addr (length bytes)) (world_of base old trace) → IsDone (world_of base old trace) (HostWrite addr bytes) Done (world_of base new longer)
+pub write_done : (base : Base) (addr : ℕ) (bytes : List ℕ) (old new : Contents) (trace longer : List Event) → judge (world_of base old trace) (HostWrite addr bytes) ≡ Ok (Makes (written old.limits.full addr bytes))
+    → world_of base new longer ≡ world_after (HostWrite addr bytes) (written old.limits.full addr bytes) (world_of base old trace) → IsDone (world_of base old trace) (HostWrite addr bytes) Done (world_of base new longer)
 write_done base addr bytes old new trace longer h is = rw h (refl, is)

@@ -4,7 +4,7 @@ use Rattle.acc_base.specs.Limits.{IsWithinBounds}
 use Rattle.acc_base.specs.Section.{device_memory}
 use Rattle.acc_base.specs.Holes.{IsDevice}
 use Rattle.acc_base.specs.Records.{layout_of}
-use Rattle.acc_base.specs.Accounts.{AreRangesApart, AreBlocksApart, HasOneBlockEach, IsCounted, IsTraced, AreHeld, IsRegisterSound, AreAttachmentsSound, AreAttachmentsTraced, AreQueuesSound, AreLoansSound, AreMemoriesSized, IsHistoryLegal, AreBooksCounted}
+use Rattle.acc_base.specs.Accounts.{AreRangesApart, AreBlocksApart, HasOneBlockEach, IsCounted, IsTraced, AreHeld, IsRegisterSound, AreAttachmentsSound, AreAttachmentsTraced, AreQueuesSound, AreLoansSound, AreMemoriesSized, IsHistoryLegal, IsReplayed, AreBooksCounted}
 use Rattle.acc_base.specs.Calls.{World}
 
 -- the world keeps each law
@@ -39,5 +39,7 @@ pub record IsLawful (w : World) : Type 0 where
   pub memories : AreMemoriesSized w.limits w.state
   -- the history is legal, and leads to the layout
   pub history : IsHistoryLegal w.limits w.history (layout_of w.state)
+  -- with full traces both memories, and all else of the state, are what the stored events give from the base on; of a lent block that is the copy that is kept
+  pub replayed : IsReplayed w
   -- there are no more events than tickets and places in the trace, and no more open regions than the limit says
   pub books : AreBooksCounted w

@@ -11,7 +11,7 @@ use Rattle.acc_base.specs.Queues.{head_of}
 use Rattle.acc_base.specs.Waits.{steps_of}
 use Rattle.acc_base.specs.Clauses.{in_host}
 use Rattle.acc_base.specs.Loans.{Leased}
-use Rattle.acc_base.specs.Judge.{Verdict, Makes, Idle, few_items, verdict_of, gather_event}
+use Rattle.acc_base.specs.Judge.{Verdict, Makes, Idle, few_items, verdict_of, gathered, gather_event}
 use Rattle.acc_base.specs.Calls.{World, judge, ticket, allowance, trace_room}
 use Rattle.acc_clauses.specs.Lending.{IsLoanPlanned}
 use Rattle.acc_clauses.specs.Contents.{Contents}
@@ -69,7 +69,7 @@ IsLoanJudged w region section result = MatchResult result (λ loan. IsLoanPlanne
 
 -- what a lease comes to that is brought back, or what it is refused for
 abbrev pub IsLeaseJudged : World → Leased → Result ⊤ Fault → Type 0
-IsLeaseJudged w lease result = MatchResult result (λ _. (gather_event lease w.state.records ≡ Ok (events.Gathered lease.serial lease.block)) × (judge w (Gather lease) ≡ Ok (Makes (events.Gathered lease.serial lease.block)))) (λ fault. judge w (Gather lease) ≡ Err fault)
+IsLeaseJudged w lease result = MatchResult result (λ _. (gather_event w.limits.full lease w.state ≡ Ok (gathered w.limits.full lease)) × (judge w (Gather lease) ≡ Ok (Makes (gathered w.limits.full lease)))) (λ fault. judge w (Gather lease) ≡ Err fault)
 
 -- what a directive comes to for which this was planned
 abbrev pub planned_verdict : Directive → Planned → Contents → Verdict
@@ -89,7 +89,7 @@ pub record IsAsBefore (old new : Contents) (before after_it : List Event) : Type
 pub record IsMadeInto (e : Event) (brought : List ℕ) (answered : Reply) (old new : Contents) (before after_it : List Event) : Type 0 where
   pub reply : answered ≡ reply_of e old.state
   pub limits : new.limits ≡ old.limits
-  pub state : new.state ≡ after e brought old.state
+  pub state : new.state ≡ after old.limits.full e brought old.state
   pub trace : after_it ≡ before ++ e ∷ []
 
 -- the event is that of a loan

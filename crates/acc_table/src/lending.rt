@@ -1,14 +1,16 @@
 //! How a block is lent, and how it comes back, each with its event. Room in the trace comes before the first change.
 
-ghost use Rattle.std.specs.Prelude.{◌≡◌, ◌<◌, ◌^◌, [], vec_len, vec_capacity, Ok, IsOk, IfOk, IfErr, OnErr};
-ghost use Rattle.acc_base.specs.declared.events.Event.TheVariants.{Lent, Gathered};
+ghost use Rattle.std.specs.Prelude.{◌≡◌, ◌<◌, ◌^◌, [], false, vec_len, vec_capacity, Ok, IsOk, IfOk, IfErr, OnOk, OnErr};
+ghost use Rattle.acc_base.specs.declared.events.Event.TheVariants.{Lent};
+ghost use Rattle.acc_base.specs.Limits.{recorded};
+ghost use Rattle.acc_base.specs.Leases.{section_bytes};
 ghost use Rattle.acc_base.specs.declared.faults.Fault.TheVariants.{Memory};
-ghost use Rattle.acc_base.specs.Judge.{gather_event};
+ghost use Rattle.acc_base.specs.Judge.{gathered, gather_event};
 ghost use Rattle.acc_clauses.specs.Lending.{IsLoanPlanned};
 ghost use Rattle.acc_table.specs.Making.{IsMadeInto, IsAsBefore};
 
 use crate::calls::Reply;
-use acc_base::{Event, Fault, Loan, Section};
+use acc_base::{Event, Fault, List, Loan, Section};
 use acc_clauses::Store;
 use acc_lend::Lease;
 
@@ -16,7 +18,8 @@ use acc_lend::Lease;
 ///
 /// # Errors
 ///
-/// [`Fault::Memory`] alone, where there was no room in the trace for one event more, and nothing changed.
+/// [`Fault::Memory`] alone, where there was no room in the trace for one event more, or with full traces none for the copy
+/// of the block that stays, and nothing changed.
 pub fn lend(
     store: &mut Store,
     trace: &mut Vec<Event>,
@@ -27,14 +30,14 @@ pub fn lend(
     requires planned { IsLoanPlanned store.old.limits region section store.old.state loan }
     requires serial { store.old.state.register.serial < 2 ^ 48 }
     ensures done { IfOk result (λ reply. IsMadeInto (Lent region section loan.block loan.serial) [] reply store.old store.new trace.old.items trace.new.items) }
-    ensures succeeds { vec_len trace.old < vec_capacity trace.old → IsOk result }
     ensures only { IfErr result (λ fault. fault ≡ Memory) }
+    ensures succeeds { store.old.limits.full ≡ false → vec_len trace.old < vec_capacity trace.old → IsOk result }
     ensures same { OnErr result (IsAsBefore store.old store.new trace.old.items trace.new.items) }
 {
     trace.reserve(1)?;
     let block = loan.block;
     let serial = loan.serial;
-    let lease = store.lend(loan);
+    let lease = store.lend(loan)?;
     trace.push_reserved(Event::Lent {
         region,
         section,
@@ -45,16 +48,40 @@ pub fn lend(
 }
 
 /// Takes the block of a lease back that may come back, and stores the event, for which there is room.
-pub fn take_back(store: &mut Store, trace: &mut Vec<Event>, lease: Lease) -> Reply
-    requires ready { gather_event lease store.old.state.records ≡ Ok (Gathered lease.serial lease.block) }
+/// These are the bytes that it stores: with full traces those of the section.
+pub fn take_back(store: &mut Store, trace: &mut Vec<Event>, lease: Lease, bytes: List<u8>) -> Reply
+    requires ready { gather_event store.old.limits.full lease store.old.state ≡ Ok (gathered store.old.limits.full lease) }
+    requires stored { bytes ≡ recorded store.old.limits.full (section_bytes lease) }
     requires place { vec_len trace.old < vec_capacity trace.old }
-    ensures { IsMadeInto (Gathered lease.serial lease.block) lease.bytes result store.old store.new trace.old.items trace.new.items }
+    ensures { IsMadeInto (gathered store.old.limits.full lease) lease.bytes result store.old store.new trace.old.items trace.new.items }
 {
     let serial = lease.serial();
     let block = lease.block();
     store.gather(lease);
-    trace.push_reserved(Event::Gathered { serial, block });
+    trace.push_reserved(Event::Gathered {
+        serial,
+        block,
+        bytes,
+    });
     Reply::Done
+}
+
+/// Makes room in the trace for the event of a lease, and answers the bytes that it stores: with full traces a copy of those
+/// of the section.
+fn make_room(trace: &mut Vec<Event>, lease: &Lease, full: bool) -> Result<List<u8>, Fault>
+    ensures bytes { IfOk result (λ bytes. bytes ≡ recorded full (section_bytes lease.now)) }
+    ensures same { trace.new.items ≡ trace.old.items }
+    ensures place { OnOk result (vec_len trace.new < vec_capacity trace.new) }
+    ensures succeeds { full ≡ false → vec_len trace.old < vec_capacity trace.old → IsOk result }
+    ensures only { IfErr result (λ fault. fault ≡ Memory) }
+{
+    trace.reserve(1)?;
+    let alloc = *trace.allocator();
+    if full {
+        Ok(List::from_vec(lease.bytes().to_vec(alloc)?))
+    } else {
+        Ok(List::from_vec(Vec::new(alloc)))
+    }
 }
 
 /// Makes room for the event of a lease that may come back, takes its block back and stores the event. A lease for which
@@ -62,20 +89,21 @@ pub fn take_back(store: &mut Store, trace: &mut Vec<Event>, lease: Lease) -> Rep
 ///
 /// # Errors
 ///
-/// [`Fault::Memory`] alone, where there was no room in the trace for one event more, and nothing changed.
+/// [`Fault::Memory`] alone, where there was no room in the trace for one event more, or with full traces none for the bytes
+/// of the section, and nothing changed.
 pub fn gather(
     store: &mut Store,
     trace: &mut Vec<Event>,
     lease: Lease,
 ) -> Result<Reply, (Lease, Fault)>
-    requires ready { gather_event lease store.old.state.records ≡ Ok (Gathered lease.serial lease.block) }
-    ensures done { IfOk result (λ reply. IsMadeInto (Gathered lease.serial lease.block) lease.bytes reply store.old store.new trace.old.items trace.new.items) }
-    ensures succeeds { vec_len trace.old < vec_capacity trace.old → IsOk result }
+    requires ready { gather_event store.old.limits.full lease store.old.state ≡ Ok (gathered store.old.limits.full lease) }
+    ensures done { IfOk result (λ reply. IsMadeInto (gathered store.old.limits.full lease) lease.bytes reply store.old store.new trace.old.items trace.new.items) }
+    ensures succeeds { store.old.limits.full ≡ false → vec_len trace.old < vec_capacity trace.old → IsOk result }
     ensures back { IfErr result (λ back. (back.0 ≡ lease) × (back.1 ≡ Memory)) }
     ensures same { OnErr result (IsAsBefore store.old store.new trace.old.items trace.new.items) }
 {
-    match trace.reserve(1) {
-        Ok(()) => Ok(take_back(store, trace, lease)),
-        Err(_) => Err((lease, Fault::Memory)),
+    match make_room(trace, &lease, store.config().full()) {
+        Ok(bytes) => Ok(take_back(store, trace, lease, bytes)),
+        Err(fault) => Err((lease, fault)),
     }
 }

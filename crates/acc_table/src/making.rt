@@ -2,9 +2,9 @@
 
 ghost use Rattle.std.specs.Prelude.{◌≡◌, ◌+◌, ◌<◌, ◌≤◌, ◌^◌, ◌++◌, ◌∷◌, [], false, length, Ok, vec_len, vec_capacity, is_none, IsOk, IfOk, IfErr, OnOk, OnErr, IfSome};
 ghost use Rattle.acc_base.specs.declared.faults.Fault.TheVariants.{Memory};
-ghost use Rattle.acc_base.specs.declared.events.Event.TheVariants.{HostWritten};
+ghost use Rattle.acc_base.specs.Limits.{recorded};
 ghost use Rattle.acc_base.specs.Bytes.{host_after_write};
-ghost use Rattle.acc_base.specs.Judge.{plan_of};
+ghost use Rattle.acc_base.specs.Judge.{plan_of, written};
 ghost use Rattle.acc_base.specs.Records.{State};
 ghost use Rattle.acc_clauses.specs.Acts.{CanWrite, HasPlanRoom};
 ghost use Rattle.acc_clauses.specs.Planned.{IsPlanOf};
@@ -13,6 +13,7 @@ ghost use Rattle.acc_table.specs.Making.{is_idle, number_told, event_told, reply
 use crate::calls::Reply;
 use acc_base::{Did, Directive, Event, Fault, List};
 use acc_clauses::{Plan, Store};
+use std::alloc::Global;
 
 /// Whether the directive is the step of an empty queue, with which there is nothing to do.
 fn is_idle(store: &Store, directive: &Directive) -> bool
@@ -189,28 +190,42 @@ pub fn carry_out(
     }
 }
 
+/// What an event stores of these bytes: all of them with full traces, and else none.
+pub fn recorded(full: bool, bytes: List<u8>, alloc: Global) -> List<u8>
+    ensures { result ≡ recorded full bytes }
+{
+    if full {
+        bytes
+    } else {
+        List::from_vec(Vec::new(alloc))
+    }
+}
+
 /// Makes room in the trace for one event more, writes bytes into host memory and stores the event.
 ///
 /// # Errors
 ///
-/// [`Fault::Memory`] alone, where there was no such room, and nothing changed.
+/// [`Fault::Memory`] alone, where there was no such room. The bytes come back, and nothing changed.
 pub fn write_host(
     store: &mut Store,
     trace: &mut Vec<Event>,
     addr: u64,
-    bytes: &[u8],
-) -> Result<(), Fault>
-    requires { CanWrite (record { start = addr; len = length bytes.now }) store.old.state.host }
+    bytes: List<u8>,
+) -> Result<(), (List<u8>, Fault)>
+    requires { CanWrite (record { start = addr; len = length bytes }) store.old.state.host }
     ensures limits { store.new.limits ≡ store.old.limits }
-    ensures state { OnOk result (store.new.state ≡ record store.old.state { host = host_after_write addr (length bytes.now) bytes.now store.old.state.host }) }
-    ensures trace { OnOk result (trace.new.items ≡ trace.old.items ++ HostWritten addr (length bytes.now) ∷ []) }
+    ensures state { OnOk result (store.new.state ≡ record store.old.state { host = host_after_write addr (length bytes) bytes store.old.state.host }) }
+    ensures trace { OnOk result (trace.new.items ≡ trace.old.items ++ written store.old.limits.full addr bytes ∷ []) }
     ensures succeeds { vec_len trace.old < vec_capacity trace.old → IsOk result }
-    ensures only { IfErr result (λ fault. fault ≡ Memory) }
+    ensures back { IfErr result (λ back. (back.0 ≡ bytes) × (back.1 ≡ Memory)) }
     ensures same { OnErr result (IsAsBefore store.old store.new trace.old.items trace.new.items) }
 {
-    trace.reserve(1)?;
-    store.host_write(addr, bytes);
-    let len = bytes.len() as u64;
-    trace.push_reserved(Event::HostWritten { addr, len });
+    if trace.reserve(1).is_err() {
+        return Err((bytes, Fault::Memory));
+    }
+    store.host_write(addr, bytes.as_slice());
+    let len = bytes.as_slice().len() as u64;
+    let bytes = recorded(store.config().full(), bytes, *trace.allocator());
+    trace.push_reserved(Event::HostWritten { addr, len, bytes });
     Ok(())
 }

@@ -12,7 +12,8 @@ impl Table {
     /// that runs for long need not keep every event: counts over the history begin at the base's values, and there is
     /// room in the trace again. It is no event and takes no ticket, and every query but [`Table::base`] and
     /// [`Table::trace`] answers as before. The memory of the trace is kept for the events to come; the base takes memory
-    /// for each range, block, attached pointer, queued transfer, loan and open region.
+    /// for each range, block, attached pointer, queued transfer, loan and open region, and with full traces for the bytes of
+    /// both memories.
     ///
     /// # Errors
     ///

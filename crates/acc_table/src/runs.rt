@@ -9,8 +9,9 @@ ghost use Rattle.acc_table.specs.Turning.{is_lend, lends_in, IsTurnTaken, IsTurn
 
 use crate::calls::{Answer, Reply, Turn};
 use crate::lending::take_back;
+use crate::making::recorded;
 use crate::tables::Table;
-use acc_base::Fault;
+use acc_base::{Fault, List};
 use acc_lend::Lease;
 
 /// The turn asks for a loan.
@@ -27,10 +28,11 @@ fn lends_in(turns: &[Turn]) -> usize
     turns.iter().filter(|turn| is_lend(turn)).count()
 }
 
-/// The place in the list of the first lease of this serial number that has so many bytes lent.
-fn place_of(leases: &[Lease], serial: u64, len: usize) -> Option<usize>
-    ensures { result ≡ position (is_meant serial len) leases.now }
+/// The place in the list of the first lease of this serial number that lends as many bytes as these.
+fn place_of(leases: &[Lease], serial: u64, bytes: &List<u8>) -> Option<usize>
+    ensures { result ≡ position (is_meant serial (length bytes.now)) leases.now }
 {
+    let len = bytes.as_slice().len();
     leases
         .iter()
         .position(|lease| lease.serial() == serial && lease.len() == len)
@@ -111,35 +113,41 @@ impl Table {
                 Ok(reply) => Ok(reply),
                 Err((_, fault)) => Err(fault),
             },
-            Turn::HostWrite { addr, bytes } => self.write(addr, bytes.as_slice()),
+            Turn::HostWrite { addr, bytes } => match self.write(addr, bytes) {
+                Ok(reply) => Ok(reply),
+                Err((_, fault)) => Err(fault),
+            },
             Turn::Lend { region, section } => self.lend(region, section),
-            Turn::Back { serial, bytes } => self.bring_back(serial, bytes.as_slice(), leases),
+            Turn::Back { serial, bytes } => self.bring_back(serial, bytes, leases),
         }
     }
 
     /// Brings back the first lease of the list that is meant, with these bytes over those that were lent. It is judged
-    /// as it is, since no judgement reads its bytes, and where it is refused it stays as it is.
+    /// as it is, since no judgement reads the bytes of its section, and where it is refused it stays as it is.
     fn bring_back(
         &mut self,
         serial: u64,
-        bytes: &[u8],
+        bytes: List<u8>,
         leases: &mut Vec<Lease>,
     ) -> Result<Reply, Fault>
-        ensures done { IfOk result (λ reply. IsTurnMade self.old leases.old.items (Back serial bytes.now) reply self.new leases.new.items) }
-        ensures told { IfErr result (IsRefusalOf self.old (asked_by (Back serial bytes.now) leases.old.items)) }
+        ensures done { IfOk result (λ reply. IsTurnMade self.old leases.old.items (Back serial bytes) reply self.new leases.new.items) }
+        ensures told { IfErr result (IsRefusalOf self.old (asked_by (Back serial bytes) leases.old.items)) }
         ensures same { OnErr result (self.new ≡ self.old) }
         ensures same_leases { OnErr result (leases.new.items ≡ leases.old.items) }
         ensures len { vec_len leases.new ≤ vec_len leases.old }
         ensures capacity { vec_capacity leases.new ≡ vec_capacity leases.old }
     {
-        let Some(at) = place_of(leases, serial, bytes.len()) else {
+        let Some(at) = place_of(leases, serial, &bytes) else {
             return Err(self.refuse_back(serial));
         };
-        self.admit_lease(&leases[at])?;
+        let lease = &leases[at];
+        lease.laws();
+        self.admit_lease(lease)?;
         self.trace.reserve(1)?;
         let mut lease = leases.remove(at);
-        lease.overwrite(bytes);
-        Ok(take_back(&mut self.store, &mut self.trace, lease))
+        lease.overwrite(bytes.as_slice());
+        let bytes = recorded(self.store.config().full(), bytes, *self.trace.allocator());
+        Ok(take_back(&mut self.store, &mut self.trace, lease, bytes))
     }
 
     /// What bringing back a lease is refused for that is not in the list.

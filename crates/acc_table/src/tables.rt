@@ -2,7 +2,7 @@
 
 ghost use Rattle.std.specs.Prelude.{◌≡◌, Ok, Err, IfOk, IfErr, OnErr, MatchResult};
 ghost use Rattle.acc_base.specs.declared.calls.Call.TheVariants.{Do, HostWrite, Lend, Gather};
-ghost use Rattle.acc_base.specs.declared.events.Event.TheVariants.{Lent, Gathered};
+ghost use Rattle.acc_base.specs.declared.events.Event.TheVariants.{Lent};
 ghost use Rattle.acc_base.specs.declared.faults.Fault.TheVariants.{Memory};
 ghost use Rattle.acc_base.specs.Limits.{IsWithinBounds};
 ghost use Rattle.acc_base.specs.Section.{device_memory};
@@ -17,7 +17,7 @@ ghost use Rattle.acc_table.specs.Making.{admitted, write_admitted, IsLoanJudged,
 use crate::calls::{Call, Reply};
 use crate::lending::{gather, lend};
 use crate::making::{carry_out, write_host};
-use acc_base::{Config, Directive, Event, Fault, Loan, Section};
+use acc_base::{Config, Directive, Event, Fault, List, Loan, Section};
 use acc_clauses::{Base, Plan, Store, check_items};
 use acc_lend::Lease;
 use std::alloc::Global;
@@ -74,7 +74,8 @@ impl Table {
     /// block of its own, each other block is named by a queued transfer, no range has both counters zero, every counter
     /// is what the history gives and within its limit, a structured counter is how often open regions hold its block,
     /// each queue is within its limit and each queued transfer within its block, each loan is of a section within a
-    /// mapped block, each memory has its size where it is not lent, the history is legal, the limits are within their
+    /// mapped block, each memory has its size where it is not lent, the history is legal, with full traces both memories
+    /// are what the events give from the base on (of a lent block the copy that is kept), the limits are within their
     /// bounds, and the blocks and the holes that [`Table::hole`] answers are the device, with no address in two of them.
     /// Nothing is done.
     pub fn laws(&self)
@@ -125,7 +126,8 @@ impl Table {
     ///   addresses are mapped but no one range has them all, [`Fault::NotPresent`] with item 0 where it is absent or
     ///   empty, and [`Fault::Lent`] where its block is lent;
     /// - for a lease that comes back, [`Fault::NoLease`] where its block is not lent under its serial number, place and
-    ///   length, or is not as long as the lease has bytes;
+    ///   length, or is not as long as the lease has bytes, or, with full traces, one of the lease's bytes outside of the
+    ///   section is not what it was when the block was lent;
     /// - last [`Fault::Memory`], where there is no other refusal, something to do, and memory cannot be had.
     pub fn apply(&mut self, call: Call) -> Result<Reply, (Call, Fault)>
         ensures done { IfOk result (λ reply. IsDone self.old call reply self.new) }
@@ -137,9 +139,9 @@ impl Table {
                 Ok(reply) => Ok(reply),
                 Err((directive, fault)) => Err((Call::Do(directive), fault)),
             },
-            Call::HostWrite { addr, bytes } => match self.write(addr, bytes.as_slice()) {
+            Call::HostWrite { addr, bytes } => match self.write(addr, bytes) {
                 Ok(reply) => Ok(reply),
-                Err(fault) => Err((Call::HostWrite { addr, bytes }, fault)),
+                Err((bytes, fault)) => Err((Call::HostWrite { addr, bytes }, fault)),
             },
             Call::Lend { region, section } => match self.lend(region, section) {
                 Ok(reply) => Ok(reply),
@@ -225,19 +227,24 @@ impl Table {
         self.store.check_host(0, section)
     }
 
-    /// Writes into host memory.
+    /// Writes into host memory, or hands the bytes back with what that is refused for.
     #[tactic(auto, using(crate::proofs::Verdicts::judge_write))]
-    pub(crate) fn write(&mut self, addr: u64, bytes: &[u8]) -> Result<Reply, Fault>
-        ensures done { IfOk result (λ reply. IsDone self.old (HostWrite addr bytes.now) reply self.new) }
-        ensures refused { IfErr result (IsRefusal self.old (HostWrite addr bytes.now)) }
-        ensures same { OnErr result (self.new ≡ self.old) }
+    pub(crate) fn write(&mut self, addr: u64, bytes: List<u8>) -> Result<Reply, (List<u8>, Fault)>
+        ensures done { IfOk result (λ reply. IsDone self.old (HostWrite addr bytes) reply self.new) }
+        ensures refused { IfErr result (λ back. IsRefusal self.old (HostWrite addr bytes) back.1) }
+        ensures same { IfErr result (λ back. (back.0 ≡ bytes) × (self.new ≡ self.old)) }
     {
-        self.admit_write(Section {
+        let section = Section {
             start: addr,
-            len: bytes.len() as u64,
-        })?;
-        write_host(&mut self.store, &mut self.trace, addr, bytes)?;
-        Ok(Reply::Done)
+            len: bytes.as_slice().len() as u64,
+        };
+        match self.admit_write(section) {
+            Ok(()) => {
+                write_host(&mut self.store, &mut self.trace, addr, bytes)?;
+                Ok(Reply::Done)
+            }
+            Err(fault) => Err((bytes, fault)),
+        }
     }
 
     /// What lending the block of a section comes to, or what it is refused for.
@@ -260,7 +267,7 @@ impl Table {
         lend(&mut self.store, &mut self.trace, region, section, loan)
     }
 
-    /// What bringing back a lease is refused for. It does not read the bytes of the block.
+    /// What bringing back a lease is refused for. With full traces it compares its bytes outside of the section.
     #[tactic(auto, unfolding(acc_base::specs::Calls::judge))]
     pub(crate) fn admit_lease(&self, lease: &Lease) -> Result<(), Fault>
         ensures { IsLeaseJudged self.now lease.now result }

@@ -16,6 +16,8 @@ pub struct Limits {
     pub counter_max: u64,
     /// How many events may be stored.
     pub trace_cap: u64,
+    /// Whether events store bytes too.
+    pub full: bool,
 }
 
 /// The items of one data clause each: the clause, the first host address and the length.
@@ -77,6 +79,8 @@ pub enum Check {
     Step(usize, Option<Step>),
     /// What it did to its pointer.
     Aim(usize, Option<Aim>),
+    /// The bytes that the event of this number stores.
+    Bytes(usize, Option<&'static [u8]>),
     /// How often the pointer at this address is attached.
     Attached(u64, u64),
     /// How many transfers wait in a queue.

@@ -38,6 +38,14 @@ fn aim_at(trace: &[Event], number: usize) -> Option<Aim> {
     Some(did.aim)
 }
 
+/// The bytes that an event stores, where it may store some.
+fn bytes_at(trace: &[Event], number: usize) -> Option<&[u8]> {
+    match trace.get(number)? {
+        Event::HostWritten { bytes, .. } | Event::Gathered { bytes, .. } => Some(bytes.as_slice()),
+        _ => None,
+    }
+}
+
 fn counted(table: &Table, section: Section) -> Option<(u64, u64)> {
     let Counters {
         structured,
@@ -56,6 +64,7 @@ pub fn holds(table: &Table, check: Check) -> bool {
         Check::MappedFrom(from, wanted) => table.mapped(from) == wanted,
         Check::Step(number, wanted) => step_at(table.trace(), number) == wanted,
         Check::Aim(number, wanted) => aim_at(table.trace(), number) == wanted,
+        Check::Bytes(number, wanted) => bytes_at(table.trace(), number) == wanted,
         Check::Attached(pointer, wanted) => table.attachment(pointer) == wanted,
         Check::Host(at, wanted) => table.host_read(section(at)) == wanted,
         Check::Device(at, wanted) => table.device_read(section(at)) == wanted,

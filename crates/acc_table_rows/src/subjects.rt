@@ -6,6 +6,7 @@ use acc_base::{DEVICE_BASE, HOST_BASE};
 use acc_table::Answer;
 
 mod arrays;
+mod bytes;
 mod limits;
 mod loans;
 mod pointers;
@@ -13,13 +14,14 @@ mod queues;
 mod regions;
 
 /// The rows of each subject.
-pub const SUBJECTS: [&[Row]; 6] = [
+pub const SUBJECTS: [&[Row]; 7] = [
     limits::ROWS,
     arrays::ROWS,
     regions::ROWS,
     pointers::ROWS,
     queues::ROWS,
     loans::ROWS,
+    bytes::ROWS,
 ];
 
 /// Limits that no turn reaches.
@@ -28,7 +30,11 @@ pub const WIDE: Limits = Limits {
     tickets: 100,
     counter_max: 100,
     trace_cap: 100,
+    full: false,
 };
+
+/// The same, with full traces.
+pub const FULL: Limits = Limits { full: true, ..WIDE };
 
 /// The first address of host memory.
 pub const A: u64 = HOST_BASE;

@@ -115,8 +115,14 @@ pub fn table_of(alloc: Global, limits: Limits) -> Result<Table, Fault> {
         tickets,
         counter_max,
         trace_cap,
+        full,
     } = limits;
-    let config = Config::new(64, 64, regions, tickets, counter_max, 1, trace_cap)?;
+    let counted = Config::new(64, 64, regions, tickets, counter_max, 1, trace_cap)?;
+    let config = if full {
+        counted.with_full_trace()
+    } else {
+        counted
+    };
     Table::new(alloc, config)
 }
 

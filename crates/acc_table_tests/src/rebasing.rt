@@ -120,7 +120,7 @@ fn take_turns(
 
 /// Whether it is answered from the trace, which is empty behind a rebase.
 fn is_of_trace(check: Check) -> bool {
-    matches!(check, Check::Step(..) | Check::Aim(..))
+    matches!(check, Check::Step(..) | Check::Aim(..) | Check::Bytes(..))
 }
 
 /// All queries that are not answered from the trace answer as without a rebase.

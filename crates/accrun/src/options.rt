@@ -10,16 +10,18 @@ const DEFAULT_SIZE: u64 = 65_536;
 /// The default of `--threads`, as `DEFAULT_SIZE` is that of sizes.
 const DEFAULT_THREADS: u64 = 1;
 
-/// What a trace may keep of each event: what it did to counters, and no bytes.
-const TRACES: &[&str] = &["counts"];
+/// What a trace may keep of each event: what it did to counters, or the bytes of both memories too.
+const TRACES: &[&str] = &["counts", "full"];
 
-/// What the command line says. What the trace keeps is left out, since there is no choice.
+/// What the command line says.
 #[derive(Clone, Copy)]
 pub struct Options {
     /// The size of host memory in bytes.
     pub host: u64,
     /// The size of device memory in bytes.
     pub device: u64,
+    /// Whether the trace keeps bytes too.
+    pub full: bool,
     /// In how many threads each kernel works at most, or a drill.
     pub threads: u64,
     /// How often each thread of a drill enters and exits a region, where there is a drill in place of a script.
@@ -91,6 +93,7 @@ pub fn parsed_options(alloc: Global, words: &[String]) -> Result<Options, Error>
         device: matches.get_one::<u64>("device").unwrap_or(DEFAULT_SIZE),
         threads: matches.get_one::<u64>("threads").unwrap_or(DEFAULT_THREADS),
         drill: matches.get_one::<u64>("drill"),
+        full: matches.get_str("trace") == Some("full"),
     })
 }
 
@@ -100,11 +103,12 @@ const USAGE: &str = "accrun [OPTIONS] < SCRIPT";
 /// What the help says after the options: the statements, an example, the status.
 const AFTER_HELP: &str = "\
 A size is from 16 to 67108864 bytes, a multiple of 16. N is from 1 to 64, and
-the output of a script does not depend on it. WHAT is counts: of each event the
-trace keeps what it did to counters, and no bytes. ROUNDS is from 1 to 1000: how
-often each of the N threads enters and exits a region over one array. Then no
-script is read, and one line tells what is left: the allowance of regions, the
-number of events, and both counters of the array.
+the output of a script does not depend on it. WHAT is counts or full: of each event
+the trace keeps what it did to counters and, where it is full, its bytes; the
+output does not depend on it. ROUNDS is from 1 to 1000: how often each of the N
+threads enters and exits a region over one array. Then no script is read, and one
+line tells what is left: the allowance of regions, the number of events, and both
+counters of the array.
 
 The script is read whole before its first line runs.
 

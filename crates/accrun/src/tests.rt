@@ -144,7 +144,7 @@ fn a_line_that_is_too_long_is_told(rt: HostRuntime) -> Result<(), Fail> {
 }
 
 /// Command lines with an empty script, their status, and whether standard error gets text.
-const COMMAND_LINES: [(&str, u8, bool); 17] = [
+const COMMAND_LINES: [(&str, u8, bool); 18] = [
     ("--host 16 --device 67108864", 0, false),
     ("--threads 1 --trace counts", 0, false),
     ("--threads 64", 0, false),
@@ -157,7 +157,8 @@ const COMMAND_LINES: [(&str, u8, bool); 17] = [
     ("--threads 65", 2, true),
     ("--drill 0", 2, true),
     ("--drill 1001", 2, true),
-    ("--trace full", 2, true),
+    ("--trace full", 0, false),
+    ("--trace most", 2, true),
     ("--trace", 2, true),
     ("--nothing", 2, true),
     ("script", 2, true),

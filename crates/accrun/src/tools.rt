@@ -137,9 +137,9 @@ fn drill_threads<R: Threads + Wait + Sync + AllocGlobal, O: Sink>(
     Ok(Status::Clean)
 }
 
-/// The program's limits, with the sizes of the command line.
+/// The program's limits, with the sizes and the kind of trace of the command line.
 fn limits(options: Options) -> Result<Config, Fault> {
-    Config::new(
+    let config = Config::new(
         options.host,
         options.device,
         REGIONS,
@@ -147,7 +147,12 @@ fn limits(options: Options) -> Result<Config, Fault> {
         COUNTER_MAX,
         QUEUE_CAP,
         TRACE_CAP,
-    )
+    )?;
+    Ok(if options.full {
+        config.with_full_trace()
+    } else {
+        config
+    })
 }
 
 /// How many threads work at a kernel, each at a part, or in a drill. The command line gives no other number: here it is

@@ -4,7 +4,8 @@ ghost use Rattle.std.specs.Prelude.{◌≡◌, ◌+◌, ◌++◌, All, length};
 ghost use Rattle.acc_base.specs.Limits.{IsFromOne};
 ghost use Rattle.acc_base.specs.declared.addresses.TheConstants.{MEMORY_MAX};
 ghost use Rattle.acc_base.specs.Section.{end_of, device_memory};
-ghost use Rattle.acc_base.specs.Loans.{loan_of, is_lent, is_returnable};
+ghost use Rattle.acc_base.specs.Loans.{loan_of, is_lent};
+ghost use Rattle.acc_base.specs.Leases.{is_returnable};
 ghost use Rattle.acc_base.specs.Blocks.{rounded, place_of, place_for, used_bytes};
 ghost use Rattle.acc_base.specs.Holes.{IsNextHole};
 ghost use Rattle.acc_base.specs.Waits.{ended_from};
@@ -100,10 +101,12 @@ impl Parts {
     }
 
     /// Whether a lease brings back a block that is lent: under its serial number, with its place and length of the section,
-    /// and as long as the lease has bytes.
+    /// as long as the lease has bytes, and with full traces with the bytes that were kept outside of the section.
     pub(crate) fn is_returnable(&self, lease: &Lease) -> bool
-        ensures { result ≡ is_returnable lease.now self.now.state.records.blocks self.now.state.records.loans }
+        ensures { result ≡ is_returnable self.now.limits.full lease.now self.now.state.records.blocks self.now.state.records.loans self.now.state.memories }
     {
-        self.environment.device.is_returnable(lease)
+        self.environment
+            .device
+            .is_returnable(lease, self.config.full())
     }
 }

@@ -1,10 +1,11 @@
 //! What changes the parts. Nothing is judged here; making room alone takes memory, and nothing else is refused.
 
-ghost use Rattle.std.specs.Prelude.{◌≡◌, ◌^◌, ◌<◌, ◌≤◌, All, IfErr, OnOk, OnErr, IsSome, None, Ok, length, take, true, false};
+ghost use Rattle.std.specs.Prelude.{◌≡◌, ◌^◌, ◌<◌, ◌≤◌, All, IfOk, IfErr, OnOk, OnErr, IsSome, None, Ok, length, take, true, false};
 ghost use Rattle.acc_base.specs.declared.faults.Fault.TheVariants.{Memory};
 ghost use Rattle.acc_base.specs.Limits.{IsFromOne};
 ghost use Rattle.acc_base.specs.declared.addresses.TheConstants.{MEMORY_MAX};
-ghost use Rattle.acc_base.specs.Loans.{is_lent, none_lent, is_returnable};
+ghost use Rattle.acc_base.specs.Loans.{is_lent, none_lent};
+ghost use Rattle.acc_base.specs.Leases.{is_returnable};
 ghost use Rattle.acc_base.specs.Register.{region_at, opened, closed};
 ghost use Rattle.acc_base.specs.Bytes.{host_after_write};
 ghost use Rattle.acc_base.specs.Acting.{act_state};
@@ -144,36 +145,43 @@ impl Parts {
     }
 
     /// Moves the bytes of a block that is not lent into a lease, for a loan under the next serial number of a section that
-    /// lies in the range of the block. It takes no memory and is never refused.
-    pub(crate) fn lend(&mut self, loan: Loan) -> Lease
+    /// lies in the range of the block. With full traces a copy of them stays.
+    ///
+    /// # Errors
+    ///
+    /// [`Fault::Memory`], and with full traces alone. Nothing changed.
+    pub(crate) fn lend(&mut self, loan: Loan) -> Result<Lease, Fault>
         requires free { is_lent loan.block self.old.state.records.loans ≡ false }
         requires sound { IsLoanSound self.old.state.records.ranges loan }
         requires few { self.old.state.register.serial < 2 ^ 48 }
-        ensures lease { result ≡ leased loan self.old.state }
+        ensures lease { IfOk result (λ lease. lease ≡ leased loan self.old.state) }
         ensures limits { self.new.limits ≡ self.old.limits }
         ensures room { self.new.room ≡ self.old.room }
-        ensures state { self.new.state ≡ lent_state loan self.old.state }
+        ensures state { OnOk result (self.new.state ≡ lent_state self.old.limits.full loan self.old.state) }
+        ensures same { OnErr result (self.new.state ≡ self.old.state) }
+        ensures only { IfErr result (λ fault. (self.old.limits.full ≡ true) × (fault ≡ Memory)) }
     {
         self.environment.device.laws();
-        let taken = self
+        let keep = self.config.full();
+        let lease = self
             .environment
             .device
-            .take_out(loan.block, loan.serial, loan.offset, loan.len);
-        let Ok(lease) = taken else { unreachable!() };
+            .take_out(loan.block, loan.serial, loan.offset, loan.len, keep)?;
         self.numbers.serial += 1;
         self.numbers.lent += 1;
-        lease
+        Ok(lease)
     }
 
     /// Moves the bytes of a lease back into its block. It takes no memory and is never refused.
     pub(crate) fn gather(&mut self, lease: Lease)
-        requires { is_returnable lease self.old.state.records.blocks self.old.state.records.loans ≡ true }
+        requires { is_returnable self.old.limits.full lease self.old.state.records.blocks self.old.state.records.loans self.old.state.memories ≡ true }
         ensures limits { self.new.limits ≡ self.old.limits }
         ensures room { self.new.room ≡ self.old.room }
         ensures state { self.new.state ≡ gathered_state lease self.old.state }
     {
         self.numbers.lent = self.numbers.lent.saturating_sub(1);
-        match self.environment.device.put_back(lease) {
+        let kept = self.config.full();
+        match self.environment.device.put_back(lease, kept) {
             Ok(()) => {}
             Err((lease, _)) => lease.abandon(),
         }

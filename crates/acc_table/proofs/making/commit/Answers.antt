@@ -18,7 +18,7 @@ returns c =
       done = subst (λ (v : Verdict). IsCommitted v c.reply_told-reply.result c.args.store.now c.commit.new.self c.args.trace.now.items c.push_reserved.new.self.items) (sym made) (record {
         reply = c.reply_told-reply.ensures ∙ (ap (reply_told d) c.number_told-number.ensures ∙ replied d (number_told d s) c.args.did s);
         limits = c.commit.ensures.limits;
-        state = c.commit.ensures.state ∙ ap (λ (v : Verdict). state_by v s) made;
+        state = c.commit.ensures.state ∙ ap (λ (v : Verdict). state_by c.args.store.now.limits.full v s) made;
         trace = c.push_reserved.ensures.items ∙ ap (λ (e : Event). c.args.trace.now.items ++ e ∷ []) (c.event_told.ensures ∙ ap (λ n. event_told d n c.args.did) c.number_told-number.ensures);
       });
     }

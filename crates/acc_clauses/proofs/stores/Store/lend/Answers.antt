@@ -4,14 +4,14 @@ use Rattle.acc_clauses.specs.Lending.{IsLoanPlanned}
 use Rattle.acc_clauses.proofs.Lends.{planned_says, lent_after, lent_store}
 use Rattle.acc_clauses.proofs.stores.Store.lend.Goals as goal
 
-pub lend-lease-requires-clause-free : goal.lend-lease-requires-clause-free
-lend-lease-requires-clause-free c =
+pub lend-requires-clause-free : goal.lend-requires-clause-free
+lend-requires-clause-free c =
     let k : Contents = c.self.inside.parts in
     let p = c.requires.planned in
     (planned_says k.limits p.0 p.1 k.state c.args.loan c.self.invariant.sound.layout.records (subst (λ (x : Contents). IsLoanPlanned x.limits p.0 p.1 x.state c.args.loan) (sym c.self.view_is) p.2)).free
 
-pub lend-lease-requires-clause-sound : goal.lend-lease-requires-clause-sound
-lend-lease-requires-clause-sound c =
+pub lend-requires-clause-sound : goal.lend-requires-clause-sound
+lend-requires-clause-sound c =
     let k : Contents = c.self.inside.parts in
     let p = c.requires.planned in
     (planned_says k.limits p.0 p.1 k.state c.args.loan c.self.invariant.sound.layout.records (subst (λ (x : Contents). IsLoanPlanned x.limits p.0 p.1 x.state c.args.loan) (sym c.self.view_is) p.2)).sound

@@ -1,5 +1,5 @@
 use Rattle.std.proofs.Common.{◌∙◌, ap}
-use Rattle.acc_base.specs.Loans.{is_returnable}
+use Rattle.acc_base.specs.Leases.{is_returnable}
 use Rattle.acc_dev.specs.Device.{DeviceState}
 use Rattle.acc_dev.proofs.devices.Device.is_returnable.Goals as goal
 
@@ -12,4 +12,4 @@ slot_back-requires-clause-backed c = c.self.invariant.0.backed
 pub returns : goal.returns
 returns c =
     let told = c.slot_back.ensures.returnable in
-    c.is_some.ensures ∙ told ∙ ap (λ (d : DeviceState). is_returnable c.args.lease.now d.blocks d.loans) c.self.view_is
+    c.is_some.ensures ∙ told ∙ ap (λ (d : DeviceState). is_returnable c.args.kept c.args.lease.now d.blocks d.loans d.memories) c.self.view_is

@@ -1,10 +1,11 @@
-use Rattle.std.proofs.Common.{◌≡◌, ◌+◌, ◌≤◌, List, ℕ, true, false, None, get_or, refl, sym, ap, ◌∙◌, subst}
+use Rattle.std.proofs.lemmas.Result.{err_from_is_err_and}
+use Rattle.std.proofs.Common.{◌≡◌, ◌+◌, ◌≤◌, List, ℕ, true, false, None, get_or, refl, sym, ap, ◌∙◌, subst, inl, inr}
 use Rattle.std.proofs.lemmas.Bool.{false≢true}
 use Rattle.acc_base.specs.Bytes.{bytes_of}
 use Rattle.acc_base.specs.Loans.{Leased, is_lent, len_of}
 use Rattle.acc_dev.specs.Room.{room_ready}
 use Rattle.acc_dev.specs.Marks.{is_ended_at}
-use Rattle.acc_dev.specs.Device.{DeviceState, IsTakenOut}
+use Rattle.acc_dev.specs.Device.{DeviceState, IsTakenOut, IsLoanRefused}
 use Rattle.acc_dev.specs.Kept.{stored_bytes, blocks_in, marks_in}
 use Rattle.acc_dev.proofs.EndedPlaces.{ended_same}
 use Rattle.acc_dev.proofs.Keeping.{device_of, block_listed, filled_slot, bytes_at, room_kept}
@@ -15,18 +16,18 @@ use Rattle.acc_dev.proofs.devices.Device.take_out.Goals as goal
 pub slot_of_block-slot-requires-clause-there : goal.slot_of_block-slot-requires-clause-there
 slot_of_block-slot-requires-clause-there c = (block_listed c.self.inside c.args.self.now c.args.block c.self.view_is c.requires.there)
 
-pub lend_at-requires-clause-filled : goal.lend_at-requires-clause-filled
-lend_at-requires-clause-filled c =
+pub copy_at-requires : goal.copy_at-requires
+copy_at-requires c =
     let s = c.self.inside in
     let slot = c.slot_of_block-slot.ensures in
     filled_slot s.holes s.slab.slots s.index.entries c.args.block c.slot_of_block-slot.result c.self.invariant.0 slot
 
-pub returns-then-is_some-clause-lent : goal.returns-then-is_some-clause-lent
-returns-then-is_some-clause-lent c =
+pub returns-then-is_some-clause-refused : goal.returns-then-is_some-clause-refused
+returns-then-is_some-clause-refused c =
     let s = c.self.inside in
     let slot = c.slot_of_block-slot.ensures in
     let is = lent_at s.slab.slots s.index.entries c.args.block c.slot_of_block-slot.result c.loan_at.result true c.self.invariant.0.rising c.self.invariant.0.backed slot c.loan_at.ensures (sym c.is_some.ensures ∙ c.if-is_some.true) in
-    (λ e. subst (λ (d : DeviceState). is_lent c.args.block d.loans ≡ true) c.self.view_is is, λ e. refl)
+    inl (subst (λ (d : DeviceState). is_lent c.args.block d.loans ≡ true) c.self.view_is is, refl)
 
 pub lend_at-requires-clause-within : goal.lend_at-requires-clause-within
 lend_at-requires-clause-within c =
@@ -53,20 +54,19 @@ invariant_of-self c =
     let mapped = subst (λ (d : DeviceState). is_ended_at c.args.block d.marks ≡ false) (sym c.self.view_is) c.requires.mapped in
     let within = subst (λ (d : DeviceState). c.args.offset + c.args.len ≤ len_of c.args.block d.blocks) (sym c.self.view_is) c.requires.within in
     let none = sym c.loan_at.ensures ∙ none_here c.loan_at.result (sym c.is_some.ensures ∙ c.if-is_some.false) in
-    let now = taken_out_of s.holes s.slab c.lend_at.new.slab s.index.entries s.births c.slot_of_block-slot.result (room_ready s) (record { serial = c.args.serial; block = c.args.block; offset = c.args.offset; len = c.args.len }) c.self.invariant.0 slot none lent.lent in (
-      lent_kept s.holes s.slab c.lend_at.new.slab s.index.entries c.slot_of_block-slot.result (record { serial = c.args.serial; block = c.args.block; offset = c.args.offset; len = c.args.len }) c.self.invariant.0 slot lent.lent mapped within,
+    let now = taken_out_of s.holes s.slab c.lend_at.new.slab s.index.entries s.births c.slot_of_block-slot.result (room_ready s) (record { serial = c.args.serial; block = c.args.block; offset = c.args.offset; len = c.args.len }) c.args.keep c.in_ok-stays.stays.items c.self.invariant.0 slot none c.in_ok-stays.ensures.copy lent.lent in (
+      lent_kept s.holes s.slab c.lend_at.new.slab s.index.entries c.slot_of_block-slot.result (record { serial = c.args.serial; block = c.args.block; offset = c.args.offset; len = c.args.len }) c.in_ok-stays.stays.items c.self.invariant.0 slot lent.lent mapped within,
       c.self.invariant.1,
       room_kept s c.lend_at.new.slab c.self.invariant.2 lent.slots lent.capacity,
       ended_same s.ended_blocks s.ended_blocks (blocks_in s.slab.slots s.index.entries) (blocks_in c.lend_at.new.slab.slots s.index.entries) (marks_in s.slab.slots s.index.entries) (marks_in c.lend_at.new.slab.slots s.index.entries) s.births c.self.invariant.3 refl refl now.blocks now.marks,
     )
 
-pub returns-clause-lent : goal.returns-clause-lent
-returns-clause-lent c =
+pub returns-clause-free : goal.returns-clause-free
+returns-clause-free c =
     let s = c.self.inside in
     let slot = c.slot_of_block-slot.ensures in
     let is = lent_at s.slab.slots s.index.entries c.args.block c.slot_of_block-slot.result c.loan_at.result false c.self.invariant.0.rising c.self.invariant.0.backed slot c.loan_at.ensures (sym c.is_some.ensures ∙ c.if-is_some.false) in
-    let free = subst (λ (d : DeviceState). is_lent c.args.block d.loans ≡ false) c.self.view_is is in
-    (λ e. absurd (false≢true e), λ e. sym free ∙ e)
+    λ e. subst (λ (d : DeviceState). is_lent c.args.block d.loans ≡ false) c.self.view_is is
 
 pub returns-clause-lease : goal.returns-clause-lease
 returns-clause-lease c =
@@ -81,5 +81,14 @@ returns-clause-out c =
     let s = c.self.inside in
     let slot = c.slot_of_block-slot.ensures in
     let none = sym c.loan_at.ensures ∙ none_here c.loan_at.result (sym c.is_some.ensures ∙ c.if-is_some.false) in
-    subst (λ (d : DeviceState). IsTakenOut d (device_of s.holes c.lend_at.new.slab.slots s.index.entries s.births (room_ready s)) (record { serial = c.args.serial; block = c.args.block; offset = c.args.offset; len = c.args.len })) c.self.view_is
-    (taken_out_of s.holes s.slab c.lend_at.new.slab s.index.entries s.births c.slot_of_block-slot.result (room_ready s) (record { serial = c.args.serial; block = c.args.block; offset = c.args.offset; len = c.args.len }) c.self.invariant.0 slot none c.lend_at.ensures.lent)
+    subst (λ (d : DeviceState). IsTakenOut d (device_of s.holes c.lend_at.new.slab.slots s.index.entries s.births (room_ready s)) (record { serial = c.args.serial; block = c.args.block; offset = c.args.offset; len = c.args.len }) c.args.keep) c.self.view_is
+    (taken_out_of s.holes s.slab c.lend_at.new.slab s.index.entries s.births c.slot_of_block-slot.result (room_ready s) (record { serial = c.args.serial; block = c.args.block; offset = c.args.offset; len = c.args.len }) c.args.keep c.in_ok-stays.stays.items c.self.invariant.0 slot none c.in_ok-stays.ensures.copy c.lend_at.ensures.lent)
+
+pub returns-in_err-stays-clause-refused : goal.returns-in_err-stays-clause-refused
+returns-in_err-stays-clause-refused c =
+    let s = c.self.inside in
+    let slot = c.slot_of_block-slot.ensures in
+    let is = lent_at s.slab.slots s.index.entries c.args.block c.slot_of_block-slot.result c.loan_at.result false c.self.invariant.0.rising c.self.invariant.0.backed slot c.loan_at.ensures (sym c.is_some.ensures ∙ c.if-is_some.false) in
+    let refused : IsLoanRefused c.args.self.now c.args.block c.args.keep c.in_err-stays.field-0.0 = inr (subst (λ (d : DeviceState). is_lent c.args.block d.loans ≡ false) c.self.view_is is, c.in_err-stays.ensures.only.0, c.in_err-stays.ensures.only.1) in
+    let p = err_from_is_err_and c.from_residual.result c.from_residual.ensures.1 in
+    rw (p.1, p.2) refused

@@ -1,0 +1,388 @@
+//! A replay of stored events, written apart from the definitions: it has bytes of its own, and reads of the table no more
+//! than its base and its events.
+
+use acc_base::{
+    Did, EnterClause, Event, ExitClause, HOST_BASE, Item, QUEUE_COUNT, RegionClause, Section, Step,
+    UpdateClause,
+};
+use std::alloc::{AllocError, Global};
+
+/// A block of the device.
+#[derive(Drop)]
+struct Block {
+    number: u64,
+    bytes: Vec<u8>,
+    // The host address that its first byte is mapped from.
+    start: u64,
+}
+
+/// A copy between host memory and a block.
+#[derive(Clone, Copy)]
+struct Transfer {
+    block: u64,
+    section: Section,
+    out: bool,
+}
+
+/// A loan of a block: the place in it of the bytes that are lent.
+#[derive(Clone, Copy)]
+struct Loan {
+    block: u64,
+    at: usize,
+}
+
+/// Both memories, as events told one after the other give them. No event of the replay attaches a pointer.
+#[derive(Drop)]
+pub struct Replay {
+    /// The bytes of host memory.
+    pub host: Vec<u8>,
+    // The blocks that were born, those too that are gone.
+    blocks: Vec<Block>,
+    // What waits in each queue, in the order in which it was put there.
+    later: Vec<(u64, Transfer)>,
+    // What each entry to a region listed.
+    regions: Vec<(u64, Vec<Item<RegionClause>>)>,
+    loans: Vec<Loan>,
+}
+
+/// The place of an address behind a first one.
+fn place(first: u64, address: u64) -> usize {
+    address.saturating_sub(first) as usize
+}
+
+/// Writes bytes over those from a place on.
+fn overwrite(bytes: &mut [u8], at: usize, new: &[u8]) {
+    for (byte, written) in bytes.iter_mut().skip(at).zip(new) {
+        *byte = *written;
+    }
+}
+
+/// Copies so many bytes from one place to another.
+fn copy(from: &[u8], at: usize, to: &mut [u8], place: usize, len: usize) {
+    for (byte, read) in to
+        .iter_mut()
+        .skip(place)
+        .zip(from.iter().skip(at))
+        .take(len)
+    {
+        *byte = *read;
+    }
+}
+
+/// What a clause does with the bytes of a section that it maps, or whose mapping it ends.
+#[derive(Clone, Copy, Default)]
+struct Copies {
+    /// A new block has the bytes of the host.
+    into: bool,
+    /// A new block has zeros.
+    zero: bool,
+    /// The host has the bytes of a block whose mapping has ended.
+    out: bool,
+}
+
+/// What the clause of a data region does with bytes.
+fn copies_of_region(clause: RegionClause) -> Copies {
+    let (into, zero, out) = match clause {
+        RegionClause::Copy => (true, false, true),
+        RegionClause::Copyin => (true, false, false),
+        RegionClause::Copyout { zero } => (false, zero, true),
+        RegionClause::Create { zero } => (false, zero, false),
+        _ => (false, false, false),
+    };
+    Copies { into, zero, out }
+}
+
+/// What the clause of an `enter data` does with bytes.
+fn copies_of_enter(clause: EnterClause) -> Copies {
+    let (into, zero) = match clause {
+        EnterClause::Copyin => (true, false),
+        EnterClause::Create { zero } => (false, zero),
+        EnterClause::Attach => (false, false),
+    };
+    let out = false;
+    Copies { into, zero, out }
+}
+
+/// What the clause of an `exit data` does with bytes.
+fn copies_of_exit(clause: ExitClause) -> Copies {
+    let (into, zero, out) = (false, false, matches!(clause, ExitClause::Copyout));
+    Copies { into, zero, out }
+}
+
+impl Replay {
+    /// So many bytes of host memory, which are zero, and no block.
+    pub fn new(alloc: Global, host: usize) -> Result<Replay, AllocError> {
+        Ok(Replay {
+            host: vec![in alloc; 0; host]?,
+            blocks: Vec::new(alloc),
+            later: Vec::new(alloc),
+            regions: Vec::new(alloc),
+            loans: Vec::new(alloc),
+        })
+    }
+
+    /// The bytes of the block that was last mapped from a host address.
+    pub fn block_from(&self, start: u64) -> Option<&[u8]> {
+        let block = self.blocks.iter().rev().find(|block| block.start == start)?;
+        Some(block.bytes.as_slice())
+    }
+
+    /// Makes a copy with the bytes of this moment.
+    fn make(&mut self, transfer: Transfer) {
+        let Transfer {
+            block,
+            section,
+            out,
+        } = transfer;
+        let host = place(HOST_BASE, section.start);
+        for kept in self.blocks.iter_mut().filter(|kept| kept.number == block) {
+            let device = place(kept.start, section.start);
+            if out {
+                copy(
+                    &kept.bytes,
+                    device,
+                    &mut self.host,
+                    host,
+                    section.len as usize,
+                );
+            } else {
+                copy(
+                    &self.host,
+                    host,
+                    &mut kept.bytes,
+                    device,
+                    section.len as usize,
+                );
+            }
+        }
+    }
+
+    /// Makes a copy, or puts it into a queue.
+    fn make_or_put(&mut self, transfer: Transfer, queue: Option<u64>) -> Result<(), AllocError> {
+        match queue {
+            Some(queue) => self.later.push((queue, transfer))?,
+            None => self.make(transfer),
+        }
+        Ok(())
+    }
+
+    /// Makes the first copy that waits in a queue.
+    fn step(&mut self, queue: u64) {
+        let first = self.later.iter().position(|later| later.0 == queue);
+        if let Some(at) = first
+            && at < self.later.len()
+        {
+            let (_, transfer) = self.later.remove(at);
+            self.make(transfer);
+        }
+    }
+
+    /// A new block is filled, and gets the bytes of the host where the clause copies them.
+    fn enter(
+        &mut self,
+        alloc: Global,
+        section: Section,
+        copies: Copies,
+        queue: Option<u64>,
+        step: Step,
+    ) -> Result<(), AllocError> {
+        let Step::Born { block, place: _ } = step else {
+            return Ok(());
+        };
+        let fill = if copies.zero { 0 } else { 0xa5 };
+        self.blocks.push(Block {
+            number: block,
+            bytes: vec![in alloc; fill; section.len as usize]?,
+            start: section.start,
+        })?;
+        let out = false;
+        let transfer = Transfer {
+            block,
+            section,
+            out,
+        };
+        if copies.into {
+            self.make_or_put(transfer, queue)?;
+        }
+        Ok(())
+    }
+
+    /// The bytes of a block whose mapping has ended go to the host where the clause copies them.
+    fn leave(
+        &mut self,
+        section: Section,
+        copies: Copies,
+        queue: Option<u64>,
+        step: Step,
+    ) -> Result<(), AllocError> {
+        let out = copies.out;
+        match step {
+            Step::Dropped { block, ended: true } if out => {
+                let transfer = Transfer {
+                    block,
+                    section,
+                    out,
+                };
+                self.make_or_put(transfer, queue)
+            }
+            _ => Ok(()),
+        }
+    }
+
+    /// Entry to a region.
+    fn enter_region(
+        &mut self,
+        alloc: Global,
+        number: u64,
+        items: &[Item<RegionClause>],
+        did: &[Did],
+    ) -> Result<(), AllocError> {
+        for (item, did) in items.iter().zip(did) {
+            let copies = copies_of_region(item.clause);
+            self.enter(alloc, item.section, copies, None, did.step)?;
+        }
+        let kept = Vec::from_slice(alloc, items)?;
+        self.regions.push((number, kept))?;
+        Ok(())
+    }
+
+    /// Exit from a region. Mapped ranges are disjoint, so the order of its copies shows nowhere.
+    fn leave_region(&mut self, number: u64, did: &[Did]) -> Result<(), AllocError> {
+        let Some(at) = self.regions.iter().position(|kept| kept.0 == number) else {
+            return Ok(());
+        };
+        if at < self.regions.len() {
+            let (_, items) = self.regions.remove(at);
+            for (item, did) in items.iter().zip(did) {
+                self.leave(item.section, copies_of_region(item.clause), None, did.step)?;
+            }
+        }
+        Ok(())
+    }
+
+    /// An `enter data`.
+    fn enter_data(
+        &mut self,
+        alloc: Global,
+        items: &[Item<EnterClause>],
+        queue: Option<u64>,
+        did: &[Did],
+    ) -> Result<(), AllocError> {
+        for (item, did) in items.iter().zip(did) {
+            let copies = copies_of_enter(item.clause);
+            self.enter(alloc, item.section, copies, queue, did.step)?;
+        }
+        Ok(())
+    }
+
+    /// An `exit data`.
+    fn exit_data(
+        &mut self,
+        items: &[Item<ExitClause>],
+        queue: Option<u64>,
+        did: &[Did],
+    ) -> Result<(), AllocError> {
+        for (item, did) in items.iter().zip(did) {
+            self.leave(item.section, copies_of_exit(item.clause), queue, did.step)?;
+        }
+        Ok(())
+    }
+
+    /// An `update`.
+    fn update(
+        &mut self,
+        items: &[Item<UpdateClause>],
+        queue: Option<u64>,
+        did: &[Did],
+    ) -> Result<(), AllocError> {
+        for (item, did) in items.iter().zip(did) {
+            let section = item.section;
+            let out = matches!(item.clause, UpdateClause::ToSelf);
+            if let Step::Moved { block } = did.step {
+                let transfer = Transfer {
+                    block,
+                    section,
+                    out,
+                };
+                self.make_or_put(transfer, queue)?;
+            }
+        }
+        Ok(())
+    }
+
+    /// A `wait` for a queue, or for all, from the first to the last.
+    fn wait(&mut self, queue: Option<u64>) {
+        let (first, end) = match queue {
+            Some(queue) => (queue, queue.saturating_add(1)),
+            None => (0, QUEUE_COUNT),
+        };
+        for queue in first..end {
+            for _ in 0..self.later.len() {
+                self.step(queue);
+            }
+        }
+    }
+
+    /// A block is lent.
+    fn lend(&mut self, section: Section, block: u64) -> Result<(), AllocError> {
+        for kept in &self.blocks {
+            if kept.number == block {
+                let at = place(kept.start, section.start);
+                self.loans.push(Loan { block, at })?;
+            }
+        }
+        Ok(())
+    }
+
+    /// The lent section of a block comes back with these bytes. All others are those that the block had before.
+    fn gather(&mut self, block: u64, bytes: &[u8]) {
+        for loan in self.loans.iter().filter(|loan| loan.block == block) {
+            for kept in self.blocks.iter_mut().filter(|kept| kept.number == block) {
+                overwrite(&mut kept.bytes, loan.at, bytes);
+            }
+        }
+        self.loans.retain(|loan| loan.block != block);
+    }
+
+    /// Does what an event tells.
+    pub fn tell(&mut self, alloc: Global, event: &Event) -> Result<(), AllocError> {
+        match event {
+            Event::Entered { number, items, did } => {
+                self.enter_region(alloc, *number, items.as_slice(), did.as_slice())
+            }
+            Event::Left { number, did } => self.leave_region(*number, did.as_slice()),
+            Event::EnteredData { items, queue, did } => {
+                self.enter_data(alloc, items.as_slice(), *queue, did.as_slice())
+            }
+            Event::ExitedData {
+                items,
+                queue,
+                did,
+                ..
+            } => self.exit_data(items.as_slice(), *queue, did.as_slice()),
+            Event::Updated {
+                items,
+                queue,
+                did,
+                ..
+            } => self.update(items.as_slice(), *queue, did.as_slice()),
+            Event::Waited { queue, .. } => {
+                self.wait(*queue);
+                Ok(())
+            }
+            Event::Stepped { queue, .. } => {
+                self.step(*queue);
+                Ok(())
+            }
+            Event::HostWritten { addr, bytes, .. } => {
+                overwrite(&mut self.host, place(HOST_BASE, *addr), bytes.as_slice());
+                Ok(())
+            }
+            Event::Lent { section, block, .. } => self.lend(*section, *block),
+            Event::Gathered { block, bytes, .. } => {
+                self.gather(*block, bytes.as_slice());
+                Ok(())
+            }
+        }
+    }
+}

@@ -273,7 +273,10 @@ fn writes(store: &mut Store, start: u64, bytes: &[u8]) -> bool {
 /// A block is lent by a loan, and the lease kept where none was.
 fn lends(store: &mut Store, kept: &mut Option<Lease>, section: Section, wanted: Loan) -> bool {
     match store.plan_loan(1, section) {
-        Ok(loan) if loan == wanted && loan.serial < 1_000 => keep(kept, store.lend(loan)),
+        Ok(loan) if loan == wanted && loan.serial < 1_000 => match store.lend(loan) {
+            Ok(lease) => keep(kept, lease),
+            Err(_) => false,
+        },
         Ok(_) | Err(_) => false,
     }
 }

@@ -103,12 +103,12 @@ const USAGE: &str = "accrun [OPTIONS] < SCRIPT";
 /// What the help says after the options: the statements, an example, the status.
 const AFTER_HELP: &str = "\
 A size is from 16 to 67108864 bytes, a multiple of 16. N is from 1 to 64, and
-the output of a script does not depend on it. WHAT is counts or full: of each event
-the trace keeps what it did to counters and, where it is full, its bytes; the
-output does not depend on it. ROUNDS is from 1 to 1000: how often each of the N
-threads enters and exits a region over one array. Then no script is read, and one
-line tells what is left: the allowance of regions, the number of events, and both
-counters of the array.
+the output of a script does not depend on it. WHAT is counts or full: of each
+event the trace keeps what it did to counters and, where it is full, its bytes;
+the output does not depend on it. ROUNDS is from 1 to 1000: how often each of
+the N threads enters and exits a region over one array. Then no script is read,
+and one line tells what is left: the allowance of regions, the number of events,
+and both counters of the array.
 
 The script is read whole before its first line runs.
 

@@ -214,20 +214,36 @@ fn take_all(
     Ok(())
 }
 
+/// What is known before the first turn.
+fn new_life(alloc: Global) -> Result<Life, AllocError> {
+    Ok(Life {
+        replay: Replay::new(alloc, 64)?,
+        told: 0,
+        kinds: [0; 10],
+    })
+}
+
+/// Takes all turns on a table that lends nothing, and counts the events of each kind.
+fn live(rt: &(impl Abort + AllocGlobal), table: &mut Table) -> Result<[u64; 10], Fault> {
+    let mut life = new_life(rt.alloc())?;
+    let mut leases = Vec::new(rt.alloc());
+    let outcome = take_all(rt, table, &mut life, &mut leases);
+    abandon_all(leases);
+    outcome?;
+    Ok(life.kinds)
+}
+
+/// Takes all turns, among which there are some of each kind.
+fn live_whole(rt: &(impl Abort + AllocGlobal), table: &mut Table) -> Result<(), Fail> {
+    let kinds = live(rt, table)?;
+    for count in kinds {
+        same(rt, "events of each kind", count >= 10, true);
+    }
+    Ok(())
+}
+
 #[test]
 fn stored_events_give_both_memories(rt: HostRuntime) -> Result<(), Fail> {
     let mut table = table_of(rt.alloc(), LIMITS)?;
-    let mut life = Life {
-        replay: Replay::new(rt.alloc(), 64)?,
-        told: 0,
-        kinds: [0; 10],
-    };
-    let mut leases = Vec::new(rt.alloc());
-    let outcome = take_all(&rt, &mut table, &mut life, &mut leases);
-    abandon_all(leases);
-    outcome?;
-    for count in life.kinds {
-        assert!(rt; count >= 10, "events of each kind: {:?}", life.kinds);
-    }
-    Ok(())
+    live_whole(&rt, &mut table)
 }

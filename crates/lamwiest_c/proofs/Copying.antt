@@ -1,0 +1,39 @@
+-- How long the bytes are that the device has of a section.
+use Rattle.std.proofs.Common.{ℕ, ◌≡◌, ◌+◌, ◌≤◌, refl, sym, ap, ◌∙◌, arith, cond, Bool, true, false, List, length, take, drop, Option, Some, None}
+use Rattle.std.proofs.lemmas.List.{length-take-le, length-drop}
+use Rattle.acc_base.specs.declared.items.Section.{Section}
+use Rattle.acc_base.specs.declared.mappings.Found.{Found}
+use Rattle.acc_base.specs.declared.mappings.Found.TheVariants.{Empty, Inside, Partly, Absent}
+use Rattle.acc_base.specs.Limits.{IsWithinBounds}
+use Rattle.acc_base.specs.Accounts.{IsAccounted}
+use Rattle.acc_base.specs.Bytes.{bytes_of}
+use Rattle.acc_base.specs.Calls.{World}
+use Rattle.acc_base.specs.Loans.{is_lent}
+use Rattle.acc_base.specs.Ranges.{where_is}
+use Rattle.acc_table.specs.Queries.{device_read_in, device_read_of}
+use Rattle.acc_table.proofs.Answering.{IsPartOf, section_part}
+
+-- the bytes of a block from an offset on are as many as fit
+part_len : (xs : List ℕ) (offset len : ℕ) → offset + len ≤ length xs → length (take len (drop offset xs)) ≡ len
+part_len xs offset len fits =
+    let left = length-drop offset xs in
+    length-take-le len (drop offset xs) (omega (arith, left, fits))
+
+-- they are as many as the section is long
+pub device_read_len : (w : World) (section : Section) (bytes : List ℕ) → IsWithinBounds w.limits → IsAccounted w → device_read_of section w.state ≡ Some bytes → length bytes ≡ section.len
+device_read_len w section bytes bounds accounted read = go (where_is section w.state.records.ranges) refl read
+  where
+    inside : (block offset : ℕ) (lent : Bool) → is_lent block w.state.records.loans ≡ lent → (lent ≡ false → offset + section.len ≤ length (bytes_of block w.state.memories))
+        → cond lent None (Some (take section.len (drop offset (bytes_of block w.state.memories)))) ≡ Some bytes → length bytes ≡ section.len
+    inside block offset true is fits h = cc
+    inside block offset false is fits h =
+        let same : take section.len (drop offset (bytes_of block w.state.memories)) ≡ bytes = cc in
+        sym (ap length same) ∙ part_len (bytes_of block w.state.memories) offset section.len (fits refl)
+
+    go : (found : Found) → where_is section w.state.records.ranges ≡ found → device_read_in found section.len w.state ≡ Some bytes → length bytes ≡ section.len
+    go Empty is h = cc
+    go (Inside block offset) is h =
+        let part : IsPartOf section block offset w.state = section_part w section block offset bounds accounted is in
+        inside block offset (is_lent block w.state.records.loans) refl (λ e. part.fits e) h
+    go Partly is h = cc
+    go Absent is h = cc

@@ -1,0 +1,44 @@
+-- How the items of an array are read one after the other.
+use Rattle.std.proofs.Common.{ℕ, ◌≡◌, ◌+◌, ◌<◌, ◌≤◌, refl, sym, ◌∙◌, ap, subst, arith, append_assoc, List, [], ◌∷◌, ◌++◌, length, drop, Option, Some, None, Result, Ok, Err}
+use Rattle.std.proofs.lemmas.List.{drop_more, drop_all, append-nil}
+use Rattle.std.proofs.Math.ListN.{get_or}
+use Rattle.acc_base.specs.declared.items.Item.{Item}
+use Rattle.lamwiest_c.specs.declared.items.RawItem.{RawItem}
+use Rattle.lamwiest_c.specs.declared.statuses.Refusal.{Refusal}
+use Rattle.lamwiest_c.specs.declared.statuses.Refusal.TheVariants.{BadClause}
+use Rattle.lamwiest_c.specs.Clauses.{item_of, item_then, items_from}
+
+-- the items read so far, before what comes of the others
+abbrev pub read_then : {C : Type 0} → List (Item C) → Result (List (Item C)) Refusal → Result (List (Item C)) Refusal
+read_then done (Ok more) = Ok (done ++ more)
+read_then done (Err refusal) = Err refusal
+
+-- one more item is read
+read_one : {C : Type 0} (done : List (Item C)) (clause : C) (place : ℕ) (item : RawItem) (rest : Result (List (Item C)) Refusal) → read_then (done ++ item_of clause item ∷ []) rest ≡ read_then done (item_then (Some clause) place item rest)
+read_one done clause place item (Ok more) = ap Ok (append_assoc done (item_of clause item ∷ []) more)
+read_one done clause place item (Err refusal) = refl
+
+module _ {C : Type 0} (f : ℕ → Option C) (place i : ℕ) (items : List RawItem) (done : List (Item C)) (whole : Result (List (Item C)) Refusal) where
+  -- what is left, by its first item
+  next : (d : RawItem) → i < length items → items_from f place (drop i items) ≡ item_then (f (get_or items i d).clause) place (get_or items i d) (items_from f (place + 1) (drop (i + 1) items))
+  next d within = ap (items_from f place) (drop_more items i d within)
+
+  pub turn_read : (d : RawItem) (clause : C) → i < length items → f (get_or items i d).clause ≡ Some clause → read_then done (items_from f place (drop i items)) ≡ whole
+      → read_then (done ++ item_of clause (get_or items i d) ∷ []) (items_from f (place + 1) (drop (i + 1) items)) ≡ whole
+  turn_read d clause within is so_far =
+      let rest = items_from f (place + 1) (drop (i + 1) items) in
+      read_one done clause place (get_or items i d) rest ∙ (ap (λ c. read_then done (item_then c place (get_or items i d) rest)) (sym is) ∙ (ap (read_then done) (sym (next d within)) ∙ so_far))
+
+  pub turn_bad : (d : RawItem) → i < length items → f (get_or items i d).clause ≡ None → read_then done (items_from f place (drop i items)) ≡ whole → Err (BadClause place) ≡ whole
+  turn_bad d within is so_far =
+      let rest = items_from f (place + 1) (drop (i + 1) items) in
+      ap (λ c. read_then done (item_then c place (get_or items i d) rest)) (sym is) ∙ (ap (read_then done) (sym (next d within)) ∙ so_far)
+
+  pub turns_over : length items ≤ i → read_then done (items_from f place (drop i items)) ≡ whole → Ok done ≡ whole
+  turns_over past so_far =
+      ap Ok (sym (append-nil done)) ∙ (ap (λ rest. read_then done (items_from f place rest)) (sym (drop_all i items past)) ∙ so_far)
+
+-- before anything is read
+pub read_nothing : {C : Type 0} (r : Result (List (Item C)) Refusal) → read_then [] r ≡ r
+read_nothing (Ok items) = refl
+read_nothing (Err refusal) = refl

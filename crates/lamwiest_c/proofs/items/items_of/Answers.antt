@@ -1,0 +1,18 @@
+use Rattle.std.proofs.Common.{refl, arith, sym, ◌∙◌, inl}
+use Rattle.lamwiest_c.proofs.Reading.{read_then, read_nothing, turn_read, turn_bad, turns_over}
+use Rattle.lamwiest_c.proofs.items.items_of.Goals as goal
+
+pub loop-item-init : goal.loop-item-init
+loop-item-init g c = grind (arith, read_nothing)
+
+pub returns-in_default : goal.returns-in_default
+returns-in_default g c =
+    inl (turn_bad g.C.Clause.numbered c.loop-item.place c.loop-item.item-index c.args.items.now c.loop-item.read.items _ _ c.loop-item-test.true (sym c.from_number.ensures ∙ c.in_default.is) c.loop-item.invariant.so_far)
+
+pub loop-item-preserved : goal.loop-item-preserved
+loop-item-preserved g c =
+    let read = turn_read g.C.Clause.numbered c.loop-item.place c.loop-item.item-index c.args.items.now c.loop-item.read.items _ _ c.in-Some.clause c.loop-item-test.true (sym c.from_number.ensures ∙ c.in-Some.is) c.loop-item.invariant.so_far in
+    grind arith
+
+pub returns : goal.returns
+returns g c = grind (arith, turns_over)

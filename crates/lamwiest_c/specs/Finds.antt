@@ -1,0 +1,39 @@
+-- What a query of C finds.
+use Rattle.std.specs.Prelude.{ℕ, ◌≡◌, Bool, if◌then◌else◌, List, length, Option, None, Some, Ok, Err, MatchOption}
+use Rattle.acc_base.specs.declared.mappings.Counters.{Counters}
+use Rattle.acc_table.specs.declared.calls.Mapped.{Mapped}
+use Rattle.lamwiest_c.specs.declared.statuses.TheConstants.{ENDED, ABSENT}
+use Rattle.lamwiest_c.specs.declared.statuses.Refusal.{Refusal}
+use Rattle.lamwiest_c.specs.declared.queries.RawCounters.{RawCounters}
+use Rattle.lamwiest_c.specs.declared.queries.RawMapped.{RawMapped}
+use Rattle.lamwiest_c.specs.Environments.{DataEnvironment}
+use Rattle.lamwiest_c.specs.Answers.{Told}
+
+-- the bytes stand in the buffer, where there are some; else the buffer stays as it was, and a refusal is told
+abbrev pub IsCopied : Option (List ℕ) → Refusal → List ℕ → List ℕ → Told → Type 0
+IsCopied None refusal old new T = T (Err refusal) × (new ≡ old)
+IsCopied (Some bytes) refusal old new T = T (Ok (length bytes)) × (new ≡ bytes)
+
+-- ---- queries, which answer a status alone
+
+-- what was found stands in its place, or nothing was, and what stood there stays
+abbrev pub IsFound : {A : Type 0} → Option A → ℕ → A → A → Type 0
+IsFound None status old new = (status ≡ ABSENT) × (new ≡ old)
+IsFound (Some x) status old new = (status ≡ 0) × (new ≡ x)
+
+-- the handle stays as it is; what was asked of it is found, or the handle has nothing
+abbrev pub IsAskedOf : {A : Type 0} → Option DataEnvironment → Option DataEnvironment → (DataEnvironment → Option A) → ℕ → A → A → Type 0
+IsAskedOf {A} handle same ask status old new =
+    (same ≡ handle) × MatchOption handle ((status ≡ ENDED) × (new ≡ old)) (λ e. IsFound (ask e) status old new)
+
+-- a truth as a number
+abbrev pub number_of_bool : Bool → ℕ
+number_of_bool b = if b then 1 else 0
+
+-- counters as C sees them
+abbrev pub raw_counters : Counters → RawCounters
+raw_counters c = record { structured = c.structured; dynamic = c.dynamic }
+
+-- a mapped range as C sees it
+abbrev pub raw_mapped : Mapped → RawMapped
+raw_mapped m = record { start = m.start; len = m.len; place = m.place; structured = m.structured; dynamic = m.dynamic; lent = number_of_bool m.lent }

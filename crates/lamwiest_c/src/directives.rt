@@ -1,0 +1,162 @@
+//! The directives, each under a name of its own.
+
+ghost use Rattle.std.specs.Prelude.{◌≡◌};
+ghost use Rattle.acc_base.specs.declared.calls.Call.TheVariants.{Do};
+ghost use Rattle.acc_base.specs.declared.directives.Directive.TheVariants.{Exit, Wait, Step};
+ghost use Rattle.lamwiest_c.specs.Clauses.{queue_of, enter_of, enter_data_of, exit_data_of, update_of};
+ghost use Rattle.lamwiest_c.specs.Statuses.{IsTold, IsNumbered};
+ghost use Rattle.lamwiest_c.specs.Answers.{IsMadeIn, IsDirected, IsOf};
+
+use crate::handles::{Handle, put_back, take_out};
+use crate::items::{RawItem, queue_of};
+use crate::statuses::{FaultFields, Refusal, tell, tell_number};
+use acc_base::Directive;
+use std::alloc::Global;
+
+/// Enters a data region with these items: the start of a `data` construct (OpenACC 3.3, section 2.6.5). Where it is done,
+/// `region` is the number by which [`lw_exit`] exits from it.
+#[unsafe(no_mangle)]
+pub extern "C" fn lw_enter(
+    alloc: Global,
+    table: &mut Handle,
+    items: &[RawItem],
+    region: &mut u64,
+    fault: &mut FaultFields,
+) -> u32
+    ensures { IsOf table.old.value table.new.value (IsNumbered result fault.new region.old region.new)
+        (λ e v. IsDirected e (enter_of items.now) (IsNumbered result fault.new region.old region.new) v) }
+{
+    let Some(mut environment) = take_out(alloc, table) else {
+        return tell_number(Err(Refusal::Ended), region, fault);
+    };
+    let made = environment.enter(alloc, items);
+    put_back(table, environment);
+    tell_number(made, region, fault)
+}
+
+/// Exits from the open data region of a number: the end of its `data` construct (OpenACC 3.3, section 2.6.5).
+#[unsafe(no_mangle)]
+pub extern "C" fn lw_exit(
+    alloc: Global,
+    table: &mut Handle,
+    region: u64,
+    fault: &mut FaultFields,
+) -> u32
+    ensures { IsOf table.old.value table.new.value (IsTold result fault.new)
+        (λ e v. IsMadeIn e (Do (Exit region)) (IsTold result fault.new) v) }
+{
+    let Some(mut environment) = take_out(alloc, table) else {
+        return tell(Err(Refusal::Ended), fault);
+    };
+    let made = environment.direct(Directive::Exit { number: region });
+    put_back(table, environment);
+    tell(made, fault)
+}
+
+/// The `enter data` directive (OpenACC 3.3, section 2.6.6), with its copies put into a queue, or made at once where the
+/// queue is `NO_QUEUE` (section 2.16).
+#[unsafe(no_mangle)]
+pub extern "C" fn lw_enter_data(
+    alloc: Global,
+    table: &mut Handle,
+    items: &[RawItem],
+    queue: u64,
+    fault: &mut FaultFields,
+) -> u32
+    ensures { IsOf table.old.value table.new.value (IsTold result fault.new)
+        (λ e v. IsDirected e (enter_data_of items.now queue) (IsTold result fault.new) v) }
+{
+    let Some(mut environment) = take_out(alloc, table) else {
+        return tell(Err(Refusal::Ended), fault);
+    };
+    let made = environment.enter_data(alloc, items, queue);
+    put_back(table, environment);
+    tell(made, fault)
+}
+
+/// The `exit data` directive (OpenACC 3.3, section 2.6.6), with the `finalize` clause or without it. The queue is as that
+/// of [`lw_enter_data`].
+#[unsafe(no_mangle)]
+pub extern "C" fn lw_exit_data(
+    alloc: Global,
+    table: &mut Handle,
+    items: &[RawItem],
+    finalize: bool,
+    queue: u64,
+    fault: &mut FaultFields,
+) -> u32
+    ensures { IsOf table.old.value table.new.value (IsTold result fault.new)
+        (λ e v. IsDirected e (exit_data_of items.now finalize queue) (IsTold result fault.new) v) }
+{
+    let Some(mut environment) = take_out(alloc, table) else {
+        return tell(Err(Refusal::Ended), fault);
+    };
+    let made = environment.exit_data(alloc, items, finalize, queue);
+    put_back(table, environment);
+    tell(made, fault)
+}
+
+/// The `update` directive (OpenACC 3.3, the update directive), with the `if_present` clause or without it. The queue is
+/// as that of [`lw_enter_data`].
+#[unsafe(no_mangle)]
+pub extern "C" fn lw_update(
+    alloc: Global,
+    table: &mut Handle,
+    items: &[RawItem],
+    if_present: bool,
+    queue: u64,
+    fault: &mut FaultFields,
+) -> u32
+    ensures { IsOf table.old.value table.new.value (IsTold result fault.new)
+        (λ e v. IsDirected e (update_of items.now if_present queue) (IsTold result fault.new) v) }
+{
+    let Some(mut environment) = take_out(alloc, table) else {
+        return tell(Err(Refusal::Ended), fault);
+    };
+    let made = environment.update(alloc, items, if_present, queue);
+    put_back(table, environment);
+    tell(made, fault)
+}
+
+/// The `wait` directive (OpenACC 3.3, the wait directive): makes all transfers of a queue, or of all queues where the
+/// queue is `NO_QUEUE`. Where it is done, `count` is how many they were.
+#[unsafe(no_mangle)]
+pub extern "C" fn lw_wait(
+    alloc: Global,
+    table: &mut Handle,
+    queue: u64,
+    count: &mut u64,
+    fault: &mut FaultFields,
+) -> u32
+    ensures { IsOf table.old.value table.new.value (IsNumbered result fault.new count.old count.new)
+        (λ e v. IsMadeIn e (Do (Wait (queue_of queue))) (IsNumbered result fault.new count.old count.new) v) }
+{
+    let Some(mut environment) = take_out(alloc, table) else {
+        return tell_number(Err(Refusal::Ended), count, fault);
+    };
+    let queue = queue_of(queue);
+    let made = environment.direct(Directive::Wait { queue });
+    put_back(table, environment);
+    tell_number(made, count, fault)
+}
+
+/// Makes the next transfer of a queue, as the device does while the host goes on (OpenACC 3.3, section 2.16). Where it is
+/// done, `count` is 1, or 0 where the queue was empty, which is no event.
+#[unsafe(no_mangle)]
+pub extern "C" fn lw_step(
+    alloc: Global,
+    table: &mut Handle,
+    queue: u64,
+    count: &mut u64,
+    fault: &mut FaultFields,
+) -> u32
+    ensures { IsOf table.old.value table.new.value (IsNumbered result fault.new count.old count.new)
+        (λ e v. IsMadeIn e (Do (Step queue)) (IsNumbered result fault.new count.old count.new) v) }
+{
+    let Some(mut environment) = take_out(alloc, table) else {
+        return tell_number(Err(Refusal::Ended), count, fault);
+    };
+    let made = environment.direct(Directive::Step { queue });
+    put_back(table, environment);
+    tell_number(made, count, fault)
+}

@@ -1,0 +1,174 @@
+//! What is behind a handle: a table, and the leases of the blocks that it has lent.
+
+ghost use Rattle.std.specs.Prelude.{◌≡◌, Ok, IfOk, IfErr};
+ghost use Rattle.acc_base.specs.declared.calls.Call.TheVariants.{Do, HostWrite};
+ghost use Rattle.acc_base.specs.declared.faults.Fault.TheVariants.{Memory};
+ghost use Rattle.lamwiest_c.specs.declared.statuses.Refusal.TheVariants.{OfTable};
+ghost use Rattle.lamwiest_c.specs.Begins.{new_environment};
+ghost use Rattle.lamwiest_c.specs.Clauses.{enter_of, enter_data_of, exit_data_of, update_of};
+ghost use Rattle.lamwiest_c.specs.Answers.{number_in, IsMadeIn, IsAsked, IsDirected, IsRebased};
+
+use crate::items::{RawItem, items_of, queue_of};
+use crate::statuses::Refusal;
+use acc_base::{Config, Directive, List};
+use acc_lend::Lease;
+use acc_table::{Call, Reply, Table, abandon, abandon_all};
+use std::alloc::Global;
+use std::marker::Model;
+
+/// A table, and the leases of the blocks that it has lent, in the order in which they were lent. C names a lease by its
+/// serial number, so that none is lost, and none is spent twice.
+///
+/// Contracts see the table's world and what the leases hold.
+pub struct Environment {
+    pub(crate) table: Table,
+    pub(crate) leases: Vec<Lease>,
+}
+
+impl Model for Environment {
+    ghost use Rattle.lamwiest_c.specs.Environments.{DataEnvironment};
+
+    ghost Value = { DataEnvironment };
+
+    ghost view = { λ e. record { world = e.table; leases = e.leases.items } };
+}
+
+impl Drop for Environment {
+    fn drop(self) {
+        let Environment { table, leases } = self;
+        abandon_all(leases);
+        drop(table);
+    }
+}
+
+/// The number of a reply. A lease in it is abandoned.
+pub fn number_in(reply: Reply) -> u64
+    ensures { result ≡ number_in reply }
+{
+    match reply {
+        Reply::Done => 1,
+        Reply::Entered { number } => number,
+        Reply::Drained { count } => count,
+        Reply::Idle => 0,
+        Reply::Lease(lease) => {
+            let serial = lease.serial();
+            lease.abandon();
+            serial
+        }
+    }
+}
+
+impl Environment {
+    /// A new table of these limits, which has lent nothing.
+    ///
+    /// # Errors
+    ///
+    /// `Memory` alone.
+    pub fn new(alloc: Global, config: Config) -> Result<Environment, Refusal>
+        ensures ok { IfOk result (λ e. e ≡ new_environment config) }
+        ensures err { IfErr result (λ refusal. refusal ≡ OfTable Memory) }
+    {
+        let table = Table::new(alloc, config)?;
+        Ok(Environment {
+            table,
+            leases: Vec::new(alloc),
+        })
+    }
+
+    /// Makes a call that moves no lease.
+    fn make(&mut self, call: Call) -> Result<u64, Refusal>
+        ensures { IsMadeIn self.old call (λ r. result ≡ r) self.new }
+    {
+        match self.table.apply(call) {
+            Ok(reply) => Ok(number_in(reply)),
+            Err((call, fault)) => {
+                abandon(call);
+                Err(Refusal::OfTable(fault))
+            }
+        }
+    }
+
+    /// Carries out a directive.
+    pub fn direct(&mut self, directive: Directive) -> Result<u64, Refusal>
+        ensures { IsMadeIn self.old (Do directive) (λ r. result ≡ r) self.new }
+    {
+        self.make(Call::Do(directive))
+    }
+
+    /// Enters a data region with the items of an array, and answers its number.
+    pub fn enter(&mut self, alloc: Global, items: &[RawItem]) -> Result<u64, Refusal>
+        ensures { IsDirected self.old (enter_of items.now) (λ r. result ≡ r) self.new }
+    {
+        let items = items_of(alloc, items)?;
+        self.direct(Directive::Enter { items })
+    }
+
+    /// Carries out `enter data` with the items of an array.
+    pub fn enter_data(
+        &mut self,
+        alloc: Global,
+        items: &[RawItem],
+        queue: u64,
+    ) -> Result<u64, Refusal>
+        ensures { IsDirected self.old (enter_data_of items.now queue) (λ r. result ≡ r) self.new }
+    {
+        let items = items_of(alloc, items)?;
+        let queue = queue_of(queue);
+        self.direct(Directive::EnterData { items, queue })
+    }
+
+    /// Carries out `exit data` with the items of an array.
+    pub fn exit_data(
+        &mut self,
+        alloc: Global,
+        items: &[RawItem],
+        finalize: bool,
+        queue: u64,
+    ) -> Result<u64, Refusal>
+        ensures { IsDirected self.old (exit_data_of items.now finalize queue) (λ r. result ≡ r) self.new }
+    {
+        let items = items_of(alloc, items)?;
+        let queue = queue_of(queue);
+        self.direct(Directive::ExitData {
+            items,
+            finalize,
+            queue,
+        })
+    }
+
+    /// Carries out `update` with the items of an array.
+    pub fn update(
+        &mut self,
+        alloc: Global,
+        items: &[RawItem],
+        if_present: bool,
+        queue: u64,
+    ) -> Result<u64, Refusal>
+        ensures { IsDirected self.old (update_of items.now if_present queue) (λ r. result ≡ r) self.new }
+    {
+        let items = items_of(alloc, items)?;
+        let queue = queue_of(queue);
+        self.direct(Directive::Update {
+            items,
+            if_present,
+            queue,
+        })
+    }
+
+    /// Writes bytes into host memory from a host address on.
+    pub fn host_write(&mut self, alloc: Global, addr: u64, bytes: &[u8]) -> Result<u64, Refusal>
+        ensures { IsAsked self.old (Ok (HostWrite addr bytes.now)) (λ r. result ≡ r) self.new }
+    {
+        let mut copy = Vec::new(alloc);
+        copy.extend_from_slice(bytes)?;
+        let bytes = List::from_vec(copy);
+        self.make(Call::HostWrite { addr, bytes })
+    }
+
+    /// Makes what the table has its base, and answers how many events that folded.
+    pub fn rebase(&mut self) -> Result<u64, Refusal>
+        ensures { IsRebased self.old (λ r. result ≡ r) self.new }
+    {
+        Ok(self.table.rebase()?)
+    }
+}

@@ -1,0 +1,250 @@
+//! What a call answers C: a status, and the fields of a refusal.
+
+ghost use Rattle.std.specs.Prelude.{◌≡◌, Option};
+ghost use Rattle.acc_base.specs.Faults.{number_of};
+ghost use Rattle.lamwiest_c.specs.Statuses.{item_of, value_of, status_of, fields_of, status_in, fields_in, number_after, refusal_in};
+
+use acc_base::Fault;
+use std::alloc::{AllocError, AllocFailed};
+
+/// It is done.
+pub const DONE: u32 = 0;
+
+/// The handle has no table: none was made, or it was ended.
+pub const ENDED: u32 = 32;
+
+/// The clause number of an item is none of the directive's.
+pub const BAD_CLAUSE: u32 = 33;
+
+/// A buffer is too short for the text, or has another length than the lease has bytes.
+pub const BAD_LENGTH: u32 = 34;
+
+/// There is no such thing: nothing is mapped there, or no refusal has that status.
+pub const ABSENT: u32 = 35;
+
+/// Why a call from C was refused. A refused call changes nothing.
+#[derive(Clone, Copy, Debug, PartialEq, Eq)]
+pub enum Refusal {
+    /// The handle has no table.
+    Ended,
+    /// The clause number of an item is none of the directive's.
+    BadClause {
+        /// The place of the item in the array, counted from 0.
+        item: u64,
+    },
+    /// The length of a buffer is not the one that is wanted.
+    BadLength {
+        /// The length that is wanted, in bytes.
+        len: u64,
+    },
+    /// There is no such thing.
+    Absent,
+    /// The table refused the call.
+    OfTable(Fault),
+}
+
+/// A refusal as C sees it: its status, and its fields. All are 0 where a call was done.
+#[repr(C)]
+#[derive(Clone, Copy, Debug, PartialEq, Eq)]
+pub struct FaultFields {
+    /// The status: the number of the refusal.
+    pub status: u32,
+    /// The place of the item that is refused, counted from 0; 0 where the refusal names none.
+    pub item: u64,
+    /// The other number of the refusal: how many tickets or regions are left, how many items or events there are, which
+    /// queue, block, region or lease is meant, or how many bytes are wanted; 0 where the refusal has none.
+    pub value: u64,
+}
+
+/// The item that a fault names, or 0.
+fn item_of(fault: Fault) -> u64
+    ensures { result ≡ item_of fault }
+{
+    match fault {
+        Fault::OutOfHost { item }
+        | Fault::Misaligned { item }
+        | Fault::PartlyPresent { item }
+        | Fault::NotPresent { item }
+        | Fault::CounterFull { item }
+        | Fault::DeviceFull { item, .. } => item,
+        _ => 0,
+    }
+}
+
+/// The other number of a fault, or 0.
+fn value_of(fault: Fault) -> u64
+    ensures { result ≡ value_of fault }
+{
+    match fault {
+        Fault::NoTickets { left } | Fault::NoAllowance { left } => left,
+        Fault::TooManyItems { n } => n,
+        Fault::TraceFull { len } => len,
+        Fault::NoQueue { q } | Fault::QueueFull { q } => q,
+        Fault::Lent { block } => block,
+        Fault::DeviceFull { need, .. } => need,
+        Fault::NoRegion { number } => number,
+        Fault::NoLease { serial } => serial,
+        _ => 0,
+    }
+}
+
+/// The number of a fault, as a status.
+fn number_of(fault: Fault) -> u32
+    ensures { result ≡ number_of fault }
+{
+    fault.number() as u32
+}
+
+impl Refusal {
+    /// The status: that of a table's fault is its number.
+    pub fn status(self) -> u32
+        ensures { result ≡ status_of self }
+    {
+        match self {
+            Refusal::Ended => ENDED,
+            Refusal::BadClause { .. } => BAD_CLAUSE,
+            Refusal::BadLength { .. } => BAD_LENGTH,
+            Refusal::Absent => ABSENT,
+            Refusal::OfTable(fault) => number_of(fault),
+        }
+    }
+
+    /// The refusal as C sees it.
+    pub fn fields(self) -> FaultFields
+        ensures { result ≡ fields_of self }
+    {
+        let status = self.status();
+        match self {
+            Refusal::Ended | Refusal::Absent => FaultFields {
+                status,
+                item: 0,
+                value: 0,
+            },
+            Refusal::BadClause { item } => FaultFields {
+                status,
+                item,
+                value: 0,
+            },
+            Refusal::BadLength { len } => FaultFields {
+                status,
+                item: 0,
+                value: len,
+            },
+            Refusal::OfTable(fault) => FaultFields {
+                status,
+                item: item_of(fault),
+                value: value_of(fault),
+            },
+        }
+    }
+}
+
+impl FaultFields {
+    /// The fields where nothing was refused.
+    pub fn none() -> FaultFields
+        ensures { result ≡ record { status = 0; item = 0; value = 0 } }
+    {
+        FaultFields {
+            status: DONE,
+            item: 0,
+            value: 0,
+        }
+    }
+
+    /// The refusal that has these fields, if its status is that of one.
+    pub fn refusal(&self) -> Option<Refusal>
+        ensures { result ≡ refusal_in self.now }
+    {
+        let item = self.item;
+        let value = self.value;
+        match self.status {
+            1 => Some(Refusal::OfTable(Fault::Memory)),
+            2 => Some(Refusal::OfTable(Fault::BadConfig)),
+            3 => Some(Refusal::OfTable(Fault::NoTickets { left: value })),
+            4 => Some(Refusal::OfTable(Fault::NoAllowance { left: value })),
+            5 => Some(Refusal::OfTable(Fault::TooManyItems { n: value })),
+            6 => Some(Refusal::OfTable(Fault::TraceFull { len: value })),
+            7 => Some(Refusal::OfTable(Fault::OutOfHost { item })),
+            8 => Some(Refusal::OfTable(Fault::Misaligned { item })),
+            9 => Some(Refusal::OfTable(Fault::NoQueue { q: value })),
+            10 => Some(Refusal::OfTable(Fault::PartlyPresent { item })),
+            11 => Some(Refusal::OfTable(Fault::NotPresent { item })),
+            12 => Some(Refusal::OfTable(Fault::CounterFull { item })),
+            13 => Some(Refusal::OfTable(Fault::Lent { block: value })),
+            14 => Some(Refusal::OfTable(Fault::DeviceFull { item, need: value })),
+            15 => Some(Refusal::OfTable(Fault::QueueFull { q: value })),
+            16 => Some(Refusal::OfTable(Fault::NoRegion { number: value })),
+            17 => Some(Refusal::OfTable(Fault::NoLease { serial: value })),
+            ENDED => Some(Refusal::Ended),
+            BAD_CLAUSE => Some(Refusal::BadClause { item }),
+            BAD_LENGTH => Some(Refusal::BadLength { len: value }),
+            ABSENT => Some(Refusal::Absent),
+            _ => None,
+        }
+    }
+}
+
+impl From<Fault> for Refusal {
+    ghost use Rattle.std.specs.Prelude.{◌≡◌};
+    ghost use Rattle.lamwiest_c.specs.declared.statuses.Refusal.TheVariants.{OfTable};
+
+    ghost from_gives = { λ fault refusal. refusal ≡ OfTable fault };
+
+    fn from(fault: Fault) -> Refusal {
+        Refusal::OfTable(fault)
+    }
+}
+
+impl From<AllocError> for Refusal {
+    ghost use Rattle.std.specs.Prelude.{◌≡◌};
+    ghost use Rattle.acc_base.specs.declared.faults.Fault.TheVariants.{Memory};
+    ghost use Rattle.lamwiest_c.specs.declared.statuses.Refusal.TheVariants.{OfTable};
+
+    ghost from_gives = { λ _ refusal. refusal ≡ OfTable Memory };
+
+    fn from(_error: AllocError) -> Refusal {
+        Refusal::OfTable(Fault::Memory)
+    }
+}
+
+impl<T: Drop> From<AllocFailed<T>> for Refusal {
+    ghost use Rattle.std.specs.Prelude.{◌≡◌};
+    ghost use Rattle.acc_base.specs.declared.faults.Fault.TheVariants.{Memory};
+    ghost use Rattle.lamwiest_c.specs.declared.statuses.Refusal.TheVariants.{OfTable};
+
+    ghost from_gives = { λ _ refusal. refusal ≡ OfTable Memory };
+
+    fn from(_error: AllocFailed<T>) -> Refusal {
+        Refusal::OfTable(Fault::Memory)
+    }
+}
+
+/// Tells C what came of a call: its status, the fields of its refusal, and the number that it answered, which stays as
+/// it was where the call was refused.
+pub fn tell_number(made: Result<u64, Refusal>, number: &mut u64, fault: &mut FaultFields) -> u32
+    ensures status { result ≡ status_in made }
+    ensures fields { fault.new ≡ fields_in made }
+    ensures number { number.new ≡ number_after made number.old }
+{
+    if let Ok(told) = made {
+        *number = told;
+    }
+    tell(made, fault)
+}
+
+/// Tells C what came of a call that answers no number: its status, and the fields of its refusal.
+pub fn tell(made: Result<u64, Refusal>, fault: &mut FaultFields) -> u32
+    ensures status { result ≡ status_in made }
+    ensures fields { fault.new ≡ fields_in made }
+{
+    match made {
+        Ok(_) => {
+            *fault = FaultFields::none();
+            DONE
+        }
+        Err(refusal) => {
+            *fault = refusal.fields();
+            refusal.status()
+        }
+    }
+}

@@ -1,0 +1,133 @@
+//! How a table begins and ends.
+
+ghost use Rattle.std.specs.Prelude.{◌≡◌, None, Ok, MatchResult};
+ghost use Rattle.lamwiest_c.specs.Statuses.{IsTold, IsNumbered};
+ghost use Rattle.lamwiest_c.specs.Answers.{IsRebased, IsOf};
+ghost use Rattle.lamwiest_c.specs.Begins.{default_limits, IsConfig, IsNotBegun, IsBegunAs, IsBegun};
+
+use crate::environments::Environment;
+use crate::handles::{Handle, put_back, take_out};
+use crate::statuses::{FaultFields, Refusal, tell, tell_number};
+use acc_base::Config;
+use std::alloc::Global;
+use std::mem;
+
+/// The limits of a table: the sizes of its two memories, and how much it may hold.
+#[repr(C)]
+#[derive(Clone, Copy, Debug, PartialEq, Eq)]
+pub struct RawLimits {
+    /// The size of host memory in bytes: a multiple of 16 from 16 to 67,108,864.
+    pub host: u64,
+    /// The size of device memory in bytes: a multiple of 16 from 16 to 67,108,864.
+    pub device: u64,
+    /// How many data regions may be open at a time: 1 to 65,536.
+    pub regions: u64,
+    /// How many events there may be in all: 1 to 2^40.
+    pub tickets: u64,
+    /// The greatest value of a counter: 1 to 4,294,967,295.
+    pub counter_max: u64,
+    /// How many transfers may wait in one queue: 1 to 4,096.
+    pub queue_cap: u64,
+    /// How many events the stored trace may have: 1 to 16,777,216.
+    pub trace_cap: u64,
+    /// Whether traces are full: they store the bytes that calls bring, too.
+    pub full: bool,
+}
+
+/// The configuration of these limits.
+///
+/// # Errors
+///
+/// `BadConfig` alone, where one of them is out of its bounds.
+fn config_of(limits: &RawLimits) -> Result<Config, Refusal>
+    ensures { IsConfig limits.now result }
+{
+    let config = Config::new(
+        limits.host,
+        limits.device,
+        limits.regions,
+        limits.tickets,
+        limits.counter_max,
+        limits.queue_cap,
+        limits.trace_cap,
+    )?;
+    if limits.full {
+        Ok(config.with_full_trace())
+    } else {
+        Ok(config)
+    }
+}
+
+/// A new environment of these limits, in a box.
+fn begin(alloc: Global, limits: &RawLimits) -> Result<Box<Environment>, Refusal>
+    ensures { MatchResult result (λ e. IsBegunAs limits.now (Ok e.value)) (IsNotBegun limits.now) }
+{
+    let config = config_of(limits)?;
+    let environment = Environment::new(alloc, config)?;
+    Ok(Box::new(alloc, environment)?)
+}
+
+/// The limits that `accrun` gives its tables.
+#[unsafe(no_mangle)]
+pub extern "C" fn lw_limits_default(limits: &mut RawLimits)
+    ensures { limits.new ≡ default_limits }
+{
+    *limits = RawLimits {
+        host: 65_536,
+        device: 65_536,
+        regions: 64,
+        tickets: 1_048_576,
+        counter_max: 4_294_967_295,
+        queue_cap: 256,
+        trace_cap: 262_144,
+        full: false,
+    };
+}
+
+/// Puts a new table into a handle: nothing is mapped, no region is open, and host memory is zero. What the handle had is
+/// ended. Where it is refused, the handle stays as it is.
+#[unsafe(no_mangle)]
+pub extern "C" fn lw_table_new(
+    alloc: Global,
+    table: &mut Handle,
+    limits: &RawLimits,
+    fault: &mut FaultFields,
+) -> u32
+    ensures { IsBegun limits.now table.old.value table.new.value (IsTold result fault.new) }
+{
+    match begin(alloc, limits) {
+        Ok(environment) => {
+            put_back(table, environment);
+            tell(Ok(0), fault)
+        }
+        Err(refusal) => tell(Err(refusal), fault),
+    }
+}
+
+/// Ends the table of a handle, with its leases. An ended handle stays ended.
+#[unsafe(no_mangle)]
+pub extern "C" fn lw_table_end(alloc: Global, table: &mut Handle)
+    ensures { table.new.value ≡ None }
+{
+    drop(mem::replace(table, Handle::empty(alloc)));
+}
+
+/// Makes what the table has its base, and empties the stored trace, so that there is room in it again. It is no event,
+/// and every query answers as before. Where it is done, `folded` is how many events the trace had.
+#[unsafe(no_mangle)]
+pub extern "C" fn lw_rebase(
+    alloc: Global,
+    table: &mut Handle,
+    folded: &mut u64,
+    fault: &mut FaultFields,
+) -> u32
+    ensures { IsOf table.old.value table.new.value (IsNumbered result fault.new folded.old folded.new)
+        (λ e v. IsRebased e (IsNumbered result fault.new folded.old folded.new) v) }
+{
+    let Some(mut environment) = take_out(alloc, table) else {
+        return tell_number(Err(Refusal::Ended), folded, fault);
+    };
+    let made = environment.rebase();
+    put_back(table, environment);
+    tell_number(made, folded, fault)
+}

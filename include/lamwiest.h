@@ -1,0 +1,235 @@
+/*
+ * Lamwiest: the data environment of an OpenACC 3.3 runtime, for C and C++.
+ *
+ * A table is host memory and device memory, both simulated, with what is mapped between them. A call does what a
+ * directive of OpenACC 3.3 asks, or is refused and changes nothing. Each of these functions is proved to do what its
+ * call of the library does; docs/C.md tells how to build and link it, and docs/MODEL.md what each directive does.
+ *
+ * Host addresses are those of the simulated host memory, which begins at LW_HOST_BASE. They are no pointers of C.
+ *
+ * What a caller owes, since nothing can check it:
+ *   - A pointer to a table, a fault, limits or a place for an answer is not NULL, and points to such an object.
+ *     A pointer to an array may be NULL where its length is 0; else it points to as many elements.
+ *   - A handle begins as LW_NO_TABLE. It is not copied, and nothing but these functions reads or writes it.
+ *   - No two of the objects that one call is given overlap.
+ *   - A table is used by one thread at a time, and not from a signal handler. There is no lock in this library.
+ * All else that is wrong is told: as a status, with no change.
+ */
+#ifndef LAMWIEST_H
+#define LAMWIEST_H
+
+#include <stdbool.h>
+#include <stddef.h>
+#include <stdint.h>
+
+#ifdef __cplusplus
+extern "C" {
+#endif
+
+/* ---- Statuses ---- */
+
+/* What a call answers: LW_DONE, or why it was refused. A refused call changes nothing. */
+enum {
+    LW_DONE = 0,           /* it is done */
+    LW_MEMORY = 1,         /* no memory could be had for the call */
+    LW_BAD_CONFIG = 2,     /* a limit is out of its bounds */
+    LW_NO_TICKETS = 3,     /* there are as many events as there may be; value: how many are left, 0 */
+    LW_NO_ALLOWANCE = 4,   /* there are as many open data regions as there may be; value: how many are left, 0 */
+    LW_TOO_MANY_ITEMS = 5, /* a directive has more than 64 items; value: how many it has */
+    LW_TRACE_FULL = 6,     /* there is no room in the trace (lw_rebase makes some); value: how many events it has */
+    LW_OUT_OF_HOST = 7,    /* a section, or a pointer's eight bytes, are not in host memory; item */
+    LW_MISALIGNED = 8,     /* the address of a pointer is no multiple of 8; item */
+    LW_NO_QUEUE = 9,       /* there is no such queue; value: its number */
+    LW_PARTLY_PRESENT = 10,/* some addresses of a section are mapped, but no one mapped range has them all; item */
+    LW_NOT_PRESENT = 11,   /* a section has to be present and is not; item */
+    LW_COUNTER_FULL = 12,  /* a reference or attachment counter is at its limit; item */
+    LW_LENT = 13,          /* a block is lent to a kernel; value: its number */
+    LW_DEVICE_FULL = 14,   /* no free part of device memory is large enough; item, value: how many bytes it needs */
+    LW_QUEUE_FULL = 15,    /* a queue has no room for one more transfer; value: its number */
+    LW_NO_REGION = 16,     /* no data region of that number is open; value: the number */
+    LW_NO_LEASE = 17,      /* no lease of that number is out: there was none, or it was spent; value: the number */
+    LW_ENDED = 32,         /* the handle has no table: none was made, or it was ended */
+    LW_BAD_CLAUSE = 33,    /* the clause number of an item is none of the directive's; item */
+    LW_BAD_LENGTH = 34,    /* a buffer is too short, or not as long as a lease; value: the length that is wanted */
+    LW_ABSENT = 35         /* there is no such thing: nothing is mapped there, or no refusal has that status */
+};
+
+/* Why a call was refused. A call that is done sets all three to 0. */
+typedef struct lw_fault {
+    uint32_t status; /* what the call answered */
+    uint64_t item;   /* the place of the item in its array, counted from 0; 0 where the refusal names none */
+    uint64_t value;  /* the other number of the refusal, as told above; 0 where it has none */
+} lw_fault;
+
+/* ---- Tables ---- */
+
+/* A handle of a table. What stands in it is the library's. */
+typedef struct lw_table {
+    void *at;
+} lw_table;
+
+/* A handle that has no table. */
+#define LW_NO_TABLE {0}
+
+/* Where host memory begins, and where device memory begins. */
+#define LW_HOST_BASE UINT64_C(0x1000)
+#define LW_DEVICE_BASE UINT64_C(0x100000000)
+
+/* The limits of a table. */
+typedef struct lw_limits {
+    uint64_t host;        /* the size of host memory in bytes: a multiple of 16 from 16 to 67,108,864 */
+    uint64_t device;      /* the size of device memory in bytes: a multiple of 16 from 16 to 67,108,864 */
+    uint64_t regions;     /* how many data regions may be open at a time: 1 to 65,536 */
+    uint64_t tickets;     /* how many events there may be in all: 1 to 2^40 */
+    uint64_t counter_max; /* the greatest value of a counter: 1 to 4,294,967,295 */
+    uint64_t queue_cap;   /* how many transfers may wait in one queue: 1 to 4,096 */
+    uint64_t trace_cap;   /* how many events the stored trace may have: 1 to 16,777,216 */
+    bool full;            /* whether the trace stores the bytes that calls bring, too */
+} lw_limits;
+
+/* The limits that the program accrun gives its tables: two memories of 65,536 bytes, and room for 262,144 events. */
+void lw_limits_default(lw_limits *limits);
+
+/* Puts a new table into a handle: nothing is mapped, no region is open, and host memory is zero. What the handle had is
+   ended. LW_BAD_CONFIG or LW_MEMORY, and the handle stays as it is. */
+uint32_t lw_table_new(lw_table *table, const lw_limits *limits, lw_fault *fault);
+
+/* Ends a table with its leases, and gives back all of its memory. A handle without a table stays so. */
+void lw_table_end(lw_table *table);
+
+/* Folds all events into a base, so that there is room in the trace again. It is no event. folded: how many they were. */
+uint32_t lw_rebase(lw_table *table, uint64_t *folded, lw_fault *fault);
+
+/* ---- Items of data clauses (OpenACC 3.3, sections 2.6 and 2.7) ---- */
+
+/* The clauses, and the directives that have them. */
+enum {
+    LW_COPY = 1,         /* copy: of data */
+    LW_COPYIN = 2,       /* copyin: of data, and of enter data */
+    LW_COPYOUT = 3,      /* copyout: of data, and of exit data */
+    LW_COPYOUT_ZERO = 4, /* copyout(zero:): of data */
+    LW_CREATE = 5,       /* create: of data, and of enter data */
+    LW_CREATE_ZERO = 6,  /* create(zero:): of data, and of enter data */
+    LW_NO_CREATE = 7,    /* no_create: of data */
+    LW_PRESENT = 8,      /* present: of data */
+    LW_ATTACH = 9,       /* attach: of data, and of enter data */
+    LW_DELETE = 10,      /* delete: of exit data */
+    LW_DETACH = 11,      /* detach: of exit data */
+    LW_SELF = 12,        /* self, which is also written host: of update */
+    LW_DEVICE = 13       /* device: of update */
+};
+
+/* One item of a data clause. */
+typedef struct lw_item {
+    uint32_t clause;  /* the clause in which it stands */
+    uint64_t start;   /* the first host address of its section; of attach and detach, the address of the pointer */
+    uint64_t len;     /* the length of its section in bytes; of attach and detach it is not read */
+    uint64_t pointer; /* the host address of the pointer to the section's data, which is attached on entry and detached
+                         on exit (section 2.6.8); 0 for none */
+} lw_item;
+
+/* In place of a queue: the copies of the directive are made at once; and for lw_wait, all queues. */
+#define LW_NO_QUEUE_GIVEN UINT64_MAX
+
+/* ---- Directives. Items act in their order. LW_BAD_CLAUSE tells the first whose clause is none of the directive's ---- */
+
+/* The start of a data construct (section 2.6.5). region: the number by which lw_exit exits from it. */
+uint32_t lw_enter(lw_table *table, const lw_item *items, size_t count, uint64_t *region, lw_fault *fault);
+
+/* The end of a data construct (section 2.6.5). */
+uint32_t lw_exit(lw_table *table, uint64_t region, lw_fault *fault);
+
+/* enter data (section 2.6.6). With async its copies wait in a queue, from 0 to 15 (section 2.16). */
+uint32_t lw_enter_data(lw_table *table, const lw_item *items, size_t count, uint64_t queue, lw_fault *fault);
+
+/* exit data (section 2.6.6), with the finalize clause or without it. */
+uint32_t lw_exit_data(lw_table *table, const lw_item *items, size_t count, bool finalize, uint64_t queue,
+                      lw_fault *fault);
+
+/* update, with the if_present clause or without it. */
+uint32_t lw_update(lw_table *table, const lw_item *items, size_t count, bool if_present, uint64_t queue,
+                   lw_fault *fault);
+
+/* wait: all copies of a queue are made, or those of all queues. made: how many they were. */
+uint32_t lw_wait(lw_table *table, uint64_t queue, uint64_t *made, lw_fault *fault);
+
+/* The device makes the next copy of a queue. made: 1, or 0 where the queue was empty, which is no event. */
+uint32_t lw_step(lw_table *table, uint64_t queue, uint64_t *made, lw_fault *fault);
+
+/* ---- The bytes of the two memories ---- */
+
+/* The host writes bytes into its memory. The device's bytes stay. LW_OUT_OF_HOST where some byte is not there. */
+uint32_t lw_host_write(lw_table *table, uint64_t start, const uint8_t *bytes, size_t len, lw_fault *fault);
+
+/* Copies bytes of host memory. LW_OUT_OF_HOST where some byte is not there. It is no event. */
+uint32_t lw_host_read(lw_table *table, uint64_t start, uint8_t *bytes, size_t len, lw_fault *fault);
+
+/* Copies the bytes that the device has of host addresses. LW_ABSENT where these are not in one mapped range, or their
+   block is lent. It is no event. */
+uint32_t lw_device_read(lw_table *table, uint64_t start, uint8_t *bytes, size_t len, lw_fault *fault);
+
+/* ---- Kernels: a loan of the device's bytes (section 2.5, compute constructs) ---- */
+
+/* Lends the device's bytes of a section, which lies in one mapped range, in an open data region. lease: the number of
+   the lease. Until lw_gather spends it, no other call reads or writes these bytes. */
+uint32_t lw_lend(lw_table *table, uint64_t region, uint64_t start, uint64_t len, uint64_t *lease, lw_fault *fault);
+
+/* Copies the bytes of a lease. LW_BAD_LENGTH where len is not the length of its section. It is no event. */
+uint32_t lw_lease_read(lw_table *table, uint64_t lease, uint8_t *bytes, size_t len, lw_fault *fault);
+
+/* Writes the bytes of a lease, as the kernel leaves them. LW_BAD_LENGTH as above. It is no event. */
+uint32_t lw_lease_write(lw_table *table, uint64_t lease, const uint8_t *bytes, size_t len, lw_fault *fault);
+
+/* Brings a lease back: the device has its bytes again, as they were last written. A lease that is refused stays. */
+uint32_t lw_gather(lw_table *table, uint64_t lease, lw_fault *fault);
+
+/* ---- Queries: LW_DONE, LW_ENDED, or LW_ABSENT where there is nothing to find. An answer is written only if it is done ---- */
+
+/* The two reference counters of a mapped range (section 2.6.7). */
+typedef struct lw_counters_of {
+    uint64_t structured; /* how often open data regions hold it */
+    uint64_t dynamic;    /* how often enter data does */
+} lw_counters_of;
+
+/* A mapped range. */
+typedef struct lw_mapped_range {
+    uint64_t start;      /* its first host address */
+    uint64_t len;        /* its length in bytes */
+    uint64_t place;      /* the device address of its first byte */
+    uint64_t structured; /* its structured reference counter */
+    uint64_t dynamic;    /* its dynamic reference counter */
+    uint64_t lent;       /* 1 while its block is lent, else 0 */
+} lw_mapped_range;
+
+/* present: 1 where the section is not empty and in one mapped range, else 0 (acc_is_present). */
+uint32_t lw_is_present(lw_table *table, uint64_t start, uint64_t len, uint64_t *present);
+
+/* place: the device address of a host address (acc_deviceptr). LW_ABSENT where it is not mapped. */
+uint32_t lw_device_address(lw_table *table, uint64_t address, uint64_t *place);
+
+/* The counters of the mapped range that a section is inside. LW_ABSENT where it is inside none. */
+uint32_t lw_counters(lw_table *table, uint64_t start, uint64_t len, lw_counters_of *counters);
+
+/* count: how often a pointer is attached on the device (section 2.6.8). */
+uint32_t lw_attachment(lw_table *table, uint64_t pointer, uint64_t *count);
+
+/* The mapped range of least start at or above a host address. LW_ABSENT where there is none. */
+uint32_t lw_mapped(lw_table *table, uint64_t from, lw_mapped_range *mapped);
+
+/* len: how many copies wait in a queue. */
+uint32_t lw_queue_len(lw_table *table, uint64_t queue, uint64_t *len);
+
+/* used: how many bytes of device memory all blocks take. */
+uint32_t lw_used(lw_table *table, uint64_t *used);
+
+/* regions: how many data regions are open. */
+uint32_t lw_regions(lw_table *table, uint64_t *regions);
+
+/* events: how many calls were accepted in all. */
+uint32_t lw_events(lw_table *table, uint64_t *events);
+
+#ifdef __cplusplus
+}
+#endif
+
+#endif

@@ -228,15 +228,6 @@ uint32_t lw_regions(lw_table *table, uint64_t *regions);
 /* events: how many calls were accepted in all. */
 uint32_t lw_events(lw_table *table, uint64_t *events);
 
-/* ---- Texts, in ASCII, without a zero at the end ---- */
-
-/* Writes the report of a table, the text that accrun prints (docs/SCRIPTS.md), at the front of a buffer. len: its length.
-   LW_BAD_LENGTH where the buffer is too short: fault->value is the length that is wanted, and nothing is written. */
-uint32_t lw_report(lw_table *table, uint8_t *buffer, size_t size, uint64_t *len, lw_fault *fault);
-
-/* Writes what a refusal says, as "14 DeviceFull item 0 need 32", in the same way. LW_ABSENT where told is no refusal. */
-uint32_t lw_fault_text(const lw_fault *told, uint8_t *buffer, size_t size, uint64_t *len, lw_fault *fault);
-
 #ifdef __cplusplus
 }
 #endif

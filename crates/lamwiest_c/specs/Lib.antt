@@ -6,4 +6,3 @@ pub mod Answers
 pub mod Leases
 pub mod Finds
 pub mod Begins
-pub mod Shows

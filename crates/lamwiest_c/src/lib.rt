@@ -18,4 +18,3 @@ mod parts;
 mod queries;
 mod statuses;
 mod tables;
-mod texts;

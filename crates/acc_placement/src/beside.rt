@@ -1,8 +1,7 @@
 //! Places outside of listed ranges.
 
-ghost use Rattle.std.specs.Prelude.{◌≡◌, ℕ, ◌+◌, ◌%◌, ◌^◌, ◌<◌, ◌≤◌, All, Any, IfSome, IfNone};
+ghost use Rattle.std.specs.Prelude.{◌≡◌, ℕ, ◌%◌, ◌^◌, ◌≤◌, All};
 ghost use Rattle.acc_base.specs.Limits.{IsFromOne};
-ghost use Rattle.acc_base.specs.Blocks.{rounded as rounded_of};
 ghost use Rattle.acc_placement.specs.Ranges.{IsTakeBelow};
 ghost use Rattle.acc_placement.specs.Changes.{IsBeside};
 
@@ -22,25 +21,34 @@ pub fn past(listed: &[(u64, u64)], from: u64, size: u64, top: u64) -> u64
     ensures aligned { All (λ t. t.0 % 16 ≡ 0) listed.now → from % 16 ≡ 0 → result % 16 ≡ 0 }
 {
     let mut at = from;
-    while let Some(end) = end_of_overlap(listed, at, size) {
-        at = end;
+    loop {
+        let next = moved_on(listed, at, size, top);
+        if next == at {
+            return at;
+        }
+        at = next;
     }
-    at
 }
 
-/// The end of a listed range that has one of the `size` addresses from `at` on.
-fn end_of_overlap(listed: &[(u64, u64)], at: u64, size: u64) -> Option<u64>
-    requires listed { All (IsTakeBelow (2 ^ 41)) listed.now }
-    requires at_limit { at ≤ 2 ^ 41 }
-    requires size_limit { size ≤ MEMORY_MAX }
-    ensures found { IfSome result (λ end. Any (λ t. (end ≡ t.0 + rounded_of t.1) × (t.0 < at + size) × (at < end)) listed.now) }
-    ensures none { IfNone result (IsBeside listed.now size at) }
+/// Where one walk along the listed ranges comes to that begins at `from` and goes on behind each range that has
+/// one of the `size` addresses there. It stays only where all `size` addresses are outside of them.
+fn moved_on(listed: &[(u64, u64)], from: u64, size: u64, top: u64) -> u64
+    requires top_limit { top ≤ 2 ^ 41 }
+    requires from_limit { from ≤ top }
+    requires size_limit { IsFromOne MEMORY_MAX size }
+    requires listed { All (IsTakeBelow top) listed.now }
+    ensures not_before { from ≤ result }
+    ensures limit { result ≤ top }
+    ensures stays { result ≡ from → IsBeside listed.now size from }
+    ensures least { (q : ℕ) → from ≤ q → IsBeside listed.now size q → result ≤ q }
+    ensures aligned { All (λ t. t.0 % 16 ≡ 0) listed.now → from % 16 ≡ 0 → result % 16 ≡ 0 }
 {
+    let mut at = from;
     for &(start, length) in listed {
         let end = start + rounded(length);
         if start < at + size && at < end {
-            return Some(end);
+            at = end;
         }
     }
-    None
+    at
 }

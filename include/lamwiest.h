@@ -31,7 +31,8 @@ extern "C" {
 /* What a call answers: LW_DONE, or why it was refused. A refused call changes nothing. */
 enum {
     LW_DONE = 0,           /* it is done */
-    LW_MEMORY = 1,         /* no memory could be had for the call */
+    LW_MEMORY = 1,         /* no memory could be had: for the list of a directive's items or the bytes of a write, which
+                              is told before all that a table refuses; else it is told last of all */
     LW_BAD_CONFIG = 2,     /* a limit is out of its bounds */
     LW_NO_TICKETS = 3,     /* there are as many events as there may be; value: how many are left, 0 */
     LW_NO_ALLOWANCE = 4,   /* there are as many open data regions as there may be; value: how many are left, 0 */
@@ -216,7 +217,7 @@ uint32_t lw_attachment(lw_table *table, uint64_t pointer, uint64_t *count);
 /* The mapped range of least start at or above a host address. LW_ABSENT where there is none. */
 uint32_t lw_mapped(lw_table *table, uint64_t from, lw_mapped_range *mapped);
 
-/* len: how many copies wait in a queue. */
+/* len: how many copies wait in a queue; 0 where there is no such queue. */
 uint32_t lw_queue_len(lw_table *table, uint64_t queue, uint64_t *len);
 
 /* used: how many bytes of device memory all blocks take. */
@@ -227,6 +228,15 @@ uint32_t lw_regions(lw_table *table, uint64_t *regions);
 
 /* events: how many calls were accepted in all. */
 uint32_t lw_events(lw_table *table, uint64_t *events);
+
+/* ---- Texts, in ASCII, without a zero at the end ---- */
+
+/* Writes the report of a table, the text that accrun prints (docs/SCRIPTS.md), at the front of a buffer. len: its length.
+   LW_BAD_LENGTH where the buffer is too short: fault->value is the length that is wanted, and nothing is written. */
+uint32_t lw_report(lw_table *table, uint8_t *buffer, size_t size, uint64_t *len, lw_fault *fault);
+
+/* Writes what a refusal says, as "14 DeviceFull item 0 need 32", at most 65 bytes, in the same way. LW_ABSENT where told is no refusal. */
+uint32_t lw_fault_text(const lw_fault *told, uint8_t *buffer, size_t size, uint64_t *len, lw_fault *fault);
 
 #ifdef __cplusplus
 }

@@ -1,5 +1,5 @@
 -- How long the bytes are that the device has of a section.
-use Rattle.std.proofs.Common.{ℕ, ◌≡◌, ◌+◌, ◌≤◌, refl, sym, ap, ◌∙◌, arith, cond, Bool, true, false, List, length, take, drop, Option, Some, None}
+use Rattle.std.proofs.Common.{ℕ, ◌≡◌, ◌+◌, ◌≤◌, refl, sym, ap, ◌∙◌, arith, cond, Bool, true, false, List, length, take, drop, Some, None}
 use Rattle.std.proofs.lemmas.List.{length-take-le, length-drop}
 use Rattle.acc_base.specs.declared.items.Section.{Section}
 use Rattle.acc_base.specs.declared.mappings.Found.{Found}

@@ -1,5 +1,5 @@
 -- The lease that a serial number names: where it stands, and what comes of it.
-use Rattle.std.proofs.Common.{ℕ, ◌≡◌, ◌+◌, ◌<◌, refl, sym, ap, subst, ◌∙◌, arith, cond, List, [], ◌∷◌, ◌++◌, length, take, drop, Option, Some, None, Result, Ok, Err, inl, inr}
+use Rattle.std.proofs.Common.{ℕ, ◌≡◌, ◌<◌, refl, sym, ap, subst, ◌∙◌, arith, cond, List, [], ◌∷◌, ◌++◌, length, Option, Some, None, Result, Ok, Err, inl, inr}
 use Rattle.std.specs.Prelude.{Bool, true, false, find, nat_lt, slice_get, slice_set, slice_index_or, suc, zero, MatchBool, MatchResult, MatchOption, ◌==◌}
 use Rattle.std.specs.List.{position, position_or_len, remove}
 use Rattle.std.proofs.lemmas.List.{set-get_or}
@@ -8,8 +8,9 @@ use Rattle.std.proofs.lemmas.Option.{slice_get-get_or, slice_get_past}
 use Rattle.std.proofs.lemmas.Bool.Decides.{nat_tests}
 use Rattle.std.proofs.lemmas.List.Quantifiers.{position-Some}
 use Rattle.acc_base.proofs.Results.{equal, equal_self}
+use Rattle.acc_base.specs.declared.items.Section.{Section}
 use Rattle.acc_base.specs.declared.calls.Call.{Call}
-use Rattle.acc_base.specs.declared.calls.Call.TheVariants.{Gather}
+use Rattle.acc_base.specs.declared.calls.Call.TheVariants.{Lend, Gather}
 use Rattle.acc_base.specs.declared.faults.Fault.{Fault}
 use Rattle.acc_base.specs.declared.faults.Fault.TheVariants.{NoLease}
 use Rattle.acc_base.specs.Loans.{Leased}
@@ -18,13 +19,14 @@ use Rattle.acc_base.specs.Calls.{World, judge}
 use Rattle.acc_base.specs.Judge.{Verdict, Makes, Idle}
 use Rattle.acc_table.specs.declared.calls.Reply.{Reply}
 use Rattle.acc_table.specs.declared.calls.Reply.TheVariants as replies
+use Rattle.acc_table.specs.Replies.{HasLease}
+use Rattle.acc_table.specs.Turns.{lent_by}
 use Rattle.acc_table.specs.Calls.{IsCarriedOut, IsDone, MayWantMemory, IsRefusal}
 use Rattle.acc_table.proofs.Replying.{done_replied}
-use Rattle.lamwiest_c.specs.declared.statuses.Refusal.{Refusal}
 use Rattle.lamwiest_c.specs.declared.statuses.Refusal.TheVariants.{BadLength, OfTable}
 use Rattle.lamwiest_c.specs.Environments.{DataEnvironment}
 use Rattle.lamwiest_c.specs.Leases.{leases_with, IsLeaseRead, IsLeaseWritten}
-use Rattle.lamwiest_c.specs.Answers.{Told, number_in, CameOfLease, is_serial, lease_of, IsGathered}
+use Rattle.lamwiest_c.specs.Answers.{Told, number_in, IsLent, CameOfLoan, CameOfLease, is_serial, IsGathered}
 
 -- ---- where a lease stands
 
@@ -74,6 +76,22 @@ set_back leases at other lease is =
 
 environment_is : (v : DataEnvironment) (w : World) (leases : List Leased) → v.world ≡ w → v.leases ≡ leases → v ≡ record { world = w; leases = leases }
 environment_is v w leases a b i = record { world = a i; leases = b i }
+
+-- ---- a block that is lent
+
+module _ (e v : DataEnvironment) (region : ℕ) (s : Section) (T : Told) where
+  abbrev asked : Call Leased
+  asked = Lend region s
+
+  came : (r : Result Verdict Fault) (reply : Reply) → MatchResult r (λ verdict. IsCarriedOut e.world asked verdict reply v.world) (λ fault. ⊥) → HasLease reply → v.leases ≡ e.leases ++ lent_by reply → T (Ok (number_in reply)) → CameOfLoan e asked r T v
+  came (Err fault) reply h lease leases t = absurd h
+  came (Ok Idle) reply h lease leases t = subst HasLease h.0 lease
+  came (Ok (Makes event)) reply h lease leases t =
+      (subst (λ (x : Reply). T (Ok (number_in x))) h.0 t, environment_is v _ _ h.1 (leases ∙ ap (λ (x : Reply). e.leases ++ lent_by x) h.0))
+
+  -- it is lent, and its lease is the last one
+  pub done_lent : (reply : Reply) → IsDone e.world asked reply v.world → v.leases ≡ e.leases ++ lent_by reply → T (Ok (number_in reply)) → IsLent e region s T v
+  done_lent reply h leases t = inr (came (judge e.world asked) reply h (done_replied e.world asked reply v.world h) leases t)
 
 -- ---- a lease that is brought back
 

@@ -1,12 +1,13 @@
 -- How the items of an array are read one after the other.
-use Rattle.std.proofs.Common.{ℕ, ◌≡◌, ◌+◌, ◌<◌, ◌≤◌, refl, sym, ◌∙◌, ap, subst, arith, append_assoc, List, [], ◌∷◌, ◌++◌, length, drop, Option, Some, None, Result, Ok, Err}
+use Rattle.std.proofs.Common.{ℕ, ◌≡◌, ◌+◌, ◌<◌, ◌≤◌, refl, sym, ◌∙◌, ap, subst, append_assoc, List, [], ◌∷◌, ◌++◌, length, drop, Option, Some, None, Result, Ok, Err, inl, inr}
 use Rattle.std.proofs.lemmas.List.{drop_more, drop_all, append-nil}
 use Rattle.std.proofs.Math.ListN.{get_or}
+use Rattle.acc_base.specs.declared.faults.Fault.TheVariants.{Memory}
 use Rattle.acc_base.specs.declared.items.Item.{Item}
 use Rattle.lamwiest_c.specs.declared.items.RawItem.{RawItem}
 use Rattle.lamwiest_c.specs.declared.statuses.Refusal.{Refusal}
-use Rattle.lamwiest_c.specs.declared.statuses.Refusal.TheVariants.{BadClause}
-use Rattle.lamwiest_c.specs.Clauses.{item_of, item_then, items_from}
+use Rattle.lamwiest_c.specs.declared.statuses.Refusal.TheVariants.{BadClause, OfTable}
+use Rattle.lamwiest_c.specs.Clauses.{item_of, item_then, items_from, IsRead}
 
 -- the items read so far, before what comes of the others
 abbrev pub read_then : {C : Type 0} → List (Item C) → Result (List (Item C)) Refusal → Result (List (Item C)) Refusal
@@ -37,6 +38,23 @@ module _ {C : Type 0} (f : ℕ → Option C) (place i : ℕ) (items : List RawIt
   pub turns_over : length items ≤ i → read_then done (items_from f place (drop i items)) ≡ whole → Ok done ≡ whole
   turns_over past so_far =
       ap Ok (sym (append-nil done)) ∙ (ap (λ rest. read_then done (items_from f place rest)) (sym (drop_all i items past)) ∙ so_far)
+
+-- what all items come to, where the list of the first ones is not kept
+pub record IsReadSoFar {C : Type 0} (rest whole : Result (List (Item C)) Refusal) : Type 0 where
+  pub done : List (Item C)
+  pub before : read_then done rest ≡ whole
+
+-- the refusal of an item is what all come to
+pub refused_so : {C : Type 0} (r : Result (List (Item C)) Refusal) (refusal : Refusal) → Err refusal ≡ r → IsRead r (Err refusal)
+refused_so r refusal is = subst (λ x. IsRead x (Err refusal)) is refl
+
+-- where none is refused, memory may be wanted
+pub wanted_so : {C : Type 0} (r : Result (List (Item C)) Refusal) (items : List (Item C)) → Ok items ≡ r → IsRead r (Err (OfTable Memory))
+wanted_so r items is = subst (λ x. IsRead x (Err (OfTable Memory))) is (inr refl)
+
+-- the items are answered, where all were read
+pub all_read : {C : Type 0} (r : Result (List (Item C)) Refusal) (items : List (Item C)) → Ok items ≡ r → IsRead r (Ok items)
+all_read r items is = subst (λ x. IsRead x (Ok items)) is (inl refl)
 
 -- before anything is read
 pub read_nothing : {C : Type 0} (r : Result (List (Item C)) Refusal) → read_then [] r ≡ r

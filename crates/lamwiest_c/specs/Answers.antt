@@ -49,9 +49,9 @@ IsMade w call T v = CameOf w call (judge w call) T v
 abbrev pub IsMadeIn : DataEnvironment → Call Leased → Told → DataEnvironment → Type 0
 IsMadeIn e call T v = IsMade e.world call T v.world × (v.leases ≡ e.leases)
 
--- what was asked is made, or was read wrong; memory may be wanted before it is asked
+-- what was asked is made, or was read wrong; where it was read right, memory may be wanted before it is asked
 abbrev pub IsAsked : DataEnvironment → Result (Call Leased) Refusal → Told → DataEnvironment → Type 0
-IsAsked e (Err refusal) T v = (T (Err refusal) ⊎ T (Err (OfTable Memory))) × (v ≡ e)
+IsAsked e (Err refusal) T v = T (Err refusal) × (v ≡ e)
 IsAsked e (Ok call) T v = (T (Err (OfTable Memory)) × (v ≡ e)) ⊎ IsMadeIn e call T v
 
 -- the same of a directive
@@ -70,7 +70,7 @@ IsRebased e T v =
 -- the block is lent, and its lease is the last one; memory may be wanted before all else
 abbrev pub CameOfLoan : DataEnvironment → Call Leased → Result Verdict Fault → Told → DataEnvironment → Type 0
 CameOfLoan e call (Err fault) T v = T (Err (OfTable fault)) × (v ≡ e)
-CameOfLoan e call (Ok Idle) T v = T (Ok (number_in replies.Idle)) × (v ≡ e)
+CameOfLoan e call (Ok Idle) T v = ⊥
 CameOfLoan e call (Ok (Makes event)) T v =
     T (Ok (number_in (reply_of event e.world.state)))
     × (v ≡ record { world = world_after call event e.world; leases = e.leases ++ lent_by (reply_of event e.world.state) })

@@ -1,5 +1,5 @@
 -- How a table begins.
-use Rattle.std.specs.Prelude.{ℕ, ◌≡◌, ◌⊎◌, false, [], Option, Some, Result, Ok, Err}
+use Rattle.std.specs.Prelude.{◌≡◌, ◌⊎◌, false, [], Option, Some, Result, Ok, Err}
 use Rattle.acc_base.specs.declared.faults.Fault.TheVariants.{Memory, BadConfig}
 use Rattle.acc_base.specs.Limits.{Limits, limits_of, IsWithinBounds}
 use Rattle.acc_base.specs.Calls.{new_world}

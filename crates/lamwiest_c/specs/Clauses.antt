@@ -1,5 +1,6 @@
 -- What the numbers in the arrays of C stand for.
-use Rattle.std.specs.Prelude.{ℕ, ◌+◌, Bool, false, true, ◌==◌, if◌then◌else◌, List, [], ◌∷◌, Option, Some, None, Result, Ok, Err}
+use Rattle.std.specs.Prelude.{ℕ, ◌≡◌, ◌⊎◌, ◌+◌, Bool, false, true, ◌==◌, if◌then◌else◌, List, [], ◌∷◌, Option, Some, None, Result, Ok, Err}
+use Rattle.acc_base.specs.declared.faults.Fault.TheVariants.{Memory}
 use Rattle.acc_base.specs.declared.items.EnterClause.{EnterClause}
 use Rattle.acc_base.specs.declared.items.ExitClause.{ExitClause}
 use Rattle.acc_base.specs.declared.items.RegionClause.{RegionClause}
@@ -12,9 +13,9 @@ use Rattle.acc_base.specs.declared.items.RegionClause.TheVariants as regions
 use Rattle.acc_base.specs.declared.items.UpdateClause.TheVariants as updates
 use Rattle.acc_base.specs.declared.directives.Directive.TheVariants.{Enter, EnterData, ExitData, Update}
 use Rattle.lamwiest_c.specs.declared.items.RawItem.{RawItem}
-use Rattle.lamwiest_c.specs.declared.items.TheConstants.{COPY, COPYIN, COPYOUT, COPYOUT_ZERO, CREATE, CREATE_ZERO, NO_CREATE, PRESENT, ATTACH, DELETE, DETACH, SELF, DEVICE, NO_QUEUE}
+use Rattle.lamwiest_c.specs.declared.items.TheConstants.{COPY, COPYIN, COPYOUT, COPYOUT_ZERO, CREATE, CREATE_ZERO, NO_CREATE, PRESENT, ATTACH, DELETE, DETACH, SELF, DEVICE, NO_QUEUE_GIVEN}
 use Rattle.lamwiest_c.specs.declared.statuses.Refusal.{Refusal}
-use Rattle.lamwiest_c.specs.declared.statuses.Refusal.TheVariants.{BadClause}
+use Rattle.lamwiest_c.specs.declared.statuses.Refusal.TheVariants.{BadClause, OfTable}
 
 -- ---- the clauses of each directive by number
 
@@ -56,7 +57,7 @@ pointer_of pointer = if pointer == 0 then None else Some pointer
 
 -- the queue of a directive; the last number stands for none
 abbrev pub queue_of : ℕ → Option ℕ
-queue_of queue = if queue == NO_QUEUE then None else Some queue
+queue_of queue = if queue == NO_QUEUE_GIVEN then None else Some queue
 
 -- an item under its clause
 abbrev pub item_of : {C : Type 0} → C → RawItem → Item C
@@ -73,21 +74,26 @@ abbrev pub items_from : {C : Type 0} → (ℕ → Option C) → ℕ → List Raw
 items_from numbered place [] = Ok []
 items_from numbered place (item ∷ items) = item_then (numbered item.clause) place item (items_from numbered (place + 1) items)
 
+-- they were read so; where none is refused, memory may be wanted for their list
+abbrev pub IsRead : {C : Type 0} → Result (List (Item C)) Refusal → Result (List (Item C)) Refusal → Type 0
+IsRead (Err refusal) result = result ≡ Err refusal
+IsRead (Ok items) result = (result ≡ Ok items) ⊎ (result ≡ Err (OfTable Memory))
+
 -- ---- the directives of arrays
 
--- what is asked with the items, where they were read
-abbrev pub asked_with : {A B : Type 0} → (A → B) → Result A Refusal → Result B Refusal
-asked_with f (Ok items) = Ok (f items)
-asked_with f (Err refusal) = Err refusal
+-- a directive with its items, where these were read
+abbrev pub directive_with : {A B : Type 0} → (A → B) → Result A Refusal → Result B Refusal
+directive_with f (Ok items) = Ok (f items)
+directive_with f (Err refusal) = Err refusal
 
 abbrev pub enter_of : List RawItem → Result Directive Refusal
-enter_of items = asked_with Enter (items_from region_clause 0 items)
+enter_of items = directive_with Enter (items_from region_clause 0 items)
 
 abbrev pub enter_data_of : List RawItem → ℕ → Result Directive Refusal
-enter_data_of items queue = asked_with (λ read. EnterData read (queue_of queue)) (items_from enter_clause 0 items)
+enter_data_of items queue = directive_with (λ read. EnterData read (queue_of queue)) (items_from enter_clause 0 items)
 
 abbrev pub exit_data_of : List RawItem → Bool → ℕ → Result Directive Refusal
-exit_data_of items finalize queue = asked_with (λ read. ExitData read finalize (queue_of queue)) (items_from exit_clause 0 items)
+exit_data_of items finalize queue = directive_with (λ read. ExitData read finalize (queue_of queue)) (items_from exit_clause 0 items)
 
 abbrev pub update_of : List RawItem → Bool → ℕ → Result Directive Refusal
-update_of items if_present queue = asked_with (λ read. Update read if_present (queue_of queue)) (items_from update_clause 0 items)
+update_of items if_present queue = directive_with (λ read. Update read if_present (queue_of queue)) (items_from update_clause 0 items)

@@ -17,14 +17,14 @@ IsCopied (Some bytes) refusal old new T = T (Ok (length bytes)) × (new ≡ byte
 -- ---- queries, which answer a status alone
 
 -- what was found stands in its place, or nothing was, and what stood there stays
-abbrev pub IsFound : {A : Type 0} → Option A → ℕ → A → A → Type 0
-IsFound None status old new = (status ≡ ABSENT) × (new ≡ old)
-IsFound (Some x) status old new = (status ≡ 0) × (new ≡ x)
+abbrev pub IsFoundOrAbsent : {A : Type 0} → Option A → ℕ → A → A → Type 0
+IsFoundOrAbsent None status old new = (status ≡ ABSENT) × (new ≡ old)
+IsFoundOrAbsent (Some x) status old new = (status ≡ 0) × (new ≡ x)
 
 -- the handle stays as it is; what was asked of it is found, or the handle has nothing
 abbrev pub IsAskedOf : {A : Type 0} → Option DataEnvironment → Option DataEnvironment → (DataEnvironment → Option A) → ℕ → A → A → Type 0
 IsAskedOf {A} handle same ask status old new =
-    (same ≡ handle) × MatchOption handle ((status ≡ ENDED) × (new ≡ old)) (λ e. IsFound (ask e) status old new)
+    (same ≡ handle) × MatchOption handle ((status ≡ ENDED) × (new ≡ old)) (λ e. IsFoundOrAbsent (ask e) status old new)
 
 -- a truth as a number
 abbrev pub number_of_bool : Bool → ℕ

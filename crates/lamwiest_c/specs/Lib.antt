@@ -6,3 +6,4 @@ pub mod Answers
 pub mod Leases
 pub mod Finds
 pub mod Begins
+pub mod Shows

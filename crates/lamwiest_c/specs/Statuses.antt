@@ -91,9 +91,9 @@ abbrev pub refusal_in : FaultFields → Option Refusal
 refusal_in fields = refusal_with fields.status fields.item fields.value
 
 -- the call answered this status and these fields
-abbrev pub IsTold : ℕ → FaultFields → Result ℕ Refusal → Type 0
-IsTold status fields made = (status ≡ status_in made) × (fields ≡ fields_in made)
+abbrev pub IsAnswered : ℕ → FaultFields → Result ℕ Refusal → Type 0
+IsAnswered status fields made = (status ≡ status_in made) × (fields ≡ fields_in made)
 
 -- and this number, where another stood in its place before
-abbrev pub IsNumbered : ℕ → FaultFields → ℕ → ℕ → Result ℕ Refusal → Type 0
-IsNumbered status fields old new made = (status ≡ status_in made) × (fields ≡ fields_in made) × (new ≡ number_after made old)
+abbrev pub IsNumberAnswered : ℕ → FaultFields → ℕ → ℕ → Result ℕ Refusal → Type 0
+IsNumberAnswered status fields old new made = (status ≡ status_in made) × (fields ≡ fields_in made) × (new ≡ number_after made old)

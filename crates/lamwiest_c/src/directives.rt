@@ -4,7 +4,7 @@ ghost use Rattle.std.specs.Prelude.{◌≡◌};
 ghost use Rattle.acc_base.specs.declared.calls.Call.TheVariants.{Do};
 ghost use Rattle.acc_base.specs.declared.directives.Directive.TheVariants.{Exit, Wait, Step};
 ghost use Rattle.lamwiest_c.specs.Clauses.{queue_of, enter_of, enter_data_of, exit_data_of, update_of};
-ghost use Rattle.lamwiest_c.specs.Statuses.{IsTold, IsNumbered};
+ghost use Rattle.lamwiest_c.specs.Statuses.{IsAnswered, IsNumberAnswered};
 ghost use Rattle.lamwiest_c.specs.Answers.{IsMadeIn, IsDirected, IsOf};
 
 use crate::handles::{Handle, put_back, take_out};
@@ -23,8 +23,8 @@ pub extern "C" fn lw_enter(
     region: &mut u64,
     fault: &mut FaultFields,
 ) -> u32
-    ensures { IsOf table.old.value table.new.value (IsNumbered result fault.new region.old region.new)
-        (λ e v. IsDirected e (enter_of items.now) (IsNumbered result fault.new region.old region.new) v) }
+    ensures { IsOf table.old.value table.new.value (IsNumberAnswered result fault.new region.old region.new)
+        (λ e v. IsDirected e (enter_of items.now) (IsNumberAnswered result fault.new region.old region.new) v) }
 {
     let Some(mut environment) = take_out(alloc, table) else {
         return tell_number(Err(Refusal::Ended), region, fault);
@@ -42,8 +42,8 @@ pub extern "C" fn lw_exit(
     region: u64,
     fault: &mut FaultFields,
 ) -> u32
-    ensures { IsOf table.old.value table.new.value (IsTold result fault.new)
-        (λ e v. IsMadeIn e (Do (Exit region)) (IsTold result fault.new) v) }
+    ensures { IsOf table.old.value table.new.value (IsAnswered result fault.new)
+        (λ e v. IsMadeIn e (Do (Exit region)) (IsAnswered result fault.new) v) }
 {
     let Some(mut environment) = take_out(alloc, table) else {
         return tell(Err(Refusal::Ended), fault);
@@ -54,7 +54,7 @@ pub extern "C" fn lw_exit(
 }
 
 /// The `enter data` directive (OpenACC 3.3, section 2.6.6), with its copies put into a queue, or made at once where the
-/// queue is `NO_QUEUE` (section 2.16).
+/// queue is `NO_QUEUE_GIVEN` (section 2.16).
 #[unsafe(no_mangle)]
 pub extern "C" fn lw_enter_data(
     alloc: Global,
@@ -63,8 +63,8 @@ pub extern "C" fn lw_enter_data(
     queue: u64,
     fault: &mut FaultFields,
 ) -> u32
-    ensures { IsOf table.old.value table.new.value (IsTold result fault.new)
-        (λ e v. IsDirected e (enter_data_of items.now queue) (IsTold result fault.new) v) }
+    ensures { IsOf table.old.value table.new.value (IsAnswered result fault.new)
+        (λ e v. IsDirected e (enter_data_of items.now queue) (IsAnswered result fault.new) v) }
 {
     let Some(mut environment) = take_out(alloc, table) else {
         return tell(Err(Refusal::Ended), fault);
@@ -85,8 +85,8 @@ pub extern "C" fn lw_exit_data(
     queue: u64,
     fault: &mut FaultFields,
 ) -> u32
-    ensures { IsOf table.old.value table.new.value (IsTold result fault.new)
-        (λ e v. IsDirected e (exit_data_of items.now finalize queue) (IsTold result fault.new) v) }
+    ensures { IsOf table.old.value table.new.value (IsAnswered result fault.new)
+        (λ e v. IsDirected e (exit_data_of items.now finalize queue) (IsAnswered result fault.new) v) }
 {
     let Some(mut environment) = take_out(alloc, table) else {
         return tell(Err(Refusal::Ended), fault);
@@ -107,8 +107,8 @@ pub extern "C" fn lw_update(
     queue: u64,
     fault: &mut FaultFields,
 ) -> u32
-    ensures { IsOf table.old.value table.new.value (IsTold result fault.new)
-        (λ e v. IsDirected e (update_of items.now if_present queue) (IsTold result fault.new) v) }
+    ensures { IsOf table.old.value table.new.value (IsAnswered result fault.new)
+        (λ e v. IsDirected e (update_of items.now if_present queue) (IsAnswered result fault.new) v) }
 {
     let Some(mut environment) = take_out(alloc, table) else {
         return tell(Err(Refusal::Ended), fault);
@@ -119,7 +119,7 @@ pub extern "C" fn lw_update(
 }
 
 /// The `wait` directive (OpenACC 3.3, the wait directive): makes all transfers of a queue, or of all queues where the
-/// queue is `NO_QUEUE`. Where it is done, `count` is how many they were.
+/// queue is `NO_QUEUE_GIVEN`. Where it is done, `count` is how many they were.
 #[unsafe(no_mangle)]
 pub extern "C" fn lw_wait(
     alloc: Global,
@@ -128,8 +128,8 @@ pub extern "C" fn lw_wait(
     count: &mut u64,
     fault: &mut FaultFields,
 ) -> u32
-    ensures { IsOf table.old.value table.new.value (IsNumbered result fault.new count.old count.new)
-        (λ e v. IsMadeIn e (Do (Wait (queue_of queue))) (IsNumbered result fault.new count.old count.new) v) }
+    ensures { IsOf table.old.value table.new.value (IsNumberAnswered result fault.new count.old count.new)
+        (λ e v. IsMadeIn e (Do (Wait (queue_of queue))) (IsNumberAnswered result fault.new count.old count.new) v) }
 {
     let Some(mut environment) = take_out(alloc, table) else {
         return tell_number(Err(Refusal::Ended), count, fault);
@@ -150,8 +150,8 @@ pub extern "C" fn lw_step(
     count: &mut u64,
     fault: &mut FaultFields,
 ) -> u32
-    ensures { IsOf table.old.value table.new.value (IsNumbered result fault.new count.old count.new)
-        (λ e v. IsMadeIn e (Do (Step queue)) (IsNumbered result fault.new count.old count.new) v) }
+    ensures { IsOf table.old.value table.new.value (IsNumberAnswered result fault.new count.old count.new)
+        (λ e v. IsMadeIn e (Do (Step queue)) (IsNumberAnswered result fault.new count.old count.new) v) }
 {
     let Some(mut environment) = take_out(alloc, table) else {
         return tell_number(Err(Refusal::Ended), count, fault);

@@ -1,12 +1,10 @@
 //! Items as C writes them, and the clauses by their numbers.
 
-ghost use Rattle.std.specs.Prelude.{◌≡◌, ◌⊎◌, ℕ, Option, Err};
-ghost use Rattle.acc_base.specs.declared.faults.Fault.TheVariants.{Memory};
-ghost use Rattle.lamwiest_c.specs.declared.statuses.Refusal.TheVariants.{OfTable};
-ghost use Rattle.lamwiest_c.specs.Clauses.{pointer_of, queue_of, region_clause, enter_clause, exit_clause, update_clause, item_of, items_from};
+ghost use Rattle.std.specs.Prelude.{◌≡◌, ℕ, Option, Err};
+ghost use Rattle.lamwiest_c.specs.Clauses.{pointer_of, queue_of, region_clause, enter_clause, exit_clause, update_clause, item_of, items_from, IsRead};
 
 use crate::statuses::Refusal;
-use acc_base::{EnterClause, ExitClause, Item, List, RegionClause, Section, UpdateClause};
+use acc_base::{EnterClause, ExitClause, Fault, Item, List, RegionClause, Section, UpdateClause};
 use std::alloc::Global;
 
 /// The `copy` clause, of a data region.
@@ -49,7 +47,7 @@ pub const SELF: u32 = 12;
 pub const DEVICE: u32 = 13;
 
 /// The number that stands for no queue.
-pub const NO_QUEUE: u64 = 18_446_744_073_709_551_615;
+pub const NO_QUEUE_GIVEN: u64 = 18_446_744_073_709_551_615;
 
 /// One item of a data clause, as C writes it.
 #[repr(C)]
@@ -72,11 +70,15 @@ fn pointer_of(pointer: u64) -> Option<u64>
     if pointer == 0 { None } else { Some(pointer) }
 }
 
-/// The queue of a directive, where it is not [`NO_QUEUE`].
+/// The queue of a directive, where it is not [`NO_QUEUE_GIVEN`].
 pub fn queue_of(queue: u64) -> Option<u64>
     ensures { result ≡ queue_of queue }
 {
-    if queue == NO_QUEUE { None } else { Some(queue) }
+    if queue == NO_QUEUE_GIVEN {
+        None
+    } else {
+        Some(queue)
+    }
 }
 
 /// The clauses of a directive, by the numbers that C gives them.
@@ -161,16 +163,33 @@ fn item_of<C: Clause>(clause: C, item: RawItem) -> Item<C>
     }
 }
 
+/// Why a directive is refused where there is no memory for the list of its items: the first clause number that is none of
+/// the directive's is told before that.
+fn refusal_without_memory<C: Clause>(items: &[RawItem]) -> Refusal
+    ensures { IsRead (items_from C.numbered 0 items.now) (Err result) }
+{
+    let mut place = 0u64;
+    for item in items {
+        let Some(_) = C::from_number(item.clause) else {
+            return Refusal::BadClause { item: place };
+        };
+        place += 1;
+    }
+    Refusal::OfTable(Fault::Memory)
+}
+
 /// The items of a directive.
 ///
 /// # Errors
 ///
-/// [`Refusal::BadClause`] at the first item whose clause number is none of the directive's; `Memory` where there is none
-/// for the list.
+/// [`Refusal::BadClause`] at the first item whose clause number is none of the directive's; else `Memory` where there is
+/// none for the list.
 pub fn items_of<C: Clause>(alloc: Global, items: &[RawItem]) -> Result<List<Item<C>>, Refusal>
-    ensures { (result ≡ items_from C.numbered 0 items.now) ⊎ (result ≡ Err (OfTable Memory)) }
+    ensures { IsRead (items_from C.numbered 0 items.now) result }
 {
-    let mut read = Vec::with_capacity(alloc, items.len())?;
+    let Ok(mut read) = Vec::with_capacity(alloc, items.len()) else {
+        return Err(refusal_without_memory::<C>(items));
+    };
     let mut place = 0u64;
     for item in items {
         let Some(clause) = C::from_number(item.clause) else {

@@ -18,3 +18,4 @@ mod parts;
 mod queries;
 mod statuses;
 mod tables;
+mod texts;

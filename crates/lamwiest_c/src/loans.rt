@@ -3,7 +3,7 @@
 ghost use Rattle.std.specs.Prelude.{◌≡◌, ◌+◌, ◌<◌, ◌≤◌, ◌++◌, slice_index_or, slice_set, vec_len, vec_capacity};
 ghost use Rattle.std.specs.List.{position};
 ghost use Rattle.acc_table.specs.Turns.{lent_by};
-ghost use Rattle.lamwiest_c.specs.Statuses.{IsTold, IsNumbered};
+ghost use Rattle.lamwiest_c.specs.Statuses.{IsAnswered, IsNumberAnswered};
 ghost use Rattle.lamwiest_c.specs.Answers.{number_in, is_serial, lease_of_nothing, lease_in, section_at, IsLent, IsGathered, IsOf};
 ghost use Rattle.lamwiest_c.specs.Leases.{IsLeaseRead, IsLeaseWritten};
 
@@ -144,8 +144,8 @@ pub extern "C" fn lw_lend(
     lease: &mut u64,
     fault: &mut FaultFields,
 ) -> u32
-    ensures { IsOf table.old.value table.new.value (IsNumbered result fault.new lease.old lease.new)
-        (λ e v. IsLent e region (section_at start len) (IsNumbered result fault.new lease.old lease.new) v) }
+    ensures { IsOf table.old.value table.new.value (IsNumberAnswered result fault.new lease.old lease.new)
+        (λ e v. IsLent e region (section_at start len) (IsNumberAnswered result fault.new lease.old lease.new) v) }
 {
     let Some(mut environment) = take_out(alloc, table) else {
         return tell_number(Err(Refusal::Ended), lease, fault);
@@ -164,8 +164,8 @@ pub extern "C" fn lw_gather(
     lease: u64,
     fault: &mut FaultFields,
 ) -> u32
-    ensures { IsOf table.old.value table.new.value (IsTold result fault.new)
-        (λ e v. IsGathered e lease (IsTold result fault.new) v) }
+    ensures { IsOf table.old.value table.new.value (IsAnswered result fault.new)
+        (λ e v. IsGathered e lease (IsAnswered result fault.new) v) }
 {
     let Some(mut environment) = take_out(alloc, table) else {
         return tell(Err(Refusal::Ended), fault);
@@ -184,8 +184,8 @@ pub extern "C" fn lw_lease_read(
     bytes: &mut [u8],
     fault: &mut FaultFields,
 ) -> u32
-    ensures { IsOf table.old.value table.new.value (IsTold result fault.new)
-        (λ e v. IsLeaseRead e lease bytes.old bytes.new (IsTold result fault.new) × (v ≡ e)) }
+    ensures { IsOf table.old.value table.new.value (IsAnswered result fault.new)
+        (λ e v. IsLeaseRead e lease bytes.old bytes.new (IsAnswered result fault.new) × (v ≡ e)) }
 {
     let Some(environment) = take_out(alloc, table) else {
         return tell(Err(Refusal::Ended), fault);
@@ -204,8 +204,8 @@ pub extern "C" fn lw_lease_write(
     bytes: &[u8],
     fault: &mut FaultFields,
 ) -> u32
-    ensures { IsOf table.old.value table.new.value (IsTold result fault.new)
-        (λ e v. IsLeaseWritten e lease bytes.now (IsTold result fault.new) v) }
+    ensures { IsOf table.old.value table.new.value (IsAnswered result fault.new)
+        (λ e v. IsLeaseWritten e lease bytes.now (IsAnswered result fault.new) v) }
 {
     let Some(mut environment) = take_out(alloc, table) else {
         return tell(Err(Refusal::Ended), fault);

@@ -5,7 +5,7 @@ ghost use Rattle.acc_base.specs.declared.calls.Call.TheVariants.{HostWrite};
 ghost use Rattle.acc_base.specs.declared.faults.Fault.TheVariants.{OutOfHost};
 ghost use Rattle.acc_table.specs.Queries.{host_read_of, device_read_of};
 ghost use Rattle.lamwiest_c.specs.declared.statuses.Refusal.TheVariants.{Absent, OfTable};
-ghost use Rattle.lamwiest_c.specs.Statuses.{IsTold};
+ghost use Rattle.lamwiest_c.specs.Statuses.{IsAnswered};
 ghost use Rattle.lamwiest_c.specs.Answers.{section_at, IsAsked, IsOf};
 ghost use Rattle.lamwiest_c.specs.Finds.{IsCopied};
 
@@ -56,8 +56,8 @@ pub extern "C" fn lw_host_write(
     bytes: &[u8],
     fault: &mut FaultFields,
 ) -> u32
-    ensures { IsOf table.old.value table.new.value (IsTold result fault.new)
-        (λ e v. IsAsked e (Ok (HostWrite start bytes.now)) (IsTold result fault.new) v) }
+    ensures { IsOf table.old.value table.new.value (IsAnswered result fault.new)
+        (λ e v. IsAsked e (Ok (HostWrite start bytes.now)) (IsAnswered result fault.new) v) }
 {
     let Some(mut environment) = take_out(alloc, table) else {
         return tell(Err(Refusal::Ended), fault);
@@ -77,8 +77,8 @@ pub extern "C" fn lw_host_read(
     bytes: &mut [u8],
     fault: &mut FaultFields,
 ) -> u32
-    ensures { IsOf table.old.value table.new.value (IsTold result fault.new)
-        (λ e v. IsCopied (host_read_of (section_at start (length bytes.old)) e.world.state.host) (OfTable (OutOfHost 0)) bytes.old bytes.new (IsTold result fault.new) × (v ≡ e)) }
+    ensures { IsOf table.old.value table.new.value (IsAnswered result fault.new)
+        (λ e v. IsCopied (host_read_of (section_at start (length bytes.old)) e.world.state.host) (OfTable (OutOfHost 0)) bytes.old bytes.new (IsAnswered result fault.new) × (v ≡ e)) }
 {
     let Some(environment) = take_out(alloc, table) else {
         return tell(Err(Refusal::Ended), fault);
@@ -98,8 +98,8 @@ pub extern "C" fn lw_device_read(
     bytes: &mut [u8],
     fault: &mut FaultFields,
 ) -> u32
-    ensures { IsOf table.old.value table.new.value (IsTold result fault.new)
-        (λ e v. IsCopied (device_read_of (section_at start (length bytes.old)) e.world.state) Absent bytes.old bytes.new (IsTold result fault.new) × (v ≡ e)) }
+    ensures { IsOf table.old.value table.new.value (IsAnswered result fault.new)
+        (λ e v. IsCopied (device_read_of (section_at start (length bytes.old)) e.world.state) Absent bytes.old bytes.new (IsAnswered result fault.new) × (v ≡ e)) }
 {
     let Some(environment) = take_out(alloc, table) else {
         return tell(Err(Refusal::Ended), fault);

@@ -9,7 +9,7 @@ ghost use Rattle.acc_base.specs.Queues.{queue_at};
 ghost use Rattle.acc_base.specs.Ranges.{where_is};
 ghost use Rattle.acc_table.specs.Queries.{is_inside, counters_of_section, mapped_from};
 ghost use Rattle.lamwiest_c.specs.Answers.{section_at};
-ghost use Rattle.lamwiest_c.specs.Finds.{number_of_bool, raw_counters, raw_mapped, IsFound, IsAskedOf};
+ghost use Rattle.lamwiest_c.specs.Finds.{number_of_bool, raw_counters, raw_mapped, IsFoundOrAbsent, IsAskedOf};
 
 use crate::handles::{Handle, put_back, take_out};
 use crate::statuses::{ABSENT, DONE, ENDED};
@@ -78,7 +78,7 @@ fn raw_mapped(mapped: Mapped) -> RawMapped
 
 /// Puts what was found into its place, and answers the status.
 fn found<T: Copy + Drop>(answer: Option<T>, place: &mut T) -> u32
-    ensures { IsFound answer result place.old place.new }
+    ensures { IsFoundOrAbsent answer result place.old place.new }
 {
     match answer {
         Some(told) => {

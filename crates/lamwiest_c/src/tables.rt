@@ -1,7 +1,7 @@
 //! How a table begins and ends.
 
 ghost use Rattle.std.specs.Prelude.{◌≡◌, None, Ok, MatchResult};
-ghost use Rattle.lamwiest_c.specs.Statuses.{IsTold, IsNumbered};
+ghost use Rattle.lamwiest_c.specs.Statuses.{IsAnswered, IsNumberAnswered};
 ghost use Rattle.lamwiest_c.specs.Answers.{IsRebased, IsOf};
 ghost use Rattle.lamwiest_c.specs.Begins.{default_limits, IsConfig, IsNotBegun, IsBegunAs, IsBegun};
 
@@ -93,7 +93,7 @@ pub extern "C" fn lw_table_new(
     limits: &RawLimits,
     fault: &mut FaultFields,
 ) -> u32
-    ensures { IsBegun limits.now table.old.value table.new.value (IsTold result fault.new) }
+    ensures { IsBegun limits.now table.old.value table.new.value (IsAnswered result fault.new) }
 {
     match begin(alloc, limits) {
         Ok(environment) => {
@@ -121,8 +121,8 @@ pub extern "C" fn lw_rebase(
     folded: &mut u64,
     fault: &mut FaultFields,
 ) -> u32
-    ensures { IsOf table.old.value table.new.value (IsNumbered result fault.new folded.old folded.new)
-        (λ e v. IsRebased e (IsNumbered result fault.new folded.old folded.new) v) }
+    ensures { IsOf table.old.value table.new.value (IsNumberAnswered result fault.new folded.old folded.new)
+        (λ e v. IsRebased e (IsNumberAnswered result fault.new folded.old folded.new) v) }
 {
     let Some(mut environment) = take_out(alloc, table) else {
         return tell_number(Err(Refusal::Ended), folded, fault);

@@ -1,4 +1,4 @@
-use Rattle.std.proofs.Common.{◌≡◌, ◌∙◌, ℕ, refl, sym, ap, subst, List, length, None, Some, Ok, Err}
+use Rattle.std.proofs.Common.{◌≡◌, ◌∙◌, refl, sym, ap, subst, None, Some, Ok, Err}
 use Rattle.std.specs.Prelude.{slice_set}
 use Rattle.std.specs.List.{position}
 use Rattle.acc_base.specs.declared.faults.Fault.TheVariants.{NoLease}

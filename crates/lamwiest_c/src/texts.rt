@@ -1,0 +1,107 @@
+//! Texts: the report of a table, and what a refusal says.
+
+ghost use Rattle.std.specs.Prelude.{◌≡◌};
+ghost use Rattle.acc_script.specs.Texts.{report_text};
+ghost use Rattle.lamwiest_c.specs.Statuses.{IsNumberAnswered, refusal_in};
+ghost use Rattle.lamwiest_c.specs.Answers.{IsOf};
+ghost use Rattle.lamwiest_c.specs.Shows.{IsPut, IsShown, IsShownIfAny, text_of};
+
+use crate::environments::Environment;
+use crate::handles::{Handle, put_back, take_out};
+use crate::statuses::{FaultFields, Refusal, tell_number};
+use acc_base::Fault;
+use acc_script::{MemorySink, report};
+use std::alloc::Global;
+use std::fmt;
+
+impl fmt::Display for Refusal {
+    ghost use Rattle.std.specs.Prelude.{Some};
+    ghost use Rattle.lamwiest_c.specs.Shows.{text_of};
+
+    ghost output = { λ refusal. Some (text_of refusal) };
+
+    fn fmt<W: fmt::Write>(&self, f: &mut fmt::Formatter<W>) -> fmt::Result {
+        match self {
+            Refusal::Ended => f.write_str("32 Ended"),
+            Refusal::BadClause { item } => write!(f, "33 BadClause item {item}"),
+            Refusal::BadLength { len } => write!(f, "34 BadLength len {len}"),
+            Refusal::Absent => f.write_str("35 Absent"),
+            Refusal::OfTable(fault) => write!(f, "{fault}"),
+        }
+    }
+}
+
+/// Puts a text at the front of a buffer that is long enough for it, and answers its length in bytes.
+///
+/// # Errors
+///
+/// [`Refusal::BadLength`] with that length where the buffer is shorter, and nothing is written.
+fn put(text: &[u8], buffer: &mut [u8]) -> Result<u64, Refusal>
+    ensures { IsPut text.now buffer.old buffer.new (λ r. result ≡ r) }
+{
+    let len = text.len();
+    if len > buffer.len() {
+        return Err(Refusal::BadLength { len: len as u64 });
+    }
+    buffer[..len].copy_from_slice(text);
+    Ok(len as u64)
+}
+
+/// Puts the report of a table at the front of a buffer.
+fn show_report(alloc: Global, environment: &Environment, buffer: &mut [u8]) -> Result<u64, Refusal>
+    ensures { IsShown (report_text environment.now.world) buffer.old buffer.new (λ r. result ≡ r) }
+{
+    let mut sink = MemorySink::new(alloc);
+    match report(&environment.table, &mut sink) {
+        Ok(()) => put(sink.as_slice(), buffer),
+        Err(_) => Err(Refusal::OfTable(Fault::Memory)),
+    }
+}
+
+/// Puts what a refusal says at the front of a buffer.
+fn show_refusal(alloc: Global, refusal: Refusal, buffer: &mut [u8]) -> Result<u64, Refusal>
+    ensures { IsShown (text_of refusal) buffer.old buffer.new (λ r. result ≡ r) }
+{
+    let text = format!(in alloc; "{refusal}")?;
+    put(text.as_bytes(), buffer)
+}
+
+/// Puts the report of a table at the front of a buffer, the text that `accrun` prints. Where it is done, `len` is the
+/// length of the text, and the buffer's other bytes stay; where the buffer is too short, the fault's value is that length.
+#[unsafe(no_mangle)]
+pub extern "C" fn lw_report(
+    alloc: Global,
+    table: &mut Handle,
+    buffer: &mut [u8],
+    len: &mut u64,
+    fault: &mut FaultFields,
+) -> u32
+    ensures { IsOf table.old.value table.new.value (IsNumberAnswered result fault.new len.old len.new)
+        (λ e v. IsShown (report_text e.world) buffer.old buffer.new (IsNumberAnswered result fault.new len.old len.new) × (v ≡ e)) }
+{
+    let Some(environment) = take_out(alloc, table) else {
+        return tell_number(Err(Refusal::Ended), len, fault);
+    };
+    let made = show_report(alloc, &environment, buffer);
+    put_back(table, environment);
+    tell_number(made, len, fault)
+}
+
+/// Puts what a refusal says at the front of a buffer: its status, its name, and each number that it has with the name of
+/// that. Where it is done, `len` is the length of the text. It is `ABSENT` where no refusal has the status.
+#[unsafe(no_mangle)]
+pub extern "C" fn lw_fault_text(
+    alloc: Global,
+    told: &FaultFields,
+    buffer: &mut [u8],
+    len: &mut u64,
+    fault: &mut FaultFields,
+) -> u32
+    ensures { IsShownIfAny (refusal_in told.now) buffer.old buffer.new (IsNumberAnswered result fault.new len.old len.new) }
+{
+    let made = match told.refusal() {
+        Some(refusal) => show_refusal(alloc, refusal, buffer),
+        None => Err(Refusal::Absent),
+    };
+    tell_number(made, len, fault)
+}

@@ -1,0 +1,158 @@
+/* The lock, the table under it, and the end of a program that is refused. */
+#define _GNU_SOURCE
+#include <dlfcn.h>
+#include <pthread.h>
+#include <stdio.h>
+#include <stdlib.h>
+
+#include "inner.h"
+
+/* The events of the stored trace; when they are so many, they are folded into the table's base. */
+#define TRACE 16384
+
+lw_table lwa_table = LW_NO_TABLE;
+lw_limits lwa_limits;
+
+static pthread_mutex_t lock = PTHREAD_MUTEX_INITIALIZER;
+static uint64_t stored;
+
+/* The call of the program that has the lock. */
+static const char *caller_name;
+static void *caller_from;
+
+/* A size in bytes from the environment. */
+static uint64_t size_of(const char *word, uint64_t otherwise)
+{
+    const char *text = getenv(word);
+
+    return text != NULL ? strtoull(text, NULL, 10) : otherwise;
+}
+
+static void start_table(void)
+{
+    lw_fault fault;
+
+    lw_limits_default(&lwa_limits);
+    lwa_limits.host = size_of("LAMWIEST_HOST", 16777216);
+    lwa_limits.device = size_of("LAMWIEST_DEVICE", 16777216);
+    lwa_limits.regions = 65536;
+    lwa_limits.tickets = UINT64_C(1) << 40;
+    lwa_limits.trace_cap = TRACE;
+    lwa_must(lw_table_new(&lwa_table, &lwa_limits, &fault), &fault);
+    stored = 0;
+    lwa_start_records();
+}
+
+void lwa_take(const char *name, void *from)
+{
+    pthread_mutex_lock(&lock);
+    caller_name = name;
+    caller_from = from;
+    if (!lwa_has_table()) {
+        start_table();
+    }
+}
+
+void lwa_leave(void)
+{
+    pthread_mutex_unlock(&lock);
+}
+
+bool lwa_has_table(void)
+{
+    return lwa_table.at != NULL;
+}
+
+void lwa_end_table(void)
+{
+    lwa_finish_records();
+    lw_table_end(&lwa_table);
+    lwa_forget_objects();
+    lwa_forget_waiting();
+    lwa_forget_pointers();
+    lwa_forget_kernels();
+}
+
+void lwa_room(void)
+{
+    if (stored >= TRACE) {
+        uint64_t folded;
+        lw_fault fault;
+
+        lwa_must(lw_rebase(&lwa_table, &folded, &fault), &fault);
+        stored = 0;
+    }
+    stored++;
+}
+
+/* Where the call stands in the program, as far as the dynamic linker knows. */
+static void print_source(void)
+{
+    Dl_info info;
+
+    if (caller_from == NULL || dladdr(caller_from, &info) == 0 || info.dli_fname == NULL) {
+        fprintf(stderr, "\n");
+    } else if (info.dli_sname != NULL) {
+        fprintf(stderr, ", called from %s in %s\n", info.dli_sname, info.dli_fname);
+    } else {
+        fprintf(stderr, ", called from %s(+0x%tx)\n", info.dli_fname, (char *)caller_from - (char *)info.dli_fbase);
+    }
+}
+
+_Noreturn static void end_program(const char *text)
+{
+    fflush(stdout);
+    fprintf(stderr, "lamwiest: %s: %s", caller_name, text);
+    print_source();
+    lwa_leave();
+    exit(1);
+}
+
+_Noreturn void lwa_refuse(const lw_fault *fault)
+{
+    char text[128];
+
+    lwa_refusal_text(fault, text, sizeof text);
+    end_program(text);
+}
+
+_Noreturn void lwa_unserved(const char *format, ...)
+{
+    char text[256];
+    va_list words;
+
+    va_start(words, format);
+    vsnprintf(text, sizeof text, format, words);
+    va_end(words);
+    end_program(text);
+}
+
+void lwa_must(uint32_t status, const lw_fault *fault)
+{
+    if (status != LW_DONE) {
+        lwa_refuse(fault);
+    }
+}
+
+void *lwa_memory(void *old, size_t size)
+{
+    void *at = realloc(old, size != 0 ? size : 1);
+
+    if (at == NULL) {
+        lwa_unserved("no memory for the library's own lists");
+    }
+    return at;
+}
+
+/* At the end of the program the script and the report are written. Where a kernel ends it, or another thread is in a
+   directive, they are not. */
+__attribute__((destructor)) static void at_end(void)
+{
+    if (pthread_mutex_trylock(&lock) != 0) {
+        return;
+    }
+    if (lwa_has_table()) {
+        lwa_end_table();
+    }
+    pthread_mutex_unlock(&lock);
+}

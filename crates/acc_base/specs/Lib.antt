@@ -30,3 +30,4 @@ pub mod Judge
 pub mod Calls
 pub mod History
 pub mod Accounts
+pub mod Devices

@@ -19,7 +19,7 @@ impl Parts {
         ensures only { IfErr result (λ fault. fault ≡ Memory) }
     {
         if self.config.full() {
-            self.environment.host.copy(alloc)
+            self.host.copy(alloc)
         } else {
             Ok(Vec::new(alloc))
         }

@@ -15,7 +15,7 @@ use Rattle.acc_base.specs.Walk.{walk, walk_all, register_after, holdings_of}
 use Rattle.acc_base.specs.Replay.{bytes_told, replayed}
 use Rattle.acc_base.specs.Calls.{History, World, base_of, state_in, new_history, with_event, event_count, rebased, judge, world_after, new_world, bytes_brought, open_regions}
 use Rattle.acc_base.specs.Judge.{Makes}
-use Rattle.acc_base.specs.History.{NamesRight, entries_in, exits_in, IsLegal, AreLegal}
+use Rattle.acc_base.specs.History.{entries_in, exits_in, IsLegal, AreLegal}
 use Rattle.acc_base.specs.Accounts.{IsRegisterSound, IsTraced, IsFounded, IsHistoryLegal, IsReplayed, IsAccounted}
 use Rattle.acc_base.proofs.Elements.{AllByRecursion-weaker}
 use Rattle.acc_base.proofs.Lookups.{at-own}
@@ -55,24 +55,24 @@ is_numbered : (g : Register) → IsRegisterSound g → IsNumbered g
 is_numbered g h = record { first = h.first; rising = h.rising; known = h.known }
 
 -- each region holds few items
-pub few_after : (l : Limits) (regions : ℕ) (e : Event) (lay : Layout) → NamesRight l e lay → IsRegisterSound lay.register → IsEntryAllowed l.regions regions e → AreFew (register_after e lay.register)
-few_after l regions (Entered number items did) lay names h room = rw names (opened_few (holdings_of items did) lay.register (is_numbered lay.register h) h.few (omega (arith, holdings_short items did, room.0)))
-few_after l regions (Left number did) lay names h room = closed_few number lay.register h.few
-few_after l regions _ lay names h room = h.few
+few_after : (most regions : ℕ) (e : Event) (g : Register) → IsRegisterSound g → IsEntryAllowed most regions e → AreFew (register_after e g)
+few_after most regions (Entered number items did) g h room = opened_few (holdings_of items did) g (is_numbered g h) h.few (omega (arith, holdings_short items did, room.0))
+few_after most regions (Left number did) g h room = closed_few number g h.few
+few_after most regions _ g h room = h.few
 
 -- and there are no more regions than the limit says
-regions_after : (l : Limits) (e : Event) (lay : Layout) → NamesRight l e lay → IsRegisterSound lay.register → IsEntryAllowed l.regions (length lay.register.regions) e → length lay.register.regions ≤ l.regions → length (register_after e lay.register).regions ≤ l.regions
-regions_after l (Entered number items did) lay names h room le = rw names (omega (arith, opened_count (holdings_of items did) lay.register (is_numbered lay.register h), room.1))
-regions_after l (Left number did) lay names h room le = omega (arith, closed_count number lay.register)
-regions_after l _ lay names h room le = le
+regions_after : (most : ℕ) (e : Event) (g : Register) → IsRegisterSound g → IsEntryAllowed most (length g.regions) e → length g.regions ≤ most → length (register_after e g).regions ≤ most
+regions_after most (Entered number items did) g h room le = omega (arith, opened_count (holdings_of items did) g (is_numbered g h), room.1)
+regions_after most (Left number did) g h room le = omega (arith, closed_count number g)
+regions_after most _ g h room le = le
 
 -- the register after an event
-pub register-after : (full : Bool) (e : Event) (brought : List ℕ) (s : State) → (after full e brought s).register ≡ register_after e s.register
+register-after : (full : Bool) (e : Event) (brought : List ℕ) (s : State) → (after full e brought s).register ≡ register_after e s.register
 unfolding after
 register-after full e brought s = refl
 
 -- both counters of each range are those of a history
-pub traced : (l : Limits) (h : History) (lay : Layout) → IsLedTo l h lay → AllByRecursion (IsTraced h) lay.records.ranges
+traced : (l : Limits) (h : History) (lay : Layout) → IsLedTo l h lay → AllByRecursion (IsTraced h) lay.records.ranges
 traced l h lay told = AllByRecursion-weaker (λ r. range_of r.block lay.records.ranges ≡ Some r) (IsTraced h) lay.records.ranges
     (λ r own. record {
       structured = subst (λ n. n + exits_in r.block h ≡ entries_in r.block h) (ap (λ (o : Option Range). unwrap_or (option_map (λ (t : Range). t.structured) o) 0) own) (told.structured r.block);
@@ -115,8 +115,8 @@ accounted_after w call e bounds ok h =
     let history : IsHistoryLegal w.limits longer (layout_of next) = history_after w.limits w.history e (layout_of w.state) (layout_of next) h.history_legal ok.legal (layout-after w.limits.full e (bytes_brought call) w.state) in
     let now : IsLedTo w.limits longer (layout_of next) = legal_told w.limits longer (layout_of next) bounds history in
     let register_is : next.register ≡ register_after e w.state.register = register-after w.limits.full e (bytes_brought call) w.state in
-    let few : AreFew next.register = subst (λ (g : Register). AreFew g) (sym register_is) (few_after w.limits (open_regions w.state) e (layout_of w.state) ok.legal.names h.sound.layout.register ok.room) in
-    let regions : length next.register.regions ≤ w.limits.regions = subst (λ (g : Register). length g.regions ≤ w.limits.regions) (sym register_is) (regions_after w.limits e (layout_of w.state) ok.legal.names h.sound.layout.register ok.room h.books_counted.regions) in
+    let few : AreFew next.register = subst (λ (g : Register). AreFew g) (sym register_is) (few_after w.limits.regions (open_regions w.state) e w.state.register h.sound.layout.register ok.room) in
+    let regions : length next.register.regions ≤ w.limits.regions = subst (λ (g : Register). length g.regions ≤ w.limits.regions) (sym register_is) (regions_after w.limits.regions e w.state.register h.sound.layout.register ok.room h.books_counted.regions) in
     let more : length (w.history.trace ++ e ∷ []) ≡ length w.history.trace + 1 = length-append w.history.trace (e ∷ []) in
     record {
       sound = record {

@@ -34,9 +34,5 @@ pub mod LegalEvents
 pub mod Exits
 pub mod Accepted
 pub mod Accounted
-pub mod Views
-pub mod OnDevices
-pub mod WholeAccounted
-pub mod Isolated
 mod Runs
 mod Examples

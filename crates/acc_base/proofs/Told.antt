@@ -71,7 +71,7 @@ holds (Some holdings) h = refl
 -- how often a block is held after an event
 held_by : (l : Limits) (e : Event) (lay : Layout) (b : ℕ) → IsNumbered lay.register → IsLegal l e lay → AreSaid l (asked_in e lay.register) (done_in e) → IsHeldBy b e lay.register (register_after e lay.register)
 held_by l (Entered number items did) lay b h legal said =
-    let more : held_in b (opened number (holdings_of items did) lay.register).regions ≡ held_in b lay.register.regions + count_held b (holdings_of items did) = rw legal.names (opened_held b (holdings_of items did) lay.register h) in
+    let more : held_in b (opened (holdings_of items did) lay.register).regions ≡ held_in b lay.register.regions + count_held b (holdings_of items did) = opened_held b (holdings_of items did) lay.register h in
     let counted : count_held b (holdings_of items did) ≡ count_counted b did = held-entered l b items did said in
     record { held = omega arith }
 held_by l (Left number did) lay b h legal said =
@@ -83,11 +83,11 @@ held_by l (Left number did) lay b h legal said =
     record { held = omega arith }
 held_by l _ lay b h legal said = record { held = refl }
 
-numbered_by : (l : Limits) (e : Event) (lay : Layout) → NamesRight l e lay → IsNumbered lay.register → IsNumbered (register_after e lay.register)
-numbered_by l (Entered number items did) lay names h = rw names (opened_numbered (holdings_of items did) lay.register h)
-numbered_by l (Left number did) lay names h = closed_numbered number lay.register h
-numbered_by l (Lent region section block serial) lay names h = record { first = h.first; rising = h.rising; known = h.known }
-numbered_by l _ lay names h = h
+numbered_by : (e : Event) (g : Register) → IsNumbered g → IsNumbered (register_after e g)
+numbered_by (Entered number items did) g h = opened_numbered (holdings_of items did) g h
+numbered_by (Left number did) g h = closed_numbered number g h
+numbered_by (Lent region section block serial) g h = record { first = h.first; rising = h.rising; known = h.known }
+numbered_by _ g h = h
 
 -- what holds of a layout, with how often each block was counted and dropped by regions, and its dynamic counter
 pub record IsTold (l : Limits) (lay : Layout) (entries exits dynamics : ℕ → ℕ) : Type 0 where
@@ -110,7 +110,7 @@ walk_told l e lay entries exits dynamics bounds h legal =
     let same : (loaned e made).ranges ≡ (act_all tasks (done_in e) lay.records).ranges = ranges-loaned e made ∙ ranges-drained qs (act_all tasks (done_in e) lay.records) in
     record {
       sound = loaned_sound l e lay legal.names (drained_sound l qs (act_all tasks (done_in e) lay.records) left.sound);
-      numbered = numbered_by l e lay legal.names h.numbered;
+      numbered = numbered_by e lay.register h.numbered;
       held = λ b. ap (structured_of b) same ∙ held_still b (recounted_by l e lay.register lay.records b said left) (held_by l e lay b h.numbered legal said);
       structured = λ b. ap (λ rs. structured_of b rs + (exits b + exits_of b e)) same ∙ counted_still b (recounted_by l e lay.register lay.records b said left) (held_by l e lay b h.numbered legal said);
       dynamic = λ b. ap (dynamic_of b) same ∙ (recounted_by l e lay.register lay.records b said left).dynamic ∙ ap (λ n. dynamic_after b n e) (h.dynamic b);

@@ -17,7 +17,7 @@ use Rattle.acc_base.specs.Tasks.{section_of, recounted}
 use Rattle.acc_base.specs.Steps.{is_in_use, released, records_after_birth, records_after_end, with_range_changed, act_row, with_put, act_step, records_aimed, act, act_all}
 use Rattle.acc_base.specs.Waits.{records_made, records_stepped, records_drained}
 use Rattle.acc_base.specs.Walk.{asked_in, done_in, stepped_in, walk, walk_all, loaned}
-use Rattle.acc_base.specs.Calls.{History}
+use Rattle.acc_base.specs.Calls.{Base, History}
 use Rattle.acc_base.specs.History.{attached_after, IsAimLegal, AreJudged, AreLegal}
 use Rattle.acc_base.specs.Accounts.{AreRecordsSound, AreAttachmentsTraced, IsHistoryLegal}
 use Rattle.acc_base.proofs.Results.{equal}
@@ -57,9 +57,9 @@ count_at-unborn l w block pointer h later = ap (λ o. unwrap_or (option_map (λ 
     go a there false e = e
 
 -- the counters of the blocks that are there are these, and a block that is not born yet has none
-pub record ArePointersTold (pointers : ℕ → ℕ → ℕ) (w : Records) : Type 0 where
-  pub there : (block pointer : ℕ) → IsSome (block_at block w.blocks) → count_at block pointer w.attached ≡ pointers block pointer
-  pub unborn : (block pointer : ℕ) → w.births < block → pointers block pointer ≡ 0
+record ArePointersTold (pointers : ℕ → ℕ → ℕ) (w : Records) : Type 0 where
+  there : (block pointer : ℕ) → IsSome (block_at block w.blocks) → count_at block pointer w.attached ≡ pointers block pointer
+  unborn : (block pointer : ℕ) → w.births < block → pointers block pointer ≡ 0
 
 -- ---- a step leaves the counters of the blocks that are there after it
 
@@ -207,7 +207,7 @@ loaned_told (Lent region section block serial) w pointers h = record { there = h
 loaned_told (Gathered serial block bytes) w pointers h = record { there = h.there; unborn = h.unborn }
 loaned_told _ w pointers h = h
 
-pub pointer_walks_told : (l : Limits) (events : List Event) (lay : Layout) (pointers : ℕ → ℕ → ℕ) → IsWithinBounds l → AreRecordsSound l lay.records → AreLegal l events lay → ArePointersTold pointers lay.records
+pointer_walks_told : (l : Limits) (events : List Event) (lay : Layout) (pointers : ℕ → ℕ → ℕ) → IsWithinBounds l → AreRecordsSound l lay.records → AreLegal l events lay → ArePointersTold pointers lay.records
     → ArePointersTold (λ block pointer. fold (attached_after block pointer) (pointers block pointer) events) (walk_all events lay).records
 unfolding walk_all walk
 pointer_walks_told l [] lay pointers bounds sound legal h = h
@@ -221,16 +221,16 @@ pointer_walks_told l (e ∷ events) lay pointers bounds sound legal h =
     pointer_walks_told l events (walk e lay) (λ block pointer. attached_after block pointer (pointers block pointer) e) bounds (loaned_sound l e lay legal.0.names (drained_sound l qs v left.sound)) legal.1
     (loaned_told e (records_drained qs v) (λ block pointer. attached_after block pointer (pointers block pointer) e) told)
 
--- records are told by their own counters
-pub own_pointers_told : (l : Limits) (w : Records) → AreRecordsSound l w → ArePointersTold (λ block pointer. count_at block pointer w.attached) w
-own_pointers_told l w sound = record {
+-- a base is told by its own counters
+base_pointers_told : (l : Limits) (base : Base) → AreRecordsSound l base.layout.records → ArePointersTold (λ block pointer. count_at block pointer base.layout.records.attached) base.layout.records
+base_pointers_told l base sound = record {
   there = λ block pointer there. refl;
-  unborn = λ block pointer later. count_at-unborn l w block pointer sound later;
+  unborn = λ block pointer later. count_at-unborn l base.layout.records block pointer sound later;
 }
 
 -- a legal history tells the attachment counters of every block that it leads to
 pub attachments_traced : (l : Limits) (h : History) (lay : Layout) → IsWithinBounds l → IsHistoryLegal l h lay → AreAttachmentsTraced h lay.records
 attachments_traced l h lay bounds history =
     let sound : AreRecordsSound l h.base.layout.records = (base_told l h.base bounds history.founded).sound in
-    let told = pointer_walks_told l h.trace h.base.layout (λ block pointer. count_at block pointer h.base.layout.records.attached) bounds sound history.legal (own_pointers_told l h.base.layout.records sound) in
+    let told = pointer_walks_told l h.trace h.base.layout (λ block pointer. count_at block pointer h.base.layout.records.attached) bounds sound history.legal (base_pointers_told l h.base sound) in
     subst (λ (x : Layout). AreAttachmentsTraced h x.records) history.leads told.there

@@ -30,4 +30,3 @@ pub mod Judge
 pub mod Calls
 pub mod History
 pub mod Accounts
-pub mod Devices

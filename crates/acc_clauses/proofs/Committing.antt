@@ -111,7 +111,7 @@ holdings_few (t ∷ ts) [] = omega arith
 holdings_few (t ∷ ts) (d ∷ ds) = grind (arith, nat_tests, holdings_few ts ds)
 
 -- what holds of a register holds after a directive, where it holds after a region's entry and after an exit
-by_register : (P : Register → Type 0) (d : Directive) (holdings : List Holding) (g : Register) → P g → ((items : List (Item RegionClause)) → d ≡ directives.Enter items → P (opened g.next holdings g)) → ((number : ℕ) → P (closed number g)) → P (register_by d holdings g)
+by_register : (P : Register → Type 0) (d : Directive) (holdings : List Holding) (g : Register) → P g → ((items : List (Item RegionClause)) → d ≡ directives.Enter items → P (opened holdings g)) → ((number : ℕ) → P (closed number g)) → P (register_by d holdings g)
 by_register P d holdings g same enter exit = grind (arith, nat_tests)
 
 -- no region holds too much after a plan

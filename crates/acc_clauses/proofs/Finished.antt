@@ -22,9 +22,9 @@ register-drained (q ∷ qs) s = register-drained qs (stepped q s) ∙ register-s
 with_register : (qs : List ℕ) (s : State) → drained qs s ≡ record (drained qs s) { register = s.register }
 with_register qs s = let Q : Register → State = λ g. record (drained qs s) { register = g } in ap Q (register-drained qs s)
 
-pub finished_enter : (items : List (Item RegionClause)) (p : Planned) (s t : State) (hs : List Holding) → hs ≡ holdings_by p.tasks p.dids → t ≡ record s { register = opened s.register.next hs s.register } → t ≡ finished (Enter items) p s
+pub finished_enter : (items : List (Item RegionClause)) (p : Planned) (s t : State) (hs : List Holding) → hs ≡ holdings_by p.tasks p.dids → t ≡ record s { register = opened hs s.register } → t ≡ finished (Enter items) p s
 unfolding drained
-finished_enter items p s t hs held is = is ∙ ap (λ (x : List Holding). record s { register = opened s.register.next x s.register }) held
+finished_enter items p s t hs held is = is ∙ ap (λ (x : List Holding). record s { register = opened x s.register }) held
 
 pub finished_exit : (number : ℕ) (p : Planned) (s t : State) → t ≡ record s { register = closed number s.register } → t ≡ finished (Exit number) p s
 unfolding drained

@@ -26,8 +26,9 @@ use Rattle.acc_base.proofs.Memories.{lent_sized, gathered_sized}
 use Rattle.acc_base.proofs.LegalEvents.{lend_legal, IsGathered, gather_legal}
 use Rattle.acc_dev.specs.Marks.{is_ended_at, IsMarkOf}
 use Rattle.acc_dev.specs.Device.{DeviceState, HasBlock, IsTakenOut, IsPutBack}
+use Rattle.acc_clauses.specs.declared.environments.Environment.{Environment}
 use Rattle.acc_clauses.specs.declared.numbers.Numbers.{Numbers}
-use Rattle.acc_clauses.specs.Contents.{WithHost, Contents, state_of, ArePartsSound}
+use Rattle.acc_clauses.specs.Contents.{Contents, state_of, ArePartsSound}
 use Rattle.acc_clauses.specs.Stored.{IsStoreSound, AreHoldingsWithin}
 use Rattle.acc_clauses.specs.Lending.{IsLoanPlanned, lent_state, gathered_state}
 use Rattle.acc_clauses.proofs.Changes.{state_from_parts}
@@ -46,13 +47,13 @@ record IsThere (blocks : List Block) (loan : Loan) (range : Range) : Type 0 wher
 loan_there : (l : Limits) (w : Records) (loan : Loan) → AreRecordsSound l w → (sound : IsLoanSound w.ranges loan) → IsThere w.blocks loan sound.range
 loan_there l w loan h sound = grind (arith, nat_tests, found_has)
 
-pub loan_has_block : (l : Limits) (x : WithHost) (n : Numbers) (loan : Loan) → ArePartsSound l x n → IsLoanSound x.present.table.ranges loan → HasBlock x.device loan.block
+pub loan_has_block : (l : Limits) (x : Environment) (n : Numbers) (loan : Loan) → ArePartsSound l x n → IsLoanSound x.present.table.ranges loan → HasBlock x.device loan.block
 loan_has_block l x n loan parts sound = grind (arith, nat_tests, loan_there l (state_of x n).records loan parts.sound.records sound)
 
-pub lend_mapped : (l : Limits) (x : WithHost) (n : Numbers) (loan : Loan) → ArePartsSound l x n → AllZip IsMarkOf x.device.marks x.device.blocks → IsLoanSound x.present.table.ranges loan → is_ended_at loan.block x.device.marks ≡ false
+pub lend_mapped : (l : Limits) (x : Environment) (n : Numbers) (loan : Loan) → ArePartsSound l x n → AllZip IsMarkOf x.device.marks x.device.blocks → IsLoanSound x.present.table.ranges loan → is_ended_at loan.block x.device.marks ≡ false
 lend_mapped l x n loan parts zip sound = (told_by_mark l x n loan.block parts zip (loan_has_block l x n loan parts sound)).ended ∙ ap is_none sound.mapped
 
-pub lend_within : (l : Limits) (x : WithHost) (n : Numbers) (loan : Loan) → ArePartsSound l x n → IsLoanSound x.present.table.ranges loan → loan.offset + loan.len ≤ len_of loan.block x.device.blocks
+pub lend_within : (l : Limits) (x : Environment) (n : Numbers) (loan : Loan) → ArePartsSound l x n → IsLoanSound x.present.table.ranges loan → loan.offset + loan.len ≤ len_of loan.block x.device.blocks
 lend_within l x n loan parts sound = grind (arith, nat_tests, loan_there l (state_of x n).records loan parts.sound.records sound)
 
 -- ---- the parts
@@ -99,10 +100,10 @@ loan_some lease o e = grind (arith, nat_tests)
 returnable_lent : (full : Bool) (lease : Leased) (s : State) → is_returnable full lease s.records.blocks s.records.loans s.memories ≡ true → is_lent lease.block s.records.loans ≡ true
 returnable_lent full lease s e = loan_some lease (loan_of lease.block s.records.loans) (and_true _ _ (and_true _ _ e).0).0
 
-pub lent_is : (full : Bool) (x : WithHost) (n : Numbers) (d : DeviceState) (loan : Loan) → IsTakenOut x.device d loan full → state_of (record x { device = d }) (numbered_on n) ≡ lent_state full loan (state_of x n)
+pub lent_is : (full : Bool) (x : Environment) (n : Numbers) (d : DeviceState) (loan : Loan) → IsTakenOut x.device d loan full → state_of (record x { device = d }) (numbered_on n) ≡ lent_state full loan (state_of x n)
 lent_is full x n d loan out = state_from_parts (record x { device = d }) (numbered_on n) (lent_state full loan (state_of x n)) refl out.blocks refl out.births refl out.loans refl refl refl refl out.memories
 
-pub lent_parts : (l : Limits) (full : Bool) (x : WithHost) (n : Numbers) (d : DeviceState) (loan : Loan) → ArePartsSound l x n → is_lent loan.block x.device.loans ≡ false → IsLoanSound x.present.table.ranges loan → IsTakenOut x.device d loan full
+pub lent_parts : (l : Limits) (full : Bool) (x : Environment) (n : Numbers) (d : DeviceState) (loan : Loan) → ArePartsSound l x n → is_lent loan.block x.device.loans ≡ false → IsLoanSound x.present.table.ranges loan → IsTakenOut x.device d loan full
     → ArePartsSound l (record x { device = d }) (numbered_on n)
 lent_parts l full x n d loan parts free sound out =
     let s : State = state_of x n in
@@ -117,7 +118,7 @@ lent_parts l full x n d loan parts free sound out =
       few = omega (arith, parts.few);
     }
 
-pub gathered_is : (x : WithHost) (n : Numbers) (d : DeviceState) (lease : Leased) → IsPutBack x.device d lease → state_of (record x { device = d }) (numbered_off n) ≡ gathered_state lease (state_of x n)
+pub gathered_is : (x : Environment) (n : Numbers) (d : DeviceState) (lease : Leased) → IsPutBack x.device d lease → state_of (record x { device = d }) (numbered_off n) ≡ gathered_state lease (state_of x n)
 gathered_is x n d lease back = state_from_parts (record x { device = d }) (numbered_off n) (gathered_state lease (state_of x n)) refl back.blocks refl back.births refl back.loans refl refl refl refl back.memories
 
 -- a lease that a block fits is gathered
@@ -129,7 +130,7 @@ pub returnable : (full : Bool) (lease : Leased) (s : State) (e : Event) → gath
 unfolding gather_event
 returnable full lease s e h = not_false _ (refused_not _ _ (then_ok (refuse_if (not (is_returnable full lease s.records.blocks s.records.loans s.memories)) (NoLease lease.serial)) (Ok (gathered full lease)) e h).0)
 
-pub gathered_parts : (l : Limits) (x : WithHost) (n : Numbers) (d : DeviceState) (lease : Leased) → ArePartsSound l x n → is_returnable l.full lease x.device.blocks x.device.loans x.device.memories ≡ true → IsPutBack x.device d lease → ArePartsSound l (record x { device = d }) (numbered_off n)
+pub gathered_parts : (l : Limits) (x : Environment) (n : Numbers) (d : DeviceState) (lease : Leased) → ArePartsSound l x n → is_returnable l.full lease x.device.blocks x.device.loans x.device.memories ≡ true → IsPutBack x.device d lease → ArePartsSound l (record x { device = d }) (numbered_off n)
 gathered_parts l x n d lease parts fits back =
     let s : State = state_of x n in
     let long : IsGathered l lease s (gathered l.full lease) = gather_legal l lease s (gathered l.full lease) parts.sound.records (gather_is l.full lease s fits) in

@@ -17,7 +17,8 @@ use Rattle.acc_base.proofs.Lookups.{at-own}
 use Rattle.acc_base.proofs.KeptMemories.{filter-same}
 use Rattle.acc_dev.specs.Marks.{Mark, pins_at, is_ended_at, ended_told, lowest_ended, IsMarkOf}
 use Rattle.acc_clauses.specs.declared.numbers.Numbers.{Numbers}
-use Rattle.acc_clauses.specs.Contents.{WithHost, state_of, ArePartsSound}
+use Rattle.acc_clauses.specs.declared.environments.Environment.{Environment}
+use Rattle.acc_clauses.specs.Contents.{state_of, ArePartsSound}
 use Rattle.acc_clauses.proofs.Steps.{is_some}
 use Rattle.acc_clauses.proofs.Marked.{IsMarkAt, mark_told}
 
@@ -26,7 +27,7 @@ use Rattle.acc_clauses.proofs.Marked.{IsMarkAt, mark_told}
 abbrev own_number : Block → ℕ
 own_number b = b.number
 
-pub told_by_mark : (l : Limits) (x : WithHost) (next : Numbers) (k : ℕ) → ArePartsSound l x next → AllZip IsMarkOf x.device.marks x.device.blocks → IsSome (block_at k x.device.blocks) → IsMarkAt x.present.table.ranges x.queues.queues x.device.marks k
+pub told_by_mark : (l : Limits) (x : Environment) (next : Numbers) (k : ℕ) → ArePartsSound l x next → AllZip IsMarkOf x.device.marks x.device.blocks → IsSome (block_at k x.device.blocks) → IsMarkAt x.present.table.ranges x.queues.queues x.device.marks k
 told_by_mark l x next k sound zip there = mark_told x.present.table.ranges x.queues.queues k x.device.marks x.device.blocks zip there sound.marked
 
 -- ---- the lowest block that has ended
@@ -49,7 +50,7 @@ lowest_same from ranges queues ms bs h =
     ap (λ cs. option_map (ended_told ms) (lowest cs)) same ∙ told_same queues ms (lowest (filter q bs)) (lowest_has (λ b. pins_at b.number ms ≡ pins_of b.number queues) (filter q bs) pins)
 
 -- the device finds the block that the records say
-pub ended_is : (l : Limits) (x : WithHost) (next : Numbers) (from : ℕ) → ArePartsSound l x next → AllZip IsMarkOf x.device.marks x.device.blocks → lowest_ended from x.device.marks x.device.blocks ≡ ended_from from (state_of x next).records
+pub ended_is : (l : Limits) (x : Environment) (next : Numbers) (from : ℕ) → ArePartsSound l x next → AllZip IsMarkOf x.device.marks x.device.blocks → lowest_ended from x.device.marks x.device.blocks ≡ ended_from from (state_of x next).records
 ended_is l x next from sound zip =
     let distinct : EachPair (λ (b : Block) (c : Block). b.number ≡ c.number → ⊥) x.device.blocks =
     EachPair-weaker IsClearOf (λ (b : Block) (c : Block). b.number ≡ c.number → ⊥) x.device.blocks (λ b c clear same. let less : b.number < c.number = clear.numbers in omega arith) sound.sound.records.blocks_apart.apart in

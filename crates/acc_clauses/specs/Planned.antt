@@ -65,7 +65,7 @@ holdings_by _ _ = []
 
 -- the register after a directive whose tasks hold these
 abbrev pub register_by : Directive → List Holding → Register → Register
-register_by (directives.Enter items) holdings g = opened g.next holdings g
+register_by (directives.Enter items) holdings g = opened holdings g
 register_by (directives.Exit number) holdings g = closed number g
 register_by _ holdings g = g
 

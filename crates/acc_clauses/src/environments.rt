@@ -1,18 +1,20 @@
-//! What one device has, side by side.
+//! The parts of a data environment, side by side.
 
 use acc_attach::Attached;
 use acc_dev::Device;
+use acc_host::HostMem;
 use acc_present::Present;
 use acc_queues::Queues;
 
-/// What one device has: the present table, the blocks of its memory, the attachment counters and the queues, side by side.
-/// How they fit one another, and host memory, is said by what holds them.
+/// The present table, the device, host memory, the attachment counters and the queues, side by side. How they fit one another is said by what holds them.
 #[derive(Drop)]
 pub(crate) struct Environment {
     /// The mapped ranges and the open regions.
     pub(crate) present: Present,
     /// The blocks of device memory.
     pub(crate) device: Device,
+    /// Host memory.
+    pub(crate) host: HostMem,
     /// The attachment counters of the pointers in the blocks.
     pub(crate) attached: Attached,
     /// The transfers that are yet to be made.

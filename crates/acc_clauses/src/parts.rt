@@ -33,18 +33,17 @@ mod snapshots;
 pub(crate) struct Parts {
     config: Config,
     environment: Environment,
-    host: HostMem,
     numbers: Numbers,
 }
 
 impl Model for Parts {
-    ghost use Rattle.acc_clauses.specs.Contents.{Contents, beside, contents_of, ArePartsSound};
+    ghost use Rattle.acc_clauses.specs.Contents.{Contents, contents_of, ArePartsSound};
 
     ghost Value = { Contents };
 
-    ghost view = { λ p. contents_of p.config (beside p.environment p.host) p.numbers };
+    ghost view = { λ p. contents_of p.config p.environment p.numbers };
 
-    ghost invariant = { λ p. ArePartsSound p.config (beside p.environment p.host) p.numbers };
+    ghost invariant = { λ p. ArePartsSound p.config p.environment p.numbers };
 }
 
 impl Parts {
@@ -53,17 +52,16 @@ impl Parts {
         ensures ok { IfOk result (AreNew config.now) }
         ensures only { IfErr result (λ fault. fault ≡ Memory) }
     {
-        let host = HostMem::new(alloc, config.host())?;
         let environment = Environment {
             present: Present::new(alloc, config.counter_max()),
             device: Device::new(alloc, config.device())?,
+            host: HostMem::new(alloc, config.host())?,
             attached: Attached::new(alloc, config.counter_max()),
             queues: Queues::new(alloc, config.queue_cap())?,
         };
         Ok(Parts {
             config: *config,
             environment,
-            host,
             numbers: Numbers {
                 region: 1,
                 serial: 1,

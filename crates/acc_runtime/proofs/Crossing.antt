@@ -57,7 +57,7 @@ device_send = search (sendable, crosses, holes_send, stored_send, ended_blocks_s
 -- ---- a store and a plan, a table, and what stands around it
 
 environment_send : IsSend (Environment.the_field).row
-environment_send = search (sendable, crosses, device_send, present_send, attached_send, queues_send) depth 60 fits 100000
+environment_send = search (sendable, crosses, device_send, present_send, attached_send, queues_send, host_send) depth 60 fits 100000
 
 numbers_send : IsSend (Numbers.the_field).row
 numbers_send = search (sendable, crosses) depth 60 fits 100000
@@ -66,7 +66,7 @@ config_send : IsSend Config.the_row
 config_send = search (sendable, crosses) depth 60 fits 100000
 
 parts_send : IsSend Parts.the_row
-parts_send = view_send _ _ _ _ _ (recorded_send inside.the_field.row _ _ inside.the_type.to_one (struct_send (shape inside.the_type) (as_row_send Config.the_field config_send, (environment_send, (as_row_send HostMem.the_field host_send, (numbers_send, tt))))))
+parts_send = view_send _ _ _ _ _ (recorded_send inside.the_field.row _ _ inside.the_type.to_one (struct_send (shape inside.the_type) (as_row_send Config.the_field config_send, (environment_send, (numbers_send, tt)))))
 
 pub store_send : IsSend Store.the_row
 store_send = search (sendable, crosses, parts_send) depth 60 fits 100000

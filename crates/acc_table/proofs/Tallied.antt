@@ -100,7 +100,7 @@ not_idle _ s = refl
 -- an entry opens one region, and an exit closes one
 regions_after : (l : Limits) (e : Event) (lay : Layout) → IsNumbered lay.register → NamesRight l e lay
     → length (register_after e lay.register).regions + (if is_left e then 1 else 0) ≡ length lay.register.regions + (if is_entered e then 1 else 0)
-regions_after l (events.Entered number items did) lay h names = rw names (omega (arith, opened_count (holdings_of items did) lay.register h))
+regions_after l (events.Entered number items did) lay h names = omega (arith, opened_count (holdings_of items did) lay.register h)
 regions_after l (events.Left number did) lay h names = omega (arith, closed_one number lay.register h names)
 regions_after l _ lay h names = refl
 

@@ -22,7 +22,7 @@ impl Parts {
         ensures part { IfSome result (λ bytes. bytes.now ≡ bytes_in self.now.state.host section) }
         ensures none { IfNone result (IsOutOfHost self.now.state.host section) }
     {
-        self.host.read(section)
+        self.environment.host.read(section)
     }
 
     /// The bytes of a block. `None` exactly where there is no such block, or it is lent.
@@ -91,7 +91,7 @@ impl Parts {
         requires { is_within (pointer_at pointer) (host_memory self.now.limits.host) ≡ true }
         ensures { result ≡ host_pointer pointer self.now.state }
     {
-        let Some(address) = self.host.pointer_at(pointer) else {
+        let Some(address) = self.environment.host.pointer_at(pointer) else {
             unreachable!()
         };
         address

@@ -41,7 +41,7 @@ impl Parts {
         ensures room { IsRoomLeft (birth_of task did.step) (pointers_of did.aim) (λ q. puts_by q task did.step) self.old.room self.new.room }
     {
         self.config.laws();
-        act_on(&mut self.environment, &mut self.host, task, did, hint);
+        act_on(&mut self.environment, task, did, hint);
     }
 
     /// Makes the first transfer of a queue, if it has one; its block is not lent. It takes no memory and is never refused.
@@ -51,7 +51,7 @@ impl Parts {
         ensures state { self.new.state ≡ stepped q self.old.state }
     {
         self.laws();
-        step(&mut self.environment, &mut self.host, q);
+        step(&mut self.environment, q);
     }
 
     /// Makes room for births of blocks of these lengths, in this order, for so many regions, the next of which has so many
@@ -114,7 +114,7 @@ impl Parts {
         requires new { region_at self.old.state.register.next self.old.state.register.regions ≡ None }
         requires room { HasRegionRoom 1 (length holdings.now) self.old.room }
         ensures limits { self.new.limits ≡ self.old.limits }
-        ensures state { self.new.state ≡ record self.old.state { register = opened self.old.state.register.next holdings.now self.old.state.register } }
+        ensures state { self.new.state ≡ record self.old.state { register = opened holdings.now self.old.state.register } }
     {
         self.environment
             .present
@@ -139,7 +139,7 @@ impl Parts {
         ensures room { self.new.room ≡ self.old.room }
         ensures state { self.new.state ≡ record self.old.state { host = host_after_write addr (length bytes.now) bytes.now self.old.state.host } }
     {
-        let Ok(()) = self.host.write(addr, bytes) else {
+        let Ok(()) = self.environment.host.write(addr, bytes) else {
             unreachable!()
         };
     }

@@ -19,7 +19,7 @@ impl Parts {
         ensures only { IfErr result (λ fault. fault ≡ Memory) }
     {
         if self.config.full() {
-            self.host.copy(alloc)
+            self.environment.host.copy(alloc)
         } else {
             Ok(Vec::new(alloc))
         }

@@ -12,7 +12,9 @@ mod sessions;
 
 pub use ends::memory::{MemorySink, MemorySource};
 pub use ends::streams::{FromRead, ToWrite};
-pub use ends::whole::write_all;
+pub use ends::whole::{read_all, write_all};
 pub use ends::{Sink, Source};
+pub use print::effects::{Effect, write_effect};
 pub use print::reports::report;
 pub use runs::{Status, run};
+pub use sessions::Session;

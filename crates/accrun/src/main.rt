@@ -1,23 +1,29 @@
-//! Runs a script of OpenACC data directives, read on standard input, and writes what it prints on standard output.
+//! Runs a script of OpenACC data directives, a file or read on standard input, and writes what it prints on standard
+//! output.
 #![tactic(auto)]
 
 mod drills;
+mod endings;
 mod options;
 mod outputs;
+mod shelves;
 #[cfg(test)]
 mod tests;
 mod tools;
 mod watching;
 mod words;
 
+use crate::endings::tell;
 use crate::outputs::Output;
-use crate::tools::{FAULTED, tell, tell_words, tool};
+use crate::shelves::Disk;
+use crate::tools::{FAULTED, tell_words, tool};
 use crate::watching::watched;
 use crate::words::read_words;
 use acc_base::Fault;
 use acc_script::{FromRead, Sink, Source, ToWrite};
 use std::io::{BufWriter, IsTerminal};
 use std::process::ExitCode;
+use std::rt::Files;
 use std::sync::Wait;
 use std::thread::Threads;
 
@@ -57,7 +63,7 @@ struct Run<'a, R, S, O, E> {
 }
 
 impl<
-    R: Threads + Wait + Sync + AllocGlobal,
+    R: Threads + Wait + Sync + AllocGlobal + Files,
     S: Source + Drop,
     O: Output + Drop,
     E: Sink + Drop,
@@ -71,6 +77,6 @@ impl<
             mut out,
             mut err,
         } = self;
-        tool(rt, words, &mut reader, &mut out, &mut err)
+        tool(rt, words, &mut reader, &mut out, &mut err, &Disk { rt })
     }
 }

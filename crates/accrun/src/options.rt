@@ -1,6 +1,6 @@
 //! The command line.
 
-use clap::{Arg, ArgAction, Command, Error, value_parser};
+use clap::{Arg, ArgAction, ArgMatches, Command, Error, value_parser};
 use std::alloc::Global;
 
 /// The default of both sizes in bytes. `size_option` names it again as text, for `clap`; it is used here only if `clap`
@@ -13,9 +13,20 @@ const DEFAULT_THREADS: u64 = 1;
 /// What a trace may keep of each event: what it did to counters, or the bytes of both memories too.
 const TRACES: &[&str] = &["counts", "full"];
 
+/// The version that `--version` tells.
+const VERSION: &str = "0.1.0 (OpenACC 3.3)";
+
 /// What the command line says.
 #[derive(Clone, Copy)]
-pub struct Options {
+pub struct Options<'a> {
+    /// The file that has the script; standard input has it where none is named.
+    pub file: Option<&'a str>,
+    /// The file that the output is compared with, in place of writing it.
+    pub expect: Option<&'a str>,
+    /// Whether each statement is written before what it prints.
+    pub echo: bool,
+    /// Whether the report is an object of JSON.
+    pub json: bool,
     /// The size of host memory in bytes.
     pub host: u64,
     /// The size of device memory in bytes.
@@ -72,33 +83,90 @@ fn trace_option<'a>(alloc: Global) -> Arg<'a> {
         .default_value("counts")
 }
 
+/// The file that has the script.
+fn file_argument<'a>(alloc: Global) -> Arg<'a> {
+    Arg::new(alloc, "FILE")
+        .help("The script, in place of standard input")
+        .action(ArgAction::Set)
+}
+
+/// The option of the file that the output is compared with.
+fn expect_option<'a>(alloc: Global) -> Arg<'a> {
+    Arg::new(alloc, "expect")
+        .long("expect")
+        .value_name("OUTPUT")
+        .help("Compare the output with this file")
+        .action(ArgAction::Set)
+}
+
+/// An option that is there or not.
+fn flag<'a>(alloc: Global, name: &'a str, help: &'a str) -> Arg<'a> {
+    Arg::new(alloc, name)
+        .long(name)
+        .help(help)
+        .action(ArgAction::SetTrue)
+}
+
 /// Reads the command line. The first word is the program's name.
 ///
 /// # Errors
 ///
 /// `clap`'s own, whose text is for the user: also where help was asked for, and for want of memory.
-pub fn parsed_options(alloc: Global, words: &[String]) -> Result<Options, Error> {
-    let command = Command::new(alloc, "accrun")
+pub fn parsed_options<'a>(alloc: Global, words: &'a [String]) -> Result<Options<'a>, Error> {
+    let command = with_views(alloc, with_limits(alloc, bare(alloc))?)?;
+    let matches = command.try_get_matches_from(words)?;
+    Ok(options_of(&matches))
+}
+
+/// The command, without its options.
+fn bare<'a>(alloc: Global) -> Command<'a> {
+    Command::new(alloc, "accrun")
         .about("Runs a script of OpenACC data directives on a simulated device")
+        .version(VERSION)
         .override_usage(USAGE)
         .after_help(AFTER_HELP)
-        .arg(size_option(alloc, "host", "Size of host memory"))?
-        .arg(size_option(alloc, "device", "Size of device memory"))?
-        .arg(threads_option(alloc))?
-        .arg(drill_option(alloc))?
-        .arg(trace_option(alloc))?;
-    let matches = command.try_get_matches_from(words)?;
-    Ok(Options {
+}
+
+/// Adds the options of what runs, and within which limits.
+fn with_limits<'a>(alloc: Global, command: Command<'a>) -> Result<Command<'a>, Error> {
+    Ok(
+        command
+            .arg(size_option(alloc, "host", "Size of host memory"))?
+            .arg(size_option(alloc, "device", "Size of device memory"))?
+            .arg(threads_option(alloc))?
+            .arg(drill_option(alloc))?
+            .arg(trace_option(alloc))?,
+    )
+}
+
+/// Adds the script, and the options of what is shown of it.
+fn with_views<'a>(alloc: Global, command: Command<'a>) -> Result<Command<'a>, Error> {
+    Ok(
+        command
+            .arg(file_argument(alloc))?
+            .arg(expect_option(alloc))?
+            .arg(flag(alloc, "echo", "Write each statement before its output"))?
+            .arg(flag(alloc, "json", "Write the report as JSON"))?,
+    )
+}
+
+/// What the command line says, once it is read.
+fn options_of<'a>(matches: &ArgMatches<'a>) -> Options<'a> {
+    Options {
+        file: matches.get_str("FILE"),
+        expect: matches.get_str("expect"),
+        echo: matches.get_flag("echo"),
+        json: matches.get_flag("json"),
         host: matches.get_one::<u64>("host").unwrap_or(DEFAULT_SIZE),
         device: matches.get_one::<u64>("device").unwrap_or(DEFAULT_SIZE),
         threads: matches.get_one::<u64>("threads").unwrap_or(DEFAULT_THREADS),
         drill: matches.get_one::<u64>("drill"),
         full: matches.get_str("trace") == Some("full"),
-    })
+    }
 }
 
 /// How the program is called.
-const USAGE: &str = "accrun [OPTIONS] < SCRIPT";
+const USAGE: &str = "accrun [OPTIONS] [FILE]";
 
 /// What the help says after the options: the statements, an example, the status.
 const AFTER_HELP: &str = "\
@@ -110,7 +178,12 @@ the N threads enters and exits a region over one array. Then no script is read,
 and one line tells what is left: the allowance of regions, the number of events,
 and both counters of the array.
 
-The script is read whole before its first line runs.
+The script is FILE, or comes on standard input. It is read whole before its
+first line runs. With --echo each statement stands behind '> ' before what it
+prints. With --json the report is one object on one line. With --expect the
+output is not written: it is compared with OUTPUT, and the first line that
+differs is told on standard error. Then the status is 1, and 0 where none
+differs, whatever was refused.
 
 Statements, one to a line, with comments after '#':
   array NAME BYTES         an array in host memory
@@ -184,6 +257,6 @@ script goes on. A line that is at fault ends the script.
 Example:
   printf 'array a 32\\nenter data copyin(a)\\nreport\\n' | accrun --device 4096
 
-Status: 0; 1 where a statement was refused; 2 for a fault, which standard error
-names.
+Status: 0; 1 where a statement was refused, or the output is not as expected; 2
+for a fault, which standard error names.
 ";

@@ -1,14 +1,17 @@
 //! What the program does, over sources and sinks in memory.
 
 use crate::outputs::Output;
+use crate::shelves::Shelf;
 use crate::tools::{tell_words, tool};
 use crate::words::{WordsFault, read_words};
+use acc_base::Fault;
 use acc_script::{MemorySink, MemorySource};
-use rows::{COPIES, DRILLS, FAULTS, KERNELS, LIVES, QUEUES, REFUSALS, Row};
+use rows::{COPIES, DRILLS, FAULTS, KERNELS, LIVES, QUEUES, REFUSALS, Row, VIEWS};
 use std::alloc::{AllocError, Global};
 use std::env::{Env, FillError};
 use std::fmt::Debug;
 use std::process::Abort;
+use std::str::Utf8Error;
 use std::sync::Wait;
 use std::test::Fail;
 use std::thread::Threads;
@@ -38,6 +41,39 @@ impl Output for MemorySink {
     }
 }
 
+/// The files that the program finds: their names and texts.
+const FILES: [(&str, &str); 4] = [
+    (
+        "life.acc",
+        "array a 4\nenter data copyin(a)\nupdate self(a[4:4])\npresent a\n",
+    ),
+    ("life.out", "line 3: refused 11 NotPresent item 0\nyes\n"),
+    ("short.out", "line 3: refused 11 NotPresent item 0\n"),
+    ("other.out", "line 3: refused 11 NotPresent item 0\nno\n"),
+];
+
+/// The shelf of these files.
+#[derive(Drop)]
+struct Pages {
+    alloc: Global,
+}
+
+impl Shelf for Pages {
+    fn read(&self, name: &str) -> Result<Vec<u8>, Fault> {
+        for (file, text) in &FILES {
+            if *file == name {
+                return Ok(Vec::from_slice(self.alloc, text.as_bytes())?);
+            }
+        }
+        Err(Fault::Read)
+    }
+}
+
+/// The shelf on which tests find files.
+fn shelf(alloc: Global) -> Pages {
+    Pages { alloc }
+}
+
 /// Runs the program over memory, and answers the status.
 fn run_tool<R: Threads + Wait + Sync + AllocGlobal>(
     rt: &R,
@@ -48,7 +84,7 @@ fn run_tool<R: Threads + Wait + Sync + AllocGlobal>(
 ) -> Result<u8, AllocError> {
     let words = words(rt.alloc(), options)?;
     let mut reader = MemorySource::new(script.as_bytes());
-    Ok(tool(rt, words, &mut reader, out, err))
+    Ok(tool(rt, words, &mut reader, out, err, &shelf(rt.alloc())))
 }
 
 /// Compares what was found at a place with what is wanted there.
@@ -113,6 +149,7 @@ fn scripts_print_and_end_as_they_should(rt: HostRuntime) -> Result<(), Fail> {
     check_rows(&rt, &DRILLS)?;
     check_rows(&rt, &REFUSALS)?;
     check_rows(&rt, &FAULTS)?;
+    check_rows(&rt, &VIEWS)?;
     Ok(())
 }
 
@@ -143,51 +180,88 @@ fn a_line_that_is_too_long_is_told(rt: HostRuntime) -> Result<(), Fail> {
     Ok(())
 }
 
-/// Command lines with an empty script, their status, and whether standard error gets text.
-const COMMAND_LINES: [(&str, u8, bool); 18] = [
-    ("--host 16 --device 67108864", 0, false),
-    ("--threads 1 --trace counts", 0, false),
-    ("--threads 64", 0, false),
-    ("--help", 0, true),
-    ("--host 15", 2, true),
-    ("--device 67108865", 2, true),
-    ("--device 99999999999", 2, true),
-    ("--host many", 2, true),
-    ("--threads 0", 2, true),
-    ("--threads 65", 2, true),
-    ("--drill 0", 2, true),
-    ("--drill 1001", 2, true),
-    ("--trace full", 0, false),
-    ("--trace most", 2, true),
-    ("--trace", 2, true),
-    ("--nothing", 2, true),
-    ("script", 2, true),
-    ("--host", 2, true),
+/// Command lines with an empty script, their status, and what has to stand in the text on standard output and on
+/// standard error; where it is empty there is no text.
+const COMMAND_LINES: [(&str, u8, &str, &str); 24] = [
+    ("--host 16 --device 67108864", 0, "", ""),
+    ("--threads 1 --trace counts", 0, "", ""),
+    ("--threads 64", 0, "", ""),
+    ("--help", 0, "Usage: accrun [OPTIONS] [FILE]", ""),
+    ("--version", 0, "accrun 0.1.0 (OpenACC 3.3)\n", ""),
+    (
+        "--host 15",
+        2,
+        "",
+        "'15' for '--host <BYTES>': 15 is not in 16..=67108864",
+    ),
+    (
+        "--device 67108865",
+        2,
+        "",
+        "'67108865' for '--device <BYTES>'",
+    ),
+    ("--device 99999999999", 2, "", "is not in 16..=67108864"),
+    ("--host many", 2, "", "'many' for '--host <BYTES>'"),
+    (
+        "--threads 0",
+        2,
+        "",
+        "'0' for '--threads <N>': 0 is not in 1..=64",
+    ),
+    ("--threads 65", 2, "", "'65' for '--threads <N>'"),
+    (
+        "--drill 0",
+        2,
+        "",
+        "'0' for '--drill <ROUNDS>': 0 is not in 1..=1000",
+    ),
+    ("--drill 1001", 2, "", "'1001' for '--drill <ROUNDS>'"),
+    ("--trace full", 0, "", ""),
+    ("--trace most", 2, "", "'most' for '--trace <WHAT>'"),
+    ("--trace", 2, "", "'--trace <WHAT>'"),
+    ("--nothing", 2, "", "'--nothing'"),
+    ("--expect", 2, "", "'--expect <OUTPUT>'"),
+    ("--echo --json", 0, "", ""),
+    ("none.acc", 2, "", "accrun: cannot read none.acc\n"),
+    ("--expect none.out", 2, "", "accrun: cannot read none.out\n"),
+    ("life.acc life.acc", 2, "", "'life.acc'"),
+    ("--host 24 none.acc", 2, "", "accrun: 2 BadConfig\n"),
+    ("--host", 2, "", "'--host <BYTES>'"),
 ];
 
-/// Runs an empty script with options over two sinks; compares the status and whether standard error gets text.
-fn check_command_line_over<R: Threads + Wait + Sync + AllocGlobal + Abort>(
-    rt: &R,
-    row: (&str, u8, bool),
-    out: &mut MemorySink,
-    err: &mut MemorySink,
-) -> Result<(), AllocError> {
-    let (options, status, is_told) = row;
-    let found = run_tool(rt, options, "", out, err)?;
-    same(rt, found, status, options);
-    same(rt, !err.as_slice().is_empty(), is_told, options);
-    same(rt, out.as_slice(), b"".as_slice(), options);
+/// The text has these words, or there is none where they are empty.
+fn check_text<R: Abort>(rt: &R, text: &[u8], part: &str, place: &str) -> Result<(), Utf8Error> {
+    let text = str::from_utf8(text)?;
+    same(rt, text.is_empty(), part.is_empty(), place);
+    same(rt, text.contains(part), true, place);
     Ok(())
 }
 
-/// Runs an empty script with options; compares the status and whether standard error gets text.
+/// Runs an empty script with options; compares the status.
+fn check_command_line_over<R: Threads + Wait + Sync + AllocGlobal + Abort>(
+    rt: &R,
+    options: &str,
+    status: u8,
+    out: &mut MemorySink,
+    err: &mut MemorySink,
+) -> Result<(), AllocError> {
+    let found = run_tool(rt, options, "", out, err)?;
+    same(rt, found, status, options);
+    Ok(())
+}
+
+/// Runs an empty script with options; compares the status and what both streams get.
 fn check_command_line<R: Threads + Wait + Sync + AllocGlobal + Abort>(
     rt: &R,
-    row: (&str, u8, bool),
-) -> Result<(), AllocError> {
+    row: (&str, u8, &str, &str),
+) -> Result<(), Fail> {
+    let (options, status, output, told) = row;
     let mut out = MemorySink::new(rt.alloc());
     let mut err = MemorySink::new(rt.alloc());
-    check_command_line_over(rt, row, &mut out, &mut err)
+    check_command_line_over(rt, options, status, &mut out, &mut err)?;
+    check_text(rt, out.as_slice(), output, options)?;
+    check_text(rt, err.as_slice(), told, options)?;
+    Ok(())
 }
 
 #[test]
@@ -199,8 +273,12 @@ fn command_lines_are_read(rt: HostRuntime) -> Result<(), Fail> {
 }
 
 /// What the help has to name.
-const HELP_WORDS: [&str; 39] = [
-    "< SCRIPT",
+const HELP_WORDS: [&str; 43] = [
+    "[FILE]",
+    "--expect <OUTPUT>",
+    "--echo",
+    "--json",
+    "--version",
     "--threads <N>",
     "--drill <ROUNDS>",
     "--trace <WHAT>",
@@ -260,7 +338,7 @@ fn the_help_names_each_statement(rt: HostRuntime) -> Result<(), Fail> {
     let mut out = MemorySink::new(rt.alloc());
     let mut err = MemorySink::new(rt.alloc());
     run_tool(&rt, "--help", "", &mut out, &mut err)?;
-    let text = str::from_utf8(err.as_slice())?;
+    let text = str::from_utf8(out.as_slice())?;
     check_width(&rt, text);
     check_words(&rt, text);
     Ok(())

@@ -1,24 +1,25 @@
-//! The program, over any source and any two sinks.
+//! The program, over any source, any two sinks and any shelf of files.
 
 ghost use Rattle.std.specs.Prelude.{◌≤◌};
 
 use crate::drills::run_drill;
+use crate::endings::{Mishap, tell, tell_difference, tell_mishap};
 use crate::options::{Options, parsed_options};
 use crate::outputs::Output;
+use crate::shelves::Shelf;
 use crate::words::WordsFault;
 use acc_base::{Config, Fault};
-use acc_script::{Sink, Source, Status, run, write_all};
-use arrayvec::ArrayString;
+use acc_follow::{Views, first_difference, follow};
+use acc_script::{MemorySink, MemorySource, Sink, Source, Status, run, write_all};
 use clap::Error;
 use clap::error::ErrorKind;
-use std::fmt::{self, Write};
 use std::sync::Wait;
 use std::thread::Threads;
 
 /// The status of a script that ran to its end, with no statement refused.
 pub const CLEAN: u8 = 0;
 
-/// The status of a script that ran to its end, with some statement refused.
+/// The status of a script that ran to its end, with some statement refused, or with another output than expected.
 pub const REFUSED: u8 = 1;
 
 /// The status of a fault.
@@ -45,22 +46,6 @@ const NOT_TEXT: &str = "error: a word of the command line is not UTF-8
 For more information, try '--help'.
 ";
 
-/// Writes the one line that tells a fault, in one piece and without memory. A failure of the sink changes nothing.
-pub fn tell<E: Sink>(err: &mut E, fault: Fault) {
-    // The longest line has 74 bytes: that of `DeviceFull` with two numbers of 20 digits.
-    let mut line = ArrayString::<80>::new();
-    let _ = write_fault(&mut line, fault);
-    let _ = write_all(err, line.as_bytes());
-}
-
-/// Writes the line of a fault: of a script's fault, where it is and what it is.
-fn write_fault<W: Write>(line: &mut W, fault: Fault) -> fmt::Result {
-    match fault {
-        Fault::Script { line: number, kind } => writeln!(line, "accrun: line {number}: {kind}"),
-        _ => writeln!(line, "accrun: {fault}"),
-    }
-}
-
 /// Tells that the words of the command line could not be had, and answers the status.
 pub fn tell_words<E: Sink>(err: &mut E, fault: WordsFault) -> u8 {
     match fault {
@@ -73,72 +58,160 @@ pub fn tell_words<E: Sink>(err: &mut E, fault: WordsFault) -> u8 {
 }
 
 /// Parses the command line, runs the script or the drill, flushes the output and answers the status: 0, 1 where a
-/// statement was refused, 2 for a fault.
+/// statement was refused or the output is not as expected, 2 for a fault.
 ///
-/// `words` begins with the program's name. The script is read from `reader` and its output goes to `out`. For a drill
-/// nothing is read. A fault of
+/// `words` begins with the program's name. The script is read from `reader`, or is a file of the shelf, and its output
+/// goes to `out`, or is compared with a file of the shelf. For a drill nothing is read. A fault of
 /// the command line is told on `err` in the parser's words, and then nothing is read. Each other fault is told there in
 /// one line, after `out` was flushed: [`Fault::BadConfig`] before those of the run, and [`Fault::Write`] where the
-/// flush fails after a run without fault. Help that is asked for goes to `err` too, with status 0. A failure of `err`
-/// changes nothing.
-pub fn tool<R: Threads + Wait + Sync + AllocGlobal, S: Source, O: Output, E: Sink>(
+/// flush fails after a run without fault. Help and the version that were asked for go to `out`, with status 0. A
+/// failure of `err` changes nothing.
+pub fn tool<R: Threads + Wait + Sync + AllocGlobal, S: Source, O: Output, E: Sink, D: Shelf>(
     rt: &R,
     words: Vec<String>,
     reader: &mut S,
     out: &mut O,
     err: &mut E,
+    shelf: &D,
 ) -> u8 {
     let options = match parsed_options(rt.alloc(), &words) {
         Ok(options) => options,
-        Err(error) => return tell_usage(rt, err, &error),
+        Err(error) => return tell_usage(rt, out, err, &error),
     };
-    let ending = match options.drill {
-        Some(rounds) => drill_threads(rt, options, rounds, out),
-        None => run_script(rt, options, reader, out),
+    let ending = match options.expect {
+        Some(name) => compared(rt, options, name, reader, err, shelf),
+        None => carried_out(rt, options, reader, out, shelf),
     };
     match flushed(out, ending) {
         Ok(Status::Clean) => CLEAN,
         Ok(Status::Refused) => REFUSED,
-        Err(fault) => {
-            tell(err, fault);
+        Err(mishap) => {
+            tell_mishap(rt.alloc(), err, mishap);
             FAULTED
         }
     }
 }
 
 /// Flushes the output of a run; where only that fails, the result is [`Fault::Write`].
-fn flushed<O: Output>(out: &mut O, ending: Result<Status, Fault>) -> Result<Status, Fault> {
+fn flushed<'a, O: Output>(
+    out: &mut O,
+    ending: Result<Status, Mishap<'a>>,
+) -> Result<Status, Mishap<'a>> {
     if !out.flush() && ending.is_ok() {
-        return Err(Fault::Write);
+        return Err(Mishap::Fault(Fault::Write));
     }
     ending
 }
 
-/// Runs the script within the program's limits.
+/// Does what the options say, within the program's limits.
+fn carried_out<'a, R: Threads + Wait + Sync + AllocGlobal, S: Source, O: Sink, D: Shelf>(
+    rt: &R,
+    options: Options<'a>,
+    reader: &mut S,
+    out: &mut O,
+    shelf: &D,
+) -> Result<Status, Mishap<'a>> {
+    let config = limits(options)?;
+    match (options.drill, options.file) {
+        (Some(rounds), _) => Ok(drill_threads(rt, options, config, rounds, out)?),
+        (None, Some(name)) => run_file(rt, options, config, name, out, shelf),
+        (None, None) => Ok(run_script(rt, options, config, reader, out)?),
+    }
+}
+
+/// Runs the script of a file.
+fn run_file<'a, R: Threads + Wait + Sync + AllocGlobal, O: Sink, D: Shelf>(
+    rt: &R,
+    options: Options<'a>,
+    config: Config,
+    name: &'a str,
+    out: &mut O,
+    shelf: &D,
+) -> Result<Status, Mishap<'a>> {
+    let script = read_file(shelf, name)?;
+    Ok(run_script(rt, options, config, &mut MemorySource::new(&script), out)?)
+}
+
+/// The bytes of a file.
+fn read_file<'a, D: Shelf>(shelf: &D, name: &'a str) -> Result<Vec<u8>, Mishap<'a>> {
+    match shelf.read(name) {
+        Ok(bytes) => Ok(bytes),
+        Err(Fault::Memory) => Err(Mishap::Fault(Fault::Memory)),
+        Err(_) => Err(Mishap::Unread(name)),
+    }
+}
+
+/// Does what the options say, and compares the output with a file in place of writing it.
+fn compared<'a, R: Threads + Wait + Sync + AllocGlobal, S: Source, E: Sink, D: Shelf>(
+    rt: &R,
+    options: Options<'a>,
+    name: &'a str,
+    reader: &mut S,
+    err: &mut E,
+    shelf: &D,
+) -> Result<Status, Mishap<'a>> {
+    let expected = read_file(shelf, name)?;
+    let mut found = MemorySink::new(rt.alloc());
+    match carried_out(rt, options, reader, &mut found, shelf) {
+        Ok(_) => Ok(agreement(rt, &expected, found.as_slice(), err)),
+        // This sink fails for want of memory alone.
+        Err(Mishap::Fault(Fault::Write)) => Err(Mishap::Fault(Fault::Memory)),
+        Err(mishap) => Err(mishap),
+    }
+}
+
+/// Tells the first difference of two outputs, if there is one.
+fn agreement<R: AllocGlobal, E: Sink>(
+    rt: &R,
+    expected: &[u8],
+    found: &[u8],
+    err: &mut E,
+) -> Status {
+    match first_difference(expected, found) {
+        None => Status::Clean,
+        Some(difference) => {
+            tell_difference(rt.alloc(), err, difference);
+            Status::Refused
+        }
+    }
+}
+
+/// Runs the script within these limits, and shows more of it where that is asked for.
 fn run_script<R: Threads + Wait + Sync + AllocGlobal, S: Source, O: Sink>(
     rt: &R,
-    options: Options,
+    options: Options<'_>,
+    config: Config,
     reader: &mut S,
     out: &mut O,
 ) -> Result<Status, Fault> {
-    let config = limits(options)?;
+    let Options { echo, json, .. } = options;
+    if echo || json {
+        return follow(
+            rt,
+            reader,
+            out,
+            config,
+            threads(options),
+            Views { echo, json },
+        );
+    }
     run(rt, reader, out, config, threads(options))
 }
 
-/// Makes a drill of so many rounds within the program's limits.
+/// Makes a drill of so many rounds within these limits.
 fn drill_threads<R: Threads + Wait + Sync + AllocGlobal, O: Sink>(
     rt: &R,
-    options: Options,
+    options: Options<'_>,
+    config: Config,
     rounds: u64,
     out: &mut O,
 ) -> Result<Status, Fault> {
-    let config = limits(options)?;
     run_drill(rt, out, config, threads(options), rounds.clamp(1, 1_000))?;
     Ok(Status::Clean)
 }
 
 /// The program's limits, with the sizes and the kind of trace of the command line.
-fn limits(options: Options) -> Result<Config, Fault> {
+fn limits(options: Options<'_>) -> Result<Config, Fault> {
     let config = Config::new(
         options.host,
         options.device,
@@ -157,14 +230,20 @@ fn limits(options: Options) -> Result<Config, Fault> {
 
 /// How many threads work at a kernel, each at a part, or in a drill. The command line gives no other number: here it is
 /// only known to the prover too.
-fn threads(options: Options) -> usize
+fn threads(options: Options<'_>) -> usize
     ensures { (1 ≤ result) × (result ≤ 64) }
 {
     options.threads.clamp(1, 64) as usize
 }
 
-/// Writes what the command line's parser has to say: a fault of the command line, or help.
-fn tell_usage<R: AllocGlobal, E: Sink>(rt: &R, err: &mut E, error: &Error) -> u8 {
+/// Writes what the command line's parser has to say: a fault of the command line to `err`, and help or the version, which
+/// were asked for, to `out`.
+fn tell_usage<R: AllocGlobal, O: Output, E: Sink>(
+    rt: &R,
+    out: &mut O,
+    err: &mut E,
+    error: &Error,
+) -> u8 {
     if error.kind() == ErrorKind::OutOfMemory {
         tell(err, Fault::Memory);
         return FAULTED;
@@ -173,6 +252,18 @@ fn tell_usage<R: AllocGlobal, E: Sink>(rt: &R, err: &mut E, error: &Error) -> u8
         tell(err, Fault::Memory);
         return FAULTED;
     };
-    let _ = write_all(err, text.as_bytes());
-    if error.use_stderr() { FAULTED } else { CLEAN }
+    if error.use_stderr() {
+        let _ = write_all(err, text.as_bytes());
+        return FAULTED;
+    }
+    tell_answer(out, err, &text)
+}
+
+/// Writes what was asked for in place of a run.
+fn tell_answer<O: Output, E: Sink>(out: &mut O, err: &mut E, text: &str) -> u8 {
+    if write_all(out, text.as_bytes()) && out.flush() {
+        return CLEAN;
+    }
+    tell(err, Fault::Write);
+    FAULTED
 }

@@ -348,3 +348,92 @@ pub const FAULTS: [Row; 17] = [
         2,
     ),
 ];
+
+/// Scripts of files, outputs that are compared, echoes, and reports as objects of JSON.
+pub const VIEWS: [Row; 12] = [
+    (
+        "life.acc",
+        "",
+        "line 3: refused 11 NotPresent item 0\nyes\n",
+        "",
+        1,
+    ),
+    ("life.acc --expect life.out", "", "", "", 0),
+    (
+        "--expect short.out life.acc",
+        "",
+        "",
+        "accrun: line 2 of the output is not as expected\nexpected: no more lines\nfound:    yes\n",
+        1,
+    ),
+    (
+        "--expect other.out life.acc",
+        "",
+        "",
+        "accrun: line 2 of the output is not as expected\nexpected: no\nfound:    yes\n",
+        1,
+    ),
+    (
+        "--expect life.out",
+        "report\n",
+        "",
+        "accrun: line 1 of the output is not as expected\nexpected: line 3: refused 11 NotPresent item 0\n\
+            found:    host 65536 device 65536 used 0\n",
+        1,
+    ),
+    (
+        "--expect short.out",
+        "",
+        "",
+        "accrun: line 1 of the output is not as expected\nexpected: line 3: refused 11 NotPresent item 0\n\
+            found:    no more lines\n",
+        1,
+    ),
+    (
+        "--expect life.out",
+        "report\nend data\n",
+        "",
+        "accrun: line 2: NoOpenRegion\n",
+        2,
+    ),
+    (
+        "--echo",
+        "# a life\narray a 2\n\n  write a[0] 0a0b # bytes\r\nshow a\nupdate self(a)\n",
+        "> array a 2\n> write a[0] 0a0b\n> show a\n0a0b\n> update self(a)\nline 6: refused 11 NotPresent item 0\n",
+        "",
+        1,
+    ),
+    (
+        "--echo",
+        "array a 2\nshow b\nshow a\n",
+        "> array a 2\n",
+        "accrun: line 2: UnknownName\n",
+        2,
+    ),
+    (
+        "--echo",
+        "array a 2\ndata create(a)",
+        "> array a 2\n> data create(a)\n",
+        "accrun: line 3: Unclosed\n",
+        2,
+    ),
+    (
+        "--json --device 64",
+        "report\n",
+        "{\"host\":65536,\"device\":64,\"used\":0,\"ranges\":[],\"ended\":[],\"queues\":[],\"regions\":0,\"events\":0}\n",
+        "",
+        0,
+    ),
+    (
+        "--json",
+        "array a 20\narray b 16\nenter data copyin(a)\npoint a[8] to a[0]\nenter data attach(a[8])\n\
+            enter data create(b)\nupdate self(b) async(1)\nexit data copyout(b) async(1)\ndata present(a[0:4])\n\
+            report\nend data\npresent a\n",
+        "{\"host\":65536,\"device\":65536,\"used\":48,\"ranges\":[{\"start\":4096,\"length\":20,\"place\":4294967296,\
+            \"structured\":1,\"dynamic\":1,\"lent\":false,\"pointers\":[{\"address\":4104,\"count\":1}]}],\
+            \"ended\":[{\"place\":4294967328,\"size\":16,\"pins\":2}],\"queues\":[{\"queue\":1,\"length\":2}],\
+            \"regions\":1,\"events\":7}\nyes\n",
+        "",
+        0,
+    ),
+];

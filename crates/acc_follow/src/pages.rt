@@ -1,0 +1,73 @@
+//! A text that is made in memory before any of it is written.
+
+use acc_base::Fault;
+use std::alloc::Global;
+use std::fmt;
+
+/// A text that grows. Where memory is wanting, it says so once, at its end: so what writes it needs no `?`.
+#[derive(Drop)]
+pub struct Page {
+    bytes: Vec<u8>,
+    wants: bool,
+}
+
+impl Page {
+    /// No text.
+    pub fn new(alloc: Global) -> Page {
+        Page {
+            bytes: Vec::new(alloc),
+            wants: false,
+        }
+    }
+
+    /// Adds some text.
+    pub fn text(&mut self, text: &str) {
+        self.bytes(text.as_bytes());
+    }
+
+    /// Adds some bytes.
+    pub fn bytes(&mut self, bytes: &[u8]) {
+        if self.bytes.extend_from_slice(bytes).is_err() {
+            self.wants = true;
+        }
+    }
+
+    /// Adds each of some bytes as two hexadecimal digits in lower case.
+    pub fn digits(&mut self, bytes: &[u8]) {
+        for byte in bytes {
+            self.digit(*byte / 16);
+            self.digit(*byte % 16);
+        }
+    }
+
+    /// Adds a hexadecimal digit; nothing where the value is above 15.
+    fn digit(&mut self, value: u8) {
+        if let Some(digit) = b"0123456789abcdef".get(usize::from(value)) {
+            self.bytes(&[*digit]);
+        }
+    }
+
+    /// The text so far.
+    pub fn as_slice(&self) -> &[u8] {
+        &self.bytes
+    }
+
+    /// The whole text.
+    ///
+    /// # Errors
+    ///
+    /// [`Fault::Memory`] where some of it found no memory.
+    pub fn whole(&self) -> Result<&[u8], Fault> {
+        if self.wants {
+            return Err(Fault::Memory);
+        }
+        Ok(&self.bytes)
+    }
+}
+
+impl fmt::Write for Page {
+    fn write_str(&mut self, text: &str) -> fmt::Result {
+        self.text(text);
+        Ok(())
+    }
+}

@@ -1,0 +1,79 @@
+//! How the program ends, and what it tells then.
+
+use acc_base::Fault;
+use acc_follow::{Difference, Page};
+use acc_script::{Sink, write_all};
+use arrayvec::ArrayString;
+use std::alloc::Global;
+use std::fmt::{self, Write};
+
+/// Why the program ends with status 2.
+#[derive(Clone, Copy)]
+pub enum Mishap<'a> {
+    /// A fault of a run.
+    Fault(Fault),
+    /// A file of this name cannot be read.
+    Unread(&'a str),
+}
+
+impl From<Fault> for Mishap<'_> {
+    fn from(fault: Fault) -> Self {
+        Mishap::Fault(fault)
+    }
+}
+
+/// Writes the line that tells why the program ends with status 2, in one piece. A failure of the sink changes nothing.
+pub fn tell_mishap<E: Sink>(alloc: Global, err: &mut E, mishap: Mishap<'_>) {
+    match mishap {
+        Mishap::Fault(fault) => tell(err, fault),
+        Mishap::Unread(name) => tell_unread(alloc, err, name),
+    }
+}
+
+/// Writes that a file cannot be read.
+fn tell_unread<E: Sink>(alloc: Global, err: &mut E, name: &str) {
+    let mut page = Page::new(alloc);
+    page.text("accrun: cannot read ");
+    page.text(name);
+    page.text("\n");
+    let _ = write_all(err, page.as_slice());
+}
+
+/// Writes the one line that tells a fault, in one piece and without memory. A failure of the sink changes nothing.
+pub fn tell<E: Sink>(err: &mut E, fault: Fault) {
+    // The longest line has 74 bytes: that of `DeviceFull` with two numbers of 20 digits.
+    let mut line = ArrayString::<80>::new();
+    let _ = write_fault(&mut line, fault);
+    let _ = write_all(err, line.as_bytes());
+}
+
+/// Writes the line of a fault: of a script's fault, where it is and what it is.
+fn write_fault<W: Write>(line: &mut W, fault: Fault) -> fmt::Result {
+    match fault {
+        Fault::Script { line: number, kind } => writeln!(line, "accrun: line {number}: {kind}"),
+        _ => writeln!(line, "accrun: {fault}"),
+    }
+}
+
+/// Writes where an output differs from the one that was expected. A failure of the sink changes nothing.
+pub fn tell_difference<E: Sink>(alloc: Global, err: &mut E, difference: Difference<'_>) {
+    let mut page = Page::new(alloc);
+    put_place(&mut page, difference.line);
+    put_line(&mut page, "expected: ", difference.expected);
+    put_line(&mut page, "found:    ", difference.found);
+    let _ = write_all(err, page.as_slice());
+}
+
+fn put_place(page: &mut Page, line: u64) {
+    let _ = writeln!(page, "accrun: line {line} of the output is not as expected");
+}
+
+/// Puts a line of one of the outputs, or that it has ended.
+fn put_line(page: &mut Page, whose: &str, line: Option<&[u8]>) {
+    page.text(whose);
+    match line {
+        Some(line) => page.bytes(line),
+        None => page.text("no more lines"),
+    }
+    page.text("\n");
+}

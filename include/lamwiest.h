@@ -98,7 +98,8 @@ uint32_t lw_table_new(lw_table *table, const lw_limits *limits, lw_fault *fault)
 /* Ends a table with its leases, and gives back all of its memory. A handle without a table stays so. */
 void lw_table_end(lw_table *table);
 
-/* Folds all events into a base, so that there is room in the trace again. It is no event. folded: how many they were. */
+/* Folds all events into a base, so that there is room in the trace again. It is no event. folded: how many there
+   were. */
 uint32_t lw_rebase(lw_table *table, uint64_t *folded, lw_fault *fault);
 
 /* ---- Items of data clauses (OpenACC 3.3, sections 2.6 and 2.7) ---- */
@@ -132,12 +133,15 @@ typedef struct lw_item {
 /* In place of a queue: the copies of the directive are made at once; and for lw_wait, all queues. */
 #define LW_NO_QUEUE_GIVEN UINT64_MAX
 
-/* ---- Directives. Items act in their order. LW_BAD_CLAUSE tells the first whose clause is none of the directive's ---- */
+/* ---- Directives ---- */
+
+/* Items act in their order. LW_BAD_CLAUSE tells the first one whose clause is none of the directive's. */
 
 /* The start of a data construct (section 2.6.5). region: the number by which lw_exit exits from it. */
 uint32_t lw_enter(lw_table *table, const lw_item *items, size_t count, uint64_t *region, lw_fault *fault);
 
-/* The end of a data construct (section 2.6.5). */
+/* The end of a data construct (section 2.6.5). LW_LENT where a block is lent whose counter it takes down, or in which
+   it detaches a pointer. */
 uint32_t lw_exit(lw_table *table, uint64_t region, lw_fault *fault);
 
 /* enter data (section 2.6.6). With async its copies wait in a queue, from 0 to 15 (section 2.16). */
@@ -151,10 +155,13 @@ uint32_t lw_exit_data(lw_table *table, const lw_item *items, size_t count, bool 
 uint32_t lw_update(lw_table *table, const lw_item *items, size_t count, bool if_present, uint64_t queue,
                    lw_fault *fault);
 
-/* wait: all copies of a queue are made, or those of all queues. made: how many they were. */
+/* wait: all copies of a queue are made, or those of all queues. made: how many they were. LW_LENT where the block of
+   one of them is lent. */
 uint32_t lw_wait(lw_table *table, uint64_t queue, uint64_t *made, lw_fault *fault);
 
-/* The device makes the next copy of a queue. made: 1, or 0 where the queue was empty, which is no event. */
+/* The device makes the next copy of a queue. made: 1, or 0 where the queue was empty, which is no event. Where there is
+   no ticket or no room in the trace, the step of an empty queue is refused too. LW_LENT where the copy's block is
+   lent. */
 uint32_t lw_step(lw_table *table, uint64_t queue, uint64_t *made, lw_fault *fault);
 
 /* ---- The bytes of the two memories ---- */
@@ -166,7 +173,7 @@ uint32_t lw_host_write(lw_table *table, uint64_t start, const uint8_t *bytes, si
 uint32_t lw_host_read(lw_table *table, uint64_t start, uint8_t *bytes, size_t len, lw_fault *fault);
 
 /* Copies the bytes that the device has of host addresses. LW_ABSENT where these are not in one mapped range, or their
-   block is lent. It is no event. */
+   block is lent; always where len is 0. It is no event. */
 uint32_t lw_device_read(lw_table *table, uint64_t start, uint8_t *bytes, size_t len, lw_fault *fault);
 
 /* ---- Kernels: a loan of the device's bytes (section 2.5, compute constructs) ---- */
@@ -184,7 +191,10 @@ uint32_t lw_lease_write(lw_table *table, uint64_t lease, const uint8_t *bytes, s
 /* Brings a lease back: the device has its bytes again, as they were last written. A lease that is refused stays. */
 uint32_t lw_gather(lw_table *table, uint64_t lease, lw_fault *fault);
 
-/* ---- Queries: LW_DONE, LW_ENDED, or LW_ABSENT where there is nothing to find. An answer is written only if it is done ---- */
+/* ---- Queries ---- */
+
+/* They answer LW_DONE, LW_ENDED, or LW_ABSENT where there is nothing to find. An answer is written only if it is
+   LW_DONE. */
 
 /* The two reference counters of a mapped range (section 2.6.7). */
 typedef struct lw_counters_of {
@@ -231,11 +241,16 @@ uint32_t lw_events(lw_table *table, uint64_t *events);
 
 /* ---- Texts, in ASCII, without a zero at the end ---- */
 
-/* Writes the report of a table, the text that accrun prints (docs/SCRIPTS.md), at the front of a buffer. len: its length.
-   LW_BAD_LENGTH where the buffer is too short: fault->value is the length that is wanted, and nothing is written. */
+/* How long the text of a refusal is at most, in bytes. */
+#define LW_FAULT_TEXT_MAX 65
+
+/* Writes the report of a table, the text that accrun prints (docs/SCRIPTS.md), at the front of a buffer. len: its
+   length. LW_BAD_LENGTH where the buffer is too short: fault->value is the length that is wanted, and nothing is
+   written. */
 uint32_t lw_report(lw_table *table, uint8_t *buffer, size_t size, uint64_t *len, lw_fault *fault);
 
-/* Writes what a refusal says, as "14 DeviceFull item 0 need 32", at most 65 bytes, in the same way. LW_ABSENT where told is no refusal. */
+/* Writes what a refusal says, as "14 DeviceFull item 0 need 32", in the same way. LW_ABSENT where told has
+   the status of no refusal. */
 uint32_t lw_fault_text(const lw_fault *told, uint8_t *buffer, size_t size, uint64_t *len, lw_fault *fault);
 
 #ifdef __cplusplus

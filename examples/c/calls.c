@@ -1,0 +1,719 @@
+/*
+ * Each call of the library, right and wrong, with what it has to answer. A row is one call; the rows of a scene are
+ * made in their order on one table. A refused call has to leave the report of the table as it was. Before a call is
+ * made for good it is made with each of its growths of memory refused: then it is LW_MEMORY.
+ */
+#include "lamwiest.h"
+#include "refusing.h"
+#include <inttypes.h>
+#include <stdio.h>
+#include <stdlib.h>
+#include <string.h>
+
+/* Stands in a place that no call has written. */
+#define UNTOUCHED UINT64_C(0xEEEEEEEEEEEEEEEE)
+
+/* What a row has to answer. */
+#define DONE .status = LW_DONE, .number = UNTOUCHED
+#define ANSWERS(told) .status = LW_DONE, .number = (told)
+#define REFUSED(why, which, other) .status = (why), .item = (which), .value = (other), .number = UNTOUCHED
+
+/* Three arrays in host memory, of 16 bytes each, and the end of it. */
+#define HOST_SIZE UINT64_C(4096)
+#define A LW_HOST_BASE
+#define B (LW_HOST_BASE + 16)
+#define C (LW_HOST_BASE + 32)
+#define END (LW_HOST_BASE + HOST_SIZE)
+
+#define NO_QUEUE LW_NO_QUEUE_GIVEN
+
+enum { LISTED = 2, ITEMS = 65, TEXT = 4096 };
+
+/* One call: its arguments, and what it has to answer. Bytes are those of a number, the highest first. */
+typedef struct row {
+    const char *says;
+    uint32_t (*make)(lw_table *table, const struct row *row, uint64_t *number, lw_fault *fault);
+    lw_item items[LISTED]; /* a longer list repeats the first one */
+    size_t count;
+    uint64_t at; /* a host address, a queue, or the number of a region or of a lease */
+    uint64_t queue;
+    uint64_t region;
+    uint64_t len;
+    uint64_t bytes;
+    bool option; /* finalize, or if_present */
+    uint32_t status;
+    uint64_t item;
+    uint64_t value;
+    uint64_t number;
+} row;
+
+/* ---- One function for each call: it passes what the row has ---- */
+
+static const lw_item *items_of(const row *row)
+{
+    static lw_item items[ITEMS];
+
+    for (size_t i = 0; i < row->count; i++) {
+        items[i] = row->items[i < LISTED ? i : 0];
+    }
+    return row->count != 0 ? items : NULL;
+}
+
+/* The first eight bytes of a buffer as a number. */
+static uint64_t number_in(const uint8_t *buffer)
+{
+    uint64_t number = 0;
+
+    for (int i = 0; i < 8; i++) {
+        number = number << 8 | buffer[i];
+    }
+    return number;
+}
+
+/* The bytes of a number in a buffer. */
+static const uint8_t *bytes_of(uint64_t number)
+{
+    static uint8_t bytes[8];
+
+    for (int i = 0; i < 8; i++) {
+        bytes[i] = (uint8_t)(number >> (56 - 8 * i));
+    }
+    return bytes;
+}
+
+/* A query has no fault: here it gets that of its status. */
+static uint32_t asked(uint32_t status, lw_fault *fault)
+{
+    *fault = (lw_fault){.status = status};
+    return status;
+}
+
+static uint32_t enter(lw_table *table, const row *row, uint64_t *number, lw_fault *fault)
+{
+    return lw_enter(table, items_of(row), row->count, number, fault);
+}
+
+static uint32_t leave(lw_table *table, const row *row, uint64_t *number, lw_fault *fault)
+{
+    (void)number;
+    return lw_exit(table, row->at, fault);
+}
+
+static uint32_t enter_data(lw_table *table, const row *row, uint64_t *number, lw_fault *fault)
+{
+    (void)number;
+    return lw_enter_data(table, items_of(row), row->count, row->queue, fault);
+}
+
+static uint32_t exit_data(lw_table *table, const row *row, uint64_t *number, lw_fault *fault)
+{
+    (void)number;
+    return lw_exit_data(table, items_of(row), row->count, row->option, row->queue, fault);
+}
+
+static uint32_t update(lw_table *table, const row *row, uint64_t *number, lw_fault *fault)
+{
+    (void)number;
+    return lw_update(table, items_of(row), row->count, row->option, row->queue, fault);
+}
+
+static uint32_t wait_for(lw_table *table, const row *row, uint64_t *number, lw_fault *fault)
+{
+    return lw_wait(table, row->at, number, fault);
+}
+
+static uint32_t step(lw_table *table, const row *row, uint64_t *number, lw_fault *fault)
+{
+    return lw_step(table, row->at, number, fault);
+}
+
+static uint32_t host_write(lw_table *table, const row *row, uint64_t *number, lw_fault *fault)
+{
+    (void)number;
+    return lw_host_write(table, row->at, row->len != 0 ? bytes_of(row->bytes) : NULL, row->len, fault);
+}
+
+static uint32_t host_read(lw_table *table, const row *row, uint64_t *number, lw_fault *fault)
+{
+    uint8_t buffer[16];
+    uint32_t status;
+
+    memcpy(buffer, bytes_of(*number), 8);
+    status = lw_host_read(table, row->at, row->len != 0 ? buffer : NULL, row->len, fault);
+    *number = number_in(buffer);
+    return status;
+}
+
+static uint32_t device_read(lw_table *table, const row *row, uint64_t *number, lw_fault *fault)
+{
+    uint8_t buffer[16];
+    uint32_t status;
+
+    memcpy(buffer, bytes_of(*number), 8);
+    status = lw_device_read(table, row->at, row->len != 0 ? buffer : NULL, row->len, fault);
+    *number = number_in(buffer);
+    return status;
+}
+
+static uint32_t lend(lw_table *table, const row *row, uint64_t *number, lw_fault *fault)
+{
+    return lw_lend(table, row->region, row->at, row->len, number, fault);
+}
+
+static uint32_t lease_read(lw_table *table, const row *row, uint64_t *number, lw_fault *fault)
+{
+    uint8_t buffer[16];
+    uint32_t status;
+
+    memcpy(buffer, bytes_of(*number), 8);
+    status = lw_lease_read(table, row->at, buffer, row->len, fault);
+    *number = number_in(buffer);
+    return status;
+}
+
+static uint32_t lease_write(lw_table *table, const row *row, uint64_t *number, lw_fault *fault)
+{
+    (void)number;
+    return lw_lease_write(table, row->at, bytes_of(row->bytes), row->len, fault);
+}
+
+static uint32_t gather(lw_table *table, const row *row, uint64_t *number, lw_fault *fault)
+{
+    (void)number;
+    return lw_gather(table, row->at, fault);
+}
+
+static uint32_t rebase(lw_table *table, const row *row, uint64_t *number, lw_fault *fault)
+{
+    (void)row;
+    return lw_rebase(table, number, fault);
+}
+
+static uint32_t is_present(lw_table *table, const row *row, uint64_t *number, lw_fault *fault)
+{
+    return asked(lw_is_present(table, row->at, row->len, number), fault);
+}
+
+static uint32_t device_address(lw_table *table, const row *row, uint64_t *number, lw_fault *fault)
+{
+    return asked(lw_device_address(table, row->at, number), fault);
+}
+
+static uint32_t structured(lw_table *table, const row *row, uint64_t *number, lw_fault *fault)
+{
+    lw_counters_of counters = {.structured = *number};
+    uint32_t status = lw_counters(table, row->at, row->len, &counters);
+
+    *number = counters.structured;
+    return asked(status, fault);
+}
+
+static uint32_t dynamic(lw_table *table, const row *row, uint64_t *number, lw_fault *fault)
+{
+    lw_counters_of counters = {.dynamic = *number};
+    uint32_t status = lw_counters(table, row->at, row->len, &counters);
+
+    *number = counters.dynamic;
+    return asked(status, fault);
+}
+
+static uint32_t attachment(lw_table *table, const row *row, uint64_t *number, lw_fault *fault)
+{
+    return asked(lw_attachment(table, row->at, number), fault);
+}
+
+/* The start of the first mapped range from an address on. The report has the rest. */
+static uint32_t mapped(lw_table *table, const row *row, uint64_t *number, lw_fault *fault)
+{
+    lw_mapped_range range = {.start = *number};
+    uint32_t status = lw_mapped(table, row->at, &range);
+
+    *number = range.start;
+    return asked(status, fault);
+}
+
+static uint32_t queue_len(lw_table *table, const row *row, uint64_t *number, lw_fault *fault)
+{
+    return asked(lw_queue_len(table, row->at, number), fault);
+}
+
+static uint32_t used(lw_table *table, const row *row, uint64_t *number, lw_fault *fault)
+{
+    (void)row;
+    return asked(lw_used(table, number), fault);
+}
+
+static uint32_t regions(lw_table *table, const row *row, uint64_t *number, lw_fault *fault)
+{
+    (void)row;
+    return asked(lw_regions(table, number), fault);
+}
+
+static uint32_t events(lw_table *table, const row *row, uint64_t *number, lw_fault *fault)
+{
+    (void)row;
+    return asked(lw_events(table, number), fault);
+}
+
+/* The report into a buffer of this length. */
+static uint32_t report(lw_table *table, const row *row, uint64_t *number, lw_fault *fault)
+{
+    uint8_t buffer[TEXT];
+
+    return lw_report(table, row->len != 0 ? buffer : NULL, row->len, number, fault);
+}
+
+/* ---- The scenes ---- */
+
+static const row USUAL[] = {
+    {"the report into no buffer", report, .len = 0, REFUSED(LW_BAD_LENGTH, 0, 46)},
+    {"the report into a buffer one too short", report, .len = 45, REFUSED(LW_BAD_LENGTH, 0, 46)},
+    {"the report into a buffer as long", report, .len = 46, ANSWERS(46)},
+
+    {"host write", host_write, .at = A, .len = 8, .bytes = 0x0102030405060708, DONE},
+    {"host write of no bytes, anywhere", host_write, .at = 0, DONE},
+    {"host write before host memory", host_write, .at = A - 1, .len = 2, REFUSED(LW_OUT_OF_HOST, 0, 0)},
+    {"host write past its end", host_write, .at = END - 1, .len = 2, REFUSED(LW_OUT_OF_HOST, 0, 0)},
+    {"host write past the last address", host_write, .at = UINT64_MAX, .len = 8, REFUSED(LW_OUT_OF_HOST, 0, 0)},
+    {"host read", host_read, .at = A, .len = 4, ANSWERS(0x01020304EEEEEEEE)},
+    {"host read of no bytes", host_read, .at = 0, DONE},
+    {"host read past its end", host_read, .at = END, .len = 1, REFUSED(LW_OUT_OF_HOST, 0, 0)},
+    {"both writes are events", events, ANSWERS(2)},
+
+    {"data", enter, {{LW_COPY, A, 16, 0}}, 1, ANSWERS(1)},
+    {"data without items", enter, .count = 0, ANSWERS(2)},
+    {"data in as many regions as may be", enter, {{LW_PRESENT, A, 16, 0}}, 1, REFUSED(LW_NO_ALLOWANCE, 0, 0)},
+    {"end data", leave, .at = 2, DONE},
+    {"end data twice", leave, .at = 2, REFUSED(LW_NO_REGION, 0, 2)},
+    {"end data of no region", leave, .at = 0, REFUSED(LW_NO_REGION, 0, 0)},
+    {"data with a clause of exit data", enter, {{LW_COPY, A, 16, 0}, {LW_DELETE, A, 16, 0}}, 2,
+     REFUSED(LW_BAD_CLAUSE, 1, 0)},
+    {"data with a clause that is none", enter, {{0, A, 16, 0}}, 1, REFUSED(LW_BAD_CLAUSE, 0, 0)},
+    {"data with clauses that are none, too many", enter, {{14, A, 16, 0}}, ITEMS, REFUSED(LW_BAD_CLAUSE, 0, 0)},
+    {"data of too many items", enter, {{LW_PRESENT, A, 16, 0}, {LW_PRESENT, A, 16, 0}}, ITEMS,
+     REFUSED(LW_TOO_MANY_ITEMS, 0, ITEMS)},
+    {"data outside of host memory", enter, {{LW_PRESENT, A, 16, 0}, {LW_CREATE, END - 8, 16, 0}}, 2,
+     REFUSED(LW_OUT_OF_HOST, 1, 0)},
+    {"data at a pointer that is not aligned", enter, {{LW_ATTACH, A + 4, 0, 0}}, 1, REFUSED(LW_MISALIGNED, 0, 0)},
+    {"data of a section that is partly present", enter, {{LW_CREATE, A + 8, 16, 0}}, 1,
+     REFUSED(LW_PARTLY_PRESENT, 0, 0)},
+    {"data present of an absent section", enter, {{LW_PRESENT, B, 16, 0}}, 1, REFUSED(LW_NOT_PRESENT, 0, 0)},
+    {"data counting more than may be", enter, {{LW_PRESENT, A, 16, 0}, {LW_PRESENT, A, 16, 0}}, 2,
+     REFUSED(LW_COUNTER_FULL, 1, 0)},
+
+    {"device read", device_read, .at = A, .len = 8, ANSWERS(0x0102030405060708)},
+    {"device read of an absent section", device_read, .at = B, .len = 8, REFUSED(LW_ABSENT, 0, 0)},
+    {"device read of no bytes", device_read, .at = A, REFUSED(LW_ABSENT, 0, 0)},
+    {"present", is_present, .at = A, .len = 16, ANSWERS(1)},
+    {"present in part", is_present, .at = A, .len = 17, ANSWERS(0)},
+    {"no bytes are not present", is_present, .at = A, .len = 0, ANSWERS(0)},
+    {"device address", device_address, .at = A + 3, ANSWERS(LW_DEVICE_BASE + 3)},
+    {"device address of an absent byte", device_address, .at = B, REFUSED(LW_ABSENT, 0, 0)},
+    {"structured counter", structured, .at = A, .len = 16, ANSWERS(1)},
+    {"dynamic counter", dynamic, .at = A, .len = 16, ANSWERS(0)},
+    {"counters of an absent section", structured, .at = B, .len = 16, REFUSED(LW_ABSENT, 0, 0)},
+    {"first mapped range", mapped, .at = 0, ANSWERS(A)},
+    {"mapped range behind the last", mapped, .at = A + 1, REFUSED(LW_ABSENT, 0, 0)},
+    {"used", used, ANSWERS(16)},
+    {"regions", regions, ANSWERS(1)},
+
+    {"enter data async", enter_data, {{LW_COPYIN, B, 16, 0}}, 1, .queue = 3, DONE},
+    {"queue length", queue_len, .at = 3, ANSWERS(1)},
+    {"length of no queue", queue_len, .at = 16, ANSWERS(0)},
+    {"enter data async in no queue", enter_data, {{LW_CREATE, C, 16, 0}}, 1, .queue = 16, REFUSED(LW_NO_QUEUE, 0, 16)},
+    {"enter data async in a full queue", enter_data, {{LW_COPYIN, C, 16, 0}}, 1, .queue = 3,
+     REFUSED(LW_QUEUE_FULL, 0, 3)},
+    {"enter data with a clause of data", enter_data, {{LW_COPY, C, 16, 0}}, 1, .queue = NO_QUEUE,
+     REFUSED(LW_BAD_CLAUSE, 0, 0)},
+    {"enter data of more than the device has", enter_data, {{LW_CREATE_ZERO, C, 48, 0}}, 1, .queue = NO_QUEUE,
+     REFUSED(LW_DEVICE_FULL, 0, 48)},
+    {"step", step, .at = 3, ANSWERS(1)},
+    {"step of an empty queue", step, .at = 3, ANSWERS(0)},
+    {"step of no queue", step, .at = 16, REFUSED(LW_NO_QUEUE, 0, 16)},
+    {"update async", update, {{LW_DEVICE, B, 16, 0}}, 1, .queue = 15, DONE},
+    {"wait for all queues", wait_for, .at = NO_QUEUE, ANSWERS(1)},
+    {"wait for an empty queue", wait_for, .at = 15, ANSWERS(0)},
+    {"wait for no queue", wait_for, .at = 16, REFUSED(LW_NO_QUEUE, 0, 16)},
+    {"update", update, {{LW_SELF, A, 8, 0}}, 1, .queue = NO_QUEUE, DONE},
+    {"update with a clause of data", update, {{LW_SELF, A, 8, 0}, {LW_COPYIN, A, 8, 0}}, 2, .queue = NO_QUEUE,
+     REFUSED(LW_BAD_CLAUSE, 1, 0)},
+    {"update of an absent section", update, {{LW_SELF, C, 8, 0}}, 1, .queue = NO_QUEUE, REFUSED(LW_NOT_PRESENT, 0, 0)},
+    {"update of it if_present", update, {{LW_SELF, C, 8, 0}}, 1, .queue = NO_QUEUE, .option = true, DONE},
+
+    {"host write of a pointer to A", host_write, .at = C, .len = 8, .bytes = 0x0010000000000000, DONE},
+    {"enter data of the pointer", enter_data, {{LW_COPYIN, C, 16, 0}}, 1, .queue = NO_QUEUE, DONE},
+    {"attach", enter_data, {{LW_ATTACH, C, 0, 0}}, 1, .queue = NO_QUEUE, DONE},
+    {"attachment counter", attachment, .at = C, ANSWERS(1)},
+    {"the device has a pointer to A's place", device_read, .at = C, .len = 8, ANSWERS(0x0000000001000000)},
+    {"detach", exit_data, {{LW_DETACH, C, 0, 0}}, 1, .queue = NO_QUEUE, DONE},
+    {"attachment counter of a detached pointer", attachment, .at = C, ANSWERS(0)},
+    {"the device has the host's pointer", device_read, .at = C, .len = 8, ANSWERS(0x0010000000000000)},
+    {"data of a section and its pointer", enter, {{LW_PRESENT, A, 16, C}}, 1, ANSWERS(3)},
+    {"the pointer is attached", attachment, .at = C, ANSWERS(1)},
+    {"the end of that data", leave, .at = 3, DONE},
+    {"the pointer is detached", attachment, .at = C, ANSWERS(0)},
+
+    {"enter data once more", enter_data, {{LW_CREATE, B, 16, 0}}, 1, .queue = NO_QUEUE, DONE},
+    {"enter data counting more than may be", enter_data, {{LW_CREATE, B, 16, 0}}, 1, .queue = NO_QUEUE,
+     REFUSED(LW_COUNTER_FULL, 0, 0)},
+    {"exit data with a clause of enter data", exit_data, {{LW_COPYIN, B, 16, 0}}, 1, .queue = NO_QUEUE,
+     REFUSED(LW_BAD_CLAUSE, 0, 0)},
+    {"exit data of two ranges at once", exit_data, {{LW_DELETE, B + 8, 16, 0}}, 1, .queue = NO_QUEUE,
+     REFUSED(LW_PARTLY_PRESENT, 0, 0)},
+    {"exit data async in no queue", exit_data, {{LW_DELETE, B, 16, 0}}, 1, .queue = 99, REFUSED(LW_NO_QUEUE, 0, 99)},
+    {"exit data", exit_data, {{LW_DELETE, B, 16, 0}}, 1, .queue = NO_QUEUE, DONE},
+    {"dynamic counter after one exit", dynamic, .at = B, .len = 16, ANSWERS(1)},
+    {"enter data again", enter_data, {{LW_CREATE, B, 16, 0}}, 1, .queue = NO_QUEUE, DONE},
+    {"exit data finalize", exit_data, {{LW_COPYOUT, B, 16, 0}}, 1, .queue = NO_QUEUE, .option = true, DONE},
+    {"B is not present then", is_present, .at = B, .len = 16, ANSWERS(0)},
+    {"A's and C's blocks are used", used, ANSWERS(32)},
+
+    {"lend", lend, .region = 1, .at = A + 4, .len = 8, ANSWERS(1)},
+    {"lend in no region", lend, .region = 9, .at = A, .len = 8, REFUSED(LW_NO_REGION, 0, 9)},
+    {"lend outside of host memory", lend, .region = 1, .at = END, .len = 8, REFUSED(LW_OUT_OF_HOST, 0, 0)},
+    {"lend an absent section", lend, .region = 1, .at = B, .len = 8, REFUSED(LW_NOT_PRESENT, 0, 0)},
+    {"lend no bytes", lend, .region = 1, .at = A, .len = 0, REFUSED(LW_NOT_PRESENT, 0, 0)},
+    {"lend a section that is partly present", lend, .region = 1, .at = A + 8, .len = 16,
+     REFUSED(LW_PARTLY_PRESENT, 0, 0)},
+    {"lend a block twice", lend, .region = 1, .at = A, .len = 4, REFUSED(LW_LENT, 0, 1)},
+    {"device read of a lent block", device_read, .at = A, .len = 4, REFUSED(LW_ABSENT, 0, 0)},
+    {"update of a lent block", update, {{LW_SELF, A, 8, 0}}, 1, .queue = NO_QUEUE, REFUSED(LW_LENT, 0, 1)},
+    {"end data while its block is lent", leave, .at = 1, REFUSED(LW_LENT, 0, 1)},
+    {"lease read", lease_read, .at = 1, .len = 8, ANSWERS(0x0506070800000000)},
+    {"lease read into a buffer too short", lease_read, .at = 1, .len = 7, REFUSED(LW_BAD_LENGTH, 0, 8)},
+    {"lease read into a buffer too long", lease_read, .at = 1, .len = 9, REFUSED(LW_BAD_LENGTH, 0, 8)},
+    {"lease read of no lease", lease_read, .at = 2, .len = 8, REFUSED(LW_NO_LEASE, 0, 2)},
+    {"lease write", lease_write, .at = 1, .len = 8, .bytes = 0x1112131415161718, DONE},
+    {"lease write of too few bytes", lease_write, .at = 1, .len = 7, REFUSED(LW_BAD_LENGTH, 0, 8)},
+    {"lease write of no lease", lease_write, .at = 2, .len = 8, REFUSED(LW_NO_LEASE, 0, 2)},
+    {"gather of no lease", gather, .at = 2, REFUSED(LW_NO_LEASE, 0, 2)},
+    {"gather", gather, .at = 1, DONE},
+    {"gather twice", gather, .at = 1, REFUSED(LW_NO_LEASE, 0, 1)},
+    {"lease read after gather", lease_read, .at = 1, .len = 8, REFUSED(LW_NO_LEASE, 0, 1)},
+    {"the device has the kernel's bytes", device_read, .at = A, .len = 8, ANSWERS(0x0102030411121314)},
+    {"the host has its own", host_read, .at = A, .len = 8, ANSWERS(0x0102030405060708)},
+    {"end data copies out", leave, .at = 1, DONE},
+    {"the host has the kernel's bytes", host_read, .at = A, .len = 8, ANSWERS(0x0102030411121314)},
+    {"no region is open", regions, ANSWERS(0)},
+};
+
+/* Three tickets, and room for one event in the trace. */
+static const row FEW_EVENTS[] = {
+    {"the first event", host_write, .at = A, .len = 1, DONE},
+    {"an event in a full trace", host_write, .at = A, .len = 1, REFUSED(LW_TRACE_FULL, 0, 1)},
+    {"a step in a full trace", step, .at = 0, REFUSED(LW_TRACE_FULL, 0, 1)},
+    {"rebase", rebase, ANSWERS(1)},
+    {"rebase of no events", rebase, ANSWERS(0)},
+    {"the second event", enter, {{LW_CREATE, A, 16, 0}}, 1, ANSWERS(1)},
+    {"a second rebase", rebase, ANSWERS(1)},
+    {"the third event, with a lease", lend, .region = 1, .at = A, .len = 16, ANSWERS(1)},
+    {"gather without a ticket", gather, .at = 1, REFUSED(LW_NO_TICKETS, 0, 0)},
+    {"that lease stays", lease_write, .at = 1, .len = 8, REFUSED(LW_BAD_LENGTH, 0, 16)},
+    {"end data without a ticket", leave, .at = 1, REFUSED(LW_NO_TICKETS, 0, 0)},
+    {"a query without a ticket", events, ANSWERS(3)},
+};
+
+/* ---- The driver ---- */
+
+typedef struct scene {
+    const char *name;
+    lw_limits limits;
+    const row *rows;
+    size_t count;
+} scene;
+
+#define ROWS(rows) (rows), sizeof(rows) / sizeof *(rows)
+
+static const scene SCENES[] = {
+    {"usual", {HOST_SIZE, 64, 2, 1000, 2, 1, 1000, false}, ROWS(USUAL)},
+    {"usual, full traces", {HOST_SIZE, 64, 2, 1000, 2, 1, 1000, true}, ROWS(USUAL)},
+    {"few events", {HOST_SIZE, 64, 2, 3, 2, 1, 1, false}, ROWS(FEW_EVENTS)},
+    {"few events, full traces", {HOST_SIZE, 64, 2, 3, 2, 1, 1, true}, ROWS(FEW_EVENTS)},
+};
+
+static unsigned wrong;
+static size_t refused_growths;
+
+static void check(bool holds, const char *where, const char *what)
+{
+    if (!holds) {
+        printf("wrong: %s: %s\n", where, what);
+        wrong++;
+    }
+}
+
+/* The report of a table as a string. */
+static void report_of(lw_table *table, char *text)
+{
+    uint64_t len = 0;
+    lw_fault fault;
+
+    check(lw_report(table, (uint8_t *)text, TEXT - 1, &len, &fault) == LW_DONE, "report", "it is refused");
+    text[len] = 0;
+}
+
+/* What a call answered. */
+typedef struct answer {
+    uint32_t status;
+    lw_fault fault;
+    uint64_t number;
+    bool is_short; /* a growth of memory was refused */
+} answer;
+
+/* Makes the call of a row while the growth of a number is refused. */
+static answer answer_of(lw_table *table, const row *row, size_t growth)
+{
+    answer answer = {.fault = {99, 99, 99}, .number = UNTOUCHED};
+
+    refuse_growth(growth);
+    answer.status = row->make(table, row, &answer.number, &answer.fault);
+    answer.is_short = was_growth_refused();
+    refuse_growth(0);
+    return answer;
+}
+
+static bool is_memory(const answer *answer)
+{
+    return answer->is_short && answer->status == LW_MEMORY && answer->fault.status == LW_MEMORY &&
+           answer->fault.item == 0 && answer->fault.value == 0 && answer->number == UNTOUCHED;
+}
+
+/* The answer is the one that the row tells. */
+static bool is_told(const answer *answer, const row *row)
+{
+    return answer->status == row->status && answer->fault.status == row->status && answer->fault.item == row->item &&
+           answer->fault.value == row->value && answer->number == row->number;
+}
+
+/* Makes the call of a row with each of its growths refused in turn, until it is done or none is left to refuse. Short
+   of memory it is LW_MEMORY, or what it is refused for in any case. */
+static void make(lw_table *table, const row *row, const char *where)
+{
+    char before[TEXT];
+    char after[TEXT];
+    size_t growth = 0;
+    answer answer;
+
+    report_of(table, before);
+    do {
+        answer = answer_of(table, row, ++growth);
+        report_of(table, after);
+        check(is_memory(&answer) || is_told(&answer, row), where, row->says);
+        check(answer.status == LW_DONE || strcmp(before, after) == 0, where, "a refused call changes the report");
+    } while (answer.is_short && answer.status != LW_DONE);
+    refused_growths += growth - 1;
+}
+
+/* Each call is LW_ENDED on a handle that has no table. */
+static void make_ended(lw_table *table, const row *row)
+{
+    uint64_t number = UNTOUCHED;
+    lw_fault fault = {99, 99, 99};
+    uint32_t status = row->make(table, row, &number, &fault);
+
+    check(status == LW_ENDED && fault.status == LW_ENDED && fault.item == 0 && fault.value == 0 && number == UNTOUCHED,
+          "without a table", row->says);
+}
+
+static void play(const scene *scene)
+{
+    lw_table table = LW_NO_TABLE;
+    lw_fault fault;
+
+    for (size_t i = 0; i < scene->count; i++) {
+        make_ended(&table, &scene->rows[i]);
+    }
+    check(lw_table_new(&table, &scene->limits, &fault) == LW_DONE, scene->name, "no table");
+    for (size_t i = 0; i < scene->count; i++) {
+        make(&table, &scene->rows[i], scene->name);
+    }
+    lw_table_end(&table);
+    for (size_t i = 0; i < scene->count; i++) {
+        make_ended(&table, &scene->rows[i]);
+    }
+    lw_table_end(&table);
+}
+
+/* ---- Tables without memory ---- */
+
+/* With each growth of a new table refused in turn, what the handle had before stays: a table, or none. */
+static void check_short_tables(bool is_full)
+{
+    lw_table kept = LW_NO_TABLE;
+    lw_table none = LW_NO_TABLE;
+    lw_limits limits;
+    lw_fault fault;
+    uint64_t number;
+    size_t growth = 0;
+
+    lw_limits_default(&limits);
+    limits.full = is_full;
+    check(lw_table_new(&kept, &limits, &fault) == LW_DONE, "table", "it is refused");
+    for (;;) {
+        refuse_growth(++growth);
+        lw_table_new(&none, &limits, &fault);
+        if (!was_growth_refused()) {
+            break;
+        }
+        check(fault.status == LW_MEMORY && lw_events(&none, &number) == LW_ENDED, "table", "it needs no memory");
+        refuse_growth(growth);
+        lw_table_new(&kept, &limits, &fault);
+        check(fault.status == LW_MEMORY && lw_events(&kept, &number) == LW_DONE, "table", "it ends for want of memory");
+    }
+    refuse_growth(0);
+    check(fault.status == LW_DONE && lw_events(&none, &number) == LW_DONE, "table", "it is not there with memory");
+    refused_growths += growth - 1;
+    lw_table_end(&kept);
+    lw_table_end(&none);
+}
+
+/* ---- Limits and texts ---- */
+
+/* The bounds of a limit. */
+static const struct {
+    const char *name;
+    size_t place;
+    uint64_t least;
+    uint64_t greatest;
+} BOUNDS[] = {
+    {"host", offsetof(lw_limits, host), 16, 67108864},
+    {"device", offsetof(lw_limits, device), 16, 67108864},
+    {"regions", offsetof(lw_limits, regions), 1, 65536},
+    {"tickets", offsetof(lw_limits, tickets), 1, UINT64_C(1) << 40},
+    {"counter_max", offsetof(lw_limits, counter_max), 1, UINT64_C(4294967295)},
+    {"queue_cap", offsetof(lw_limits, queue_cap), 1, 4096},
+    {"trace_cap", offsetof(lw_limits, trace_cap), 1, 16777216},
+};
+
+/* What a table with one limit other than the default answers. A table that it had stays where it is refused. */
+static uint32_t status_with(size_t place, uint64_t limit)
+{
+    lw_table table = LW_NO_TABLE;
+    lw_limits limits;
+    lw_fault fault;
+    uint64_t number = 0;
+    uint32_t status;
+
+    lw_limits_default(&limits);
+    lw_table_new(&table, &limits, &fault);
+    memcpy((uint8_t *)&limits + place, &limit, sizeof limit);
+    status = lw_table_new(&table, &limits, &fault);
+    check(fault.status == status && lw_events(&table, &number) == LW_DONE, "table", "the handle has no table");
+    lw_table_end(&table);
+    return status;
+}
+
+static void check_limits(void)
+{
+    lw_limits limits = {0};
+
+    lw_limits_default(&limits);
+    check(limits.host == 65536 && limits.device == 65536 && limits.regions == 64 && limits.tickets == 1048576 &&
+              limits.counter_max == UINT64_C(4294967295) && limits.queue_cap == 256 && limits.trace_cap == 262144 &&
+              !limits.full,
+          "limits", "default");
+    for (size_t i = 0; i < sizeof BOUNDS / sizeof *BOUNDS; i++) {
+        check(status_with(BOUNDS[i].place, BOUNDS[i].least) == LW_DONE, "least", BOUNDS[i].name);
+        check(status_with(BOUNDS[i].place, BOUNDS[i].greatest) == LW_DONE, "greatest", BOUNDS[i].name);
+        check(status_with(BOUNDS[i].place, BOUNDS[i].least - 1) == LW_BAD_CONFIG, "below", BOUNDS[i].name);
+        check(status_with(BOUNDS[i].place, BOUNDS[i].greatest + 1) == LW_BAD_CONFIG, "above", BOUNDS[i].name);
+    }
+    check(status_with(offsetof(lw_limits, host), 24) == LW_BAD_CONFIG, "no multiple of 16", "host");
+    check(status_with(offsetof(lw_limits, device), 24) == LW_BAD_CONFIG, "no multiple of 16", "device");
+}
+
+/* What each refusal says. */
+static const struct {
+    lw_fault told;
+    const char *text;
+} TEXTS[] = {
+    {{LW_MEMORY, 0, 0}, "1 Memory"},
+    {{LW_BAD_CONFIG, 0, 0}, "2 BadConfig"},
+    {{LW_NO_TICKETS, 0, 0}, "3 NoTickets left 0"},
+    {{LW_NO_ALLOWANCE, 0, 0}, "4 NoAllowance left 0"},
+    {{LW_TOO_MANY_ITEMS, 0, 65}, "5 TooManyItems n 65"},
+    {{LW_TRACE_FULL, 0, 262144}, "6 TraceFull len 262144"},
+    {{LW_OUT_OF_HOST, 1, 0}, "7 OutOfHost item 1"},
+    {{LW_MISALIGNED, 2, 0}, "8 Misaligned item 2"},
+    {{LW_NO_QUEUE, 0, 16}, "9 NoQueue q 16"},
+    {{LW_PARTLY_PRESENT, 3, 0}, "10 PartlyPresent item 3"},
+    {{LW_NOT_PRESENT, 4, 0}, "11 NotPresent item 4"},
+    {{LW_COUNTER_FULL, 5, 0}, "12 CounterFull item 5"},
+    {{LW_LENT, 0, 6}, "13 Lent block 6"},
+    {{LW_DEVICE_FULL, 7, 32}, "14 DeviceFull item 7 need 32"},
+    {{LW_QUEUE_FULL, 0, 15}, "15 QueueFull q 15"},
+    {{LW_NO_REGION, 0, 8}, "16 NoRegion number 8"},
+    {{LW_NO_LEASE, 0, 9}, "17 NoLease serial 9"},
+    {{LW_ENDED, 0, 0}, "32 Ended"},
+    {{LW_BAD_CLAUSE, 63, 0}, "33 BadClause item 63"},
+    {{LW_BAD_LENGTH, 0, 20}, "34 BadLength len 20"},
+    {{LW_ABSENT, 0, 0}, "35 Absent"},
+    {{LW_DEVICE_FULL, UINT64_MAX, UINT64_MAX},
+     "14 DeviceFull item 18446744073709551615 need 18446744073709551615"},
+};
+
+/* Statuses that are no refusal. */
+static const uint32_t NO_REFUSALS[] = {LW_DONE, 18, 31, 36, UINT32_MAX};
+
+static void check_texts(void)
+{
+    uint8_t buffer[TEXT];
+    lw_fault fault;
+
+    for (size_t i = 0; i < sizeof TEXTS / sizeof *TEXTS; i++) {
+        size_t wanted = strlen(TEXTS[i].text);
+        uint64_t len = UNTOUCHED;
+
+        memset(buffer, '.', sizeof buffer);
+        check(lw_fault_text(&TEXTS[i].told, buffer, wanted - 1, &len, &fault) == LW_BAD_LENGTH &&
+                  fault.value == wanted && len == UNTOUCHED && buffer[0] == '.',
+              "text into a buffer too short", TEXTS[i].text);
+        check(lw_fault_text(&TEXTS[i].told, buffer, wanted, &len, &fault) == LW_DONE && len == wanted &&
+                  memcmp(buffer, TEXTS[i].text, wanted) == 0 && buffer[wanted] == '.',
+              "text", TEXTS[i].text);
+        refuse_growth(1);
+        check(lw_fault_text(&TEXTS[i].told, buffer, 0, &len, &fault) == LW_MEMORY && len == wanted,
+              "text without memory", TEXTS[i].text);
+        refuse_growth(0);
+    }
+    for (size_t i = 0; i < sizeof NO_REFUSALS / sizeof *NO_REFUSALS; i++) {
+        uint64_t len = UNTOUCHED;
+        lw_fault told = {NO_REFUSALS[i], 1, 2};
+
+        check(lw_fault_text(&told, buffer, sizeof buffer, &len, &fault) == LW_ABSENT && len == UNTOUCHED,
+              "text", "of a status that is no refusal");
+    }
+}
+
+/* The longest text of all refusals with the greatest numbers is as long as the header says. */
+static void check_longest_text(void)
+{
+    uint8_t buffer[TEXT];
+    uint64_t longest = 0;
+    lw_fault fault;
+
+    for (uint32_t status = 0; status < 64; status++) {
+        lw_fault told = {status, UINT64_MAX, UINT64_MAX};
+        uint64_t len = 0;
+
+        lw_fault_text(&told, buffer, sizeof buffer, &len, &fault);
+        longest = len > longest ? len : longest;
+    }
+    check(longest == LW_FAULT_TEXT_MAX, "text", "the longest has another length");
+}
+
+int main(void)
+{
+    for (size_t i = 0; i < sizeof SCENES / sizeof *SCENES; i++) {
+        play(&SCENES[i]);
+    }
+    check_short_tables(false);
+    check_short_tables(true);
+    check_limits();
+    check_texts();
+    check_longest_text();
+    check(refused_growths != 0, "memory", "no growth was refused");
+    check(blocks_held() == 0, "memory", "a block is lost");
+    printf(wrong == 0 ? "each call answers as it has to\n" : "%u answers are wrong\n", wrong);
+    return wrong == 0 ? EXIT_SUCCESS : EXIT_FAILURE;
+}

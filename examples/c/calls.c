@@ -379,6 +379,10 @@ static const row USUAL[] = {
     {"device read of a lent block", device_read, .at = A, .len = 4, REFUSED(LW_ABSENT, 0, 0)},
     {"update of a lent block", update, {{LW_SELF, A, 8, 0}}, 1, .queue = NO_QUEUE, REFUSED(LW_LENT, 0, 1)},
     {"end data while its block is lent", leave, .at = 1, REFUSED(LW_LENT, 0, 1)},
+    {"update async of a lent block", update, {{LW_SELF, A, 8, 0}}, 1, .queue = 5, DONE},
+    {"step of a copy of a lent block", step, .at = 5, REFUSED(LW_LENT, 0, 1)},
+    {"wait for it", wait_for, .at = 5, REFUSED(LW_LENT, 0, 1)},
+    {"wait for all queues, with it", wait_for, .at = NO_QUEUE, REFUSED(LW_LENT, 0, 1)},
     {"lease read", lease_read, .at = 1, .len = 8, ANSWERS(0x0506070800000000)},
     {"lease read into a buffer too short", lease_read, .at = 1, .len = 7, REFUSED(LW_BAD_LENGTH, 0, 8)},
     {"lease read into a buffer too long", lease_read, .at = 1, .len = 9, REFUSED(LW_BAD_LENGTH, 0, 8)},
@@ -394,6 +398,9 @@ static const row USUAL[] = {
     {"the host has its own", host_read, .at = A, .len = 8, ANSWERS(0x0102030405060708)},
     {"end data copies out", leave, .at = 1, DONE},
     {"the host has the kernel's bytes", host_read, .at = A, .len = 8, ANSWERS(0x0102030411121314)},
+    {"the block stays while a copy waits", used, ANSWERS(32)},
+    {"step of that copy", step, .at = 5, ANSWERS(1)},
+    {"the block is given back", used, ANSWERS(16)},
     {"no region is open", regions, ANSWERS(0)},
 };
 

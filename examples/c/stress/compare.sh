@@ -24,6 +24,11 @@ LW_NOT_PRESENT LW_DEVICE_FULL LW_QUEUE_FULL LW_ABSENT'
 made=0
 wrong=0
 
+if [ ! -x "$accrun" ]; then
+    echo "compare.sh: there is no program $accrun; \`rt run\` in crates/accrun builds it" >&2
+    exit 2
+fi
+
 # Makes calls of a profile, and runs accrun on their script.
 compare() {
     "$stress" "$1" "$2" "$3" "$folder" >> "$folder/counts"

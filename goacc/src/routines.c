@@ -1,0 +1,85 @@
+/* The routines that are directives of one item (OpenACC 3.3, sections 3.2.18 to 3.2.31), as GCC 12's openacc.h declares
+   them. */
+#include "inner.h"
+
+/* One directive of one item. Answers the device address of its section, where that is mapped then. */
+static void *one_item(const char *name, void *from, lwa_way way, bool finalize, uint32_t clause, void *at, size_t len,
+                      int async)
+{
+    lwa_directive directive = {.way = way, .option = finalize};
+    void *found = at;
+
+    lwa_take(name, from);
+    if (lwa_is_for_table()) {
+        directive.queue = lwa_queue(async);
+        lwa_add_item(&directive.items, clause, (uintptr_t)at, len);
+        lwa_direct(&directive);
+        found = len != 0 ? (void *)lwa_device_of((uintptr_t)at) : NULL;
+    }
+    lwa_leave();
+    return found;
+}
+
+#define ENTRY(name, clause) \
+    LWA_EXPORT void *name(void *at, size_t len) \
+    { \
+        return one_item(#name, LWA_FROM, LWA_ENTER_DATA, false, clause, at, len, LWA_NO_ASYNC); \
+    }
+#define ENTRY_ASYNC(name, clause) \
+    LWA_EXPORT void name(void *at, size_t len, int async) \
+    { \
+        one_item(#name, LWA_FROM, LWA_ENTER_DATA, false, clause, at, len, async); \
+    }
+#define ROUTINE(name, way, finalize, clause) \
+    LWA_EXPORT void name(void *at, size_t len) \
+    { \
+        one_item(#name, LWA_FROM, way, finalize, clause, at, len, LWA_NO_ASYNC); \
+    } \
+    LWA_EXPORT void name##_async(void *at, size_t len, int async) \
+    { \
+        one_item(#name "_async", LWA_FROM, way, finalize, clause, at, len, async); \
+    }
+#define POINTER_ROUTINE(name, way, finalize, clause) \
+    LWA_EXPORT void name(void **at) \
+    { \
+        one_item(#name, LWA_FROM, way, finalize, clause, at, 0, LWA_NO_ASYNC); \
+    } \
+    LWA_EXPORT void name##_async(void **at, int async) \
+    { \
+        one_item(#name "_async", LWA_FROM, way, finalize, clause, at, 0, async); \
+    }
+
+ENTRY(acc_copyin, LW_COPYIN)
+ENTRY(acc_present_or_copyin, LW_COPYIN)
+ENTRY(acc_pcopyin, LW_COPYIN)
+ENTRY(acc_create, LW_CREATE)
+ENTRY(acc_present_or_create, LW_CREATE)
+ENTRY(acc_pcreate, LW_CREATE)
+ENTRY_ASYNC(acc_copyin_async, LW_COPYIN)
+ENTRY_ASYNC(acc_create_async, LW_CREATE)
+ROUTINE(acc_copyout, LWA_EXIT_DATA, false, LW_COPYOUT)
+ROUTINE(acc_copyout_finalize, LWA_EXIT_DATA, true, LW_COPYOUT)
+ROUTINE(acc_delete, LWA_EXIT_DATA, false, LW_DELETE)
+ROUTINE(acc_delete_finalize, LWA_EXIT_DATA, true, LW_DELETE)
+ROUTINE(acc_update_device, LWA_UPDATE, false, LW_DEVICE)
+ROUTINE(acc_update_self, LWA_UPDATE, false, LW_SELF)
+POINTER_ROUTINE(acc_attach, LWA_ENTER_DATA, false, LW_ATTACH)
+POINTER_ROUTINE(acc_detach, LWA_EXIT_DATA, false, LW_DETACH)
+POINTER_ROUTINE(acc_detach_finalize, LWA_EXIT_DATA, true, LW_DETACH)
+
+/* Behind the object of the first byte lies an address that is mapped nowhere: so all of the section is in it. */
+LWA_EXPORT int acc_is_present(void *at, size_t len)
+{
+    uint64_t told, present = 1;
+
+    lwa_take("acc_is_present", LWA_FROM);
+    if (lwa_is_for_table()) {
+        told = lwa_told((uintptr_t)at);
+        present = 0;
+        if (told != 0) {
+            lw_is_present(&lwa_table, told, len != 0 ? len : 1, &present);
+        }
+    }
+    lwa_leave();
+    return present != 0;
+}

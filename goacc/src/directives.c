@@ -128,14 +128,25 @@ bool lwa_call(lwa_directive *d, bool may_be_refused)
 
 /* ---- Before and after ---- */
 
-/* Finds what a directive may do to each of its items. */
+static bool is_mapped(const lwa_item *item)
+{
+    uint64_t present = 0;
+
+    lw_is_present(&lwa_table, item->told.start, item->told.len, &present);
+    return present != 0;
+}
+
+/* Finds what a directive may do to each of its items. The counters, which take longer, decide where it leaves. */
 static void look_up(lwa_directive *d)
 {
+    const bool leaves = d->way == LWA_EXIT_DATA || d->way == LWA_END_DATA;
+
     for (size_t i = 0; i < d->items.count; i++) {
         lwa_item *item = &d->items.at[i];
+        const lw_item *told = &item->told;
 
         item->before = item->len != 0
-            && lw_counters(&lwa_table, item->told.start, item->told.len, &item->counters) == LW_DONE;
+            && (leaves ? lw_counters(&lwa_table, told->start, told->len, &item->counters) == LW_DONE : is_mapped(item));
         item->alone = is_alone(&d->items, i);
         item->may_copy = may_copy(d, item);
     }
@@ -188,14 +199,6 @@ static void mirror_before(const lwa_directive *d)
     if (d->way == LWA_DATA || d->way == LWA_ENTER_DATA) {
         lwa_aim_pointers(&d->items);
     }
-}
-
-static bool is_mapped(const lwa_item *item)
-{
-    uint64_t present = 0;
-
-    lw_is_present(&lwa_table, item->told.start, item->told.len, &present);
-    return present != 0;
 }
 
 /* Reads what the table copied to the program's bytes, and keeps the copies that wait. */

@@ -46,7 +46,7 @@ typedef struct lwa_item {
     bool held;               /* whether a region holds it, and its pointer, which the log alone reads */
     bool attached;
     bool before;             /* whether it was present before the directive */
-    lw_counters_of counters; /* its counters then */
+    lw_counters_of counters; /* its counters then, where the directive leaves it */
     bool alone;              /* whether no other item of the directive is in the same object */
     bool may_copy;           /* whether the directive may copy bytes of it */
 } lwa_item;

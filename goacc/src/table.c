@@ -1,10 +1,12 @@
 /* The lock, the table under it, and the end of a program that is refused. */
 #define _GNU_SOURCE
 #include <dlfcn.h>
+#include <errno.h>
 #include <inttypes.h>
 #include <pthread.h>
 #include <stdio.h>
 #include <stdlib.h>
+#include <string.h>
 
 #include "inner.h"
 
@@ -21,12 +23,21 @@ static uint64_t stored;
 static const char *caller_name;
 static void *caller_from;
 
-/* A size in bytes from the environment. */
+/* A size in bytes from the environment, of digits alone. */
 static uint64_t size_of(const char *word, uint64_t otherwise)
 {
     const char *text = getenv(word);
+    uint64_t size;
 
-    return text != NULL ? strtoull(text, NULL, 10) : otherwise;
+    if (text == NULL) {
+        return otherwise;
+    }
+    errno = 0;
+    size = strtoull(text, NULL, 10);
+    if (errno != 0 || text[0] == '\0' || text[strspn(text, "0123456789")] != '\0') {
+        lwa_unserved("%s is '%s', which is no number of bytes", word, text);
+    }
+    return size;
 }
 
 static void start_table(void)

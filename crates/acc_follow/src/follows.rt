@@ -1,10 +1,13 @@
 //! Follows a script.
 
+use crate::logs::Log;
+use crate::names::Names;
+use crate::outputs::Output;
 use crate::pages::Page;
 use crate::report_objects::put_report;
 use crate::texts::statement_text;
 use acc_base::{Config, Fault, ScriptFault};
-use acc_read::{Trouble, line_at, next_line};
+use acc_read::{Statement, Trouble, line_at, next_line};
 use acc_script::{Effect, Session, Sink, Source, Status, read_all, write_all, write_effect};
 use acc_table::Table;
 use std::sync::Wait;
@@ -17,48 +20,165 @@ pub struct Views {
     pub echo: bool,
     /// The report as an object of JSON.
     pub json: bool,
+    /// The log: what each call did.
+    pub log: bool,
 }
 
 /// Reads a whole script and runs it as `acc_script::run` does, line by line on a new table of these limits, and shows
-/// more of it.
+/// more of it. The log goes to `err`, each call's lines behind what the lines before it print.
 ///
 /// # Errors
 ///
-/// Those of `acc_script::run`; what the lines before the fault print was written.
-pub fn follow<R: Threads + Wait + Sync + AllocGlobal, S: Source, W: Sink>(
+/// Those of `acc_script::run`; what the lines before the fault print was written. Memory may be wanting for what is
+/// shown, too. A failure of `err` changes nothing.
+pub fn follow<R: Threads + Wait + Sync + AllocGlobal, S: Source, O: Output, E: Sink>(
     rt: &R,
     reader: &mut S,
-    writer: &mut W,
+    out: &mut O,
+    err: &mut E,
     config: Config,
     parts: usize,
     views: Views,
 ) -> Result<Status, Fault> {
     let input = read_all(rt.alloc(), reader)?;
-    let mut session = Session::new(rt.alloc(), config, parts)?;
-    follow_lines(rt, &mut session, views, &input, writer)
+    let mut follower = Follower {
+        session: Session::new(rt.alloc(), config, parts)?,
+        names: Names::new(rt.alloc()),
+        log: Log::new(rt.alloc()),
+        views,
+    };
+    let ending = follower.lines(rt, &input, out, err);
+    let is_told = follower.end_log(out, err);
+    let status = ending?;
+    is_told?;
+    Ok(status)
 }
 
-/// Follows all lines of an input.
-fn follow_lines<R: Threads + Wait + Sync + AllocGlobal, W: Sink>(
-    rt: &R,
-    session: &mut Session,
+/// A script that is followed.
+#[derive(Drop)]
+struct Follower {
+    session: Session,
+    names: Names,
+    log: Log,
     views: Views,
-    input: &[u8],
-    writer: &mut W,
-) -> Result<Status, Fault> {
-    let mut rest = input;
-    let mut done = 0u64;
-    let mut refused = false;
-    for _ in 0..input.len() {
-        if rest.is_empty() {
-            break;
+}
+
+impl Follower {
+    /// Follows all lines of an input.
+    fn lines<R: Threads + Wait + Sync + AllocGlobal, O: Output, E: Sink>(
+        &mut self,
+        rt: &R,
+        input: &[u8],
+        out: &mut O,
+        err: &mut E,
+    ) -> Result<Status, Fault> {
+        let mut rest = input;
+        let mut done = 0u64;
+        let mut refused = false;
+        // Each line has a byte, its line feed at least.
+        for _ in 0..input.len() {
+            if rest.is_empty() {
+                break;
+            }
+            let (line, after) = next_line(rest);
+            done = done.saturating_add(1);
+            refused |= self.line(rt, done, line, out, err)?;
+            rest = after;
         }
-        let (line, after) = next_line(rest);
-        done = done.saturating_add(1);
-        refused |= follow_line(rt, done, session, views, line, writer)?;
-        rest = after;
+        end_at(
+            done.saturating_add(1),
+            self.session.table.regions(),
+            refused,
+        )
     }
-    end_at(done.saturating_add(1), session.table.regions(), refused)
+
+    /// Runs the line of a number and shows what it prints and did; answers whether it was refused.
+    fn line<R: Threads + Wait + Sync + AllocGlobal, O: Output, E: Sink>(
+        &mut self,
+        rt: &R,
+        number: u64,
+        line: &[u8],
+        out: &mut O,
+        err: &mut E,
+    ) -> Result<bool, Fault> {
+        let effect = self.perform(rt, number, line)?;
+        if self.views.echo {
+            write_echo(rt, line, out)?;
+        }
+        show(rt, number, &self.session.table, self.views, effect, out)?;
+        self.tell(number, line, effect, out, err)?;
+        Ok(effect.is_refused())
+    }
+
+    /// Runs the line of a number, and answers what it has to print.
+    fn perform<R: Threads + Wait + Sync + AllocGlobal>(
+        &mut self,
+        rt: &R,
+        number: u64,
+        line: &[u8],
+    ) -> Result<Effect, Fault> {
+        let innermost = self.session.table.newest_region();
+        match line_at(rt.alloc(), &self.session.arrays, innermost, line) {
+            Ok(statement) => {
+                self.note_array(rt, &statement)?;
+                self.session.perform(rt, statement)
+            }
+            Err(trouble) => Err(fault_of(number, trouble)),
+        }
+    }
+
+    /// Keeps the name of an array that a statement declares, where something is shown by it.
+    fn note_array<R: AllocGlobal>(
+        &mut self,
+        rt: &R,
+        statement: &Statement<'_>,
+    ) -> Result<(), Fault> {
+        if let (true, Statement::Declare { name, array }) = (self.views.log, statement) {
+            self.names.insert(rt.alloc(), name, *array)?;
+        }
+        Ok(())
+    }
+
+    /// Writes the lines of the log that tell of a line of the script.
+    fn tell<O: Output, E: Sink>(
+        &mut self,
+        number: u64,
+        line: &[u8],
+        effect: Effect,
+        out: &mut O,
+        err: &mut E,
+    ) -> Result<(), Fault> {
+        if !self.views.log {
+            return Ok(());
+        }
+        let text = statement_text(line);
+        self.log
+            .tell(&self.names, number, text, &self.session.table, effect)?;
+        self.write_log(out, err)
+    }
+
+    /// Writes the last line of the log.
+    fn end_log<O: Output, E: Sink>(&mut self, out: &mut O, err: &mut E) -> Result<(), Fault> {
+        if !self.views.log {
+            return Ok(());
+        }
+        self.log.tell_total();
+        self.write_log(out, err)
+    }
+
+    /// Writes what the log has, behind what was printed so far.
+    fn write_log<O: Output, E: Sink>(&mut self, out: &mut O, err: &mut E) -> Result<(), Fault> {
+        let lines = self.log.page.whole()?;
+        if lines.is_empty() {
+            return Ok(());
+        }
+        if !out.flush() {
+            return Err(Fault::Write);
+        }
+        let _ = write_all(err, lines);
+        self.log.page.clear();
+        Ok(())
+    }
 }
 
 /// How a script ends behind its last line.
@@ -72,28 +192,6 @@ fn end_at(line: u64, regions: u64, refused: bool) -> Result<Status, Fault> {
     } else {
         Status::Clean
     })
-}
-
-/// Runs the line of a number and shows what it prints; answers whether it was refused.
-fn follow_line<R: Threads + Wait + Sync + AllocGlobal, W: Sink>(
-    rt: &R,
-    number: u64,
-    session: &mut Session,
-    views: Views,
-    line: &[u8],
-    writer: &mut W,
-) -> Result<bool, Fault> {
-    let innermost = session.table.newest_region();
-    let statement = match line_at(rt.alloc(), &session.arrays, innermost, line) {
-        Ok(statement) => statement,
-        Err(trouble) => return Err(fault_of(number, trouble)),
-    };
-    let effect = session.perform(rt, statement)?;
-    if views.echo {
-        write_echo(rt, line, writer)?;
-    }
-    show(rt, number, &session.table, views, effect, writer)?;
-    Ok(effect.is_refused())
 }
 
 /// The fault of a line that gives no statement.

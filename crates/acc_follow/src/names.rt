@@ -1,8 +1,10 @@
 //! The arrays of a script by their addresses.
 
+use crate::pages::Page;
 use acc_base::Section;
 use acc_read::Array;
 use std::alloc::{AllocError, Global};
+use std::collections::BTreeMap;
 
 /// An array and its name.
 #[derive(Drop)]
@@ -22,39 +24,59 @@ pub struct Spot<'a> {
     pub offset: u64,
 }
 
-/// The arrays that a script has declared, by rising addresses.
+impl Spot<'_> {
+    /// Puts the byte as scripts name it: `a[8]`.
+    pub fn put_byte(self, page: &mut Page) {
+        page.bytes(self.name);
+        page.text("[");
+        page.number(self.offset);
+        page.text("]");
+    }
+
+    /// Puts so many bytes from here on as scripts name them: `a[8:4]`, or `a` where they are the whole array.
+    pub fn put_part(self, page: &mut Page, len: u64) {
+        page.bytes(self.name);
+        if self.offset == 0 && len == self.array.whole().len {
+            return;
+        }
+        page.text("[");
+        page.number(self.offset);
+        page.text(":");
+        page.number(len);
+        page.text("]");
+    }
+}
+
+/// The arrays that a script has declared, by their first addresses.
 #[derive(Drop)]
 pub struct Names {
-    all: Vec<Named>,
+    all: BTreeMap<u32, Named>,
 }
 
 impl Names {
     /// No array.
     pub fn new(alloc: Global) -> Names {
         Names {
-            all: Vec::new(alloc),
+            all: BTreeMap::new(alloc),
         }
     }
 
-    /// Adds an array behind the others.
+    /// Adds an array.
     ///
     /// # Errors
     ///
     /// Where memory is wanting; then nothing is added.
     pub fn insert(&mut self, alloc: Global, name: &[u8], array: Array) -> Result<(), AllocError> {
         let name = Vec::from_slice(alloc, name)?;
-        self.all.push(Named { name, array })?;
+        self.all.insert(array.start, Named { name, array })?;
         Ok(())
     }
 
     /// Where an address lies; `None` where no array has it.
     pub fn spot(&self, address: u64) -> Option<Spot<'_>> {
-        for named in &self.all {
-            if let Some(spot) = spot_in(named, address) {
-                return Some(spot);
-            }
-        }
-        None
+        let address = u32::try_from(address).ok()?;
+        let (_, named) = self.all.range(..=address).next_back()?;
+        spot_in(named, u64::from(address))
     }
 
     /// Where a section begins, if it is not empty and lies in one array.

@@ -2,7 +2,7 @@
 
 use acc_base::Fault;
 use std::alloc::Global;
-use std::fmt;
+use std::fmt::{self, Write};
 
 /// A text that grows. Where memory is wanting, it says so once, at its end: so what writes it needs no `?`.
 #[derive(Drop)]
@@ -30,6 +30,26 @@ impl Page {
         if self.bytes.extend_from_slice(bytes).is_err() {
             self.wants = true;
         }
+    }
+
+    /// Adds a number in decimal digits.
+    pub fn number(&mut self, number: u64) {
+        let _ = write!(self, "{number}");
+    }
+
+    /// Adds an address: `0x` and hexadecimal digits in lower case.
+    pub fn address(&mut self, address: u64) {
+        let _ = write!(self, "0x{address:x}");
+    }
+
+    /// Adds a fault: its number, its name, and each field with its value.
+    pub fn fault(&mut self, fault: Fault) {
+        let _ = write!(self, "{fault}");
+    }
+
+    /// Takes all text away.
+    pub fn clear(&mut self) {
+        self.bytes.clear();
     }
 
     /// Adds each of some bytes as two hexadecimal digits in lower case.
@@ -65,7 +85,7 @@ impl Page {
     }
 }
 
-impl fmt::Write for Page {
+impl Write for Page {
     fn write_str(&mut self, text: &str) -> fmt::Result {
         self.text(text);
         Ok(())

@@ -5,7 +5,6 @@
 mod drills;
 mod endings;
 mod options;
-mod outputs;
 mod shelves;
 #[cfg(test)]
 mod tests;
@@ -14,12 +13,12 @@ mod watching;
 mod words;
 
 use crate::endings::tell;
-use crate::outputs::Output;
 use crate::shelves::Disk;
 use crate::tools::{FAULTED, tell_words, tool};
 use crate::watching::watched;
 use crate::words::read_words;
 use acc_base::Fault;
+use acc_follow::Output;
 use acc_script::{FromRead, Sink, Source, ToWrite};
 use std::io::{BufWriter, IsTerminal};
 use std::process::ExitCode;

@@ -27,6 +27,8 @@ pub struct Options<'a> {
     pub echo: bool,
     /// Whether the report is an object of JSON.
     pub json: bool,
+    /// Whether what each call did is told on standard error.
+    pub log: bool,
     /// The size of host memory in bytes.
     pub host: u64,
     /// The size of device memory in bytes.
@@ -146,7 +148,8 @@ fn with_views<'a>(alloc: Global, command: Command<'a>) -> Result<Command<'a>, Er
             .arg(file_argument(alloc))?
             .arg(expect_option(alloc))?
             .arg(flag(alloc, "echo", "Write each statement before its output"))?
-            .arg(flag(alloc, "json", "Write the report as JSON"))?,
+            .arg(flag(alloc, "json", "Write the report as JSON"))?
+            .arg(flag(alloc, "log", "Tell what each call did"))?,
     )
 }
 
@@ -157,6 +160,7 @@ fn options_of<'a>(matches: &ArgMatches<'a>) -> Options<'a> {
         expect: matches.get_str("expect"),
         echo: matches.get_flag("echo"),
         json: matches.get_flag("json"),
+        log: matches.get_flag("log"),
         host: matches.get_one::<u64>("host").unwrap_or(DEFAULT_SIZE),
         device: matches.get_one::<u64>("device").unwrap_or(DEFAULT_SIZE),
         threads: matches.get_one::<u64>("threads").unwrap_or(DEFAULT_THREADS),

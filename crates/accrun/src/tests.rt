@@ -1,12 +1,11 @@
 //! What the program does, over sources and sinks in memory.
 
-use crate::outputs::Output;
 use crate::shelves::Shelf;
 use crate::tools::{tell_words, tool};
 use crate::words::{WordsFault, read_words};
 use acc_base::Fault;
 use acc_script::{MemorySink, MemorySource};
-use rows::{COPIES, DRILLS, FAULTS, KERNELS, LIVES, QUEUES, REFUSALS, Row, VIEWS};
+use rows::{COPIES, DRILLS, FAULTS, KERNELS, LIVES, LOGS, QUEUES, REFUSALS, Row, VIEWS};
 use std::alloc::{AllocError, Global};
 use std::env::{Env, FillError};
 use std::fmt::Debug;
@@ -33,12 +32,6 @@ fn add_words(words: &mut Vec<String>, alloc: Global, text: &str) -> Result<(), A
         words.push(String::from_str(alloc, word)?)?;
     }
     Ok(())
-}
-
-impl Output for MemorySink {
-    fn flush(&mut self) -> bool {
-        true
-    }
 }
 
 /// The files that the program finds: their names and texts.
@@ -153,6 +146,12 @@ fn scripts_print_and_end_as_they_should(rt: HostRuntime) -> Result<(), Fail> {
     Ok(())
 }
 
+#[test]
+fn logs_tell_what_each_call_did(rt: HostRuntime) -> Result<(), Fail> {
+    check_rows(&rt, &LOGS)?;
+    Ok(())
+}
+
 /// Runs a line of 4,097 bytes, and compares.
 fn check_long_line<R: Threads + Wait + Sync + AllocGlobal + Abort>(
     rt: &R,
@@ -182,7 +181,7 @@ fn a_line_that_is_too_long_is_told(rt: HostRuntime) -> Result<(), Fail> {
 
 /// Command lines with an empty script, their status, and what has to stand in the text on standard output and on
 /// standard error; where it is empty there is no text.
-const COMMAND_LINES: [(&str, u8, &str, &str); 24] = [
+const COMMAND_LINES: [(&str, u8, &str, &str); 25] = [
     ("--host 16 --device 67108864", 0, "", ""),
     ("--threads 1 --trace counts", 0, "", ""),
     ("--threads 64", 0, "", ""),
@@ -222,6 +221,7 @@ const COMMAND_LINES: [(&str, u8, &str, &str); 24] = [
     ("--nothing", 2, "", "'--nothing'"),
     ("--expect", 2, "", "'--expect <OUTPUT>'"),
     ("--echo --json", 0, "", ""),
+    ("--log", 0, "", "lamwiest: total mapped 0 ended 0"),
     ("none.acc", 2, "", "accrun: cannot read none.acc\n"),
     ("--expect none.out", 2, "", "accrun: cannot read none.out\n"),
     ("life.acc life.acc", 2, "", "'life.acc'"),
@@ -273,11 +273,12 @@ fn command_lines_are_read(rt: HostRuntime) -> Result<(), Fail> {
 }
 
 /// What the help has to name.
-const HELP_WORDS: [&str; 43] = [
+const HELP_WORDS: [&str; 44] = [
     "[FILE]",
     "--expect <OUTPUT>",
     "--echo",
     "--json",
+    "--log",
     "--version",
     "--threads <N>",
     "--drill <ROUNDS>",

@@ -5,11 +5,10 @@ ghost use Rattle.std.specs.Prelude.{◌≤◌};
 use crate::drills::run_drill;
 use crate::endings::{Mishap, tell, tell_difference, tell_mishap};
 use crate::options::{Options, parsed_options};
-use crate::outputs::Output;
 use crate::shelves::Shelf;
 use crate::words::WordsFault;
 use acc_base::{Config, Fault};
-use acc_follow::{Views, first_difference, follow};
+use acc_follow::{Output, Views, first_difference, follow};
 use acc_script::{MemorySink, MemorySource, Sink, Source, Status, run, write_all};
 use clap::Error;
 use clap::error::ErrorKind;
@@ -80,7 +79,7 @@ pub fn tool<R: Threads + Wait + Sync + AllocGlobal, S: Source, O: Output, E: Sin
     };
     let ending = match options.expect {
         Some(name) => compared(rt, options, name, reader, err, shelf),
-        None => carried_out(rt, options, reader, out, shelf),
+        None => carried_out(rt, options, reader, out, err, shelf),
     };
     match flushed(out, ending) {
         Ok(Status::Clean) => CLEAN,
@@ -104,32 +103,35 @@ fn flushed<'a, O: Output>(
 }
 
 /// Does what the options say, within the program's limits.
-fn carried_out<'a, R: Threads + Wait + Sync + AllocGlobal, S: Source, O: Sink, D: Shelf>(
+fn carried_out<'a, R: Threads + Wait + Sync + AllocGlobal, S: Source, O: Output, E: Sink, D: Shelf>(
     rt: &R,
     options: Options<'a>,
     reader: &mut S,
     out: &mut O,
+    err: &mut E,
     shelf: &D,
 ) -> Result<Status, Mishap<'a>> {
     let config = limits(options)?;
     match (options.drill, options.file) {
         (Some(rounds), _) => Ok(drill_threads(rt, options, config, rounds, out)?),
-        (None, Some(name)) => run_file(rt, options, config, name, out, shelf),
-        (None, None) => Ok(run_script(rt, options, config, reader, out)?),
+        (None, Some(name)) => run_file(rt, options, config, name, out, err, shelf),
+        (None, None) => Ok(run_script(rt, options, config, reader, out, err)?),
     }
 }
 
 /// Runs the script of a file.
-fn run_file<'a, R: Threads + Wait + Sync + AllocGlobal, O: Sink, D: Shelf>(
+fn run_file<'a, R: Threads + Wait + Sync + AllocGlobal, O: Output, E: Sink, D: Shelf>(
     rt: &R,
     options: Options<'a>,
     config: Config,
     name: &'a str,
     out: &mut O,
+    err: &mut E,
     shelf: &D,
 ) -> Result<Status, Mishap<'a>> {
     let script = read_file(shelf, name)?;
-    Ok(run_script(rt, options, config, &mut MemorySource::new(&script), out)?)
+    let mut reader = MemorySource::new(&script);
+    Ok(run_script(rt, options, config, &mut reader, out, err)?)
 }
 
 /// The bytes of a file.
@@ -152,7 +154,7 @@ fn compared<'a, R: Threads + Wait + Sync + AllocGlobal, S: Source, E: Sink, D: S
 ) -> Result<Status, Mishap<'a>> {
     let expected = read_file(shelf, name)?;
     let mut found = MemorySink::new(rt.alloc());
-    match carried_out(rt, options, reader, &mut found, shelf) {
+    match carried_out(rt, options, reader, &mut found, err, shelf) {
         Ok(_) => Ok(agreement(rt, &expected, found.as_slice(), err)),
         // This sink fails for want of memory alone.
         Err(Mishap::Fault(Fault::Write)) => Err(Mishap::Fault(Fault::Memory)),
@@ -177,25 +179,26 @@ fn agreement<R: AllocGlobal, E: Sink>(
 }
 
 /// Runs the script within these limits, and shows more of it where that is asked for.
-fn run_script<R: Threads + Wait + Sync + AllocGlobal, S: Source, O: Sink>(
+fn run_script<R: Threads + Wait + Sync + AllocGlobal, S: Source, O: Output, E: Sink>(
     rt: &R,
     options: Options<'_>,
     config: Config,
     reader: &mut S,
     out: &mut O,
+    err: &mut E,
 ) -> Result<Status, Fault> {
-    let Options { echo, json, .. } = options;
-    if echo || json {
-        return follow(
-            rt,
-            reader,
-            out,
-            config,
-            threads(options),
-            Views { echo, json },
-        );
+    let Options {
+        echo,
+        json,
+        log,
+        ..
+    } = options;
+    let parts = threads(options);
+    if echo || json || log {
+        let views = Views { echo, json, log };
+        return follow(rt, reader, out, err, config, parts, views);
     }
-    run(rt, reader, out, config, threads(options))
+    run(rt, reader, out, config, parts)
 }
 
 /// Makes a drill of so many rounds within these limits.

@@ -1,8 +1,8 @@
 //! What the program tells where a source or a sink fails.
 
 use super::{check_status, same, shelf, words};
-use crate::outputs::Output;
 use crate::tools::tool;
+use acc_follow::Output;
 use acc_script::{MemorySink, MemorySource, Sink, Source, ToWrite};
 use std::alloc::AllocError;
 use std::cell::Cell;

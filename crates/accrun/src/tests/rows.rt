@@ -437,3 +437,99 @@ pub const VIEWS: [Row; 12] = [
         0,
     ),
 ];
+
+/// Logs: what each call did, on standard error.
+pub const LOGS: [Row; 4] = [
+    (
+        "--log",
+        "array a 16\nwrite a[0] 0102\nenter data copyin(a)\ndata copy(a[0:4]) create(a[4:4])\n\
+            exit data delete(a)\nend data\nshow a[0:2]\n",
+        "0102\n",
+        "lamwiest: line 2: write a[0] 0102\nlamwiest:   wrote 0x1000 2 name a[0:2]\n\
+            lamwiest: line 3: enter data copyin(a)\n\
+            lamwiest:   item 0: mapped 0x1000 16 at 0x100000000 structured 0 dynamic 1 name a\n\
+            lamwiest:   item 0: copied in 0x1000 16 at 0x100000000 name a\n\
+            lamwiest: line 4: data copy(a[0:4]) create(a[4:4])\n\
+            lamwiest:   item 0: counted 0x1000 16 at 0x100000000 structured 1 dynamic 1 name a\n\
+            lamwiest:   item 0: skipped in 0x1000 4 present name a[0:4]\n\
+            lamwiest:   item 1: counted 0x1000 16 at 0x100000000 structured 2 dynamic 1 name a\n\
+            lamwiest:   entered region 1\nlamwiest: line 5: exit data delete(a)\n\
+            lamwiest:   item 0: dropped 0x1000 16 at 0x100000000 structured 2 dynamic 0 name a\n\
+            lamwiest: line 6: end data\n\
+            lamwiest:   item 1: dropped 0x1000 16 at 0x100000000 structured 1 dynamic 0 name a\n\
+            lamwiest:   item 0: copied out 0x1000 4 at 0x100000000 name a[0:4]\n\
+            lamwiest:   item 0: ended 0x1000 16 at 0x100000000 name a\nlamwiest:   exited region 1\n\
+            lamwiest: total mapped 1 ended 1 copied in 1 bytes 16 copied out 1 bytes 4 waiting 0 refused 0\n",
+        0,
+    ),
+    (
+        "--log",
+        "array a 16\narray b 8\nupdate self(a)\nupdate self(a) if_present\n\
+            enter data copyin(a, b[0:0]) async(2)\ndata present(a)\nexit data copyout(a)\nexit data delete(a)\n\
+            end data\nwait(2)\nstep(2)\nwait\n",
+        "line 3: refused 11 NotPresent item 0\nidle\n",
+        "lamwiest: line 3: update self(a)\nlamwiest:   refused 11 NotPresent item 0\n\
+            lamwiest: line 4: update self(a) if_present\nlamwiest:   item 0: absent 0x1000 16 name a\n\
+            lamwiest: line 5: enter data copyin(a, b[0:0]) async(2)\n\
+            lamwiest:   item 0: mapped 0x1000 16 at 0x100000000 structured 0 dynamic 1 name a\n\
+            lamwiest:   item 0: put in 0x1000 16 at 0x100000000 queue 2 name a\nlamwiest:   item 1: empty\n\
+            lamwiest: line 6: data present(a)\n\
+            lamwiest:   item 0: counted 0x1000 16 at 0x100000000 structured 1 dynamic 1 name a\n\
+            lamwiest:   entered region 1\nlamwiest: line 7: exit data copyout(a)\n\
+            lamwiest:   item 0: skipped out 0x1000 16 held name a\n\
+            lamwiest:   item 0: dropped 0x1000 16 at 0x100000000 structured 1 dynamic 0 name a\n\
+            lamwiest: line 8: exit data delete(a)\n\
+            lamwiest:   item 0: kept 0x1000 16 at 0x100000000 structured 1 dynamic 0 name a\n\
+            lamwiest: line 9: end data\nlamwiest:   item 0: ended 0x1000 16 at 0x100000000 name a\n\
+            lamwiest:   exited region 1\nlamwiest: line 10: wait(2)\n\
+            lamwiest:   copied in 0x1000 16 at 0x100000000 queue 2 name a\nlamwiest: line 11: step(2)\n\
+            lamwiest:   idle\nlamwiest: line 12: wait\nlamwiest:   idle\n\
+            lamwiest: total mapped 1 ended 1 copied in 1 bytes 16 copied out 0 bytes 0 waiting 0 refused 1\n",
+        1,
+    ),
+    (
+        "--log",
+        "array s 16\narray t 32\npoint s[8] to t[4]\nenter data copyin(s) copyin(t[0:16] via s[8])\n\
+            enter data attach(s[8])\nexit data detach(s[8])\ndata present(t[0:16])\nkernel add 1 t[4:2]\n\
+            end data\nexit data copyout(t[0:16] via s[8]) delete(s) finalize\nexit data detach(s[8])\n",
+        "",
+        "lamwiest: line 3: point s[8] to t[4]\nlamwiest:   wrote 0x1008 8 name s[8:8]\n\
+            lamwiest: line 4: enter data copyin(s) copyin(t[0:16] via s[8])\n\
+            lamwiest:   item 0: mapped 0x1000 16 at 0x100000000 structured 0 dynamic 1 name s\n\
+            lamwiest:   item 0: copied in 0x1000 16 at 0x100000000 name s\n\
+            lamwiest:   item 1: mapped 0x1010 16 at 0x100000010 structured 0 dynamic 1 name t[0:16]\n\
+            lamwiest:   item 1: copied in 0x1010 16 at 0x100000010 name t[0:16]\n\
+            lamwiest:   item 1: attached 0x1008 to 0x100000014 count 1 name s[8]\n\
+            lamwiest: line 5: enter data attach(s[8])\nlamwiest:   item 0: attached 0x1008 count 2 name s[8]\n\
+            lamwiest: line 6: exit data detach(s[8])\nlamwiest:   item 0: detached 0x1008 count 1 name s[8]\n\
+            lamwiest: line 7: data present(t[0:16])\n\
+            lamwiest:   item 0: counted 0x1010 16 at 0x100000010 structured 1 dynamic 1 name t[0:16]\n\
+            lamwiest:   entered region 1\nlamwiest: line 8: kernel add 1 t[4:2]\n\
+            lamwiest:   lent 0x1014 2 at 0x100000014 serial 1 name t[4:2]\n\
+            lamwiest:   gathered 0x1014 2 at 0x100000014 serial 1 name t[4:2]\nlamwiest: line 9: end data\n\
+            lamwiest:   item 0: dropped 0x1010 16 at 0x100000010 structured 0 dynamic 1 name t[0:16]\n\
+            lamwiest:   exited region 1\n\
+            lamwiest: line 10: exit data copyout(t[0:16] via s[8]) delete(s) finalize\n\
+            lamwiest:   item 0: detached 0x1008 count 0 name s[8]\n\
+            lamwiest:   item 0: copied out 0x1010 16 at 0x100000010 name t[0:16]\n\
+            lamwiest:   item 0: ended 0x1010 16 at 0x100000010 name t[0:16]\n\
+            lamwiest:   item 1: ended 0x1000 16 at 0x100000000 name s\n\
+            lamwiest: line 11: exit data detach(s[8])\nlamwiest:   item 0: unattached 0x1008 name s[8]\n\
+            lamwiest: total mapped 2 ended 2 copied in 2 bytes 32 copied out 1 bytes 16 waiting 0 refused 0\n",
+        0,
+    ),
+    (
+        "--log",
+        "array a 4\nenter data create(a)\nupdate device(a) self(a) async\nstep(0)\nshow b\n",
+        "",
+        "lamwiest: line 2: enter data create(a)\n\
+            lamwiest:   item 0: mapped 0x1000 4 at 0x100000000 structured 0 dynamic 1 name a\n\
+            lamwiest: line 3: update device(a) self(a) async\n\
+            lamwiest:   item 0: put in 0x1000 4 at 0x100000000 queue 0 name a\n\
+            lamwiest:   item 1: put out 0x1000 4 at 0x100000000 queue 0 name a\nlamwiest: line 4: step(0)\n\
+            lamwiest:   copied in 0x1000 4 at 0x100000000 queue 0 name a\n\
+            lamwiest: total mapped 1 ended 0 copied in 1 bytes 4 copied out 0 bytes 0 waiting 1 refused 0\n\
+            accrun: line 5: UnknownName\n",
+        2,
+    ),
+];

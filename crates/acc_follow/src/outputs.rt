@@ -1,6 +1,6 @@
 //! Where the output of a script goes.
 
-use acc_script::{Sink, ToWrite};
+use acc_script::{MemorySink, Sink, ToWrite};
 use std::io::Write;
 
 /// A sink that may keep back what it took.
@@ -12,5 +12,12 @@ pub trait Output: Sink {
 impl<W: Write + Drop> Output for ToWrite<W> {
     fn flush(&mut self) -> bool {
         ToWrite::flush(self)
+    }
+}
+
+// It keeps all that it took.
+impl Output for MemorySink {
+    fn flush(&mut self) -> bool {
+        true
     }
 }

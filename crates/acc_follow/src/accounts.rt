@@ -1,0 +1,151 @@
+//! What the events of a table say of its mapped ranges, pointers, queues and regions, one event after the other.
+//!
+//! The table answers what is so now. A log tells what each item left, so it keeps its own account, from events alone.
+
+use acc_base::{Range, Section};
+use std::alloc::Global;
+use std::collections::BTreeMap;
+
+/// A mapped range with the device address of its first byte.
+#[derive(Clone, Copy)]
+pub struct Placed {
+    /// The range with its counters.
+    pub range: Range,
+    /// The device address of its first byte.
+    pub place: u64,
+}
+
+impl Placed {
+    /// The device address of a host address in the range.
+    pub fn place_of(self, address: u64) -> u64 {
+        self.place
+            .saturating_add(address.saturating_sub(self.range.section.start))
+    }
+}
+
+/// A copy of a section between the two memories.
+#[derive(Clone, Copy)]
+pub struct Copied {
+    /// The section of host memory.
+    pub section: Section,
+    /// The device address of its first byte.
+    pub place: u64,
+    /// From the device to host memory, and not the other way.
+    pub out: bool,
+}
+
+/// A copy that waits in a queue.
+#[derive(Clone, Copy)]
+struct Waiting {
+    queue: u64,
+    copied: Copied,
+}
+
+/// What the events so far say. Where memory was wanting for some of it, it says so.
+#[derive(Drop)]
+pub struct Account {
+    ranges: BTreeMap<u64, Placed>,
+    pointers: BTreeMap<(u64, u64), u64>,
+    waiting: Vec<Waiting>,
+    regions: Vec<usize>,
+    wants: bool,
+}
+
+impl Account {
+    /// That of a table without events.
+    pub fn new(alloc: Global) -> Account {
+        Account {
+            ranges: BTreeMap::new(alloc),
+            pointers: BTreeMap::new(alloc),
+            waiting: Vec::new(alloc),
+            regions: Vec::new(alloc),
+            wants: false,
+        }
+    }
+
+    /// Whether memory was wanting for some of it.
+    pub fn wants(&self) -> bool {
+        self.wants
+    }
+
+    /// The mapped range that a section is inside, if it is not empty and inside one.
+    pub fn inside(&self, section: Section) -> Option<Placed> {
+        let (_, placed) = self.ranges.range(..=section.start).next_back()?;
+        is_in(section, placed.range.section).then_some(*placed)
+    }
+
+    /// A range is mapped, or its counters are these now.
+    pub fn set(&mut self, placed: Placed) {
+        if self
+            .ranges
+            .insert(placed.range.section.start, placed)
+            .is_err()
+        {
+            self.wants = true;
+        }
+    }
+
+    /// The mapping of a range has ended.
+    pub fn remove(&mut self, placed: Placed) {
+        self.ranges.remove(&placed.range.section.start);
+    }
+
+    /// How often a pointer in a block is attached.
+    pub fn attached(&self, block: u64, pointer: u64) -> u64 {
+        self.pointers.get(&(block, pointer)).copied().unwrap_or(0)
+    }
+
+    /// A pointer in a block is attached so often now.
+    pub fn attach(&mut self, block: u64, pointer: u64, count: u64) {
+        if self.pointers.insert((block, pointer), count).is_err() {
+            self.wants = true;
+        }
+    }
+
+    /// A copy is put into a queue.
+    pub fn put(&mut self, queue: u64, copied: Copied) {
+        if self.waiting.push(Waiting { queue, copied }).is_err() {
+            self.wants = true;
+        }
+    }
+
+    /// The first copy of a queue, which is made now.
+    pub fn take(&mut self, queue: u64) -> Option<Copied> {
+        let nth = self.waiting.iter().position(|w| w.queue == queue)?;
+        if nth < self.waiting.len() {
+            return Some(self.waiting.remove(nth).copied);
+        }
+        None
+    }
+
+    /// The first of the queues in which copies wait.
+    pub fn first_queue(&self) -> Option<u64> {
+        self.waiting.iter().map(|w| w.queue).min()
+    }
+
+    /// How many copies wait.
+    pub fn waiting(&self) -> usize {
+        self.waiting.len()
+    }
+
+    /// A region is open whose entry is the event at a place of the trace.
+    pub fn open(&mut self, at: usize) {
+        if self.regions.push(at).is_err() {
+            self.wants = true;
+        }
+    }
+
+    /// The innermost region is left; answers the place of its entry in the trace.
+    pub fn close(&mut self) -> Option<usize> {
+        self.regions.pop()
+    }
+}
+
+/// Whether a section is not empty, and each of its addresses is one of another.
+fn is_in(section: Section, other: Section) -> bool {
+    let before = section.start.saturating_sub(other.start);
+    0 < section.len
+        && other.start <= section.start
+        && before <= other.len
+        && section.len <= other.len.saturating_sub(before)
+}

@@ -1,0 +1,183 @@
+//! What the log tells of one item.
+
+use crate::accounts::{Copied, Placed};
+use crate::log_items::{Drops, LogItem};
+use crate::log_lines::{
+    put_copy, put_item, put_name, put_place, put_pointer, put_queue, put_range, put_section,
+    put_skipped, put_spot,
+};
+use crate::logs::Log;
+use crate::names::Names;
+use acc_base::{Aim, Counter, Did, Step};
+
+impl Log {
+    /// Tells an item that enters: its mapping, its copy, its pointer.
+    pub fn tell_enter(&mut self, names: &Names, told: LogItem, counter: Counter, did: Did) {
+        match did.step {
+            Step::Born { block, place } => {
+                let placed = told.born(counter, block, place);
+                self.totals.mapped = self.totals.mapped.saturating_add(1);
+                self.tell_range(names, told, "mapped", placed);
+                self.tell_copy(names, told, placed);
+            }
+            Step::Counted { .. } => self.tell_counted(names, told, counter),
+            _ => self.tell_nothing(names, told),
+        }
+        self.tell_aim(names, told, did.aim);
+    }
+
+    /// Tells a mapping that was found and counted once more.
+    fn tell_counted(&mut self, names: &Names, told: LogItem, counter: Counter) {
+        let Some(found) = self.account.inside(told.section) else {
+            return;
+        };
+        let placed = found.raised(counter);
+        self.tell_range(names, told, "counted", placed);
+        if told.copies {
+            put_skipped(&mut self.page, names, told, "present");
+        }
+    }
+
+    /// Tells an item that leaves: its pointer, its copy, its mapping.
+    pub fn tell_leave(&mut self, names: &Names, told: LogItem, drops: Drops, did: Did) {
+        self.tell_aim(names, told, did.aim);
+        match did.step {
+            Step::Dropped { .. } => self.tell_drop(names, told, drops, did.step),
+            _ => self.tell_nothing(names, told),
+        }
+    }
+
+    /// Tells a mapping that was counted once less.
+    pub fn tell_drop(&mut self, names: &Names, told: LogItem, drops: Drops, step: Step) {
+        let (Some(found), Step::Dropped { ended, .. }) = (self.account.inside(told.section), step)
+        else {
+            return;
+        };
+        if ended {
+            self.tell_end(names, told, found);
+            return;
+        }
+        if told.copies {
+            put_skipped(&mut self.page, names, told, "held");
+        }
+        self.tell_range(names, told, "dropped", found.lowered(drops));
+    }
+
+    /// Tells the end of a mapping.
+    fn tell_end(&mut self, names: &Names, told: LogItem, found: Placed) {
+        self.tell_copy(names, told, found);
+        self.totals.ended = self.totals.ended.saturating_add(1);
+        self.account.remove(found);
+        put_section(&mut self.page, told, "ended", found.range.section);
+        put_place(&mut self.page, found.place);
+        put_name(&mut self.page, names, found.range.section);
+    }
+
+    /// Tells an item of `update`.
+    pub fn tell_move(&mut self, names: &Names, told: LogItem, step: Step) {
+        match (step, self.account.inside(told.section)) {
+            (Step::Moved { .. }, Some(found)) => self.tell_copy(names, told, found),
+            _ => self.tell_nothing(names, told),
+        }
+    }
+
+    /// Tells an item that did nothing to mappings: its section is empty or absent, or nothing of `enter data` counts it.
+    /// One of `attach` or `detach` names none.
+    fn tell_nothing(&mut self, names: &Names, told: LogItem) {
+        if told.is_pointer {
+            return;
+        }
+        if told.section.len == 0 {
+            put_item(&mut self.page, told, "empty");
+            self.page.text("\n");
+            return;
+        }
+        match self.account.inside(told.section) {
+            Some(found) => put_range(&mut self.page, names, told, "kept", found),
+            None => {
+                put_section(&mut self.page, told, "absent", told.section);
+                put_name(&mut self.page, names, told.section);
+            }
+        }
+    }
+
+    /// Tells a mapping as it is now, and keeps it so.
+    fn tell_range(&mut self, names: &Names, told: LogItem, word: &str, placed: Placed) {
+        self.account.set(placed);
+        put_range(&mut self.page, names, told, word, placed);
+    }
+
+    /// Tells the copy of an item, if it makes one: made at once, or put into its queue.
+    fn tell_copy(&mut self, names: &Names, told: LogItem, placed: Placed) {
+        if !told.copies {
+            return;
+        }
+        let copied = Copied {
+            section: told.section,
+            place: placed.place_of(told.section.start),
+            out: told.out,
+        };
+        match told.queue {
+            Some(queue) => self.tell_put(names, told, queue, copied),
+            None => {
+                self.totals.copied(copied.out, copied.section.len);
+                put_item(&mut self.page, told, "copied");
+                put_copy(&mut self.page, copied);
+                put_name(&mut self.page, names, copied.section);
+            }
+        }
+    }
+
+    /// Tells a copy that was put into a queue.
+    fn tell_put(&mut self, names: &Names, told: LogItem, queue: u64, copied: Copied) {
+        self.account.put(queue, copied);
+        put_item(&mut self.page, told, "put");
+        put_copy(&mut self.page, copied);
+        put_queue(&mut self.page, queue);
+        put_name(&mut self.page, names, copied.section);
+    }
+
+    /// Tells what an item did to its pointer.
+    pub fn tell_aim(&mut self, names: &Names, told: LogItem, aim: Aim) {
+        match aim {
+            Aim::None => {
+                if told.is_pointer {
+                    put_pointer(&mut self.page, told, "unattached", told.section.start);
+                    put_spot(&mut self.page, names, told.section.start);
+                }
+            }
+            Aim::New {
+                pointer,
+                block,
+                target,
+            } => {
+                put_pointer(&mut self.page, told, "attached", pointer);
+                self.page.text(" to ");
+                self.page.address(target);
+                self.tell_count(names, block, pointer, 1);
+            }
+            Aim::Again { pointer, block } => {
+                put_pointer(&mut self.page, told, "attached", pointer);
+                let count = self.account.attached(block, pointer).saturating_add(1);
+                self.tell_count(names, block, pointer, count);
+            }
+            Aim::Less { pointer, block } => {
+                put_pointer(&mut self.page, told, "detached", pointer);
+                let count = self.account.attached(block, pointer).saturating_sub(1);
+                self.tell_count(names, block, pointer, count);
+            }
+            Aim::Cleared { pointer, block } => {
+                put_pointer(&mut self.page, told, "detached", pointer);
+                self.tell_count(names, block, pointer, 0);
+            }
+        }
+    }
+
+    /// Tells how often a pointer is attached now, and keeps that.
+    fn tell_count(&mut self, names: &Names, block: u64, pointer: u64, count: u64) {
+        self.account.attach(block, pointer, count);
+        self.page.text(" count ");
+        self.page.number(count);
+        put_spot(&mut self.page, names, pointer);
+    }
+}

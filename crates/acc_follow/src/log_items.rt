@@ -1,0 +1,137 @@
+//! An item of a directive, as the log tells it.
+
+use crate::accounts::Placed;
+use acc_base::{
+    Counter, EnterClause, ExitClause, Item, Range, RegionClause, Section, UpdateClause,
+};
+
+/// What the log has to know of an item, whatever directive it stands in.
+#[derive(Clone, Copy)]
+pub struct LogItem {
+    /// Its place in the directive, from 0 on.
+    pub place: usize,
+    /// The section; of `attach` and `detach` the pointer begins where it does.
+    pub section: Section,
+    /// Whether it is one of `attach` or `detach`, which name a pointer alone.
+    pub is_pointer: bool,
+    /// Whether its clause copies.
+    pub copies: bool,
+    /// Whether it copies to host memory, and not to the device.
+    pub out: bool,
+    /// The queue into which its copy is put.
+    pub queue: Option<u64>,
+}
+
+impl LogItem {
+    /// An item of `data`, which enters.
+    pub fn of_region(place: usize, item: Item<RegionClause>) -> LogItem {
+        LogItem {
+            place,
+            section: item.section,
+            is_pointer: matches!(item.clause, RegionClause::Attach),
+            copies: matches!(item.clause, RegionClause::Copy | RegionClause::Copyin),
+            out: false,
+            queue: None,
+        }
+    }
+
+    /// The same item, which leaves at the end of its region.
+    pub fn left_by(place: usize, item: Item<RegionClause>) -> LogItem {
+        LogItem {
+            place,
+            section: item.section,
+            is_pointer: matches!(item.clause, RegionClause::Attach),
+            copies: matches!(
+                item.clause,
+                RegionClause::Copy | RegionClause::Copyout { .. }
+            ),
+            out: true,
+            queue: None,
+        }
+    }
+
+    /// An item of `enter data`.
+    pub fn of_enter(place: usize, item: Item<EnterClause>, queue: Option<u64>) -> LogItem {
+        LogItem {
+            place,
+            section: item.section,
+            is_pointer: matches!(item.clause, EnterClause::Attach),
+            copies: matches!(item.clause, EnterClause::Copyin),
+            out: false,
+            queue,
+        }
+    }
+
+    /// An item of `exit data`.
+    pub fn of_exit(place: usize, item: Item<ExitClause>, queue: Option<u64>) -> LogItem {
+        LogItem {
+            place,
+            section: item.section,
+            is_pointer: matches!(item.clause, ExitClause::Detach),
+            copies: matches!(item.clause, ExitClause::Copyout),
+            out: true,
+            queue,
+        }
+    }
+
+    /// An item of `update`.
+    pub fn of_update(place: usize, item: Item<UpdateClause>, queue: Option<u64>) -> LogItem {
+        LogItem {
+            place,
+            section: item.section,
+            is_pointer: false,
+            copies: true,
+            out: matches!(item.clause, UpdateClause::ToSelf),
+            queue,
+        }
+    }
+
+    /// The mapping that it makes, to a new block at a place.
+    pub fn born(self, counter: Counter, block: u64, place: u64) -> Placed {
+        let range = Range {
+            section: self.section,
+            block,
+            structured: 0,
+            dynamic: 0,
+        };
+        Placed { range, place }.raised(counter)
+    }
+}
+
+/// What an item that leaves takes from the counters of a range.
+#[derive(Clone, Copy)]
+pub enum Drops {
+    /// One from the structured counter.
+    Structured,
+    /// One from the dynamic counter.
+    Dynamic,
+    /// All from the dynamic counter, by `finalize`.
+    AllDynamic,
+}
+
+impl Placed {
+    /// The range with a counter raised by one.
+    pub fn raised(self, counter: Counter) -> Placed {
+        let mut raised = self;
+        match counter {
+            Counter::Structured => {
+                raised.range.structured = self.range.structured.saturating_add(1)
+            }
+            Counter::Dynamic => raised.range.dynamic = self.range.dynamic.saturating_add(1),
+        }
+        raised
+    }
+
+    /// The range with a counter lowered so.
+    pub fn lowered(self, drops: Drops) -> Placed {
+        let mut lowered = self;
+        match drops {
+            Drops::Structured => {
+                lowered.range.structured = self.range.structured.saturating_sub(1)
+            }
+            Drops::Dynamic => lowered.range.dynamic = self.range.dynamic.saturating_sub(1),
+            Drops::AllDynamic => lowered.range.dynamic = 0,
+        }
+        lowered
+    }
+}

@@ -1,0 +1,300 @@
+//! The log: each call of a script, and behind it a line for each thing that it did, told from the events of the table.
+//!
+//! Its words are those of OpenACC: bytes are copied in to the device and copied out to host memory.
+
+use crate::accounts::{Account, Copied};
+use crate::log_items::{Drops, LogItem};
+use crate::log_lines::{
+    put_copied, put_head, put_inner, put_loan, put_refused, put_region, put_written,
+};
+use crate::names::Names;
+use crate::pages::Page;
+use crate::totals::{Totals, put_total};
+use acc_base::{
+    Aim, Counter, Did, EnterClause, Event, ExitClause, Fault, Item, RegionClause, Section, Step,
+    UpdateClause,
+};
+use acc_script::Effect;
+use acc_table::Table;
+use std::alloc::Global;
+
+/// The log of a script. Its lines gather in a page until they are written.
+#[derive(Drop)]
+pub struct Log {
+    /// The lines that were not written yet.
+    pub page: Page,
+    /// What the events that were told say of ranges, pointers, queues and regions.
+    pub account: Account,
+    /// How much was done so far.
+    pub totals: Totals,
+    /// How many events of the trace were told.
+    told: usize,
+    /// What the kernel that is at work was lent.
+    lent: Option<Copied>,
+}
+
+impl Log {
+    /// The log of a script whose first line is yet to run.
+    pub fn new(alloc: Global) -> Log {
+        Log {
+            page: Page::new(alloc),
+            account: Account::new(alloc),
+            totals: Totals::new(),
+            told: 0,
+            lent: None,
+        }
+    }
+
+    /// Puts the lines of a statement that was run: none where it made no call and was not refused.
+    ///
+    /// # Errors
+    ///
+    /// [`Fault::Memory`] alone, where some of it found no memory.
+    pub fn tell(
+        &mut self,
+        names: &Names,
+        number: u64,
+        text: &[u8],
+        table: &Table,
+        effect: Effect,
+    ) -> Result<(), Fault> {
+        let trace = table.trace();
+        if self.told < trace.len() || is_outcome(effect) {
+            put_head(&mut self.page, number, text);
+            self.tell_events(names, trace);
+            self.put_outcome(effect);
+        }
+        if self.account.wants() {
+            return Err(Fault::Memory);
+        }
+        Ok(())
+    }
+
+    /// Puts the last line, which says how much was done in all.
+    pub fn tell_total(&mut self) {
+        let waiting = self.account.waiting() as u64;
+        put_total(&mut self.page, &self.totals, waiting);
+    }
+
+    /// Tells the events that were not told yet.
+    fn tell_events(&mut self, names: &Names, trace: &[Event]) {
+        for at in self.told..trace.len() {
+            if let Some(event) = trace.get(at) {
+                self.tell_event(names, trace, at, event);
+            }
+        }
+        self.told = trace.len();
+    }
+
+    /// Tells what came of a statement beside its events.
+    fn put_outcome(&mut self, effect: Effect) {
+        match effect {
+            Effect::EmptyQueue => put_inner(&mut self.page, "idle"),
+            Effect::Refused(fault) => {
+                self.totals.refused = self.totals.refused.saturating_add(1);
+                put_refused(&mut self.page, fault);
+            }
+            _ => {}
+        }
+    }
+
+    /// Tells the event at a place of the trace.
+    fn tell_event(&mut self, names: &Names, trace: &[Event], at: usize, event: &Event) {
+        match event {
+            Event::Entered { number, items, did } => {
+                self.tell_entry(names, items.as_slice(), did.as_slice());
+                self.account.open(at);
+                put_region(&mut self.page, "entered region ", *number);
+            }
+            Event::Left { number, did } => {
+                self.tell_exit(names, trace, did.as_slice());
+                put_region(&mut self.page, "exited region ", *number);
+            }
+            Event::EnteredData { items, queue, did } => {
+                self.tell_entered(names, items.as_slice(), *queue, did.as_slice())
+            }
+            Event::ExitedData {
+                items,
+                finalize,
+                queue,
+                did,
+            } => self.tell_exited(names, items.as_slice(), *finalize, *queue, did.as_slice()),
+            Event::Updated {
+                items,
+                queue,
+                did,
+                ..
+            } => self.tell_updated(names, items.as_slice(), *queue, did.as_slice()),
+            _ => self.tell_short(names, event),
+        }
+    }
+
+    /// Tells an event that names no item.
+    fn tell_short(&mut self, names: &Names, event: &Event) {
+        match event {
+            Event::Waited { queue, count } => self.tell_waited(names, *queue, *count),
+            Event::Stepped { queue, .. } => self.tell_made(names, *queue),
+            Event::HostWritten { addr, len, .. } => {
+                let section = Section {
+                    start: *addr,
+                    len: *len,
+                };
+                put_written(&mut self.page, names, section);
+            }
+            Event::Lent {
+                section,
+                serial,
+                ..
+            } => self.tell_lent(names, *section, *serial),
+            Event::Gathered { serial, .. } => self.tell_gathered(names, *serial),
+            _ => {}
+        }
+    }
+
+    /// Tells the items of `data`.
+    fn tell_entry(&mut self, names: &Names, items: &[Item<RegionClause>], did: &[Did]) {
+        for (place, (item, did)) in items.iter().zip(did.iter()).enumerate() {
+            let told = LogItem::of_region(place, *item);
+            self.tell_enter(names, told, Counter::Structured, *did);
+        }
+    }
+
+    /// Tells the items of `enter data`.
+    fn tell_entered(
+        &mut self,
+        names: &Names,
+        items: &[Item<EnterClause>],
+        queue: Option<u64>,
+        did: &[Did],
+    ) {
+        for (place, (item, did)) in items.iter().zip(did.iter()).enumerate() {
+            let told = LogItem::of_enter(place, *item, queue);
+            self.tell_enter(names, told, Counter::Dynamic, *did);
+        }
+    }
+
+    /// Tells the items of `exit data`.
+    fn tell_exited(
+        &mut self,
+        names: &Names,
+        items: &[Item<ExitClause>],
+        finalize: bool,
+        queue: Option<u64>,
+        did: &[Did],
+    ) {
+        let drops = if finalize {
+            Drops::AllDynamic
+        } else {
+            Drops::Dynamic
+        };
+        for (place, (item, did)) in items.iter().zip(did.iter()).enumerate() {
+            let told = LogItem::of_exit(place, *item, queue);
+            self.tell_leave(names, told, drops, *did);
+        }
+    }
+
+    /// Tells the items of `end data`, the last one first: what its `data` counted of them is counted once less.
+    fn tell_exit(&mut self, names: &Names, trace: &[Event], did: &[Did]) {
+        let Some(at) = self.account.close() else {
+            return;
+        };
+        if let Some(
+            Event::Entered {
+                items,
+                did: held,
+                ..
+            },
+        ) = trace.get(at)
+        {
+            self.tell_holdings(names, items.as_slice(), held.as_slice(), did);
+        }
+    }
+
+    fn tell_holdings(
+        &mut self,
+        names: &Names,
+        items: &[Item<RegionClause>],
+        held: &[Did],
+        did: &[Did],
+    ) {
+        for place in (0..items.len()).rev() {
+            if let (Some(item), Some(held), Some(did)) = (
+                items.get(place),
+                held.get(place),
+                did.get(place),
+            ) {
+                self.tell_holding(names, LogItem::left_by(place, *item), *held, *did);
+            }
+        }
+    }
+
+    /// Tells what became of an item that a region held; nothing where it held none.
+    fn tell_holding(&mut self, names: &Names, told: LogItem, held: Did, did: Did) {
+        if !matches!(held.aim, Aim::None) {
+            self.tell_aim(names, told, did.aim);
+        }
+        if !matches!(held.step, Step::Nothing) {
+            self.tell_drop(names, told, Drops::Structured, did.step);
+        }
+    }
+
+    /// Tells the items of `update`.
+    fn tell_updated(
+        &mut self,
+        names: &Names,
+        items: &[Item<UpdateClause>],
+        queue: Option<u64>,
+        did: &[Did],
+    ) {
+        for (place, (item, did)) in items.iter().zip(did.iter()).enumerate() {
+            let told = LogItem::of_update(place, *item, queue);
+            self.tell_move(names, told, did.step);
+        }
+    }
+
+    /// Tells the copies that a `wait` made: those of a queue, or of all queues from the first on.
+    fn tell_waited(&mut self, names: &Names, queue: Option<u64>, count: u64) {
+        if count == 0 {
+            put_inner(&mut self.page, "idle");
+        }
+        for _ in 0..count {
+            if let Some(queue) = queue.or(self.account.first_queue()) {
+                self.tell_made(names, queue);
+            }
+        }
+    }
+
+    /// Tells the copy that stood first in a queue, which was made.
+    fn tell_made(&mut self, names: &Names, queue: u64) {
+        if let Some(copied) = self.account.take(queue) {
+            self.totals.copied(copied.out, copied.section.len);
+            put_copied(&mut self.page, names, copied, queue);
+        }
+    }
+
+    /// Tells that a block was lent to a kernel.
+    fn tell_lent(&mut self, names: &Names, section: Section, serial: u64) {
+        if let Some(found) = self.account.inside(section) {
+            let copied = Copied {
+                section,
+                place: found.place_of(section.start),
+                out: false,
+            };
+            self.lent = Some(copied);
+            put_loan(&mut self.page, names, "lent", copied, serial);
+        }
+    }
+
+    /// Tells that the block that was lent came back.
+    fn tell_gathered(&mut self, names: &Names, serial: u64) {
+        if let Some(copied) = self.lent {
+            self.lent = None;
+            put_loan(&mut self.page, names, "gathered", copied, serial);
+        }
+    }
+}
+
+/// Whether a statement has something to tell beside events.
+fn is_outcome(effect: Effect) -> bool {
+    matches!(effect, Effect::EmptyQueue | Effect::Refused(_))
+}

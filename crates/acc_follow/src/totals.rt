@@ -1,0 +1,80 @@
+//! How much was done in all.
+
+use crate::log_lines::MARK;
+use crate::pages::Page;
+
+/// How many mappings were made and ended, copies made each way with their bytes, and statements refused.
+#[derive(Clone, Copy)]
+pub struct Totals {
+    /// Mappings that were made.
+    pub mapped: u64,
+    /// Mappings that ended.
+    pub ended: u64,
+    /// Copies from host memory to the device.
+    pub copies_in: u64,
+    /// Their bytes.
+    pub bytes_in: u64,
+    /// Copies from the device to host memory.
+    pub copies_out: u64,
+    /// Their bytes.
+    pub bytes_out: u64,
+    /// Statements that were refused.
+    pub refused: u64,
+}
+
+impl Totals {
+    /// Nothing was done.
+    pub fn new() -> Totals {
+        Totals {
+            mapped: 0,
+            ended: 0,
+            copies_in: 0,
+            bytes_in: 0,
+            copies_out: 0,
+            bytes_out: 0,
+            refused: 0,
+        }
+    }
+
+    /// A copy of so many bytes was made, from the device to host memory or the other way.
+    pub fn copied(&mut self, out: bool, len: u64) {
+        if out {
+            self.copies_out = self.copies_out.saturating_add(1);
+            self.bytes_out = self.bytes_out.saturating_add(len);
+        } else {
+            self.copies_in = self.copies_in.saturating_add(1);
+            self.bytes_in = self.bytes_in.saturating_add(len);
+        }
+    }
+}
+
+/// Puts the last line of a log, with how many copies wait.
+pub fn put_total(page: &mut Page, totals: &Totals, waiting: u64) {
+    page.text(MARK);
+    page.text("total");
+    put_counts(page, " mapped ", totals.mapped, " ended ", totals.ended);
+    put_counts(
+        page,
+        " copied in ",
+        totals.copies_in,
+        " bytes ",
+        totals.bytes_in,
+    );
+    put_counts(
+        page,
+        " copied out ",
+        totals.copies_out,
+        " bytes ",
+        totals.bytes_out,
+    );
+    put_counts(page, " waiting ", waiting, " refused ", totals.refused);
+    page.text("\n");
+}
+
+/// Puts two words, each with its number.
+fn put_counts(page: &mut Page, word: &str, number: u64, other_word: &str, other: u64) {
+    page.text(word);
+    page.number(number);
+    page.text(other_word);
+    page.number(other);
+}

@@ -1,12 +1,11 @@
 //! Follows a script.
 
 use crate::logs::Log;
-use crate::names::Names;
 use crate::outputs::Output;
-use crate::pages::Page;
 use crate::report_objects::put_report;
-use crate::texts::statement_text;
 use acc_base::{Config, Fault, ScriptFault};
+use acc_explain::{explain_fault, explain_refusal, explain_unclosed, is_pragma, warn_of_pragma};
+use acc_page::{Names, Page, statement_text};
 use acc_read::{Statement, Trouble, line_at, next_line};
 use acc_script::{Effect, Session, Sink, Source, Status, read_all, write_all, write_effect};
 use acc_table::Table;
@@ -22,10 +21,20 @@ pub struct Views {
     pub json: bool,
     /// The log: what each call did.
     pub log: bool,
+    /// Why a line is at fault, why a statement is refused, and which lines are comments that look like directives.
+    pub explain: bool,
+}
+
+impl Views {
+    /// Whether any of it is shown.
+    pub fn are_any(self) -> bool {
+        self.echo || self.json || self.log || self.explain
+    }
 }
 
 /// Reads a whole script and runs it as `acc_script::run` does, line by line on a new table of these limits, and shows
-/// more of it. The log goes to `err`, each call's lines behind what the lines before it print.
+/// more of it. The log and what is explained go to `err`, each line's behind what it prints; why a line is at fault goes
+/// to `reason`, since that stands behind the fault itself.
 ///
 /// # Errors
 ///
@@ -39,15 +48,17 @@ pub fn follow<R: Threads + Wait + Sync + AllocGlobal, S: Source, O: Output, E: S
     config: Config,
     parts: usize,
     views: Views,
+    reason: &mut Page,
 ) -> Result<Status, Fault> {
     let input = read_all(rt.alloc(), reader)?;
     let mut follower = Follower {
         session: Session::new(rt.alloc(), config, parts)?,
         names: Names::new(rt.alloc()),
         log: Log::new(rt.alloc()),
+        entries: Vec::new(rt.alloc()),
         views,
     };
-    let ending = follower.lines(rt, &input, out, err);
+    let ending = follower.lines(rt, &input, out, err, reason);
     let is_told = follower.end_log(out, err);
     let status = ending?;
     is_told?;
@@ -60,6 +71,8 @@ struct Follower {
     session: Session,
     names: Names,
     log: Log,
+    /// The lines whose data regions are open, the innermost last.
+    entries: Vec<u64>,
     views: Views,
 }
 
@@ -71,6 +84,7 @@ impl Follower {
         input: &[u8],
         out: &mut O,
         err: &mut E,
+        reason: &mut Page,
     ) -> Result<Status, Fault> {
         let mut rest = input;
         let mut done = 0u64;
@@ -82,14 +96,26 @@ impl Follower {
             }
             let (line, after) = next_line(rest);
             done = done.saturating_add(1);
-            refused |= self.line(rt, done, line, out, err)?;
+            refused |= self.line(rt, done, line, out, err, reason)?;
             rest = after;
         }
-        end_at(
-            done.saturating_add(1),
-            self.session.table.regions(),
-            refused,
-        )
+        self.end_at(done.saturating_add(1), refused, reason)
+    }
+
+    /// How a script ends behind its last line.
+    fn end_at(&self, line: u64, refused: bool, reason: &mut Page) -> Result<Status, Fault> {
+        if self.session.table.regions() > 0 {
+            if self.views.explain {
+                explain_unclosed(reason, &self.entries);
+            }
+            let kind = ScriptFault::Unclosed;
+            return Err(Fault::Script { line, kind });
+        }
+        Ok(if refused {
+            Status::Refused
+        } else {
+            Status::Clean
+        })
     }
 
     /// Runs the line of a number and shows what it prints and did; answers whether it was refused.
@@ -100,13 +126,16 @@ impl Follower {
         line: &[u8],
         out: &mut O,
         err: &mut E,
+        reason: &mut Page,
     ) -> Result<bool, Fault> {
-        let effect = self.perform(rt, number, line)?;
+        self.warn(rt, number, line, out, err)?;
+        let effect = self.perform(rt, number, line, reason)?;
         if self.views.echo {
             write_echo(rt, line, out)?;
         }
         show(rt, number, &self.session.table, self.views, effect, out)?;
         self.tell(number, line, effect, out, err)?;
+        self.explain(rt, number, line, effect, out, err)?;
         Ok(effect.is_refused())
     }
 
@@ -116,15 +145,93 @@ impl Follower {
         rt: &R,
         number: u64,
         line: &[u8],
+        reason: &mut Page,
     ) -> Result<Effect, Fault> {
         let innermost = self.session.table.newest_region();
-        match line_at(rt.alloc(), &self.session.arrays, innermost, line) {
+        let read = line_at(rt.alloc(), &self.session.arrays, innermost, line);
+        match read {
             Ok(statement) => {
                 self.note_array(rt, &statement)?;
-                self.session.perform(rt, statement)
+                let effect = self.session.perform(rt, statement)?;
+                self.note_region(number)?;
+                Ok(effect)
             }
-            Err(trouble) => Err(fault_of(number, trouble)),
+            Err(trouble) => {
+                self.give_reason(rt, number, line, trouble, reason)?;
+                Err(fault_of(number, trouble))
+            }
         }
+    }
+
+    /// Keeps the number of a line that entered a region, until it is exited.
+    fn note_region(&mut self, number: u64) -> Result<(), Fault> {
+        let open = self.session.table.regions();
+        let known = self.entries.len() as u64;
+        if known < open {
+            self.entries.push(number)?;
+        }
+        if open < known {
+            self.entries.pop();
+        }
+        Ok(())
+    }
+
+    /// Puts why a line is at fault, where that is to be explained.
+    fn give_reason<R: AllocGlobal>(
+        &self,
+        rt: &R,
+        number: u64,
+        line: &[u8],
+        trouble: Trouble,
+        reason: &mut Page,
+    ) -> Result<(), Fault> {
+        if let (true, Trouble::Line(kind)) = (self.views.explain, trouble) {
+            let arrays = &self.session.arrays;
+            explain_fault(reason, rt.alloc(), arrays, number, line, kind)?;
+        }
+        Ok(())
+    }
+
+    /// Writes a warning where a line is a comment that looks like a directive of C.
+    fn warn<R: AllocGlobal, O: Output, E: Sink>(
+        &self,
+        rt: &R,
+        number: u64,
+        line: &[u8],
+        out: &mut O,
+        err: &mut E,
+    ) -> Result<(), Fault> {
+        if !self.views.explain || !is_pragma(line) {
+            return Ok(());
+        }
+        let mut page = Page::new(rt.alloc());
+        warn_of_pragma(&mut page, number);
+        write_told(&page, out, err)
+    }
+
+    /// Writes why a line was refused, where it was. It is read once more: it changed nothing.
+    fn explain<R: AllocGlobal, O: Output, E: Sink>(
+        &self,
+        rt: &R,
+        number: u64,
+        line: &[u8],
+        effect: Effect,
+        out: &mut O,
+        err: &mut E,
+    ) -> Result<(), Fault> {
+        let (true, Effect::Refused(fault)) = (self.views.explain, effect) else {
+            return Ok(());
+        };
+        let table = &self.session.table;
+        let innermost = table.newest_region();
+        let mut page = Page::new(rt.alloc());
+        match line_at(rt.alloc(), &self.session.arrays, innermost, line) {
+            Ok(statement) => {
+                explain_refusal(&mut page, table, &self.names, number, &statement, fault)
+            }
+            Err(trouble) => return Err(fault_of(number, trouble)),
+        }
+        write_told(&page, out, err)
     }
 
     /// Keeps the name of an array that a statement declares, where something is shown by it.
@@ -133,7 +240,8 @@ impl Follower {
         rt: &R,
         statement: &Statement<'_>,
     ) -> Result<(), Fault> {
-        if let (true, Statement::Declare { name, array }) = (self.views.log, statement) {
+        let is_named = self.views.log || self.views.explain;
+        if let (true, Statement::Declare { name, array }) = (is_named, statement) {
             self.names.insert(rt.alloc(), name, *array)?;
         }
         Ok(())
@@ -168,30 +276,23 @@ impl Follower {
 
     /// Writes what the log has, behind what was printed so far.
     fn write_log<O: Output, E: Sink>(&mut self, out: &mut O, err: &mut E) -> Result<(), Fault> {
-        let lines = self.log.page.whole()?;
-        if lines.is_empty() {
-            return Ok(());
-        }
-        if !out.flush() {
-            return Err(Fault::Write);
-        }
-        let _ = write_all(err, lines);
+        write_told(&self.log.page, out, err)?;
         self.log.page.clear();
         Ok(())
     }
 }
 
-/// How a script ends behind its last line.
-fn end_at(line: u64, regions: u64, refused: bool) -> Result<Status, Fault> {
-    if regions > 0 {
-        let kind = ScriptFault::Unclosed;
-        return Err(Fault::Script { line, kind });
+/// Writes a page to `err`, behind what was printed so far.
+fn write_told<O: Output, E: Sink>(page: &Page, out: &mut O, err: &mut E) -> Result<(), Fault> {
+    let lines = page.whole()?;
+    if lines.is_empty() {
+        return Ok(());
     }
-    Ok(if refused {
-        Status::Refused
-    } else {
-        Status::Clean
-    })
+    if !out.flush() {
+        return Err(Fault::Write);
+    }
+    let _ = write_all(err, lines);
+    Ok(())
 }
 
 /// The fault of a line that gives no statement.

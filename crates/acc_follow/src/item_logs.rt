@@ -7,8 +7,8 @@ use crate::log_lines::{
     put_skipped, put_spot,
 };
 use crate::logs::Log;
-use crate::names::Names;
 use acc_base::{Aim, Counter, Did, Step};
+use acc_page::Names;
 
 impl Log {
     /// Tells an item that enters: its mapping, its copy, its pointer.

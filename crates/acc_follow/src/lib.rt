@@ -8,16 +8,11 @@ mod item_logs;
 mod log_items;
 mod log_lines;
 mod logs;
-mod names;
 mod outputs;
-mod pages;
 mod report_objects;
-mod texts;
 mod totals;
 
+pub use acc_page::{Names, Page, Spot, statement_text};
 pub use differences::{Difference, first_difference};
 pub use follows::{Views, fault_of, follow, write_page};
-pub use names::{Names, Spot};
 pub use outputs::Output;
-pub use pages::Page;
-pub use texts::statement_text;

@@ -2,9 +2,8 @@
 
 use crate::accounts::{Copied, Placed};
 use crate::log_items::LogItem;
-use crate::names::Names;
-use crate::pages::Page;
 use acc_base::{Fault, Section};
+use acc_page::{Names, Page};
 
 /// What each line of a log begins with.
 pub const MARK: &str = "lamwiest: ";

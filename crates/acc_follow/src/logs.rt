@@ -7,13 +7,12 @@ use crate::log_items::{Drops, LogItem};
 use crate::log_lines::{
     put_copied, put_head, put_inner, put_loan, put_refused, put_region, put_written,
 };
-use crate::names::Names;
-use crate::pages::Page;
 use crate::totals::{Totals, put_total};
 use acc_base::{
     Aim, Counter, Did, EnterClause, Event, ExitClause, Fault, Item, RegionClause, Section, Step,
     UpdateClause,
 };
+use acc_page::{Names, Page};
 use acc_script::Effect;
 use acc_table::Table;
 use std::alloc::Global;

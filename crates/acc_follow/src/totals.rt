@@ -1,7 +1,7 @@
 //! How much was done in all.
 
 use crate::log_lines::MARK;
-use crate::pages::Page;
+use acc_page::Page;
 
 /// How many mappings were made and ended, copies made each way with their bytes, and statements refused.
 #[derive(Clone, Copy)]

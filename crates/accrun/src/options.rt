@@ -1,5 +1,6 @@
 //! The command line.
 
+use acc_follow::Views;
 use clap::{Arg, ArgAction, ArgMatches, Command, Error, value_parser};
 use std::alloc::Global;
 
@@ -23,12 +24,8 @@ pub struct Options<'a> {
     pub file: Option<&'a str>,
     /// The file that the output is compared with, in place of writing it.
     pub expect: Option<&'a str>,
-    /// Whether each statement is written before what it prints.
-    pub echo: bool,
-    /// Whether the report is an object of JSON.
-    pub json: bool,
-    /// Whether what each call did is told on standard error.
-    pub log: bool,
+    /// What is shown beside what the script prints.
+    pub views: Views,
     /// The size of host memory in bytes.
     pub host: u64,
     /// The size of device memory in bytes.
@@ -149,7 +146,8 @@ fn with_views<'a>(alloc: Global, command: Command<'a>) -> Result<Command<'a>, Er
             .arg(expect_option(alloc))?
             .arg(flag(alloc, "echo", "Write each statement before its output"))?
             .arg(flag(alloc, "json", "Write the report as JSON"))?
-            .arg(flag(alloc, "log", "Tell what each call did"))?,
+            .arg(flag(alloc, "log", "Tell what each call did"))?
+            .arg(flag(alloc, "explain", "Tell why a line is at fault or refused"))?,
     )
 }
 
@@ -158,9 +156,12 @@ fn options_of<'a>(matches: &ArgMatches<'a>) -> Options<'a> {
     Options {
         file: matches.get_str("FILE"),
         expect: matches.get_str("expect"),
-        echo: matches.get_flag("echo"),
-        json: matches.get_flag("json"),
-        log: matches.get_flag("log"),
+        views: Views {
+            echo: matches.get_flag("echo"),
+            json: matches.get_flag("json"),
+            log: matches.get_flag("log"),
+            explain: matches.get_flag("explain"),
+        },
         host: matches.get_one::<u64>("host").unwrap_or(DEFAULT_SIZE),
         device: matches.get_one::<u64>("device").unwrap_or(DEFAULT_SIZE),
         threads: matches.get_one::<u64>("threads").unwrap_or(DEFAULT_THREADS),

@@ -5,7 +5,7 @@ use crate::tools::{tell_words, tool};
 use crate::words::{WordsFault, read_words};
 use acc_base::Fault;
 use acc_script::{MemorySink, MemorySource};
-use rows::{COPIES, DRILLS, FAULTS, KERNELS, LIVES, LOGS, QUEUES, REFUSALS, Row, VIEWS};
+use rows::{COPIES, DRILLS, FAULTS, KERNELS, LIVES, LOGS, QUEUES, REASONS, REFUSALS, Row, VIEWS};
 use std::alloc::{AllocError, Global};
 use std::env::{Env, FillError};
 use std::fmt::Debug;
@@ -147,6 +147,12 @@ fn scripts_print_and_end_as_they_should(rt: HostRuntime) -> Result<(), Fail> {
 }
 
 #[test]
+fn faults_and_refusals_are_explained(rt: HostRuntime) -> Result<(), Fail> {
+    check_rows(&rt, &REASONS)?;
+    Ok(())
+}
+
+#[test]
 fn logs_tell_what_each_call_did(rt: HostRuntime) -> Result<(), Fail> {
     check_rows(&rt, &LOGS)?;
     Ok(())
@@ -273,12 +279,13 @@ fn command_lines_are_read(rt: HostRuntime) -> Result<(), Fail> {
 }
 
 /// What the help has to name.
-const HELP_WORDS: [&str; 44] = [
+const HELP_WORDS: [&str; 45] = [
     "[FILE]",
     "--expect <OUTPUT>",
     "--echo",
     "--json",
     "--log",
+    "--explain",
     "--version",
     "--threads <N>",
     "--drill <ROUNDS>",

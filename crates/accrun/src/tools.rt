@@ -8,7 +8,7 @@ use crate::options::{Options, parsed_options};
 use crate::shelves::Shelf;
 use crate::words::WordsFault;
 use acc_base::{Config, Fault};
-use acc_follow::{Output, Views, first_difference, follow};
+use acc_follow::{Output, Page, first_difference, follow};
 use acc_script::{MemorySink, MemorySource, Sink, Source, Status, run, write_all};
 use clap::Error;
 use clap::error::ErrorKind;
@@ -77,15 +77,17 @@ pub fn tool<R: Threads + Wait + Sync + AllocGlobal, S: Source, O: Output, E: Sin
         Ok(options) => options,
         Err(error) => return tell_usage(rt, out, err, &error),
     };
+    let mut reason = Page::new(rt.alloc());
     let ending = match options.expect {
-        Some(name) => compared(rt, options, name, reader, err, shelf),
-        None => carried_out(rt, options, reader, out, err, shelf),
+        Some(name) => compared(rt, options, name, reader, err, shelf, &mut reason),
+        None => carried_out(rt, options, reader, out, err, shelf, &mut reason),
     };
     match flushed(out, ending) {
         Ok(Status::Clean) => CLEAN,
         Ok(Status::Refused) => REFUSED,
         Err(mishap) => {
             tell_mishap(rt.alloc(), err, mishap);
+            let _ = write_all(err, reason.as_slice());
             FAULTED
         }
     }
@@ -110,12 +112,13 @@ fn carried_out<'a, R: Threads + Wait + Sync + AllocGlobal, S: Source, O: Output,
     out: &mut O,
     err: &mut E,
     shelf: &D,
+    reason: &mut Page,
 ) -> Result<Status, Mishap<'a>> {
     let config = limits(options)?;
     match (options.drill, options.file) {
         (Some(rounds), _) => Ok(drill_threads(rt, options, config, rounds, out)?),
-        (None, Some(name)) => run_file(rt, options, config, name, out, err, shelf),
-        (None, None) => Ok(run_script(rt, options, config, reader, out, err)?),
+        (None, Some(name)) => run_file(rt, options, config, name, out, err, shelf, reason),
+        (None, None) => Ok(run_script(rt, options, config, reader, out, err, reason)?),
     }
 }
 
@@ -128,10 +131,11 @@ fn run_file<'a, R: Threads + Wait + Sync + AllocGlobal, O: Output, E: Sink, D: S
     out: &mut O,
     err: &mut E,
     shelf: &D,
+    reason: &mut Page,
 ) -> Result<Status, Mishap<'a>> {
     let script = read_file(shelf, name)?;
     let mut reader = MemorySource::new(&script);
-    Ok(run_script(rt, options, config, &mut reader, out, err)?)
+    Ok(run_script(rt, options, config, &mut reader, out, err, reason)?)
 }
 
 /// The bytes of a file.
@@ -151,10 +155,11 @@ fn compared<'a, R: Threads + Wait + Sync + AllocGlobal, S: Source, E: Sink, D: S
     reader: &mut S,
     err: &mut E,
     shelf: &D,
+    reason: &mut Page,
 ) -> Result<Status, Mishap<'a>> {
     let expected = read_file(shelf, name)?;
     let mut found = MemorySink::new(rt.alloc());
-    match carried_out(rt, options, reader, &mut found, err, shelf) {
+    match carried_out(rt, options, reader, &mut found, err, shelf, reason) {
         Ok(_) => Ok(agreement(rt, &expected, found.as_slice(), err)),
         // This sink fails for want of memory alone.
         Err(Mishap::Fault(Fault::Write)) => Err(Mishap::Fault(Fault::Memory)),
@@ -186,17 +191,11 @@ fn run_script<R: Threads + Wait + Sync + AllocGlobal, S: Source, O: Output, E: S
     reader: &mut S,
     out: &mut O,
     err: &mut E,
+    reason: &mut Page,
 ) -> Result<Status, Fault> {
-    let Options {
-        echo,
-        json,
-        log,
-        ..
-    } = options;
     let parts = threads(options);
-    if echo || json || log {
-        let views = Views { echo, json, log };
-        return follow(rt, reader, out, err, config, parts, views);
+    if options.views.are_any() {
+        return follow(rt, reader, out, err, config, parts, options.views, reason);
     }
     run(rt, reader, out, config, parts)
 }

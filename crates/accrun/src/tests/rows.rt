@@ -533,3 +533,142 @@ pub const LOGS: [Row; 4] = [
         2,
     ),
 ];
+
+/// Why lines are at fault or refused, on standard error.
+pub const REASONS: [Row; 18] = [
+    (
+        "--explain",
+        "array a[16]\n",
+        "",
+        "accrun: line 1: Syntax\n  1 | array a[16]\n    |        ^ found '[', wanted a number\n    = the length stands behind the name, in bytes: array a 16\n",
+        2,
+    ),
+    (
+        "--explain",
+        "array a 16\n\twrite a[0] 0x01 # bytes\n",
+        "",
+        "accrun: line 2: Syntax\n  2 |  write a[0] 0x01 # bytes\n    |             ^ found '0x01', wanted hexadecimal digits\n    = the digits stand without 0x: 01\n",
+        2,
+    ),
+    (
+        "--explain",
+        "wait(0,1)\n",
+        "",
+        "accrun: line 1: Syntax\n  1 | wait(0,1)\n    |       ^ found ',', wanted ')'\n    = it names one queue: write a line for each\n",
+        2,
+    ),
+    (
+        "--explain",
+        "array a 4\nacc_copyin(a)\n",
+        "",
+        "accrun: line 2: Syntax\n  2 | acc_copyin(a)\n    | ^ found 'acc_copyin', wanted 'array', 'write', 'point', 'data', 'end', 'enter', 'exit', 'update', 'wait', 'step', 'kernel', 'show', 'peek', 'present', 'address', 'report' or the end of the line\n    = a script has directives: enter data copyin(REF)\n",
+        2,
+    ),
+    (
+        "--explain",
+        "array a 4\nexit data copy(a)\n",
+        "",
+        "accrun: line 2: Syntax\n  2 | exit data copy(a)\n    |           ^ found 'copy', wanted 'copyout', 'delete', 'detach', 'finalize' or 'async'\n    = copy stands in data; enter data has copyin, and exit data has copyout\n",
+        2,
+    ),
+    (
+        "--explain",
+        "array a 4\nupdate self(a); device(a)\n",
+        "",
+        "accrun: line 2: Syntax\n  2 | update self(a); device(a)\n    |               ^ found ';', which is no token, wanted 'self', 'host', 'device', 'if_present', 'async', ',' or the end of the line\n",
+        2,
+    ),
+    (
+        "--explain",
+        "array a 4\nenter data copyin(a[0:\n",
+        "",
+        "accrun: line 2: Syntax\n  2 | enter data copyin(a[0:\n    |                       ^ found the end of the line, wanted a number\n",
+        2,
+    ),
+    (
+        "--explain",
+        "enter data copyin(b)\n",
+        "",
+        "accrun: line 1: UnknownName\n  1 | enter data copyin(b)\n    |                   ^ found 'b', which names no array\n    = no line before declares it; that is done by: array b BYTES\n",
+        2,
+    ),
+    (
+        "--explain",
+        "array a 4\ndata create(zero a)\n",
+        "",
+        "accrun: line 2: UnknownName\n  2 | data create(zero a)\n    |             ^ found 'zero', which names no array\n    = a modifier has a colon behind it: zero: REF\n",
+        2,
+    ),
+    (
+        "--explain",
+        "array a 4\narray a 8\n",
+        "",
+        "accrun: line 2: NameTaken\n  2 | array a 8\n    |       ^ found 'a', which names an array already\n    = a line before declares it, with 4 bytes\n",
+        2,
+    ),
+    (
+        "--explain",
+        "array a 4\ndata create(a)\nkernel add 256 a\n",
+        "",
+        "accrun: line 3: Number\n  3 | kernel add 256 a\n    |            ^ found '256', which is out of bounds\n    = the number of a kernel is from 0 to 255\n",
+        2,
+    ),
+    (
+        "--explain",
+        "array a 65537\n",
+        "",
+        "accrun: line 1: HostFull\n  1 | array a 65537\n    |         ^ the array would end behind host memory\n    = --host BYTES makes host memory larger\n",
+        2,
+    ),
+    (
+        "--explain",
+        "end data\n",
+        "",
+        "accrun: line 1: NoOpenRegion\n  1 | end data\n    | ^ no data region is open here\n    = data enters one, and end data exits from it\n",
+        2,
+    ),
+    (
+        "--explain",
+        "array a 4\ndata create(a)\n\ndata create(a)\n",
+        "",
+        "accrun: line 5: Unclosed\n    = the script ends here, and no end data stands behind the data of line 2, 4\n",
+        2,
+    ),
+    (
+        "--explain",
+        "\n\x7f",
+        "",
+        "accrun: line 2: NotText\n  2 | ?\n    | ^ found the byte 0x7f, and only printable ASCII, blanks and tabs may stand before a comment\n",
+        2,
+    ),
+    (
+        "--explain",
+        "#pragma acc enter data copyin(a)\narray a 4\nupdate self(a) # pragma acc\n",
+        "line 3: refused 11 NotPresent item 0\n",
+        "accrun: line 1 is a comment, since it begins with #: a directive stands without #pragma acc\n\
+            accrun: line 3 is refused\n    = item 0 is a, 4 bytes from 0x1000 (a[0]) on\n    = before the line no mapped range has any of these bytes\n    = it has to be mapped here\n",
+        1,
+    ),
+    (
+        "--explain",
+        "array a 32\narray b 8\nenter data copyin(a[0:16])\nenter data create(b)\ndata create(a[12:28])\n\
+            enter data create(a[16:8], a[20:8])\n",
+        "line 5: refused 10 PartlyPresent item 0\nline 6: refused 10 PartlyPresent item 1\n",
+        "accrun: line 5 is refused\n    = item 0 is 28 bytes from 0x100c (a[12]) on\n    = it meets the mapping of a[0:16], 16 bytes from 0x1000 (a[0]) on, at 0x100000000, structured 0, dynamic 1\n    = it meets the mapping of b, 8 bytes from 0x1020 (b[0]) on, at 0x100000010, structured 0, dynamic 1\n    = some of its bytes are mapped, and no one range has all of them\n\
+            accrun: line 6 is refused\n    = item 1 is a[20:8], 8 bytes from 0x1014 (a[20]) on\n    = before the line no mapped range has any of these bytes\n    = item 0 of the same directive acts first, on a[16:8], 8 bytes from 0x1010 (a[16]) on\n    = some of its bytes are mapped, and no one range has all of them\n",
+        1,
+    ),
+    (
+        "--explain --device 64 --host 4096",
+        "array a 16\narray b 16\narray c 32\narray d 17\nenter data copyin(a)\nenter data copyin(b)\n\
+            enter data copyin(c)\nexit data delete(a)\nenter data create(d)\nwait(16)\n\
+            enter data create(b via b[4])\nenter data create(d[4000:33])\n",
+        "line 9: refused 14 DeviceFull item 0 need 32\nline 10: refused 9 NoQueue q 16\n\
+            line 11: refused 8 Misaligned item 0\nline 12: refused 7 OutOfHost item 0\n",
+        "accrun: line 9 is refused\n    = item 0 is d, 17 bytes from 0x1040 (d[0]) on\n    = the block takes 32 bytes; before the line the largest hole has 16, and 16 bytes are free in 1 hole\n\
+            accrun: line 10 is refused\n    = there is no queue 16; they are 0 to 15\n\
+            accrun: line 11 is refused\n    = item 0 is b, 16 bytes from 0x1010 (b[0]) on via the pointer 0x1014 (b[4])\n    = a pointer lies at a multiple of 8\n\
+            accrun: line 12 is refused\n    = item 0 is 33 bytes from 0x1fe0 on\n    = host memory has the addresses from 0x1000 up to 0x1fff\n",
+        1,
+    ),
+];

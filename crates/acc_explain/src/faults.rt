@@ -1,0 +1,173 @@
+//! Why a line is at fault.
+
+use crate::hints::{Finding, put_hint};
+use crate::readers::{Reader, front_of};
+use crate::sources::{put_cause, put_note, put_source};
+use crate::tokens::{Token, is_mark, is_word_byte, tokens_of};
+use crate::wanted::{put_wanted, wanted_behind};
+use acc_base::ScriptFault;
+use acc_page::Page;
+use acc_read::Arrays;
+use std::alloc::{AllocError, Global};
+
+/// How many bytes of a token are shown at most.
+const SHOWN: usize = 40;
+
+/// Puts why a line is at fault: the line with a mark at the first place that is wrong, what was found there and what could
+/// stand there, and what to write in its place where that is known.
+///
+/// # Errors
+///
+/// Where memory is wanting.
+pub fn explain_fault(
+    page: &mut Page,
+    alloc: Global,
+    arrays: &Arrays,
+    number: u64,
+    line: &[u8],
+    kind: ScriptFault,
+) -> Result<(), AllocError> {
+    match kind {
+        ScriptFault::TooLong => {
+            put_long(page, number, line);
+            Ok(())
+        }
+        ScriptFault::NotText => {
+            put_not_text(page, number, line);
+            Ok(())
+        }
+        _ => explain_token(page, Reader { alloc, arrays }, number, line, kind),
+    }
+}
+
+/// A line with too many bytes.
+fn put_long(page: &mut Page, number: u64, line: &[u8]) {
+    put_note(page, number);
+    page.text("it has ");
+    page.number(line.len() as u64);
+    page.text(" bytes with its comment, and may have 4096\n");
+}
+
+/// A line with a byte that is no text.
+fn put_not_text(page: &mut Page, number: u64, line: &[u8]) {
+    let place = line
+        .iter()
+        .take_while(|b| **b == b'\t' || (b' '..=b'~').contains(*b))
+        .count();
+    put_source(page, number, line, place);
+    page.text("found the byte ");
+    page.address(u64::from(line.get(place).copied().unwrap_or(0)));
+    page.text(", and only printable ASCII, blanks and tabs may stand before a comment\n");
+}
+
+/// A line in which a token is wrong or missing.
+fn explain_token(
+    page: &mut Page,
+    reader: Reader<'_>,
+    number: u64,
+    line: &[u8],
+    kind: ScriptFault,
+) -> Result<(), AllocError> {
+    let text = text_of(line);
+    let tokens = tokens_of(reader.alloc, text)?;
+    let nth = reader.place(text, &tokens, kind);
+    put_source(page, number, line, place_of(text, &tokens, nth));
+    let finding = Finding {
+        text,
+        tokens: &tokens,
+        nth,
+        kind,
+    };
+    put_kind(page, reader, finding)?;
+    page.text("\n");
+    add_hint(page, reader, number, finding);
+    Ok(())
+}
+
+/// What stands in a line before a comment.
+fn text_of(line: &[u8]) -> &[u8] {
+    let len = line.iter().take_while(|b| **b != b'#').count();
+    line.get(..len).unwrap_or(line)
+}
+
+/// Where the token of a number begins; behind the last one where it is missing.
+fn place_of(text: &[u8], tokens: &[Token], nth: usize) -> usize {
+    match (tokens.get(nth), tokens.last()) {
+        (Some(token), _) => token.start,
+        (None, Some(last)) => last.end,
+        (None, None) => text.len(),
+    }
+}
+
+/// Puts what was found.
+fn put_found(page: &mut Page, found: &[u8]) {
+    page.text("found ");
+    if found.is_empty() {
+        page.text("the end of the line");
+        return;
+    }
+    page.text("'");
+    page.bytes(found.get(..SHOWN).unwrap_or(found));
+    page.text(if found.len() > SHOWN { "..'" } else { "'" });
+    if let [byte] = found {
+        if !is_word_byte(*byte) && !is_mark(*byte) {
+            page.text(", which is no token");
+        }
+    }
+}
+
+/// Puts what is wrong: of a token what was found, and where its kind is wrong, what could stand there.
+fn put_kind(page: &mut Page, reader: Reader<'_>, finding: Finding<'_>) -> Result<(), AllocError> {
+    match finding.kind {
+        ScriptFault::NoOpenRegion => page.text("no data region is open here"),
+        ScriptFault::HostFull => page.text("the array would end behind host memory"),
+        _ => {
+            put_found(page, finding.found());
+            return put_why(page, reader, finding);
+        }
+    }
+    Ok(())
+}
+
+/// Puts why what was found is wrong.
+fn put_why(page: &mut Page, reader: Reader<'_>, finding: Finding<'_>) -> Result<(), AllocError> {
+    match finding.kind {
+        ScriptFault::Number => page.text(", which is out of bounds"),
+        ScriptFault::UnknownName => page.text(", which names no array"),
+        ScriptFault::NameTaken => page.text(", which names an array already"),
+        _ => return add_wanted(page, reader, finding),
+    }
+    Ok(())
+}
+
+/// Puts what could stand in its place.
+fn add_wanted(page: &mut Page, reader: Reader<'_>, finding: Finding<'_>) -> Result<(), AllocError> {
+    let front = front_of(finding.text, finding.tokens, finding.nth);
+    let wanted = wanted_behind(reader, front)?;
+    if !wanted.is_empty() {
+        page.text(", wanted ");
+        put_wanted(page, &wanted);
+    }
+    Ok(())
+}
+
+/// Puts what to write in its place, where that is known.
+fn add_hint(page: &mut Page, reader: Reader<'_>, number: u64, finding: Finding<'_>) {
+    let mut hint = Page::new(reader.alloc);
+    if put_hint(&mut hint, reader, finding) {
+        put_note(page, number);
+        page.bytes(hint.as_slice());
+        page.text("\n");
+    }
+}
+
+/// Puts which `data` are open where the script ends: the numbers of their lines.
+pub fn explain_unclosed(page: &mut Page, lines: &[u64]) {
+    put_cause(page);
+    page.text("the script ends here, and no end data stands behind the data of line");
+    for (nth, line) in lines.iter().enumerate() {
+        page.text(if nth == 0 { " " } else { ", " });
+        page.number(*line);
+    }
+    page.text("\n");
+}

@@ -1,0 +1,19 @@
+//! Why a line is at fault or a statement was refused, for those who wrote the script.
+//!
+//! Where a line is wrong, and what could stand there, is what the reader itself answers for front parts of the line: so
+//! there is one reader, and no second one that might differ from it.
+#![tactic(auto)]
+
+mod faults;
+mod hints;
+mod readers;
+mod refusals;
+mod routines;
+mod sentences;
+mod sources;
+mod tokens;
+mod wanted;
+
+pub use faults::{explain_fault, explain_unclosed};
+pub use hints::{is_pragma, warn_of_pragma};
+pub use refusals::explain_refusal;

@@ -1,0 +1,336 @@
+//! Why a statement was refused.
+
+use crate::sources::put_cause;
+use acc_base::{Directive, Fault, HOST_BASE, Item, List, QUEUE_COUNT, Section};
+use acc_page::{Names, Page};
+use acc_read::{ScriptKernel, Statement};
+use acc_table::{Mapped, Table};
+
+/// How many ranges that a section meets are told at most.
+const TOLD: u64 = 8;
+
+/// What an item of a statement names.
+#[derive(Clone, Copy)]
+struct Named {
+    section: Section,
+    pointer: Option<u64>,
+}
+
+/// Puts why a statement was refused: its item by the array's name, the mapped ranges that it meets
+/// with their counters, and for a full device the largest hole.
+pub fn explain_refusal(
+    page: &mut Page,
+    table: &Table,
+    names: &Names,
+    number: u64,
+    statement: &Statement<'_>,
+    fault: Fault,
+) {
+    put_place(page, number);
+    if let Some((nth, named)) = item_of(statement, fault) {
+        put_item(page, names, nth, named);
+        if is_of_ranges(fault) {
+            put_meetings(page, table, names, statement, nth, named.section);
+        }
+    }
+    put_fault(page, table, fault);
+}
+
+/// Puts of which line this tells.
+fn put_place(page: &mut Page, number: u64) {
+    page.text("accrun: line ");
+    page.number(number);
+    page.text(" is refused\n");
+}
+
+/// Whether a refusal depends on the mapped ranges that the item meets.
+fn is_of_ranges(fault: Fault) -> bool {
+    matches!(
+        fault,
+        Fault::PartlyPresent { .. } | Fault::NotPresent { .. } | Fault::CounterFull { .. }
+    )
+}
+
+/// The item that a refusal names, and what it names.
+fn item_of(statement: &Statement<'_>, fault: Fault) -> Option<(u64, Named)> {
+    let nth = match fault {
+        Fault::OutOfHost { item }
+        | Fault::Misaligned { item }
+        | Fault::PartlyPresent { item }
+        | Fault::NotPresent { item }
+        | Fault::CounterFull { item }
+        | Fault::DeviceFull { item, .. } => item,
+        _ => return None,
+    };
+    Some((nth, named_in(statement, nth as usize)?))
+}
+
+/// What the item of a number names in a statement.
+fn named_in(statement: &Statement<'_>, nth: usize) -> Option<Named> {
+    match statement {
+        Statement::Direct(directive) => named_by(directive, nth),
+        Statement::Kernel {
+            kernel,
+            section,
+            ..
+        } => Some(section_alone(kernel_section(*kernel, *section, nth))),
+        Statement::Write { addr, bytes } => Some(section_alone(Section {
+            start: *addr,
+            len: bytes.as_slice().len() as u64,
+        })),
+        Statement::Show(section) => Some(section_alone(*section)),
+        _ => None,
+    }
+}
+
+/// What the item of a number names in a directive.
+fn named_by(directive: &Directive, nth: usize) -> Option<Named> {
+    match directive {
+        Directive::Enter { items } => nth_of(items, nth),
+        Directive::EnterData { items, .. } => nth_of(items, nth),
+        Directive::ExitData { items, .. } => nth_of(items, nth),
+        Directive::Update { items, .. } => nth_of(items, nth),
+        _ => None,
+    }
+}
+
+fn nth_of<C: Copy>(items: &List<Item<C>>, nth: usize) -> Option<Named> {
+    let item = items.as_slice().get(nth)?;
+    Some(Named {
+        section: item.section,
+        pointer: item.pointer,
+    })
+}
+
+fn section_alone(section: Section) -> Named {
+    Named {
+        section,
+        pointer: None,
+    }
+}
+
+/// The section of a kernel's item: 0 is what it changes, and 1 its source.
+fn kernel_section(kernel: ScriptKernel, section: Section, nth: usize) -> Section {
+    match kernel {
+        ScriptKernel::Plus(source) if nth == 1 => source,
+        _ => section,
+    }
+}
+
+/// Puts what an item names.
+fn put_item(page: &mut Page, names: &Names, nth: u64, named: Named) {
+    put_cause(page);
+    page.text("item ");
+    page.number(nth);
+    page.text(" is ");
+    put_section(page, names, named.section);
+    if let Some(pointer) = named.pointer {
+        page.text(" via the pointer ");
+        put_byte(page, names, pointer);
+    }
+    page.text("\n");
+}
+
+/// Puts a section by the name of its array, its length and its first address.
+fn put_section(page: &mut Page, names: &Names, section: Section) {
+    if let Some(spot) = names.within(section) {
+        spot.put_part(page, section.len);
+        page.text(", ");
+    }
+    page.number(section.len);
+    page.text(" bytes from ");
+    put_byte(page, names, section.start);
+    page.text(" on");
+}
+
+/// Puts an address, with the name of the byte where an array has it.
+fn put_byte(page: &mut Page, names: &Names, address: u64) {
+    page.address(address);
+    if let Some(spot) = names.spot(address) {
+        page.text(" (");
+        spot.put_byte(page);
+        page.text(")");
+    }
+}
+
+/// Puts the mapped ranges that a section meets, and the items before it in the same directive that do.
+fn put_meetings(
+    page: &mut Page,
+    table: &Table,
+    names: &Names,
+    statement: &Statement<'_>,
+    nth: u64,
+    section: Section,
+) {
+    let told = put_ranges(page, table, names, section);
+    if told == 0 {
+        put_cause(page);
+        page.text("before the line no mapped range has any of these bytes\n");
+    }
+    if let Statement::Direct(directive) = statement {
+        for other in 0..nth {
+            if let Some(named) = named_by(directive, other as usize) {
+                put_other(page, names, other, named.section, section);
+            }
+        }
+    }
+}
+
+/// Puts the mapped ranges that a section meets; answers how many they are.
+fn put_ranges(page: &mut Page, table: &Table, names: &Names, section: Section) -> u64 {
+    let mut told = 0;
+    let mut from = 0;
+    for _ in 0..u64::MAX {
+        let Some(mapped) = table.mapped(from) else {
+            break;
+        };
+        if meets(range_of(mapped), section) {
+            told = u64::saturating_add(told, 1);
+            if told <= TOLD {
+                put_range(page, names, mapped);
+            }
+        }
+        from = mapped.start.saturating_add(1);
+    }
+    put_others(page, told);
+    told
+}
+
+/// Puts how many more ranges it meets than were told.
+fn put_others(page: &mut Page, told: u64) {
+    if told > TOLD {
+        put_cause(page);
+        page.text("and ");
+        page.number(told.saturating_sub(TOLD));
+        page.text(" more\n");
+    }
+}
+
+fn range_of(mapped: Mapped) -> Section {
+    Section {
+        start: mapped.start,
+        len: mapped.len,
+    }
+}
+
+/// Whether two sections have an address in common.
+fn meets(one: Section, other: Section) -> bool {
+    one.len > 0
+        && other.len > 0
+        && one.start < other.start.saturating_add(other.len)
+        && other.start < one.start.saturating_add(one.len)
+}
+
+/// Puts a mapped range that is met.
+fn put_range(page: &mut Page, names: &Names, mapped: Mapped) {
+    put_cause(page);
+    page.text("it meets the mapping of ");
+    put_section(page, names, range_of(mapped));
+    page.text(", at ");
+    page.address(mapped.place);
+    page.text(", structured ");
+    page.number(mapped.structured);
+    page.text(", dynamic ");
+    page.number(mapped.dynamic);
+    page.text(if mapped.lent { ", lent\n" } else { "\n" });
+}
+
+/// Puts an item before it that names some of the same bytes.
+fn put_other(page: &mut Page, names: &Names, other: u64, named: Section, section: Section) {
+    if meets(named, section) {
+        put_cause(page);
+        page.text("item ");
+        page.number(other);
+        page.text(" of the same directive acts first, on ");
+        put_section(page, names, named);
+        page.text("\n");
+    }
+}
+
+/// Puts what a refusal says, in words.
+fn put_fault(page: &mut Page, table: &Table, fault: Fault) {
+    put_cause(page);
+    match fault {
+        Fault::OutOfHost { .. } => put_host(page, table),
+        Fault::Misaligned { .. } => page.text("a pointer lies at a multiple of 8"),
+        Fault::PartlyPresent { .. } => {
+            page.text("some of its bytes are mapped, and no one range has all of them")
+        }
+        Fault::NotPresent { .. } => page.text("it has to be mapped here"),
+        Fault::CounterFull { .. } => page.text("a counter is at its limit"),
+        Fault::DeviceFull { need, .. } => put_holes(page, table, need),
+        Fault::TooManyItems { n } => put_limit(
+            page,
+            "the directive has ",
+            n,
+            " items, and may have 64",
+        ),
+        Fault::NoQueue { q } => put_limit(page, "there is no queue ", q, "; they are 0 to 15"),
+        Fault::QueueFull { q } => put_queue(page, table, q),
+        Fault::NoAllowance { .. } => put_limit(
+            page,
+            "",
+            table.regions(),
+            " data regions are open, and no more may be",
+        ),
+        Fault::TraceFull { len } => put_limit(
+            page,
+            "the trace has ",
+            len,
+            " events, and no room for one more",
+        ),
+        _ => page.fault(fault),
+    }
+    page.text("\n");
+}
+
+fn put_limit(page: &mut Page, before: &str, number: u64, behind: &str) {
+    page.text(before);
+    page.number(number);
+    page.text(behind);
+}
+
+/// Puts which addresses host memory has.
+fn put_host(page: &mut Page, table: &Table) {
+    page.text("host memory has the addresses from ");
+    page.address(HOST_BASE);
+    page.text(" up to ");
+    page.address(
+        HOST_BASE
+            .saturating_add(table.config().host())
+            .saturating_sub(1),
+    );
+}
+
+/// Puts how many copies wait in a queue.
+fn put_queue(page: &mut Page, table: &Table, q: u64) {
+    if q < QUEUE_COUNT {
+        put_limit(
+            page,
+            "",
+            table.queue_len(q),
+            " copies wait in the queue, and no more may",
+        );
+    }
+}
+
+/// Puts what is free of the device before the statement.
+fn put_holes(page: &mut Page, table: &Table, need: u64) {
+    let mut largest = 0;
+    let mut free = 0;
+    let mut count = 0;
+    let mut from = 0;
+    for _ in 0..u64::MAX {
+        let Some(hole) = table.hole(from) else {
+            break;
+        };
+        largest = hole.size.max(largest);
+        free = hole.size.saturating_add(free);
+        count = u64::saturating_add(count, 1);
+        from = hole.place.saturating_add(1);
+    }
+    put_limit(page, "the block takes ", need, " bytes; before the line ");
+    put_limit(page, "the largest hole has ", largest, ", and ");
+    put_limit(page, "", free, " bytes are free in ");
+    put_limit(page, "", count, if count == 1 { " hole" } else { " holes" });
+}

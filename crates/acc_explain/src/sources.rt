@@ -1,0 +1,84 @@
+//! A line of a script with a mark under a place.
+
+use acc_page::Page;
+
+/// How many bytes of a line stand at most before the place that is marked.
+const BEFORE: usize = 60;
+
+/// How many bytes of a line are shown at most.
+const SHOWN: usize = 100;
+
+/// Puts a line behind its number, and under it a mark at a place; the line of the mark is left open. Where the line is
+/// long, the part around the place is shown.
+pub fn put_source(page: &mut Page, number: u64, line: &[u8], place: usize) {
+    let from = place.saturating_sub(BEFORE);
+    page.text("  ");
+    page.number(number);
+    page.text(" | ");
+    put_part(page, line, from);
+    page.text("\n");
+    put_gutter(page, number, " | ");
+    put_blanks(
+        page,
+        place.saturating_sub(from).saturating_add(cut_len(from)),
+    );
+    page.text("^ ");
+}
+
+/// Puts a line that says more, under the line of a number.
+pub fn put_note(page: &mut Page, number: u64) {
+    put_gutter(page, number, " = ");
+}
+
+/// Puts a line that says more, under a line that tells what became of a statement.
+pub fn put_cause(page: &mut Page) {
+    page.text("    = ");
+}
+
+/// Puts what stands before a line that is no line of the script.
+fn put_gutter(page: &mut Page, number: u64, mark: &str) {
+    let mut rest = number;
+    page.text("   ");
+    for _ in 0..20 {
+        rest /= 10;
+        if rest == 0 {
+            break;
+        }
+        page.text(" ");
+    }
+    page.text(mark);
+}
+
+/// Puts a part of a line, with dots where it is cut.
+fn put_part(page: &mut Page, line: &[u8], from: usize) {
+    if cut_len(from) > 0 {
+        page.text("..");
+    }
+    let rest = line.get(from..).unwrap_or(&[]);
+    for byte in rest.iter().take(SHOWN) {
+        put_byte(page, *byte);
+    }
+    if rest.len() > SHOWN {
+        page.text("..");
+    }
+}
+
+/// How many dots stand before a part from a place on.
+fn cut_len(from: usize) -> usize {
+    if from > 0 { 2 } else { 0 }
+}
+
+/// Puts a byte so that it takes one column.
+fn put_byte(page: &mut Page, byte: u8) {
+    match byte {
+        b' '..=b'~' => page.bytes(&[byte]),
+        b'\t' => page.text(" "),
+        _ => page.text("?"),
+    }
+}
+
+fn put_blanks(page: &mut Page, count: usize) {
+    for _ in 0..count {
+        page.text(" ");
+    }
+}

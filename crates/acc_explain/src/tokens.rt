@@ -1,0 +1,69 @@
+//! The tokens of a statement, by their places in it.
+
+use std::alloc::{AllocError, Global};
+
+/// Where a token stands in a text: from its first byte up to the one behind its last.
+#[derive(Clone, Copy)]
+pub struct Token {
+    /// The place of its first byte.
+    pub start: usize,
+    /// The place behind its last byte.
+    pub end: usize,
+}
+
+/// The tokens of a text, from left to right. A character that is no token stands among them.
+pub fn tokens_of(alloc: Global, text: &[u8]) -> Result<Vec<Token>, AllocError> {
+    let mut tokens = Vec::new(alloc);
+    let mut from = 0;
+    for _ in 0..text.len() {
+        let Some(token) = next_token(text, from) else {
+            break;
+        };
+        from = token.end;
+        tokens.push(token)?;
+    }
+    Ok(tokens)
+}
+
+/// The first token of a text from a place on, if it has one.
+pub fn next_token(text: &[u8], from: usize) -> Option<Token> {
+    let rest = text.get(from..)?;
+    let blanks = rest.iter().take_while(|b| is_blank(**b)).count();
+    let token = rest.get(blanks..)?;
+    if token.is_empty() {
+        return None;
+    }
+    let len = token.iter().take_while(|b| is_word_byte(**b)).count();
+    let start = from.saturating_add(blanks);
+    Some(Token {
+        start,
+        end: start.saturating_add(len.max(1)),
+    })
+}
+
+/// The bytes of a token.
+pub fn bytes_of(text: &[u8], token: Token) -> &[u8] {
+    text.get(token.start..token.end).unwrap_or(&[])
+}
+
+/// The bytes of the token of a number, from 0 on; none where there are fewer.
+pub fn nth_bytes<'a>(text: &'a [u8], tokens: &[Token], nth: usize) -> &'a [u8] {
+    match tokens.get(nth) {
+        Some(token) => bytes_of(text, *token),
+        None => &[],
+    }
+}
+
+fn is_blank(b: u8) -> bool {
+    b == b' ' || b == b'\t'
+}
+
+/// Whether a byte may stand in a word.
+pub fn is_word_byte(b: u8) -> bool {
+    b.is_ascii_alphanumeric() || b == b'_'
+}
+
+/// Whether a byte is a mark.
+pub fn is_mark(b: u8) -> bool {
+    matches!(b, b'(' | b')' | b'[' | b']' | b':' | b',')
+}

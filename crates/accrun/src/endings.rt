@@ -1,6 +1,7 @@
 //! How the program ends, and what it tells then.
 
 use acc_base::Fault;
+use acc_emit::{EmitFault, Reason};
 use acc_follow::{Difference, Page};
 use acc_script::{Sink, write_all};
 use arrayvec::ArrayString;
@@ -14,6 +15,8 @@ pub enum Mishap<'a> {
     Fault(Fault),
     /// A file of this name cannot be read.
     Unread(&'a str),
+    /// The line of a number cannot be emitted.
+    Unfit(u64, Reason),
 }
 
 impl From<Fault> for Mishap<'_> {
@@ -22,11 +25,21 @@ impl From<Fault> for Mishap<'_> {
     }
 }
 
+impl From<EmitFault> for Mishap<'_> {
+    fn from(fault: EmitFault) -> Self {
+        match fault {
+            EmitFault::Run(fault) => Mishap::Fault(fault),
+            EmitFault::Line { line, reason } => Mishap::Unfit(line, reason),
+        }
+    }
+}
+
 /// Writes the line that tells why the program ends with status 2, in one piece. A failure of the sink changes nothing.
 pub fn tell_mishap<E: Sink>(alloc: Global, err: &mut E, mishap: Mishap<'_>) {
     match mishap {
         Mishap::Fault(fault) => tell(err, fault),
         Mishap::Unread(name) => tell_unread(alloc, err, name),
+        Mishap::Unfit(number, reason) => tell_unfit(err, number, reason.text()),
     }
 }
 
@@ -37,6 +50,14 @@ fn tell_unread<E: Sink>(alloc: Global, err: &mut E, name: &str) {
     page.text(name);
     page.text("\n");
     let _ = write_all(err, page.as_slice());
+}
+
+/// Writes that the line of a number cannot be emitted, in one piece and without memory.
+fn tell_unfit<E: Sink>(err: &mut E, number: u64, reason: &str) {
+    // The longest line has 103 bytes: that of `Unsettled` with a number of 20 digits.
+    let mut line = ArrayString::<112>::new();
+    let _ = writeln!(line, "accrun: line {number} cannot be emitted: {reason}");
+    let _ = write_all(err, line.as_bytes());
 }
 
 /// Writes the one line that tells a fault, in one piece and without memory. A failure of the sink changes nothing.

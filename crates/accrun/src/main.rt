@@ -5,6 +5,7 @@
 mod drills;
 mod endings;
 mod options;
+mod programs;
 mod shelves;
 #[cfg(test)]
 mod tests;

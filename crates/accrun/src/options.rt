@@ -26,6 +26,10 @@ pub struct Options<'a> {
     pub expect: Option<&'a str>,
     /// What is shown beside what the script prints.
     pub views: Views,
+    /// Whether the script is emitted as a program in C, in place of a run.
+    pub emit: bool,
+    /// Whether that program ends with the first statement that is refused.
+    pub until_refusal: bool,
     /// The size of host memory in bytes.
     pub host: u64,
     /// The size of device memory in bytes.
@@ -98,6 +102,20 @@ fn expect_option<'a>(alloc: Global) -> Arg<'a> {
         .action(ArgAction::Set)
 }
 
+/// The languages that a script can be emitted in.
+const LANGUAGES: &[&str] = &["c"];
+
+/// The option of the language that the script is emitted in.
+fn emit_option<'a>(alloc: Global) -> Arg<'a> {
+    Arg::new(alloc, "emit")
+        .long("emit")
+        .value_name("LANGUAGE")
+        .help("Write the script as a program instead")
+        .action(ArgAction::Set)
+        .value_parser(LANGUAGES)
+        .hide_possible_values(true)
+}
+
 /// An option that is there or not.
 fn flag<'a>(alloc: Global, name: &'a str, help: &'a str) -> Arg<'a> {
     Arg::new(alloc, name)
@@ -113,6 +131,7 @@ fn flag<'a>(alloc: Global, name: &'a str, help: &'a str) -> Arg<'a> {
 /// `clap`'s own, whose text is for the user: also where help was asked for, and for want of memory.
 pub fn parsed_options<'a>(alloc: Global, words: &'a [String]) -> Result<Options<'a>, Error> {
     let command = with_views(alloc, with_limits(alloc, bare(alloc))?)?;
+    let command = with_programs(alloc, command)?;
     let matches = command.try_get_matches_from(words)?;
     Ok(options_of(&matches))
 }
@@ -151,6 +170,16 @@ fn with_views<'a>(alloc: Global, command: Command<'a>) -> Result<Command<'a>, Er
     )
 }
 
+/// Adds the options of the program that a script is emitted as.
+fn with_programs<'a>(alloc: Global, command: Command<'a>) -> Result<Command<'a>, Error> {
+    let until = flag(alloc, "until-refusal", "End it with the first refusal");
+    Ok(
+        command
+            .arg(emit_option(alloc))?
+            .arg(until.requires_arg("emit")?)?,
+    )
+}
+
 /// What the command line says, once it is read.
 fn options_of<'a>(matches: &ArgMatches<'a>) -> Options<'a> {
     Options {
@@ -162,6 +191,8 @@ fn options_of<'a>(matches: &ArgMatches<'a>) -> Options<'a> {
             log: matches.get_flag("log"),
             explain: matches.get_flag("explain"),
         },
+        emit: matches.contains_id("emit"),
+        until_refusal: matches.get_flag("until-refusal"),
         host: matches.get_one::<u64>("host").unwrap_or(DEFAULT_SIZE),
         device: matches.get_one::<u64>("device").unwrap_or(DEFAULT_SIZE),
         threads: matches.get_one::<u64>("threads").unwrap_or(DEFAULT_THREADS),
@@ -189,6 +220,11 @@ prints. With --json the report is one object on one line. With --expect the
 output is not written: it is compared with OUTPUT, and the first line that
 differs is told on standard error. Then the status is 1, and 0 where none
 differs, whatever was refused.
+
+With --emit c the script is written as a C program with OpenACC directives, which
+does what the script does, and has the expected output in it. A statement that
+is refused, or that C cannot say, is a fault. With --until-refusal the program
+ends with the first statement that is refused, and has to fail there.
 
 Statements, one to a line, with comments after '#':
   array NAME BYTES         an array in host memory

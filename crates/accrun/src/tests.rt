@@ -5,6 +5,7 @@ use crate::tools::{tell_words, tool};
 use crate::words::{WordsFault, read_words};
 use acc_base::Fault;
 use acc_script::{MemorySink, MemorySource};
+use programs::{NO_PROGRAMS, PROGRAMS, ProgramRow};
 use rows::{COPIES, DRILLS, FAULTS, KERNELS, LIVES, LOGS, QUEUES, REASONS, REFUSALS, Row, VIEWS};
 use std::alloc::{AllocError, Global};
 use std::env::{Env, FillError};
@@ -16,6 +17,7 @@ use std::test::Fail;
 use std::thread::Threads;
 
 mod ends;
+mod programs;
 mod rows;
 
 /// The words of a command line: the program's name, and the options between blanks.
@@ -158,6 +160,35 @@ fn logs_tell_what_each_call_did(rt: HostRuntime) -> Result<(), Fail> {
     Ok(())
 }
 
+/// The program of a row has its declarations, and ends with its `main`.
+fn check_program<R: Threads + Wait + Sync + AllocGlobal + Abort>(
+    rt: &R,
+    row: ProgramRow,
+) -> Result<(), Fail> {
+    let (options, script, declarations, body) = row;
+    let mut out = MemorySink::new(rt.alloc());
+    let mut err = MemorySink::new(rt.alloc());
+    let options = format!(in rt.alloc(); "--emit c {options}")?;
+    let found = run_tool(rt, &options, script, &mut out, &mut err)?;
+    check_status(rt, &err, found, "", 0, script);
+    let text = str::from_utf8(out.as_slice())?;
+    let (front, back) = text
+        .split_at_checked(text.len().saturating_sub(body.len()))
+        .unwrap_or((text, ""));
+    same(rt, front.contains(declarations), true, script);
+    same(rt, back, body, script);
+    Ok(())
+}
+
+#[test]
+fn scripts_are_emitted_as_programs(rt: HostRuntime) -> Result<(), Fail> {
+    for row in &PROGRAMS {
+        check_program(&rt, *row)?;
+    }
+    check_rows(&rt, &NO_PROGRAMS)?;
+    Ok(())
+}
+
 /// Runs a line of 4,097 bytes, and compares.
 fn check_long_line<R: Threads + Wait + Sync + AllocGlobal + Abort>(
     rt: &R,
@@ -187,7 +218,7 @@ fn a_line_that_is_too_long_is_told(rt: HostRuntime) -> Result<(), Fail> {
 
 /// Command lines with an empty script, their status, and what has to stand in the text on standard output and on
 /// standard error; where it is empty there is no text.
-const COMMAND_LINES: [(&str, u8, &str, &str); 25] = [
+const COMMAND_LINES: [(&str, u8, &str, &str); 28] = [
     ("--host 16 --device 67108864", 0, "", ""),
     ("--threads 1 --trace counts", 0, "", ""),
     ("--threads 64", 0, "", ""),
@@ -227,6 +258,9 @@ const COMMAND_LINES: [(&str, u8, &str, &str); 25] = [
     ("--nothing", 2, "", "'--nothing'"),
     ("--expect", 2, "", "'--expect <OUTPUT>'"),
     ("--echo --json", 0, "", ""),
+    ("--emit", 2, "", "'--emit <LANGUAGE>'"),
+    ("--emit d", 2, "", "'d' for '--emit <LANGUAGE>'"),
+    ("--until-refusal", 2, "", "--emit <LANGUAGE>"),
     ("--log", 0, "", "lamwiest: total mapped 0 ended 0"),
     ("none.acc", 2, "", "accrun: cannot read none.acc\n"),
     ("--expect none.out", 2, "", "accrun: cannot read none.out\n"),
@@ -279,7 +313,7 @@ fn command_lines_are_read(rt: HostRuntime) -> Result<(), Fail> {
 }
 
 /// What the help has to name.
-const HELP_WORDS: [&str; 45] = [
+const HELP_WORDS: [&str; 47] = [
     "[FILE]",
     "--expect <OUTPUT>",
     "--echo",
@@ -287,6 +321,8 @@ const HELP_WORDS: [&str; 45] = [
     "--log",
     "--explain",
     "--version",
+    "--emit <LANGUAGE>",
+    "--until-refusal",
     "--threads <N>",
     "--drill <ROUNDS>",
     "--trace <WHAT>",

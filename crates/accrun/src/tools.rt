@@ -5,6 +5,7 @@ ghost use Rattle.std.specs.Prelude.{◌≤◌};
 use crate::drills::run_drill;
 use crate::endings::{Mishap, tell, tell_difference, tell_mishap};
 use crate::options::{Options, parsed_options};
+use crate::programs::emit_script;
 use crate::shelves::Shelf;
 use crate::words::WordsFault;
 use acc_base::{Config, Fault};
@@ -118,7 +119,7 @@ fn carried_out<'a, R: Threads + Wait + Sync + AllocGlobal, S: Source, O: Output,
     match (options.drill, options.file) {
         (Some(rounds), _) => Ok(drill_threads(rt, options, config, rounds, out)?),
         (None, Some(name)) => run_file(rt, options, config, name, out, err, shelf, reason),
-        (None, None) => Ok(run_script(rt, options, config, reader, out, err, reason)?),
+        (None, None) => use_script(rt, options, config, reader, out, err, reason),
     }
 }
 
@@ -135,7 +136,23 @@ fn run_file<'a, R: Threads + Wait + Sync + AllocGlobal, O: Output, E: Sink, D: S
 ) -> Result<Status, Mishap<'a>> {
     let script = read_file(shelf, name)?;
     let mut reader = MemorySource::new(&script);
-    Ok(run_script(rt, options, config, &mut reader, out, err, reason)?)
+    use_script(rt, options, config, &mut reader, out, err, reason)
+}
+
+/// Runs the script within these limits, or emits it as a program.
+fn use_script<'a, R: Threads + Wait + Sync + AllocGlobal, S: Source, O: Output, E: Sink>(
+    rt: &R,
+    options: Options<'_>,
+    config: Config,
+    reader: &mut S,
+    out: &mut O,
+    err: &mut E,
+    reason: &mut Page,
+) -> Result<Status, Mishap<'a>> {
+    if options.emit {
+        return emit_script(rt, options, config, reader, out);
+    }
+    Ok(run_script(rt, options, config, reader, out, err, reason)?)
 }
 
 /// The bytes of a file.

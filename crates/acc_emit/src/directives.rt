@@ -1,0 +1,216 @@
+//! Directives with data clauses.
+
+use crate::faults::EmitFault;
+use crate::items::{Words, Written, fit_one_directive};
+use crate::pointers::pointer_section;
+use crate::sheets::Sheet;
+
+/// A directive around its items: what stands before them, and behind them.
+#[derive(Clone, Copy)]
+pub struct Frame {
+    /// Its words.
+    pub head: &'static str,
+    /// Its `async` queue.
+    pub queue: Option<u64>,
+    /// Another option of it, with a blank before it.
+    pub option: &'static str,
+    /// The call that pointers are attached or detached by.
+    pub call: &'static str,
+    /// Whether that call comes before the directive.
+    pub call_first: bool,
+    /// Whether a block follows.
+    pub opens: bool,
+}
+
+/// The frame of the start of a region.
+pub const REGION: Frame = Frame {
+    head: "data",
+    queue: None,
+    option: "",
+    call: "acc_attach",
+    call_first: false,
+    opens: true,
+};
+
+/// The frame of an `enter data`.
+pub fn enter_frame(queue: Option<u64>) -> Frame {
+    Frame {
+        head: "enter data",
+        queue,
+        opens: false,
+        ..REGION
+    }
+}
+
+/// The frame of an `exit data`.
+pub fn exit_frame(queue: Option<u64>, finalize: bool) -> Frame {
+    Frame {
+        head: "exit data",
+        queue,
+        option: if finalize { " finalize" } else { "" },
+        call: if finalize {
+            "acc_detach_finalize"
+        } else {
+            "acc_detach"
+        },
+        call_first: true,
+        opens: false,
+    }
+}
+
+/// The frame of an `update`.
+pub fn update_frame(queue: Option<u64>, if_present: bool) -> Frame {
+    Frame {
+        head: "update",
+        queue,
+        option: if if_present { " if_present" } else { "" },
+        opens: false,
+        ..REGION
+    }
+}
+
+/// Puts a directive, or, where C asks for it, one for each item. They do the same: items act one after the other.
+pub fn put_directive(sheet: &mut Sheet, frame: Frame, items: &[Written]) -> Result<(), EmitFault> {
+    if fit_one_directive(&sheet.names, items) {
+        return put_clauses(sheet, frame, items);
+    }
+    for item in items {
+        put_item(sheet, frame, *item)?;
+    }
+    Ok(())
+}
+
+/// Puts an item as a directive of its own, with the call for its pointer.
+fn put_item(sheet: &mut Sheet, frame: Frame, item: Written) -> Result<(), EmitFault> {
+    if frame.call_first {
+        put_call(sheet, frame.call, item.pointer())?;
+    }
+    if item.is_clause() {
+        put_clause_alone(sheet, frame, item)?;
+    } else {
+        put_passed_over(sheet, frame, item);
+    }
+    if !frame.call_first {
+        put_call(sheet, frame.call, item.pointer())?;
+    }
+    Ok(())
+}
+
+/// Puts a comment for an item without a section, and the block that it opens all the same.
+fn put_passed_over(sheet: &mut Sheet, frame: Frame, item: Written) {
+    if !item.words.word.is_empty() {
+        sheet.start("/* an empty section: no action */\n");
+    } else if item.pointer().is_none() {
+        sheet.start("/* the pointer stays as it is: no action */\n");
+    }
+    put_opening(sheet, frame);
+}
+
+/// Puts a directive with one item.
+fn put_clause_alone(sheet: &mut Sheet, frame: Frame, item: Written) -> Result<(), EmitFault> {
+    if item.words.zero {
+        put_with_zero(sheet, frame, item)
+    } else {
+        put_clauses(sheet, frame, &[item])
+    }
+}
+
+/// Puts a directive whose item has the modifier `zero`, and what a compiler that does not know it is to do in its place.
+fn put_with_zero(sheet: &mut Sheet, frame: Frame, item: Written) -> Result<(), EmitFault> {
+    let without_block = Frame {
+        opens: false,
+        ..frame
+    };
+    let without_zero = Written {
+        words: Words {
+            zero: false,
+            ..item.words
+        },
+        ..item
+    };
+    sheet.body.text("#if KNOWS_ZERO\n");
+    put_clauses(sheet, without_block, &[item])?;
+    sheet.body.text("#else\n");
+    put_clauses(sheet, without_block, &[without_zero])?;
+    sheet.body.text("#endif\n");
+    put_opening(sheet, frame);
+    put_fill(sheet, item)
+}
+
+/// Puts a fill of a new block, for a compiler that does not know the modifier.
+fn put_fill(sheet: &mut Sheet, item: Written) -> Result<(), EmitFault> {
+    if !item.is_born() {
+        return Ok(());
+    }
+    sheet.need(item.section.len);
+    sheet.body.text("#if !KNOWS_ZERO\n");
+    sheet.start("fill_with_zero(");
+    sheet.put_address(item.section)?;
+    sheet.body.text(", ");
+    sheet.put_number(item.section.len);
+    sheet.body.text(");\n#endif\n");
+    Ok(())
+}
+
+/// Puts one directive with these items.
+fn put_clauses(sheet: &mut Sheet, frame: Frame, items: &[Written]) -> Result<(), EmitFault> {
+    sheet.start("#pragma acc ");
+    sheet.body.text(frame.head);
+    for item in items {
+        put_clause(sheet, *item)?;
+    }
+    put_queue(sheet, frame.queue);
+    sheet.body.text(frame.option);
+    sheet.body.text("\n");
+    put_opening(sheet, frame);
+    Ok(())
+}
+
+fn put_opening(sheet: &mut Sheet, frame: Frame) {
+    if frame.opens {
+        sheet.open_block();
+    }
+}
+
+/// Puts a clause with one section.
+fn put_clause(sheet: &mut Sheet, item: Written) -> Result<(), EmitFault> {
+    sheet.body.text(" ");
+    sheet.body.text(item.words.word);
+    sheet
+        .body
+        .text(if item.words.zero { "(zero: " } else { "(" });
+    sheet.put_section(item.section)?;
+    sheet.body.text(")");
+    Ok(())
+}
+
+fn put_queue(sheet: &mut Sheet, queue: Option<u64>) {
+    if let Some(queue) = queue {
+        sheet.body.text(" async(");
+        sheet.put_number(queue);
+        sheet.body.text(")");
+    }
+}
+
+/// Puts a `wait`.
+pub fn put_wait(sheet: &mut Sheet, queue: Option<u64>) {
+    sheet.start("#pragma acc wait");
+    if let Some(queue) = queue {
+        sheet.body.text("(");
+        sheet.put_number(queue);
+        sheet.body.text(")");
+    }
+    sheet.body.text("\n");
+}
+
+/// Puts the call that attaches or detaches a pointer, if there is one.
+pub fn put_call(sheet: &mut Sheet, call: &str, pointer: Option<u64>) -> Result<(), EmitFault> {
+    let Some(pointer) = pointer else {
+        return Ok(());
+    };
+    sheet.start(call);
+    sheet.body.text("((void **)(");
+    sheet.put_address(pointer_section(pointer))?;
+    sheet.body.text("));\n");
+    Ok(())
+}

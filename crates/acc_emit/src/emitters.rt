@@ -1,0 +1,39 @@
+//! A script that is being emitted.
+
+use crate::faults::{EmitFault, Reason};
+use crate::marks::Marks;
+use crate::regions::OpenRegion;
+use crate::sheets::Sheet;
+use crate::twins::Twins;
+use acc_base::Config;
+use std::alloc::Global;
+
+/// A script that is being emitted.
+#[derive(Drop)]
+pub struct Emitter {
+    /// The script's table, and its twin.
+    pub twins: Twins,
+    /// The bytes that are not compared.
+    pub marks: Marks,
+    /// The program.
+    pub sheet: Sheet,
+    /// The open regions, the innermost last.
+    pub regions: Vec<OpenRegion>,
+}
+
+impl Emitter {
+    /// New tables of these limits, and an empty program.
+    pub fn new(alloc: Global, config: Config) -> Result<Emitter, EmitFault> {
+        Ok(Emitter {
+            marks: Marks::new(alloc, config.host())?,
+            twins: Twins::new(alloc, config)?,
+            sheet: Sheet::new(alloc),
+            regions: Vec::new(alloc),
+        })
+    }
+
+    /// The fault of the line that is being emitted.
+    pub fn unfit(&self, reason: Reason) -> EmitFault {
+        self.sheet.unfit(reason)
+    }
+}

@@ -1,0 +1,67 @@
+//! Why a script cannot be emitted.
+
+use acc_base::Fault;
+use std::alloc::{AllocError, AllocFailed};
+
+/// What an OpenACC program in C cannot have.
+#[derive(Clone, Copy, Debug, PartialEq, Eq)]
+pub enum Reason {
+    /// The statement is refused, and a program that goes on cannot have it.
+    Refused,
+    /// The refusal comes from a limit of the table, and not from OpenACC.
+    Limit,
+    /// A section, or a place, is not in one array.
+    OutsideArray,
+    /// A pointer is attached whose bytes no `point` wrote.
+    Unpointed,
+    /// A mapping ends, or a pointer is attached, while a copy of its bytes waits in another queue.
+    Unsettled,
+    /// A program up to the first refusal is asked for, and no statement is refused.
+    NothingRefused,
+}
+
+impl Reason {
+    /// What is told of it.
+    pub fn text(self) -> &'static str {
+        match self {
+            Reason::Refused => "the statement is refused",
+            Reason::Limit => "the refusal comes from a limit of this table",
+            Reason::OutsideArray => "a section does not lie in one array",
+            Reason::Unpointed => "a pointer is attached that no 'point' wrote",
+            Reason::Unsettled => "the outcome depends on when a queued copy is made",
+            Reason::NothingRefused => "no statement was refused",
+        }
+    }
+}
+
+/// Why a script gives no program.
+#[derive(Clone, Copy, Debug, PartialEq, Eq)]
+pub enum EmitFault {
+    /// A fault of the script, or want of memory.
+    Run(Fault),
+    /// A line cannot be emitted.
+    Line {
+        /// The number of the line, counted from 1.
+        line: u64,
+        /// Why.
+        reason: Reason,
+    },
+}
+
+impl From<Fault> for EmitFault {
+    fn from(fault: Fault) -> EmitFault {
+        EmitFault::Run(fault)
+    }
+}
+
+impl From<AllocError> for EmitFault {
+    fn from(_error: AllocError) -> EmitFault {
+        EmitFault::Run(Fault::Memory)
+    }
+}
+
+impl<T: Drop> From<AllocFailed<T>> for EmitFault {
+    fn from(_error: AllocFailed<T>) -> EmitFault {
+        EmitFault::Run(Fault::Memory)
+    }
+}

@@ -1,0 +1,183 @@
+//! The items of a directive, as C writes them.
+
+use acc_base::{
+    Aim, Did, EnterClause, ExitClause, Fault, Item, RegionClause, Section, Step, UpdateClause,
+};
+use acc_page::Names;
+use std::alloc::Global;
+
+/// The word of a clause, and its modifier.
+#[derive(Clone, Copy)]
+pub struct Words {
+    /// The word; empty for a clause of pointers alone.
+    pub word: &'static str,
+    /// Whether the modifier is `zero`.
+    pub zero: bool,
+}
+
+/// A clause of a directive, as C writes it.
+pub trait Clause: Copy {
+    /// Its word and its modifier.
+    fn words(self) -> Words;
+}
+
+/// A clause without a modifier.
+fn plain(word: &'static str) -> Words {
+    Words { word, zero: false }
+}
+
+impl Clause for RegionClause {
+    fn words(self) -> Words {
+        match self {
+            RegionClause::Copy => plain("copy"),
+            RegionClause::Copyin => plain("copyin"),
+            RegionClause::Copyout { zero } => Words {
+                word: "copyout",
+                zero,
+            },
+            RegionClause::Create { zero } => Words {
+                word: "create",
+                zero,
+            },
+            RegionClause::NoCreate => plain("no_create"),
+            RegionClause::Present => plain("present"),
+            RegionClause::Attach => plain(""),
+        }
+    }
+}
+
+impl Clause for EnterClause {
+    fn words(self) -> Words {
+        match self {
+            EnterClause::Copyin => plain("copyin"),
+            EnterClause::Create { zero } => Words {
+                word: "create",
+                zero,
+            },
+            EnterClause::Attach => plain(""),
+        }
+    }
+}
+
+impl Clause for ExitClause {
+    fn words(self) -> Words {
+        plain(match self {
+            ExitClause::Copyout => "copyout",
+            ExitClause::Delete => "delete",
+            ExitClause::Detach => "",
+        })
+    }
+}
+
+impl Clause for UpdateClause {
+    fn words(self) -> Words {
+        plain(match self {
+            UpdateClause::ToSelf => "self",
+            UpdateClause::ToDevice => "device",
+        })
+    }
+}
+
+/// An item of a data clause, as C writes it, and what it did.
+#[derive(Clone, Copy)]
+pub struct Written {
+    /// Its clause.
+    pub words: Words,
+    /// Its section.
+    pub section: Section,
+    /// What it did: nothing, where the directive is refused.
+    pub did: Did,
+}
+
+/// The items of a directive with what each of them did, as far as that is known.
+pub fn written_items<C: Clause>(
+    alloc: Global,
+    items: &[Item<C>],
+    did: &[Did],
+) -> Result<Vec<Written>, Fault> {
+    let mut all = Vec::new(alloc);
+    for (nth, item) in items.iter().enumerate() {
+        let written = Written {
+            words: item.clause.words(),
+            section: item.section,
+            did: did.get(nth).copied().unwrap_or_default(),
+        };
+        all.push(written)?;
+    }
+    Ok(all)
+}
+
+impl Written {
+    /// Whether a data clause of C can name it: it has a word, and its section is not empty.
+    pub fn is_clause(self) -> bool {
+        !self.words.word.is_empty() && self.section.len > 0
+    }
+
+    /// Whether it was mapped to a new block.
+    pub fn is_born(self) -> bool {
+        matches!(self.did.step, Step::Born { .. })
+    }
+
+    /// The pointer that it attached or detached.
+    pub fn pointer(self) -> Option<u64> {
+        match self.did.aim {
+            Aim::None => None,
+            Aim::New { pointer, .. }
+            | Aim::Again { pointer, .. }
+            | Aim::Less { pointer, .. }
+            | Aim::Cleared { pointer, .. } => Some(pointer),
+        }
+    }
+
+    /// The pointer that it attached.
+    pub fn attached(self) -> Option<u64> {
+        match self.did.aim {
+            Aim::New { pointer, .. } | Aim::Again { pointer, .. } => Some(pointer),
+            _ => None,
+        }
+    }
+
+    /// The block whose mapping it ended.
+    pub fn ended_block(self) -> Option<u64> {
+        match self.did.step {
+            Step::Dropped { block, ended: true } => Some(block),
+            _ => None,
+        }
+    }
+
+    /// The block to or from which it copied its section, or put the copy into a queue.
+    pub fn copied_block(self) -> Option<u64> {
+        let word = self.words.word;
+        match self.did.step {
+            Step::Born { block, .. } => (word == "copy" || word == "copyin").then_some(block),
+            Step::Dropped { block, ended } => {
+                (ended && (word == "copy" || word == "copyout")).then_some(block)
+            }
+            Step::Moved { block } => Some(block),
+            _ => None,
+        }
+    }
+}
+
+/// Whether one directive of C can have all of the items: each names another array, as C asks, and none has a pointer,
+/// which a call attaches before the next item, or the modifier `zero`, which not each compiler knows.
+pub fn fit_one_directive(names: &Names, items: &[Written]) -> bool {
+    for (nth, item) in items.iter().enumerate() {
+        let is_plain = item.is_clause() && item.pointer().is_none() && !item.words.zero;
+        if !is_plain || !is_of_new_array(names, items, nth, item.section) {
+            return false;
+        }
+    }
+    !items.is_empty()
+}
+
+/// Whether no item before the nth is of the array of a section.
+fn is_of_new_array(names: &Names, items: &[Written], nth: usize, section: Section) -> bool {
+    items.iter().take(nth).all(|item| array_start(names, item.section)
+        != array_start(names, section))
+}
+
+/// Where the array of a section starts.
+fn array_start(names: &Names, section: Section) -> Option<u32> {
+    names.spot(section.start).map(|spot| spot.array.start)
+}

@@ -1,0 +1,28 @@
+//! A script as a C program with OpenACC 3.3 directives, which does what the script does and knows what has to come out.
+//!
+//! A byte is compared only where OpenACC determines it: `twins` finds those that nothing has filled, and `marks` keeps
+//! those of addresses and those that a queued copy races for.
+#![tactic(auto)]
+
+mod answers;
+mod directives;
+mod doing;
+mod emitters;
+mod emitting;
+mod events;
+mod faults;
+mod harness;
+mod items;
+mod kernels;
+mod marks;
+mod plans;
+mod pointers;
+mod refusals;
+mod regions;
+mod sheets;
+mod twins;
+mod waits;
+mod writes;
+
+pub use emitting::emit;
+pub use faults::{EmitFault, Reason};

@@ -1,0 +1,150 @@
+//! The text of the program, while it grows.
+
+use crate::faults::{EmitFault, Reason};
+use acc_base::{Fault, Section};
+use acc_page::{Names, Page, Spot};
+use std::alloc::Global;
+use std::fmt::Write;
+
+/// The parts of a program, and the arrays that it names.
+#[derive(Drop)]
+pub struct Sheet {
+    /// The declarations of the arrays.
+    pub head: Page,
+    /// The statements.
+    pub body: Page,
+    /// The arrays.
+    pub names: Names,
+    /// The number of the line that is being emitted.
+    pub line: u64,
+    /// The length of the longest section whose bytes the program handles.
+    longest: u64,
+    /// How many blocks of C are open within `main`.
+    depth: u64,
+}
+
+impl Sheet {
+    /// An empty sheet.
+    pub fn new(alloc: Global) -> Sheet {
+        Sheet {
+            head: Page::new(alloc),
+            body: Page::new(alloc),
+            names: Names::new(alloc),
+            line: 0,
+            longest: 16,
+            depth: 0,
+        }
+    }
+
+    /// The fault of this line.
+    pub fn unfit(&self, reason: Reason) -> EmitFault {
+        EmitFault::Line {
+            line: self.line,
+            reason,
+        }
+    }
+
+    /// Notes that the program handles so many bytes at a time.
+    pub fn need(&mut self, length: u64) {
+        self.longest = self.longest.max(length);
+    }
+
+    /// Begins a line of the program, at the depth of its block.
+    pub fn start(&mut self, text: &str) {
+        self.body.text("    ");
+        for _ in 0..self.depth {
+            self.body.text("    ");
+        }
+        self.body.text(text);
+    }
+
+    /// Opens a block.
+    pub fn open_block(&mut self) {
+        self.start("{\n");
+        self.depth = self.depth.saturating_add(1);
+    }
+
+    /// Closes the innermost block.
+    pub fn close_block(&mut self) {
+        self.depth = self.depth.saturating_sub(1);
+        self.start("}\n");
+    }
+
+    /// Puts a number.
+    pub fn put_number(&mut self, number: u64) {
+        let _ = write!(self.body, "{number}");
+    }
+
+    /// Puts a section as a subarray of C, `a_[0:16]`, or as the whole array, `a_`.
+    pub fn put_section(&mut self, section: Section) -> Result<(), EmitFault> {
+        let spot = spot_of(&self.names, self.line, section)?;
+        let is_whole = spot.array.whole() == section;
+        let offset = spot.offset;
+        put_name(&mut self.body, spot.name);
+        if !is_whole {
+            put_bounds(&mut self.body, offset, section.len);
+        }
+        Ok(())
+    }
+
+    /// Puts the address of the first byte of a section that lies in one array, `a_ + 8`.
+    pub fn put_address(&mut self, section: Section) -> Result<(), EmitFault> {
+        let spot = spot_of(&self.names, self.line, section)?;
+        put_name(&mut self.body, spot.name);
+        put_offset(&mut self.body, spot.offset);
+        Ok(())
+    }
+
+    /// Puts the byte at the place `i` of a section that lies in one array, `a_[i + 8]`.
+    pub fn put_cell(&mut self, section: Section) -> Result<(), EmitFault> {
+        let spot = spot_of(&self.names, self.line, section)?;
+        put_name(&mut self.body, spot.name);
+        self.body.text("[i");
+        put_offset(&mut self.body, spot.offset);
+        self.body.text("]");
+        Ok(())
+    }
+
+    /// The whole program, once all lines are emitted.
+    pub fn whole(self, alloc: Global) -> Result<Page, Fault> {
+        let mut page = Page::new(alloc);
+        page.text(crate::harness::HEAD);
+        page.bytes(self.head.whole()?);
+        put_longest(&mut page, self.longest);
+        page.text(crate::harness::FUNCTIONS);
+        page.bytes(self.body.whole()?);
+        page.text(crate::harness::TAIL);
+        Ok(page)
+    }
+}
+
+/// The array in which a section lies.
+fn spot_of(names: &Names, line: u64, section: Section) -> Result<Spot<'_>, EmitFault> {
+    match names.within(section) {
+        Some(spot) => Ok(spot),
+        None => Err(EmitFault::Line {
+            line,
+            reason: Reason::OutsideArray,
+        }),
+    }
+}
+
+/// Puts the name of an array in C: with `_` behind it, so that it is no keyword and no name of the harness.
+pub fn put_name(page: &mut Page, name: &[u8]) {
+    page.bytes(name);
+    page.text("_");
+}
+
+fn put_bounds(page: &mut Page, offset: u64, length: u64) {
+    let _ = write!(page, "[{offset}:{length}]");
+}
+
+fn put_offset(page: &mut Page, offset: u64) {
+    if offset > 0 {
+        let _ = write!(page, " + {offset}");
+    }
+}
+
+fn put_longest(page: &mut Page, longest: u64) {
+    let _ = writeln!(page, "\n#define LONGEST {longest}");
+}

@@ -1,0 +1,110 @@
+//! Arrays, and what the host and the kernels write.
+
+use crate::emitters::Emitter;
+use crate::faults::EmitFault;
+use crate::kernels::put_kernel;
+use crate::pointers::address_of;
+use crate::sheets::{Sheet, put_name};
+use acc_base::Section;
+use acc_read::{Array, ScriptKernel};
+use std::alloc::Global;
+use std::fmt::Write;
+
+/// Declares an array.
+pub fn declare(
+    alloc: Global,
+    sheet: &mut Sheet,
+    name: &[u8],
+    array: Array,
+) -> Result<(), EmitFault> {
+    sheet.names.insert(alloc, name, array)?;
+    sheet.head.text("static _Alignas(16) unsigned char ");
+    put_name(&mut sheet.head, name);
+    put_size(sheet, array.whole().len);
+    sheet.start("(void)");
+    put_name(&mut sheet.body, name);
+    sheet.body.text(";\n");
+    Ok(())
+}
+
+fn put_size(sheet: &mut Sheet, size: u64) {
+    let _ = writeln!(sheet.head, "[{size}];");
+}
+
+/// Emits a write of the host.
+pub fn emit_write(emitter: &mut Emitter, section: Section) -> Result<(), EmitFault> {
+    let Emitter {
+        twins,
+        marks,
+        sheet,
+        ..
+    } = emitter;
+    marks.write(section);
+    let bytes = twins.own.table.host_read(section).unwrap_or(&[]);
+    put_write(sheet, section, bytes)
+}
+
+fn put_write(sheet: &mut Sheet, section: Section, bytes: &[u8]) -> Result<(), EmitFault> {
+    sheet.start("memcpy(");
+    sheet.put_address(section)?;
+    sheet.body.text(", \"");
+    for byte in bytes {
+        sheet.body.text("\\x");
+        sheet.body.digits(&[*byte]);
+    }
+    sheet.body.text("\", ");
+    sheet.put_number(section.len);
+    sheet.body.text(");\n");
+    Ok(())
+}
+
+/// Emits a write of a pointer.
+pub fn emit_point(emitter: &mut Emitter, section: Section) -> Result<(), EmitFault> {
+    let Emitter {
+        twins,
+        marks,
+        sheet,
+        ..
+    } = emitter;
+    let target = address_of(twins.own.table.host_read(section).unwrap_or(&[]));
+    marks.point(section.start, target)?;
+    put_point(sheet, section, target)
+}
+
+fn put_point(sheet: &mut Sheet, section: Section, target: u64) -> Result<(), EmitFault> {
+    sheet.start("point(");
+    sheet.put_address(section)?;
+    sheet.body.text(", ");
+    sheet.put_address(Section {
+        start: target,
+        len: 1,
+    })?;
+    sheet.body.text(");\n");
+    Ok(())
+}
+
+/// Emits a kernel, and marks the bytes to which it adds such as are not compared.
+pub fn emit_kernel(
+    emitter: &mut Emitter,
+    kernel: ScriptKernel,
+    section: Section,
+) -> Result<(), EmitFault> {
+    if let ScriptKernel::Plus(source) = kernel {
+        spread_marks(emitter, source, section);
+    }
+    emitter.marks.write(section);
+    put_kernel(&mut emitter.sheet, kernel, section)
+}
+
+/// Marks the bytes of a section to which bytes of a source are added that are not compared, or that nothing filled.
+fn spread_marks(emitter: &mut Emitter, source: Section, section: Section) {
+    let Emitter { twins, marks, .. } = emitter;
+    let own = twins.own.table.host_read(source).unwrap_or(&[]);
+    let twin = twins.twin.table.host_read(source).unwrap_or(&[]);
+    for offset in 0..source.len.min(section.len) {
+        let at = offset as usize;
+        if own.get(at) != twin.get(at) || marks.is_open(source.start.saturating_add(offset)) {
+            marks.mark(section.start.saturating_add(offset));
+        }
+    }
+}

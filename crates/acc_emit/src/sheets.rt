@@ -6,6 +6,9 @@ use acc_page::{Names, Page, Spot};
 use std::alloc::Global;
 use std::fmt::Write;
 
+/// How many blocks within one another are set in.
+const SET_IN: u64 = 16;
+
 /// The parts of a program, and the arrays that it names.
 #[derive(Drop)]
 pub struct Sheet {
@@ -49,10 +52,10 @@ impl Sheet {
         self.longest = self.longest.max(length);
     }
 
-    /// Begins a line of the program, at the depth of its block.
+    /// Begins a line of the program, at the depth of its block, or at that of the deepest that is set in.
     pub fn start(&mut self, text: &str) {
         self.body.text("    ");
-        for _ in 0..self.depth {
+        for _ in 0..self.depth.min(SET_IN) {
             self.body.text("    ");
         }
         self.body.text(text);

@@ -221,10 +221,10 @@ output is not written: it is compared with OUTPUT, and the first line that
 differs is told on standard error. Then the status is 1, and 0 where none
 differs, whatever was refused.
 
-With --emit c the script is written as a C program with OpenACC directives, which
-does what the script does, and has the expected output in it. A statement that
-is refused, or that C cannot say, is a fault. With --until-refusal the program
-ends with the first statement that is refused, and has to fail there.
+With --emit c the script is written as a C program with OpenACC directives,
+which does what the script does, and has the expected output in it. A statement
+that is refused, or that C cannot say, is a fault. With --until-refusal the
+program ends with the first statement that is refused, and has to fail there.
 
 Statements, one to a line, with comments after '#':
   array NAME BYTES         an array in host memory

@@ -1,3 +1,4 @@
+mod DeviceLists
 pub mod Verdicts
 pub mod Keeping
 pub mod Answering

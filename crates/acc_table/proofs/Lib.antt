@@ -1,4 +1,3 @@
-mod DeviceLists
 pub mod Verdicts
 pub mod Keeping
 pub mod Answering

@@ -5,7 +5,8 @@ use crate::tools::{tell_words, tool};
 use crate::words::{WordsFault, read_words};
 use acc_base::Fault;
 use acc_script::{MemorySink, MemorySource};
-use rows::{COPIES, DEVICES, DRILLS, FAULTS, KERNELS, LIVES, QUEUES, REFUSALS, Row};
+use programs::{NO_PROGRAMS, PROGRAMS, ProgramRow};
+use rows::{COPIES, DRILLS, FAULTS, KERNELS, LIVES, LOGS, QUEUES, REASONS, REFUSALS, Row, VIEWS};
 use std::alloc::{AllocError, Global};
 use std::env::{Env, FillError};
 use std::fmt::Debug;
@@ -140,7 +141,6 @@ fn scripts_print_and_end_as_they_should(rt: HostRuntime) -> Result<(), Fail> {
     check_rows(&rt, &COPIES)?;
     check_rows(&rt, &QUEUES)?;
     check_rows(&rt, &KERNELS)?;
-    check_rows(&rt, &DEVICES)?;
     check_rows(&rt, &DRILLS)?;
     check_rows(&rt, &REFUSALS)?;
     check_rows(&rt, &FAULTS)?;
@@ -216,29 +216,57 @@ fn a_line_that_is_too_long_is_told(rt: HostRuntime) -> Result<(), Fail> {
     Ok(())
 }
 
-/// Command lines with an empty script, their status, and whether standard error gets text.
-const COMMAND_LINES: [(&str, u8, bool); 21] = [
-    ("--host 16 --device 67108864", 0, false),
-    ("--threads 1 --trace counts", 0, false),
-    ("--threads 64", 0, false),
-    ("--devices 4", 0, false),
-    ("--help", 0, true),
-    ("--host 15", 2, true),
-    ("--device 67108865", 2, true),
-    ("--device 99999999999", 2, true),
-    ("--host many", 2, true),
-    ("--devices 0", 2, true),
-    ("--devices 5", 2, true),
-    ("--threads 0", 2, true),
-    ("--threads 65", 2, true),
-    ("--drill 0", 2, true),
-    ("--drill 1001", 2, true),
-    ("--trace full", 0, false),
-    ("--trace most", 2, true),
-    ("--trace", 2, true),
-    ("--nothing", 2, true),
-    ("script", 2, true),
-    ("--host", 2, true),
+/// Command lines with an empty script, their status, and what has to stand in the text on standard output and on
+/// standard error; where it is empty there is no text.
+const COMMAND_LINES: [(&str, u8, &str, &str); 28] = [
+    ("--host 16 --device 67108864", 0, "", ""),
+    ("--threads 1 --trace counts", 0, "", ""),
+    ("--threads 64", 0, "", ""),
+    ("--help", 0, "Usage: accrun [OPTIONS] [FILE]", ""),
+    ("--version", 0, "accrun 0.1.0 (OpenACC 3.3)\n", ""),
+    (
+        "--host 15",
+        2,
+        "",
+        "'15' for '--host <BYTES>': 15 is not in 16..=67108864",
+    ),
+    (
+        "--device 67108865",
+        2,
+        "",
+        "'67108865' for '--device <BYTES>'",
+    ),
+    ("--device 99999999999", 2, "", "is not in 16..=67108864"),
+    ("--host many", 2, "", "'many' for '--host <BYTES>'"),
+    (
+        "--threads 0",
+        2,
+        "",
+        "'0' for '--threads <N>': 0 is not in 1..=64",
+    ),
+    ("--threads 65", 2, "", "'65' for '--threads <N>'"),
+    (
+        "--drill 0",
+        2,
+        "",
+        "'0' for '--drill <ROUNDS>': 0 is not in 1..=1000",
+    ),
+    ("--drill 1001", 2, "", "'1001' for '--drill <ROUNDS>'"),
+    ("--trace full", 0, "", ""),
+    ("--trace most", 2, "", "'most' for '--trace <WHAT>'"),
+    ("--trace", 2, "", "'--trace <WHAT>'"),
+    ("--nothing", 2, "", "'--nothing'"),
+    ("--expect", 2, "", "'--expect <OUTPUT>'"),
+    ("--echo --json", 0, "", ""),
+    ("--emit", 2, "", "'--emit <LANGUAGE>'"),
+    ("--emit d", 2, "", "'d' for '--emit <LANGUAGE>'"),
+    ("--until-refusal", 2, "", "--emit <LANGUAGE>"),
+    ("--log", 0, "", "lamwiest: total mapped 0 ended 0"),
+    ("none.acc", 2, "", "accrun: cannot read none.acc\n"),
+    ("--expect none.out", 2, "", "accrun: cannot read none.out\n"),
+    ("life.acc life.acc", 2, "", "'life.acc'"),
+    ("--host 24 none.acc", 2, "", "accrun: 2 BadConfig\n"),
+    ("--host", 2, "", "'--host <BYTES>'"),
 ];
 
 /// The text has these words, or there is none where they are empty.
@@ -285,9 +313,16 @@ fn command_lines_are_read(rt: HostRuntime) -> Result<(), Fail> {
 }
 
 /// What the help has to name.
-const HELP_WORDS: [&str; 41] = [
-    "< SCRIPT",
-    "--devices <N>",
+const HELP_WORDS: [&str; 47] = [
+    "[FILE]",
+    "--expect <OUTPUT>",
+    "--echo",
+    "--json",
+    "--log",
+    "--explain",
+    "--version",
+    "--emit <LANGUAGE>",
+    "--until-refusal",
     "--threads <N>",
     "--drill <ROUNDS>",
     "--trace <WHAT>",
@@ -315,7 +350,6 @@ const HELP_WORDS: [&str; 41] = [
     "update device(REFS)",
     "wait, wait(QUEUE)",
     "step(QUEUE)",
-    "set device_num(N)",
     "async(QUEUE)",
     "kernel add K REF",
     "kernel xor K REF",

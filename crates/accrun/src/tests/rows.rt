@@ -201,63 +201,6 @@ pub const KERNELS: [Row; 5] = [
     ),
 ];
 
-/// Lines for several devices, and what the report says of each.
-pub const DEVICES: [Row; 5] = [
-    (
-        "--devices 2",
-        "array a 16\nenter data copyin(a)\nset device_num(1)\naddress a[0]\nenter data copyin(a)\nenter data copyin(a)\n\
-            address a[0]\nset device_num(2)\nreport\n",
-        "none\n0x200000000\nline 8: refused 22 NoDevice device 2\nhost 65536 device 65536 devices 2\n\
-            device 0 used 16\nmap 0x1000 16 at 0x100000000 structured 0 dynamic 1\n\
-            device 1 used 16\nmap 0x1000 16 at 0x200000000 structured 0 dynamic 2\nregions 0 events 3\n",
-        "",
-        1,
-    ),
-    // The end of a region and a kernel are for the device of the innermost region, whichever device was set last.
-    (
-        "--devices 2",
-        "array a 4\nwrite a[0] 01020304\ndata copy(a)\nset device_num(1)\ndata copyin(a)\nkernel add 1 a\npeek a\n\
-            set device_num(0)\npeek a\nend data\nshow a\nkernel add 2 a\nend data\nshow a\nreport\n",
-        "02030405\n01020304\n01020304\n03040506\nhost 65536 device 65536 devices 2\ndevice 0 used 0\ndevice 1 used 0\n\
-            regions 0 events 9\n",
-        "",
-        0,
-    ),
-    // Each device has queues of its own, and a wait is for one device.
-    (
-        "--devices 2",
-        "array a 2\nwrite a[0] 0102\nenter data copyin(a)\nupdate self(a) async(1)\nset device_num(1)\n\
-            enter data create(a)\nupdate self(a) async(1)\nwrite a[0] 0304\nwait\nshow a\nreport\n\
-            set device_num(0)\nstep(1)\nshow a\n",
-        "a5a5\nhost 65536 device 65536 devices 2\n\
-            device 0 used 16\nmap 0x1000 2 at 0x100000000 structured 0 dynamic 1\nqueue 1 length 1\n\
-            device 1 used 16\nmap 0x1000 2 at 0x200000000 structured 0 dynamic 1\nregions 0 events 7\n0102\n",
-        "",
-        0,
-    ),
-    // A pointer is attached on each device, to the block there.
-    (
-        "--devices 2",
-        "array p 8\narray x 4\npoint p[0] to x[0]\ndata copyin(p, x via p[0])\nset device_num(1)\n\
-            enter data copyin(x, p)\nenter data attach(p[0])\npeek p\nset device_num(0)\npeek p\nreport\nend data\n",
-        "0000000002000000\n1000000001000000\nhost 65536 device 65536 devices 2\n\
-            device 0 used 32\nmap 0x1000 8 at 0x100000000 structured 1 dynamic 0\npointer 0x1000 count 1\n\
-            map 0x1010 4 at 0x100000010 structured 1 dynamic 0\n\
-            device 1 used 32\nmap 0x1000 8 at 0x200000010 structured 0 dynamic 1\npointer 0x1000 count 1\n\
-            map 0x1010 4 at 0x200000000 structured 0 dynamic 1\nregions 1 events 4\n",
-        "",
-        0,
-    ),
-    // One device alone can be set too, and the report does not number it.
-    (
-        "",
-        "set device_num(0)\nset device_num(1)\nreport\n",
-        "line 2: refused 22 NoDevice device 1\nhost 65536 device 65536 used 0\nregions 0 events 0\n",
-        "",
-        1,
-    ),
-];
-
 /// Drills, which read no script.
 pub const DRILLS: [Row; 2] = [
     (

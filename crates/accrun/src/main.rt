@@ -10,7 +10,6 @@ mod shelves;
 #[cfg(test)]
 mod tests;
 mod tools;
-mod walls;
 mod watching;
 mod words;
 

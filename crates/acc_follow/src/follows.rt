@@ -1,11 +1,13 @@
 //! Follows a script.
 
+use crate::galleries::{Frame, Gallery, Stop};
 use crate::logs::Log;
 use crate::outputs::Output;
 use crate::report_objects::put_report;
-use acc_base::{Config, Fault, ScriptFault};
+use acc_base::{Config, Event, Fault, ScriptFault};
 use acc_explain::{explain_fault, explain_refusal, explain_unclosed, is_pragma, warn_of_pragma};
 use acc_page::{Names, Page, statement_text};
+use acc_picture::{Caption, put_picture};
 use acc_read::{Statement, Trouble, line_at, next_line};
 use acc_script::{Effect, Session, Sink, Source, Status, read_all, write_all, write_effect};
 use acc_table::Table;
@@ -23,46 +25,87 @@ pub struct Views {
     pub log: bool,
     /// Why a line is at fault, why a statement is refused, and which lines are comments that look like directives.
     pub explain: bool,
+    /// A picture of the two memories at the end.
+    pub picture: bool,
+    /// A picture of them behind each directive and each kernel.
+    pub pictures: bool,
 }
 
 impl Views {
     /// Whether any of it is shown.
     pub fn are_any(self) -> bool {
-        self.echo || self.json || self.log || self.explain
+        self.echo || self.json || self.log || self.explain || self.picture || self.pictures
     }
+
+    /// Whether any of it speaks of arrays by their names.
+    fn name_arrays(self) -> bool {
+        self.log || self.explain || self.picture || self.pictures
+    }
+}
+
+/// How a script is followed.
+#[derive(Clone, Copy)]
+pub struct Setting {
+    /// The limits of its table.
+    pub config: Config,
+    /// Into how many parts the work of a kernel is cut at most, from 1 to 64.
+    pub parts: usize,
+    /// What is shown of it.
+    pub views: Views,
 }
 
 /// Reads a whole script and runs it as `acc_script::run` does, line by line on a new table of these limits, and shows
 /// more of it. The log and what is explained go to `err`, each line's behind what it prints; why a line is at fault goes
-/// to `reason`, since that stands behind the fault itself.
+/// to `reason`, since that stands behind the fault itself. Pictures go to the gallery.
 ///
 /// # Errors
 ///
 /// Those of `acc_script::run`; what the lines before the fault print was written. Memory may be wanting for what is
-/// shown, too. A failure of `err` changes nothing.
-pub fn follow<R: Threads + Wait + Sync + AllocGlobal, S: Source, O: Output, E: Sink>(
+/// shown, too. [`Stop::Picture`] where a picture cannot be kept. A failure of `err` changes nothing.
+pub fn follow<R: Threads + Wait + Sync + AllocGlobal, S: Source, O: Output, E: Sink, G: Gallery>(
     rt: &R,
+    setting: Setting,
     reader: &mut S,
     out: &mut O,
     err: &mut E,
-    config: Config,
-    parts: usize,
-    views: Views,
+    gallery: &G,
     reason: &mut Page,
-) -> Result<Status, Fault> {
+) -> Result<Status, Stop> {
     let input = read_all(rt.alloc(), reader)?;
-    let mut follower = Follower {
-        session: Session::new(rt.alloc(), config, parts)?,
-        names: Names::new(rt.alloc()),
-        log: Log::new(rt.alloc()),
-        entries: Vec::new(rt.alloc()),
-        views,
-    };
-    let ending = follower.lines(rt, &input, out, err, reason);
-    let is_told = follower.end_log(out, err);
+    follow_input(rt, setting, &input, out, err, gallery, reason)
+}
+
+/// Follows the script of an input, on a new table.
+fn follow_input<R: Threads + Wait + Sync + AllocGlobal, O: Output, E: Sink, G: Gallery>(
+    rt: &R,
+    setting: Setting,
+    input: &[u8],
+    out: &mut O,
+    err: &mut E,
+    gallery: &G,
+    reason: &mut Page,
+) -> Result<Status, Stop> {
+    let mut follower = follower_of(rt, setting)?;
+    follower.follow(rt, input, out, err, gallery, reason)
+}
+
+/// How a script ended, where its log was written to its end or not.
+fn ended(ending: Result<Status, Stop>, is_told: Result<(), Fault>) -> Result<Status, Stop> {
     let status = ending?;
     is_told?;
     Ok(status)
+}
+
+/// What follows a script whose first line is yet to run.
+fn follower_of<R: AllocGlobal>(rt: &R, setting: Setting) -> Result<Follower, Fault> {
+    Ok(Follower {
+        session: Session::new(rt.alloc(), setting.config, setting.parts)?,
+        names: Names::new(rt.alloc()),
+        log: Log::new(rt.alloc()),
+        entries: Vec::new(rt.alloc()),
+        drawn: 0,
+        views: setting.views,
+    })
 }
 
 /// A script that is followed.
@@ -73,19 +116,54 @@ struct Follower {
     log: Log,
     /// The lines whose data regions are open, the innermost last.
     entries: Vec<u64>,
+    /// How many events the trace had when it was last looked whether a picture is due.
+    drawn: usize,
     views: Views,
 }
 
 impl Follower {
-    /// Follows all lines of an input.
-    fn lines<R: Threads + Wait + Sync + AllocGlobal, O: Output, E: Sink>(
+    /// Follows a whole script, and ends its log.
+    fn follow<R: Threads + Wait + Sync + AllocGlobal, O: Output, E: Sink, G: Gallery>(
         &mut self,
         rt: &R,
         input: &[u8],
         out: &mut O,
         err: &mut E,
+        gallery: &G,
         reason: &mut Page,
-    ) -> Result<Status, Fault> {
+    ) -> Result<Status, Stop> {
+        let ending = self.script(rt, input, out, err, gallery, reason);
+        let is_told = self.end_log(out, err);
+        ended(ending, is_told)
+    }
+
+    /// Runs a whole script, and draws what it leaves.
+    fn script<R: Threads + Wait + Sync + AllocGlobal, O: Output, E: Sink, G: Gallery>(
+        &mut self,
+        rt: &R,
+        input: &[u8],
+        out: &mut O,
+        err: &mut E,
+        gallery: &G,
+        reason: &mut Page,
+    ) -> Result<Status, Stop> {
+        let status = self.lines(rt, input, out, err, gallery, reason)?;
+        if self.views.picture {
+            self.draw(rt, Frame::Last, &[], gallery)?;
+        }
+        Ok(status)
+    }
+
+    /// Follows all lines of an input.
+    fn lines<R: Threads + Wait + Sync + AllocGlobal, O: Output, E: Sink, G: Gallery>(
+        &mut self,
+        rt: &R,
+        input: &[u8],
+        out: &mut O,
+        err: &mut E,
+        gallery: &G,
+        reason: &mut Page,
+    ) -> Result<Status, Stop> {
         let mut rest = input;
         let mut done = 0u64;
         let mut refused = false;
@@ -97,9 +175,65 @@ impl Follower {
             let (line, after) = next_line(rest);
             done = done.saturating_add(1);
             refused |= self.line(rt, done, line, out, err, reason)?;
+            self.draw_line(rt, done, line, gallery)?;
             rest = after;
         }
-        self.end_at(done.saturating_add(1), refused, reason)
+        Ok(self.end_at(done.saturating_add(1), refused, reason)?)
+    }
+
+    /// Draws what a line left, where it is a directive or a kernel that was done and each of these is drawn.
+    fn draw_line<R: AllocGlobal, G: Gallery>(
+        &mut self,
+        rt: &R,
+        number: u64,
+        line: &[u8],
+        gallery: &G,
+    ) -> Result<(), Stop> {
+        if !self.views.pictures || !self.is_picture_due() {
+            return Ok(());
+        }
+        self.draw(rt, Frame::Line(number), statement_text(line), gallery)
+    }
+
+    /// Whether there is an event that was not there before, and that is no write of the host.
+    fn is_picture_due(&mut self) -> bool {
+        let trace = self.session.table.trace();
+        let is_new = self.drawn < trace.len();
+        self.drawn = trace.len();
+        is_new && !matches!(trace.last(), Some(Event::HostWritten { .. }))
+    }
+
+    /// Draws the two memories.
+    fn draw<R: AllocGlobal, G: Gallery>(
+        &self,
+        rt: &R,
+        frame: Frame,
+        text: &[u8],
+        gallery: &G,
+    ) -> Result<(), Stop> {
+        let mut page = Page::new(rt.alloc());
+        self.put_picture(rt, &mut page, frame, text)?;
+        if gallery.keep(frame, page.whole()?) {
+            Ok(())
+        } else {
+            Err(Stop::Picture(frame))
+        }
+    }
+
+    /// Puts the picture of the two memories.
+    fn put_picture<R: AllocGlobal>(
+        &self,
+        rt: &R,
+        page: &mut Page,
+        frame: Frame,
+        text: &[u8],
+    ) -> Result<(), Fault> {
+        let caption = match frame {
+            Frame::Last => Caption::End,
+            Frame::Line(number) => Caption::Line { number, text },
+        };
+        put_picture(page, rt.alloc(), &self.session.table, &self.names, caption)?;
+        Ok(())
     }
 
     /// How a script ends behind its last line.
@@ -157,7 +291,7 @@ impl Follower {
                 Ok(effect)
             }
             Err(trouble) => {
-                self.give_reason(rt, number, line, trouble, reason)?;
+                self.give_reason(rt, number, line, trouble, reason);
                 Err(fault_of(number, trouble))
             }
         }
@@ -176,7 +310,7 @@ impl Follower {
         Ok(())
     }
 
-    /// Puts why a line is at fault, where that is to be explained.
+    /// Puts why a line is at fault, where that is to be explained. Want of memory cuts it short: the fault itself is told.
     fn give_reason<R: AllocGlobal>(
         &self,
         rt: &R,
@@ -184,12 +318,11 @@ impl Follower {
         line: &[u8],
         trouble: Trouble,
         reason: &mut Page,
-    ) -> Result<(), Fault> {
+    ) {
         if let (true, Trouble::Line(kind)) = (self.views.explain, trouble) {
             let arrays = &self.session.arrays;
-            explain_fault(reason, rt.alloc(), arrays, number, line, kind)?;
+            let _ = explain_fault(reason, rt.alloc(), arrays, number, line, kind);
         }
-        Ok(())
     }
 
     /// Writes a warning where a line is a comment that looks like a directive of C.
@@ -240,7 +373,7 @@ impl Follower {
         rt: &R,
         statement: &Statement<'_>,
     ) -> Result<(), Fault> {
-        let is_named = self.views.log || self.views.explain;
+        let is_named = self.views.name_arrays();
         if let (true, Statement::Declare { name, array }) = (is_named, statement) {
             self.names.insert(rt.alloc(), name, *array)?;
         }

@@ -4,6 +4,7 @@
 mod accounts;
 mod differences;
 mod follows;
+mod galleries;
 mod item_logs;
 mod log_items;
 mod log_lines;
@@ -14,5 +15,6 @@ mod totals;
 
 pub use acc_page::{Names, Page, Spot, statement_text};
 pub use differences::{Difference, first_difference};
-pub use follows::{Views, fault_of, follow, write_page};
+pub use follows::{Setting, Views, fault_of, follow, write_page};
+pub use galleries::{Frame, Gallery, Stop};
 pub use outputs::Output;

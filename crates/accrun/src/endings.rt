@@ -1,5 +1,6 @@
 //! How the program ends, and what it tells then.
 
+use crate::walls::put_numbered;
 use acc_base::Fault;
 use acc_emit::{EmitFault, Reason};
 use acc_follow::{Difference, Page};
@@ -17,6 +18,8 @@ pub enum Mishap<'a> {
     Unread(&'a str),
     /// The line of a number cannot be emitted.
     Unfit(u64, Reason),
+    /// A picture's file of this name cannot be written; with the number of its line, where it is one of many.
+    Unwritten(&'a str, Option<u64>),
 }
 
 impl From<Fault> for Mishap<'_> {
@@ -38,16 +41,22 @@ impl From<EmitFault> for Mishap<'_> {
 pub fn tell_mishap<E: Sink>(alloc: Global, err: &mut E, mishap: Mishap<'_>) {
     match mishap {
         Mishap::Fault(fault) => tell(err, fault),
-        Mishap::Unread(name) => tell_unread(alloc, err, name),
+        Mishap::Unread(name) => tell_file(alloc, err, "accrun: cannot read ", name, None),
+        Mishap::Unwritten(name, line) => {
+            tell_file(alloc, err, "accrun: cannot write ", name, line)
+        }
         Mishap::Unfit(number, reason) => tell_unfit(err, number, reason.text()),
     }
 }
 
-/// Writes that a file cannot be read.
-fn tell_unread<E: Sink>(alloc: Global, err: &mut E, name: &str) {
+/// Writes what cannot be done with a file.
+fn tell_file<E: Sink>(alloc: Global, err: &mut E, words: &str, name: &str, line: Option<u64>) {
     let mut page = Page::new(alloc);
-    page.text("accrun: cannot read ");
-    page.text(name);
+    page.text(words);
+    match line {
+        Some(number) => put_numbered(&mut page, name, number),
+        None => page.text(name),
+    }
     page.text("\n");
     let _ = write_all(err, page.as_slice());
 }

@@ -10,6 +10,7 @@ mod shelves;
 #[cfg(test)]
 mod tests;
 mod tools;
+mod walls;
 mod watching;
 mod words;
 

@@ -30,6 +30,10 @@ pub struct Options<'a> {
     pub emit: bool,
     /// Whether that program ends with the first statement that is refused.
     pub until_refusal: bool,
+    /// The file of a picture of the two memories at the end.
+    pub svg: Option<&'a str>,
+    /// The file of the pictures behind directives, each with the number of its line in the name.
+    pub svg_every: Option<&'a str>,
     /// The size of host memory in bytes.
     pub host: u64,
     /// The size of device memory in bytes.
@@ -116,6 +120,15 @@ fn emit_option<'a>(alloc: Global) -> Arg<'a> {
         .hide_possible_values(true)
 }
 
+/// An option of the file of a picture.
+fn picture_option<'a>(alloc: Global, name: &'a str, help: &'a str) -> Arg<'a> {
+    Arg::new(alloc, name)
+        .long(name)
+        .value_name("PICTURE")
+        .help(help)
+        .action(ArgAction::Set)
+}
+
 /// An option that is there or not.
 fn flag<'a>(alloc: Global, name: &'a str, help: &'a str) -> Arg<'a> {
     Arg::new(alloc, name)
@@ -166,7 +179,9 @@ fn with_views<'a>(alloc: Global, command: Command<'a>) -> Result<Command<'a>, Er
             .arg(flag(alloc, "echo", "Write each statement before its output"))?
             .arg(flag(alloc, "json", "Write the report as JSON"))?
             .arg(flag(alloc, "log", "Tell what each call did"))?
-            .arg(flag(alloc, "explain", "Tell why a line is at fault or refused"))?,
+            .arg(flag(alloc, "explain", "Tell why a line is at fault or refused"))?
+            .arg(picture_option(alloc, "svg", "Draw the memories at the end"))?
+            .arg(picture_option(alloc, "svg-every", "Draw them behind each directive"))?,
     )
 }
 
@@ -190,9 +205,13 @@ fn options_of<'a>(matches: &ArgMatches<'a>) -> Options<'a> {
             json: matches.get_flag("json"),
             log: matches.get_flag("log"),
             explain: matches.get_flag("explain"),
+            picture: matches.get_str("svg").is_some(),
+            pictures: matches.get_str("svg-every").is_some(),
         },
         emit: matches.contains_id("emit"),
         until_refusal: matches.get_flag("until-refusal"),
+        svg: matches.get_str("svg"),
+        svg_every: matches.get_str("svg-every"),
         host: matches.get_one::<u64>("host").unwrap_or(DEFAULT_SIZE),
         device: matches.get_one::<u64>("device").unwrap_or(DEFAULT_SIZE),
         threads: matches.get_one::<u64>("threads").unwrap_or(DEFAULT_THREADS),
@@ -219,7 +238,10 @@ first line runs. With --echo each statement stands behind '> ' before what it
 prints. With --json the report is one object on one line. With --expect the
 output is not written: it is compared with OUTPUT, and the first line that
 differs is told on standard error. Then the status is 1, and 0 where none
-differs, whatever was refused.
+differs, whatever was refused. --svg draws the two memories at the end of the
+script, as a file that a browser opens; --svg-every draws them behind each
+directive and each kernel, with the number of the line in the file's name:
+life.7.svg for life.svg.
 
 With --emit c the script is written as a C program with OpenACC directives,
 which does what the script does, and has the expected output in it. A statement

@@ -2,7 +2,8 @@
 
 use acc_base::Fault;
 use acc_script::{FromRead, read_all};
-use std::fs;
+use std::fs::{self, OpenFile};
+use std::io::Write;
 use std::rt::Files;
 
 /// Where files are.
@@ -13,6 +14,10 @@ pub trait Shelf {
     ///
     /// [`Fault::Read`] where it cannot be read, or has more than 16,777,216 bytes; [`Fault::Memory`].
     fn read(&self, name: &str) -> Result<Vec<u8>, Fault>;
+
+    /// Makes a file of some bytes, in place of one that has that name; false where that failed, and then no half of it
+    /// stays.
+    fn write(&self, name: &str, bytes: &[u8]) -> bool;
 }
 
 /// The files of the system.
@@ -27,6 +32,26 @@ impl<R: Files + AllocGlobal> Shelf for Disk<'_, R> {
         match fs::open(self.rt, name) {
             Ok(file) => read_all(self.rt.alloc(), &mut FromRead::new(file)),
             Err(_) => Err(Fault::Read),
+        }
+    }
+
+    fn write(&self, name: &str, bytes: &[u8]) -> bool {
+        let Ok(mut file) = fs::create(self.rt, name) else {
+            return false;
+        };
+        if file.write_all(bytes).is_ok() {
+            return true;
+        }
+        remove_half(self.rt, name, &file);
+        false
+    }
+}
+
+/// Removes a file that could be written in part alone; what is no regular file stays.
+fn remove_half<R: Files>(rt: &R, name: &str, file: &R::File) {
+    if let Ok(metadata) = file.metadata() {
+        if metadata.is_file() {
+            let _ = fs::remove_file(rt, name);
         }
     }
 }

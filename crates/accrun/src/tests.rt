@@ -8,6 +8,7 @@ use acc_script::{MemorySink, MemorySource};
 use programs::{NO_PROGRAMS, PROGRAMS, ProgramRow};
 use rows::{COPIES, DRILLS, FAULTS, KERNELS, LIVES, LOGS, QUEUES, REASONS, REFUSALS, Row, VIEWS};
 use std::alloc::{AllocError, Global};
+use std::cell::Cell;
 use std::env::{Env, FillError};
 use std::fmt::Debug;
 use std::process::Abort;
@@ -17,6 +18,7 @@ use std::test::Fail;
 use std::thread::Threads;
 
 mod ends;
+mod pictures;
 mod programs;
 mod rows;
 
@@ -47,10 +49,14 @@ const FILES: [(&str, &str); 4] = [
     ("other.out", "line 3: refused 11 NotPresent item 0\nno\n"),
 ];
 
-/// The shelf of these files.
+/// The shelf of these files. It takes pictures too, and looks whether each has some texts.
 #[derive(Drop)]
 struct Pages {
     alloc: Global,
+    /// What a picture has to have.
+    wanted: &'static [&'static str],
+    /// How many pictures were written that have all of it.
+    pictures: Cell<u64>,
 }
 
 impl Shelf for Pages {
@@ -62,11 +68,32 @@ impl Shelf for Pages {
         }
         Err(Fault::Read)
     }
+
+    fn write(&self, name: &str, bytes: &[u8]) -> bool {
+        if name.starts_with("none/") {
+            return false;
+        }
+        if let Ok(text) = str::from_utf8(bytes) {
+            if self.wanted.iter().all(|part| has_part(name, text, part)) {
+                self.pictures.set(self.pictures.get().saturating_add(1));
+            }
+        }
+        true
+    }
+}
+
+/// Whether a picture of a name has a part.
+fn has_part(name: &str, text: &str, part: &str) -> bool {
+    name == part || text.contains(part)
 }
 
 /// The shelf on which tests find files.
 fn shelf(alloc: Global) -> Pages {
-    Pages { alloc }
+    Pages {
+        alloc,
+        wanted: &[],
+        pictures: Cell::new(0),
+    }
 }
 
 /// Runs the program over memory, and answers the status.
@@ -218,7 +245,7 @@ fn a_line_that_is_too_long_is_told(rt: HostRuntime) -> Result<(), Fail> {
 
 /// Command lines with an empty script, their status, and what has to stand in the text on standard output and on
 /// standard error; where it is empty there is no text.
-const COMMAND_LINES: [(&str, u8, &str, &str); 28] = [
+const COMMAND_LINES: [(&str, u8, &str, &str); 31] = [
     ("--host 16 --device 67108864", 0, "", ""),
     ("--threads 1 --trace counts", 0, "", ""),
     ("--threads 64", 0, "", ""),
@@ -262,6 +289,14 @@ const COMMAND_LINES: [(&str, u8, &str, &str); 28] = [
     ("--emit d", 2, "", "'d' for '--emit <LANGUAGE>'"),
     ("--until-refusal", 2, "", "--emit <LANGUAGE>"),
     ("--log", 0, "", "lamwiest: total mapped 0 ended 0"),
+    ("--svg wall.svg", 0, "", ""),
+    (
+        "--svg none/wall.svg",
+        2,
+        "",
+        "accrun: cannot write none/wall.svg\n",
+    ),
+    ("--svg", 2, "", "'--svg <PICTURE>'"),
     ("none.acc", 2, "", "accrun: cannot read none.acc\n"),
     ("--expect none.out", 2, "", "accrun: cannot read none.out\n"),
     ("life.acc life.acc", 2, "", "'life.acc'"),
@@ -313,13 +348,15 @@ fn command_lines_are_read(rt: HostRuntime) -> Result<(), Fail> {
 }
 
 /// What the help has to name.
-const HELP_WORDS: [&str; 47] = [
+const HELP_WORDS: [&str; 49] = [
     "[FILE]",
     "--expect <OUTPUT>",
     "--echo",
     "--json",
     "--log",
     "--explain",
+    "--svg <PICTURE>",
+    "--svg-every <PICTURE>",
     "--version",
     "--emit <LANGUAGE>",
     "--until-refusal",

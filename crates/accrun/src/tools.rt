@@ -7,9 +7,10 @@ use crate::endings::{Mishap, tell, tell_difference, tell_mishap};
 use crate::options::{Options, parsed_options};
 use crate::programs::emit_script;
 use crate::shelves::Shelf;
+use crate::walls::Wall;
 use crate::words::WordsFault;
 use acc_base::{Config, Fault};
-use acc_follow::{Output, Page, first_difference, follow};
+use acc_follow::{Frame, Output, Page, Setting, Stop, first_difference, follow};
 use acc_script::{MemorySink, MemorySource, Sink, Source, Status, run, write_all};
 use clap::Error;
 use clap::error::ErrorKind;
@@ -119,7 +120,7 @@ fn carried_out<'a, R: Threads + Wait + Sync + AllocGlobal, S: Source, O: Output,
     match (options.drill, options.file) {
         (Some(rounds), _) => Ok(drill_threads(rt, options, config, rounds, out)?),
         (None, Some(name)) => run_file(rt, options, config, name, out, err, shelf, reason),
-        (None, None) => use_script(rt, options, config, reader, out, err, reason),
+        (None, None) => use_script(rt, options, config, reader, out, err, shelf, reason),
     }
 }
 
@@ -136,23 +137,24 @@ fn run_file<'a, R: Threads + Wait + Sync + AllocGlobal, O: Output, E: Sink, D: S
 ) -> Result<Status, Mishap<'a>> {
     let script = read_file(shelf, name)?;
     let mut reader = MemorySource::new(&script);
-    use_script(rt, options, config, &mut reader, out, err, reason)
+    use_script(rt, options, config, &mut reader, out, err, shelf, reason)
 }
 
 /// Runs the script within these limits, or emits it as a program.
-fn use_script<'a, R: Threads + Wait + Sync + AllocGlobal, S: Source, O: Output, E: Sink>(
+fn use_script<'a, R: Threads + Wait + Sync + AllocGlobal, S: Source, O: Output, E: Sink, D: Shelf>(
     rt: &R,
-    options: Options<'_>,
+    options: Options<'a>,
     config: Config,
     reader: &mut S,
     out: &mut O,
     err: &mut E,
+    shelf: &D,
     reason: &mut Page,
 ) -> Result<Status, Mishap<'a>> {
     if options.emit {
         return emit_script(rt, options, config, reader, out);
     }
-    Ok(run_script(rt, options, config, reader, out, err, reason)?)
+    run_script(rt, options, config, reader, out, err, shelf, reason)
 }
 
 /// The bytes of a file.
@@ -201,20 +203,47 @@ fn agreement<R: AllocGlobal, E: Sink>(
 }
 
 /// Runs the script within these limits, and shows more of it where that is asked for.
-fn run_script<R: Threads + Wait + Sync + AllocGlobal, S: Source, O: Output, E: Sink>(
+fn run_script<'a, R: Threads + Wait + Sync + AllocGlobal, S: Source, O: Output, E: Sink, D: Shelf>(
     rt: &R,
-    options: Options<'_>,
+    options: Options<'a>,
     config: Config,
     reader: &mut S,
     out: &mut O,
     err: &mut E,
+    shelf: &D,
     reason: &mut Page,
-) -> Result<Status, Fault> {
+) -> Result<Status, Mishap<'a>> {
     let parts = threads(options);
-    if options.views.are_any() {
-        return follow(rt, reader, out, err, config, parts, options.views, reason);
+    if !options.views.are_any() {
+        return Ok(run(rt, reader, out, config, parts)?);
     }
-    run(rt, reader, out, config, parts)
+    let views = options.views;
+    let setting = Setting {
+        config,
+        parts,
+        views,
+    };
+    let wall = Wall {
+        shelf,
+        alloc: rt.alloc(),
+        last: options.svg,
+        each: options.svg_every,
+    };
+    match follow(rt, setting, reader, out, err, &wall, reason) {
+        Ok(status) => Ok(status),
+        Err(stop) => Err(mishap_of(options, stop)),
+    }
+}
+
+/// What is told where a script that was followed ended early.
+fn mishap_of(options: Options<'_>, stop: Stop) -> Mishap<'_> {
+    match stop {
+        Stop::Fault(fault) => Mishap::Fault(fault),
+        Stop::Picture(Frame::Last) => Mishap::Unwritten(options.svg.unwrap_or(""), None),
+        Stop::Picture(Frame::Line(number)) => {
+            Mishap::Unwritten(options.svg_every.unwrap_or(""), Some(number))
+        }
+    }
 }
 
 /// Makes a drill of so many rounds within these limits.

@@ -97,28 +97,38 @@ fn a_failed_read_runs_nothing(rt: HostRuntime) -> Result<(), Fail> {
     Ok(())
 }
 
-/// How many bytes standard output takes, whether its flush succeeds, a script, what is told, the status, and how many
-/// bytes of the output were taken at the end and before anything was told.
-type OutputRow = (usize, bool, &'static str, &'static str, u8, usize);
+/// How many bytes standard output takes, whether its flush succeeds, the options, a script, what is told, the status, and
+/// how many bytes of the output were taken at the end and before anything was told.
+type OutputRow = (
+    usize,
+    bool,
+    &'static str,
+    &'static str,
+    &'static str,
+    u8,
+    usize,
+);
 
 /// All that a buffer kept back is handed on, where that can be done, and else this is told.
 const OUTPUTS: &[OutputRow] = &[
-    (100, true, "report\n", "", 0, 50),
-    (100, true, "array a 1\nupdate self(a)\n", "", 1, 37),
+    (100, true, "", "report\n", "", 0, 50),
+    (100, true, "", "array a 1\nupdate self(a)\n", "", 1, 37),
     (
         100,
         true,
+        "",
         "report\nshow a\n",
         "accrun: line 2: UnknownName\n",
         2,
         50,
     ),
-    (0, true, "report\n", "accrun: 21 Write\n", 2, 0),
-    (2, true, "report\n", "accrun: 21 Write\n", 2, 2),
-    (100, false, "report\n", "accrun: 21 Write\n", 2, 50),
+    (0, true, "", "report\n", "accrun: 21 Write\n", 2, 0),
+    (2, true, "", "report\n", "accrun: 21 Write\n", 2, 2),
+    (100, false, "", "report\n", "accrun: 21 Write\n", 2, 50),
     (
         100,
         false,
+        "",
         "array a 1\nupdate self(a)\n",
         "accrun: 21 Write\n",
         2,
@@ -127,20 +137,41 @@ const OUTPUTS: &[OutputRow] = &[
     (
         100,
         false,
+        "",
         "report\nshow a\n",
         "accrun: line 2: UnknownName\n",
         2,
         50,
     ),
     // What is printed is longer than the buffer, which is full before the line ends.
-    (10_000, true, "array a 4100\nshow a\n", "", 0, 8201),
+    (10_000, true, "", "array a 4100\nshow a\n", "", 0, 8201),
     (
         5_000,
         true,
+        "",
         "array a 4100\nshow a\n",
         "accrun: 21 Write\n",
         2,
         5_000,
+    ),
+    // A program that cannot be taken whole is told; of a script at fault nothing is taken.
+    (
+        100,
+        true,
+        "--emit c",
+        "array a 1\n",
+        "accrun: 21 Write\n",
+        2,
+        100,
+    ),
+    (
+        100,
+        true,
+        "--emit c",
+        "array a 1\nshow b\n",
+        "accrun: line 2: UnknownName\n",
+        2,
+        0,
     ),
 ];
 
@@ -151,8 +182,8 @@ fn check_output_over<R: Threads + Wait + Sync + AllocGlobal + Abort, O: Output>(
     taken: &Cell<usize>,
     row: OutputRow,
 ) -> Result<(), AllocError> {
-    let (_, _, script, told, status, wanted) = row;
-    let words = words(rt.alloc(), "")?;
+    let (_, _, options, script, told, status, wanted) = row;
+    let words = words(rt.alloc(), options)?;
     let mut reader = MemorySource::new(script.as_bytes());
     let mut err = Witness {
         text: MemorySink::new(rt.alloc()),

@@ -1,0 +1,33 @@
+//! Where pictures go.
+
+use acc_base::Fault;
+
+/// When a picture was made.
+#[derive(Clone, Copy)]
+pub enum Frame {
+    /// At the end of the script.
+    Last,
+    /// Behind the line of a number.
+    Line(u64),
+}
+
+/// Keeps pictures.
+pub trait Gallery {
+    /// Keeps a picture, a file of SVG; false where that failed.
+    fn keep(&self, frame: Frame, picture: &[u8]) -> bool;
+}
+
+/// Why a script that is followed ended early.
+#[derive(Clone, Copy)]
+pub enum Stop {
+    /// A fault of the run.
+    Fault(Fault),
+    /// A picture could not be kept.
+    Picture(Frame),
+}
+
+impl From<Fault> for Stop {
+    fn from(fault: Fault) -> Self {
+        Stop::Fault(fault)
+    }
+}

@@ -1,0 +1,105 @@
+//! Where the parts of a picture lie.
+
+ghost use Rattle.std.specs.Prelude.{◌≤◌};
+
+use crate::shapes::{Area, Point};
+
+/// How far the picture's content stands from its edges.
+pub const MARGIN: u64 = 20;
+
+/// The width of the picture.
+pub const WIDTH: u64 = 1280;
+
+/// The width of a bar.
+pub const BAR_WIDTH: u64 = 1100;
+
+/// The left edge of the bars.
+pub const BAR_X: u64 = 90;
+
+/// The height of a bar.
+pub const BAR_HEIGHT: u64 = 16;
+
+/// The upper edge of the first row.
+pub const ROWS_Y: u64 = 204;
+
+/// The height of a row.
+pub const ROW_HEIGHT: u64 = 18;
+
+/// How far a row stands below the one before.
+pub const ROW_PITCH: u64 = 23;
+
+/// The left edge of the rows of host memory.
+pub const HOST_X: u64 = MARGIN;
+
+/// The width of a row of host memory.
+pub const HOST_WIDTH: u64 = 550;
+
+/// The left edge of the rows of the device.
+pub const DEVICE_X: u64 = 740;
+
+/// The width of a row of the device.
+pub const DEVICE_WIDTH: u64 = 380;
+
+/// The right edge of the rows of host memory.
+pub const HOST_END: u64 = HOST_X + HOST_WIDTH;
+
+/// The right edge of the rows of the device.
+pub const DEVICE_END: u64 = DEVICE_X + DEVICE_WIDTH;
+
+/// How many rows a memory has at most before neighbours share one.
+pub const ROW_LIMIT: usize = 130;
+
+/// How many rows there are at most where neighbours share one.
+pub const GROUP_LIMIT: usize = 64;
+
+/// The upper edge of the row of a number.
+pub fn row_y(nth: usize) -> u64 {
+    ROWS_Y.saturating_add(ROW_PITCH.saturating_mul(nth as u64))
+}
+
+/// Where the row of a number lies in host memory's column.
+pub fn host_area(nth: usize) -> Area {
+    Area {
+        x: HOST_X,
+        y: row_y(nth),
+        width: HOST_WIDTH,
+        height: ROW_HEIGHT,
+    }
+}
+
+/// Where the row of a number lies in the device's column.
+pub fn device_area(nth: usize) -> Area {
+    Area {
+        x: DEVICE_X,
+        y: row_y(nth),
+        width: DEVICE_WIDTH,
+        height: ROW_HEIGHT,
+    }
+}
+
+/// Where a text of a row begins, so far from its left edge.
+pub fn text_in(area: Area, x: u64) -> Point {
+    Point {
+        x: area.x.saturating_add(x),
+        y: area.y.saturating_add(13),
+    }
+}
+
+/// The middle of the edge of a row at `x`.
+pub fn middle_of(nth: usize, x: u64) -> Point {
+    Point {
+        x,
+        y: row_y(nth).saturating_add(ROW_HEIGHT / 2),
+    }
+}
+
+/// How many neighbours share a row.
+pub fn group_size(count: usize) -> usize
+    ensures { 1 ≤ result }
+{
+    if count <= ROW_LIMIT {
+        1
+    } else {
+        count.div_ceil(GROUP_LIMIT)
+    }
+}

@@ -109,6 +109,17 @@ fn expect_option<'a>(alloc: Global) -> Arg<'a> {
 /// The languages that a script can be emitted in.
 const LANGUAGES: &[&str] = &["c"];
 
+/// What belongs to a run, and so does not go with a program that is emitted.
+const OF_RUNS: &[&str] = &[
+    "echo",
+    "json",
+    "log",
+    "explain",
+    "svg",
+    "svg-every",
+    "drill",
+];
+
 /// The option of the language that the script is emitted in.
 fn emit_option<'a>(alloc: Global) -> Arg<'a> {
     Arg::new(alloc, "emit")
@@ -190,7 +201,7 @@ fn with_programs<'a>(alloc: Global, command: Command<'a>) -> Result<Command<'a>,
     let until = flag(alloc, "until-refusal", "End it with the first refusal");
     Ok(
         command
-            .arg(emit_option(alloc))?
+            .arg(emit_option(alloc).conflicts_with_all(OF_RUNS)?)?
             .arg(until.requires_arg("emit")?)?,
     )
 }

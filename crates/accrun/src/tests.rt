@@ -245,7 +245,7 @@ fn a_line_that_is_too_long_is_told(rt: HostRuntime) -> Result<(), Fail> {
 
 /// Command lines with an empty script, their status, and what has to stand in the text on standard output and on
 /// standard error; where it is empty there is no text.
-const COMMAND_LINES: [(&str, u8, &str, &str); 31] = [
+const COMMAND_LINES: [(&str, u8, &str, &str); 35] = [
     ("--host 16 --device 67108864", 0, "", ""),
     ("--threads 1 --trace counts", 0, "", ""),
     ("--threads 64", 0, "", ""),
@@ -288,6 +288,15 @@ const COMMAND_LINES: [(&str, u8, &str, &str); 31] = [
     ("--emit", 2, "", "'--emit <LANGUAGE>'"),
     ("--emit d", 2, "", "'d' for '--emit <LANGUAGE>'"),
     ("--until-refusal", 2, "", "--emit <LANGUAGE>"),
+    (
+        "--emit c --log",
+        2,
+        "",
+        "'--emit <LANGUAGE>' cannot be used with '--log'",
+    ),
+    ("--svg wall.svg --emit c", 2, "", "'--svg <PICTURE>'"),
+    ("--emit c --drill 1", 2, "", "'--drill <ROUNDS>'"),
+    ("--emit c --threads 2 --host 64", 0, "int main(", ""),
     ("--log", 0, "", "lamwiest: total mapped 0 ended 0"),
     ("--svg wall.svg", 0, "", ""),
     (

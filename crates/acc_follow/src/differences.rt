@@ -1,5 +1,12 @@
 //! The first line in which two outputs differ.
 
+ghost use Rattle.std.specs.Prelude.{◌≡◌, ◌<◌, length, drop, option_map, true};
+ghost use Rattle.std.specs.Option.{is_some};
+ghost use Rattle.std.specs.Bool.{Decides};
+ghost use Rattle.std.specs.List.{slice_get};
+ghost use Rattle.acc_read.specs.Lines.{lines_of};
+ghost use Rattle.acc_follow.specs.Differences.{Compared};
+
 use acc_read::next_line;
 
 /// The first line in which an output differs from the one that was expected.
@@ -15,30 +22,37 @@ pub struct Difference<'a> {
 
 /// The first line in which an output differs from the one that was expected, if one does. A carriage return at the end
 /// of a line does not count, nor does a line feed at the end of the last one.
-pub fn first_difference<'a>(expected: &'a [u8], found: &'a [u8]) -> Option<Difference<'a>> {
-    let mut expected = expected;
-    let mut found = found;
-    for line in 1..u64::MAX {
-        if expected.is_empty() && found.is_empty() {
-            return None;
-        }
-        let (wanted, behind_wanted) = front(expected);
-        let (came, behind_came) = front(found);
-        if !is_same(wanted, came) {
+pub fn first_difference<'a>(expected: &'a [u8], found: &'a [u8]) -> Option<Difference<'a>>
+    ensures { Compared (lines_of expected.now) (lines_of found.now) result }
+{
+    let mut wanted = expected;
+    let mut came = found;
+    let mut same = 0u64;
+    'lines: loop {
+        let (line, behind) = front(wanted);
+        let (other, after) = front(came);
+        if !is_same(line, other) {
             return Some(Difference {
-                line,
-                expected: wanted,
-                found: came,
+                line: same + 1,
+                expected: line,
+                found: other,
             });
         }
-        expected = behind_wanted;
-        found = behind_came;
+        if line.is_none() {
+            return None;
+        }
+        wanted = behind;
+        came = after;
+        same += 1;
     }
-    None
 }
 
 /// The first line of a text, if it has one, and the text behind it.
-fn front(text: &[u8]) -> (Option<&[u8]>, &[u8]) {
+fn front(text: &[u8]) -> (Option<&[u8]>, &[u8])
+    ensures line { option_map (λ line. line.now) result.0 ≡ slice_get (lines_of text.now) 0 }
+    ensures behind { lines_of result.1.now ≡ drop 1 (lines_of text.now) }
+    ensures shorter { is_some result.0 ≡ true → length result.1.now < length text.now }
+{
     if text.is_empty() {
         return (None, text);
     }
@@ -47,7 +61,9 @@ fn front(text: &[u8]) -> (Option<&[u8]>, &[u8]) {
 }
 
 /// Whether both are no line, or the same.
-fn is_same(one: Option<&[u8]>, other: Option<&[u8]>) -> bool {
+fn is_same(one: Option<&[u8]>, other: Option<&[u8]>) -> bool
+    ensures { Decides result (option_map (λ line. line.now) one.entry ≡ option_map (λ line. line.now) other.entry) }
+{
     match (one, other) {
         (Some(one), Some(other)) => one == other,
         (None, None) => true,

@@ -1,0 +1,21 @@
+-- Where two outputs differ first.
+use Rattle.std.specs.Prelude.{◌≡◌, ℕ, ◌+◌, ◌++◌, List, length, Option, Some, None, option_map}
+use Rattle.std.specs.List.{slice_get}
+use Rattle.acc_follow.specs.declared.differences.Difference.{Difference}
+
+-- behind lines that both outputs have, the line that is told is another one in each, or one of them has ended
+pub record IsFirst (d : Difference) (expected found : List (List ℕ)) : Type 0 where
+  pub both : List (List ℕ)
+  pub left : List (List ℕ)
+  pub came : List (List ℕ)
+  pub expected_lines : expected ≡ both ++ left
+  pub found_lines : found ≡ both ++ came
+  pub line : d.line ≡ length both + 1
+  pub expected_line : option_map (λ line. line.now) d.expected ≡ slice_get left 0
+  pub found_line : option_map (λ line. line.now) d.found ≡ slice_get came 0
+  pub differ : ¬ (slice_get left 0 ≡ slice_get came 0)
+
+-- what is answered of the lines of two outputs
+abbrev pub Compared : List (List ℕ) → List (List ℕ) → Option Difference → Type 0
+Compared expected found None = expected ≡ found
+Compared expected found (Some d) = IsFirst d expected found

@@ -1,11 +1,11 @@
 //! Follows a script.
 
 use crate::galleries::{Frame, Gallery, Stop};
-use crate::logs::Log;
 use crate::outputs::Output;
 use crate::report_objects::put_report;
 use acc_base::{Config, Event, Fault, ScriptFault};
 use acc_explain::{explain_fault, explain_refusal, explain_unclosed, is_pragma, warn_of_pragma};
+use acc_log::Log;
 use acc_page::{Names, Page, statement_text};
 use acc_picture::{Caption, put_picture};
 use acc_read::{Statement, Trouble, line_at, next_line};
@@ -96,16 +96,17 @@ fn ended(ending: Result<Status, Stop>, is_told: Result<(), Fault>) -> Result<Sta
     Ok(status)
 }
 
-/// What follows a script whose first line is yet to run.
-fn follower_of<R: AllocGlobal>(rt: &R, setting: Setting) -> Result<Follower, Fault> {
-    Ok(Follower {
+/// What follows a script whose first line is yet to run. It is boxed, as so much is dear to hand on.
+fn follower_of<R: AllocGlobal>(rt: &R, setting: Setting) -> Result<Box<Follower>, Fault> {
+    let follower = Follower {
         session: Session::new(rt.alloc(), setting.config, setting.parts)?,
         names: Names::new(rt.alloc()),
         log: Log::new(rt.alloc()),
         entries: Vec::new(rt.alloc()),
         drawn: 0,
         views: setting.views,
-    })
+    };
+    Ok(Box::new(rt.alloc(), follower)?)
 }
 
 /// A script that is followed.

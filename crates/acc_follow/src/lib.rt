@@ -1,17 +1,11 @@
 //! A script that is followed line by line, for those who want to see more than what it prints.
 #![tactic(auto)]
 
-mod accounts;
 mod differences;
 mod follows;
 mod galleries;
-mod item_logs;
-mod log_items;
-mod log_lines;
-mod logs;
 mod outputs;
 mod report_objects;
-mod totals;
 
 pub use acc_page::{Names, Page, Spot, statement_text};
 pub use differences::{Difference, first_difference};

@@ -12,7 +12,7 @@ use acc_page::Names;
 
 impl Log {
     /// Tells an item that enters: its mapping, its copy, its pointer.
-    pub fn tell_enter(&mut self, names: &Names, told: LogItem, counter: Counter, did: Did) {
+    pub(crate) fn tell_enter(&mut self, names: &Names, told: LogItem, counter: Counter, did: Did) {
         match did.step {
             Step::Born { block, place } => {
                 let placed = told.born(counter, block, place);
@@ -39,7 +39,7 @@ impl Log {
     }
 
     /// Tells an item that leaves: its pointer, its copy, its mapping.
-    pub fn tell_leave(&mut self, names: &Names, told: LogItem, drops: Drops, did: Did) {
+    pub(crate) fn tell_leave(&mut self, names: &Names, told: LogItem, drops: Drops, did: Did) {
         self.tell_aim(names, told, did.aim);
         match did.step {
             Step::Dropped { .. } => self.tell_drop(names, told, drops, did.step),
@@ -48,7 +48,7 @@ impl Log {
     }
 
     /// Tells a mapping that was counted once less.
-    pub fn tell_drop(&mut self, names: &Names, told: LogItem, drops: Drops, step: Step) {
+    pub(crate) fn tell_drop(&mut self, names: &Names, told: LogItem, drops: Drops, step: Step) {
         let (Some(found), Step::Dropped { ended, .. }) = (self.account.inside(told.section), step)
         else {
             return;
@@ -74,7 +74,7 @@ impl Log {
     }
 
     /// Tells an item of `update`.
-    pub fn tell_move(&mut self, names: &Names, told: LogItem, step: Step) {
+    pub(crate) fn tell_move(&mut self, names: &Names, told: LogItem, step: Step) {
         match (step, self.account.inside(told.section)) {
             (Step::Moved { .. }, Some(found)) => self.tell_copy(names, told, found),
             _ => self.tell_nothing(names, told),
@@ -138,7 +138,7 @@ impl Log {
     }
 
     /// Tells what an item did to its pointer.
-    pub fn tell_aim(&mut self, names: &Names, told: LogItem, aim: Aim) {
+    pub(crate) fn tell_aim(&mut self, names: &Names, told: LogItem, aim: Aim) {
         match aim {
             Aim::None => {
                 if told.is_pointer {

@@ -23,9 +23,9 @@ pub struct Log {
     /// The lines that were not written yet.
     pub page: Page,
     /// What the events that were told say of ranges, pointers, queues and regions.
-    pub account: Account,
+    pub(crate) account: Account,
     /// How much was done so far.
-    pub totals: Totals,
+    pub(crate) totals: Totals,
     /// How many events of the trace were told.
     told: usize,
     /// What the kernel that is at work was lent.
@@ -152,9 +152,11 @@ impl Log {
 
     /// Tells the items of `data`.
     fn tell_entry(&mut self, names: &Names, items: &[Item<RegionClause>], did: &[Did]) {
-        for (place, (item, did)) in items.iter().zip(did.iter()).enumerate() {
-            let told = LogItem::of_region(place, *item);
-            self.tell_enter(names, told, Counter::Structured, *did);
+        for place in 0..items.len() {
+            if let Some((item, did)) = paired(items, did, place) {
+                let told = LogItem::of_region(place, item);
+                self.tell_enter(names, told, Counter::Structured, did);
+            }
         }
     }
 
@@ -166,9 +168,11 @@ impl Log {
         queue: Option<u64>,
         did: &[Did],
     ) {
-        for (place, (item, did)) in items.iter().zip(did.iter()).enumerate() {
-            let told = LogItem::of_enter(place, *item, queue);
-            self.tell_enter(names, told, Counter::Dynamic, *did);
+        for place in 0..items.len() {
+            if let Some((item, did)) = paired(items, did, place) {
+                let told = LogItem::of_enter(place, item, queue);
+                self.tell_enter(names, told, Counter::Dynamic, did);
+            }
         }
     }
 
@@ -186,9 +190,11 @@ impl Log {
         } else {
             Drops::Dynamic
         };
-        for (place, (item, did)) in items.iter().zip(did.iter()).enumerate() {
-            let told = LogItem::of_exit(place, *item, queue);
-            self.tell_leave(names, told, drops, *did);
+        for place in 0..items.len() {
+            if let Some((item, did)) = paired(items, did, place) {
+                let told = LogItem::of_exit(place, item, queue);
+                self.tell_leave(names, told, drops, did);
+            }
         }
     }
 
@@ -245,9 +251,11 @@ impl Log {
         queue: Option<u64>,
         did: &[Did],
     ) {
-        for (place, (item, did)) in items.iter().zip(did.iter()).enumerate() {
-            let told = LogItem::of_update(place, *item, queue);
-            self.tell_move(names, told, did.step);
+        for place in 0..items.len() {
+            if let Some((item, did)) = paired(items, did, place) {
+                let told = LogItem::of_update(place, item, queue);
+                self.tell_move(names, told, did.step);
+            }
         }
     }
 
@@ -291,6 +299,11 @@ impl Log {
             put_loan(&mut self.page, names, "gathered", copied, serial);
         }
     }
+}
+
+/// The item at a place and what was done for it.
+fn paired<C: Copy>(items: &[Item<C>], did: &[Did], place: usize) -> Option<(Item<C>, Did)> {
+    Some((*items.get(place)?, *did.get(place)?))
 }
 
 /// Whether a statement has something to tell beside events.

@@ -34,8 +34,7 @@ pub fn emit<R: Threads + Wait + Sync + AllocGlobal>(
 ) -> Result<Page, EmitFault> {
     let mut emitter = Emitter::new(rt.alloc(), config)?;
     emit_lines(rt, &mut emitter, script, until_refusal)?;
-    let Emitter { sheet, .. } = emitter;
-    Ok(sheet.whole(rt.alloc())?)
+    Ok(emitter.sheet.whole(rt.alloc())?)
 }
 
 /// Emits all lines, or those up to the first that is refused.

@@ -109,7 +109,7 @@ impl Sheet {
     }
 
     /// The whole program, once all lines are emitted.
-    pub fn whole(self, alloc: Global) -> Result<Page, Fault> {
+    pub fn whole(&self, alloc: Global) -> Result<Page, Fault> {
         let mut page = Page::new(alloc);
         page.text(crate::harness::HEAD);
         page.bytes(self.head.whole()?);

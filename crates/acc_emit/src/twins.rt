@@ -21,19 +21,26 @@ const EVENTS: u64 = 16_777_216;
 #[derive(Drop)]
 pub struct Twins {
     /// The script's own table.
-    pub own: Session,
+    pub own: Box<Session>,
     /// Its twin.
-    pub twin: Session,
+    pub twin: Box<Session>,
 }
 
 impl Twins {
     /// New tables for a script.
     pub fn new(alloc: Global, config: Config) -> Result<Twins, Fault> {
+        let twin = twin_config(config)?;
+        let own = boxed_session(alloc, config)?;
         Ok(Twins {
-            own: Session::new(alloc, config, 1)?,
-            twin: Session::new(alloc, twin_config(config)?, 1)?,
+            own,
+            twin: boxed_session(alloc, twin)?,
         })
     }
+}
+
+/// A new table. It is boxed: a function that owns two unboxed ones takes minutes to check.
+fn boxed_session(alloc: Global, config: Config) -> Result<Box<Session>, Fault> {
+    Ok(Box::new(alloc, Session::new(alloc, config, 1)?)?)
 }
 
 /// The limits of the twin: it has one region more, for fills, and room on its device for blocks that lie otherwise.

@@ -2,7 +2,7 @@
 
 use acc_follow::Views;
 use clap::{Arg, ArgAction, ArgMatches, Command, Error, value_parser};
-use std::alloc::Global;
+use std::alloc::{AllocError, Global};
 
 /// The default of both sizes in bytes. `size_option` names it again as text, for `clap`; it is used here only if `clap`
 /// finds no value.
@@ -121,14 +121,18 @@ const OF_RUNS: &[&str] = &[
 ];
 
 /// The option of the language that the script is emitted in.
-fn emit_option<'a>(alloc: Global) -> Arg<'a> {
-    Arg::new(alloc, "emit")
+fn emit_option<'a>(alloc: Global) -> Result<Arg<'a>, AllocError> {
+    let mut option = Arg::new(alloc, "emit")
         .long("emit")
         .value_name("LANGUAGE")
         .help("Write the script as a program instead")
         .action(ArgAction::Set)
         .value_parser(LANGUAGES)
-        .hide_possible_values(true)
+        .hide_possible_values(true);
+    for name in OF_RUNS {
+        option = option.conflicts_with(name)?;
+    }
+    Ok(option)
 }
 
 /// An option of the file of a picture.
@@ -201,7 +205,7 @@ fn with_programs<'a>(alloc: Global, command: Command<'a>) -> Result<Command<'a>,
     let until = flag(alloc, "until-refusal", "End it with the first refusal");
     Ok(
         command
-            .arg(emit_option(alloc).conflicts_with_all(OF_RUNS)?)?
+            .arg(emit_option(alloc)?)?
             .arg(until.requires_arg("emit")?)?,
     )
 }

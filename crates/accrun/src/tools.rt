@@ -10,7 +10,7 @@ use crate::shelves::Shelf;
 use crate::walls::Wall;
 use crate::words::WordsFault;
 use acc_base::{Config, Fault};
-use acc_follow::{Frame, Output, Page, Setting, Stop, first_difference, follow};
+use acc_follow::{Ends, Frame, Output, Page, Setting, Stop, first_difference, follow};
 use acc_script::{MemorySink, MemorySource, Sink, Source, Status, run, write_all};
 use clap::Error;
 use clap::error::ErrorKind;
@@ -80,9 +80,15 @@ pub fn tool<R: Threads + Wait + Sync + AllocGlobal, S: Source, O: Output, E: Sin
         Err(error) => return tell_usage(rt, out, err, &error),
     };
     let mut reason = Page::new(rt.alloc());
+    let mut ends = Ends {
+        out: &mut *out,
+        err: &mut *err,
+        gallery: &wall_of(rt, options, shelf),
+        reason: &mut reason,
+    };
     let ending = match options.expect {
-        Some(name) => compared(rt, options, name, reader, err, shelf, &mut reason),
-        None => carried_out(rt, options, reader, out, err, shelf, &mut reason),
+        Some(name) => compared(rt, options, name, reader, &mut ends),
+        None => carried_out(rt, options, reader, &mut ends),
     };
     match flushed(out, ending) {
         Ok(Status::Clean) => CLEAN,
@@ -106,21 +112,32 @@ fn flushed<'a, O: Output>(
     ending
 }
 
+/// Where pictures go.
+fn wall_of<'a, R: AllocGlobal, D: Shelf>(
+    rt: &R,
+    options: Options<'a>,
+    shelf: &'a D,
+) -> Wall<'a, D> {
+    Wall {
+        shelf,
+        alloc: rt.alloc(),
+        last: options.svg,
+        each: options.svg_every,
+    }
+}
+
 /// Does what the options say, within the program's limits.
 fn carried_out<'a, R: Threads + Wait + Sync + AllocGlobal, S: Source, O: Output, E: Sink, D: Shelf>(
     rt: &R,
     options: Options<'a>,
     reader: &mut S,
-    out: &mut O,
-    err: &mut E,
-    shelf: &D,
-    reason: &mut Page,
+    ends: &mut Ends<'_, O, E, Wall<'_, D>>,
 ) -> Result<Status, Mishap<'a>> {
     let config = limits(options)?;
     match (options.drill, options.file) {
-        (Some(rounds), _) => Ok(drill_threads(rt, options, config, rounds, out)?),
-        (None, Some(name)) => run_file(rt, options, config, name, out, err, shelf, reason),
-        (None, None) => use_script(rt, options, config, reader, out, err, shelf, reason),
+        (Some(rounds), _) => Ok(drill_threads(rt, options, config, rounds, ends.out)?),
+        (None, Some(name)) => run_file(rt, options, config, name, ends),
+        (None, None) => use_script(rt, options, config, reader, ends),
     }
 }
 
@@ -130,14 +147,11 @@ fn run_file<'a, R: Threads + Wait + Sync + AllocGlobal, O: Output, E: Sink, D: S
     options: Options<'a>,
     config: Config,
     name: &'a str,
-    out: &mut O,
-    err: &mut E,
-    shelf: &D,
-    reason: &mut Page,
+    ends: &mut Ends<'_, O, E, Wall<'_, D>>,
 ) -> Result<Status, Mishap<'a>> {
-    let script = read_file(shelf, name)?;
+    let script = read_file(ends.gallery.shelf, name)?;
     let mut reader = MemorySource::new(&script);
-    use_script(rt, options, config, &mut reader, out, err, shelf, reason)
+    use_script(rt, options, config, &mut reader, ends)
 }
 
 /// Runs the script within these limits, or emits it as a program.
@@ -146,15 +160,12 @@ fn use_script<'a, R: Threads + Wait + Sync + AllocGlobal, S: Source, O: Output, 
     options: Options<'a>,
     config: Config,
     reader: &mut S,
-    out: &mut O,
-    err: &mut E,
-    shelf: &D,
-    reason: &mut Page,
+    ends: &mut Ends<'_, O, E, Wall<'_, D>>,
 ) -> Result<Status, Mishap<'a>> {
     if options.emit {
-        return emit_script(rt, options, config, reader, out);
+        return emit_script(rt, options, config, reader, ends.out);
     }
-    run_script(rt, options, config, reader, out, err, shelf, reason)
+    run_script(rt, options, config, reader, ends)
 }
 
 /// The bytes of a file.
@@ -167,19 +178,23 @@ fn read_file<'a, D: Shelf>(shelf: &D, name: &'a str) -> Result<Vec<u8>, Mishap<'
 }
 
 /// Does what the options say, and compares the output with a file in place of writing it.
-fn compared<'a, R: Threads + Wait + Sync + AllocGlobal, S: Source, E: Sink, D: Shelf>(
+fn compared<'a, R: Threads + Wait + Sync + AllocGlobal, S: Source, O, E: Sink, D: Shelf>(
     rt: &R,
     options: Options<'a>,
     name: &'a str,
     reader: &mut S,
-    err: &mut E,
-    shelf: &D,
-    reason: &mut Page,
+    ends: &mut Ends<'_, O, E, Wall<'_, D>>,
 ) -> Result<Status, Mishap<'a>> {
-    let expected = read_file(shelf, name)?;
+    let expected = read_file(ends.gallery.shelf, name)?;
     let mut found = MemorySink::new(rt.alloc());
-    match carried_out(rt, options, reader, &mut found, err, shelf, reason) {
-        Ok(_) => Ok(agreement(rt, &expected, found.as_slice(), err)),
+    let mut kept = Ends {
+        out: &mut found,
+        err: &mut *ends.err,
+        gallery: ends.gallery,
+        reason: &mut *ends.reason,
+    };
+    match carried_out(rt, options, reader, &mut kept) {
+        Ok(_) => Ok(agreement(rt, &expected, found.as_slice(), ends.err)),
         // This sink fails for want of memory alone.
         Err(Mishap::Fault(Fault::Write)) => Err(Mishap::Fault(Fault::Memory)),
         Err(mishap) => Err(mishap),
@@ -208,14 +223,11 @@ fn run_script<'a, R: Threads + Wait + Sync + AllocGlobal, S: Source, O: Output, 
     options: Options<'a>,
     config: Config,
     reader: &mut S,
-    out: &mut O,
-    err: &mut E,
-    shelf: &D,
-    reason: &mut Page,
+    ends: &mut Ends<'_, O, E, Wall<'_, D>>,
 ) -> Result<Status, Mishap<'a>> {
     let parts = threads(options);
     if !options.views.are_any() {
-        return Ok(run(rt, reader, out, config, parts)?);
+        return Ok(run(rt, reader, ends.out, config, parts)?);
     }
     let views = options.views;
     let setting = Setting {
@@ -223,13 +235,7 @@ fn run_script<'a, R: Threads + Wait + Sync + AllocGlobal, S: Source, O: Output, 
         parts,
         views,
     };
-    let wall = Wall {
-        shelf,
-        alloc: rt.alloc(),
-        last: options.svg,
-        each: options.svg_every,
-    };
-    match follow(rt, setting, reader, out, err, &wall, reason) {
+    match follow(rt, setting, reader, ends) {
         Ok(status) => Ok(status),
         Err(stop) => Err(mishap_of(options, stop)),
     }

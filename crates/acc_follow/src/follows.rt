@@ -54,34 +54,25 @@ pub struct Setting {
     pub views: Views,
 }
 
-/// Where goes what a script that is followed prints, and what is shown of it.
-#[derive(Drop)]
-pub struct Ends<'a, O, E, G> {
-    /// What it prints.
-    pub out: &'a mut O,
-    /// The log and what is explained, each line's behind what it prints. A failure changes nothing.
-    pub err: &'a mut E,
-    /// Pictures.
-    pub gallery: &'a G,
-    /// Why a line is at fault: that stands behind the fault itself.
-    pub reason: &'a mut Page,
-}
-
 /// Reads a whole script and runs it as `acc_script::run` does, line by line on a new table of these limits, and shows
-/// more of it.
+/// more of it. The log and what is explained go to `err`, each line's behind what it prints; why a line is at fault goes
+/// to `reason`, since that stands behind the fault itself. Pictures go to the gallery.
 ///
 /// # Errors
 ///
 /// Those of `acc_script::run`; what the lines before the fault print was written. Memory may be wanting for what is
-/// shown, too. [`Stop::Picture`] where a picture cannot be kept.
+/// shown, too. [`Stop::Picture`] where a picture cannot be kept. A failure of `err` changes nothing.
 pub fn follow<R: Threads + Wait + Sync + AllocGlobal, S: Source, O: Output, E: Sink, G: Gallery>(
     rt: &R,
     setting: Setting,
     reader: &mut S,
-    ends: &mut Ends<'_, O, E, G>,
+    out: &mut O,
+    err: &mut E,
+    gallery: &G,
+    reason: &mut Page,
 ) -> Result<Status, Stop> {
     let input = read_all(rt.alloc(), reader)?;
-    follow_input(rt, setting, &input, ends)
+    follow_input(rt, setting, &input, out, err, gallery, reason)
 }
 
 /// Follows the script of an input, on a new table.
@@ -89,10 +80,13 @@ fn follow_input<R: Threads + Wait + Sync + AllocGlobal, O: Output, E: Sink, G: G
     rt: &R,
     setting: Setting,
     input: &[u8],
-    ends: &mut Ends<'_, O, E, G>,
+    out: &mut O,
+    err: &mut E,
+    gallery: &G,
+    reason: &mut Page,
 ) -> Result<Status, Stop> {
     let mut follower = follower_of(rt, setting)?;
-    follower.follow(rt, input, ends)
+    follower.follow(rt, input, out, err, gallery, reason)
 }
 
 /// How a script ended, where its log was written to its end or not.
@@ -134,10 +128,13 @@ impl Follower {
         &mut self,
         rt: &R,
         input: &[u8],
-        ends: &mut Ends<'_, O, E, G>,
+        out: &mut O,
+        err: &mut E,
+        gallery: &G,
+        reason: &mut Page,
     ) -> Result<Status, Stop> {
-        let ending = self.script(rt, input, ends);
-        let is_told = self.end_log(ends.out, ends.err);
+        let ending = self.script(rt, input, out, err, gallery, reason);
+        let is_told = self.end_log(out, err);
         ended(ending, is_told)
     }
 
@@ -146,11 +143,14 @@ impl Follower {
         &mut self,
         rt: &R,
         input: &[u8],
-        ends: &mut Ends<'_, O, E, G>,
+        out: &mut O,
+        err: &mut E,
+        gallery: &G,
+        reason: &mut Page,
     ) -> Result<Status, Stop> {
-        let status = self.lines(rt, input, ends)?;
+        let status = self.lines(rt, input, out, err, gallery, reason)?;
         if self.views.picture {
-            self.draw(rt, Frame::Last, &[], ends.gallery)?;
+            self.draw(rt, Frame::Last, &[], gallery)?;
         }
         Ok(status)
     }
@@ -160,7 +160,10 @@ impl Follower {
         &mut self,
         rt: &R,
         input: &[u8],
-        ends: &mut Ends<'_, O, E, G>,
+        out: &mut O,
+        err: &mut E,
+        gallery: &G,
+        reason: &mut Page,
     ) -> Result<Status, Stop> {
         let mut rest = input;
         let mut done = 0u64;
@@ -172,11 +175,11 @@ impl Follower {
             }
             let (line, after) = next_line(rest);
             done = done.saturating_add(1);
-            refused |= self.line(rt, done, line, ends)?;
-            self.draw_line(rt, done, line, ends.gallery)?;
+            refused |= self.line(rt, done, line, out, err, reason)?;
+            self.draw_line(rt, done, line, gallery)?;
             rest = after;
         }
-        Ok(self.end_at(done.saturating_add(1), refused, ends.reason)?)
+        Ok(self.end_at(done.saturating_add(1), refused, reason)?)
     }
 
     /// Draws what a line left, where it is a directive or a kernel that was done and each of these is drawn.
@@ -251,28 +254,23 @@ impl Follower {
     }
 
     /// Runs the line of a number and shows what it prints and did; answers whether it was refused.
-    fn line<R: Threads + Wait + Sync + AllocGlobal, O: Output, E: Sink, G: Gallery>(
+    fn line<R: Threads + Wait + Sync + AllocGlobal, O: Output, E: Sink>(
         &mut self,
         rt: &R,
         number: u64,
         line: &[u8],
-        ends: &mut Ends<'_, O, E, G>,
+        out: &mut O,
+        err: &mut E,
+        reason: &mut Page,
     ) -> Result<bool, Fault> {
-        self.warn(rt, number, line, ends.out, ends.err)?;
-        let effect = self.perform(rt, number, line, ends.reason)?;
+        self.warn(rt, number, line, out, err)?;
+        let effect = self.perform(rt, number, line, reason)?;
         if self.views.echo {
-            write_echo(rt, line, ends.out)?;
+            write_echo(rt, line, out)?;
         }
-        show(
-            rt,
-            number,
-            &self.session.table,
-            self.views,
-            effect,
-            ends.out,
-        )?;
-        self.tell(number, line, effect, ends.out, ends.err)?;
-        self.explain(rt, number, line, effect, ends.out, ends.err)?;
+        show(rt, number, &self.session.table, self.views, effect, out)?;
+        self.tell(number, line, effect, out, err)?;
+        self.explain(rt, number, line, effect, out, err)?;
         Ok(effect.is_refused())
     }
 

@@ -9,6 +9,6 @@ mod report_objects;
 
 pub use acc_page::{Names, Page, Spot, statement_text};
 pub use differences::{Difference, first_difference};
-pub use follows::{Ends, Setting, Views, fault_of, follow, write_page};
+pub use follows::{Setting, Views, fault_of, follow, write_page};
 pub use galleries::{Frame, Gallery, Stop};
 pub use outputs::Output;

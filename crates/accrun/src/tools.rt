@@ -10,7 +10,7 @@ use crate::shelves::Shelf;
 use crate::walls::Wall;
 use crate::words::WordsFault;
 use acc_base::{Config, Fault};
-use acc_follow::{Ends, Frame, Output, Page, Setting, Stop, first_difference, follow};
+use acc_follow::{Frame, Output, Page, Setting, Stop, first_difference, follow};
 use acc_script::{MemorySink, MemorySource, Sink, Source, Status, run, write_all};
 use clap::Error;
 use clap::error::ErrorKind;
@@ -80,15 +80,9 @@ pub fn tool<R: Threads + Wait + Sync + AllocGlobal, S: Source, O: Output, E: Sin
         Err(error) => return tell_usage(rt, out, err, &error),
     };
     let mut reason = Page::new(rt.alloc());
-    let mut ends = Ends {
-        out: &mut *out,
-        err: &mut *err,
-        gallery: &wall_of(rt, options, shelf),
-        reason: &mut reason,
-    };
     let ending = match options.expect {
-        Some(name) => compared(rt, options, name, reader, &mut ends),
-        None => carried_out(rt, options, reader, &mut ends),
+        Some(name) => compared(rt, options, name, reader, err, shelf, &mut reason),
+        None => carried_out(rt, options, reader, out, err, shelf, &mut reason),
     };
     match flushed(out, ending) {
         Ok(Status::Clean) => CLEAN,
@@ -112,32 +106,21 @@ fn flushed<'a, O: Output>(
     ending
 }
 
-/// Where pictures go.
-fn wall_of<'a, R: AllocGlobal, D: Shelf>(
-    rt: &R,
-    options: Options<'a>,
-    shelf: &'a D,
-) -> Wall<'a, D> {
-    Wall {
-        shelf,
-        alloc: rt.alloc(),
-        last: options.svg,
-        each: options.svg_every,
-    }
-}
-
 /// Does what the options say, within the program's limits.
 fn carried_out<'a, R: Threads + Wait + Sync + AllocGlobal, S: Source, O: Output, E: Sink, D: Shelf>(
     rt: &R,
     options: Options<'a>,
     reader: &mut S,
-    ends: &mut Ends<'_, O, E, Wall<'_, D>>,
+    out: &mut O,
+    err: &mut E,
+    shelf: &D,
+    reason: &mut Page,
 ) -> Result<Status, Mishap<'a>> {
     let config = limits(options)?;
     match (options.drill, options.file) {
-        (Some(rounds), _) => Ok(drill_threads(rt, options, config, rounds, ends.out)?),
-        (None, Some(name)) => run_file(rt, options, config, name, ends),
-        (None, None) => use_script(rt, options, config, reader, ends),
+        (Some(rounds), _) => Ok(drill_threads(rt, options, config, rounds, out)?),
+        (None, Some(name)) => run_file(rt, options, config, name, out, err, shelf, reason),
+        (None, None) => use_script(rt, options, config, reader, out, err, shelf, reason),
     }
 }
 
@@ -147,11 +130,14 @@ fn run_file<'a, R: Threads + Wait + Sync + AllocGlobal, O: Output, E: Sink, D: S
     options: Options<'a>,
     config: Config,
     name: &'a str,
-    ends: &mut Ends<'_, O, E, Wall<'_, D>>,
+    out: &mut O,
+    err: &mut E,
+    shelf: &D,
+    reason: &mut Page,
 ) -> Result<Status, Mishap<'a>> {
-    let script = read_file(ends.gallery.shelf, name)?;
+    let script = read_file(shelf, name)?;
     let mut reader = MemorySource::new(&script);
-    use_script(rt, options, config, &mut reader, ends)
+    use_script(rt, options, config, &mut reader, out, err, shelf, reason)
 }
 
 /// Runs the script within these limits, or emits it as a program.
@@ -160,12 +146,15 @@ fn use_script<'a, R: Threads + Wait + Sync + AllocGlobal, S: Source, O: Output, 
     options: Options<'a>,
     config: Config,
     reader: &mut S,
-    ends: &mut Ends<'_, O, E, Wall<'_, D>>,
+    out: &mut O,
+    err: &mut E,
+    shelf: &D,
+    reason: &mut Page,
 ) -> Result<Status, Mishap<'a>> {
     if options.emit {
-        return emit_script(rt, options, config, reader, ends.out);
+        return emit_script(rt, options, config, reader, out);
     }
-    run_script(rt, options, config, reader, ends)
+    run_script(rt, options, config, reader, out, err, shelf, reason)
 }
 
 /// The bytes of a file.
@@ -178,23 +167,19 @@ fn read_file<'a, D: Shelf>(shelf: &D, name: &'a str) -> Result<Vec<u8>, Mishap<'
 }
 
 /// Does what the options say, and compares the output with a file in place of writing it.
-fn compared<'a, R: Threads + Wait + Sync + AllocGlobal, S: Source, O, E: Sink, D: Shelf>(
+fn compared<'a, R: Threads + Wait + Sync + AllocGlobal, S: Source, E: Sink, D: Shelf>(
     rt: &R,
     options: Options<'a>,
     name: &'a str,
     reader: &mut S,
-    ends: &mut Ends<'_, O, E, Wall<'_, D>>,
+    err: &mut E,
+    shelf: &D,
+    reason: &mut Page,
 ) -> Result<Status, Mishap<'a>> {
-    let expected = read_file(ends.gallery.shelf, name)?;
+    let expected = read_file(shelf, name)?;
     let mut found = MemorySink::new(rt.alloc());
-    let mut kept = Ends {
-        out: &mut found,
-        err: &mut *ends.err,
-        gallery: ends.gallery,
-        reason: &mut *ends.reason,
-    };
-    match carried_out(rt, options, reader, &mut kept) {
-        Ok(_) => Ok(agreement(rt, &expected, found.as_slice(), ends.err)),
+    match carried_out(rt, options, reader, &mut found, err, shelf, reason) {
+        Ok(_) => Ok(agreement(rt, &expected, found.as_slice(), err)),
         // This sink fails for want of memory alone.
         Err(Mishap::Fault(Fault::Write)) => Err(Mishap::Fault(Fault::Memory)),
         Err(mishap) => Err(mishap),
@@ -223,11 +208,14 @@ fn run_script<'a, R: Threads + Wait + Sync + AllocGlobal, S: Source, O: Output, 
     options: Options<'a>,
     config: Config,
     reader: &mut S,
-    ends: &mut Ends<'_, O, E, Wall<'_, D>>,
+    out: &mut O,
+    err: &mut E,
+    shelf: &D,
+    reason: &mut Page,
 ) -> Result<Status, Mishap<'a>> {
     let parts = threads(options);
     if !options.views.are_any() {
-        return Ok(run(rt, reader, ends.out, config, parts)?);
+        return Ok(run(rt, reader, out, config, parts)?);
     }
     let views = options.views;
     let setting = Setting {
@@ -235,7 +223,13 @@ fn run_script<'a, R: Threads + Wait + Sync + AllocGlobal, S: Source, O: Output, 
         parts,
         views,
     };
-    match follow(rt, setting, reader, ends) {
+    let wall = Wall {
+        shelf,
+        alloc: rt.alloc(),
+        last: options.svg,
+        each: options.svg_every,
+    };
+    match follow(rt, setting, reader, out, err, &wall, reason) {
         Ok(status) => Ok(status),
         Err(stop) => Err(mishap_of(options, stop)),
     }

@@ -34,7 +34,6 @@ mod Remaining
 mod Holding
 mod Entering
 mod Storing
-pub mod Spared
 mod AfterPlan
 mod Committing
 pub mod AimsCounted

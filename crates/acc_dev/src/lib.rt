@@ -10,5 +10,6 @@ mod index;
 mod lending;
 mod returning;
 
+pub use acc_base::DEVICE_BASE;
 pub use copying::SavedBlock;
 pub use devices::Device;

@@ -10,9 +10,6 @@ use std::alloc::Global;
 use std::sync::Wait;
 use std::thread::Threads;
 
-/// The device of a program: an OpenACC program finds as many as its machine has, and the first is there on each.
-pub const DEVICE: u64 = 0;
-
 /// How many events the second table may have: it makes more of them than the first.
 const EVENTS: u64 = 16_777_216;
 
@@ -51,9 +48,7 @@ fn twin_config(config: Config) -> Result<Config, Fault> {
     let regions = config.regions().saturating_add(1).min(65_536);
     let host = config.host();
     let most = config.counter_max();
-    Config::new(host, MEMORY_MAX, regions, EVENTS, most, 4_096, EVENTS)?.with_devices(
-        config.devices(),
-    )
+    Config::new(host, MEMORY_MAX, regions, EVENTS, most, 4_096, EVENTS)
 }
 
 /// Reads the line of a number on a table.
@@ -63,8 +58,7 @@ pub fn read_on<'a>(
     number: u64,
     line: &'a [u8],
 ) -> Result<Statement<'a>, Fault> {
-    let innermost = session.innermost();
-    match line_at(alloc, &session.arrays, session.device, innermost, line) {
+    match line_at(alloc, &session.arrays, session.table.newest_region(), line) {
         Ok(statement) => Ok(statement),
         Err(Trouble::Memory) => Err(Fault::Memory),
         Err(Trouble::Line(kind)) => Err(Fault::Script { line: number, kind }),
@@ -158,10 +152,8 @@ fn fill<R: Threads + Wait + Sync + AllocGlobal>(
         pointer: None,
     };
     let items = List::from_vec(vec![in rt.alloc(); item]?);
-    let device = DEVICE;
-    let enter = Directive::Enter { device, items };
-    twin.perform(rt, Statement::Direct(enter))?;
-    let Some(number) = twin.table.newest_region(device) else {
+    twin.perform(rt, Statement::Direct(Directive::Enter { items }))?;
+    let Some(number) = twin.table.newest_region() else {
         return Ok(());
     };
     flip_gaps(rt, twin, number, section)?;
@@ -180,7 +172,7 @@ fn flip_gaps<R: Threads + Wait + Sync + AllocGlobal>(
     let mut start = section.start;
     for _ in 0..section.len {
         let len = end.saturating_sub(start);
-        let next = twin.table.next_attached(DEVICE, Section { start, len });
+        let next = twin.table.next_attached(Section { start, len });
         let stop = next.map_or(end, |attached| attached.pointer);
         flip(rt, twin, region, start, stop)?;
         if next.is_none() {

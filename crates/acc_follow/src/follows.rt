@@ -282,7 +282,9 @@ impl Follower {
         line: &[u8],
         reason: &mut Page,
     ) -> Result<Effect, Fault> {
-        match self.read(rt, line) {
+        let innermost = self.session.table.newest_region();
+        let read = line_at(rt.alloc(), &self.session.arrays, innermost, line);
+        match read {
             Ok(statement) => {
                 self.note_array(rt, &statement)?;
                 let effect = self.session.perform(rt, statement)?;
@@ -294,12 +296,6 @@ impl Follower {
                 Err(fault_of(number, trouble))
             }
         }
-    }
-
-    /// Reads a line, for the current device and the innermost region.
-    fn read<'a, R: AllocGlobal>(&self, rt: &R, line: &'a [u8]) -> Result<Statement<'a>, Trouble> {
-        let Session { arrays, device, .. } = &self.session;
-        line_at(rt.alloc(), arrays, *device, self.session.innermost(), line)
     }
 
     /// Keeps the number of a line that entered a region, until it is exited.
@@ -361,8 +357,9 @@ impl Follower {
             return Ok(());
         };
         let table = &self.session.table;
+        let innermost = table.newest_region();
         let mut page = Page::new(rt.alloc());
-        match self.read(rt, line) {
+        match line_at(rt.alloc(), &self.session.arrays, innermost, line) {
             Ok(statement) => {
                 explain_refusal(&mut page, table, &self.names, number, &statement, fault)
             }

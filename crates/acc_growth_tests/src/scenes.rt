@@ -56,7 +56,6 @@ fn play_with<
         rt,
         runtime,
         caller,
-        device: 0,
     };
     play(&mut actor, scene)
 }

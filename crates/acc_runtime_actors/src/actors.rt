@@ -1,4 +1,4 @@
-//! Who makes calls in a scene: each names the one array, on one device at a time.
+//! Who makes calls in a scene: each names the one array.
 
 use crate::settings::ARRAY;
 use acc_base::{EnterClause, ExitClause, Fault, Item, RegionClause, Section, UpdateClause};
@@ -17,8 +17,6 @@ pub struct Actor<'a, Regions: Ledger, Tickets: Ledger, Events: Ledger, R> {
     pub runtime: &'a Runtime<Regions, Tickets, Events>,
     /// The caller that makes them.
     pub caller: Caller<Regions, Tickets, Events>,
-    /// The number of the device that its directives are for.
-    pub device: u64,
 }
 
 /// The items of a directive that names a section in one clause.
@@ -39,17 +37,12 @@ impl<Regions: Ledger, Tickets: Ledger, Events: Ledger, R: Wait + AllocGlobal> Ac
     Events,
     R,
 > {
-    /// Open regions, events, and whether the array is present on the device.
+    /// Open regions, events, and whether the array is present.
     pub fn state(&mut self) -> (u64, u64, bool) {
-        let device = self.device;
         self.runtime.look(
             self.rt,
             &mut self.caller,
-            |table: &Table| (
-                table.regions(),
-                table.events(),
-                table.is_present(device, ARRAY),
-            ),
+            |table: &Table| (table.regions(), table.events(), table.is_present(ARRAY)),
         )
     }
 
@@ -59,11 +52,10 @@ impl<Regions: Ledger, Tickets: Ledger, Events: Ledger, R: Wait + AllocGlobal> Ac
         (caller.allowance(), caller.tickets(), caller.made())
     }
 
-    /// Enters a region over the array on the device.
+    /// Enters a region over the array.
     pub fn enter(&mut self, clause: RegionClause) -> Result<Region, Fault> {
         let items = list(self.rt.alloc(), clause, ARRAY)?;
-        self.runtime
-            .enter(self.rt, &mut self.caller, self.device, items)
+        self.runtime.enter(self.rt, &mut self.caller, items)
     }
 
     /// Exits from a region, or answers it with what that was refused for.
@@ -82,11 +74,11 @@ impl<Regions: Ledger, Tickets: Ledger, Events: Ledger, R: Wait + AllocGlobal> Ac
         }
     }
 
-    /// Maps the array on the device.
+    /// Maps the array.
     pub fn enter_data(&mut self) -> Result<(), Fault> {
         let items = list(self.rt.alloc(), EnterClause::Copyin, ARRAY)?;
         self.runtime
-            .enter_data(self.rt, &mut self.caller, self.device, items, None)
+            .enter_data(self.rt, &mut self.caller, items, None)
     }
 
     /// Lets the array go.
@@ -97,9 +89,8 @@ impl<Regions: Ledger, Tickets: Ledger, Events: Ledger, R: Wait + AllocGlobal> Ac
         queue: Option<u64>,
     ) -> Result<(), Fault> {
         let items = list(self.rt.alloc(), clause, ARRAY)?;
-        let device = self.device;
         self.runtime
-            .exit_data(self.rt, &mut self.caller, device, items, finalize, queue)
+            .exit_data(self.rt, &mut self.caller, items, finalize, queue)
     }
 
     /// Copies the array.
@@ -110,20 +101,18 @@ impl<Regions: Ledger, Tickets: Ledger, Events: Ledger, R: Wait + AllocGlobal> Ac
         queue: Option<u64>,
     ) -> Result<(), Fault> {
         let items = list(self.rt.alloc(), clause, ARRAY)?;
-        let device = self.device;
-        self.runtime.update(self.rt, &mut self.caller, device, items, if_present, queue)
+        self.runtime
+            .update(self.rt, &mut self.caller, items, if_present, queue)
     }
 
-    /// Waits for a queue of the device, or for all.
+    /// Waits for a queue, or for all.
     pub fn wait(&mut self, queue: Option<u64>) -> Result<u64, Fault> {
-        self.runtime
-            .wait(self.rt, &mut self.caller, self.device, queue)
+        self.runtime.wait(self.rt, &mut self.caller, queue)
     }
 
-    /// Makes one transfer of a queue of the device.
+    /// Makes one transfer of a queue.
     pub fn step(&mut self, queue: u64) -> Result<bool, Fault> {
-        self.runtime
-            .step(self.rt, &mut self.caller, self.device, queue)
+        self.runtime.step(self.rt, &mut self.caller, queue)
     }
 
     /// Writes a byte into each place of the array.

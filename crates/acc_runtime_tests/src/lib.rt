@@ -5,8 +5,6 @@
 #[cfg(test)]
 mod calls;
 #[cfg(test)]
-mod devices;
-#[cfg(test)]
 mod eight;
 #[cfg(test)]
 mod example;

@@ -14,5 +14,4 @@ pub mod LeftToWrite
 pub mod AttachedPointers
 pub mod RisingBlocks
 pub mod WaitingQueues
-pub mod NumberedDevices
 pub mod Encoded

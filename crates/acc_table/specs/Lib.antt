@@ -1,4 +1,3 @@
-pub mod Devices
 pub mod Kept
 pub mod Calls
 pub mod Counts

@@ -31,7 +31,6 @@ const LIMITS: Limits = Limits {
     counter_max: TURNS,
     trace_cap: TURNS,
     full: true,
-    devices: 1,
 };
 
 /// A second array, behind the first one.
@@ -164,14 +163,14 @@ fn compare(rt: &impl Abort, table: &Table, replay: &Replay) {
     let host = Some(replay.host.as_slice());
     same(rt, "host memory", table.host_read(whole), host);
     for from in [A, B, C] {
-        if let Some(mapped) = table.mapped(0, from)
+        if let Some(mapped) = table.mapped(from)
             && !mapped.lent
         {
             let section = Section {
                 start: mapped.start,
                 len: mapped.len,
             };
-            let found = table.device_read(0, section);
+            let found = table.device_read(section);
             same(rt, "a block", found, replay.block_from(mapped.start));
         }
     }
@@ -185,12 +184,12 @@ fn take_one(
     leases: &mut Vec<Lease>,
     choice: usize,
 ) -> Result<(), Fault> {
-    let region = table.newest_region(0).unwrap_or(0);
+    let region = table.newest_region().unwrap_or(0);
     let ask = match ASKS.get(choice) {
         Some(ask) => *ask,
         None => ask_of(choice.saturating_sub(ASKS.len()), region, leases.last()),
     };
-    take(table, rt.alloc(), 0, ask, leases)?;
+    take(table, rt.alloc(), ask, leases)?;
     life.listen(rt.alloc(), table)?;
     compare(rt, table, &life.replay);
     if table.trace().len() >= FOLDED {

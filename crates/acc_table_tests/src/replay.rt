@@ -31,7 +31,7 @@ struct Loan {
     at: usize,
 }
 
-/// Both memories, as events told one after the other give them. No event of the replay attaches a pointer, and all are on one device.
+/// Both memories, as events told one after the other give them. No event of the replay attaches a pointer.
 #[derive(Drop)]
 pub struct Replay {
     /// The bytes of host memory.
@@ -347,19 +347,13 @@ impl Replay {
     /// Does what an event tells.
     pub fn tell(&mut self, alloc: Global, event: &Event) -> Result<(), AllocError> {
         match event {
-            Event::Entered {
-                number,
-                items,
-                did,
-                ..
-            } => self.enter_region(alloc, *number, items.as_slice(), did.as_slice()),
-            Event::Left { number, did, .. } => self.leave_region(*number, did.as_slice()),
-            Event::EnteredData {
-                items,
-                queue,
-                did,
-                ..
-            } => self.enter_data(alloc, items.as_slice(), *queue, did.as_slice()),
+            Event::Entered { number, items, did } => {
+                self.enter_region(alloc, *number, items.as_slice(), did.as_slice())
+            }
+            Event::Left { number, did } => self.leave_region(*number, did.as_slice()),
+            Event::EnteredData { items, queue, did } => {
+                self.enter_data(alloc, items.as_slice(), *queue, did.as_slice())
+            }
             Event::ExitedData {
                 items,
                 queue,

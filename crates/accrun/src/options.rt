@@ -8,9 +8,6 @@ use std::alloc::{AllocError, Global};
 /// finds no value.
 const DEFAULT_SIZE: u64 = 65_536;
 
-/// The default of `--devices`, as `DEFAULT_SIZE` is that of sizes.
-const DEFAULT_DEVICES: u64 = 1;
-
 /// The default of `--threads`, as `DEFAULT_SIZE` is that of sizes.
 const DEFAULT_THREADS: u64 = 1;
 
@@ -39,10 +36,8 @@ pub struct Options<'a> {
     pub svg_every: Option<&'a str>,
     /// The size of host memory in bytes.
     pub host: u64,
-    /// The size of each device's memory in bytes.
+    /// The size of device memory in bytes.
     pub device: u64,
-    /// How many devices there are.
-    pub devices: u64,
     /// Whether the trace keeps bytes too.
     pub full: bool,
     /// In how many threads each kernel works at most, or a drill.
@@ -60,17 +55,6 @@ fn size_option<'a>(alloc: Global, name: &'a str, help: &'a str) -> Arg<'a> {
         .action(ArgAction::Set)
         .value_parser(value_parser!(u64).range(16..=67_108_864))
         .default_value("65536")
-}
-
-/// The option of how many devices there are.
-fn devices_option<'a>(alloc: Global) -> Arg<'a> {
-    Arg::new(alloc, "devices")
-        .long("devices")
-        .value_name("N")
-        .help("How many devices there are")
-        .action(ArgAction::Set)
-        .value_parser(value_parser!(u64).range(1..=4))
-        .default_value("1")
 }
 
 /// The option of how many threads each kernel works in.
@@ -183,7 +167,7 @@ pub fn parsed_options<'a>(alloc: Global, words: &'a [String]) -> Result<Options<
 /// The command, without its options.
 fn bare<'a>(alloc: Global) -> Command<'a> {
     Command::new(alloc, "accrun")
-        .about("Runs a script of OpenACC data directives on simulated devices")
+        .about("Runs a script of OpenACC data directives on a simulated device")
         .version(VERSION)
         .override_usage(USAGE)
         .after_help(AFTER_HELP)
@@ -194,8 +178,7 @@ fn with_limits<'a>(alloc: Global, command: Command<'a>) -> Result<Command<'a>, E
     Ok(
         command
             .arg(size_option(alloc, "host", "Size of host memory"))?
-            .arg(size_option(alloc, "device", "Size of each device's memory"))?
-            .arg(devices_option(alloc))?
+            .arg(size_option(alloc, "device", "Size of device memory"))?
             .arg(threads_option(alloc))?
             .arg(drill_option(alloc))?
             .arg(trace_option(alloc))?,
@@ -246,7 +229,6 @@ fn options_of<'a>(matches: &ArgMatches<'a>) -> Options<'a> {
         svg_every: matches.get_str("svg-every"),
         host: matches.get_one::<u64>("host").unwrap_or(DEFAULT_SIZE),
         device: matches.get_one::<u64>("device").unwrap_or(DEFAULT_SIZE),
-        devices: matches.get_one::<u64>("devices").unwrap_or(DEFAULT_DEVICES),
         threads: matches.get_one::<u64>("threads").unwrap_or(DEFAULT_THREADS),
         drill: matches.get_one::<u64>("drill"),
         full: matches.get_str("trace") == Some("full"),
@@ -258,21 +240,20 @@ const USAGE: &str = "accrun [OPTIONS] [FILE]";
 
 /// What the help says after the options: the statements, an example, the status.
 const AFTER_HELP: &str = "\
-A size is from 16 to 67108864 bytes, a multiple of 16. There are 1 to 4 devices,
-numbered from 0. A kernel works in 1 to 64 threads, and the output of a script
-does not depend on that. WHAT is counts or full: of each event the trace keeps
-what it did to counters and, where it is full, its bytes; the output does not
-depend on it. ROUNDS is from 1 to 1000: how often each thread enters and exits a
-region over one array on device 0. Then no script is read, and one line tells
-what is left: the allowance of regions, the number of events, and both counters
-of the array.
+A size is from 16 to 67108864 bytes, a multiple of 16. N is from 1 to 64, and
+the output of a script does not depend on it. WHAT is counts or full: of each
+event the trace keeps what it did to counters and, where it is full, its bytes;
+the output does not depend on it. ROUNDS is from 1 to 1000: how often each of
+the N threads enters and exits a region over one array. Then no script is read,
+and one line tells what is left: the allowance of regions, the number of events,
+and both counters of the array.
 
 The script is FILE, or comes on standard input. It is read whole before its
 first line runs. With --echo each statement stands behind '> ' before what it
 prints. With --json the report is one object on one line. With --expect the
 output is not written: it is compared with OUTPUT, and the first line that
 differs is told on standard error. Then the status is 1, and 0 where none
-differs, whatever was refused. --svg draws the memories at the end of the
+differs, whatever was refused. --svg draws the two memories at the end of the
 script, as a file that a browser opens; --svg-every draws them behind each
 directive and each kernel, with the number of the line in the file's name:
 life.7.svg for life.svg.
@@ -314,7 +295,6 @@ Statements, one to a line, with comments after '#':
   update device(REFS)      copy its bytes from host memory to the device
   wait, wait(QUEUE)        make all copies that wait in the queues, or in one
   step(QUEUE)              make the next copy of a queue, or print idle
-  set device_num(N)        later lines are for device N; the first is for 0
   kernel add K REF         in the innermost open region, add K to each of its
                            bytes on the device
   kernel xor K REF         flip the bits of K in each of these
@@ -325,10 +305,10 @@ Statements, one to a line, with comments after '#':
   peek REF                 its bytes on the device, or none
   present REF              whether all of it lies in one mapped range: yes or no
   address PLACE            its device address, or none
-  report                   the sizes; of each device the mapped ranges with
-                           their counters, the attached pointers, the blocks
-                           that only queued copies keep, and the queues that are
-                           not empty; the numbers of open regions and of events
+  report                   the sizes, the mapped ranges with their counters, the
+                           attached pointers, the blocks that only queued copies
+                           keep, the queues that are not empty, the numbers of
+                           open regions and of events
 NAME is a lower-case letter, then lower-case letters, digits and '_', 32 at
 most. REF is NAME, or NAME[OFFSET:LENGTH], in bytes from the start of the array.
 REFS is one REF or more, separated by commas. PLACE is NAME[OFFSET], and PLACES
@@ -344,10 +324,6 @@ not over what is partly mapped. With the option async(QUEUE), or async for queue
 block of the device stays while a copy of it waits. A QUEUE is from 0 to 15, and
 256 copies may wait in it. A region that is open at the end of the script is a
 fault.
-
-Each device has a memory, mapped ranges, counters and queues of its own. Lines
-are for the device that was set last, but end data and kernel for that of the
-innermost open region.
 
 A kernel's REF lies in one mapped range, whose block is lent to the kernel and
 brought back. K is from 0 to 255, and sums are modulo 256. Where the loan is

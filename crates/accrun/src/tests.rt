@@ -6,9 +6,7 @@ use crate::words::{WordsFault, read_words};
 use acc_base::Fault;
 use acc_script::{MemorySink, MemorySource};
 use programs::{NO_PROGRAMS, PROGRAMS, ProgramRow};
-use rows::{
-    COPIES, DEVICES, DRILLS, FAULTS, KERNELS, LIVES, LOGS, QUEUES, REASONS, REFUSALS, Row, VIEWS,
-};
+use rows::{COPIES, DRILLS, FAULTS, KERNELS, LIVES, LOGS, QUEUES, REASONS, REFUSALS, Row, VIEWS};
 use std::alloc::{AllocError, Global};
 use std::cell::Cell;
 use std::env::{Env, FillError};
@@ -170,7 +168,6 @@ fn scripts_print_and_end_as_they_should(rt: HostRuntime) -> Result<(), Fail> {
     check_rows(&rt, &COPIES)?;
     check_rows(&rt, &QUEUES)?;
     check_rows(&rt, &KERNELS)?;
-    check_rows(&rt, &DEVICES)?;
     check_rows(&rt, &DRILLS)?;
     check_rows(&rt, &REFUSALS)?;
     check_rows(&rt, &FAULTS)?;
@@ -248,11 +245,10 @@ fn a_line_that_is_too_long_is_told(rt: HostRuntime) -> Result<(), Fail> {
 
 /// Command lines with an empty script, their status, and what has to stand in the text on standard output and on
 /// standard error; where it is empty there is no text.
-const COMMAND_LINES: [(&str, u8, &str, &str); 38] = [
+const COMMAND_LINES: [(&str, u8, &str, &str); 35] = [
     ("--host 16 --device 67108864", 0, "", ""),
     ("--threads 1 --trace counts", 0, "", ""),
     ("--threads 64", 0, "", ""),
-    ("--devices 4", 0, "", ""),
     ("--help", 0, "Usage: accrun [OPTIONS] [FILE]", ""),
     ("--version", 0, "accrun 0.1.0 (OpenACC 3.3)\n", ""),
     (
@@ -269,13 +265,6 @@ const COMMAND_LINES: [(&str, u8, &str, &str); 38] = [
     ),
     ("--device 99999999999", 2, "", "is not in 16..=67108864"),
     ("--host many", 2, "", "'many' for '--host <BYTES>'"),
-    (
-        "--devices 0",
-        2,
-        "",
-        "'0' for '--devices <N>': 0 is not in 1..=4",
-    ),
-    ("--devices 5", 2, "", "'5' for '--devices <N>'"),
     (
         "--threads 0",
         2,
@@ -368,7 +357,7 @@ fn command_lines_are_read(rt: HostRuntime) -> Result<(), Fail> {
 }
 
 /// What the help has to name.
-const HELP_WORDS: [&str; 51] = [
+const HELP_WORDS: [&str; 49] = [
     "[FILE]",
     "--expect <OUTPUT>",
     "--echo",
@@ -380,7 +369,6 @@ const HELP_WORDS: [&str; 51] = [
     "--version",
     "--emit <LANGUAGE>",
     "--until-refusal",
-    "--devices <N>",
     "--threads <N>",
     "--drill <ROUNDS>",
     "--trace <WHAT>",
@@ -408,7 +396,6 @@ const HELP_WORDS: [&str; 51] = [
     "update device(REFS)",
     "wait, wait(QUEUE)",
     "step(QUEUE)",
-    "set device_num(N)",
     "async(QUEUE)",
     "kernel add K REF",
     "kernel xor K REF",

@@ -258,8 +258,8 @@ fn drill_threads<R: Threads + Wait + Sync + AllocGlobal, O: Sink>(
     Ok(Status::Clean)
 }
 
-/// The program's limits, with the sizes, the number of devices and the kind of trace of the command line.
-fn limits(options: Options) -> Result<Config, Fault> {
+/// The program's limits, with the sizes and the kind of trace of the command line.
+fn limits(options: Options<'_>) -> Result<Config, Fault> {
     let config = Config::new(
         options.host,
         options.device,
@@ -268,8 +268,7 @@ fn limits(options: Options) -> Result<Config, Fault> {
         COUNTER_MAX,
         QUEUE_CAP,
         TRACE_CAP,
-    )?
-    .with_devices(options.devices)?;
+    )?;
     Ok(if options.full {
         config.with_full_trace()
     } else {

@@ -100,7 +100,7 @@ impl Environment {
         ensures { IsDirected self.old (enter_of items.now) (λ r. result ≡ r) self.new }
     {
         let items = items_of(alloc, items)?;
-        self.direct(Directive::Enter { device: 0, items })
+        self.direct(Directive::Enter { items })
     }
 
     /// Carries out `enter data` with the items of an array.
@@ -113,12 +113,8 @@ impl Environment {
         ensures { IsDirected self.old (enter_data_of items.now queue) (λ r. result ≡ r) self.new }
     {
         let items = items_of(alloc, items)?;
-        let (device, queue) = (0, queue_of(queue));
-        self.direct(Directive::EnterData {
-            device,
-            items,
-            queue,
-        })
+        let queue = queue_of(queue);
+        self.direct(Directive::EnterData { items, queue })
     }
 
     /// Carries out `exit data` with the items of an array.
@@ -134,7 +130,6 @@ impl Environment {
         let items = items_of(alloc, items)?;
         let queue = queue_of(queue);
         self.direct(Directive::ExitData {
-            device: 0,
             items,
             finalize,
             queue,
@@ -154,7 +149,6 @@ impl Environment {
         let items = items_of(alloc, items)?;
         let queue = queue_of(queue);
         self.direct(Directive::Update {
-            device: 0,
             items,
             if_present,
             queue,

@@ -7,6 +7,5 @@ mod blocks;
 pub mod effects;
 mod pointers;
 mod queues;
-mod ranges;
 mod refusals;
 pub mod reports;

@@ -19,21 +19,7 @@ const LIFE: &str =
     data copy(s) attach(s[8])\nexit data delete(t) async(3)\nexit data copyout(t[0:20]) async(3)\nend data\n";
 
 /// What is drawn, and when.
-const ROWS: [Row; 13] = [
-    (
-        "--svg life.svg --devices 2",
-        "array a 16\nset device_num(1)\nenter data copyin(a)\n",
-        0,
-        &[
-            "Device 0. At the end of the script<",
-            "device bytes used 0, open regions 0, events 1<",
-            "<g transform=\"translate(0 247)\">",
-            "Device 1. At the end of the script<",
-            "device bytes used 16, open regions 0, events 1<",
-            ">0x200000000</text>",
-        ],
-        1,
-    ),
+const ROWS: [Row; 12] = [
     ("--svg life.svg", LIFE, 1, &["At the end of the script"], 1),
     ("--svg life.svg", LIFE, 1, &["life.svg", "</svg>\n"], 1),
     (

@@ -193,14 +193,7 @@ pub const PROGRAMS: [ProgramRow; 4] = [
 ];
 
 /// Scripts that cannot be emitted, and those that have a fault: nothing is written.
-pub const NO_PROGRAMS: [Row; 13] = [
-    (
-        "--emit c --devices 2",
-        "set device_num(0)\nset device_num(1)\n",
-        "",
-        "accrun: line 2 cannot be emitted: a program has device 0 alone\n",
-        2,
-    ),
+pub const NO_PROGRAMS: [Row; 12] = [
     (
         "--emit c",
         "array a 4\nwait\nupdate self(a)\n",

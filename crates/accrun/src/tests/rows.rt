@@ -201,63 +201,6 @@ pub const KERNELS: [Row; 5] = [
     ),
 ];
 
-/// Lines for several devices, and what the report says of each.
-pub const DEVICES: [Row; 5] = [
-    (
-        "--devices 2",
-        "array a 16\nenter data copyin(a)\nset device_num(1)\naddress a[0]\nenter data copyin(a)\nenter data copyin(a)\n\
-            address a[0]\nset device_num(2)\nreport\n",
-        "none\n0x200000000\nline 8: refused 22 NoDevice device 2\nhost 65536 device 65536 devices 2\n\
-            device 0 used 16\nmap 0x1000 16 at 0x100000000 structured 0 dynamic 1\n\
-            device 1 used 16\nmap 0x1000 16 at 0x200000000 structured 0 dynamic 2\nregions 0 events 3\n",
-        "",
-        1,
-    ),
-    // The end of a region and a kernel are for the device of the innermost region, whichever device was set last.
-    (
-        "--devices 2",
-        "array a 4\nwrite a[0] 01020304\ndata copy(a)\nset device_num(1)\ndata copyin(a)\nkernel add 1 a\npeek a\n\
-            set device_num(0)\npeek a\nend data\nshow a\nkernel add 2 a\nend data\nshow a\nreport\n",
-        "02030405\n01020304\n01020304\n03040506\nhost 65536 device 65536 devices 2\ndevice 0 used 0\ndevice 1 used 0\n\
-            regions 0 events 9\n",
-        "",
-        0,
-    ),
-    // Each device has queues of its own, and a wait is for one device.
-    (
-        "--devices 2",
-        "array a 2\nwrite a[0] 0102\nenter data copyin(a)\nupdate self(a) async(1)\nset device_num(1)\n\
-            enter data create(a)\nupdate self(a) async(1)\nwrite a[0] 0304\nwait\nshow a\nreport\n\
-            set device_num(0)\nstep(1)\nshow a\n",
-        "a5a5\nhost 65536 device 65536 devices 2\n\
-            device 0 used 16\nmap 0x1000 2 at 0x100000000 structured 0 dynamic 1\nqueue 1 length 1\n\
-            device 1 used 16\nmap 0x1000 2 at 0x200000000 structured 0 dynamic 1\nregions 0 events 7\n0102\n",
-        "",
-        0,
-    ),
-    // A pointer is attached on each device, to the block there.
-    (
-        "--devices 2",
-        "array p 8\narray x 4\npoint p[0] to x[0]\ndata copyin(p, x via p[0])\nset device_num(1)\n\
-            enter data copyin(x, p)\nenter data attach(p[0])\npeek p\nset device_num(0)\npeek p\nreport\nend data\n",
-        "0000000002000000\n1000000001000000\nhost 65536 device 65536 devices 2\n\
-            device 0 used 32\nmap 0x1000 8 at 0x100000000 structured 1 dynamic 0\npointer 0x1000 count 1\n\
-            map 0x1010 4 at 0x100000010 structured 1 dynamic 0\n\
-            device 1 used 32\nmap 0x1000 8 at 0x200000010 structured 0 dynamic 1\npointer 0x1000 count 1\n\
-            map 0x1010 4 at 0x200000000 structured 0 dynamic 1\nregions 1 events 4\n",
-        "",
-        0,
-    ),
-    // One device alone can be set too, and the report does not number it.
-    (
-        "",
-        "set device_num(0)\nset device_num(1)\nreport\n",
-        "line 2: refused 22 NoDevice device 1\nhost 65536 device 65536 used 0\nregions 0 events 0\n",
-        "",
-        1,
-    ),
-];
-
 /// Drills, which read no script.
 pub const DRILLS: [Row; 2] = [
     (
@@ -407,18 +350,7 @@ pub const FAULTS: [Row; 17] = [
 ];
 
 /// Scripts of files, outputs that are compared, echoes, and reports as objects of JSON.
-pub const VIEWS: [Row; 13] = [
-    (
-        "--json --devices 2",
-        "array a 16\nset device_num(1)\nenter data copyin(a)\nreport\n",
-        "{\"host\":65536,\"device\":65536,\"devices\":[\
-            {\"used\":0,\"ranges\":[],\"ended\":[],\"queues\":[]},\
-            {\"used\":16,\"ranges\":[{\"start\":4096,\"length\":16,\"place\":8589934592,\"structured\":0,\
-            \"dynamic\":1,\"lent\":false,\"pointers\":[]}],\"ended\":[],\"queues\":[]}\
-            ],\"regions\":0,\"events\":1}\n",
-        "",
-        0,
-    ),
+pub const VIEWS: [Row; 12] = [
     (
         "life.acc",
         "",
@@ -507,33 +439,7 @@ pub const VIEWS: [Row; 13] = [
 ];
 
 /// Logs: what each call did, on standard error.
-pub const LOGS: [Row; 5] = [
-    (
-        "--log --devices 2",
-        "array a 16\nenter data create(a)\nset device_num(1)\nenter data create(a)\nupdate device(a) async(1)\n\
-            set device_num(0)\nwait\ndata present(a)\nset device_num(1)\nkernel add 1 a\nend data\nwait(1)\n",
-        "",
-        "lamwiest: line 2: enter data create(a)\nlamwiest:   device 0\n\
-            lamwiest:   item 0: mapped 0x1000 16 at 0x100000000 structured 0 dynamic 1 name a\n\
-            lamwiest: line 4: enter data create(a)\nlamwiest:   device 1\n\
-            lamwiest:   item 0: mapped 0x1000 16 at 0x200000000 structured 0 dynamic 1 name a\n\
-            lamwiest: line 5: update device(a) async(1)\nlamwiest:   device 1\n\
-            lamwiest:   item 0: put in 0x1000 16 at 0x200000000 queue 1 name a\n\
-            lamwiest: line 7: wait\nlamwiest:   device 0\nlamwiest:   idle\n\
-            lamwiest: line 8: data present(a)\nlamwiest:   device 0\n\
-            lamwiest:   item 0: counted 0x1000 16 at 0x100000000 structured 1 dynamic 1 name a\n\
-            lamwiest:   entered region 1\n\
-            lamwiest: line 10: kernel add 1 a\nlamwiest:   device 0\n\
-            lamwiest:   lent 0x1000 16 at 0x100000000 serial 1 name a\n\
-            lamwiest:   gathered 0x1000 16 at 0x100000000 serial 1 name a\n\
-            lamwiest: line 11: end data\nlamwiest:   device 0\n\
-            lamwiest:   item 0: dropped 0x1000 16 at 0x100000000 structured 0 dynamic 1 name a\n\
-            lamwiest:   exited region 1\n\
-            lamwiest: line 12: wait(1)\nlamwiest:   device 1\n\
-            lamwiest:   copied in 0x1000 16 at 0x200000000 queue 1 name a\n\
-            lamwiest: total mapped 2 ended 0 copied in 1 bytes 16 copied out 0 bytes 0 waiting 0 refused 0\n",
-        0,
-    ),
+pub const LOGS: [Row; 4] = [
     (
         "--log",
         "array a 16\nwrite a[0] 0102\nenter data copyin(a)\ndata copy(a[0:4]) create(a[4:4])\n\
@@ -629,22 +535,7 @@ pub const LOGS: [Row; 5] = [
 ];
 
 /// Why lines are at fault or refused, on standard error.
-pub const REASONS: [Row; 20] = [
-    (
-        "--explain --devices 2",
-        "array a 16\nenter data copyin(a)\nset device_num(1)\nupdate self(a)\nset device_num(2)\n",
-        "line 4: refused 11 NotPresent item 0\nline 5: refused 22 NoDevice device 2\n",
-        "accrun: line 4 is refused\n    = item 0 is a, 16 bytes from 0x1000 (a[0]) on\n    = before the line no mapped range has any of these bytes on device 1\n    = it has to be mapped here\n\
-            accrun: line 5 is refused\n    = there is no device 2; they are 0 to 1\n",
-        1,
-    ),
-    (
-        "--explain",
-        "set device_num(1)\n",
-        "line 1: refused 22 NoDevice device 1\n",
-        "accrun: line 1 is refused\n    = there is no device 1; there is 0 alone: --devices N makes more of them\n",
-        1,
-    ),
+pub const REASONS: [Row; 18] = [
     (
         "--explain",
         "array a[16]\n",
@@ -670,7 +561,7 @@ pub const REASONS: [Row; 20] = [
         "--explain",
         "array a 4\nacc_copyin(a)\n",
         "",
-        "accrun: line 2: Syntax\n  2 | acc_copyin(a)\n    | ^ found 'acc_copyin', wanted 'array', 'write', 'point', 'data', 'end', 'enter', 'exit', 'update', 'wait', 'step', 'set', 'kernel', 'show', 'peek', 'present', 'address', 'report' or the end of the line\n    = a script has directives: enter data copyin(REF)\n",
+        "accrun: line 2: Syntax\n  2 | acc_copyin(a)\n    | ^ found 'acc_copyin', wanted 'array', 'write', 'point', 'data', 'end', 'enter', 'exit', 'update', 'wait', 'step', 'kernel', 'show', 'peek', 'present', 'address', 'report' or the end of the line\n    = a script has directives: enter data copyin(REF)\n",
         2,
     ),
     (

@@ -49,6 +49,7 @@ enum {
     LW_QUEUE_FULL = 15,    /* a queue has no room for one more transfer; value: its number */
     LW_NO_REGION = 16,     /* no data region of that number is open; value: the number */
     LW_NO_LEASE = 17,      /* no lease of that number is out: there was none, or it was spent; value: the number */
+    LW_NO_DEVICE = 22,     /* there is no such device; value: its number. No call here names one, so none answers it */
     LW_ENDED = 32,         /* the handle has no table: none was made, or it was ended */
     LW_BAD_CLAUSE = 33,    /* the clause number of an item is none of the directive's; item */
     LW_BAD_LENGTH = 34,    /* a buffer is too short, or not as long as a lease; value: the length that is wanted */
@@ -72,7 +73,7 @@ typedef struct lw_table {
 /* A handle that has no table. */
 #define LW_NO_TABLE {0}
 
-/* Where host memory begins, and where device memory begins. */
+/* Where host memory begins, and where the memory of the one device of a table begins. */
 #define LW_HOST_BASE UINT64_C(0x1000)
 #define LW_DEVICE_BASE UINT64_C(0x100000000)
 

@@ -11,7 +11,7 @@ use Rattle.acc_base.specs.declared.calls.Call.TheVariants.{Do, HostWrite, Lend, 
 use Rattle.acc_base.specs.declared.attachments.Aim.TheVariants as aims
 use Rattle.acc_base.specs.declared.events.Step.TheVariants.{Nothing, Counted, Born, Dropped}
 use Rattle.acc_base.specs.declared.events.Event.TheVariants as events
-use Rattle.acc_base.specs.declared.faults.Fault.TheVariants.{NoTickets, NoAllowance, TooManyItems, TraceFull, OutOfHost, Misaligned, PartlyPresent, NotPresent, CounterFull, Lent, DeviceFull, QueueFull, NoRegion, NoLease}
+use Rattle.acc_base.specs.declared.faults.Fault.TheVariants.{NoTickets, NoAllowance, TooManyItems, TraceFull, OutOfHost, Misaligned, PartlyPresent, NotPresent, CounterFull, Lent, DeviceFull, QueueFull, NoRegion, NoLease, NoQueue, NoDevice}
 use Rattle.acc_base.specs.Loans.{Leased}
 use Rattle.acc_base.specs.Limits.{Limits}
 use Rattle.acc_base.specs.Queues.{new_queues, queue_at}
@@ -19,6 +19,8 @@ use Rattle.acc_base.specs.Records.{Memory}
 use Rattle.acc_base.specs.Judge.{leased}
 use Rattle.acc_base.specs.Steps.{did_of}
 use Rattle.acc_base.specs.Waits.{ended_from}
+use Rattle.acc_base.specs.Devices.{view, events_on}
+use Rattle.acc_base.specs.Accounts.{past_on}
 use Rattle.acc_base.specs.History.{entries_in, exits_in, dynamic_in, attached_in}
 use Rattle.acc_base.proofs.Runs.{ran_with}
 
@@ -26,7 +28,7 @@ use Rattle.acc_base.proofs.Runs.{ran_with}
 
 -- 64 bytes on either side, and a queue has room for two transfers
 abbrev limits : Limits
-limits = record { host = 64; device = 64; regions = 3; tickets = 100; counter_max = 64; queue_cap = 2; trace_cap = 100; full = false }
+limits = record { host = 64; device_base = 4294967296; device = 64; regions = 3; tickets = 100; counter_max = 64; queue_cap = 2; trace_cap = 100; full = false; devices = 1 }
 
 -- the same, but that nothing is counted more than twice
 abbrev twice_at_most : Limits
@@ -71,7 +73,7 @@ point_to low = HostWrite 0x1008 (as_host low)
 
 -- a lease comes back: serial number, block, place and length of the section, and the bytes of the block
 abbrev gather : ℕ → ℕ → ℕ → ℕ → List ℕ → Call Leased
-gather serial block offset len bytes = Gather (record { serial = serial; block = block; offset = offset; len = len; bytes = bytes })
+gather serial block offset len bytes = Gather (record { device = 0; serial = serial; block = block; offset = offset; len = len; bytes = bytes })
 
 abbrev loan : ℕ → ℕ → ℕ → ℕ → Loan
 loan serial block offset len = record { serial = serial; block = block; offset = offset; len = len }
@@ -93,40 +95,40 @@ fine n = replicate n None
 
 -- a data region is entered, and left; `enter data`, `exit data` and `update`, and the same with `async`
 abbrev enter_of : List (Item RegionClause) → Call Leased
-enter_of items = Do (Enter items)
+enter_of items = Do (Enter 0 items)
 
 abbrev exit_of : ℕ → Call Leased
 exit_of number = Do (Exit number)
 
 abbrev enter_data_of : List (Item EnterClause) → Call Leased
-enter_data_of items = Do (EnterData items None)
+enter_data_of items = Do (EnterData 0 items None)
 
 abbrev exit_data_of : List (Item ExitClause) → Call Leased
-exit_data_of items = Do (ExitData items false None)
+exit_data_of items = Do (ExitData 0 items false None)
 
 abbrev finalize_of : List (Item ExitClause) → Call Leased
-finalize_of items = Do (ExitData items true None)
+finalize_of items = Do (ExitData 0 items true None)
 
 abbrev update_of : List (Item UpdateClause) → Call Leased
-update_of items = Do (Update items false None)
+update_of items = Do (Update 0 items false None)
 
 abbrev enter_later : ℕ → List (Item EnterClause) → Call Leased
-enter_later q items = Do (EnterData items (Some q))
+enter_later q items = Do (EnterData 0 items (Some q))
 
 abbrev exit_later : ℕ → List (Item ExitClause) → Call Leased
-exit_later q items = Do (ExitData items false (Some q))
+exit_later q items = Do (ExitData 0 items false (Some q))
 
 abbrev update_later : ℕ → List (Item UpdateClause) → Call Leased
-update_later q items = Do (Update items false (Some q))
+update_later q items = Do (Update 0 items false (Some q))
 
 -- ---- the life of an array: where the mapping ends, its section alone is copied out, and the whole mapping is gone
 
 abbrev array_life : List (Call Leased)
 array_life = HostWrite 0x1000 (1 ∷ 2 ∷ 3 ∷ 4 ∷ []) ∷ enter_data_of (item enter.Copyin a ∷ []) ∷ HostWrite 0x1000 (5 ∷ 6 ∷ 7 ∷ 8 ∷ []) ∷ exit_data_of (item exit.Copyout (at 0x1001 2) ∷ []) ∷ []
 
-array_life_leaves : (ran_with limits array_life).world.state.host ≡ 5 ∷ 2 ∷ 3 ∷ 8 ∷ replicate 60 0
-    × (ran_with limits array_life).world.state.records ≡ record { ranges = []; blocks = []; attached = []; births = 1; queues = new_queues; loans = [] }
-    × (ran_with limits array_life).world.state.memories ≡ []
+array_life_leaves : (view 0 (ran_with limits array_life).world.state).host ≡ 5 ∷ 2 ∷ 3 ∷ 8 ∷ replicate 60 0
+    × (view 0 (ran_with limits array_life).world.state).records ≡ record { ranges = []; blocks = []; attached = []; births = 1; queues = new_queues; loans = [] }
+    × (view 0 (ran_with limits array_life).world.state).memories ≡ []
 unfolding ran_with
 array_life_leaves = (refl, refl, refl)
 
@@ -137,11 +139,11 @@ counting_calls = enter_data_of (item enter.Copyin a ∷ item enter.Copyin a ∷ 
 abbrev finalized : List (Call Leased)
 finalized = counting_calls ++ finalize_of (item exit.Delete a ∷ item exit.Delete a ∷ []) ∷ []
 
-finalized_leaves : dynamic_in 1 (ran_with limits counting_calls).world.history ≡ 3
-    × dynamic_in 1 (ran_with limits finalized).world.history ≡ 0
+finalized_leaves : dynamic_in 1 (past_on 0 (ran_with limits counting_calls).world.history) ≡ 3
+    × dynamic_in 1 (past_on 0 (ran_with limits finalized).world.history) ≡ 0
     × (ran_with limits finalized).world.history.trace
-    ≡ events.EnteredData (item enter.Copyin a ∷ item enter.Copyin a ∷ item (enter.Create true) (at 0x1004 4) ∷ []) None (did_of (Born 1 0x1_0000_0000) ∷ did_of (Counted 1) ∷ did_of (Counted 1) ∷ [])
-    ∷ events.ExitedData (item exit.Delete a ∷ item exit.Delete a ∷ []) true None (did_of (Dropped 1 true) ∷ did_of Nothing ∷ []) ∷ []
+    ≡ events.EnteredData 0 (item enter.Copyin a ∷ item enter.Copyin a ∷ item (enter.Create true) (at 0x1004 4) ∷ []) None (did_of (Born 1 0x1_0000_0000) ∷ did_of (Counted 1) ∷ did_of (Counted 1) ∷ [])
+    ∷ events.ExitedData 0 (item exit.Delete a ∷ item exit.Delete a ∷ []) true None (did_of (Dropped 1 true) ∷ did_of Nothing ∷ []) ∷ []
 unfolding ran_with
 finalized_leaves = (refl, refl, refl)
 
@@ -165,13 +167,13 @@ both_open = enter_of (item NoCreate a ∷ []) ∷ enter_of (item Copyin a ∷ []
 abbrev both_left : List (Call Leased)
 both_left = both_open ++ exit_of 1 ∷ exit_of 2 ∷ exit_of 2 ∷ []
 
-regions_live : (ran_with limits both_open).world.state.register.regions
+regions_live : (view 0 (ran_with limits both_open).world.state).register.regions
     ≡ record { number = 1; holdings = record { item = item NoCreate a; block = None; aim = None } ∷ [] } ∷ record { number = 2; holdings = record { item = item Copyin a; block = Some 1; aim = None } ∷ [] } ∷ []
     × (ran_with limits both_left).world.history.trace
-    ≡ events.Entered 1 (item NoCreate a ∷ []) (did_of Nothing ∷ []) ∷ events.Entered 2 (item Copyin a ∷ []) (did_of (Born 1 0x1_0000_0000) ∷ []) ∷ events.Left 1 (did_of Nothing ∷ []) ∷ events.Left 2 (did_of (Dropped 1 true) ∷ []) ∷ []
-    × (ran_with limits both_left).world.state.register ≡ record { regions = []; next = 3; serial = 1 }
-    × entries_in 1 (ran_with limits both_left).world.history ≡ 1
-    × exits_in 1 (ran_with limits both_left).world.history ≡ 1
+    ≡ events.Entered 0 1 (item NoCreate a ∷ []) (did_of Nothing ∷ []) ∷ events.Entered 0 2 (item Copyin a ∷ []) (did_of (Born 1 0x1_0000_0000) ∷ []) ∷ events.Left 0 1 (did_of Nothing ∷ []) ∷ events.Left 0 2 (did_of (Dropped 1 true) ∷ []) ∷ []
+    × (view 0 (ran_with limits both_left).world.state).register ≡ record { regions = []; next = 3; serial = 1 }
+    × entries_in 1 (past_on 0 (ran_with limits both_left).world.history) ≡ 1
+    × exits_in 1 (past_on 0 (ran_with limits both_left).world.history) ≡ 1
     × refusals both_left ≡ fine 4 ++ Some (NoRegion 2) ∷ []
 unfolding ran_with
 regions_live = (refl, refl, refl, refl, refl, refl)
@@ -184,21 +186,21 @@ attached_twice = point_to 0x10 ∷ enter_data_of (item enter.Copyin a ∷ item e
 abbrev detaching_calls : List (Call Leased)
 detaching_calls = attached_twice ++ point_to 0x20 ∷ enter_data_of (pointer_item enter.Attach ∷ []) ∷ exit_data_of (pointer_item exit.Detach ∷ []) ∷ exit_data_of (pointer_item exit.Detach ∷ []) ∷ []
 
-pointer_lives : (ran_with limits attached_twice).world.state.records.attached ≡ record { block = 1; pointer = 0x1008; count = 2 } ∷ []
-    × attached_in 1 0x1008 (ran_with limits attached_twice).world.history ≡ 2
+pointer_lives : (view 0 (ran_with limits attached_twice).world.state).records.attached ≡ record { block = 1; pointer = 0x1008; count = 2 } ∷ []
+    × attached_in 1 0x1008 (past_on 0 (ran_with limits attached_twice).world.history) ≡ 2
     × (ran_with limits detaching_calls).world.history.trace
-    ≡ events.HostWritten 0x1008 8 [] ∷ events.EnteredData (item enter.Copyin a ∷ item enter.Copyin b ∷ item enter.Copyin c ∷ []) None (did_of (Born 1 0x1_0000_0000) ∷ did_of (Born 2 0x1_0000_0010) ∷ did_of (Born 3 0x1_0000_0020) ∷ [])
-    ∷ events.EnteredData (pointer_item enter.Attach ∷ []) None (did Nothing (aims.New 0x1008 1 0x1_0000_0010) ∷ []) ∷ events.EnteredData (pointer_item enter.Attach ∷ []) None (did Nothing (aims.Again 0x1008 1) ∷ [])
-    ∷ events.HostWritten 0x1008 8 [] ∷ events.EnteredData (pointer_item enter.Attach ∷ []) None (did Nothing (aims.New 0x1008 1 0x1_0000_0020) ∷ [])
-    ∷ events.ExitedData (pointer_item exit.Detach ∷ []) false None (did Nothing (aims.Less 0x1008 1) ∷ []) ∷ events.ExitedData (pointer_item exit.Detach ∷ []) false None (did_of Nothing ∷ []) ∷ []
-    × (ran_with limits detaching_calls).world.state.memories ≡ memory 1 (replicate 8 0 ++ as_host 0x20) ∷ memory 2 zeros ∷ memory 3 zeros ∷ []
+    ≡ events.HostWritten 0x1008 8 [] ∷ events.EnteredData 0 (item enter.Copyin a ∷ item enter.Copyin b ∷ item enter.Copyin c ∷ []) None (did_of (Born 1 0x1_0000_0000) ∷ did_of (Born 2 0x1_0000_0010) ∷ did_of (Born 3 0x1_0000_0020) ∷ [])
+    ∷ events.EnteredData 0 (pointer_item enter.Attach ∷ []) None (did Nothing (aims.New 0x1008 1 0x1_0000_0010) ∷ []) ∷ events.EnteredData 0 (pointer_item enter.Attach ∷ []) None (did Nothing (aims.Again 0x1008 1) ∷ [])
+    ∷ events.HostWritten 0x1008 8 [] ∷ events.EnteredData 0 (pointer_item enter.Attach ∷ []) None (did Nothing (aims.New 0x1008 1 0x1_0000_0020) ∷ [])
+    ∷ events.ExitedData 0 (pointer_item exit.Detach ∷ []) false None (did Nothing (aims.Less 0x1008 1) ∷ []) ∷ events.ExitedData 0 (pointer_item exit.Detach ∷ []) false None (did_of Nothing ∷ []) ∷ []
+    × (view 0 (ran_with limits detaching_calls).world.state).memories ≡ memory 1 (replicate 8 0 ++ as_host 0x20) ∷ memory 2 zeros ∷ memory 3 zeros ∷ []
 unfolding ran_with
 pointer_lives = (refl, refl, refl, refl)
 
 -- an item that ends the mapping that holds its own pointer detaches it first
 exited_own : (ran_with limits (point_to 0x10 ∷ enter_data_of (via enter.Copyin (at 0x1000 32) ∷ []) ∷ exit_data_of (via exit.Delete (at 0x1000 32) ∷ []) ∷ [])).world.history.trace
-    ≡ events.HostWritten 0x1008 8 [] ∷ events.EnteredData (via enter.Copyin (at 0x1000 32) ∷ []) None (did (Born 1 0x1_0000_0000) (aims.New 0x1008 1 0x1_0000_0010) ∷ [])
-    ∷ events.ExitedData (via exit.Delete (at 0x1000 32) ∷ []) false None (did (Dropped 1 true) (aims.Less 0x1008 1) ∷ []) ∷ []
+    ≡ events.HostWritten 0x1008 8 [] ∷ events.EnteredData 0 (via enter.Copyin (at 0x1000 32) ∷ []) None (did (Born 1 0x1_0000_0000) (aims.New 0x1008 1 0x1_0000_0010) ∷ [])
+    ∷ events.ExitedData 0 (via exit.Delete (at 0x1000 32) ∷ []) false None (did (Dropped 1 true) (aims.Less 0x1008 1) ∷ []) ∷ []
 unfolding ran_with
 exited_own = refl
 
@@ -207,24 +209,24 @@ exited_own = refl
 abbrev ending_calls : List (Call Leased)
 ending_calls = HostWrite 0x1000 (7 ∷ []) ∷ enter_data_of (item enter.Copyin a ∷ []) ∷ HostWrite 0x1000 (9 ∷ []) ∷ exit_later 1 (item exit.Copyout a ∷ []) ∷ enter_data_of (item (enter.Create false) a ∷ []) ∷ []
 
-ended_leaves : (ran_with limits ending_calls).world.state.memories ≡ memory 1 (7 ∷ replicate 15 0) ∷ memory 2 (replicate 16 0xa5) ∷ []
-    × ended_from 0x1_0000_0000 (ran_with limits ending_calls).world.state.records ≡ Some (record { place = 0x1_0000_0000; size = 16; pins = 1 })
-    × queue_at 1 (ran_with limits ending_calls).world.state.records.queues ≡ record { block = 1; offset = 0; section = a; out = true } ∷ []
-    × (ran_with limits ending_calls).world.state.host ≡ 9 ∷ replicate 63 0
+ended_leaves : (view 0 (ran_with limits ending_calls).world.state).memories ≡ memory 1 (7 ∷ replicate 15 0) ∷ memory 2 (replicate 16 0xa5) ∷ []
+    × ended_from 0x1_0000_0000 (view 0 (ran_with limits ending_calls).world.state).records ≡ Some (record { place = 0x1_0000_0000; size = 16; pins = 1 })
+    × queue_at 1 (view 0 (ran_with limits ending_calls).world.state).records.queues ≡ record { block = 1; offset = 0; section = a; out = true } ∷ []
+    × (view 0 (ran_with limits ending_calls).world.state).host ≡ 9 ∷ replicate 63 0
 unfolding ran_with
 ended_leaves = (refl, refl, refl, refl)
 
 -- a step makes the copy, and the block is given back with it; the next step is no event, and a wait is one
 abbrev stepping_calls : List (Call Leased)
-stepping_calls = ending_calls ++ Do (Step 1) ∷ Do (Step 1) ∷ Do (Wait None) ∷ []
+stepping_calls = ending_calls ++ Do (Step 0 1) ∷ Do (Step 0 1) ∷ Do (Wait 0 None) ∷ []
 
-stepped_leaves : (ran_with limits stepping_calls).world.state.host ≡ 7 ∷ replicate 63 0
-    × (ran_with limits stepping_calls).world.state.memories ≡ memory 2 (replicate 16 0xa5) ∷ []
-    × (ran_with limits stepping_calls).world.state.records.queues ≡ new_queues
+stepped_leaves : (view 0 (ran_with limits stepping_calls).world.state).host ≡ 7 ∷ replicate 63 0
+    × (view 0 (ran_with limits stepping_calls).world.state).memories ≡ memory 2 (replicate 16 0xa5) ∷ []
+    × (view 0 (ran_with limits stepping_calls).world.state).records.queues ≡ new_queues
     × (ran_with limits stepping_calls).world.history.trace
-    ≡ events.HostWritten 0x1000 1 [] ∷ events.EnteredData (item enter.Copyin a ∷ []) None (did_of (Born 1 0x1_0000_0000) ∷ []) ∷ events.HostWritten 0x1000 1 []
-    ∷ events.ExitedData (item exit.Copyout a ∷ []) false (Some 1) (did_of (Dropped 1 true) ∷ []) ∷ events.EnteredData (item (enter.Create false) a ∷ []) None (did_of (Born 2 0x1_0000_0010) ∷ [])
-    ∷ events.Stepped 1 1 ∷ events.Waited None 0 ∷ []
+    ≡ events.HostWritten 0x1000 1 [] ∷ events.EnteredData 0 (item enter.Copyin a ∷ []) None (did_of (Born 1 0x1_0000_0000) ∷ []) ∷ events.HostWritten 0x1000 1 []
+    ∷ events.ExitedData 0 (item exit.Copyout a ∷ []) false (Some 1) (did_of (Dropped 1 true) ∷ []) ∷ events.EnteredData 0 (item (enter.Create false) a ∷ []) None (did_of (Born 2 0x1_0000_0010) ∷ [])
+    ∷ events.Stepped 0 1 1 ∷ events.Waited 0 None 0 ∷ []
 unfolding ran_with
 stepped_leaves = (refl, refl, refl, refl)
 
@@ -234,18 +236,18 @@ abbrev loans : List (Call Leased)
 loans = enter_of [] ∷ enter_data_of (item enter.Copyin a ∷ item enter.Copyin b ∷ []) ∷ Lend 1 (at 0x1014 8) ∷ Lend 1 a ∷ Lend 1 a ∷ Lend 1 c ∷ gather 1 1 0 16 zeros ∷ gather 1 2 4 8 zeros ∷ Lend 1 (at 0x1018 4) ∷ []
 
 loans_leave : refusals loans ≡ fine 4 ++ Some (Lent 1) ∷ Some (NotPresent 0) ∷ Some (NoLease 1) ∷ None ∷ None ∷ []
-    × (ran_with limits loans).world.state.records.loans ≡ loan 2 1 0 16 ∷ loan 3 2 8 4 ∷ []
-    × (ran_with limits loans).world.state.register ≡ record { regions = record { number = 1; holdings = [] } ∷ []; next = 2; serial = 4 }
-    × (ran_with limits loans).world.state.memories ≡ memory 1 [] ∷ memory 2 [] ∷ []
+    × (view 0 (ran_with limits loans).world.state).records.loans ≡ loan 2 1 0 16 ∷ loan 3 2 8 4 ∷ []
+    × (view 0 (ran_with limits loans).world.state).register ≡ record { regions = record { number = 1; holdings = [] } ∷ []; next = 2; serial = 4 }
+    × (view 0 (ran_with limits loans).world.state).memories ≡ memory 1 [] ∷ memory 2 [] ∷ []
     × (ran_with limits loans).world.history.trace
-    ≡ events.Entered 1 [] [] ∷ events.EnteredData (item enter.Copyin a ∷ item enter.Copyin b ∷ []) None (did_of (Born 1 0x1_0000_0000) ∷ did_of (Born 2 0x1_0000_0010) ∷ [])
-    ∷ events.Lent 1 (at 0x1014 8) 2 1 ∷ events.Lent 1 a 1 2 ∷ events.Gathered 1 2 [] ∷ events.Lent 1 (at 0x1018 4) 2 3 ∷ []
+    ≡ events.Entered 0 1 [] [] ∷ events.EnteredData 0 (item enter.Copyin a ∷ item enter.Copyin b ∷ []) None (did_of (Born 1 0x1_0000_0000) ∷ did_of (Born 2 0x1_0000_0010) ∷ [])
+    ∷ events.Lent 0 1 (at 0x1014 8) 2 1 ∷ events.Lent 0 1 a 1 2 ∷ events.Gathered 0 1 2 [] ∷ events.Lent 0 1 (at 0x1018 4) 2 3 ∷ []
 unfolding ran_with
 loans_leave = (refl, refl, refl, refl, refl)
 
 -- the lease of two bytes has all of the block's
-two_leased : leased (loan 1 1 1 2) (ran_with limits (HostWrite 0x1000 (0x0a ∷ 0x0b ∷ 0x0c ∷ 0x0d ∷ []) ∷ enter_data_of (item enter.Copyin (at 0x1000 4) ∷ []) ∷ [])).world.state
-    ≡ record { serial = 1; block = 1; offset = 1; len = 2; bytes = 0x0a ∷ 0x0b ∷ 0x0c ∷ 0x0d ∷ [] }
+two_leased : leased 0 (loan 1 1 1 2) (view 0 (ran_with limits (HostWrite 0x1000 (0x0a ∷ 0x0b ∷ 0x0c ∷ 0x0d ∷ []) ∷ enter_data_of (item enter.Copyin (at 0x1000 4) ∷ []) ∷ [])).world.state)
+    ≡ record { device = 0; serial = 1; block = 1; offset = 1; len = 2; bytes = 0x0a ∷ 0x0b ∷ 0x0c ∷ 0x0d ∷ [] }
 unfolding ran_with
 two_leased = refl
 
@@ -263,12 +265,12 @@ lending_calls = HostWrite 0x1000 (7 ∷ []) ∷ enter_data_of (item enter.Copyin
 abbrev returning_calls : List (Call Leased)
 returning_calls = lending_calls ++ gather 1 1 1 2 (7 ∷ 8 ∷ 9 ∷ 1 ∷ []) ∷ gather 1 1 1 2 (7 ∷ 8 ∷ 9 ∷ 0 ∷ []) ∷ []
 
-full_tells : (ran_with full_trace lending_calls).world.state.memories ≡ memory 1 (7 ∷ 0 ∷ 0 ∷ 0 ∷ []) ∷ []
+full_tells : (view 0 (ran_with full_trace lending_calls).world.state).memories ≡ memory 1 (7 ∷ 0 ∷ 0 ∷ 0 ∷ []) ∷ []
     × (ran_with full_trace returning_calls).refused ≡ fine 4 ++ Some (NoLease 1) ∷ None ∷ []
-    × (ran_with full_trace returning_calls).world.state.memories ≡ memory 1 (7 ∷ 8 ∷ 9 ∷ 0 ∷ []) ∷ []
+    × (view 0 (ran_with full_trace returning_calls).world.state).memories ≡ memory 1 (7 ∷ 8 ∷ 9 ∷ 0 ∷ []) ∷ []
     × (ran_with full_trace returning_calls).world.history.trace
-    ≡ events.HostWritten 0x1000 1 (7 ∷ []) ∷ events.EnteredData (item enter.Copyin four ∷ []) None (did_of (Born 1 0x1_0000_0000) ∷ []) ∷ events.Entered 1 (item Present four ∷ []) (did_of (Counted 1) ∷ [])
-    ∷ events.Lent 1 (at 0x1001 2) 1 1 ∷ events.Gathered 1 1 (8 ∷ 9 ∷ []) ∷ []
+    ≡ events.HostWritten 0x1000 1 (7 ∷ []) ∷ events.EnteredData 0 (item enter.Copyin four ∷ []) None (did_of (Born 1 0x1_0000_0000) ∷ []) ∷ events.Entered 0 1 (item Present four ∷ []) (did_of (Counted 1) ∷ [])
+    ∷ events.Lent 0 1 (at 0x1001 2) 1 1 ∷ events.Gathered 0 1 1 (8 ∷ 9 ∷ []) ∷ []
     × (ran_with limits returning_calls).refused ≡ fine 5 ++ Some (NoLease 1) ∷ []
 unfolding ran_with
 full_tells = (refl, refl, refl, refl, refl)
@@ -285,10 +287,10 @@ full_queue_lent = point_to 0x20 ∷ enter_of [] ∷ enter_data_of (item enter.Co
 
 refused_where_lent :
     -- a wait makes the first transfer of its queue, which is of a free block, and the second one, of a lent block; a step only one
-    refusals (enter_of [] ∷ enter_data_of (item enter.Copyin a ∷ item enter.Copyin b ∷ []) ∷ update_later 2 (item ToSelf b ∷ item ToSelf a ∷ []) ∷ Lend 1 a ∷ Do (Wait (Some 2)) ∷ Do (Wait None) ∷ Do (Step 2) ∷ Do (Step 2) ∷ gather 1 1 0 16 zeros ∷ Do (Wait (Some 2)) ∷ [])
+    refusals (enter_of [] ∷ enter_data_of (item enter.Copyin a ∷ item enter.Copyin b ∷ []) ∷ update_later 2 (item ToSelf b ∷ item ToSelf a ∷ []) ∷ Lend 1 a ∷ Do (Wait 0 (Some 2)) ∷ Do (Wait 0 None) ∷ Do (Step 0 2) ∷ Do (Step 0 2) ∷ gather 1 1 0 16 zeros ∷ Do (Wait 0 (Some 2)) ∷ [])
     ≡ fine 4 ++ Some (Lent 1) ∷ Some (Lent 1) ∷ None ∷ Some (Lent 1) ∷ None ∷ None ∷ []
     -- where section and pointer lie is told before; that the queue is full after
-    × refusals (full_queue_lent ++ exit_later 4 (item exit.Copyout a ∷ []) ∷ Do (ExitData (item exit.Copyout a ∷ []) true (Some 4)) ∷ exit_data_of (item exit.Delete (at 0x1008 16) ∷ [])
+    × refusals (full_queue_lent ++ exit_later 4 (item exit.Copyout a ∷ []) ∷ Do (ExitData 0 (item exit.Copyout a ∷ []) true (Some 4)) ∷ exit_data_of (item exit.Delete (at 0x1008 16) ∷ [])
     ∷ exit_data_of (record { clause = exit.Delete; section = a; pointer = Some 0x1004 } ∷ []) ∷ exit_data_of (record { clause = exit.Delete; section = a; pointer = Some 0x103c } ∷ []) ∷ update_of (item ToSelf (at 0x103f 2) ∷ []) ∷ [])
     ≡ fine 4 ++ Some (QueueFull 4) ∷ None ∷ Some (Lent 1) ∷ Some (Lent 1) ∷ Some (PartlyPresent 0) ∷ Some (Misaligned 0) ∷ Some (OutOfHost 0) ∷ Some (OutOfHost 0) ∷ []
     -- an item that leaves detaches its pointer before its step
@@ -320,3 +322,25 @@ refused_where_lent :
     ≡ fine 6 ++ Some (Lent 3) ∷ None ∷ []
 unfolding ran_with
 refused_where_lent = (refl, refl, refl, refl, refl, refl, refl, refl, refl, refl, refl, refl)
+
+-- ---- two devices, each with addresses, blocks, counters and queues of its own
+
+abbrev two_devices : Limits
+two_devices = record limits { devices = 2 }
+
+-- one array on both, a device that is not there, and two regions that are left in the order in which they were entered
+abbrev on_both : List (Call Leased)
+on_both = enter_data_of (item enter.Copyin a ∷ []) ∷ Do (EnterData 1 (item enter.Copyin a ∷ item enter.Copyin a ∷ []) None) ∷ Do (Wait 2 (Some 16)) ∷ Do (Wait 1 (Some 16)) ∷ Do (Enter 1 (item Present a ∷ [])) ∷ enter_of (item Present a ∷ []) ∷ Lend 1 a ∷ Lend 2 a
+    ∷ Gather (record { device = 0; serial = 1; block = 1; offset = 0; len = 16; bytes = zeros }) ∷ Gather (record { device = 1; serial = 1; block = 1; offset = 0; len = 16; bytes = zeros }) ∷ exit_of 1 ∷ exit_of 2 ∷ gather 2 1 0 16 zeros ∷ exit_of 2 ∷ []
+
+devices_apart : (ran_with two_devices on_both).refused ≡ None ∷ None ∷ Some (NoDevice 2) ∷ Some (NoQueue 16) ∷ None ∷ None ∷ None ∷ None ∷ Some (NoLease 1) ∷ None ∷ None ∷ Some (Lent 1) ∷ None ∷ None ∷ []
+    × (view 0 (ran_with two_devices on_both).world.state).records.blocks ≡ record { number = 1; place = 0x1_0000_0000; len = 16 } ∷ []
+    × (view 1 (ran_with two_devices on_both).world.state).records.blocks ≡ record { number = 1; place = 0x2_0000_0000; len = 16 } ∷ []
+    × (view 1 (ran_with two_devices on_both).world.state).records.ranges ≡ record { section = a; block = 1; structured = 0; dynamic = 2 } ∷ []
+    × dynamic_in 1 (past_on 0 (ran_with two_devices on_both).world.history) ≡ 1
+    × dynamic_in 1 (past_on 1 (ran_with two_devices on_both).world.history) ≡ 2
+    × entries_in 1 (past_on 1 (ran_with two_devices on_both).world.history) ≡ 1
+    × events_on 0 (ran_with two_devices on_both).world.history.trace
+    ≡ events.EnteredData 0 (item enter.Copyin a ∷ []) None (did_of (Born 1 0x1_0000_0000) ∷ []) ∷ events.Entered 0 2 (item Present a ∷ []) (did_of (Counted 1) ∷ []) ∷ events.Lent 0 2 a 1 2 ∷ events.Gathered 0 2 1 [] ∷ events.Left 0 2 (did_of (Dropped 1 false) ∷ []) ∷ []
+unfolding ran_with
+devices_apart = (refl, refl, refl, refl, refl, refl, refl, refl)

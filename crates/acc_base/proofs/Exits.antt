@@ -61,8 +61,8 @@ leave_all l n (holding ∷ holdings) s none =
     (first.0 ∷ others.0, rw (first.1, others.1))
 
 -- and so the exit makes an event
-pub exit_accepted : (l : Limits) (number : ℕ) (holdings : List Holding) (s : State) → s.records.loans ≡ [] → holdings_at number s.register.regions ≡ Some holdings → (e : Event) × (directive_verdict l (Exit number) s ≡ Ok (Makes e))
+pub exit_accepted : (l : Limits) (d number : ℕ) (holdings : List Holding) (s : State) → s.records.loans ≡ [] → holdings_at number s.register.regions ≡ Some holdings → (e : Event) × (directive_verdict l d (Exit number) s ≡ Ok (Makes e))
 unfolding directive_verdict
-exit_accepted l number holdings s none e =
+exit_accepted l d number holdings s none e =
     let left : (dids : List Did) × (judge_all l 0 (leave_tasks holdings) s ≡ Ok dids) = leave_all l 0 (reverse holdings) s none in
-    (Left number (reverse left.0), rw (e, left.1))
+    (Left d number (reverse left.0), rw (e, left.1))

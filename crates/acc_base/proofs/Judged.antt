@@ -37,7 +37,7 @@ inside_mapped s ranges k o e none =
 -- a birth: the next number, the least place, and a section of host memory that is absent
 pub record IsBirth (l : Limits) (section : Section) (block place : ℕ) (w : Records) : Type 0 where
   pub number : block ≡ w.births + 1
-  pub place_is : place_for (device_memory l.device) w.blocks (rounded section.len) ≡ Some place
+  pub place_is : place_for (device_memory l) w.blocks (rounded section.len) ≡ Some place
   pub absent : where_is section w.ranges ≡ Absent
   pub within : is_within section (host_memory l.host) ≡ true
 
@@ -107,7 +107,7 @@ enter_told : (l : Limits) (counter : Counter) (item : Item RegionClause) (queue 
 enter_told l counter item queue w x y e h = subst (λ t. IsJudgedTo l (Enter counter item queue) t w) e h
 
 born_says : (l : Limits) (counter : Counter) (item : Item RegionClause) (queue : Option ℕ) (n : ℕ) (w : Records) (step : Step) (place : Option ℕ)
-    → place_for (device_memory l.device) w.blocks (rounded (section_of (Enter counter item queue)).len) ≡ place → where_is (section_of (Enter counter item queue)) w.ranges ≡ Absent → is_within (section_of (Enter counter item queue)) (host_memory l.host) ≡ true
+    → place_for (device_memory l) w.blocks (rounded (section_of (Enter counter item queue)).len) ≡ place → where_is (section_of (Enter counter item queue)) w.ranges ≡ Absent → is_within (section_of (Enter counter item queue)) (host_memory l.host) ≡ true
     → born_at place n (section_of (Enter counter item queue)) w ≡ Ok step → IsJudgedTo l (Enter counter item queue) step w
 born_says l counter item queue n w step None p a h e = cc
 born_says l counter item queue n w step (Some place) p a h e = enter_told l counter item queue w _ _ (ok_same _ _ e) (record { number = refl; place_is = p; absent = a; within = h })

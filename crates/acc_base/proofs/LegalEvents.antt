@@ -67,8 +67,8 @@ pub same_event : (x e : Event) → Makes x ≡ Makes e → x ≡ e
 same_event x e h = cc
 
 -- the first transfer of a queue is there to be made, and its block is not lent
-step_legal : (l : Limits) (queue : ℕ) (s : State) (e : Event) → none_lent (take 1 (queue_at queue s.records.queues)) s.records.loans ≡ Ok tt → step_verdict queue (head_of queue s.records.queues) ≡ Makes e → IsLegal l e (layout_of s)
-step_legal l queue s e free h = go (head_of queue s.records.queues) refl h
+step_legal : (l : Limits) (d queue : ℕ) (s : State) (e : Event) → none_lent (take 1 (queue_at queue s.records.queues)) s.records.loans ≡ Ok tt → step_verdict d queue (head_of queue s.records.queues) ≡ Makes e → IsLegal l e (layout_of s)
+step_legal l d queue s e free h = go (head_of queue s.records.queues) refl h
   where
     first_free : (t : Transfer) → head_of queue s.records.queues ≡ Some t → is_lent t.block s.records.loans ≡ false
     first_free t is =
@@ -76,31 +76,31 @@ step_legal l queue s e free h = go (head_of queue s.records.queues) refl h
         let one : none_lent (t ∷ []) s.records.loans ≡ Ok tt = subst (λ ts. none_lent ts s.records.loans ≡ Ok tt) (ap (take 1) first) free in
         refused_not _ _ (then_ok (not_lent (Some t.block) s.records.loans) (none_lent [] s.records.loans) tt one).0
 
-    go : (o : Option Transfer) → head_of queue s.records.queues ≡ o → step_verdict queue o ≡ Makes e → IsLegal l e (layout_of s)
+    go : (o : Option Transfer) → head_of queue s.records.queues ≡ o → step_verdict d queue o ≡ Makes e → IsLegal l e (layout_of s)
     go None is made = cc
     go (Some t) is made = subst (λ x. IsLegal l x (layout_of s)) (same_event _ _ made) (record { names = (ap (option_map (λ (x : Transfer). x.block)) is, first_free t is); judged = tt })
 
 -- the event of a directive whose tasks were judged
-pub event_legal : (l : Limits) (d : Directive) (s : State) (holdings : List Holding) (dids : List Did) (e : Event) → holdings_left d s.register ≡ Ok holdings → queue_named (queue_in d) ≡ Ok tt → AreJudged l 0 (tasks_with d holdings) dids s.records
-    → none_lent (transfers_in d s.records.queues) s.records.loans ≡ Ok tt → verdict_of d s dids ≡ Makes e → IsLegal l e (layout_of s)
-event_legal l (Enter items) s holdings dids e left q judged free h = subst (λ x. IsLegal l x (layout_of s)) (same_event _ _ h) (record { names = refl; judged = judged })
-event_legal l (Exit number) s holdings dids e left q judged free h =
+pub event_legal : (l : Limits) (n : ℕ) (d : Directive) (s : State) (holdings : List Holding) (dids : List Did) (e : Event) → holdings_left d s.register ≡ Ok holdings → queue_named (queue_in d) ≡ Ok tt → AreJudged l 0 (tasks_with d holdings) dids s.records
+    → none_lent (transfers_in d s.records.queues) s.records.loans ≡ Ok tt → verdict_of n d s dids ≡ Makes e → IsLegal l e (layout_of s)
+event_legal l n (Enter device items) s holdings dids e left q judged free h = subst (λ x. IsLegal l x (layout_of s)) (same_event _ _ h) (record { names = refl; judged = judged })
+event_legal l n (Exit number) s holdings dids e left q judged free h =
     let is : holdings_at number s.register.regions ≡ Some holdings = open_left number _ holdings left in
     subst (λ x. IsLegal l x (layout_of s)) (same_event _ _ h) (record { names = rw is refl; judged = rw (is, reverse-reverse dids) judged })
-event_legal l (directives.Step queue) s holdings dids e left q judged free h = step_legal l queue s e free h
-event_legal l d s holdings dids e left q judged free h = grind (arith, nat_tests, same_event)
+event_legal l n (directives.Step device queue) s holdings dids e left q judged free h = step_legal l n queue s e free h
+event_legal l n d s holdings dids e left q judged free h = grind (arith, nat_tests, same_event)
 
 -- the event of a directive, with what its tasks did
-pub record IsMadeBy (l : Limits) (d : Directive) (s : State) (e : Event) : Type 0 where
+pub record IsMadeBy (l : Limits) (n : ℕ) (d : Directive) (s : State) (e : Event) : Type 0 where
   pub dids : List Did
-  pub verdict_is : verdict_of d s dids ≡ Makes e
+  pub verdict_is : verdict_of n d s dids ≡ Makes e
   pub legal : IsLegal l e (layout_of s)
 
 -- a directive that is not refused
-pub made_by : (l : Limits) (d : Directive) (s : State) (e : Event) → directive_verdict l d s ≡ Ok (Makes e) → IsMadeBy l d s e
+pub made_by : (l : Limits) (n : ℕ) (d : Directive) (s : State) (e : Event) → directive_verdict l n d s ≡ Ok (Makes e) → IsMadeBy l n d s e
 unfolding directive_verdict
-made_by l d s e h =
-    let last : List Did → Result Verdict Fault = λ dids. none_lent (transfers_in d s.records.queues) s.records.loans >> Ok (verdict_of d s dids) in
+made_by l n d s e h =
+    let last : List Did → Result Verdict Fault = λ dids. none_lent (transfers_in d s.records.queues) s.records.loans >> Ok (verdict_of n d s dids) in
     let then : List Task → Result Verdict Fault = λ ts. judge_all l 0 ts s >>= last in
     let found : (ts : List Task) × (tasks_of d s.register ≡ Ok ts) × ((queue_named (queue_in d) >> then ts) ≡ Ok (Makes e))
     = bind_ok (tasks_of d s.register) (λ ts. queue_named (queue_in d) >> then ts) (Makes e) h in
@@ -108,9 +108,9 @@ made_by l d s e h =
     let known : (queue_named (queue_in d) ≡ Ok tt) × (then found.0 ≡ Ok (Makes e)) = then_ok (queue_named (queue_in d)) (then found.0) (Makes e) found.2 in
     let acted : (dids : List Did) × (judge_all l 0 found.0 s ≡ Ok dids) × (last dids ≡ Ok (Makes e)) = bind_ok (judge_all l 0 found.0 s) last (Makes e) known.1 in
     let judged : AreJudged l 0 (tasks_with d left.0) acted.0 s.records = rw (ok_same _ _ left.2) (judged_all l 0 found.0 acted.0 s acted.1) in
-    let free : (none_lent (transfers_in d s.records.queues) s.records.loans ≡ Ok tt) × (Ok (verdict_of d s acted.0) ≡ Ok (Makes e)) = then_ok (none_lent (transfers_in d s.records.queues) s.records.loans) (Ok (verdict_of d s acted.0)) (Makes e) acted.2 in
-    let is : verdict_of d s acted.0 ≡ Makes e = ok_same _ _ free.1 in
-    record { dids = acted.0; verdict_is = is; legal = event_legal l d s left.0 acted.0 e left.1 known.0 judged free.0 is }
+    let free : (none_lent (transfers_in d s.records.queues) s.records.loans ≡ Ok tt) × (Ok (verdict_of n d s acted.0) ≡ Ok (Makes e)) = then_ok (none_lent (transfers_in d s.records.queues) s.records.loans) (Ok (verdict_of n d s acted.0)) (Makes e) acted.2 in
+    let is : verdict_of n d s acted.0 ≡ Makes e = ok_same _ _ free.1 in
+    record { dids = acted.0; verdict_is = is; legal = event_legal l n d s left.0 acted.0 e left.1 known.0 judged free.0 is }
 
 -- ---- a write of the host
 
@@ -133,23 +133,23 @@ host_write_legal l addr bytes lay e h =
 -- ---- loans
 
 -- a loan of a section of a block that is not lent, in an open region
-pub lend_legal : (l : Limits) (region : ℕ) (section : Section) (s : State) (e : Event) → lend_event l region section s ≡ Ok e → (block : ℕ) × (Lent region section block s.register.serial ≡ e) × IsLegal l e (layout_of s)
+pub lend_legal : (l : Limits) (d region : ℕ) (section : Section) (s : State) (e : Event) → lend_event l d region section s ≡ Ok e → (block : ℕ) × (Lent d region section block s.register.serial ≡ e) × IsLegal l (Lent d region section block s.register.serial) (layout_of s)
 unfolding lend_event
-lend_legal l region section s e h =
-    let there_is : (region_open region s.register ≡ Ok tt) × ((in_host l 0 section >> lend_there (where_is section s.records.ranges) region section s) ≡ Ok e) = then_ok (region_open region s.register) _ e h in
-    let within : (in_host l 0 section ≡ Ok tt) × (lend_there (where_is section s.records.ranges) region section s ≡ Ok e) = then_ok (in_host l 0 section) _ e there_is.1 in
+lend_legal l d region section s e h =
+    let there_is : (region_open region s.register ≡ Ok tt) × ((in_host l 0 section >> lend_there (where_is section s.records.ranges) d region section s) ≡ Ok e) = then_ok (region_open region s.register) _ e h in
+    let within : (in_host l 0 section ≡ Ok tt) × (lend_there (where_is section s.records.ranges) d region section s ≡ Ok e) = then_ok (in_host l 0 section) _ e there_is.1 in
     go (where_is section s.records.ranges) refl (there (holdings_at region s.register.regions) (refused_not _ _ there_is.0)) within.1
   where
     there : (o : Option (List Holding)) → is_none o ≡ false → IsSome o
     there None e = cc
     there (Some holdings) e = refl
 
-    go : (f : Found) → where_is section s.records.ranges ≡ f → IsSome (holdings_at region s.register.regions) → lend_there f region section s ≡ Ok e → (block : ℕ) × (Lent region section block s.register.serial ≡ e) × IsLegal l e (layout_of s)
+    go : (f : Found) → where_is section s.records.ranges ≡ f → IsSome (holdings_at region s.register.regions) → lend_there f d region section s ≡ Ok e → (block : ℕ) × (Lent d region section block s.register.serial ≡ e) × IsLegal l (Lent d region section block s.register.serial) (layout_of s)
     go (Inside block offset) at there_is k =
-        let both : (not_lent (Some block) s.records.loans ≡ Ok tt) × (Ok (Lent region section block s.register.serial) ≡ Ok e) = then_ok (not_lent (Some block) s.records.loans) (Ok (Lent region section block s.register.serial)) e k in
-        let is : Lent region section block s.register.serial ≡ e = ok_same _ _ both.1 in
-        let legal : IsLegal l (Lent region section block s.register.serial) (layout_of s) = record { names = (there_is, ap block_in at, refused_not _ _ both.0, refl); judged = tt } in
-        (block, is, subst (λ x. IsLegal l x (layout_of s)) is legal)
+        let both : (not_lent (Some block) s.records.loans ≡ Ok tt) × (Ok (Lent d region section block s.register.serial) ≡ Ok e) = then_ok (not_lent (Some block) s.records.loans) (Ok (Lent d region section block s.register.serial)) e k in
+        let is : Lent d region section block s.register.serial ≡ e = ok_same _ _ both.1 in
+        let legal : IsLegal l (Lent d region section block s.register.serial) (layout_of s) = record { names = (there_is, ap block_in at, refused_not _ _ both.0, refl); judged = tt } in
+        (block, is, legal)
     go _ at there_is k = cc
 
 -- the loan that a lease brings back is there

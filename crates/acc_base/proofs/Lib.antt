@@ -33,6 +33,9 @@ pub mod Traced
 pub mod LegalEvents
 pub mod Exits
 pub mod Accepted
+pub mod Views
+pub mod OnDevices
+pub mod Isolated
 pub mod Accounted
 mod Runs
 mod Examples

@@ -60,7 +60,7 @@ loans-drained (q ∷ qs) w = loans-drained qs (records_stepped q w) ∙ loans-st
 -- mapped ranges stay
 pub ranges-loaned : (e : Event) (w : Records) → (loaned e w).ranges ≡ w.ranges
 unfolding loaned
-ranges-loaned (Entered number items did) w = refl
+ranges-loaned (Entered device number items did) w = refl
 ranges-loaned _ w = refl
 
 -- records with other loans
@@ -104,8 +104,8 @@ placed_loan l serial block section w h is = go (where_is section w.ranges) refl 
 pub loaned_sound : (l : Limits) (e : Event) (lay : Layout) → NamesRight l e lay → AreRecordsSound l (records_drained (stepped_in e lay.records.queues) (act_all (asked_in e lay.register) (done_in e) lay.records))
     → AreRecordsSound l (loaned e (records_drained (stepped_in e lay.records.queues) (act_all (asked_in e lay.register) (done_in e) lay.records)))
 unfolding loaned records_drained act_all
-loaned_sound l (Lent region section block serial) lay names h =
+loaned_sound l (Lent device region section block serial) lay names h =
     let w : Records = lay.records in
     with_loans l w _ h (loans-with w.ranges (loan_at serial block section w.ranges) w.loans names.2 (placed_loan l serial block section w h names.1) h.loans)
-loaned_sound l (Gathered serial block bytes) lay names h = with_loans l lay.records _ h (loans-without lay.records.ranges block lay.records.loans h.loans)
+loaned_sound l (Gathered device serial block bytes) lay names h = with_loans l lay.records _ h (loans-without lay.records.ranges block lay.records.loans h.loans)
 loaned_sound l _ lay names h = h

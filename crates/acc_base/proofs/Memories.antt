@@ -221,7 +221,7 @@ length-host_after _ brought host = refl
 
 -- the bytes that a call brings back are as many as the block has
 abbrev pub AreBrought : Event → List ℕ → Records → Type 0
-AreBrought (Gathered serial block bytes) brought w = AllByRecursion (λ b. b.number ≡ block → length brought ≡ b.len) w.blocks
+AreBrought (Gathered device serial block bytes) brought w = AllByRecursion (λ b. b.number ≡ block → length brought ≡ b.len) w.blocks
 AreBrought _ brought w = ⊤
 
 -- the memory of a block that is lent has no length to keep
@@ -248,14 +248,14 @@ gathered_sized k brought ls _ _ fits h = absurd h
 -- and so are those after an event, whatever it did to loans
 loaned_sized : (full : Bool) (e : Event) (brought : List ℕ) (w : Records) (ms : List Memory) → AreBrought e brought w → AllZip (IsMemoryOf w.loans) ms w.blocks → AllZip (IsMemoryOf (loaned e w).loans) (memories_after full e brought ms) (loaned e w).blocks
 unfolding loaned
-loaned_sized full (Lent region section block serial) brought w ms fits h = lent_sized (loan_at serial block section w.ranges) (recorded full) w.loans ms w.blocks h
-loaned_sized full (Gathered serial block bytes) brought w ms fits h = gathered_sized block brought w.loans ms w.blocks fits h
+loaned_sized full (Lent device region section block serial) brought w ms fits h = lent_sized (loan_at serial block section w.ranges) (recorded full) w.loans ms w.blocks h
+loaned_sized full (Gathered device serial block bytes) brought w ms fits h = gathered_sized block brought w.loans ms w.blocks fits h
 loaned_sized full _ brought w ms fits h = h
 
 -- what an event asks of the bytes that are brought back is asked of the blocks before its call
 brought_last : (e : Event) (brought : List ℕ) (s : State) → AreBrought e brought s.records → AreBrought e brought (drained (stepped_in e s.records.queues) (act_all_state (asked_in e s.register) (done_in e) s)).records
 unfolding drained act_all_state
-brought_last (Gathered serial block bytes) brought s fits = fits
+brought_last (Gathered device serial block bytes) brought s fits = fits
 brought_last _ brought s fits = tt
 
 -- memories are as long as their blocks after an event

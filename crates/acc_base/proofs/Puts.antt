@@ -33,8 +33,8 @@ row_sound : (l : Limits) (task : Task) (step : Step) (w : Records) → IsWithinB
 unfolding act_row
 row_sound l task Nothing w bounds says free h = h
 row_sound l (Enter counter item queue) (Counted k) w bounds says free h = counted_sound l counter item queue k w h says
-row_sound l (Enter Structured item queue) (Born k p) w bounds says free h = birth_sound l (risen Structured (bare_range (section_of (Enter Structured item queue)) k)) p w (first_counted l Structured (section_of (Enter Structured item queue)) k bounds) says h
-row_sound l (Enter Dynamic item queue) (Born k p) w bounds says free h = birth_sound l (risen Dynamic (bare_range (section_of (Enter Dynamic item queue)) k)) p w (first_counted l Dynamic (section_of (Enter Dynamic item queue)) k bounds) says h
+row_sound l (Enter Structured item queue) (Born k p) w bounds says free h = birth_sound l (risen Structured (bare_range (section_of (Enter Structured item queue)) k)) p w bounds (first_counted l Structured (section_of (Enter Structured item queue)) k bounds) says h
+row_sound l (Enter Dynamic item queue) (Born k p) w bounds says free h = birth_sound l (risen Dynamic (bare_range (section_of (Enter Dynamic item queue)) k)) p w bounds (first_counted l Dynamic (section_of (Enter Dynamic item queue)) k bounds) says h
 row_sound l (Enter counter item queue) (Moved k) w bounds says free h = h
 row_sound l (Leave holding) (Dropped k true) w bounds says free h = ended_sound l k w (not_lent_says k w.loans free) h
 row_sound l (Leave holding) (Dropped k false) w bounds says free h = dropped_sound l (recounted (Leave holding)) k w (recounted_keeps (Leave holding)) (λ r. omega arith) (λ r. omega arith) h says.1

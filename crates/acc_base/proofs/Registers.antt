@@ -42,10 +42,10 @@ with_last new rs h = put-last (put_region new) rs (AllByRecursion-weaker (λ (r 
 abbrev pub next_region : List Holding → Register → Region
 next_region holdings g = record { number = g.next; holdings = holdings }
 
-pub opened_regions : (holdings : List Holding) (g : Register) → IsNumbered g → (opened holdings g).regions ≡ g.regions ++ next_region holdings g ∷ []
+pub opened_regions : (holdings : List Holding) (g : Register) → IsNumbered g → (opened g.next holdings g).regions ≡ g.regions ++ next_region holdings g ∷ []
 opened_regions holdings g h = with_last (next_region holdings g) g.regions h.known
 
-pub opened_numbered : (holdings : List Holding) (g : Register) → IsNumbered g → IsNumbered (opened holdings g)
+pub opened_numbered : (holdings : List Holding) (g : Register) → IsNumbered g → IsNumbered (opened g.next holdings g)
 opened_numbered holdings g h = record {
   first = omega arith;
   rising = subst (λ rs. EachPair (λ (r : Region) (t : Region). r.number < t.number) rs) (sym (opened_regions holdings g h)) (EachPair-push (λ (r : Region) (t : Region). r.number < t.number) g.regions (next_region holdings g) h.known h.rising);
@@ -53,13 +53,13 @@ opened_numbered holdings g h = record {
       (AllByRecursion-append (λ (r : Region). r.number < g.next + 1) g.regions (next_region holdings g ∷ []) (AllByRecursion-weaker (λ (r : Region). r.number < g.next) (λ (r : Region). r.number < g.next + 1) g.regions (λ r p. omega arith) h.known) (omega arith, tt));
 }
 
-pub opened_few : (holdings : List Holding) (g : Register) → IsNumbered g → AreFew g → length holdings ≤ 64 → AreFew (opened holdings g)
+pub opened_few : (holdings : List Holding) (g : Register) → IsNumbered g → AreFew g → length holdings ≤ 64 → AreFew (opened g.next holdings g)
 opened_few holdings g h few short = subst (λ rs. AllByRecursion (λ (r : Region). length r.holdings ≤ 64) rs) (sym (opened_regions holdings g h)) (AllByRecursion-append (λ (r : Region). length r.holdings ≤ 64) g.regions (next_region holdings g ∷ []) few (short, tt))
 
-pub opened_held : (b : ℕ) (holdings : List Holding) (g : Register) → IsNumbered g → held_in b (opened holdings g).regions ≡ held_in b g.regions + count_held b holdings
+pub opened_held : (b : ℕ) (holdings : List Holding) (g : Register) → IsNumbered g → held_in b (opened g.next holdings g).regions ≡ held_in b g.regions + count_held b holdings
 opened_held b holdings g h = ap (held_in b) (opened_regions holdings g h) ∙ sum_by_push (λ (r : Region). count_held b r.holdings) g.regions (next_region holdings g)
 
-pub opened_count : (holdings : List Holding) (g : Register) → IsNumbered g → length (opened holdings g).regions ≡ length g.regions + 1
+pub opened_count : (holdings : List Holding) (g : Register) → IsNumbered g → length (opened g.next holdings g).regions ≡ length g.regions + 1
 opened_count holdings g h = ap (λ (rs : List Region). length rs) (opened_regions holdings g h) ∙ length-append g.regions (next_region holdings g ∷ [])
 
 -- a region holds no more than its entry had items

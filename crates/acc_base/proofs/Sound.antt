@@ -7,7 +7,7 @@ use Rattle.acc_base.specs.Words.{Section, Item, RegionClause, Counter, Range, Bl
 use Rattle.acc_base.specs.declared.mappings.Counter.TheVariants.{Structured, Dynamic}
 use Rattle.acc_base.specs.declared.tasks.Task.TheVariants.{Enter, Leave, Exit, Move}
 use Rattle.acc_base.specs.Limits.{Limits, IsWithinBounds}
-use Rattle.acc_base.specs.Section.{is_empty, is_within, is_apart, end_of, device_base, device_memory}
+use Rattle.acc_base.specs.Section.{is_empty, is_within, is_apart, end_of, device_memory}
 use Rattle.acc_base.specs.Records.{Records, new_records}
 use Rattle.acc_base.specs.Ranges.{range_of, counter_in, counter_of, with_range, without_range, changed_at, bare_range, risen, is_unused, ends_by}
 use Rattle.acc_base.specs.Blocks.{rounded, fits_at, is_clear_of, block_end, block_at, without_block}
@@ -156,7 +156,7 @@ unpinned_queues l k bs queues none h = queues-blocks l (λ t. (t.block == k) ≡
 -- records that are sound, but for whether one block is in use
 pub record IsLoose (l : Limits) (k : ℕ) (w : Records) : Type 0 where
   pub ranges_apart : AreRangesApart l w.ranges
-  pub blocks_apart : AreBlocksApart (device_memory l.device) w.blocks w.births
+  pub blocks_apart : AreBlocksApart (device_memory l) w.blocks w.births
   pub mapped : AllByRecursion (IsMapped w.blocks) w.ranges
   pub distinct : EachPair (λ (r : Range) (t : Range). r.block ≡ t.block → ⊥) w.ranges
   pub in_use : AllByRecursion (λ b. (b.number == k) ≡ false → is_in_use b.number w ≡ true) w.blocks
@@ -198,7 +198,7 @@ released_sound l k w h = go (is_in_use k w) refl
         record {
           ranges_apart = h.ranges_apart;
           blocks_apart = record {
-            on_device = AllByRecursion-filter (IsOnDevice (device_memory l.device)) (λ b. not (b.number == k)) w.blocks h.blocks_apart.on_device;
+            on_device = AllByRecursion-filter (IsOnDevice (device_memory l)) (λ b. not (b.number == k)) w.blocks h.blocks_apart.on_device;
             apart = EachPair-filter IsClearOf (λ b. not (b.number == k)) w.blocks h.blocks_apart.apart;
             born = AllByRecursion-filter (λ b. b.number ≤ w.births) (λ b. not (b.number == k)) w.blocks h.blocks_apart.born;
           };
@@ -292,16 +292,20 @@ born_block k p len = record { number = k; place = p; len = len }
 sides : (x y p size : ℕ) → (nat_le (p + size) x || nat_le y p) ≡ true → (y ≤ p) ⊎ (p + size ≤ x)
 sides x y p size h = grind (arith, nat_tests)
 
-birth_blocks : (l : Limits) (new : Range) (p : ℕ) (w : Records) → 0 < new.section.len → IsBirth l new.section new.block p w → AreBlocksApart (device_memory l.device) w.blocks w.births → AreBlocksApart (device_memory l.device) (records_after_birth new p w).blocks (records_after_birth new p w).births
+-- device memory begins at a multiple of 16
+even_base : (l : Limits) → IsWithinBounds l → l.device_base % 16 ≡ 0
+even_base l bounds = omega (arith, bounds.device_base.2)
+
+birth_blocks : (l : Limits) (new : Range) (p : ℕ) (w : Records) → IsWithinBounds l → 0 < new.section.len → IsBirth l new.section new.block p w → AreBlocksApart (device_memory l) w.blocks w.births → AreBlocksApart (device_memory l) (records_after_birth new p w).blocks (records_after_birth new p w).births
 unfolding records_after_birth
-birth_blocks l new p w some birth h =
-    let found : IsFoundPlace (fits_at (device_memory l.device) w.blocks (rounded new.section.len)) (Some p) = subst (IsFoundPlace (fits_at (device_memory l.device) w.blocks (rounded new.section.len))) birth.place_is (place_for-found (device_memory l.device) w.blocks (rounded new.section.len)) in
-    let parts : (is_within (record { start = p; len = rounded new.section.len }) (device_memory l.device) ≡ true) × (list_all (is_clear_of p (rounded new.section.len)) w.blocks ≡ true) = and_true _ _ found.0 in
-    let bounds : (device_base ≤ p) × (p + rounded new.section.len ≤ end_of (device_memory l.device)) = grind (arith, nat_tests) in
-    let even : IfSome (Some p) (λ q. q % 16 ≡ 0) = subst (λ o. IfSome o (λ q. q % 16 ≡ 0)) birth.place_is (place_for-even (device_memory l.device) w.blocks (rounded new.section.len) refl (AllByRecursion-weaker (IsOnDevice (device_memory l.device)) (λ b. b.place % 16 ≡ 0) w.blocks (λ b o. o.aligned) h.on_device)) in
+birth_blocks l new p w within some birth h =
+    let found : IsFoundPlace (fits_at (device_memory l) w.blocks (rounded new.section.len)) (Some p) = subst (IsFoundPlace (fits_at (device_memory l) w.blocks (rounded new.section.len))) birth.place_is (place_for-found (device_memory l) w.blocks (rounded new.section.len)) in
+    let parts : (is_within (record { start = p; len = rounded new.section.len }) (device_memory l) ≡ true) × (list_all (is_clear_of p (rounded new.section.len)) w.blocks ≡ true) = and_true _ _ found.0 in
+    let bounds : (l.device_base ≤ p) × (p + rounded new.section.len ≤ end_of (device_memory l)) = grind (arith, nat_tests) in
+    let even : IfSome (Some p) (λ q. q % 16 ≡ 0) = subst (λ o. IfSome o (λ q. q % 16 ≡ 0)) birth.place_is (place_for-even (device_memory l) w.blocks (rounded new.section.len) (even_base l within) (AllByRecursion-weaker (IsOnDevice (device_memory l)) (λ b. b.place % 16 ≡ 0) w.blocks (λ b o. o.aligned) h.on_device)) in
     let clear : AllByRecursion (λ b. is_clear_of p (rounded new.section.len) b ≡ true) w.blocks = list_all-from (is_clear_of p (rounded new.section.len)) w.blocks parts.1 in
     record {
-      on_device = AllByRecursion-append (IsOnDevice (device_memory l.device)) w.blocks (born_block new.block p new.section.len ∷ []) h.on_device (record { some = some; first = bounds.0; last = bounds.1; aligned = even }, tt);
+      on_device = AllByRecursion-append (IsOnDevice (device_memory l)) w.blocks (born_block new.block p new.section.len ∷ []) h.on_device (record { some = some; first = bounds.0; last = bounds.1; aligned = even }, tt);
       apart = EachPair-push IsClearOf w.blocks (born_block new.block p new.section.len)
           (AllByRecursion-both (λ b. is_clear_of p (rounded new.section.len) b ≡ true) (λ b. b.number ≤ w.births) (λ b. IsClearOf b (born_block new.block p new.section.len)) w.blocks
           (λ b c n. let first : new.block ≡ w.births + 1 = birth.number in record { addresses = sides b.place (block_end b) p (rounded new.section.len) c; numbers = omega arith }) clear h.born)
@@ -358,13 +362,13 @@ birth_attached l bs xs b h = record {
   there = AllByRecursion-weaker (λ a. IsSome (block_at a.block bs)) (λ a. IsSome (block_at a.block (bs ++ b ∷ []))) xs (λ a p. there_still a.block bs b p) h.there;
 }
 
-pub birth_sound : (l : Limits) (new : Range) (p : ℕ) (w : Records) → IsCounted l new → IsBirth l new.section new.block p w → AreRecordsSound l w → AreRecordsSound l (records_after_birth new p w)
+pub birth_sound : (l : Limits) (new : Range) (p : ℕ) (w : Records) → IsWithinBounds l → IsCounted l new → IsBirth l new.section new.block p w → AreRecordsSound l w → AreRecordsSound l (records_after_birth new p w)
 unfolding records_after_birth number_of_block
-birth_sound l new p w counted birth h =
+birth_sound l new p w bounds counted birth h =
     let some : 0 < new.section.len = let not_empty : is_empty new.section ≡ false = (absent_says new.section w.ranges birth.absent).1 in grind (arith, nat_tests) in
     record {
       ranges_apart = birth_ranges l new p w some birth h.ranges_apart;
-      blocks_apart = birth_blocks l new p w some birth h.blocks_apart;
+      blocks_apart = birth_blocks l new p w bounds some birth h.blocks_apart;
       one_block_each = birth_each l new p w birth h;
       counted = all_with (IsCounted l) new w.ranges counted h.counted;
       attached = birth_attached l w.blocks w.attached (born_block new.block p new.section.len) h.attached;

@@ -1,4 +1,4 @@
--- Over every legal list of events: the records stay sound, numbers of regions rise, and both counters of every block are those of the events.
+-- A legal event keeps the records of its device sound and the numbers of regions rising, and tells both counters of every block.
 use Rattle.std.proofs.Common.{ℕ, ◌≡◌, ◌+◌, ◌-◌, ◌≤◌, ◌<◌, refl, sym, ◌∙◌, ap, subst, Bool, cond, List, [], ◌∷◌, Option, Some, None, arith}
 use Rattle.std.specs.Prelude.{reverse, fold, sum_by, unwrap_or, option_map, IsSome, IfSome, ⊤}
 use Rattle.std.specs.List.{AllByRecursion}
@@ -14,10 +14,9 @@ use Rattle.acc_base.specs.Ranges.{range_of, structured_of, dynamic_of}
 use Rattle.acc_base.specs.Clauses.{as_region}
 use Rattle.acc_base.specs.Steps.{act_all}
 use Rattle.acc_base.specs.Waits.{records_drained}
-use Rattle.acc_base.specs.Walk.{enter_task, enter_data_task, exit_task, move_task, asked_in, done_in, stepped_in, register_after, holdings_of, walk, walk_all, loaned}
-use Rattle.acc_base.specs.History.{NamesRight, drops, count_counted, count_dropped, entries_of, exits_of, entries_in, exits_in, dynamic_in, dynamic_after, IsLegal, AreLegal}
-use Rattle.acc_base.specs.Calls.{Base, History}
-use Rattle.acc_base.specs.Accounts.{AreRecordsSound, AreHeld, IsFounded, IsHistoryLegal}
+use Rattle.acc_base.specs.Walk.{enter_task, enter_data_task, exit_task, move_task, asked_in, done_in, stepped_in, register_after, holdings_of, walk, loaned}
+use Rattle.acc_base.specs.History.{NamesRight, drops, count_counted, count_dropped, entries_of, exits_of, entries_in, exits_in, dynamic_in, dynamic_after, IsLegal, Past}
+use Rattle.acc_base.specs.Accounts.{AreRecordsSound, AreHeld}
 use Rattle.acc_base.proofs.Results.{equal_self}
 use Rattle.acc_base.proofs.Elements.{AllByRecursion-weaker, IfSome-weaker}
 use Rattle.acc_base.proofs.Sound.{ranges-drained, drained_sound, new_sound}
@@ -38,26 +37,26 @@ record IsHeldBy (b : ℕ) (e : Event) (g k : Register) : Type 0 where
 
 -- what the tasks of an event make of the counters
 recounted_by : (l : Limits) (e : Event) (g : Register) (w : Records) (b : ℕ) → AreSaid l (asked_in e g) (done_in e) → AreLeft l (asked_in e g) (done_in e) w (act_all (asked_in e g) (done_in e) w) → IsRecounted b e w (act_all (asked_in e g) (done_in e) w)
-recounted_by l (Entered number items did) g w b said left = record {
+recounted_by l (Entered device number items did) g w b said left = record {
   structured = left.counter_is Structured b ∙ (entered_recount l Structured b (λ (i : Item RegionClause). i) None items did (structured_of b w.ranges) said ∙ omega arith);
   dynamic = left.counter_is Dynamic b ∙ recount_same Dynamic b enter_task items did (dynamic_of b w.ranges) (λ x m. refl);
 }
-recounted_by l (Left number did) g w b said left =
+recounted_by l (Left device number did) g w b said left =
     let last_to_first : List Holding = reverse (unwrap_or (holdings_at number g.regions) []) in
     let turned : count_dropped b (reverse did) ≡ count_dropped b did = sum_by-reverse (λ (d : Did). cond (drops b d.step) 1 0) did in
     record {
       structured = left.counter_is Structured b ∙ (left_recount l b last_to_first (reverse did) (structured_of b w.ranges) said ∙ omega arith);
       dynamic = left.counter_is Dynamic b ∙ recount_same Dynamic b Leave last_to_first (reverse did) (dynamic_of b w.ranges) (λ x m. refl);
     }
-recounted_by l (EnteredData items queue did) g w b said left = record {
+recounted_by l (EnteredData device items queue did) g w b said left = record {
   structured = left.counter_is Structured b ∙ (recount_same Structured b (enter_data_task queue) items did (structured_of b w.ranges) (λ x m. refl) ∙ omega arith);
   dynamic = left.counter_is Dynamic b ∙ entered_recount l Dynamic b (λ (i : Item EnterClause). record { clause = as_region i.clause; section = i.section; pointer = i.pointer }) queue items did (dynamic_of b w.ranges) said;
 }
-recounted_by l (ExitedData items finalize queue did) g w b said left = record {
+recounted_by l (ExitedData device items finalize queue did) g w b said left = record {
   structured = left.counter_is Structured b ∙ (recount_same Structured b (exit_task finalize queue) items did (structured_of b w.ranges) (λ x m. refl) ∙ omega arith);
   dynamic = left.counter_is Dynamic b ∙ exited_recount l b finalize queue items did (dynamic_of b w.ranges) said;
 }
-recounted_by l (Updated items if_present queue did) g w b said left = record {
+recounted_by l (Updated device items if_present queue did) g w b said left = record {
   structured = left.counter_is Structured b ∙ (recount_same Structured b (move_task if_present queue) items did (structured_of b w.ranges) (λ x m. refl) ∙ omega arith);
   dynamic = left.counter_is Dynamic b ∙ recount_same Dynamic b (move_task if_present queue) items did (dynamic_of b w.ranges) (λ x m. refl);
 }
@@ -70,11 +69,11 @@ holds (Some holdings) h = refl
 
 -- how often a block is held after an event
 held_by : (l : Limits) (e : Event) (lay : Layout) (b : ℕ) → IsNumbered lay.register → IsLegal l e lay → AreSaid l (asked_in e lay.register) (done_in e) → IsHeldBy b e lay.register (register_after e lay.register)
-held_by l (Entered number items did) lay b h legal said =
-    let more : held_in b (opened (holdings_of items did) lay.register).regions ≡ held_in b lay.register.regions + count_held b (holdings_of items did) = opened_held b (holdings_of items did) lay.register h in
+held_by l (Entered device number items did) lay b h legal said =
+    let more : held_in b (opened number (holdings_of items did) lay.register).regions ≡ held_in b lay.register.regions + count_held b (holdings_of items did) = rw legal.names (opened_held b (holdings_of items did) lay.register h) in
     let counted : count_held b (holdings_of items did) ≡ count_counted b did = held-entered l b items did said in
     record { held = omega arith }
-held_by l (Left number did) lay b h legal said =
+held_by l (Left device number did) lay b h legal said =
     let holdings : List Holding = unwrap_or (holdings_at number lay.register.regions) [] in
     let less : held_in b lay.register.regions ≡ held_in b (closed number lay.register).regions + count_held b holdings = closed_held b number holdings lay.register h (holds (holdings_at number lay.register.regions) legal.names) in
     let turned : count_dropped b (reverse did) ≡ count_dropped b did = sum_by-reverse (λ (d : Did). cond (drops b d.step) 1 0) did in
@@ -83,11 +82,11 @@ held_by l (Left number did) lay b h legal said =
     record { held = omega arith }
 held_by l _ lay b h legal said = record { held = refl }
 
-numbered_by : (e : Event) (g : Register) → IsNumbered g → IsNumbered (register_after e g)
-numbered_by (Entered number items did) g h = opened_numbered (holdings_of items did) g h
-numbered_by (Left number did) g h = closed_numbered number g h
-numbered_by (Lent region section block serial) g h = record { first = h.first; rising = h.rising; known = h.known }
-numbered_by _ g h = h
+numbered_by : (l : Limits) (e : Event) (lay : Layout) → NamesRight l e lay → IsNumbered lay.register → IsNumbered (register_after e lay.register)
+numbered_by l (Entered device number items did) lay names h = rw names (opened_numbered (holdings_of items did) lay.register h)
+numbered_by l (Left device number did) lay names h = closed_numbered number lay.register h
+numbered_by l (Lent device region section block serial) lay names h = record { first = h.first; rising = h.rising; known = h.known }
+numbered_by l _ lay names h = h
 
 -- what holds of a layout, with how often each block was counted and dropped by regions, and its dynamic counter
 pub record IsTold (l : Limits) (lay : Layout) (entries exits dynamics : ℕ → ℕ) : Type 0 where
@@ -110,7 +109,7 @@ walk_told l e lay entries exits dynamics bounds h legal =
     let same : (loaned e made).ranges ≡ (act_all tasks (done_in e) lay.records).ranges = ranges-loaned e made ∙ ranges-drained qs (act_all tasks (done_in e) lay.records) in
     record {
       sound = loaned_sound l e lay legal.names (drained_sound l qs (act_all tasks (done_in e) lay.records) left.sound);
-      numbered = numbered_by e lay.register h.numbered;
+      numbered = numbered_by l e lay legal.names h.numbered;
       held = λ b. ap (structured_of b) same ∙ held_still b (recounted_by l e lay.register lay.records b said left) (held_by l e lay b h.numbered legal said);
       structured = λ b. ap (λ rs. structured_of b rs + (exits b + exits_of b e)) same ∙ counted_still b (recounted_by l e lay.register lay.records b said left) (held_by l e lay b h.numbered legal said);
       dynamic = λ b. ap (dynamic_of b) same ∙ (recounted_by l e lay.register lay.records b said left).dynamic ∙ ap (λ n. dynamic_after b n e) (h.dynamic b);
@@ -124,92 +123,18 @@ walk_told l e lay entries exits dynamics bounds h legal =
         → structured_of b (act_all (asked_in e lay.register) (done_in e) lay.records).ranges + (exits b + exits_of b e) ≡ entries b + entries_of b e
     counted_still b counted holds = omega (arith, h.held b, h.structured b, counted.structured, holds.held)
 
--- ---- a list of events
-
-pub walks_told : (l : Limits) (events : List Event) (lay : Layout) (entries exits dynamics : ℕ → ℕ) → IsWithinBounds l → IsTold l lay entries exits dynamics → AreLegal l events lay
-    → IsTold l (walk_all events lay) (λ b. entries b + sum_by (entries_of b) events) (λ b. exits b + sum_by (exits_of b) events) (λ b. fold (dynamic_after b) (dynamics b) events)
-unfolding walk_all
-walks_told l [] lay entries exits dynamics bounds h legal = record {
-  sound = h.sound;
-  numbered = h.numbered;
-  held = h.held;
-  structured = λ b. omega (arith, h.structured b);
-  dynamic = h.dynamic;
-}
-walks_told l (e ∷ events) lay entries exits dynamics bounds h legal =
-    let first : IsTold l (walk e lay) (λ b. entries b + entries_of b e) (λ b. exits b + exits_of b e) (λ b. dynamic_after b (dynamics b) e) = walk_told l e lay entries exits dynamics bounds h legal.0 in
-    let later : IsTold l (walk_all events (walk e lay)) (λ b. entries b + entries_of b e + sum_by (entries_of b) events) (λ b. exits b + exits_of b e + sum_by (exits_of b) events) (λ b. fold (dynamic_after b) (dynamic_after b (dynamics b) e) events)
-    = walks_told l events (walk e lay) (λ b. entries b + entries_of b e) (λ b. exits b + exits_of b e) (λ b. dynamic_after b (dynamics b) e) bounds first legal.1 in
-    record {
-      sound = later.sound;
-      numbered = later.numbered;
-      held = later.held;
-      structured = λ b. omega (arith, later.structured b, sum_by-cons (entries_of b) e events, sum_by-cons (exits_of b) e events);
-      dynamic = later.dynamic;
-    }
+-- ---- a new device
 
 pub new_told : (l : Limits) → IsTold l new_layout (λ b. 0) (λ b. 0) (λ b. 0)
 new_told l = record { sound = new_sound l; numbered = new_numbered; held = λ b. refl; structured = λ b. refl; dynamic = λ b. refl }
 
--- a base is told by its own counters
-pub base_told : (l : Limits) (base : Base) → IsWithinBounds l → IsFounded l base → IsTold l base.layout (λ b. structured_of b base.layout.records.ranges) (λ b. 0) (λ b. dynamic_of b base.layout.records.ranges)
-base_told l base bounds founded =
-    let all_of = walks_told l founded.events new_layout (λ b. 0) (λ b. 0) (λ b. 0) bounds (new_told l) founded.legal in
-    subst (λ (x : Layout). IsTold l x (λ b. structured_of b x.records.ranges) (λ b. 0) (λ b. dynamic_of b x.records.ranges)) founded.leads (record {
-      sound = all_of.sound;
-      numbered = all_of.numbered;
-      held = all_of.held;
-      structured = λ b. omega arith;
-      dynamic = λ b. refl;
-    })
-
--- what a history says of the layout that it leads to
-pub record IsLedTo (l : Limits) (h : History) (lay : Layout) : Type 0 where
+-- what the past of a device says of the layout that it leads to
+pub record IsLedTo (l : Limits) (h : Past) (lay : Layout) : Type 0 where
   pub sound : AreRecordsSound l lay.records
   pub numbered : IsNumbered lay.register
   pub held : AreHeld lay
   pub structured : (b : ℕ) → structured_of b lay.records.ranges + exits_in b h ≡ entries_in b h
   pub dynamic : (b : ℕ) → dynamic_of b lay.records.ranges ≡ dynamic_in b h
-
--- a legal history leads to sound records, and tells both counters of every block
-pub legal_told : (l : Limits) (h : History) (lay : Layout) → IsWithinBounds l → IsHistoryLegal l h lay → IsLedTo l h lay
-legal_told l h lay bounds legal =
-    let ranges : List Range = h.base.layout.records.ranges in
-    let all_of : IsTold l (walk_all h.trace h.base.layout) (λ b. structured_of b ranges + sum_by (entries_of b) h.trace) (λ b. 0 + sum_by (exits_of b) h.trace) (λ b. fold (dynamic_after b) (dynamic_of b ranges) h.trace)
-    = walks_told l h.trace h.base.layout (λ b. structured_of b ranges) (λ b. 0) (λ b. dynamic_of b ranges) bounds (base_told l h.base bounds legal.founded) legal.legal in
-    subst (IsLedTo l h) legal.leads (record {
-      sound = all_of.sound;
-      numbered = all_of.numbered;
-      held = all_of.held;
-      structured = λ b. omega (arith, all_of.structured b);
-      dynamic = all_of.dynamic;
-    })
-
--- ---- numbers of regions
-
-abbrev pub with_number : Event → List ℕ → List ℕ
-with_number (Entered number items did) numbers = number ∷ numbers
-with_number _ numbers = numbers
-
--- the numbers of the regions that were entered, in order
-abbrev pub numbers_in : List Event → List ℕ
-numbers_in [] = []
-numbers_in (e ∷ events) = with_number e (numbers_in events)
-
--- the numbers count up by one from this one
-abbrev pub AreConsecutive : ℕ → List ℕ → Type 0
-AreConsecutive first [] = ⊤
-AreConsecutive first (n ∷ numbers) = (n ≡ first) × AreConsecutive (first + 1) numbers
-
--- each region's number is one more than that of the region entered before it, so none is used twice, and a refused call uses none
-pub numbers_consecutive : (l : Limits) (events : List Event) (lay : Layout) → AreLegal l events lay → AreConsecutive lay.register.next (numbers_in events)
-unfolding walk
-numbers_consecutive l [] lay legal = tt
-numbers_consecutive l (e ∷ events) lay legal = go e legal.0.names (numbers_consecutive l events (walk e lay) legal.1)
-  where
-    go : (x : Event) → NamesRight l x lay → AreConsecutive (register_after x lay.register).next (numbers_in events) → AreConsecutive lay.register.next (with_number x (numbers_in events))
-    go (Entered number items did) names later = (names, later)
-    go _ names later = later
 
 -- ---- what open regions hold
 

@@ -1,4 +1,4 @@
--- The attachment counters of every block are those of the history that leads to it.
+-- The attachment counters of every block are those of its device's events.
 use Rattle.std.proofs.Common.{ℕ, suc, ◌≡◌, ◌+◌, ◌-◌, ◌<◌, ◌≤◌, refl, sym, ◌∙◌, ap, subst, Bool, true, false, cond, List, [], ◌∷◌, ◌++◌, Option, Some, None, arith}
 use Rattle.std.specs.Prelude.{◌==◌, ◌&&◌, fold, unwrap_or, option_map, IsSome}
 use Rattle.std.proofs.lemmas.Bool.Decides.{nat_tests}
@@ -16,10 +16,9 @@ use Rattle.acc_base.specs.Queues.{head_of, popped}
 use Rattle.acc_base.specs.Tasks.{section_of, recounted}
 use Rattle.acc_base.specs.Steps.{is_in_use, released, records_after_birth, records_after_end, with_range_changed, act_row, with_put, act_step, records_aimed, act, act_all}
 use Rattle.acc_base.specs.Waits.{records_made, records_stepped, records_drained}
-use Rattle.acc_base.specs.Walk.{asked_in, done_in, stepped_in, walk, walk_all, loaned}
-use Rattle.acc_base.specs.Calls.{Base, History}
-use Rattle.acc_base.specs.History.{attached_after, IsAimLegal, AreJudged, AreLegal}
-use Rattle.acc_base.specs.Accounts.{AreRecordsSound, AreAttachmentsTraced, IsHistoryLegal}
+use Rattle.acc_base.specs.Walk.{asked_in, done_in, stepped_in, walk, loaned}
+use Rattle.acc_base.specs.History.{attached_after, IsAimLegal, AreJudged, IsLegal}
+use Rattle.acc_base.specs.Accounts.{AreRecordsSound}
 use Rattle.acc_base.proofs.Results.{equal}
 use Rattle.acc_base.proofs.Elements.{AllByRecursion-weaker, found_has, find-none}
 use Rattle.acc_base.proofs.Lookups.{at-without_same, at-without_other}
@@ -27,11 +26,8 @@ use Rattle.acc_base.proofs.Attached.{same_block, count_at-attached_by, count_at-
 use Rattle.acc_base.proofs.Judged.{IsJudgedTo, step_judged, task_says, IsStepFree}
 use Rattle.acc_base.proofs.Memories.{recounted-block}
 use Rattle.acc_base.proofs.Aimed.{IsAimThere, attach_block, leave_block, exit_block, leave_sound, exit_sound, move_sound, says_aimed, IsLeft, task_left}
-use Rattle.acc_base.proofs.Sound.{drained_sound}
 use Rattle.acc_base.proofs.Puts.{acted_sound}
-use Rattle.acc_base.proofs.Loaned.{loaned_sound}
 use Rattle.acc_base.proofs.AllTasks.{AreLeft, all_left}
-use Rattle.acc_base.proofs.Told.{base_told}
 
 number_in : Block → ℕ
 number_in b = b.number
@@ -57,9 +53,9 @@ count_at-unborn l w block pointer h later = ap (λ o. unwrap_or (option_map (λ 
     go a there false e = e
 
 -- the counters of the blocks that are there are these, and a block that is not born yet has none
-record ArePointersTold (pointers : ℕ → ℕ → ℕ) (w : Records) : Type 0 where
-  there : (block pointer : ℕ) → IsSome (block_at block w.blocks) → count_at block pointer w.attached ≡ pointers block pointer
-  unborn : (block pointer : ℕ) → w.births < block → pointers block pointer ≡ 0
+pub record ArePointersTold (pointers : ℕ → ℕ → ℕ) (w : Records) : Type 0 where
+  pub there : (block pointer : ℕ) → IsSome (block_at block w.blocks) → count_at block pointer w.attached ≡ pointers block pointer
+  pub unborn : (block pointer : ℕ) → w.births < block → pointers block pointer ≡ 0
 
 -- ---- a step leaves the counters of the blocks that are there after it
 
@@ -203,34 +199,25 @@ tasks_told l n _ _ w pointers bounds sound judged h = absurd judged
 -- lending and gathering leave the attachment counters
 loaned_told : (e : Event) (w : Records) (pointers : ℕ → ℕ → ℕ) → ArePointersTold pointers w → ArePointersTold pointers (loaned e w)
 unfolding loaned
-loaned_told (Lent region section block serial) w pointers h = record { there = h.there; unborn = h.unborn }
-loaned_told (Gathered serial block bytes) w pointers h = record { there = h.there; unborn = h.unborn }
+loaned_told (Lent device region section block serial) w pointers h = record { there = h.there; unborn = h.unborn }
+loaned_told (Gathered device serial block bytes) w pointers h = record { there = h.there; unborn = h.unborn }
 loaned_told _ w pointers h = h
 
-pointer_walks_told : (l : Limits) (events : List Event) (lay : Layout) (pointers : ℕ → ℕ → ℕ) → IsWithinBounds l → AreRecordsSound l lay.records → AreLegal l events lay → ArePointersTold pointers lay.records
-    → ArePointersTold (λ block pointer. fold (attached_after block pointer) (pointers block pointer) events) (walk_all events lay).records
-unfolding walk_all walk
-pointer_walks_told l [] lay pointers bounds sound legal h = h
-pointer_walks_told l (e ∷ events) lay pointers bounds sound legal h =
+-- an event tells the attachment counters of its device
+pub event_pointed : (l : Limits) (e : Event) (lay : Layout) (pointers : ℕ → ℕ → ℕ) → IsWithinBounds l → AreRecordsSound l lay.records → IsLegal l e lay → ArePointersTold pointers lay.records
+    → ArePointersTold (λ block pointer. attached_after block pointer (pointers block pointer) e) (walk e lay).records
+unfolding walk
+event_pointed l e lay pointers bounds sound legal h =
     let tasks : List Task = asked_in e lay.register in
     let qs : List ℕ = stepped_in e lay.records.queues in
     let v : Records = act_all tasks (done_in e) lay.records in
-    let left : AreLeft l tasks (done_in e) lay.records v = all_left l 0 tasks (done_in e) lay.records bounds sound legal.0.judged in
     let told : ArePointersTold (λ block pointer. attached_after block pointer (pointers block pointer) e) (records_drained qs v)
-    = drained_told qs v (λ block pointer. attached_after block pointer (pointers block pointer) e) (tasks_told l 0 tasks (done_in e) lay.records pointers bounds sound legal.0.judged h) in
-    pointer_walks_told l events (walk e lay) (λ block pointer. attached_after block pointer (pointers block pointer) e) bounds (loaned_sound l e lay legal.0.names (drained_sound l qs v left.sound)) legal.1
-    (loaned_told e (records_drained qs v) (λ block pointer. attached_after block pointer (pointers block pointer) e) told)
+    = drained_told qs v (λ block pointer. attached_after block pointer (pointers block pointer) e) (tasks_told l 0 tasks (done_in e) lay.records pointers bounds sound legal.judged h) in
+    loaned_told e (records_drained qs v) (λ block pointer. attached_after block pointer (pointers block pointer) e) told
 
--- a base is told by its own counters
-base_pointers_told : (l : Limits) (base : Base) → AreRecordsSound l base.layout.records → ArePointersTold (λ block pointer. count_at block pointer base.layout.records.attached) base.layout.records
-base_pointers_told l base sound = record {
+-- records are told by their own counters
+pub own_pointers_told : (l : Limits) (w : Records) → AreRecordsSound l w → ArePointersTold (λ block pointer. count_at block pointer w.attached) w
+own_pointers_told l w sound = record {
   there = λ block pointer there. refl;
-  unborn = λ block pointer later. count_at-unborn l base.layout.records block pointer sound later;
+  unborn = λ block pointer later. count_at-unborn l w block pointer sound later;
 }
-
--- a legal history tells the attachment counters of every block that it leads to
-pub attachments_traced : (l : Limits) (h : History) (lay : Layout) → IsWithinBounds l → IsHistoryLegal l h lay → AreAttachmentsTraced h lay.records
-attachments_traced l h lay bounds history =
-    let sound : AreRecordsSound l h.base.layout.records = (base_told l h.base bounds history.founded).sound in
-    let told = pointer_walks_told l h.trace h.base.layout (λ block pointer. count_at block pointer h.base.layout.records.attached) bounds sound history.legal (base_pointers_told l h.base sound) in
-    subst (λ (x : Layout). AreAttachmentsTraced h x.records) history.leads told.there

@@ -52,9 +52,9 @@ used_within (suc fuel) low high (b ∷ bs) few order all apart =
     let last : block_end b ≤ high = all.0.last in
     omega arith
 
-pub used_le : (l : Limits) (w : Records) → AreBlocksApart (device_memory l.device) w.blocks w.births → used_bytes w.blocks ≤ l.device
+pub used_le : (l : Limits) (w : Records) → AreBlocksApart (device_memory l) w.blocks w.births → used_bytes w.blocks ≤ l.device
 used_le l w h =
-    let memory : Section = device_memory l.device in
+    let memory : Section = device_memory l in
     let within : used_bytes w.blocks ≤ end_of memory - memory.start = used_within (length w.blocks) memory.start (end_of memory) w.blocks (omega arith) (omega arith)
     (AllByRecursion-weaker (IsOnDevice memory) (IsBetween memory.start (end_of memory)) w.blocks (λ b o. record { first = o.first; last = o.last }) h.on_device)
     (EachPair-weaker IsClearOf IsBesideBlock w.blocks (λ b c k. k.addresses) h.apart) in

@@ -1,21 +1,20 @@
--- What holds of every world that accepted calls lead to: ranges and blocks are apart and account for every used byte, and every counter is what the history gives.
+-- What holds of every world that accepted calls lead to: on each device ranges and blocks are apart and account for every used byte, and every counter is what the history gives.
 use Rattle.std.specs.Prelude.{ℕ, ◌+◌, ◌%◌, ◌≡◌, ◌<◌, ◌≤◌, ◌⊎◌, true, false, List, [], ◌∷◌, length, Some, IsSome, ⊤}
 use Rattle.std.specs.List.{AllByRecursion, AllZip}
 use Rattle.acc_base.specs.Words.{Section, Range, Block, Attachment, Transfer, Loan, Event}
 use Rattle.acc_base.specs.declared.transfers.TheConstants.{QUEUE_COUNT}
-use Rattle.acc_base.specs.Limits.{Limits}
+use Rattle.acc_base.specs.Limits.{Limits, limits_on}
 use Rattle.acc_base.specs.Section.{end_of, is_within, host_memory, device_memory}
 use Rattle.acc_base.specs.Ranges.{range_of, structured_of}
 use Rattle.acc_base.specs.Blocks.{block_at, block_end, used_bytes}
 use Rattle.acc_base.specs.Attachments.{IsBefore, IsCountWithin, count_at}
 use Rattle.acc_base.specs.Loans.{is_lent}
 use Rattle.acc_base.specs.Register.{Region, Register, held_in}
-use Rattle.acc_base.specs.Records.{Records, Memory, Layout, State, new_layout, new_state, layout_of}
+use Rattle.acc_base.specs.Records.{Records, Memory, Layout, State, layout_of}
 use Rattle.acc_base.specs.Steps.{is_in_use}
-use Rattle.acc_base.specs.Walk.{walk_all}
-use Rattle.acc_base.specs.Replay.{replayed}
-use Rattle.acc_base.specs.Calls.{Base, History, World, state_in, event_count, open_regions}
-use Rattle.acc_base.specs.History.{entries_in, exits_in, dynamic_in, attached_in, AreLegal}
+use Rattle.acc_base.specs.Devices.{Whole, Shelves, device_at, shelf_of, shelves_of, new_whole, new_shelves, open_regions, view, events_on, walk_all_on, replayed, shelf_alone}
+use Rattle.acc_base.specs.Calls.{Base, History, World, event_count}
+use Rattle.acc_base.specs.History.{Past, entries_in, exits_in, dynamic_in, attached_in, AreLegal}
 
 -- each one is related to each later one
 abbrev pub EachPair : {X : Type 0} → (X → X → Type 0) → List X → Type 0
@@ -144,7 +143,7 @@ pub record AreMemoriesSized (l : Limits) (s : State) : Type 0 where
 -- the records alone, which a directive keeps from item to item
 pub record AreRecordsSound (l : Limits) (w : Records) : Type 0 where
   pub ranges_apart : AreRangesApart l w.ranges
-  pub blocks_apart : AreBlocksApart (device_memory l.device) w.blocks w.births
+  pub blocks_apart : AreBlocksApart (device_memory l) w.blocks w.births
   pub one_block_each : HasOneBlockEach w
   pub counted : AllByRecursion (IsCounted l) w.ranges
   pub attached : AreAttachmentsSound l w.blocks w.attached
@@ -164,43 +163,55 @@ pub record IsSound (l : Limits) (s : State) : Type 0 where
 
 -- ---- the history
 
--- both counters of a range are those of the history: the structured one with the exits makes up the entries
-pub record IsTraced (h : History) (r : Range) : Type 0 where
-  pub structured : r.structured + exits_in r.block h ≡ entries_in r.block h
-  pub dynamic : r.dynamic ≡ dynamic_in r.block h
+-- what a device had at the base of a history, and its events since
+abbrev pub past_on : ℕ → History → Past
+past_on d h = record { records = (device_at d h.base.state.devices).records; trace = events_on d h.trace }
 
--- the attachment counters of the blocks are those of the history
-abbrev pub AreAttachmentsTraced : History → Records → Type 0
-AreAttachmentsTraced h w = (block pointer : ℕ) → IsSome (block_at block w.blocks) → count_at block pointer w.attached ≡ attached_in block pointer h
+-- both counters of a range are those of its device's past: the structured one with the exits makes up the entries
+pub record IsTraced (p : Past) (r : Range) : Type 0 where
+  pub structured : r.structured + exits_in r.block p ≡ entries_in r.block p
+  pub dynamic : r.dynamic ≡ dynamic_in r.block p
+
+-- the attachment counters of the blocks are those of the past
+abbrev pub AreAttachmentsTraced : Past → Records → Type 0
+AreAttachmentsTraced p w = (block pointer : ℕ) → IsSome (block_at block w.blocks) → count_at block pointer w.attached ≡ attached_in block pointer p
 
 -- some legal events, as many as the base says, lead to it from a new table, with full traces to its bytes too
 pub record IsFounded (l : Limits) (base : Base) : Type 0 where
   pub events : List Event
   pub count : length events ≡ base.events
-  pub legal : AreLegal l events new_layout
-  pub leads : walk_all events new_layout ≡ base.layout
-  pub replayed : l.full ≡ true → replayed events (new_state l.host) ≡ state_in base
+  pub legal : AreLegal l events (new_shelves l.devices)
+  pub leads : walk_all_on events (new_shelves l.devices) ≡ shelves_of base.state
+  pub replayed : l.full ≡ true → replayed events (new_whole l.devices l.host) ≡ base.state
 
--- the history is legal from its base on and leads to the layout
-pub record IsHistoryLegal (l : Limits) (h : History) (lay : Layout) : Type 0 where
+-- the history is legal from its base on and leads to what the devices have but bytes
+pub record IsHistoryLegal (l : Limits) (h : History) (w : Shelves) : Type 0 where
   pub founded : IsFounded l h.base
-  pub legal : AreLegal l h.trace h.base.layout
-  pub leads : walk_all h.trace h.base.layout ≡ lay
+  pub legal : AreLegal l h.trace (shelves_of h.base.state)
+  pub leads : walk_all_on h.trace (shelves_of h.base.state) ≡ w
 
--- there are no more events than tickets and places in the trace, and no more open regions than the limit says
+-- there are no more events than tickets and places in the trace, and no more open regions on all devices than the limit says
 pub record AreBooksCounted (w : World) : Type 0 where
   pub tickets : event_count w.history ≤ w.limits.tickets
   pub trace : length w.history.trace ≤ w.limits.trace_cap
   pub regions : open_regions w.state ≤ w.limits.regions
 
--- with full traces both memories, and all else of the state, are what the stored events give from the base on
+-- with full traces all memories, and all else, are what the stored events give from the base on
 abbrev pub IsReplayed : World → Type 0
-IsReplayed w = w.limits.full ≡ true → replayed w.history.trace (state_in w.history.base) ≡ w.state
+IsReplayed w = w.limits.full ≡ true → replayed w.history.trace w.history.base.state ≡ w.state
+
+-- ---- what holds of a device, and of a world
+
+-- a device's view is sound, its counters are those of its past, and it has what its own events alone lead to, whatever happened on other devices
+pub record IsAccountedOn (l : Limits) (h : History) (d : ℕ) (w : Whole) : Type 0 where
+  pub sound : IsSound (limits_on d l) (view d w)
+  pub counters_traced : AllByRecursion (IsTraced (past_on d h)) (view d w).records.ranges
+  pub attachments_traced : AreAttachmentsTraced (past_on d h) (view d w).records
+  pub alone : shelf_of (device_at d w.devices) ≡ shelf_alone (shelf_of (device_at d h.base.state.devices)) (events_on d h.trace)
 
 pub record IsAccounted (w : World) : Type 0 where
-  pub sound : IsSound w.limits w.state
-  pub counters_traced : AllByRecursion (IsTraced w.history) w.state.records.ranges
-  pub attachments_traced : AreAttachmentsTraced w.history w.state.records
-  pub history_legal : IsHistoryLegal w.limits w.history (layout_of w.state)
+  pub as_many : length w.state.devices ≡ w.limits.devices
+  pub devices : (d : ℕ) → d < w.limits.devices → IsAccountedOn w.limits w.history d w.state
+  pub history_legal : IsHistoryLegal w.limits w.history (shelves_of w.state)
   pub memories_replayed : IsReplayed w
   pub books_counted : AreBooksCounted w

@@ -65,8 +65,8 @@ host_after _ brought host = host
 
 -- what an event leaves of the blocks' bytes beside the transfers that it makes: those of a lent block are in its lease, until its call brings them back, and with full traces a copy of them stays
 abbrev pub memories_after : Bool → Event → List ℕ → List Memory → List Memory
-memories_after full (Lent region section block serial) brought memories = map (memory_changed block (recorded full)) memories
-memories_after full (Gathered serial block bytes) brought memories = map (memory_changed block (λ _. brought)) memories
+memories_after full (Lent device region section block serial) brought memories = map (memory_changed block (recorded full)) memories
+memories_after full (Gathered device serial block bytes) brought memories = map (memory_changed block (λ _. brought)) memories
 memories_after full _ brought memories = memories
 
 -- the state after an event, and with the bytes that its call brought, under full or counted traces

@@ -1,30 +1,23 @@
--- A call on a table: its refusal, or its event with the world after it. A world is a history and the state that it led to.
+-- A call on a table: its refusal, or its event with the world after it. A world is a history and what it led to on all devices.
 use Rattle.std.specs.Prelude.{ℕ, ◌+◌, nat_le, Bool, List, [], ◌∷◌, ◌++◌, length, Result, Ok, ⊤}
-use Rattle.acc_base.specs.Words.{Directive, Call, Event, Fault}
-use Rattle.acc_base.specs.declared.directives.Directive.TheVariants.{Enter}
+use Rattle.acc_base.specs.Words.{Section, Directive, Call, Event, Fault}
+use Rattle.acc_base.specs.declared.directives.Directive.TheVariants.{Enter, Exit, EnterData, ExitData, Update, Wait, Step}
 use Rattle.acc_base.specs.declared.calls.Call.TheVariants.{Do, HostWrite, Lend, Gather}
-use Rattle.acc_base.specs.declared.faults.Fault.TheVariants.{NoTickets, NoAllowance, TraceFull}
+use Rattle.acc_base.specs.declared.faults.Fault.TheVariants.{NoTickets, NoAllowance, TraceFull, NoDevice}
 use Rattle.acc_base.specs.Results.{◌>>=◌, ◌>>◌, refuse_if}
-use Rattle.acc_base.specs.Limits.{Limits, recorded}
+use Rattle.acc_base.specs.Limits.{Limits, limits_on}
 use Rattle.acc_base.specs.Loans.{Leased}
-use Rattle.acc_base.specs.Records.{Memory, Layout, State, layout_of, new_state}
-use Rattle.acc_base.specs.Acting.{after}
 use Rattle.acc_base.specs.Judge.{Verdict, Makes, few_items, directive_verdict, host_write_event, lend_event, gather_event}
+use Rattle.acc_base.specs.Devices.{Whole, view, new_whole, open_regions, device_of_region, after_on, recorded_whole}
 
--- what a table had when its trace was last made empty: everything but bytes, with full traces the bytes of both memories too, and how many events had led there
+-- what a table had when its trace was last made empty: everything but bytes, with full traces the bytes of all memories too, and how many events had led there
 pub record Base : Type 0 where
-  pub layout : Layout
-  pub host : List ℕ
-  pub memories : List Memory
+  pub state : Whole
   pub events : ℕ
 
--- a state as a base that so many events had led to
-abbrev pub base_of : Bool → State → ℕ → Base
-base_of full s events = record { layout = layout_of s; host = recorded full s.host; memories = recorded full s.memories; events = events }
-
--- a base with bytes as the state that it was
-abbrev pub state_in : Base → State
-state_in base = record { records = base.layout.records; register = base.layout.register; host = base.host; memories = base.memories }
+-- what a table has as a base that so many events had led to
+abbrev pub base_of : Bool → Whole → ℕ → Base
+base_of full w events = record { state = recorded_whole full w; events = events }
 
 -- a base, and the events since
 pub record History : Type 0 where
@@ -35,11 +28,11 @@ pub record History : Type 0 where
 pub record World : Type 0 where
   pub limits : Limits
   pub history : History
-  pub state : State
+  pub state : Whole
 
 -- a new table, and no event
 abbrev pub new_history : Limits → History
-new_history l = record { base = base_of l.full (new_state l.host) 0; trace = [] }
+new_history l = record { base = base_of l.full (new_whole l.devices l.host) 0; trace = [] }
 
 -- one event more
 abbrev pub with_event : Event → History → History
@@ -50,7 +43,7 @@ abbrev pub event_count : History → ℕ
 event_count h = h.base.events + length h.trace
 
 abbrev pub new_world : Limits → World
-new_world l = record { limits = l; history = new_history l; state = new_state l.host }
+new_world l = record { limits = l; history = new_history l; state = new_whole l.devices l.host }
 
 -- what a world has is its base now, and there is no event since; nothing else changes
 abbrev pub rebased : World → World
@@ -60,22 +53,46 @@ rebased w = record {
   state = w.state;
 }
 
--- how many data regions are open
-abbrev pub open_regions : State → ℕ
-open_regions s = length s.register.regions
+-- ---- which device a directive is for
+
+-- the one that it names, or that of the region that it leaves
+abbrev pub device_for : Directive → Whole → ℕ
+device_for (Enter device items) w = device
+device_for (Exit number) w = device_of_region number w
+device_for (EnterData device items queue) w = device
+device_for (ExitData device items finalize queue) w = device
+device_for (Update device items if_present queue) w = device
+device_for (Wait device queue) w = device
+device_for (Step device queue) w = device
+
+-- ---- what is refused before the items are judged
 
 -- there is a ticket for one more event
 abbrev pub ticket : World → Result ⊤ Fault
 ticket w = refuse_if (nat_le w.limits.tickets (event_count w.history)) (NoTickets 0)
 
--- entry to a region: there are fewer open regions than the limit says
+-- entry to a region: there are fewer open regions on all devices than the limit says
 abbrev pub allowance : World → Directive → Result ⊤ Fault
-allowance w (Enter items) = refuse_if (nat_le w.limits.regions (open_regions w.state)) (NoAllowance 0)
+allowance w (Enter device items) = refuse_if (nat_le w.limits.regions (open_regions w.state)) (NoAllowance 0)
 allowance w _ = Ok tt
 
 -- there is room in the trace for one more event
 abbrev pub trace_room : World → Result ⊤ Fault
 trace_room w = refuse_if (nat_le w.limits.trace_cap (length w.history.trace)) (TraceFull (length w.history.trace))
+
+-- there is such a device
+abbrev pub device_there : World → ℕ → Result ⊤ Fault
+device_there w d = refuse_if (nat_le w.limits.devices d) (NoDevice d)
+
+-- ---- a call
+
+-- a directive on a device, in that device's view
+abbrev pub verdict_on : World → ℕ → Directive → Result Verdict Fault
+verdict_on w d directive = directive_verdict (limits_on d w.limits) d directive (view d w.state)
+
+-- the loan of a section that is mapped on a device, in that device's view
+abbrev pub loan_on : World → ℕ → ℕ → Section → Result Event Fault
+loan_on w d region section = lend_event (limits_on d w.limits) d region section (view d w.state)
 
 -- the first refusal of a call in the order of refusals, or what it comes to
 unfoldable pub judge : World → Call Leased → Result Verdict Fault
@@ -84,7 +101,8 @@ judge w (Do directive) = do
   allowance w directive
   few_items directive
   trace_room w
-  directive_verdict w.limits directive w.state
+  device_there w (device_for directive w.state)
+  verdict_on w (device_for directive w.state) directive
 judge w (HostWrite addr bytes) = do
   ticket w
   trace_room w
@@ -93,12 +111,12 @@ judge w (HostWrite addr bytes) = do
 judge w (Lend region section) = do
   ticket w
   trace_room w
-  e ← lend_event w.limits region section w.state
+  e ← loan_on w (device_of_region region w.state) region section
   Ok (Makes e)
 judge w (Gather lease) = do
   ticket w
   trace_room w
-  e ← gather_event w.limits.full lease w.state
+  e ← gather_event w.limits.full lease (view lease.device w.state)
   Ok (Makes e)
 
 -- the bytes that a call brings
@@ -112,5 +130,5 @@ unfoldable pub world_after : Call Leased → Event → World → World
 world_after call e w = record {
   limits = w.limits;
   history = with_event e w.history;
-  state = after w.limits.full e (bytes_brought call) w.state;
+  state = after_on w.limits.full e (bytes_brought call) w.state;
 }

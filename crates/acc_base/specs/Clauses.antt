@@ -90,7 +90,7 @@ born_at (Some place) n section w = Ok (Born (w.births + 1) place)
 
 -- a birth at the least place that fits
 abbrev pub born : Limits → ℕ → Section → Records → Result Step Fault
-born l n section w = born_at (place_for (device_memory l.device) w.blocks (rounded section.len)) n section w
+born l n section w = born_at (place_for (device_memory l) w.blocks (rounded section.len)) n section w
 
 -- the row of an absent section
 abbrev pub enter_absent : RegionClause → Limits → ℕ → Section → Records → Result Step Fault

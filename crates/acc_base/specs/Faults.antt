@@ -2,7 +2,7 @@
 use Rattle.std.specs.Prelude.{ℕ, List, [], ◌++◌, codes}
 use Rattle.std.specs.Fmt.{decimal}
 use Rattle.acc_base.specs.Words.{Fault, ScriptFault}
-use Rattle.acc_base.specs.declared.faults.Fault.TheVariants.{Memory, BadConfig, NoTickets, NoAllowance, TooManyItems, TraceFull, OutOfHost, Misaligned, NoQueue, PartlyPresent, NotPresent, CounterFull, Lent, DeviceFull, QueueFull, NoRegion, NoLease, BadCuts, Script, Read, Write}
+use Rattle.acc_base.specs.declared.faults.Fault.TheVariants.{Memory, BadConfig, NoTickets, NoAllowance, TooManyItems, TraceFull, OutOfHost, Misaligned, NoQueue, PartlyPresent, NotPresent, CounterFull, Lent, DeviceFull, QueueFull, NoRegion, NoLease, BadCuts, Script, Read, Write, NoDevice}
 use Rattle.acc_base.specs.declared.faults.ScriptFault.TheVariants.{TooLong, NotText, Syntax, Number, UnknownName, NameTaken, HostFull, NoOpenRegion, Unclosed}
 
 abbrev pub number_of : Fault → ℕ
@@ -27,6 +27,7 @@ number_of BadCuts = 18
 number_of (Script line kind) = 19
 number_of Read = 20
 number_of Write = 21
+number_of (NoDevice device) = 22
 
 abbrev pub name_of : Fault → List ℕ
 name_of Memory = codes "Memory"
@@ -50,6 +51,7 @@ name_of BadCuts = codes "BadCuts"
 name_of (Script line kind) = codes "Script"
 name_of Read = codes "Read"
 name_of Write = codes "Write"
+name_of (NoDevice device) = codes "NoDevice"
 
 abbrev pub kind_name_of : ScriptFault → List ℕ
 kind_name_of TooLong = codes "TooLong"
@@ -78,6 +80,7 @@ fields_text (Lent block) = codes " block " ++ decimal block
 fields_text (DeviceFull item need) = codes " item " ++ decimal item ++ codes " need " ++ decimal need
 fields_text (QueueFull q) = codes " q " ++ decimal q
 fields_text (NoRegion number) = codes " number " ++ decimal number
+fields_text (NoDevice device) = codes " device " ++ decimal device
 fields_text (NoLease serial) = codes " serial " ++ decimal serial
 fields_text (Script line kind) = codes " line " ++ decimal line ++ codes " kind " ++ kind_name_of kind
 fields_text _ = []

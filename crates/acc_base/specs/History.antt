@@ -1,11 +1,11 @@
--- The counters as counts over the events since a base, from its own values on; and which lists of events are legal.
+-- The counters of a device as counts over its events since a base, from its own values on; and which lists of events are legal.
 use Rattle.std.specs.Prelude.{ℕ, suc, ◌+◌, ◌-◌, ◌≡◌, ◌<◌, Bool, false, if◌then◌else◌, ◌==◌, List, [], ◌∷◌, length, Option, option_map, Some, Ok, count_by, sum_by, fold, IsSome, ⊤}
 use Rattle.acc_base.specs.Words.{Step, Did, Event, Aim, Task, Loan}
 use Rattle.acc_base.specs.declared.events.Step.TheVariants.{Counted, Born, Dropped}
 use Rattle.acc_base.specs.declared.events.Event.TheVariants.{Entered, Left, EnteredData, ExitedData, Updated, Waited, Stepped, HostWritten, Lent, Gathered}
 use Rattle.acc_base.specs.declared.attachments.Aim.TheVariants as aims
 use Rattle.acc_base.specs.declared.tasks.Task.TheVariants.{Enter, Leave, Exit, Move}
-use Rattle.acc_base.specs.Limits.{Limits}
+use Rattle.acc_base.specs.Limits.{Limits, limits_on}
 use Rattle.acc_base.specs.Records.{Records, Layout}
 use Rattle.acc_base.specs.Ranges.{where_is, structured_of, dynamic_of}
 use Rattle.acc_base.specs.Register.{holdings_at}
@@ -17,8 +17,13 @@ use Rattle.acc_base.specs.Detaching.{block_in, block_with, detach_if, judge_rele
 use Rattle.acc_base.specs.Pointers.{device_address_of}
 use Rattle.acc_base.specs.Queues.{head_of, queue_named}
 use Rattle.acc_base.specs.Waits.{steps_of, transfers_of}
-use Rattle.acc_base.specs.Walk.{asked_in, done_in, walk}
-use Rattle.acc_base.specs.Calls.{History}
+use Rattle.acc_base.specs.Walk.{asked_in, done_in}
+use Rattle.acc_base.specs.Devices.{Shelves, device_in, layout_in, walk_on}
+
+-- what a device had when the trace was last made empty, and its events since
+pub record Past : Type 0 where
+  pub records : Records
+  pub trace : List Event
 
 -- a step counted the block
 abbrev pub counts : ℕ → Step → Bool
@@ -43,20 +48,20 @@ count_dropped block did = count_by (λ d. drops block d.step) did
 
 -- how often an event's entry to a region counted the block
 abbrev pub entries_of : ℕ → Event → ℕ
-entries_of block (Entered number items did) = count_counted block did
+entries_of block (Entered device number items did) = count_counted block did
 entries_of block _ = 0
 
 -- how often an event's exit from a region dropped it
 abbrev pub exits_of : ℕ → Event → ℕ
-exits_of block (Left number did) = count_dropped block did
+exits_of block (Left device number did) = count_dropped block did
 exits_of block _ = 0
 
 -- how often all entries counted the block, and its counter in the base
-abbrev pub entries_in : ℕ → History → ℕ
-entries_in block h = structured_of block h.base.layout.records.ranges + sum_by (entries_of block) h.trace
+abbrev pub entries_in : ℕ → Past → ℕ
+entries_in block h = structured_of block h.records.ranges + sum_by (entries_of block) h.trace
 
 -- how often all exits since dropped it
-abbrev pub exits_in : ℕ → History → ℕ
+abbrev pub exits_in : ℕ → Past → ℕ
 exits_in block h = sum_by (exits_of block) h.trace
 
 -- ---- the dynamic counter (OpenACC 3.3, section 2.6.7): `enter data` adds, `exit data` takes away, `finalize` gives zero
@@ -67,12 +72,12 @@ dynamic_dropped finalize block n did = if drops block did.step then (if finalize
 
 -- after an event
 abbrev pub dynamic_after : ℕ → ℕ → Event → ℕ
-dynamic_after block n (EnteredData items queue did) = n + count_counted block did
-dynamic_after block n (ExitedData items finalize queue did) = fold (dynamic_dropped finalize block) n did
+dynamic_after block n (EnteredData device items queue did) = n + count_counted block did
+dynamic_after block n (ExitedData device items finalize queue did) = fold (dynamic_dropped finalize block) n did
 dynamic_after block n _ = n
 
-abbrev pub dynamic_in : ℕ → History → ℕ
-dynamic_in block h = fold (dynamic_after block) (dynamic_of block h.base.layout.records.ranges) h.trace
+abbrev pub dynamic_in : ℕ → Past → ℕ
+dynamic_in block h = fold (dynamic_after block) (dynamic_of block h.records.ranges) h.trace
 
 -- ---- the attachment counter of a pointer in a block (OpenACC 3.3, section 2.6.7): what attaching and detaching makes of it
 
@@ -80,8 +85,8 @@ dynamic_in block h = fold (dynamic_after block) (dynamic_of block h.base.layout.
 abbrev pub attached_after : ℕ → ℕ → ℕ → Event → ℕ
 attached_after block pointer n e = fold (λ m d. count_after block pointer d.aim m) n (done_in e)
 
-abbrev pub attached_in : ℕ → ℕ → History → ℕ
-attached_in block pointer h = fold (attached_after block pointer) (count_at block pointer h.base.layout.records.attached) h.trace
+abbrev pub attached_in : ℕ → ℕ → Past → ℕ
+attached_in block pointer h = fold (attached_after block pointer) (count_at block pointer h.records.attached) h.trace
 
 -- ---- legal events: of bytes, an event tells alone whether an attachment acts, and the target that it writes
 
@@ -115,22 +120,27 @@ HasRecorded l len bytes = length bytes ≡ (if l.full then len else 0)
 
 -- what an event names is so: a new region has the next number, a region that is left is open, there is the queue, a wait makes as many transfers as wait there, a step makes the first one, none of them of a lent block, a write lies in host memory and its bytes are stored, a loan is of a section inside a range whose block is not lent, in an open region and under the next serial number, and a block comes back that is lent under that number, and the bytes of its section are stored
 abbrev pub NamesRight : Limits → Event → Layout → Type 0
-NamesRight l (Entered number items did) lay = number ≡ lay.register.next
-NamesRight l (Left number did) lay = IsSome (holdings_at number lay.register.regions)
-NamesRight l (EnteredData items queue did) lay = queue_named queue ≡ Ok tt
-NamesRight l (ExitedData items finalize queue did) lay = queue_named queue ≡ Ok tt
-NamesRight l (Updated items if_present queue did) lay = queue_named queue ≡ Ok tt
-NamesRight l (Waited queue count) lay = (queue_named queue ≡ Ok tt) × (count ≡ length (steps_of queue lay.records.queues)) × (none_lent (transfers_of queue lay.records.queues) lay.records.loans ≡ Ok tt)
-NamesRight l (Stepped queue block) lay = (option_map (λ t. t.block) (head_of queue lay.records.queues) ≡ Some block) × (is_lent block lay.records.loans ≡ false)
+NamesRight l (Entered device number items did) lay = number ≡ lay.register.next
+NamesRight l (Left device number did) lay = IsSome (holdings_at number lay.register.regions)
+NamesRight l (EnteredData device items queue did) lay = queue_named queue ≡ Ok tt
+NamesRight l (ExitedData device items finalize queue did) lay = queue_named queue ≡ Ok tt
+NamesRight l (Updated device items if_present queue did) lay = queue_named queue ≡ Ok tt
+NamesRight l (Waited device queue count) lay = (queue_named queue ≡ Ok tt) × (count ≡ length (steps_of queue lay.records.queues)) × (none_lent (transfers_of queue lay.records.queues) lay.records.loans ≡ Ok tt)
+NamesRight l (Stepped device queue block) lay = (option_map (λ t. t.block) (head_of queue lay.records.queues) ≡ Some block) × (is_lent block lay.records.loans ≡ false)
 NamesRight l (HostWritten addr len bytes) lay = (in_host l 0 (record { start = addr; len = len }) ≡ Ok tt) × HasRecorded l len bytes
-NamesRight l (Lent region section block serial) lay = IsSome (holdings_at region lay.register.regions) × (block_in (where_is section lay.records.ranges) ≡ Some block) × (is_lent block lay.records.loans ≡ false) × (serial ≡ lay.register.serial)
-NamesRight l (Gathered serial block bytes) lay = (loan : Loan) × (loan_of block lay.records.loans ≡ Some loan) × (loan.serial ≡ serial) × HasRecorded l loan.len bytes
+NamesRight l (Lent device region section block serial) lay = IsSome (holdings_at region lay.register.regions) × (block_in (where_is section lay.records.ranges) ≡ Some block) × (is_lent block lay.records.loans ≡ false) × (serial ≡ lay.register.serial)
+NamesRight l (Gathered device serial block bytes) lay = (loan : Loan) × (loan_of block lay.records.loans ≡ Some loan) × (loan.serial ≡ serial) × HasRecorded l loan.len bytes
 
 pub record IsLegal (l : Limits) (e : Event) (lay : Layout) : Type 0 where
   pub names : NamesRight l e lay
   pub judged : AreJudged l 0 (asked_in e lay.register) (done_in e) lay.records
 
+-- its device is there, and it is legal in that device's layout
+pub record IsLegalOn (l : Limits) (e : Event) (w : Shelves) : Type 0 where
+  pub there : device_in e < length w.devices
+  pub legal : IsLegal (limits_on (device_in e) l) e (layout_in (device_in e) w)
+
 -- each event in what the events before it left
-abbrev pub AreLegal : Limits → List Event → Layout → Type 0
-AreLegal l [] lay = ⊤
-AreLegal l (e ∷ events) lay = IsLegal l e lay × AreLegal l events (walk e lay)
+abbrev pub AreLegal : Limits → List Event → Shelves → Type 0
+AreLegal l [] w = ⊤
+AreLegal l (e ∷ events) w = IsLegalOn l e w × AreLegal l events (walk_on e w)

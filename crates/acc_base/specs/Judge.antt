@@ -25,10 +25,10 @@ item_limit = 64
 
 -- how many items a directive names
 abbrev pub item_count : Directive → ℕ
-item_count (Enter items) = length items
-item_count (EnterData items queue) = length items
-item_count (ExitData items finalize queue) = length items
-item_count (Update items if_present queue) = length items
+item_count (Enter device items) = length items
+item_count (EnterData device items queue) = length items
+item_count (ExitData device items finalize queue) = length items
+item_count (Update device items if_present queue) = length items
 item_count _ = 0
 
 abbrev pub few_items : Directive → Result ⊤ Fault
@@ -36,11 +36,11 @@ few_items d = refuse_if (nat_lt item_limit (item_count d)) (TooManyItems (item_c
 
 -- what a directive asks, in the order in which it acts, where the region that it leaves holds these
 abbrev pub tasks_with : Directive → List Holding → List Task
-tasks_with (Enter items) holdings = map enter_task items
+tasks_with (Enter device items) holdings = map enter_task items
 tasks_with (Exit number) holdings = leave_tasks holdings
-tasks_with (EnterData items queue) holdings = map (enter_data_task queue) items
-tasks_with (ExitData items finalize queue) holdings = map (exit_task finalize queue) items
-tasks_with (Update items if_present queue) holdings = map (move_task if_present queue) items
+tasks_with (EnterData device items queue) holdings = map (enter_data_task queue) items
+tasks_with (ExitData device items finalize queue) holdings = map (exit_task finalize queue) items
+tasks_with (Update device items if_present queue) holdings = map (move_task if_present queue) items
 tasks_with _ holdings = []
 
 -- what the region holds that a directive leaves, if it is open
@@ -56,17 +56,17 @@ tasks_of d g = do
 
 -- the queue that a directive names
 abbrev pub queue_in : Directive → Option ℕ
-queue_in (EnterData items queue) = queue
-queue_in (ExitData items finalize queue) = queue
-queue_in (Update items if_present queue) = queue
-queue_in (Wait queue) = queue
-queue_in (Step queue) = Some queue
+queue_in (EnterData device items queue) = queue
+queue_in (ExitData device items finalize queue) = queue
+queue_in (Update device items if_present queue) = queue
+queue_in (Wait device queue) = queue
+queue_in (Step device queue) = Some queue
 queue_in _ = None
 
 -- the queued transfers that a directive makes
 abbrev pub transfers_in : Directive → List (List Transfer) → List Transfer
-transfers_in (Wait queue) queues = transfers_of queue queues
-transfers_in (Step queue) queues = take 1 (queue_at queue queues)
+transfers_in (Wait device queue) queues = transfers_of queue queues
+transfers_in (Step device queue) queues = take 1 (queue_at queue queues)
 transfers_in _ queues = []
 
 -- what an accepted call comes to: an event, or nothing to do
@@ -74,33 +74,33 @@ pub data Verdict : Type 0 where
   Makes : Event → Verdict
   Idle : Verdict
 
--- the step of a queue makes its first transfer; there is nothing to do where the queue is empty
-abbrev pub step_verdict : ℕ → Option Transfer → Verdict
-step_verdict queue None = Idle
-step_verdict queue (Some t) = Makes (events.Stepped queue t.block)
+-- the step of a queue of a device makes its first transfer; there is nothing to do where the queue is empty
+abbrev pub step_verdict : ℕ → ℕ → Option Transfer → Verdict
+step_verdict d queue None = Idle
+step_verdict d queue (Some t) = Makes (events.Stepped d queue t.block)
 
--- what a directive comes to whose tasks did this, in the order in which they acted
-abbrev pub verdict_of : Directive → State → List Did → Verdict
-verdict_of (Enter items) s dids = Makes (events.Entered s.register.next items dids)
-verdict_of (Exit number) s dids = Makes (events.Left number (reverse dids))
-verdict_of (EnterData items queue) s dids = Makes (events.EnteredData items queue dids)
-verdict_of (ExitData items finalize queue) s dids = Makes (events.ExitedData items finalize queue dids)
-verdict_of (Update items if_present queue) s dids = Makes (events.Updated items if_present queue dids)
-verdict_of (Wait queue) s dids = Makes (events.Waited queue (length (steps_of queue s.records.queues)))
-verdict_of (Step queue) s dids = step_verdict queue (head_of queue s.records.queues)
+-- what a directive comes to on a device where its tasks did this, in the order in which they acted
+abbrev pub verdict_of : ℕ → Directive → State → List Did → Verdict
+verdict_of d (Enter device items) s dids = Makes (events.Entered d s.register.next items dids)
+verdict_of d (Exit number) s dids = Makes (events.Left d number (reverse dids))
+verdict_of d (EnterData device items queue) s dids = Makes (events.EnteredData d items queue dids)
+verdict_of d (ExitData device items finalize queue) s dids = Makes (events.ExitedData d items finalize queue dids)
+verdict_of d (Update device items if_present queue) s dids = Makes (events.Updated d items if_present queue dids)
+verdict_of d (Wait device queue) s dids = Makes (events.Waited d queue (length (steps_of queue s.records.queues)))
+verdict_of d (Step device queue) s dids = step_verdict d queue (head_of queue s.records.queues)
 
--- the first refusal of a directive, or what it comes to: an unknown region is told first, then an unknown queue, and then its items, or the transfers that it makes, in the order in which they act
-unfoldable pub directive_verdict : Limits → Directive → State → Result Verdict Fault
-directive_verdict l d s = do
-  tasks ← tasks_of d s.register
-  queue_named (queue_in d)
+-- the first refusal of a directive on a device, in that device's view, or what it comes to: an unknown region is told first, then an unknown queue, and then its items, or the transfers that it makes, in the order in which they act
+unfoldable pub directive_verdict : Limits → ℕ → Directive → State → Result Verdict Fault
+directive_verdict l d directive s = do
+  tasks ← tasks_of directive s.register
+  queue_named (queue_in directive)
   dids ← judge_all l 0 tasks s
-  none_lent (transfers_in d s.records.queues) s.records.loans
-  Ok (verdict_of d s dids)
+  none_lent (transfers_in directive s.records.queues) s.records.loans
+  Ok (verdict_of d directive s dids)
 
 -- what planning a directive answers: too many items are told before all else
-unfoldable pub plan_of : Limits → Directive → State → Result Verdict Fault
-plan_of l d s = few_items d >> directive_verdict l d s
+unfoldable pub plan_of : Limits → ℕ → Directive → State → Result Verdict Fault
+plan_of l d directive s = few_items directive >> directive_verdict l d directive s
 
 -- the event of a write of bytes from a host address on
 abbrev pub written : Bool → ℕ → List ℕ → Event
@@ -117,23 +117,23 @@ abbrev pub region_open : ℕ → Register → Result ⊤ Fault
 region_open number g = refuse_if (is_none (holdings_at number g.regions)) (NoRegion number)
 
 -- the event of a loan of a section that lies there
-abbrev pub lend_there : Found → ℕ → Section → State → Result Event Fault
-lend_there Empty region section s = Err (NotPresent 0)
-lend_there (Inside block offset) region section s = not_lent (Some block) s.records.loans >> Ok (events.Lent region section block s.register.serial)
-lend_there Partly region section s = Err (PartlyPresent 0)
-lend_there Absent region section s = Err (NotPresent 0)
+abbrev pub lend_there : Found → ℕ → ℕ → Section → State → Result Event Fault
+lend_there Empty d region section s = Err (NotPresent 0)
+lend_there (Inside block offset) d region section s = not_lent (Some block) s.records.loans >> Ok (events.Lent d region section block s.register.serial)
+lend_there Partly d region section s = Err (PartlyPresent 0)
+lend_there Absent d region section s = Err (NotPresent 0)
 
--- the loan of a section of host memory, which is mapped and not lent, in an open region
-unfoldable pub lend_event : Limits → ℕ → Section → State → Result Event Fault
-lend_event l region section s = region_open region s.register >> (in_host l 0 section >> lend_there (where_is section s.records.ranges) region section s)
+-- the loan of a section of host memory, which is mapped on a device and not lent, in a region that is open there
+unfoldable pub lend_event : Limits → ℕ → ℕ → Section → State → Result Event Fault
+lend_event l d region section s = region_open region s.register >> (in_host l 0 section >> lend_there (where_is section s.records.ranges) d region section s)
 
--- what the lease of a loan holds
-abbrev pub leased : Loan → State → Leased
-leased loan s = record { serial = loan.serial; block = loan.block; offset = loan.offset; len = loan.len; bytes = bytes_of loan.block s.memories }
+-- what the lease of a loan of a device holds
+abbrev pub leased : ℕ → Loan → State → Leased
+leased d loan s = record { device = d; serial = loan.serial; block = loan.block; offset = loan.offset; len = loan.len; bytes = bytes_of loan.block s.memories }
 
 -- the event of a lease that brings its block back
 abbrev pub gathered : Bool → Leased → Event
-gathered full lease = events.Gathered lease.serial lease.block (recorded full (section_bytes lease))
+gathered full lease = events.Gathered lease.device lease.serial lease.block (recorded full (section_bytes lease))
 
 -- a lease brings its block back
 unfoldable pub gather_event : Bool → Leased → State → Result Event Fault

@@ -26,7 +26,8 @@ pub mod Walk
 pub mod Pointers
 pub mod Acting
 pub mod Replay
+pub mod Devices
 pub mod Judge
-pub mod Calls
 pub mod History
+pub mod Calls
 pub mod Accounts

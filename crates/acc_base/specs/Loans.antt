@@ -5,8 +5,9 @@ use Rattle.acc_base.specs.declared.faults.Fault.TheVariants.{Lent}
 use Rattle.acc_base.specs.Results.{◌>>◌, refuse_if}
 use Rattle.acc_base.specs.Blocks.{block_at}
 
--- what a lease holds: the serial number of its loan, the number of the block, the place of the section's first byte in the block, the section's length, and the bytes of the whole block
+-- what a lease holds: the device of its loan and the loan's serial number, the number of the block, the place of the section's first byte in the block, the section's length, and the bytes of the whole block
 pub record Leased : Type 0 where
+  pub device : ℕ
   pub serial : ℕ
   pub block : ℕ
   pub offset : ℕ

@@ -40,9 +40,9 @@ with_region new (r ∷ rs) = if nat_lt new.number r.number then new ∷ r ∷ rs
 abbrev pub without_region : ℕ → List Region → List Region
 without_region number regions = filter (λ r. not (r.number == number)) regions
 
--- a region of the next number is open
-abbrev pub opened : List Holding → Register → Register
-opened holdings g = record { regions = with_region (record { number = g.next; holdings = holdings }) g.regions; next = g.next + 1; serial = g.serial }
+-- a region of a number is open, and the next one counts one more
+abbrev pub opened : ℕ → List Holding → Register → Register
+opened number holdings g = record { regions = with_region (record { number = number; holdings = holdings }) g.regions; next = g.next + 1; serial = g.serial }
 
 -- the region of a number is open no longer
 abbrev pub closed : ℕ → Register → Register

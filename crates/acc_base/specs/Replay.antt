@@ -1,12 +1,11 @@
--- What stored events alone lead to: with full traces they have all bytes that calls brought.
-use Rattle.std.specs.Prelude.{ℕ, true, List, [], ◌∷◌, unwrap_or, option_map}
+-- The bytes that a call brought, as its stored event tells them: full traces have all of them.
+use Rattle.std.specs.Prelude.{ℕ, List, [], unwrap_or, option_map}
 use Rattle.acc_base.specs.Words.{Loan, Event}
 use Rattle.acc_base.specs.declared.events.Event.TheVariants.{HostWritten, Gathered}
 use Rattle.acc_base.specs.Overwriting.{overwritten}
 use Rattle.acc_base.specs.Loans.{loan_of}
 use Rattle.acc_base.specs.Records.{State}
 use Rattle.acc_base.specs.Bytes.{bytes_of}
-use Rattle.acc_base.specs.Acting.{after}
 
 -- the place in a lent block of the first byte of its section
 abbrev pub offset_lent : ℕ → List Loan → ℕ
@@ -15,10 +14,5 @@ offset_lent block loans = unwrap_or (option_map (λ l. l.offset) (loan_of block 
 -- the bytes that the call of an event brought: a block that comes back is the copy that was kept, with those of the section
 abbrev pub bytes_told : Event → State → List ℕ
 bytes_told (HostWritten addr len bytes) s = bytes
-bytes_told (Gathered serial block bytes) s = overwritten (offset_lent block s.records.loans) bytes (bytes_of block s.memories)
+bytes_told (Gathered device serial block bytes) s = overwritten (offset_lent block s.records.loans) bytes (bytes_of block s.memories)
 bytes_told _ s = []
-
--- the state after these events
-unfoldable pub replayed : List Event → State → State
-replayed [] s = s
-replayed (e ∷ events) s = replayed events (after true e (bytes_told e s) s)

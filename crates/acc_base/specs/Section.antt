@@ -1,7 +1,8 @@
 -- A section is the set of its addresses, as whole numbers without an upper bound (OpenACC 3.3, section 2.6).
 use Rattle.std.specs.Prelude.{ℕ, ◌+◌, ◌<◌, ◌≤◌, Bool, ◌&&◌, ◌||◌, nat_le, nat_lt, ◌==◌}
 use Rattle.acc_base.specs.declared.items.Section.{Section}
-use Rattle.acc_base.specs.declared.addresses.TheConstants.{HOST_BASE, DEVICE_BASE}
+use Rattle.acc_base.specs.declared.addresses.TheConstants.{HOST_BASE}
+use Rattle.acc_base.specs.Limits.{Limits}
 
 -- the address is one of the n from p on
 abbrev pub Spans : ℕ → ℕ → ℕ → Type 0
@@ -41,20 +42,17 @@ is_apart s t = nat_le (end_of s) t.start || nat_le (end_of t) s.start
 
 -- ---- the two memories
 
--- where host memory begins, and where device memory begins
+-- where host memory begins
 abbrev pub host_base : ℕ
 host_base = HOST_BASE
-
-abbrev pub device_base : ℕ
-device_base = DEVICE_BASE
 
 -- the host memory of a size in bytes
 abbrev pub host_memory : ℕ → Section
 host_memory size = record { start = host_base; len = size }
 
--- the device memory of a size in bytes
-abbrev pub device_memory : ℕ → Section
-device_memory size = record { start = device_base; len = size }
+-- the device memory of a table
+abbrev pub device_memory : Limits → Section
+device_memory l = record { start = l.device_base; len = l.device }
 
 -- one address
 abbrev pub only : ℕ → Section

@@ -38,26 +38,26 @@ abbrev pub leave_tasks : List Holding → List Task
 leave_tasks holdings = map Leave (reverse holdings)
 
 abbrev pub asked_in : Event → Register → List Task
-asked_in (Entered number items did) g = map enter_task items
-asked_in (Left number did) g = leave_tasks (unwrap_or (holdings_at number g.regions) [])
-asked_in (EnteredData items queue did) g = map (enter_data_task queue) items
-asked_in (ExitedData items finalize queue did) g = map (exit_task finalize queue) items
-asked_in (Updated items if_present queue did) g = map (move_task if_present queue) items
+asked_in (Entered device number items did) g = map enter_task items
+asked_in (Left device number did) g = leave_tasks (unwrap_or (holdings_at number g.regions) [])
+asked_in (EnteredData device items queue did) g = map (enter_data_task queue) items
+asked_in (ExitedData device items finalize queue did) g = map (exit_task finalize queue) items
+asked_in (Updated device items if_present queue did) g = map (move_task if_present queue) items
 asked_in _ g = []
 
 -- what was done, in the same order
 abbrev pub done_in : Event → List Did
-done_in (Entered number items did) = did
-done_in (Left number did) = reverse did
-done_in (EnteredData items queue did) = did
-done_in (ExitedData items finalize queue did) = did
-done_in (Updated items if_present queue did) = did
+done_in (Entered device number items did) = did
+done_in (Left device number did) = reverse did
+done_in (EnteredData device items queue did) = did
+done_in (ExitedData device items finalize queue did) = did
+done_in (Updated device items if_present queue did) = did
 done_in _ = []
 
 -- the queues whose first transfers it made, in that order
 abbrev pub stepped_in : Event → List (List Transfer) → List ℕ
-stepped_in (Waited queue count) queues = steps_of queue queues
-stepped_in (Stepped queue block) queues = queue ∷ []
+stepped_in (Waited device queue count) queues = steps_of queue queues
+stepped_in (Stepped device queue block) queues = queue ∷ []
 stepped_in _ queues = []
 
 -- ---- what it leaves of the register
@@ -79,11 +79,11 @@ abbrev pub holdings_of : List (Item RegionClause) → List Did → List Holding
 holdings_of (item ∷ items) (did ∷ dids) = record { item = item; block = block_counted did.step; aim = pointer_attached did.aim } ∷ holdings_of items dids
 holdings_of _ _ = []
 
--- entry to a region, exit from one and a loan alone change the register
+-- entry to a region, exit from one and a loan alone change the register; a region has the number that its event tells
 abbrev pub register_after : Event → Register → Register
-register_after (Entered number items did) g = opened (holdings_of items did) g
-register_after (Left number did) g = closed number g
-register_after (Lent region section block serial) g = numbered g
+register_after (Entered device number items did) g = opened number (holdings_of items did) g
+register_after (Left device number did) g = closed number g
+register_after (Lent device region section block serial) g = numbered g
 register_after _ g = g
 
 -- ---- what it leaves of the loans
@@ -93,8 +93,8 @@ abbrev pub loan_at : ℕ → ℕ → Section → List Range → Loan
 loan_at serial block section ranges = record { serial = serial; block = block; offset = section.start - start_of block ranges; len = section.len }
 
 unfoldable pub loaned : Event → Records → Records
-loaned (Lent region section block serial) w = record w { loans = with_loan (loan_at serial block section w.ranges) w.loans }
-loaned (Gathered serial block bytes) w = record w { loans = without_loan block w.loans }
+loaned (Lent device region section block serial) w = record w { loans = with_loan (loan_at serial block section w.ranges) w.loans }
+loaned (Gathered device serial block bytes) w = record w { loans = without_loan block w.loans }
 loaned _ w = w
 
 -- ---- the layout after an event
@@ -104,8 +104,3 @@ walk e lay = record {
   records = loaned e (records_drained (stepped_in e lay.records.queues) (act_all (asked_in e lay.register) (done_in e) lay.records));
   register = register_after e lay.register;
 }
-
--- and after a list of events
-unfoldable pub walk_all : List Event → Layout → Layout
-walk_all [] lay = lay
-walk_all (e ∷ events) lay = walk_all events (walk e lay)

@@ -2,6 +2,7 @@
 
 ghost use Rattle.std.specs.Prelude.{◌≡◌, ◌^◌, ◌↔◌, false, true, IsTrue, MatchResult};
 ghost use Rattle.acc_base.specs.Limits.{limits_of, IsWithinBounds, IsSize, IsFromOne};
+ghost use Rattle.acc_base.specs.declared.addresses.TheConstants.{DEVICE_BASE};
 
 use crate::{Fault, MEMORY_MAX};
 use std::marker::Model;
@@ -19,6 +20,7 @@ pub struct Config {
     queue_cap: u64,
     trace_cap: u64,
     full: bool,
+    devices: u64,
 }
 
 impl Model for Config {
@@ -26,9 +28,9 @@ impl Model for Config {
 
     ghost Value = { Limits };
 
-    ghost view = { λ c. limits_of c.host c.device c.regions c.tickets c.counter_max c.queue_cap c.trace_cap c.full };
+    ghost view = { λ c. limits_of c.host c.device c.regions c.tickets c.counter_max c.queue_cap c.trace_cap c.full c.devices };
 
-    ghost invariant = { λ c. IsWithinBounds (limits_of c.host c.device c.regions c.tickets c.counter_max c.queue_cap c.trace_cap c.full) };
+    ghost invariant = { λ c. IsWithinBounds (limits_of c.host c.device c.regions c.tickets c.counter_max c.queue_cap c.trace_cap c.full c.devices) };
 
     ghost inverse = { λ l. record {
       host = l.host;
@@ -39,11 +41,12 @@ impl Model for Config {
       queue_cap = l.queue_cap;
       trace_cap = l.trace_cap;
       full = l.full;
+      devices = l.devices;
     } };
 }
 
 impl Config {
-    /// A configuration of these limits, of tables whose traces are counted.
+    /// A configuration of these limits, of tables of one device whose traces are counted.
     ///
     /// - `host` and `device`: the sizes of host and device memory in bytes, each a multiple of 16 from 16 to
     ///   67,108,864;
@@ -66,8 +69,8 @@ impl Config {
         trace_cap: u64,
     ) -> Result<Config, Fault>
         ensures { MatchResult result
-            (λ c. (c ≡ limits_of host device regions tickets counter_max queue_cap trace_cap false) × IsWithinBounds c)
-            (λ e. (e ≡ Fault.BadConfig) × ¬ IsWithinBounds (limits_of host device regions tickets counter_max queue_cap trace_cap false)) }
+            (λ c. (c ≡ limits_of host device regions tickets counter_max queue_cap trace_cap false 1) × IsWithinBounds c)
+            (λ e. (e ≡ Fault.BadConfig) × ¬ IsWithinBounds (limits_of host device regions tickets counter_max queue_cap trace_cap false 1)) }
     {
         if is_size(host)
             && is_size(device)
@@ -86,6 +89,7 @@ impl Config {
                 queue_cap,
                 trace_cap,
                 full: false,
+                devices: 1,
             })
         } else {
             Err(Fault::BadConfig)
@@ -101,9 +105,29 @@ impl Config {
         Config { full: true, ..self }
     }
 
-    /// Each limit is within the bounds that [`Config::new`] states. Nothing is done.
+    /// The same limits, of tables of so many devices, 1 to 4. Each device has a memory of the size that the configuration
+    /// says, and queues, mapped ranges and counters of its own; host memory, the open regions and the trace are there once.
+    ///
+    /// # Errors
+    ///
+    /// [`Fault::BadConfig`] exactly where the number is not from 1 to 4.
+    pub fn with_devices(self, devices: u64) -> Result<Config, Fault>
+        ensures { MatchResult result
+            (λ c. (c ≡ record self { devices = devices }) × IsFromOne 4 devices)
+            (λ e. (e ≡ Fault.BadConfig) × ¬ IsFromOne 4 devices) }
+    {
+        if is_from_one(devices, 4) {
+            Ok(Config { devices, ..self })
+        } else {
+            Err(Fault::BadConfig)
+        }
+    }
+
+    /// Each limit is within the bounds that [`Config::new`] states, and the memory of the first
+    /// device begins at [`DEVICE_BASE`](crate::DEVICE_BASE). Nothing is done.
     pub fn laws(&self)
-        ensures { IsWithinBounds self.now }
+        ensures bounds { IsWithinBounds self.now }
+        ensures base { self.now.device_base ≡ DEVICE_BASE }
     {
         let _ = &self.host;
     }
@@ -169,6 +193,14 @@ impl Config {
         ensures { result ≡ self.now.full }
     {
         self.full
+    }
+
+    /// How many devices there are: 1 to 4. Their numbers begin at 0.
+    pub fn devices(&self) -> u64
+        ensures value { result ≡ self.now.devices }
+        ensures bounds { IsFromOne 4 result }
+    {
+        self.devices
     }
 }
 

@@ -6,21 +6,27 @@ ghost use Rattle.acc_base.specs.Judge.{item_count};
 use crate::{EnterClause, ExitClause, Item, List, RegionClause, UpdateClause};
 
 /// A directive, with the items of its data clauses in written order. They act in that order; on a region's exit they act
-/// in reverse.
+/// in reverse. Each names the device on which it acts, as `acc_set_device_num` chooses it (OpenACC 3.3, section 3.2), but
+/// for the exit from a region, whose device is that of its entry.
 #[derive(Debug, Drop)]
 pub enum Directive {
     /// Entry to a structured data region: the start of a `data` construct (OpenACC 3.3, section 2.6.5).
     Enter {
+        /// The number of the device, from 0 on.
+        device: u64,
         /// The items of its clauses.
         items: List<Item<RegionClause>>,
     },
-    /// Exit from an open data region: the end of its `data` construct (OpenACC 3.3, section 2.6.5).
+    /// Exit from an open data region: the end of its `data` construct (OpenACC 3.3, section 2.6.5). It acts on the device
+    /// on which the region was entered.
     Exit {
         /// The number that the region's entry was answered.
         number: u64,
     },
     /// The `enter data` directive (OpenACC 3.3, section 2.6.6).
     EnterData {
+        /// The number of the device, from 0 on.
+        device: u64,
         /// The items of its clauses.
         items: List<Item<EnterClause>>,
         /// The `async` clause: the number of the queue into which the copies of its items are put, or `None` where each is
@@ -29,6 +35,8 @@ pub enum Directive {
     },
     /// The `exit data` directive (OpenACC 3.3, section 2.6.6).
     ExitData {
+        /// The number of the device, from 0 on.
+        device: u64,
         /// The items of its clauses.
         items: List<Item<ExitClause>>,
         /// The `finalize` clause: the dynamic counter of each range that an item names becomes zero, and does not fall
@@ -39,6 +47,8 @@ pub enum Directive {
     },
     /// The `update` directive (OpenACC 3.3, the update directive).
     Update {
+        /// The number of the device, from 0 on.
+        device: u64,
         /// The items of its clauses.
         items: List<Item<UpdateClause>>,
         /// The `if_present` clause: a section that is absent is passed over, and not refused.
@@ -49,11 +59,15 @@ pub enum Directive {
     /// The `wait` directive (OpenACC 3.3, the wait directive): the transfers of a queue are made in the order in which
     /// they were put into it, or those of all queues, from the first queue to the last.
     Wait {
+        /// The number of the device, from 0 on.
+        device: u64,
         /// The number of the queue, or `None` for all.
         queue: Option<u64>,
     },
     /// The next transfer of a queue is made, as the device does while the host goes on (OpenACC 3.3, section 2.16).
     Step {
+        /// The number of the device, from 0 on.
+        device: u64,
         /// The number of the queue.
         queue: u64,
     },
@@ -65,7 +79,7 @@ impl Directive {
         ensures { result ≡ item_count self.now }
     {
         match self {
-            Directive::Enter { items } => items.as_slice().len(),
+            Directive::Enter { items, .. } => items.as_slice().len(),
             Directive::EnterData { items, .. } => items.as_slice().len(),
             Directive::ExitData { items, .. } => items.as_slice().len(),
             Directive::Update { items, .. } => items.as_slice().len(),

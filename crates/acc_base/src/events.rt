@@ -48,6 +48,8 @@ pub struct Did {
 pub enum Event {
     /// Entry to a data region.
     Entered {
+        /// The number of the device on which it was entered.
+        device: u64,
         /// The number of the region.
         number: u64,
         /// The items that it named.
@@ -57,6 +59,8 @@ pub enum Event {
     },
     /// Exit from a data region.
     Left {
+        /// The number of the device, that of its entry.
+        device: u64,
         /// The number of the region.
         number: u64,
         /// What undoing each item of the entry did. The last one acted first.
@@ -64,6 +68,8 @@ pub enum Event {
     },
     /// An `enter data` directive.
     EnteredData {
+        /// The number of the device.
+        device: u64,
         /// The items that it named.
         items: List<Item<EnterClause>>,
         /// The queue into which their copies were put, or `None` where each was made at once.
@@ -73,6 +79,8 @@ pub enum Event {
     },
     /// An `exit data` directive.
     ExitedData {
+        /// The number of the device.
+        device: u64,
         /// The items that it named.
         items: List<Item<ExitClause>>,
         /// Whether it had the `finalize` clause.
@@ -84,6 +92,8 @@ pub enum Event {
     },
     /// An `update` directive.
     Updated {
+        /// The number of the device.
+        device: u64,
         /// The items that it named.
         items: List<Item<UpdateClause>>,
         /// Whether it had the `if_present` clause.
@@ -95,6 +105,8 @@ pub enum Event {
     },
     /// A `wait` directive: the transfers of a queue were made, or those of all queues.
     Waited {
+        /// The number of the device.
+        device: u64,
         /// The queue, or `None` for all.
         queue: Option<u64>,
         /// How many transfers were made.
@@ -102,6 +114,8 @@ pub enum Event {
     },
     /// The first transfer of a queue was made.
     Stepped {
+        /// The number of the device.
+        device: u64,
         /// The number of the queue.
         queue: u64,
         /// The number of the block that the transfer names.
@@ -118,6 +132,8 @@ pub enum Event {
     },
     /// The block of a section was lent to a kernel.
     Lent {
+        /// The number of the device, that of the region.
+        device: u64,
         /// The number of the open region in which it was lent.
         region: u64,
         /// The section that the kernel may read and write.
@@ -129,6 +145,8 @@ pub enum Event {
     },
     /// A lent block came back.
     Gathered {
+        /// The number of the device, that of the loan.
+        device: u64,
         /// The serial number of the loan.
         serial: u64,
         /// The number of the block.

@@ -108,6 +108,11 @@ pub enum Fault {
     Read,
     /// The writer failed.
     Write,
+    /// There is no such device.
+    NoDevice {
+        /// The number of the device.
+        device: u64,
+    },
 }
 
 /// What is wrong with a line of a script. `Display` writes the name.
@@ -136,7 +141,7 @@ pub enum ScriptFault {
 impl Fault {
     ghost use Rattle.acc_base.specs.Faults.{number_of, name_of};
 
-    /// The number of the fault, from 1 to 21.
+    /// The number of the fault, from 1 to 22.
     pub fn number(&self) -> u64
         ensures { result ≡ number_of self.now }
     {
@@ -162,6 +167,7 @@ impl Fault {
             Fault::Script { .. } => 19,
             Fault::Read => 20,
             Fault::Write => 21,
+            Fault::NoDevice { .. } => 22,
         }
     }
 
@@ -191,6 +197,7 @@ impl Fault {
             Fault::Script { .. } => "Script",
             Fault::Read => "Read",
             Fault::Write => "Write",
+            Fault::NoDevice { .. } => "NoDevice",
         }
     }
 }
@@ -256,6 +263,7 @@ impl fmt::Display for Fault {
                 write!(f, "{number} {name} item {item} need {need}")
             }
             Fault::NoRegion { number: region } => write!(f, "{number} {name} number {region}"),
+            Fault::NoDevice { device } => write!(f, "{number} {name} device {device}"),
             Fault::NoLease { serial } => write!(f, "{number} {name} serial {serial}"),
             Fault::Script { line, kind } => write!(f, "{number} {name} line {line} kind {kind}"),
         }

@@ -131,8 +131,8 @@ fn make(table: &mut Table, alloc: Global, call: Call, section: Section) -> Resul
     match call {
         Call::Pair => make_round(table, alloc, Work::Data, section)?,
         Call::ToDevice => make_round(table, alloc, Work::ToDevice, section)?,
-        Call::IsPresent => return Ok(u64::from(table.is_present(section))),
-        Call::Address => return Ok(table.device_address(section.start).unwrap_or(0)),
+        Call::IsPresent => return Ok(u64::from(table.is_present(0, section))),
+        Call::Address => return Ok(table.device_address(0, section.start).unwrap_or(0)),
     }
     Ok(0)
 }

@@ -2,7 +2,7 @@
 
 ghost use Rattle.std.specs.Prelude.{◌+◌, ◌<◌, ◌≤◌, ◌^◌};
 
-use acc_base::{Directive, EnterClause, ExitClause, Fault, HOST_BASE, Item, List, Section};
+use acc_base::{Config, Directive, EnterClause, ExitClause, Fault, HOST_BASE, Item, List, Section};
 use acc_bench_work::{each_since, largest, tell};
 use acc_clauses::{Plan, Store};
 use anyhow::Result;
@@ -84,9 +84,15 @@ fn time_pairs<R: Clock>(
 /// A store on which nothing is mapped.
 fn make_worker(alloc: Global) -> Result<Worker, Fault> {
     Ok(Worker {
-        store: Store::new(alloc, &largest()?)?,
+        store: new_store(alloc, &largest()?)?,
         plan: Plan::new(),
     })
+}
+
+/// A new store of the first device.
+fn new_store(alloc: Global, config: &Config) -> Result<Store, Fault> {
+    config.laws();
+    Store::new(alloc, config, 0)
 }
 
 /// Maps so many ranges of 16 bytes that do not touch.
@@ -114,7 +120,7 @@ fn carry_out_pair(worker: &mut Worker, pair: &[Directive; 2]) -> Result<(), Faul
 /// Carries out a directive where the store has had few enough blocks and regions, as each store here has.
 fn carry_out(worker: &mut Worker, directive: &Directive) -> Result<(), Fault> {
     let Worker { store, plan } = worker;
-    if store.births() < 0x1000_0000 && store.next_region() < 0x1000_0000 {
+    if store.view().births() < 0x1000_0000 && store.next_region() < 0x1000_0000 {
         take(store, plan, directive)
     } else {
         Ok(())
@@ -150,8 +156,12 @@ fn make_pair(alloc: Global, first: u32, items: u32) -> Result<[Directive; 2], Al
 /// An `enter data copyin` of so many sections from a number on.
 fn enter_data(alloc: Global, first: u32, items: u32) -> Result<Directive, AllocError> {
     let items = make_items(alloc, EnterClause::Copyin, first, items)?;
-    let queue = None;
-    Ok(Directive::EnterData { items, queue })
+    let (device, queue) = (0, None);
+    Ok(Directive::EnterData {
+        device,
+        items,
+        queue,
+    })
 }
 
 /// An `exit data delete` of so many sections from a number on.
@@ -159,6 +169,7 @@ fn exit_data(alloc: Global, first: u32, items: u32) -> Result<Directive, AllocEr
     let items = make_items(alloc, ExitClause::Delete, first, items)?;
     let finalize = false;
     Ok(Directive::ExitData {
+        device: 0,
         items,
         finalize,
         queue: None,

@@ -2,7 +2,7 @@
 
 ghost use Rattle.std.specs.Prelude.{◌≡◌, ◌+◌, ◌^◌, ◌≤◌, IfOk, OnOk};
 
-use acc_base::Fault;
+use acc_base::{DEVICE_BASE, Fault};
 use acc_bench_work::{each_since, tell};
 use acc_dev::Device;
 use anyhow::Result;
@@ -76,7 +76,7 @@ fn make_device(alloc: Global, count: u64) -> Result<Device, Fault>
     requires { count ≤ 2 ^ 20 }
     ensures { IfOk result (λ device. device.births ≡ count) }
 {
-    let mut device = Device::new(alloc, 16 * count + 16)?;
+    let mut device = Device::new(alloc, DEVICE_BASE, 16 * count + 16)?;
     for _ in 0..count {
         device.born(16, false)?;
     }

@@ -77,7 +77,7 @@ fn measure_kernel<R: Print + Clock + AllocGlobal, K: Kernel>(
 /// A lease of a whole block.
 pub fn new_lease(alloc: Global) -> Result<Lease, AllocError> {
     let bytes = vec![in alloc; 1u8; LEN]?;
-    Ok(Lease::of(1, 1, 0, LEN, bytes))
+    Ok(Lease::of(0, 1, 1, 0, LEN, bytes))
 }
 
 /// The least time that the kernel takes.

@@ -5,7 +5,7 @@ ghost use Rattle.acc_base.specs.declared.addresses.TheConstants.{MEMORY_MAX};
 ghost use Rattle.acc_base.specs.Limits.{IsFromOne};
 
 use crate::rows::{compare, tell};
-use acc_base::Fault;
+use acc_base::{DEVICE_BASE, Fault};
 use acc_dev::Device;
 use acc_lend::{Cuts, Lease, PARTS_MAX};
 use anyhow::Result;
@@ -44,7 +44,7 @@ fn measure<R: Clock + AllocGlobal>(rt: &R, len: u64) -> Result<Duration>
 fn new_device(alloc: Global, len: u64) -> Result<Device, Fault>
     requires { IsFromOne MEMORY_MAX len }
 {
-    let mut device = Device::new(alloc, 67_108_864)?;
+    let mut device = Device::new(alloc, DEVICE_BASE, 67_108_864)?;
     device.born(len, false)?;
     Ok(device)
 }
@@ -93,7 +93,7 @@ fn take_out(device: &mut Device, serial: u64, len: u64) -> Result<Lease, Fault> 
         Some(bytes) if bytes.len() as u64 == len => {}
         Some(_) | None => return Err(Fault::NoLease { serial }),
     }
-    device.take_out(1, serial, 0, len, false)
+    device.take_out(0, 1, serial, 0, len, false)
 }
 
 /// Takes each part of the loan, and answers the sum of the places where they end.

@@ -66,13 +66,13 @@ fn map<Regions: Ledger, Tickets: Ledger, Events: Ledger, R: Wait + AllocGlobal>(
 ) -> Result<(), Fault> {
     let own = own(thread);
     let items = only_item(rt.alloc(), EnterClause::Copyin, own)?;
-    runtime.enter_data(rt, caller, items, None)?;
+    runtime.enter_data(rt, caller, 0, items, None)?;
     let bytes = Vec::from_slice(rt.alloc(), &[7; 20])?;
     runtime.host_write(rt, caller, own.start, bytes)?;
     let items = only_item(rt.alloc(), UpdateClause::ToDevice, own)?;
-    runtime.update(rt, caller, items, false, Some(queue_of(thread)))?;
-    runtime.step(rt, caller, queue_of(thread))?;
-    runtime.wait(rt, caller, Some(queue_of(thread)))?;
+    runtime.update(rt, caller, 0, items, false, Some(queue_of(thread)))?;
+    runtime.step(rt, caller, 0, queue_of(thread))?;
+    runtime.wait(rt, caller, 0, Some(queue_of(thread)))?;
     Ok(())
 }
 
@@ -85,10 +85,10 @@ fn unmap<Regions: Ledger, Tickets: Ledger, Events: Ledger, R: Wait + AllocGlobal
 ) -> Result<(), Fault> {
     let own = own(thread);
     let items = only_item(rt.alloc(), UpdateClause::ToSelf, own)?;
-    runtime.update(rt, caller, items, true, Some(queue_of(thread)))?;
+    runtime.update(rt, caller, 0, items, true, Some(queue_of(thread)))?;
     let items = only_item(rt.alloc(), ExitClause::Delete, own)?;
-    runtime.exit_data(rt, caller, items, false, None)?;
-    runtime.wait(rt, caller, Some(queue_of(thread)))?;
+    runtime.exit_data(rt, caller, 0, items, false, None)?;
+    runtime.wait(rt, caller, 0, Some(queue_of(thread)))?;
     Ok(())
 }
 
@@ -163,7 +163,7 @@ fn work<Regions: Ledger, Tickets: Ledger, Events: Ledger, R: Wait + AllocGlobal>
     thread: usize,
 ) -> Result<(), Fault> {
     let items = both(rt.alloc(), thread)?;
-    let region = runtime.enter(rt, caller, items)?;
+    let region = runtime.enter(rt, caller, 0, items)?;
     let lent = lend(rt, runtime, caller, &region, thread);
     leave(rt, runtime, caller, region)?;
     lent
@@ -176,7 +176,7 @@ fn is_sound(table: &Table) -> bool {
     let mut from = 0u64;
     let mut end = 0u64;
     for _ in 0..1_000 {
-        let Some(range) = table.mapped(from) else {
+        let Some(range) = table.mapped(0, from) else {
             break;
         };
         if range.start < end || range.structured == 0 && range.dynamic == 0 {
@@ -186,7 +186,7 @@ fn is_sound(table: &Table) -> bool {
         end = range.start.saturating_add(range.len);
         taken = taken.saturating_add(range.len.div_ceil(16).saturating_mul(16));
     }
-    table.mapped(from).is_none() && taken.saturating_add(ended_bytes(table)) == table.used()
+    table.mapped(0, from).is_none() && taken.saturating_add(ended_bytes(table)) == table.used(0)
 }
 
 /// How many bytes the blocks take whose mapping has ended.
@@ -194,7 +194,7 @@ fn ended_bytes(table: &Table) -> u64 {
     let mut taken = 0u64;
     let mut from = 0u64;
     for _ in 0..1_000 {
-        let Some(block) = table.ended(from) else {
+        let Some(block) = table.ended(0, from) else {
             break;
         };
         taken = taken.saturating_add(block.size);
@@ -298,7 +298,7 @@ fn clear<Regions: Ledger, Tickets: Ledger, Events: Ledger, R: Wait + AllocGlobal
     caller: &mut Caller<Regions, Tickets, Events>,
 ) {
     for _ in 0..TRIES {
-        if runtime.wait(rt, caller, None).is_ok() {
+        if runtime.wait(rt, caller, 0, None).is_ok() {
             break;
         }
     }
@@ -319,7 +319,7 @@ fn end<Regions: Ledger, Tickets: Ledger, Events: Ledger, R: Wait + AllocGlobal>(
     section: Section,
 ) -> Result<(), Fault> {
     let items = only_item(rt.alloc(), ExitClause::Delete, section)?;
-    runtime.exit_data(rt, caller, items, true, None)
+    runtime.exit_data(rt, caller, 0, items, true, None)
 }
 
 /// Lets all threads make all calls at once, and prints how many there were and how long each took. Fails where a look
@@ -341,7 +341,7 @@ pub fn make_crowd<
     let taken = each_since(rt, start, THREADS as u32 * ROUNDS as u32 * CALLS as u32, 0)?;
     let (refused, all_sound) = part(caller, members);
     clear(rt, runtime, caller);
-    let left = runtime.look(rt, caller, |table| (table.regions(), table.used()));
+    let left = runtime.look(rt, caller, |table| (table.regions(), table.used(0)));
     if !all_sound || left != (0, 0) || caller.allowance() != allowance {
         return Err(anyhow!("the crowd left something open"));
     }

@@ -69,9 +69,9 @@ fn make_pair<Regions: Ledger, Tickets: Ledger, Events: Ledger, R: Wait + AllocGl
 ) -> Result<(), Fault> {
     let section = sixteen_bytes_at((thread % 64) as u32);
     let items = only_item(rt.alloc(), EnterClause::Copyin, section)?;
-    runtime.enter_data(rt, caller, items, None)?;
+    runtime.enter_data(rt, caller, 0, items, None)?;
     let items = only_item(rt.alloc(), ExitClause::Delete, section)?;
-    runtime.exit_data(rt, caller, items, false, None)
+    runtime.exit_data(rt, caller, 0, items, false, None)
 }
 
 /// Makes the pairs of a thread, until a fault.

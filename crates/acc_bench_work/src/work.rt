@@ -12,6 +12,9 @@ use std::alloc::{AllocError, Global};
 use std::rt::Clock;
 use std::time::{Duration, Instant};
 
+/// The device on which all is done.
+const DEVICE: u64 = 0;
+
 /// What is done with a section in one round.
 #[derive(Clone, Copy)]
 pub enum Work {
@@ -72,7 +75,13 @@ pub fn make_round(
         Work::Region => enter_and_exit(table, alloc, section),
         Work::Put => put(table, alloc, section),
         Work::Step => put_and_step(table, alloc, section),
-        Work::Wait => apply(table, Directive::Wait { queue: None }),
+        Work::Wait => apply(
+            table,
+            Directive::Wait {
+                device: DEVICE,
+                queue: None,
+            },
+        ),
     }
 }
 
@@ -96,7 +105,13 @@ fn put(table: &mut Table, alloc: Global, section: Section) -> Result<(), Fault> 
 /// Puts a transfer into a queue and steps it.
 fn put_and_step(table: &mut Table, alloc: Global, section: Section) -> Result<(), Fault> {
     put(table, alloc, section)?;
-    apply(table, Directive::Step { queue: 0 })
+    apply(
+        table,
+        Directive::Step {
+            device: DEVICE,
+            queue: 0,
+        },
+    )
 }
 
 /// A table with as much memory as there may be.
@@ -128,8 +143,15 @@ pub fn map(
     section: Section,
 ) -> Result<(), Fault> {
     let items = one_item(alloc, clause, section)?;
-    let queue = None;
-    apply(table, Directive::EnterData { items, queue })
+    let (device, queue) = (DEVICE, None);
+    apply(
+        table,
+        Directive::EnterData {
+            device,
+            items,
+            queue,
+        },
+    )
 }
 
 /// Unmaps a section by an `exit data delete`.
@@ -139,6 +161,7 @@ fn unmap(table: &mut Table, alloc: Global, section: Section) -> Result<(), Fault
     apply(
         table,
         Directive::ExitData {
+            device: DEVICE,
             items,
             finalize,
             queue,
@@ -159,6 +182,7 @@ fn update(
     apply(
         table,
         Directive::Update {
+            device: DEVICE,
             items,
             if_present,
             queue,
@@ -169,7 +193,8 @@ fn update(
 /// Enters a data region that copies a section in, and answers its number.
 fn enter(table: &mut Table, alloc: Global, section: Section) -> Result<u64, Fault> {
     let items = one_item(alloc, RegionClause::Copyin, section)?;
-    make(table, Call::Do(Directive::Enter { items }))
+    let device = DEVICE;
+    make(table, Call::Do(Directive::Enter { device, items }))
 }
 
 /// Writes into host memory.

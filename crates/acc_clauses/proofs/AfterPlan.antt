@@ -28,12 +28,12 @@ unfolding after
 after_plan full d p s e is = grind (arith, nat_tests, register-act_all_state)
 
 -- it is the state after what the directive comes to
-pub finished_verdict : (l : Limits) (d : Directive) (s : State) (p : Planned) → IsPlanOf l d s p → finished d p (act_all_state p.tasks p.dids s) ≡ state_by l.full (verdict_of d s p.dids) s
-finished_verdict l d s p h = go (verdict_of d s p.dids) refl
+pub finished_verdict : (l : Limits) (n : ℕ) (d : Directive) (s : State) (p : Planned) → IsPlanOf l d s p → finished d p (act_all_state p.tasks p.dids s) ≡ state_by l.full (verdict_of n d s p.dids) s
+finished_verdict l n d s p h = go (verdict_of n d s p.dids) refl
   where
-    go : (v : Verdict) → verdict_of d s p.dids ≡ v → finished d p (act_all_state p.tasks p.dids s) ≡ state_by l.full v s
-    go (Makes e) made = sym (after_plan l.full d p s e (event_of_plan l d s p e h made))
-    go Idle idle = idle_plan l d s p h idle
+    go : (v : Verdict) → verdict_of n d s p.dids ≡ v → finished d p (act_all_state p.tasks p.dids s) ≡ state_by l.full v s
+    go (Makes e) made = sym (after_plan l.full d p s e (event_of_plan l n d s p e h made))
+    go Idle idle = idle_plan l n d s p h idle
 
 -- ---- the layout
 

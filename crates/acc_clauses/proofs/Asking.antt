@@ -54,11 +54,11 @@ pub record AreTasksOf (d : Directive) (tasks : List Task) : Type 0 where
   pub queues : AllByRecursion (λ (t : Task). queue_of t ≡ queue_in d) tasks
 
 tasks_fit : (d : Directive) (holdings : List Holding) → item_count d ≤ 64 → length holdings ≤ 64 → AreTasksOf d (tasks_with d holdings)
-tasks_fit (Enter items) holdings few held = record { few = omega (arith, few, length-map items enter_task); unmixed = inl (all_map enter_task items (λ x. refl)); queues = queue_map enter_task None items (λ x. refl) }
+tasks_fit (Enter device items) holdings few held = record { few = omega (arith, few, length-map items enter_task); unmixed = inl (all_map enter_task items (λ x. refl)); queues = queue_map enter_task None items (λ x. refl) }
 tasks_fit (Exit number) holdings few held = record { few = omega (arith, held, length-leave holdings); unmixed = inr (none_map Leave (reverse holdings) (λ x. refl)); queues = queue_map Leave None (reverse holdings) (λ x. refl) }
-tasks_fit (EnterData items queue) holdings few held = let f = enter_data_task queue in record { few = omega (arith, few, length-map items f); unmixed = inl (all_map f items (λ x. refl)); queues = queue_map f queue items (λ x. refl) }
-tasks_fit (ExitData items finalize queue) holdings few held = let f = exit_task finalize queue in record { few = omega (arith, few, length-map items f); unmixed = inr (none_map f items (λ x. refl)); queues = queue_map f queue items (λ x. refl) }
-tasks_fit (Update items if_present queue) holdings few held = let f = move_task if_present queue in record { few = omega (arith, few, length-map items f); unmixed = inr (none_map f items (λ x. refl)); queues = queue_map f queue items (λ x. refl) }
+tasks_fit (EnterData device items queue) holdings few held = let f = enter_data_task queue in record { few = omega (arith, few, length-map items f); unmixed = inl (all_map f items (λ x. refl)); queues = queue_map f queue items (λ x. refl) }
+tasks_fit (ExitData device items finalize queue) holdings few held = let f = exit_task finalize queue in record { few = omega (arith, few, length-map items f); unmixed = inr (none_map f items (λ x. refl)); queues = queue_map f queue items (λ x. refl) }
+tasks_fit (Update device items if_present queue) holdings few held = let f = move_task if_present queue in record { few = omega (arith, few, length-map items f); unmixed = inr (none_map f items (λ x. refl)); queues = queue_map f queue items (λ x. refl) }
 tasks_fit _ holdings few held = record { few = omega arith; unmixed = inl refl; queues = tt }
 
 -- so does the one that a directive leaves
@@ -99,40 +99,40 @@ queue_at_turn (t ∷ ts) (suc i) d within all = queue_at_turn ts i d (omega (ari
 -- ---- the verdict
 
 -- the verdict of a directive whose tasks did this, where no transfer that it makes is of a block that is lent
-abbrev verdict_free : Directive → State → List Did → Result Verdict Fault
-verdict_free d s dids = none_lent (transfers_in d s.records.queues) s.records.loans >> Ok (verdict_of d s dids)
+abbrev verdict_free : ℕ → Directive → State → List Did → Result Verdict Fault
+verdict_free n d s dids = none_lent (transfers_in d s.records.queues) s.records.loans >> Ok (verdict_of n d s dids)
 
 -- too many items are told before all else
-pub plan_many : (l : Limits) (d : Directive) (s : State) (fault : Fault) → few_items d ≡ Err fault → plan_of l d s ≡ Err fault
+pub plan_many : (l : Limits) (n : ℕ) (d : Directive) (s : State) (fault : Fault) → few_items d ≡ Err fault → plan_of l n d s ≡ Err fault
 unfolding plan_of
-plan_many l d s fault few = rw few refl
+plan_many l n d s fault few = rw few refl
 
 -- then a region that is not open
-pub plan_closed : (l : Limits) (d : Directive) (s : State) (fault : Fault) → few_items d ≡ Ok tt → holdings_left d s.register ≡ Err fault → plan_of l d s ≡ Err fault
+pub plan_closed : (l : Limits) (n : ℕ) (d : Directive) (s : State) (fault : Fault) → few_items d ≡ Ok tt → holdings_left d s.register ≡ Err fault → plan_of l n d s ≡ Err fault
 unfolding plan_of directive_verdict
-plan_closed l d s fault few left = rw (few, left) refl
+plan_closed l n d s fault few left = rw (few, left) refl
 
 -- then a queue that is not there
-pub plan_unqueued : (l : Limits) (d : Directive) (s : State) (holdings : List Holding) (fault : Fault) → few_items d ≡ Ok tt → holdings_left d s.register ≡ Ok holdings → queue_named (queue_in d) ≡ Err fault → plan_of l d s ≡ Err fault
+pub plan_unqueued : (l : Limits) (n : ℕ) (d : Directive) (s : State) (holdings : List Holding) (fault : Fault) → few_items d ≡ Ok tt → holdings_left d s.register ≡ Ok holdings → queue_named (queue_in d) ≡ Err fault → plan_of l n d s ≡ Err fault
 unfolding plan_of directive_verdict
-plan_unqueued l d s holdings fault few left q = rw (few, left, q) refl
+plan_unqueued l n d s holdings fault few left q = rw (few, left, q) refl
 
 -- then what its tasks are refused for
-pub plan_refused : (l : Limits) (d : Directive) (s : State) (holdings : List Holding) (fault : Fault) → few_items d ≡ Ok tt → holdings_left d s.register ≡ Ok holdings → queue_named (queue_in d) ≡ Ok tt
-    → judge_all l 0 (tasks_with d holdings) s ≡ Err fault → plan_of l d s ≡ Err fault
+pub plan_refused : (l : Limits) (n : ℕ) (d : Directive) (s : State) (holdings : List Holding) (fault : Fault) → few_items d ≡ Ok tt → holdings_left d s.register ≡ Ok holdings → queue_named (queue_in d) ≡ Ok tt
+    → judge_all l 0 (tasks_with d holdings) s ≡ Err fault → plan_of l n d s ≡ Err fault
 unfolding plan_of directive_verdict
-plan_refused l d s holdings fault few left q refused = rw (few, left, q, refused) refl
+plan_refused l n d s holdings fault few left q refused = rw (few, left, q, refused) refl
 
-plan_judged : (l : Limits) (d : Directive) (s : State) (holdings : List Holding) (dids : List Did) → few_items d ≡ Ok tt → holdings_left d s.register ≡ Ok holdings → queue_named (queue_in d) ≡ Ok tt
-    → judge_all l 0 (tasks_with d holdings) s ≡ Ok dids → plan_of l d s ≡ verdict_free d s dids
+plan_judged : (l : Limits) (n : ℕ) (d : Directive) (s : State) (holdings : List Holding) (dids : List Did) → few_items d ≡ Ok tt → holdings_left d s.register ≡ Ok holdings → queue_named (queue_in d) ≡ Ok tt
+    → judge_all l 0 (tasks_with d holdings) s ≡ Ok dids → plan_of l n d s ≡ verdict_free n d s dids
 unfolding plan_of directive_verdict
-plan_judged l d s holdings dids few left q judged = rw (few, left, q, judged) refl
+plan_judged l n d s holdings dids few left q judged = rw (few, left, q, judged) refl
 
 -- then a block that is lent of a transfer that it makes; else it is the verdict of what its tasks do
-pub plan_told : (l : Limits) (d : Directive) (s : State) (holdings : List Holding) (dids : List Did) (r : Result ⊤ Fault) → few_items d ≡ Ok tt → holdings_left d s.register ≡ Ok holdings → queue_named (queue_in d) ≡ Ok tt
-    → judge_all l 0 (tasks_with d holdings) s ≡ Ok dids → r ≡ none_lent (transfers_in d s.records.queues) s.records.loans → MatchResult r (λ _. plan_of l d s ≡ Ok (verdict_of d s dids)) (λ fault. plan_of l d s ≡ Err fault)
-plan_told l d s holdings dids (Ok x) few left q judged free = plan_judged l d s holdings dids few left q judged ∙ rw (← free) refl
-plan_told l d s holdings dids (Err fault) few left q judged lent = plan_judged l d s holdings dids few left q judged ∙ rw (← lent) refl
+pub plan_told : (l : Limits) (n : ℕ) (d : Directive) (s : State) (holdings : List Holding) (dids : List Did) (r : Result ⊤ Fault) → few_items d ≡ Ok tt → holdings_left d s.register ≡ Ok holdings → queue_named (queue_in d) ≡ Ok tt
+    → judge_all l 0 (tasks_with d holdings) s ≡ Ok dids → r ≡ none_lent (transfers_in d s.records.queues) s.records.loans → MatchResult r (λ _. plan_of l n d s ≡ Ok (verdict_of n d s dids)) (λ fault. plan_of l n d s ≡ Err fault)
+plan_told l n d s holdings dids (Ok x) few left q judged free = plan_judged l n d s holdings dids few left q judged ∙ rw (← free) refl
+plan_told l n d s holdings dids (Err fault) few left q judged lent = plan_judged l n d s holdings dids few left q judged ∙ rw (← lent) refl
 
 -- what is asked of what the region holds that is left
 pub asked_left : (d : Directive) (g : Register) (holdings : List Holding) → few_items d ≡ Ok tt → holdings_left d g ≡ Ok holdings → asked_of d g ≡ Ok (tasks_with d holdings)

@@ -25,8 +25,7 @@ use Rattle.acc_present.specs.Present.{PresentState, with_ranges}
 use Rattle.acc_present.specs.Present as present
 use Rattle.acc_dev.specs.Marks.{new_mark, IsMarkOf}
 use Rattle.acc_dev.specs.Device.{DeviceState}
-use Rattle.acc_clauses.specs.declared.environments.Environment.{Environment}
-use Rattle.acc_clauses.specs.Contents.{AreMarked, IsMarkRight, state_of, room_of, bare_state}
+use Rattle.acc_clauses.specs.Contents.{WithHost, AreMarked, IsMarkRight, state_of, room_of, bare_state}
 use Rattle.acc_clauses.specs.Overlays.{is_queue, puts_by}
 use Rattle.acc_clauses.specs.Acts.{CanBear, CanPut, CanQueue, HasPutRoom, IsMade, bytes_made, moved_state, filled_later, IsChangedBy, IsFilledLater, IsActedBy}
 use Rattle.acc_clauses.proofs.Runs.{written-same}
@@ -64,7 +63,7 @@ born_as_named : (counter : Counter) (item : Item RegionClause) (queue : Option �
 born_as_named counter item queue k n p q e h = rw (recounted-block (Enter counter item queue) (bare_range (section_of (Enter counter item queue)) k), recounted-section (Enter counter item queue) (bare_range (section_of (Enter counter item queue)) k), e, h) refl
 
 -- the marks are right with that of the new block
-born_marked : (counter : Counter) (item : Item RegionClause) (queue : Option ℕ) (k births : ℕ) (x : Environment) → k ≡ births + 1 → pins_of k x.queues.queues ≡ 0 → AllZip IsMarkOf x.device.marks x.device.blocks → AllByRecursion (λ b. b.number ≤ births) x.device.blocks → AreMarked x
+born_marked : (counter : Counter) (item : Item RegionClause) (queue : Option ℕ) (k births : ℕ) (x : WithHost) → k ≡ births + 1 → pins_of k x.queues.queues ≡ 0 → AllZip IsMarkOf x.device.marks x.device.blocks → AllByRecursion (λ b. b.number ≤ births) x.device.blocks → AreMarked x
     → AllByRecursion (IsMarkRight (with_range (born_range counter item queue k) x.present.table.ranges) x.queues.queues) (x.device.marks ++ new_mark (births + 1) ∷ [])
 born_marked counter item queue k births x number unpinned zip born marked =
     let new : Range = born_range counter item queue k in
@@ -73,7 +72,7 @@ born_marked counter item queue k births x number unpinned zip born marked =
     (marks_born new x.present.table.ranges x.queues.queues x.device.marks (subst (λ n. AllByRecursion (λ m. m.block ≡ n → ⊥) x.device.marks) (sym (own ∙ number)) (marks_old births x.device.marks x.device.blocks zip born))
     (ap (λ n. pins_of n x.queues.queues) own ∙ unpinned) marked)
 
-pub born_changes : (counter : Counter) (item : Item RegionClause) (queue : Option ℕ) (copied : Bool) (k place : ℕ) (x : Environment) (q r : PresentState) (e : DeviceState)
+pub born_changes : (counter : Counter) (item : Item RegionClause) (queue : Option ℕ) (copied : Bool) (k place : ℕ) (x : WithHost) (q r : PresentState) (e : DeviceState)
     → CanBear x.present.table.counter_max x.device.memory (section_of (Enter counter item queue)) k place (bare_state x) → IsMade x.device e copied (section_of (Enter counter item queue)) item.clause x.host
     → q.table ≡ with_ranges x.present.table (with_range (bare_range (section_of (Enter counter item queue)) k) x.present.table.ranges) → x.present.room.ranges ≤ q.room.ranges + 1 → x.present.room.regions ≤ q.room.regions → x.present.room.holdings ≤ q.room.holdings
     → r.table ≡ with_ranges q.table (changed_at k (risen counter) q.table.ranges) → present.IsRoomKept q.room r.room
@@ -81,7 +80,7 @@ pub born_changes : (counter : Counter) (item : Item RegionClause) (queue : Optio
     → IsChangedBy (born_state counter item queue copied k place) ((section_of (Enter counter item queue)).len ∷ []) 0 (λ n. 0) x (record x { present = r; device = e })
 unfolding records_after_birth
 born_changes counter item queue copied k place x q r e can made put ranges regions holdings raised room zip born marked =
-    let new : Environment = record x { present = r; device = e } in
+    let new : WithHost = record x { present = r; device = e } in
     let where_it_is : place ≡ made.place = one_value place made.place _ can.place_is made.place_is in
     let all : r.table.ranges ≡ with_range (born_range counter item queue k) x.present.table.ranges = born_ranges counter item queue k x.present q r can.no_range put raised in
     let blocks : e.blocks ≡ (records_after_birth (born_range counter item queue k) place (bare_state x).records).blocks = made.blocks ∙ ap (λ b. x.device.blocks ++ b ∷ []) (born_as_named counter item queue k (x.device.births + 1) place made.place can.number where_it_is) in
@@ -100,9 +99,9 @@ born_changes counter item queue copied k place x q r e can made put ranges regio
 -- ---- the copy
 
 -- the copy to the new block can be put into the queue
-pub born_can_put : (counter : Counter) (item : Item RegionClause) (queue : Option ℕ) (copied : Bool) (k place q : ℕ) (x : Environment) (r : PresentState) (e : DeviceState) → CanQueue (Enter counter item queue) (Born k place) x → HasPutRoom (λ n. puts_by n (Enter counter item queue) (Born k place)) (room_of x)
+pub born_can_put : (counter : Counter) (item : Item RegionClause) (queue : Option ℕ) (copied : Bool) (k place q : ℕ) (x : WithHost) (r : PresentState) (e : DeviceState) → CanQueue (Enter counter item queue) (Born k place) x → HasPutRoom (λ n. puts_by n (Enter counter item queue) (Born k place)) (room_of x)
     → k ≡ x.device.births + 1 → IsMade x.device e copied (section_of (Enter counter item queue)) item.clause x.host → AllByRecursion (λ b. b.number ≤ x.device.births) x.device.blocks → queue ≡ Some q → copies_in item.clause ≡ true
-    → CanPut q (record { block = k; offset = 0; section = section_of (Enter counter item queue); out = false }) (record x { present = r; device = e })
+    → CanPut q (record { block = k; offset = 0; section = section_of (Enter counter item queue); out = false }) x.queues e
 born_can_put counter item queue copied k place q x r e can puts number made born named copies =
     step_puts (Enter counter item queue) (Born k place) q (record { block = k; offset = 0; section = section_of (Enter counter item queue); out = false }) x (record x { present = r; device = e }) named (rw copies refl) copies can puts refl there
   where
@@ -158,7 +157,7 @@ born_whole counter item queue k place s in_host no_memory no_pointer = search (f
 born_puts : (a b : Bool) → 0 + cond (a && b) 1 0 ≤ cond (a && b) 1 0
 born_puts a b = omega arith
 
-pub born_acts : (counter : Counter) (item : Item RegionClause) (queue : Option ℕ) (copied : Bool) (k place : ℕ) (x y z : Environment) → CanBear x.present.table.counter_max x.device.memory (section_of (Enter counter item queue)) k place (bare_state x)
+pub born_acts : (counter : Counter) (item : Item RegionClause) (queue : Option ℕ) (copied : Bool) (k place : ℕ) (x y z : WithHost) → CanBear x.present.table.counter_max x.device.memory (section_of (Enter counter item queue)) k place (bare_state x)
     → copied ≡ (copies_in item.clause && is_none queue) → IsChangedBy (born_state counter item queue copied k place) ((section_of (Enter counter item queue)).len ∷ []) 0 (λ q. 0) x y → IsFilledLater queue item k y z → IsActedBy (Enter counter item queue) (Born k place) x z
 born_acts counter item queue copied k place x y z can so born filled =
     both (born_state counter item queue (copies_in item.clause && is_none queue) k place) (filled_later queue item k) (step_state (Enter counter item queue) (Born k place))

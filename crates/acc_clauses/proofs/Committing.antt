@@ -60,7 +60,7 @@ numbered_of c h = record { first = h.sound.layout.register.first; rising = h.sou
 -- each task finds what it undoes that a directive asks
 known_with : (d : Directive) (holdings : List Holding) (dids : List Did) (c : Contents) → IsWithinBounds c.limits → IsStoreSound c → holdings_left d c.state.register ≡ Ok holdings → AreJudged c.limits 0 (tasks_with d holdings) dids c.state.records
     → AreKnown (tasks_with d holdings) dids c.state.records
-known_with (directives.Enter items) holdings dids c bounds h left judged = known_map enter_task items dids c.state.records (λ x v. tt)
+known_with (directives.Enter device items) holdings dids c bounds h left judged = known_map enter_task items dids c.state.records (λ x v. tt)
 known_with (directives.Exit number) holdings dids c bounds h left judged =
     let g : Register = c.state.register in
     let is : holdings_at number g.regions ≡ Some holdings = open_left number _ holdings left in
@@ -68,9 +68,9 @@ known_with (directives.Exit number) holdings dids c bounds h left judged =
     leaves_known c.limits 0 (reverse holdings) dids c.state.records bounds h.sound.layout.records judged within (λ b.
     let turned : count_held b (reverse holdings) ≡ count_held b holdings = sum_by-reverse (λ (x : Holding). cond (is_counted_block b x.block) 1 0) holdings in
     omega (arith, turned, closed_held b number holdings g (numbered_of c h) is, h.sound.layout.held b))
-known_with (directives.EnterData items queue) holdings dids c bounds h left judged = known_map (enter_data_task queue) items dids c.state.records (λ x v. tt)
-known_with (directives.ExitData items finalize queue) holdings dids c bounds h left judged = known_map (exit_task finalize queue) items dids c.state.records (λ x v. tt)
-known_with (directives.Update items if_present queue) holdings dids c bounds h left judged = known_map (move_task if_present queue) items dids c.state.records (λ x v. tt)
+known_with (directives.EnterData device items queue) holdings dids c bounds h left judged = known_map (enter_data_task queue) items dids c.state.records (λ x v. tt)
+known_with (directives.ExitData device items finalize queue) holdings dids c bounds h left judged = known_map (exit_task finalize queue) items dids c.state.records (λ x v. tt)
+known_with (directives.Update device items if_present queue) holdings dids c bounds h left judged = known_map (move_task if_present queue) items dids c.state.records (λ x v. tt)
 known_with _ holdings dids c bounds h left judged = known_map enter_task [] dids c.state.records (λ x v. tt)
 
 -- so does each task of a plan
@@ -92,15 +92,15 @@ free_then d c f p planned none acted = subst (λ (x : State). none_lent (transfe
 -- the register is ready for a directive, and so are the transfers that it makes
 pub plan_can : (d : Directive) (c f : Contents) (p : Planned) → IsStoreSound c → IsPlanOf c.limits d c.state p → c.state.register.next < 2 ^ 48 → HasRegionRoom (regions_entered d) (length (holdings_by p.tasks p.dids)) c.room
     → f.state ≡ act_all_state p.tasks p.dids c.state → f.state.register ≡ c.state.register → c.room.regions ≤ f.room.regions → c.room.holdings ≤ f.room.holdings → CanFinish d (length (holdings_by p.tasks p.dids)) f
-plan_can (directives.Enter items) c f p h planned next room acted same regions holdings = record {
+plan_can (directives.Enter device items) c f p h planned next room acted same regions holdings = record {
   next = rw same next;
   new = rw same (find-none (λ (r : Region). r.number == c.state.register.next) c.state.register.regions
       (AllByRecursion-weaker (λ (r : Region). r.number < c.state.register.next) (λ (r : Region). (r.number == c.state.register.next) ≡ false) c.state.register.regions (λ r low. below_differs r.number c.state.register.next low) h.sound.layout.register.known));
   room = record { regions_fit = omega (arith, room.regions_fit, regions); holdings_fit = omega (arith, room.holdings_fit, holdings) };
 }
 plan_can (directives.Exit number) c f p h planned next room acted same regions holdings = grind (arith, nat_tests)
-plan_can (directives.Wait queue) c f p h planned next room acted same regions holdings = free_then (directives.Wait queue) c f p planned (asked_with (directives.Wait queue) c.state.register p.tasks planned.asked).are acted
-plan_can (directives.Step queue) c f p h planned next room acted same regions holdings = free_then (directives.Step queue) c f p planned (asked_with (directives.Step queue) c.state.register p.tasks planned.asked).are acted
+plan_can (directives.Wait device queue) c f p h planned next room acted same regions holdings = free_then (directives.Wait device queue) c f p planned (asked_with (directives.Wait device queue) c.state.register p.tasks planned.asked).are acted
+plan_can (directives.Step device queue) c f p h planned next room acted same regions holdings = free_then (directives.Step device queue) c f p planned (asked_with (directives.Step device queue) c.state.register p.tasks planned.asked).are acted
 plan_can _ c f p h planned next room acted same regions holdings = refl
 
 -- no more is held than there are tasks
@@ -111,7 +111,7 @@ holdings_few (t ∷ ts) [] = omega arith
 holdings_few (t ∷ ts) (d ∷ ds) = grind (arith, nat_tests, holdings_few ts ds)
 
 -- what holds of a register holds after a directive, where it holds after a region's entry and after an exit
-by_register : (P : Register → Type 0) (d : Directive) (holdings : List Holding) (g : Register) → P g → ((items : List (Item RegionClause)) → d ≡ directives.Enter items → P (opened holdings g)) → ((number : ℕ) → P (closed number g)) → P (register_by d holdings g)
+by_register : (P : Register → Type 0) (d : Directive) (holdings : List Holding) (g : Register) → P g → ((device : ℕ) (items : List (Item RegionClause)) → d ≡ directives.Enter device items → P (opened g.next holdings g)) → ((number : ℕ) → P (closed number g)) → P (register_by d holdings g)
 by_register P d holdings g same enter exit = grind (arith, nat_tests)
 
 -- no region holds too much after a plan
@@ -119,14 +119,14 @@ few_with_plan : (d : Directive) (c : Contents) (p : Planned) → IsStoreSound c 
 few_with_plan d c p h planned =
     let few : AreFew c.state.register = h.sound.layout.register.few in
     let short : length (holdings_by p.tasks p.dids) ≤ 64 = omega (arith, holdings_few p.tasks p.dids, planned.few) in
-    by_register AreFew d (holdings_by p.tasks p.dids) c.state.register few (λ items is. opened_few (holdings_by p.tasks p.dids) c.state.register (numbered_of c h) few short) (λ number. closed_few number c.state.register few)
+    by_register AreFew d (holdings_by p.tasks p.dids) c.state.register few (λ device items is. opened_few (holdings_by p.tasks p.dids) c.state.register (numbered_of c h) few short) (λ number. closed_few number c.state.register few)
 
 -- what open regions hold lies within after a plan
 within_after : (d : Directive) (c : Contents) (p : Planned) → IsWithinBounds c.limits → IsStoreSound c → IsPlanOf c.limits d c.state p
     → AreHoldingsWithin (act_all p.tasks p.dids c.state.records) (register_by d (holdings_by p.tasks p.dids) c.state.register).regions
 within_after d c p bounds h planned = by_register (λ x. AreHoldingsWithin v x.regions) d (holdings_by p.tasks p.dids) g kept
-    (λ items is. subst (λ rs. AreHoldingsWithin v rs) (sym (opened_regions (holdings_by p.tasks p.dids) g (numbered_of c h)))
-    (AllByRecursion-append (λ (r : Region). AllByRecursion (IsHoldingWithin v) r.holdings) g.regions (next_region (holdings_by p.tasks p.dids) g ∷ []) kept (entered items is, tt)))
+    (λ device items is. subst (λ rs. AreHoldingsWithin v rs) (sym (opened_regions (holdings_by p.tasks p.dids) g (numbered_of c h)))
+    (AllByRecursion-append (λ (r : Region). AllByRecursion (IsHoldingWithin v) r.holdings) g.regions (next_region (holdings_by p.tasks p.dids) g ∷ []) kept (entered device items is, tt)))
     (λ number. AllByRecursion-filter (λ (r : Region). AllByRecursion (IsHoldingWithin v) r.holdings) (λ r. not (r.number == number)) g.regions kept)
   where
     w : Records
@@ -144,11 +144,11 @@ within_after d c p bounds h planned = by_register (λ x. AreHoldingsWithin v x.r
     kept : AreHoldingsWithin v g.regions
     kept = regions_within c.limits 0 p.tasks p.dids w g.regions judged h.holdings
 
-    asked : (items : List (Item RegionClause)) → d ≡ directives.Enter items → map enter_task items ≡ p.tasks
-    asked items is = let asked = asked_with d g p.tasks planned.asked in ap (λ (x : Directive). tasks_with x asked.holdings) (sym is) ∙ asked.are
+    asked : (device : ℕ) (items : List (Item RegionClause)) → d ≡ directives.Enter device items → map enter_task items ≡ p.tasks
+    asked device items is = let asked = asked_with d g p.tasks planned.asked in ap (λ (x : Directive). tasks_with x asked.holdings) (sym is) ∙ asked.are
 
-    entered : (items : List (Item RegionClause)) → d ≡ directives.Enter items → AllByRecursion (IsHoldingWithin v) (holdings_by p.tasks p.dids)
-    entered items is = grind (arith, nat_tests, w, asked, judged, held_asked, entered_within)
+    entered : (device : ℕ) (items : List (Item RegionClause)) → d ≡ directives.Enter device items → AllByRecursion (IsHoldingWithin v) (holdings_by p.tasks p.dids)
+    entered device items is = grind (arith, nat_tests, w, asked, judged, held_asked, entered_within)
 
 -- what is done to the parts is what the plan says
 pub all_finished : (d : Directive) (p : Planned) (ts : List Task) (ds : List Did) (s t u : State) → ts ≡ p.tasks → ds ≡ p.dids → t ≡ act_all_state ts ds s → u ≡ finished d p t → u ≡ finished d p (act_all_state p.tasks p.dids s)
@@ -167,25 +167,25 @@ within_finished d c p bounds h planned = grind (arith, nat_tests, register-act_a
 -- ---- a store is sound after a plan
 
 -- one that is as before is
-same_sound : (c f : Contents) → f.limits ≡ c.limits → f.state ≡ c.state → IsStoreSound c → IsStoreSound f
+pub same_sound : (c f : Contents) → f.limits ≡ c.limits → f.state ≡ c.state → IsStoreSound c → IsStoreSound f
 same_sound c f limits state h = grind (arith, nat_tests)
 
 -- and so is one after the event of the plan
 made_sound : (d : Directive) (c f : Contents) (p : Planned) (e : Event) → IsWithinBounds c.limits → IsStoreSound c → IsPlanOf c.limits d c.state p → f.limits ≡ c.limits
-    → f.state ≡ finished d p (act_all_state p.tasks p.dids c.state) → used_bytes f.state.records.blocks ≤ f.limits.device → verdict_of d c.state p.dids ≡ Makes e → IsStoreSound f
+    → f.state ≡ finished d p (act_all_state p.tasks p.dids c.state) → used_bytes f.state.records.blocks ≤ f.limits.device → verdict_of 0 d c.state p.dids ≡ Makes e → IsStoreSound f
 made_sound d c f p e bounds h planned limits state used made =
     let l : Limits = c.limits in
-    let is : IsEventOf d p c.state e = event_of_plan l d c.state p e planned made in
+    let is : IsEventOf d p c.state e = event_of_plan l 0 d c.state p e planned made in
     let P : State → Type 0 = λ s. AreHoldingsWithin s.records s.register.regions in
-    event_sound l e [] c f bounds refl limits h (planned_legal l d c.state p e planned made) (is.brought c.state.records) (state ∙ sym (after_plan l.full d p c.state e is))
+    event_sound l e [] c f bounds refl limits h (planned_legal l 0 d c.state p e planned made) (is.brought c.state.records) (state ∙ sym (after_plan l.full d p c.state e is))
     (subst AreFew (sym is.register) (few_with_plan d c p h planned))
     (subst (λ (m : Limits). used_bytes f.state.records.blocks ≤ m.device) limits used)
     (subst P (sym state) (within_finished d c p bounds h planned))
 
 pub plan_sound : (d : Directive) (c f : Contents) (p : Planned) → IsWithinBounds c.limits → IsStoreSound c → IsPlanOf c.limits d c.state p → f.limits ≡ c.limits
     → f.state ≡ finished d p (act_all_state p.tasks p.dids c.state) → used_bytes f.state.records.blocks ≤ f.limits.device → IsStoreSound f
-plan_sound d c f p bounds h planned limits state used = go (verdict_of d c.state p.dids) refl
+plan_sound d c f p bounds h planned limits state used = go (verdict_of 0 d c.state p.dids) refl
   where
-    go : (v : Verdict) → verdict_of d c.state p.dids ≡ v → IsStoreSound f
+    go : (v : Verdict) → verdict_of 0 d c.state p.dids ≡ v → IsStoreSound f
     go (Makes e) made = made_sound d c f p e bounds h planned limits state used made
-    go Idle idle = same_sound c f limits (state ∙ idle_plan c.limits d c.state p planned idle) h
+    go Idle idle = same_sound c f limits (state ∙ idle_plan c.limits 0 d c.state p planned idle) h

@@ -8,8 +8,7 @@ use Rattle.acc_base.specs.Records.{State}
 use Rattle.acc_base.specs.Bytes.{step_state}
 use Rattle.acc_base.specs.Pointers.{aimed}
 use Rattle.acc_base.specs.Acting.{act_state}
-use Rattle.acc_clauses.specs.declared.environments.Environment.{Environment}
-use Rattle.acc_clauses.specs.Contents.{state_of, room_of, bare_numbers, bare_state}
+use Rattle.acc_clauses.specs.Contents.{WithHost, state_of, room_of, bare_numbers, bare_state}
 use Rattle.acc_clauses.specs.Overlays.{puts_by}
 use Rattle.acc_clauses.specs.Acts.{IsEnter, CanDo, CanQueue, HasPutRoom, birth_of, pointers_of, IsActedBy, IsAimedBy, IsDoneBy, CanNeed, CanAim, CanAct}
 use Rattle.acc_clauses.proofs.Changes.{both}
@@ -23,7 +22,7 @@ enter_whole : (task : Task) (did : Did) (s : State) → IsEnter task → aimed d
 unfolding act_state
 enter_whole task did s entry = grind (arith, nat_tests)
 
-pub entry_done : (task : Task) (did : Did) (x y z : Environment) → IsEnter task → IsActedBy task did.step x y → IsAimedBy did.aim y z → IsDoneBy task did x z
+pub entry_done : (task : Task) (did : Did) (x y z : WithHost) → IsEnter task → IsActedBy task did.step x y → IsAimedBy did.aim y z → IsDoneBy task did x z
 entry_done task did x y z entry acted aims = both (step_state task did.step) (aimed did.aim) (act_state task did) (birth_of task did.step) [] (birth_of task did.step) 0 (pointers_of did.aim) (pointers_of did.aim) (λ q. puts_by q task did.step) (λ q. 0) (λ q. puts_by q task did.step) x y z
     (λ next. enter_whole task did (state_of x next) entry) (append-nil (birth_of task did.step)) (omega arith) (λ q. omega arith) acted aims
 
@@ -32,17 +31,17 @@ leave_whole : (task : Task) (did : Did) (s : State) → (IsEnter task → ⊥) �
 unfolding act_state
 leave_whole task did s other = grind (arith, nat_tests)
 
-pub leaves : (task : Task) (did : Did) (x y z : Environment) → (IsEnter task → ⊥) → IsAimedBy did.aim x y → IsActedBy task did.step y z → IsDoneBy task did x z
+pub leaves : (task : Task) (did : Did) (x y z : WithHost) → (IsEnter task → ⊥) → IsAimedBy did.aim x y → IsActedBy task did.step y z → IsDoneBy task did x z
 leaves task did x y z other aims acted = both (aimed did.aim) (step_state task did.step) (act_state task did) [] (birth_of task did.step) (birth_of task did.step) (pointers_of did.aim) 0 (pointers_of did.aim) (λ q. 0) (λ q. puts_by q task did.step) (λ q. puts_by q task did.step) x y z
     (λ next. leave_whole task did (state_of x next) other) refl (omega arith) (λ q. omega arith) aims acted
 
 -- ---- what the second part of a task needs is there after the first one
 
-pub aim_after : (task : Task) (did : Did) (x y : Environment) → IsEnter task → CanDo x task did → IsActedBy task did.step x y → CanAim y.attached.counter_max did.aim (bare_state y)
+pub aim_after : (task : Task) (did : Did) (x y : WithHost) → IsEnter task → CanDo x task did → IsActedBy task did.step x y → CanAim y.attached.counter_max did.aim (bare_state y)
 aim_after (Enter counter item queue) did x y entry can acted = subst (λ n. CanAim n did.aim (bare_state y)) (sym acted.pointer_max) (subst (CanAim x.attached.counter_max did.aim) (sym (acted.state bare_numbers)) can.aim)
 aim_after _ did x y entry can acted = absurd entry
 
-pub step_after : (task : Task) (did : Did) (x y : Environment) → (IsEnter task → ⊥) → CanDo x task did → IsAimedBy did.aim x y → CanAct y.present.table.counter_max y.device.memory task did.step (bare_state y)
+pub step_after : (task : Task) (did : Did) (x y : WithHost) → (IsEnter task → ⊥) → CanDo x task did → IsAimedBy did.aim x y → CanAct y.present.table.counter_max y.device.memory task did.step (bare_state y)
 step_after task did x y other can aims =
     subst (λ n. CanAct n y.device.memory task did.step (bare_state y)) (sym aims.counter_max) (subst (λ n. CanAct x.present.table.counter_max n task did.step (bare_state y)) (sym aims.memory)
     (subst (CanAct x.present.table.counter_max x.device.memory task did.step) (sym (aims.state bare_numbers)) (go task other can)))
@@ -51,7 +50,7 @@ step_after task did x y other can aims =
     go t enters can = grind (arith, nat_tests)
 
 -- what an attachment or a detachment leaves of the queues, and of the room in them
-pub queues_kept : (aim : Aim) (task : Task) (step : Step) (x y : Environment) → IsAimedBy aim x y → CanQueue task step x → CanQueue task step y
+pub queues_kept : (aim : Aim) (task : Task) (step : Step) (x y : WithHost) → IsAimedBy aim x y → CanQueue task step x → CanQueue task step y
 unfolding aimed
 queues_kept aim task step x y h can =
     let queues : y.queues.queues ≡ x.queues.queues = ap (λ (s : State). s.records.queues) (h.state bare_numbers) in
@@ -59,18 +58,18 @@ queues_kept aim task step x y h can =
     rw (h.queue_cap, queues, ranges) can
 
 -- and of the loans
-pub needed_kept : (aim : Aim) (task : Task) (step : Step) (x y : Environment) → IsAimedBy aim x y → CanNeed task step x → CanNeed task step y
+pub needed_kept : (aim : Aim) (task : Task) (step : Step) (x y : WithHost) → IsAimedBy aim x y → CanNeed task step x → CanNeed task step y
 unfolding aimed
 needed_kept aim task step x y h can =
     let loans : y.device.loans ≡ x.device.loans = ap (λ (s : State). s.records.loans) (h.state bare_numbers) in
     rw loans can
 
-pub puts_kept : (aim : Aim) (puts : ℕ → ℕ) (x y : Environment) → IsAimedBy aim x y → HasPutRoom puts (room_of x) → HasPutRoom puts (room_of y)
+pub puts_kept : (aim : Aim) (puts : ℕ → ℕ) (x y : WithHost) → IsAimedBy aim x y → HasPutRoom puts (room_of x) → HasPutRoom puts (room_of y)
 puts_kept aim puts x y h room q = omega (arith, h.room.puts q, room q)
 
 -- what a task can do has room in its queue
-pub do_needed : (x : Environment) (task : Task) (did : Did) → CanDo x task did → CanNeed task did.step x
+pub do_needed : (x : WithHost) (task : Task) (did : Did) → CanDo x task did → CanNeed task did.step x
 do_needed x task did can = grind (arith, nat_tests)
 
-pub do_queue : (x : Environment) (task : Task) (did : Did) → CanDo x task did → CanQueue task did.step x
+pub do_queue : (x : WithHost) (task : Task) (did : Did) → CanDo x task did → CanQueue task did.step x
 do_queue x task did can = grind (arith, nat_tests)

@@ -23,8 +23,7 @@ use Rattle.acc_present.specs.Present as present
 use Rattle.acc_dev.specs.Marks.{pins_at, is_ended_at, IsMarkOf}
 use Rattle.acc_dev.specs.Device.{DeviceState, IsEnded, IsRetired}
 use Rattle.acc_attach.specs.Attached.{AttachedState}
-use Rattle.acc_clauses.specs.declared.environments.Environment.{Environment}
-use Rattle.acc_clauses.specs.Contents.{AreMarked, state_of, bare_state, bare_numbers}
+use Rattle.acc_clauses.specs.Contents.{WithHost, AreMarked, state_of, bare_state, bare_numbers}
 use Rattle.acc_clauses.specs.Overlays.{puts_by}
 use Rattle.acc_clauses.specs.Acts.{CanCount, CanDrop, IsEnter, given_state, moved_state, IsChangedBy, IsGivenBy, IsActedBy}
 use Rattle.acc_clauses.proofs.Changes.{state_from_parts, room_same, kept_twice, both}
@@ -42,38 +41,38 @@ given_is : (b : Bool) (o : Option ℕ) (t : Transfer) (s : State) → cond b (mo
 }
 given_is b o t s = grind (arith, nat_tests)
 
-pub same_ranges : (task : Task) (k : ℕ) (x y : Environment) → IsGivenBy task k x y → y.present.table.ranges ≡ x.present.table.ranges
+pub same_ranges : (task : Task) (k : ℕ) (x y : WithHost) → IsGivenBy task k x y → y.present.table.ranges ≡ x.present.table.ranges
 same_ranges task k x y given = ap (λ (s : State). s.records.ranges) (given.state bare_numbers ∙ given_is (gives_bytes task) (queue_of task) (transfer_at task k x.present.table.ranges) (bare_state x))
 
-pub same_blocks : (task : Task) (k : ℕ) (x y : Environment) → IsGivenBy task k x y → y.device.blocks ≡ x.device.blocks
+pub same_blocks : (task : Task) (k : ℕ) (x y : WithHost) → IsGivenBy task k x y → y.device.blocks ≡ x.device.blocks
 same_blocks task k x y given = ap (λ (s : State). s.records.blocks) (given.state bare_numbers ∙ given_is (gives_bytes task) (queue_of task) (transfer_at task k x.present.table.ranges) (bare_state x))
 
 -- no block more is lent
-pub loans_kept : (task : Task) (k : ℕ) (x y : Environment) → IsGivenBy task k x y → is_lent k x.device.loans ≡ false → is_lent k y.device.loans ≡ false
+pub loans_kept : (task : Task) (k : ℕ) (x y : WithHost) → IsGivenBy task k x y → is_lent k x.device.loans ≡ false → is_lent k y.device.loans ≡ false
 loans_kept task k x y given free =
     let same : y.device.loans ≡ x.device.loans = ap (λ (s : State). s.records.loans) (given.state bare_numbers ∙ given_is (gives_bytes task) (queue_of task) (transfer_at task k x.present.table.ranges) (bare_state x)) in
     rw same free
 
 -- the range is there still
-pub range_there : (task : Task) (k : ℕ) (ended : Bool) (x y : Environment) (can : CanDrop task k ended (bare_state x)) → IsGivenBy task k x y → range_of k y.present.table.ranges ≡ Some can.move.range
+pub range_there : (task : Task) (k : ℕ) (ended : Bool) (x y : WithHost) (can : CanDrop task k ended (bare_state x)) → IsGivenBy task k x y → range_of k y.present.table.ranges ≡ Some can.move.range
 range_there task k ended x y can given = ap (range_of k) (same_ranges task k x y given) ∙ can.move.range_is
 
 -- and it ends by the task
-pub range_ends : (task : Task) (k : ℕ) (ended : Bool) (x y : Environment) (can : CanDrop task k ended (bare_state x)) → IsGivenBy task k x y → ends_by (recounted task) k y.present.table.ranges ≡ ended
+pub range_ends : (task : Task) (k : ℕ) (ended : Bool) (x y : WithHost) (can : CanDrop task k ended (bare_state x)) → IsGivenBy task k x y → ends_by (recounted task) k y.present.table.ranges ≡ ended
 range_ends task k ended x y can given = ap (ends_by (recounted task) k) (same_ranges task k x y given) ∙ can.ends
 
 -- a task that does not enter raises no counter
 pub falls : (most : ℕ) (task : Task) (k : ℕ) (ranges : List Range) (r : Range) → (IsEnter task → ⊥) → range_of k ranges ≡ Some r → CanCount most task k ranges
 falls most task k ranges r other is = grind (arith, nat_tests)
 
-pub end_there : (task : Task) (k : ℕ) (ended : Bool) (x y : Environment) → CanDrop task k ended (bare_state x) → IsGivenBy task k x y → IsSome (block_at k y.device.blocks)
+pub end_there : (task : Task) (k : ℕ) (ended : Bool) (x y : WithHost) → CanDrop task k ended (bare_state x) → IsGivenBy task k x y → IsSome (block_at k y.device.blocks)
 end_there task k ended x y can given = rw (same_blocks task k x y given) can.move.there
 
 -- the block has a mark, by which its mapping has not ended
-pub end_mark : (task : Task) (k : ℕ) (ended : Bool) (x y : Environment) → CanDrop task k ended (bare_state x) → IsGivenBy task k x y → AllZip IsMarkOf y.device.marks y.device.blocks → IsMarkAt y.present.table.ranges y.queues.queues y.device.marks k
+pub end_mark : (task : Task) (k : ℕ) (ended : Bool) (x y : WithHost) → CanDrop task k ended (bare_state x) → IsGivenBy task k x y → AllZip IsMarkOf y.device.marks y.device.blocks → IsMarkAt y.present.table.ranges y.queues.queues y.device.marks k
 end_mark task k ended x y can given zip = mark_told y.present.table.ranges y.queues.queues k y.device.marks y.device.blocks zip (end_there task k ended x y can given) given.marked
 
-pub end_mapped : (task : Task) (k : ℕ) (ended : Bool) (x y : Environment) → CanDrop task k ended (bare_state x) → IsGivenBy task k x y → AllZip IsMarkOf y.device.marks y.device.blocks → is_ended_at k y.device.marks ≡ false
+pub end_mapped : (task : Task) (k : ℕ) (ended : Bool) (x y : WithHost) → CanDrop task k ended (bare_state x) → IsGivenBy task k x y → AllZip IsMarkOf y.device.marks y.device.blocks → is_ended_at k y.device.marks ≡ false
 end_mapped task k ended x y can given zip = (end_mark task k ended x y can given zip).ended ∙ ap is_none (range_there task k ended x y can given)
 
 -- ---- the range and the block
@@ -83,25 +82,25 @@ abbrev pub ended_state : ℕ → State → State
 ended_state k s = record s { records = records_after_end k s.records; memories = memories_released k (records_after_end k s.records) s.memories }
 
 -- the records without the range
-abbrev unmapped : ℕ → Environment → Records
+abbrev unmapped : ℕ → WithHost → Records
 unmapped k y = record (bare_state y).records { ranges = without_range k y.present.table.ranges }
 
-gone_range : (k : ℕ) (y : Environment) → is_none (range_of k (unmapped k y).ranges) ≡ true
+gone_range : (k : ℕ) (y : WithHost) → is_none (range_of k (unmapped k y).ranges) ≡ true
 gone_range k y = ap is_none (at-without_same (λ (x : Range). x.block) k y.present.table.ranges)
 
 -- the ranges after its counters fell and it was removed
-ranges_gone : (task : Task) (k : ℕ) (y : Environment) (q r : PresentState) → q.table ≡ with_ranges y.present.table (changed_at k (recounted task) y.present.table.ranges) → r.table ≡ with_ranges q.table (without_range k q.table.ranges)
+ranges_gone : (task : Task) (k : ℕ) (y : WithHost) (q r : PresentState) → q.table ≡ with_ranges y.present.table (changed_at k (recounted task) y.present.table.ranges) → r.table ≡ with_ranges q.table (without_range k q.table.ranges)
     → r.table ≡ with_ranges y.present.table (without_range k y.present.table.ranges)
 ranges_gone task k y q r counted removed = removed ∙ (ap (λ t. with_ranges t (without_range k t.ranges)) counted ∙ ap (with_ranges y.present.table) (without-changed k (recounted task) y.present.table.ranges (recounted-block task)))
 
 -- the block is given back, with its attachment counters
-pub gone_changes : (task : Task) (k : ℕ) (y : Environment) (q r : PresentState) (e : DeviceState) (b : AttachedState) → AreMarked y → AllZip (IsMemoryOf y.device.loans) y.device.memories y.device.blocks → IsMarkAt y.present.table.ranges y.queues.queues y.device.marks k
+pub gone_changes : (task : Task) (k : ℕ) (y : WithHost) (q r : PresentState) (e : DeviceState) (b : AttachedState) → AreMarked y → AllZip (IsMemoryOf y.device.loans) y.device.memories y.device.blocks → IsMarkAt y.present.table.ranges y.queues.queues y.device.marks k
     → q.table ≡ with_ranges y.present.table (changed_at k (recounted task) y.present.table.ranges) → present.IsRoomKept y.present.room q.room → r.table ≡ with_ranges q.table (without_range k q.table.ranges) → present.IsRoomKept q.room r.room
     → pins_at k y.device.marks ≡ 0 → IsRetired y.device e k → b.attached ≡ without_attachments k y.attached.attached → b.counter_max ≡ y.attached.counter_max → y.attached.spare ≤ b.spare
     → IsChangedBy (ended_state k) [] 0 (λ n. 0) y (record y { present = r; device = e; attached = b })
 unfolding records_after_end released
 gone_changes task k y q r e b marked sized mark counted room1 removed room2 free retired forgot limit spare =
-    let new : Environment = record y { present = r; device = e; attached = b } in
+    let new : WithHost = record y { present = r; device = e; attached = b } in
     let table : r.table ≡ with_ranges y.present.table (without_range k y.present.table.ranges) = ranges_gone task k y q r counted removed in
     let ranges : r.table.ranges ≡ without_range k y.present.table.ranges = ap (λ t. t.ranges) table in
     let idle : is_in_use k (unmapped k y) ≡ false = unused k (unmapped k y) (gone_range k y) (sym mark.pins ∙ free) in
@@ -117,7 +116,7 @@ gone_changes task k y q r e b marked sized mark counted room1 removed room2 free
     }
 
 -- the block is kept by a transfer
-pub kept_changes : (task : Task) (k : ℕ) (y : Environment) (q r : PresentState) (e : DeviceState) → AreMarked y → IsMarkAt y.present.table.ranges y.queues.queues y.device.marks k
+pub kept_changes : (task : Task) (k : ℕ) (y : WithHost) (q r : PresentState) (e : DeviceState) → AreMarked y → IsMarkAt y.present.table.ranges y.queues.queues y.device.marks k
     → q.table ≡ with_ranges y.present.table (changed_at k (recounted task) y.present.table.ranges) → present.IsRoomKept y.present.room q.room → r.table ≡ with_ranges q.table (without_range k q.table.ranges) → present.IsRoomKept q.room r.room
     → (pins_at k y.device.marks ≡ 0 → ⊥) → IsEnded y.device e k → IsChangedBy (ended_state k) [] 0 (λ n. 0) y (record y { present = r; device = e })
 unfolding records_after_end released
@@ -129,6 +128,6 @@ ended_whole : (task : Task) (k : ℕ) (s : State) → ended_state k (given_state
 unfolding step_state act_step act_row
 ended_whole task k s = ap (ended_state k) (given_is (gives_bytes task) (queue_of task) (transfer_at task k s.records.ranges) s)
 
-pub ended_acts : (task : Task) (k : ℕ) (x y z : Environment) → IsGivenBy task k x y → IsChangedBy (ended_state k) [] 0 (λ n. 0) y z → IsActedBy task (Dropped k true) x z
+pub ended_acts : (task : Task) (k : ℕ) (x y z : WithHost) → IsGivenBy task k x y → IsChangedBy (ended_state k) [] 0 (λ n. 0) y z → IsActedBy task (Dropped k true) x z
 ended_acts task k x y z given ended = both (given_state task k) (ended_state k) (step_state task (Dropped k true)) [] [] [] 0 0 0 (λ q. puts_by q task (Dropped k true)) (λ n. 0) (λ q. puts_by q task (Dropped k true)) x y z
     (λ next. ended_whole task k (state_of x next)) refl (omega arith) (λ q. omega arith) given ended

@@ -51,22 +51,22 @@ still l d s p h none = ap (λ ts. act_all_state ts p.dids s) (sym none) ∙ ap (
 
 -- ---- the event
 
-pub event_of_plan : (l : Limits) (d : Directive) (s : State) (p : Planned) (e : Event) → IsPlanOf l d s p → verdict_of d s p.dids ≡ Makes e → IsEventOf d p s e
+pub event_of_plan : (l : Limits) (n : ℕ) (d : Directive) (s : State) (p : Planned) (e : Event) → IsPlanOf l d s p → verdict_of n d s p.dids ≡ Makes e → IsEventOf d p s e
 unfolding loaned
-event_of_plan l d s p e h made = grind (arith, nat_tests, held_asked, same_event, open_left, reverse-reverse, none_done, still)
+event_of_plan l n d s p e h made = grind (arith, nat_tests, held_asked, same_event, open_left, reverse-reverse, none_done, still)
 
-pub planned_asked : (l : Limits) (d : Directive) (s : State) (p : Planned) (e : Event) → IsPlanOf l d s p → verdict_of d s p.dids ≡ Makes e → asked_in e s.register ≡ p.tasks
-planned_asked l d s p e h made = (event_of_plan l d s p e h made).asked
+pub planned_asked : (l : Limits) (n : ℕ) (d : Directive) (s : State) (p : Planned) (e : Event) → IsPlanOf l d s p → verdict_of n d s p.dids ≡ Makes e → asked_in e s.register ≡ p.tasks
+planned_asked l n d s p e h made = (event_of_plan l n d s p e h made).asked
 
 -- each task is judged in the records that those before it leave
 pub planned_judged : (l : Limits) (d : Directive) (s : State) (p : Planned) → IsPlanOf l d s p → AreJudged l 0 p.tasks p.dids s.records
 planned_judged l d s p h = judged_all l 0 p.tasks p.dids s h.judged
 
 -- the event is legal
-pub planned_legal : (l : Limits) (d : Directive) (s : State) (p : Planned) (e : Event) → IsPlanOf l d s p → verdict_of d s p.dids ≡ Makes e → IsLegal l e (layout_of s)
-planned_legal l d s p e h made =
+pub planned_legal : (l : Limits) (n : ℕ) (d : Directive) (s : State) (p : Planned) (e : Event) → IsPlanOf l d s p → verdict_of n d s p.dids ≡ Makes e → IsLegal l e (layout_of s)
+planned_legal l n d s p e h made =
     let is : IsAskedWith d s.register p.tasks = asked_with d s.register p.tasks h.asked in
-    event_legal l d s is.holdings p.dids e is.left h.known (subst (λ ts. AreJudged l 0 ts p.dids s.records) (sym is.are) (planned_judged l d s p h)) h.free made
+    event_legal l n d s is.holdings p.dids e is.left h.known (subst (λ ts. AreJudged l 0 ts p.dids s.records) (sym is.are) (planned_judged l d s p h)) h.free made
 
 -- ---- no event
 
@@ -75,12 +75,13 @@ empty_step : (queue : ℕ) (s : State) → head_of queue s.records.queues ≡ No
 unfolding drained stepped
 empty_step queue s none = ap (λ o. state_made queue o s) none
 
-step_idle : (l : Limits) (queue : ℕ) (s : State) (p : Planned) → IsPlanOf l (Step queue) s p → (o : Option Transfer) → head_of queue s.records.queues ≡ o → step_verdict queue o ≡ Idle → finished (Step queue) p (act_all_state p.tasks p.dids s) ≡ s
-step_idle l queue s p h None first idle =
-    let none : [] ≡ p.tasks = (asked_with (Step queue) s.register p.tasks h.asked).are in
-    ap (finished (Step queue) p) (still l (Step queue) s p h none) ∙ ap (λ (t : State). record t { register = s.register }) (empty_step queue s first)
-step_idle l queue s p h (Some t) first idle = cc
+step_idle : (l : Limits) (n device queue : ℕ) (s : State) (p : Planned) → IsPlanOf l (Step device queue) s p → (o : Option Transfer) → head_of queue s.records.queues ≡ o → step_verdict n queue o ≡ Idle → finished (Step device queue) p (act_all_state p.tasks p.dids s) ≡ s
+step_idle l n device queue s p h None first idle =
+    let none : [] ≡ p.tasks = (asked_with (Step device queue) s.register p.tasks h.asked).are in
+    ap (finished (Step device queue) p) (still l (Step device queue) s p h none) ∙ ap (λ (t : State). record t { register = s.register }) (empty_step queue s first)
+step_idle l n device queue s p h (Some t) first idle = cc
 
 -- a plan without an event leaves the state
-pub idle_plan : (l : Limits) (d : Directive) (s : State) (p : Planned) → IsPlanOf l d s p → verdict_of d s p.dids ≡ Idle → finished d p (act_all_state p.tasks p.dids s) ≡ s
-idle_plan l d s p h idle = grind (arith, nat_tests, step_idle)
+pub idle_plan : (l : Limits) (n : ℕ) (d : Directive) (s : State) (p : Planned) → IsPlanOf l d s p → verdict_of n d s p.dids ≡ Idle → finished d p (act_all_state p.tasks p.dids s) ≡ s
+idle_plan l n (Step device queue) s p h idle = step_idle l n device queue s p h (head_of queue s.records.queues) refl idle
+idle_plan l n d s p h idle = cc

@@ -22,17 +22,17 @@ register-drained (q ∷ qs) s = register-drained qs (stepped q s) ∙ register-s
 with_register : (qs : List ℕ) (s : State) → drained qs s ≡ record (drained qs s) { register = s.register }
 with_register qs s = let Q : Register → State = λ g. record (drained qs s) { register = g } in ap Q (register-drained qs s)
 
-pub finished_enter : (items : List (Item RegionClause)) (p : Planned) (s t : State) (hs : List Holding) → hs ≡ holdings_by p.tasks p.dids → t ≡ record s { register = opened hs s.register } → t ≡ finished (Enter items) p s
+pub finished_enter : (device : ℕ) (items : List (Item RegionClause)) (p : Planned) (s t : State) (hs : List Holding) → hs ≡ holdings_by p.tasks p.dids → t ≡ record s { register = opened s.register.next hs s.register } → t ≡ finished (Enter device items) p s
 unfolding drained
-finished_enter items p s t hs held is = is ∙ ap (λ (x : List Holding). record s { register = opened x s.register }) held
+finished_enter device items p s t hs held is = is ∙ ap (λ (x : List Holding). record s { register = opened s.register.next x s.register }) held
 
 pub finished_exit : (number : ℕ) (p : Planned) (s t : State) → t ≡ record s { register = closed number s.register } → t ≡ finished (Exit number) p s
 unfolding drained
 finished_exit number p s t is = is
 
-pub finished_wait : (queue : Option ℕ) (p : Planned) (s t : State) → t ≡ drained (steps_of queue s.records.queues) s → t ≡ finished (Wait queue) p s
-finished_wait queue p s t is = is ∙ with_register (steps_of queue s.records.queues) s
+pub finished_wait : (device : ℕ) (queue : Option ℕ) (p : Planned) (s t : State) → t ≡ drained (steps_of queue s.records.queues) s → t ≡ finished (Wait device queue) p s
+finished_wait device queue p s t is = is ∙ with_register (steps_of queue s.records.queues) s
 
-pub finished_step : (q : ℕ) (p : Planned) (s t : State) → t ≡ stepped q s → t ≡ finished (Step q) p s
+pub finished_step : (device q : ℕ) (p : Planned) (s t : State) → t ≡ stepped q s → t ≡ finished (Step device q) p s
 unfolding drained
-finished_step q p s t is = is ∙ with_register (q ∷ []) s
+finished_step device q p s t is = is ∙ with_register (q ∷ []) s

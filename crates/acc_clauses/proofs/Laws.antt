@@ -86,20 +86,20 @@ counters_read l xs acts w b c r p same s d e = grind (arith, nat_tests, counters
 
 -- ---- births
 
-place_below : (l : Limits) (w : Records) (size p : ℕ) → place_for (device_memory l.device) w.blocks size ≡ Some p → p + size ≤ end_of (device_memory l.device)
-place_below l w size p e = grind (arith, nat_tests, place_for-found (device_memory l.device) w.blocks size)
+place_below : (l : Limits) (w : Records) (size p : ℕ) → place_for (device_memory l) w.blocks size ≡ Some p → p + size ≤ end_of (device_memory l)
+place_below l w size p e = grind (arith, nat_tests, place_for-found (device_memory l) w.blocks size)
 
-takes : (l : Limits) (n : ℕ) (xs : List Acted) (w : Records) → IsWithinBounds l → AreJudged l n (tasks_in xs) (dids_in xs) w → AllByRecursion (IsTakeBelow (end_of (device_memory l.device))) (births_of xs)
+takes : (l : Limits) (n : ℕ) (xs : List Acted) (w : Records) → IsWithinBounds l → AreJudged l n (tasks_in xs) (dids_in xs) w → AllByRecursion (IsTakeBelow (end_of (device_memory l))) (births_of xs)
 takes l n [] w bounds judged = tt
 takes l n (x ∷ xs) w bounds judged = grind (arith, nat_tests, takes l (suc n) xs (act x.task x.did w) bounds judged.2, birth_entry, birth_len, place_below, task_says l n x.task w x.did.step judged.0)
 
 -- each block that the tasks bear ends on the device
-pub takes-planned : (l : Limits) (xs : List Acted) (w : Records) → IsPlanned l xs w → All (IsTakeBelow (end_of (device_memory l.device))) (births_of xs)
-takes-planned l xs w p = All-from_recursion (IsTakeBelow (end_of (device_memory l.device))) (births_of xs) (takes l 0 xs w p.bounds p.judged)
+pub takes-planned : (l : Limits) (xs : List Acted) (w : Records) → IsPlanned l xs w → All (IsTakeBelow (end_of (device_memory l))) (births_of xs)
+takes-planned l xs w p = All-from_recursion (IsTakeBelow (end_of (device_memory l))) (births_of xs) (takes l 0 xs w p.bounds p.judged)
 
 pub place-planned : (l : Limits) (xs : List Acted) (w : Records) (size : ℕ) → IsPlanned l xs w → list_all enters (tasks_in xs) ≡ true
-    → place_for (device_memory l.device) (w.blocks ++ planned_blocks (w.births + 1) (births_of xs)) size ≡ place_for (device_memory l.device) (records_after xs w).blocks size
-place-planned l xs w size p none = ap (λ bs. place_for (device_memory l.device) bs size) (sym (blocks-after l 0 xs w p.judged none))
+    → place_for (device_memory l) (w.blocks ++ planned_blocks (w.births + 1) (births_of xs)) size ≡ place_for (device_memory l) (records_after xs w).blocks size
+place-planned l xs w size p none = ap (λ bs. place_for (device_memory l) bs size) (sym (blocks-after l 0 xs w p.judged none))
 
 pub births-planned : (l : Limits) (xs : List Acted) (w : Records) → IsPlanned l xs w → list_all enters (tasks_in xs) ≡ true → (records_after xs w).births ≡ w.births + length (births_of xs)
 births-planned l xs w p none = births-after l 0 xs w p.judged none

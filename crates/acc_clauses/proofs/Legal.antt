@@ -79,7 +79,7 @@ pub birth_len : (l : Limits) (section : Section) (k place : ℕ) (w : Records) �
 birth_len l section k place w bounds says = grind (arith, nat_tests)
 
 can_bear : (l : Limits) (s : State) (section : Section) (k place : ℕ) → IsWithinBounds l → AreRecordsSound l s.records → AreMemoriesSized l s → s.records.births < 2 ^ 48 → IsBirth l section k place s.records
-    → CanBear l.counter_max (device_memory l.device) section k place s
+    → CanBear l.counter_max (device_memory l) section k place s
 can_bear l s section k place bounds h m few says =
     record {
       in_host = subst (λ n. is_within section (host_memory n) ≡ true) (sym m.host) says.within;
@@ -100,7 +100,7 @@ can_range : (l : Limits) (s : State) (section : Section) (k : ℕ) → IsWithinB
 can_range l s section k bounds h m says = can_move l s section k bounds h m (mapped_around l s.records section k says.offset h says.inside)
 
 pub can_by : (l : Limits) (s : State) (task : Task) (step : Step) → IsWithinBounds l → AreRecordsSound l s.records → AreMemoriesSized l s → s.records.births < 2 ^ 48 → IsKnown s.records task → IsJudgedTo l task step s.records
-    → CanAct l.counter_max (device_memory l.device) task step s
+    → CanAct l.counter_max (device_memory l) task step s
 can_by l s task Nothing bounds h m few known says = tt
 can_by l s (Enter counter item queue) (Counted k) bounds h m few known says = record { there = not_none (range_of k s.records.ranges) says.mapped; below = says.room }
 can_by l s (Enter counter item queue) (Born k p) bounds h m few known says = (tt, can_bear l s (section_of (Enter counter item queue)) k p bounds h m few says)

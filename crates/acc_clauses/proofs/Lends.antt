@@ -26,9 +26,8 @@ use Rattle.acc_base.proofs.Memories.{lent_sized, gathered_sized}
 use Rattle.acc_base.proofs.LegalEvents.{lend_legal, IsGathered, gather_legal}
 use Rattle.acc_dev.specs.Marks.{is_ended_at, IsMarkOf}
 use Rattle.acc_dev.specs.Device.{DeviceState, HasBlock, IsTakenOut, IsPutBack}
-use Rattle.acc_clauses.specs.declared.environments.Environment.{Environment}
 use Rattle.acc_clauses.specs.declared.numbers.Numbers.{Numbers}
-use Rattle.acc_clauses.specs.Contents.{Contents, state_of, ArePartsSound}
+use Rattle.acc_clauses.specs.Contents.{WithHost, Contents, state_of, ArePartsSound}
 use Rattle.acc_clauses.specs.Stored.{IsStoreSound, AreHoldingsWithin}
 use Rattle.acc_clauses.specs.Lending.{IsLoanPlanned, lent_state, gathered_state}
 use Rattle.acc_clauses.proofs.Changes.{state_from_parts}
@@ -47,13 +46,13 @@ record IsThere (blocks : List Block) (loan : Loan) (range : Range) : Type 0 wher
 loan_there : (l : Limits) (w : Records) (loan : Loan) → AreRecordsSound l w → (sound : IsLoanSound w.ranges loan) → IsThere w.blocks loan sound.range
 loan_there l w loan h sound = grind (arith, nat_tests, found_has)
 
-pub loan_has_block : (l : Limits) (x : Environment) (n : Numbers) (loan : Loan) → ArePartsSound l x n → IsLoanSound x.present.table.ranges loan → HasBlock x.device loan.block
+pub loan_has_block : (l : Limits) (x : WithHost) (n : Numbers) (loan : Loan) → ArePartsSound l x n → IsLoanSound x.present.table.ranges loan → HasBlock x.device loan.block
 loan_has_block l x n loan parts sound = grind (arith, nat_tests, loan_there l (state_of x n).records loan parts.sound.records sound)
 
-pub lend_mapped : (l : Limits) (x : Environment) (n : Numbers) (loan : Loan) → ArePartsSound l x n → AllZip IsMarkOf x.device.marks x.device.blocks → IsLoanSound x.present.table.ranges loan → is_ended_at loan.block x.device.marks ≡ false
-lend_mapped l x n loan parts zip sound = (told_by_mark l x n loan.block parts zip (loan_has_block l x n loan parts sound)).ended ∙ ap is_none sound.mapped
+pub lend_mapped : (l : Limits) (x : WithHost) (n : Numbers) (loan : Loan) → ArePartsSound l x n → AllZip IsMarkOf x.device.marks x.device.blocks → IsLoanSound x.present.table.ranges loan → is_ended_at loan.block x.device.marks ≡ false
+lend_mapped l x n loan parts zip sound = (told_by_mark x loan.block parts.marked zip (loan_has_block l x n loan parts sound)).ended ∙ ap is_none sound.mapped
 
-pub lend_within : (l : Limits) (x : Environment) (n : Numbers) (loan : Loan) → ArePartsSound l x n → IsLoanSound x.present.table.ranges loan → loan.offset + loan.len ≤ len_of loan.block x.device.blocks
+pub lend_within : (l : Limits) (x : WithHost) (n : Numbers) (loan : Loan) → ArePartsSound l x n → IsLoanSound x.present.table.ranges loan → loan.offset + loan.len ≤ len_of loan.block x.device.blocks
 lend_within l x n loan parts sound = grind (arith, nat_tests, loan_there l (state_of x n).records loan parts.sound.records sound)
 
 -- ---- the parts
@@ -100,10 +99,10 @@ loan_some lease o e = grind (arith, nat_tests)
 returnable_lent : (full : Bool) (lease : Leased) (s : State) → is_returnable full lease s.records.blocks s.records.loans s.memories ≡ true → is_lent lease.block s.records.loans ≡ true
 returnable_lent full lease s e = loan_some lease (loan_of lease.block s.records.loans) (and_true _ _ (and_true _ _ e).0).0
 
-pub lent_is : (full : Bool) (x : Environment) (n : Numbers) (d : DeviceState) (loan : Loan) → IsTakenOut x.device d loan full → state_of (record x { device = d }) (numbered_on n) ≡ lent_state full loan (state_of x n)
+pub lent_is : (full : Bool) (x : WithHost) (n : Numbers) (d : DeviceState) (loan : Loan) → IsTakenOut x.device d loan full → state_of (record x { device = d }) (numbered_on n) ≡ lent_state full loan (state_of x n)
 lent_is full x n d loan out = state_from_parts (record x { device = d }) (numbered_on n) (lent_state full loan (state_of x n)) refl out.blocks refl out.births refl out.loans refl refl refl refl out.memories
 
-pub lent_parts : (l : Limits) (full : Bool) (x : Environment) (n : Numbers) (d : DeviceState) (loan : Loan) → ArePartsSound l x n → is_lent loan.block x.device.loans ≡ false → IsLoanSound x.present.table.ranges loan → IsTakenOut x.device d loan full
+pub lent_parts : (l : Limits) (full : Bool) (x : WithHost) (n : Numbers) (d : DeviceState) (loan : Loan) → ArePartsSound l x n → is_lent loan.block x.device.loans ≡ false → IsLoanSound x.present.table.ranges loan → IsTakenOut x.device d loan full
     → ArePartsSound l (record x { device = d }) (numbered_on n)
 lent_parts l full x n d loan parts free sound out =
     let s : State = state_of x n in
@@ -111,6 +110,7 @@ lent_parts l full x n d loan parts free sound out =
     let memories : AreMemoriesSized l (lent_state full loan s) = record { host = parts.sound.memories.host; blocks = lent_sized loan (recorded full) s.records.loans s.memories s.records.blocks parts.sound.memories.blocks } in
     let is : state_of (record x { device = d }) (numbered_on n) ≡ lent_state full loan s = lent_is full x n d loan out in
     record {
+      bounds = parts.bounds;
       sized = record { counters = parts.sized.counters; device = out.memory ∙ parts.sized.device; pointers = parts.sized.pointers; queues = parts.sized.queues };
       sound = record { records = subst (λ (t : State). AreRecordsSound l t.records) (sym is) records; memories = subst (AreMemoriesSized l) (sym is) memories };
       marked = rw out.marks parts.marked;
@@ -118,7 +118,7 @@ lent_parts l full x n d loan parts free sound out =
       few = omega (arith, parts.few);
     }
 
-pub gathered_is : (x : Environment) (n : Numbers) (d : DeviceState) (lease : Leased) → IsPutBack x.device d lease → state_of (record x { device = d }) (numbered_off n) ≡ gathered_state lease (state_of x n)
+pub gathered_is : (x : WithHost) (n : Numbers) (d : DeviceState) (lease : Leased) → IsPutBack x.device d lease → state_of (record x { device = d }) (numbered_off n) ≡ gathered_state lease (state_of x n)
 gathered_is x n d lease back = state_from_parts (record x { device = d }) (numbered_off n) (gathered_state lease (state_of x n)) refl back.blocks refl back.births refl back.loans refl refl refl refl back.memories
 
 -- a lease that a block fits is gathered
@@ -130,7 +130,7 @@ pub returnable : (full : Bool) (lease : Leased) (s : State) (e : Event) → gath
 unfolding gather_event
 returnable full lease s e h = not_false _ (refused_not _ _ (then_ok (refuse_if (not (is_returnable full lease s.records.blocks s.records.loans s.memories)) (NoLease lease.serial)) (Ok (gathered full lease)) e h).0)
 
-pub gathered_parts : (l : Limits) (x : Environment) (n : Numbers) (d : DeviceState) (lease : Leased) → ArePartsSound l x n → is_returnable l.full lease x.device.blocks x.device.loans x.device.memories ≡ true → IsPutBack x.device d lease → ArePartsSound l (record x { device = d }) (numbered_off n)
+pub gathered_parts : (l : Limits) (x : WithHost) (n : Numbers) (d : DeviceState) (lease : Leased) → ArePartsSound l x n → is_returnable l.full lease x.device.blocks x.device.loans x.device.memories ≡ true → IsPutBack x.device d lease → ArePartsSound l (record x { device = d }) (numbered_off n)
 gathered_parts l x n d lease parts fits back =
     let s : State = state_of x n in
     let long : IsGathered l lease s (gathered l.full lease) = gather_legal l lease s (gathered l.full lease) parts.sound.records (gather_is l.full lease s fits) in
@@ -138,6 +138,7 @@ gathered_parts l x n d lease parts fits back =
     let memories : AreMemoriesSized l (gathered_state lease s) = record { host = parts.sound.memories.host; blocks = gathered_sized lease.block lease.bytes s.records.loans s.memories s.records.blocks long.fits parts.sound.memories.blocks } in
     let is : state_of (record x { device = d }) (numbered_off n) ≡ gathered_state lease s = gathered_is x n d lease back in
     record {
+      bounds = parts.bounds;
       sized = record { counters = parts.sized.counters; device = back.memory ∙ parts.sized.device; pointers = parts.sized.pointers; queues = parts.sized.queues };
       sound = record { records = subst (λ (t : State). AreRecordsSound l t.records) (sym is) records; memories = subst (AreMemoriesSized l) (sym is) memories };
       marked = rw back.marks parts.marked;
@@ -148,29 +149,30 @@ gathered_parts l x n d lease parts fits back =
 -- ---- the store
 
 -- what a planned loan says: it is legal, its block is not lent, and its section lies in the range of the block
-pub record IsLendable (l : Limits) (region : ℕ) (section : Section) (s : State) (loan : Loan) : Type 0 where
-  pub legal : IsLegal l (Lent region section loan.block loan.serial) (layout_of s)
+pub record IsLendable (l : Limits) (device region : ℕ) (section : Section) (s : State) (loan : Loan) : Type 0 where
+  pub legal : IsLegal l (Lent device region section loan.block loan.serial) (layout_of s)
   pub free : is_lent loan.block s.records.loans ≡ false
   pub sound : IsLoanSound s.records.ranges loan
 
-pub planned_says : (l : Limits) (region : ℕ) (section : Section) (s : State) (loan : Loan) → AreRecordsSound l s.records → IsLoanPlanned l region section s loan → IsLendable l region section s loan
-planned_says l region section s loan h p =
-    let e : Event = Lent region section loan.block loan.serial in
-    let legal : IsLegal l e (layout_of s) = (lend_legal l region section s e p.event).2 in
+pub planned_says : (l : Limits) (device region : ℕ) (section : Section) (s : State) (loan : Loan) → AreRecordsSound l s.records → IsLoanPlanned l device region section s loan → IsLendable l device region section s loan
+planned_says l device region section s loan h p =
+    let e : Event = Lent device region section loan.block loan.serial in
+    let lent : (block : ℕ) × (Lent device region section block s.register.serial ≡ e) × IsLegal l (Lent device region section block s.register.serial) (layout_of s) = lend_legal l device region section s e p.event in
+    let legal : IsLegal l e (layout_of s) = subst (λ x. IsLegal l x (layout_of s)) lent.1 lent.2 in
     record { legal = legal; free = legal.names.2; sound = subst (IsLoanSound s.records.ranges) (sym p.loan_is) (placed_loan l loan.serial loan.block section s.records h legal.names.1) }
 
-pub lent_after : (full : Bool) (region : ℕ) (section : Section) (loan : Loan) (s : State) → loan ≡ loan_at loan.serial loan.block section s.records.ranges → lent_state full loan s ≡ after full (Lent region section loan.block loan.serial) [] s
+pub lent_after : (full : Bool) (device region : ℕ) (section : Section) (loan : Loan) (s : State) → loan ≡ loan_at loan.serial loan.block section s.records.ranges → lent_state full loan s ≡ after full (Lent device region section loan.block loan.serial) [] s
 unfolding after loaned drained act_all_state
-lent_after full region section loan s is = ap (λ (x : Loan). record (lent_state full loan s) { records = record s.records { loans = with_loan x s.records.loans } }) is
+lent_after full device region section loan s is = ap (λ (x : Loan). record (lent_state full loan s) { records = record s.records { loans = with_loan x s.records.loans } }) is
 
 pub gathered_after : (full : Bool) (lease : Leased) (s : State) → gathered_state lease s ≡ after full (gathered full lease) lease.bytes s
 unfolding after loaned drained act_all_state
 gathered_after full lease s = refl
 
-pub lent_store : (region : ℕ) (section : Section) (c f : Contents) (loan : Loan) → IsWithinBounds c.limits → IsStoreSound c → IsLoanPlanned c.limits region section c.state loan → f.limits ≡ c.limits → f.state ≡ lent_state c.limits.full loan c.state → IsStoreSound f
-lent_store region section c f loan bounds h p limits is =
-    let says : IsLendable c.limits region section c.state loan = planned_says c.limits region section c.state loan h.sound.layout.records p in
-    event_sound c.limits (Lent region section loan.block loan.serial) [] c f bounds refl limits h says.legal tt (is ∙ lent_after c.limits.full region section loan c.state p.loan_is) h.sound.layout.register.few
+pub lent_store : (device region : ℕ) (section : Section) (c f : Contents) (loan : Loan) → IsWithinBounds c.limits → IsStoreSound c → IsLoanPlanned c.limits device region section c.state loan → f.limits ≡ c.limits → f.state ≡ lent_state c.limits.full loan c.state → IsStoreSound f
+lent_store device region section c f loan bounds h p limits is =
+    let says : IsLendable c.limits device region section c.state loan = planned_says c.limits device region section c.state loan h.sound.layout.records p in
+    event_sound c.limits (Lent device region section loan.block loan.serial) [] c f bounds refl limits h says.legal tt (is ∙ lent_after c.limits.full device region section loan c.state p.loan_is) h.sound.layout.register.few
     (subst (λ (t : State). used_bytes t.records.blocks ≤ c.limits.device) (sym is) h.sound.bytes_accounted)
     (subst (λ (t : State). AreHoldingsWithin t.records t.register.regions) (sym is) (holdings_same c.state.records (lent_state c.limits.full loan c.state).records c.state.register.regions refl refl h.holdings))
 

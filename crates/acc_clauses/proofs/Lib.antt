@@ -34,6 +34,7 @@ mod Remaining
 mod Holding
 mod Entering
 mod Storing
+pub mod Spared
 mod AfterPlan
 mod Committing
 pub mod AimsCounted

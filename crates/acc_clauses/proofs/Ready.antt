@@ -28,8 +28,7 @@ use Rattle.acc_base.proofs.Walked.{records-act_state}
 use Rattle.acc_base.proofs.Loaned.{loans-act}
 use Rattle.acc_base.proofs.Memories.{step_sized, aimed_sized, act_sized}
 use Rattle.acc_clauses.specs.declared.numbers.Numbers.{Numbers}
-use Rattle.acc_clauses.specs.declared.environments.Environment.{Environment}
-use Rattle.acc_clauses.specs.Contents.{state_of, AreSizedBy, ArePartsSound, bare_state}
+use Rattle.acc_clauses.specs.Contents.{WithHost, state_of, AreSizedBy, ArePartsSound, bare_state}
 use Rattle.acc_clauses.specs.Acts.{IsJudged, IsMappedAround, IsKnown, CanMove, CanAct, CanAim, CanEnter, CanLeave, CanQueue, CanDo, IsDoneBy}
 use Rattle.acc_clauses.proofs.Legal.{mapped_around, can_move, can_by}
 use Rattle.acc_clauses.proofs.Changes.{changed_sound}
@@ -86,13 +85,13 @@ has_detached : (l : Limits) (s : State) (task : Task) (did : Did) → IsReady l 
 has_detached l s task did h = (step_judged l h.judged.item task s.records did.step h.judged.step).detached
 
 -- with the limits of the parts
-sized_queue : (l : Limits) (x : Environment) (task : Task) (did : Did) → AreSizedBy l x → IsReady l (bare_state x) task did → CanQueue task did.step x
+sized_queue : (l : Limits) (x : WithHost) (task : Task) (did : Did) → AreSizedBy l x → IsReady l (bare_state x) task did → CanQueue task did.step x
 sized_queue l x task did sized h = subst (λ n. room_for n (queue_of task) (transfer_of task did.step x.present.table.ranges) x.queues.queues ≡ Ok tt) (sym sized.queues) (has_free l (bare_state x) task did h).room
 
-sized_step : (l : Limits) (x : Environment) (s : State) (task : Task) (step : Step) → AreSizedBy l x → CanAct l.counter_max (device_memory l.device) task step s → CanAct x.present.table.counter_max x.device.memory task step s
-sized_step l x s task step sized can = subst (λ n. CanAct x.present.table.counter_max n task step s) (sym sized.device) (subst (λ n. CanAct n (device_memory l.device) task step s) (sym sized.counters) can)
+sized_step : (l : Limits) (x : WithHost) (s : State) (task : Task) (step : Step) → AreSizedBy l x → CanAct l.counter_max (device_memory l) task step s → CanAct x.present.table.counter_max x.device.memory task step s
+sized_step l x s task step sized can = subst (λ n. CanAct x.present.table.counter_max n task step s) (sym sized.device) (subst (λ n. CanAct n (device_memory l) task step s) (sym sized.counters) can)
 
-sized_aim : (l : Limits) (x : Environment) (s : State) (aim : Aim) → AreSizedBy l x → CanAim l.counter_max aim s → CanAim x.attached.counter_max aim s
+sized_aim : (l : Limits) (x : WithHost) (s : State) (aim : Aim) → AreSizedBy l x → CanAim l.counter_max aim s → CanAim x.attached.counter_max aim s
 sized_aim l x s aim sized can = subst (λ n. CanAim n aim s) (sym sized.pointers) can
 
 -- what is known of a task does not read the attachment counters
@@ -101,7 +100,7 @@ known_aimed w aim (Leave holding) known = λ k e. let around : IsMappedAround w 
 known_aimed w aim _ known = tt
 
 -- after a detachment the step can be done
-can_leave : (l : Limits) (x : Environment) (task : Task) (did : Did) → AreSizedBy l x → IsReady l (bare_state x) task did → CanAim l.counter_max did.aim (bare_state x) → AreRecordsSound l (records_aimed did.aim (bare_state x).records) → CanLeave x task did
+can_leave : (l : Limits) (x : WithHost) (task : Task) (did : Did) → AreSizedBy l x → IsReady l (bare_state x) task did → CanAim l.counter_max did.aim (bare_state x) → AreRecordsSound l (records_aimed did.aim (bare_state x).records) → CanLeave x task did
 unfolding aimed
 can_leave l x task did sized h can later =
     let s : State = bare_state x in
@@ -113,7 +112,7 @@ can_leave l x task did sized h can later =
       queue = sized_queue l x task did sized h;
     }
 
-can_enter : (l : Limits) (x : Environment) (counter : Counter) (item : Item RegionClause) (queue : Option ℕ) (did : Did) → AreSizedBy l x → IsReady l (bare_state x) (Enter counter item queue) did → CanEnter x (Enter counter item queue) did
+can_enter : (l : Limits) (x : WithHost) (counter : Counter) (item : Item RegionClause) (queue : Option ℕ) (did : Did) → AreSizedBy l x → IsReady l (bare_state x) (Enter counter item queue) did → CanEnter x (Enter counter item queue) did
 unfolding step_state
 can_enter l x counter item queue did sized h =
     let s : State = bare_state x in
@@ -126,7 +125,7 @@ can_enter l x counter item queue did sized h =
       queue = sized_queue l x task did sized h;
     }
 
-can_of : (l : Limits) (x : Environment) (task : Task) (did : Did) → AreSizedBy l x → IsReady l (bare_state x) task did → CanDo x task did
+can_of : (l : Limits) (x : WithHost) (task : Task) (did : Did) → AreSizedBy l x → IsReady l (bare_state x) task did → CanDo x task did
 can_of l x (Enter counter item queue) did sized h = can_enter l x counter item queue did sized h
 can_of l x (Leave holding) did sized h = can_leave l x (Leave holding) did sized h
     (subst (λ a. CanAim l.counter_max a (bare_state x)) (sym h.judged.aim) (can_release l (bare_state x) holding.aim h.bounds h.sound h.sized (has_detached l (bare_state x) (Leave holding) did h))) (leave_sound l holding did (bare_state x).records h.sound h.judged.aim)
@@ -135,7 +134,7 @@ can_of l x (Exit finalize item queue) did sized h = can_leave l x (Exit finalize
 can_of l x (Move if_present item queue) did sized h = can_leave l x (Move if_present item queue) did sized h
     (subst (λ a. CanAim l.counter_max a (bare_state x)) (sym h.judged.aim) tt) (move_sound l if_present item queue did (bare_state x).records h.sound h.judged.aim)
 
-pub can_do : (l : Limits) (x : Environment) (next : Numbers) (task : Task) (did : Did) → IsWithinBounds l → ArePartsSound l x next → x.device.births < 2 ^ 48
+pub can_do : (l : Limits) (x : WithHost) (next : Numbers) (task : Task) (did : Did) → IsWithinBounds l → ArePartsSound l x next → x.device.births < 2 ^ 48
     → IsKnown (state_of x next).records task → IsJudged l task did (state_of x next).records → CanDo x task did
 can_do l x next task did bounds sound few known judged = search can_of
 
@@ -149,7 +148,7 @@ done_sound l s task did bounds h m judged = (
   act_sized l task did s m,
 )
 
-pub parts_sound : (l : Limits) (x y : Environment) (next : Numbers) (task : Task) (did : Did) → IsWithinBounds l → ArePartsSound l x next → IsJudged l task did (state_of x next).records → IsDoneBy task did x y → ArePartsSound l y next
+pub parts_sound : (l : Limits) (x y : WithHost) (next : Numbers) (task : Task) (did : Did) → IsWithinBounds l → ArePartsSound l x next → IsJudged l task did (state_of x next).records → IsDoneBy task did x y → ArePartsSound l y next
 parts_sound l x y next task did bounds sound judged done =
     let after = done_sound l (state_of x next) task did bounds sound.sound.records sound.sound.memories judged in
     changed_sound l (act_state task did) _ _ _ x y next sound done after.0 after.1 (ap (λ (w : Records). w.loans) (records-act_state task did (state_of x next)) ∙ loans-act task did (state_of x next).records)

@@ -6,7 +6,6 @@ use Rattle.std.specs.List.{AllByRecursion, AllZip}
 use Rattle.acc_clauses.specs.Words.{Range, Block, Transfer}
 use Rattle.acc_base.specs.Loans.{loan_of}
 use Rattle.acc_dev.specs.Device.{DeviceState, HasBlock, IsLoanOn}
-use Rattle.acc_base.specs.Limits.{Limits}
 use Rattle.acc_base.specs.Ranges.{range_of}
 use Rattle.acc_base.specs.Blocks.{block_at, lowest}
 use Rattle.acc_base.specs.Queues.{pins_of}
@@ -16,9 +15,7 @@ use Rattle.acc_base.proofs.Elements.{AllByRecursion-weaker, AllByRecursion-filte
 use Rattle.acc_base.proofs.Lookups.{at-own}
 use Rattle.acc_base.proofs.KeptMemories.{filter-same}
 use Rattle.acc_dev.specs.Marks.{Mark, pins_at, is_ended_at, ended_told, lowest_ended, IsMarkOf}
-use Rattle.acc_clauses.specs.declared.numbers.Numbers.{Numbers}
-use Rattle.acc_clauses.specs.declared.environments.Environment.{Environment}
-use Rattle.acc_clauses.specs.Contents.{state_of, ArePartsSound}
+use Rattle.acc_clauses.specs.Contents.{WithHost, bare_state, AreMarked}
 use Rattle.acc_clauses.proofs.Steps.{is_some}
 use Rattle.acc_clauses.proofs.Marked.{IsMarkAt, mark_told}
 
@@ -27,8 +24,8 @@ use Rattle.acc_clauses.proofs.Marked.{IsMarkAt, mark_told}
 abbrev own_number : Block → ℕ
 own_number b = b.number
 
-pub told_by_mark : (l : Limits) (x : Environment) (next : Numbers) (k : ℕ) → ArePartsSound l x next → AllZip IsMarkOf x.device.marks x.device.blocks → IsSome (block_at k x.device.blocks) → IsMarkAt x.present.table.ranges x.queues.queues x.device.marks k
-told_by_mark l x next k sound zip there = mark_told x.present.table.ranges x.queues.queues k x.device.marks x.device.blocks zip there sound.marked
+pub told_by_mark : (x : WithHost) (k : ℕ) → AreMarked x → AllZip IsMarkOf x.device.marks x.device.blocks → IsSome (block_at k x.device.blocks) → IsMarkAt x.present.table.ranges x.queues.queues x.device.marks k
+told_by_mark x k marked zip there = mark_told x.present.table.ranges x.queues.queues k x.device.marks x.device.blocks zip there marked
 
 -- ---- the lowest block that has ended
 
@@ -50,13 +47,13 @@ lowest_same from ranges queues ms bs h =
     ap (λ cs. option_map (ended_told ms) (lowest cs)) same ∙ told_same queues ms (lowest (filter q bs)) (lowest_has (λ b. pins_at b.number ms ≡ pins_of b.number queues) (filter q bs) pins)
 
 -- the device finds the block that the records say
-pub ended_is : (l : Limits) (x : Environment) (next : Numbers) (from : ℕ) → ArePartsSound l x next → AllZip IsMarkOf x.device.marks x.device.blocks → lowest_ended from x.device.marks x.device.blocks ≡ ended_from from (state_of x next).records
-ended_is l x next from sound zip =
+pub ended_is : (x : WithHost) (from : ℕ) → AreMarked x → EachPair IsClearOf x.device.blocks → AllZip IsMarkOf x.device.marks x.device.blocks → lowest_ended from x.device.marks x.device.blocks ≡ ended_from from (bare_state x).records
+ended_is x from marked clear zip =
     let distinct : EachPair (λ (b : Block) (c : Block). b.number ≡ c.number → ⊥) x.device.blocks =
-    EachPair-weaker IsClearOf (λ (b : Block) (c : Block). b.number ≡ c.number → ⊥) x.device.blocks (λ b c clear same. let less : b.number < c.number = clear.numbers in omega arith) sound.sound.records.blocks_apart.apart in
+    EachPair-weaker IsClearOf (λ (b : Block) (c : Block). b.number ≡ c.number → ⊥) x.device.blocks (λ b c clear same. let less : b.number < c.number = clear.numbers in omega arith) clear in
     lowest_same from x.present.table.ranges x.queues.queues x.device.marks x.device.blocks
     (AllByRecursion-weaker (λ (b : Block). block_at b.number x.device.blocks ≡ Some b) (λ (b : Block). IsMarkAt x.present.table.ranges x.queues.queues x.device.marks b.number) x.device.blocks
-    (λ b own. told_by_mark l x next b.number sound zip (is_some (block_at b.number x.device.blocks) b own)) (at-own own_number x.device.blocks distinct))
+    (λ b own. told_by_mark x b.number marked zip (is_some (block_at b.number x.device.blocks) b own)) (at-own own_number x.device.blocks distinct))
 
 -- ---- loans
 

@@ -19,8 +19,7 @@ use Rattle.acc_base.proofs.Memories.{recounted-block}
 use Rattle.acc_present.specs.Present.{PresentTable, PresentState, with_ranges}
 use Rattle.acc_present.specs.Present as present
 use Rattle.acc_clauses.specs.declared.numbers.Numbers.{Numbers}
-use Rattle.acc_clauses.specs.declared.environments.Environment.{Environment}
-use Rattle.acc_clauses.specs.Contents.{AreMarked, state_of}
+use Rattle.acc_clauses.specs.Contents.{WithHost, AreMarked, state_of}
 use Rattle.acc_clauses.specs.Overlays.{puts_by}
 use Rattle.acc_clauses.specs.Acts.{IsChangedBy, IsActedBy}
 use Rattle.acc_clauses.proofs.Changes.{state_from_parts, room_same}
@@ -63,30 +62,30 @@ pub none_made : (o : Option ℕ) → at_once o None ≡ None
 none_made o = grind (arith, nat_tests)
 
 -- the parts stay
-pub stays : (change : State → State) (puts : ℕ → ℕ) (x : Environment) → AreMarked x → ((next : Numbers) → state_of x next ≡ change (state_of x next)) → IsChangedBy change [] 0 puts x x
+pub stays : (change : State → State) (puts : ℕ → ℕ) (x : WithHost) → AreMarked x → ((next : Numbers) → state_of x next ≡ change (state_of x next)) → IsChangedBy change [] 0 puts x x
 stays change puts x marked same = grind (arith, nat_tests)
 
-pub nothing_acts : (task : Task) (x : Environment) → AreMarked x → IsActedBy task Nothing x x
+pub nothing_acts : (task : Task) (x : WithHost) → AreMarked x → IsActedBy task Nothing x x
 unfolding step_state act_step act_row
 nothing_acts task x marked = grind (arith, nat_tests)
 
 -- the marks stay right where the counters of a range change
-pub counted_marked : (task : Task) (k : ℕ) (x : Environment) (r : PresentState) → r.table ≡ with_ranges x.present.table (changed_at k (recounted task) x.present.table.ranges) → AreMarked x → AreMarked (record x { present = r })
+pub counted_marked : (task : Task) (k : ℕ) (x : WithHost) (r : PresentState) → r.table ≡ with_ranges x.present.table (changed_at k (recounted task) x.present.table.ranges) → AreMarked x → AreMarked (record x { present = r })
 counted_marked task k x r e marked = rw e (marks_counted x.present.table.ranges k (recounted task) x.queues.queues x.device.marks (recounted-block task) marked)
 
 -- the counters of a range change, and nothing else
-counter_acts : (change : State → State) (puts : ℕ → ℕ) (task : Task) (k : ℕ) (x : Environment) (r : PresentState) → r.table ≡ with_ranges x.present.table (changed_at k (recounted task) x.present.table.ranges) → present.IsRoomKept x.present.room r.room → AreMarked x
+counter_acts : (change : State → State) (puts : ℕ → ℕ) (task : Task) (k : ℕ) (x : WithHost) (r : PresentState) → r.table ≡ with_ranges x.present.table (changed_at k (recounted task) x.present.table.ranges) → present.IsRoomKept x.present.room r.room → AreMarked x
     → ((next : Numbers) → state_of (record x { present = r }) next ≡ change (state_of x next)) → IsChangedBy change [] 0 puts x (record x { present = r })
 counter_acts change puts task k x r e room marked same = grind (arith, nat_tests, room_same puts x (record x { present = r }) room, counted_marked task k x r e marked)
 
-pub counted_acts : (task : Task) (k : ℕ) (x : Environment) (r : PresentState) → r.table ≡ with_ranges x.present.table (changed_at k (recounted task) x.present.table.ranges) → present.IsRoomKept x.present.room r.room → AreMarked x
+pub counted_acts : (task : Task) (k : ℕ) (x : WithHost) (r : PresentState) → r.table ≡ with_ranges x.present.table (changed_at k (recounted task) x.present.table.ranges) → present.IsRoomKept x.present.room r.room → AreMarked x
     → IsActedBy task (Counted k) x (record x { present = r })
 unfolding step_state act_step act_row with_range_changed
 counted_acts task k x r e room marked = counter_acts (step_state task (Counted k)) (λ q. puts_by q task (Counted k)) task k x r e room marked
     (λ next. state_from_parts (record x { present = r }) next (step_state task (Counted k) (state_of x next)) (ap (λ t. t.ranges) e) refl refl refl (sym (none_put (queue_of task) x.queues.queues)) refl (ap (λ t. t.regions) e) refl refl
     (rw (none_made (queue_of task)) refl) (rw (none_made (queue_of task)) refl))
 
-pub dropped_acts : (task : Task) (k : ℕ) (x : Environment) (r : PresentState) → r.table ≡ with_ranges x.present.table (changed_at k (recounted task) x.present.table.ranges) → present.IsRoomKept x.present.room r.room → AreMarked x
+pub dropped_acts : (task : Task) (k : ℕ) (x : WithHost) (r : PresentState) → r.table ≡ with_ranges x.present.table (changed_at k (recounted task) x.present.table.ranges) → present.IsRoomKept x.present.room r.room → AreMarked x
     → IsActedBy task (Dropped k false) x (record x { present = r })
 unfolding step_state act_step act_row with_range_changed
 dropped_acts task k x r e room marked = counter_acts (step_state task (Dropped k false)) (λ q. puts_by q task (Dropped k false)) task k x r e room marked

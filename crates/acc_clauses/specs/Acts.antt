@@ -30,11 +30,10 @@ use Rattle.acc_base.specs.History.{IsAimLegal}
 use Rattle.acc_host.specs.Host.{bytes_in}
 use Rattle.acc_dev.specs.Device.{DeviceState, birth_place}
 use Rattle.acc_dev.specs.Marks.{new_mark}
-use Rattle.acc_queues.specs.Queued.{spare_at}
-use Rattle.acc_clauses.specs.declared.environments.Environment.{Environment}
+use Rattle.acc_queues.specs.Queued.{QueuesState, spare_at}
 use Rattle.acc_clauses.specs.declared.numbers.Numbers.{Numbers}
 use Rattle.acc_clauses.specs.Planned.{Planned, holdings_by}
-use Rattle.acc_clauses.specs.Contents.{Room, Contents, state_of, room_of, AreMarked, bare_state}
+use Rattle.acc_clauses.specs.Contents.{Room, Contents, state_of, room_of, AreMarked, bare_state, WithHost}
 use Rattle.acc_clauses.specs.Overlays.{is_queue, puts_by, puts_in}
 
 -- ---- what is known of a task
@@ -101,26 +100,26 @@ abbrev pub CanTransfer : Transfer → State → Type 0
 CanTransfer t s = CanCopy t.section t.block (first_address t) s
 
 -- the transfer can be put into a queue, where it keeps its block
-pub record CanPut (q : ℕ) (t : Transfer) (x : Environment) : Type 0 where
-  pub room : length (queue_at q x.queues.queues) < x.queues.cap
-  pub spare : 1 ≤ spare_at q x.queues.spare
-  pub there : IsSome (block_at t.block x.device.blocks)
+pub record CanPut (q : ℕ) (t : Transfer) (queues : QueuesState) (device : DeviceState) : Type 0 where
+  pub room : length (queue_at q queues.queues) < queues.cap
+  pub spare : 1 ≤ spare_at q queues.spare
+  pub there : IsSome (block_at t.block device.blocks)
 
 -- so can the first one of a queue
-abbrev pub CanStep : ℕ → Environment → Type 0
+abbrev pub CanStep : ℕ → WithHost → Type 0
 CanStep q x = (t : Transfer) → head_of q x.queues.queues ≡ Some t → CanTransfer t (bare_state x)
 
 -- at once, or into the queue that is named
-abbrev pub CanMoveBytes : Option ℕ → Transfer → Environment → Type 0
+abbrev pub CanMoveBytes : Option ℕ → Transfer → WithHost → Type 0
 CanMoveBytes None t x = CanTransfer t (bare_state x)
-CanMoveBytes (Some q) t x = CanPut q t x
+CanMoveBytes (Some q) t x = CanPut q t x.queues x.device
 
 -- the queue of a task has room for the transfer of its step
-abbrev pub CanQueue : Task → Step → Environment → Type 0
+abbrev pub CanQueue : Task → Step → WithHost → Type 0
 CanQueue task step x = room_for x.queues.cap (queue_of task) (transfer_of task step x.present.table.ranges) x.queues.queues ≡ Ok tt
 
 -- the block that a step needs is not lent
-abbrev pub CanNeed : Task → Step → Environment → Type 0
+abbrev pub CanNeed : Task → Step → WithHost → Type 0
 CanNeed task step x = not_lent (block_needed task step) x.device.loans ≡ Ok tt
 
 -- the section can be mapped to a new block of this number at this place
@@ -177,19 +176,19 @@ CanAct counter_max memory task (Dropped block ended) s = CanDrop task block ende
 CanAct counter_max memory task (Moved block) s = CanMove (section_of task) block s
 
 -- before a task: entry attaches after its step, and exit detaches before its step
-pub record CanEnter (x : Environment) (task : Task) (did : Did) : Type 0 where
+pub record CanEnter (x : WithHost) (task : Task) (did : Did) : Type 0 where
   pub step : CanAct x.present.table.counter_max x.device.memory task did.step (bare_state x)
   pub aim : CanAim x.attached.counter_max did.aim (step_state task did.step (bare_state x))
   pub needed : CanNeed task did.step x
   pub queue : CanQueue task did.step x
 
-pub record CanLeave (x : Environment) (task : Task) (did : Did) : Type 0 where
+pub record CanLeave (x : WithHost) (task : Task) (did : Did) : Type 0 where
   pub aim : CanAim x.attached.counter_max did.aim (bare_state x)
   pub step : CanAct x.present.table.counter_max x.device.memory task did.step (aimed did.aim (bare_state x))
   pub needed : CanNeed task did.step x
   pub queue : CanQueue task did.step x
 
-abbrev pub CanDo : Environment → Task → Did → Type 0
+abbrev pub CanDo : WithHost → Task → Did → Type 0
 CanDo x (Enter counter item queue) did = CanEnter x (Enter counter item queue) did
 CanDo x (Leave holding) did = CanLeave x (Leave holding) did
 CanDo x (Exit finalize item queue) did = CanLeave x (Exit finalize item queue) did
@@ -244,7 +243,7 @@ pub record IsRoomLeft (births : List ℕ) (pointers : ℕ) (put : ℕ → ℕ) (
 -- ---- what a task makes of the parts
 
 -- the parts before a change of their state and after it, which took this room and kept the marks of blocks right
-pub record IsChangedBy (change : State → State) (births : List ℕ) (pointers : ℕ) (put : ℕ → ℕ) (old new : Environment) : Type 0 where
+pub record IsChangedBy (change : State → State) (births : List ℕ) (pointers : ℕ) (put : ℕ → ℕ) (old new : WithHost) : Type 0 where
   pub state : (next : Numbers) → state_of new next ≡ change (state_of old next)
   pub counter_max : new.present.table.counter_max ≡ old.present.table.counter_max
   pub memory : new.device.memory ≡ old.device.memory
@@ -261,37 +260,37 @@ moved_state queue t s = record s {
   memories = memories_made (at_once queue (Some t)) s.records.attached s.host s.memories;
 }
 
-abbrev pub IsMovedBy : Option ℕ → Transfer → Environment → Environment → Type 0
+abbrev pub IsMovedBy : Option ℕ → Transfer → WithHost → WithHost → Type 0
 IsMovedBy queue t old new = IsChangedBy (moved_state queue t) [] 0 (λ q. if is_queue q queue then 1 else 0) old new
 
 -- the copy to a new block, if the clause copies, put into the queue that is named; without a queue it was made before
 abbrev pub filled_later : Option ℕ → Item RegionClause → ℕ → State → State
 filled_later queue item block s = if copies_in item.clause && is_some queue then moved_state queue (record { block = block; offset = 0; section = section_named (is_attach item.clause) item.section; out = false }) s else s
 
-abbrev pub IsFilledLater : Option ℕ → Item RegionClause → ℕ → Environment → Environment → Type 0
+abbrev pub IsFilledLater : Option ℕ → Item RegionClause → ℕ → WithHost → WithHost → Type 0
 IsFilledLater queue item block old new = IsChangedBy (filled_later queue item block) [] 0 (λ q. if is_queue q queue && copies_in item.clause then 1 else 0) old new
 
 -- the copy to host memory before a mapping ends, if the task copies
 abbrev pub given_state : Task → ℕ → State → State
 given_state task block s = if gives_bytes task then moved_state (queue_of task) (transfer_at task block s.records.ranges) s else s
 
-abbrev pub IsGivenBy : Task → ℕ → Environment → Environment → Type 0
+abbrev pub IsGivenBy : Task → ℕ → WithHost → WithHost → Type 0
 IsGivenBy task block old new = IsChangedBy (given_state task block) [] 0 (λ q. puts_by q task (Dropped block true)) old new
 
 -- the first transfer of a queue is made
-abbrev pub IsSteppedBy : ℕ → Environment → Environment → Type 0
+abbrev pub IsSteppedBy : ℕ → WithHost → WithHost → Type 0
 IsSteppedBy q old new = IsChangedBy (stepped q) [] 0 (λ q. 0) old new
 
 -- a step
-abbrev pub IsActedBy : Task → Step → Environment → Environment → Type 0
+abbrev pub IsActedBy : Task → Step → WithHost → WithHost → Type 0
 IsActedBy task step old new = IsChangedBy (step_state task step) (birth_of task step) 0 (λ q. puts_by q task step) old new
 
 -- an attachment or a detachment
-abbrev pub IsAimedBy : Aim → Environment → Environment → Type 0
+abbrev pub IsAimedBy : Aim → WithHost → WithHost → Type 0
 IsAimedBy aim old new = IsChangedBy (aimed aim) [] (pointers_of aim) (λ q. 0) old new
 
 -- both
-abbrev pub IsDoneBy : Task → Did → Environment → Environment → Type 0
+abbrev pub IsDoneBy : Task → Did → WithHost → WithHost → Type 0
 IsDoneBy task did old new = IsChangedBy (act_state task did) (birth_of task did.step) (pointers_of did.aim) (λ q. puts_by q task did.step) old new
 
 -- ---- a new block
@@ -341,13 +340,13 @@ pub record CanOpen (holdings : ℕ) (c : Contents) : Type 0 where
 
 -- what a directive needs of the register and its room, where a region that it enters has so many holdings, and of the transfers that it makes
 abbrev pub CanFinish : Directive → ℕ → Contents → Type 0
-CanFinish (directives.Enter items) holdings c = CanOpen holdings c
+CanFinish (directives.Enter device items) holdings c = CanOpen holdings c
 CanFinish (directives.Exit number) holdings c = IsSome (region_at number c.state.register.regions)
 CanFinish d holdings c = none_lent (transfers_in d c.state.records.queues) c.state.records.loans ≡ Ok tt
 
 -- how many regions a directive enters
 abbrev pub regions_entered : Directive → ℕ
-regions_entered (directives.Enter items) = 1
+regions_entered (directives.Enter device items) = 1
 regions_entered _ = 0
 
 -- there is room for all that a plan of a directive takes in

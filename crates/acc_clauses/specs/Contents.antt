@@ -2,13 +2,17 @@
 use Rattle.std.specs.Prelude.{ℕ, ◌≡◌, ◌<◌, List, is_none, length}
 use Rattle.std.specs.List.{AllByRecursion}
 use Rattle.acc_clauses.specs.Words.{Range, Transfer}
-use Rattle.acc_base.specs.Limits.{Limits}
+use Rattle.acc_base.specs.Limits.{Limits, IsWithinBounds}
 use Rattle.acc_base.specs.Section.{device_memory}
 use Rattle.acc_base.specs.Records.{State, new_state}
 use Rattle.acc_base.specs.Ranges.{range_of}
 use Rattle.acc_base.specs.Queues.{pins_of}
 use Rattle.acc_base.specs.Accounts.{AreRecordsSound, AreMemoriesSized}
 use Rattle.acc_dev.specs.Marks.{Mark}
+use Rattle.acc_dev.specs.Device.{DeviceState}
+use Rattle.acc_present.specs.Present.{PresentState}
+use Rattle.acc_attach.specs.Attached.{AttachedState}
+use Rattle.acc_queues.specs.Queued.{QueuesState}
 use Rattle.acc_clauses.specs.declared.environments.Environment.{Environment}
 use Rattle.acc_clauses.specs.declared.numbers.Numbers.{Numbers}
 
@@ -29,8 +33,20 @@ pub record Contents : Type 0 where
 
 -- ---- what the parts come to
 
+-- what one device has, and the bytes of host memory, which are not its own
+pub record WithHost : Type 0 where
+  pub present : PresentState
+  pub device : DeviceState
+  pub host : List ℕ
+  pub attached : AttachedState
+  pub queues : QueuesState
+
+-- host memory is handed in beside the environment of a device
+abbrev pub beside : Environment → List ℕ → WithHost
+beside x host = record { present = x.present; device = x.device; host = host; attached = x.attached; queues = x.queues }
+
 -- the state that the parts come to, with the numbers of the next region and the next loan
-abbrev pub state_of : Environment → Numbers → State
+abbrev pub state_of : WithHost → Numbers → State
 state_of x next = record {
   records = record { ranges = x.present.table.ranges; blocks = x.device.blocks; attached = x.attached.attached; births = x.device.births; queues = x.queues.queues; loans = x.device.loans };
   register = record { regions = x.present.table.regions; next = next.region; serial = next.serial };
@@ -42,20 +58,20 @@ state_of x next = record {
 abbrev pub bare_numbers : Numbers
 bare_numbers = record { region = 0; serial = 0; lent = 0 }
 
-abbrev pub bare_state : Environment → State
+abbrev pub bare_state : WithHost → State
 bare_state x = state_of x bare_numbers
 
 -- and their room
-abbrev pub room_of : Environment → Room
+abbrev pub room_of : WithHost → Room
 room_of x = record { births = x.device.room; ranges = x.present.room.ranges; regions = x.present.room.regions; holdings = x.present.room.holdings; attachments = x.attached.spare; puts = x.queues.spare }
 
-abbrev pub contents_of : Limits → Environment → Numbers → Contents
+abbrev pub contents_of : Limits → WithHost → Numbers → Contents
 contents_of l x next = record { limits = l; state = state_of x next; room = room_of x }
 
 -- the parts have the sizes that the limits say
-pub record AreSizedBy (l : Limits) (x : Environment) : Type 0 where
+pub record AreSizedBy (l : Limits) (x : WithHost) : Type 0 where
   pub counters : x.present.table.counter_max ≡ l.counter_max
-  pub device : x.device.memory ≡ device_memory l.device
+  pub device : x.device.memory ≡ device_memory l
   pub pointers : x.attached.counter_max ≡ l.counter_max
   pub queues : x.queues.cap ≡ l.queue_cap
 
@@ -65,7 +81,7 @@ pub record IsMarkRight (ranges : List Range) (queues : List (List Transfer)) (m 
   pub ended : m.ended ≡ is_none (range_of m.block ranges)
 
 -- so do all of them
-abbrev pub AreMarked : Environment → Type 0
+abbrev pub AreMarked : WithHost → Type 0
 AreMarked x = AllByRecursion (IsMarkRight x.present.table.ranges x.queues.queues) x.device.marks
 
 -- what each step of a directive keeps: records that are sound, and memories in step with them
@@ -73,8 +89,9 @@ pub record AreContentsSound (c : Contents) : Type 0 where
   pub records : AreRecordsSound c.limits c.state.records
   pub memories : AreMemoriesSized c.limits c.state
 
--- the parts fit one another, what they come to is sound, and the blocks that are lent are counted: fewer than the number of the next loan
-pub record ArePartsSound (l : Limits) (x : Environment) (next : Numbers) : Type 0 where
+-- the limits lie within their bounds, the parts fit one another, what they come to is sound, and the blocks that are lent are counted: fewer than the number of the next loan
+pub record ArePartsSound (l : Limits) (x : WithHost) (next : Numbers) : Type 0 where
+  pub bounds : IsWithinBounds l
   pub sized : AreSizedBy l x
   pub sound : AreContentsSound (contents_of l x next)
   pub marked : AreMarked x

@@ -4,6 +4,8 @@ pub mod Overlays
 pub mod Planned
 pub mod Acts
 pub mod Stored
+pub mod Views
+pub mod Spares
 pub mod Lending
 pub mod Copies
 pub mod Aims

@@ -65,14 +65,14 @@ holdings_by _ _ = []
 
 -- the register after a directive whose tasks hold these
 abbrev pub register_by : Directive → List Holding → Register → Register
-register_by (directives.Enter items) holdings g = opened holdings g
+register_by (directives.Enter device items) holdings g = opened g.next holdings g
 register_by (directives.Exit number) holdings g = closed number g
 register_by _ holdings g = g
 
 -- the queues whose first transfers a directive makes, in that order
 abbrev pub steps_by : Directive → List (List Transfer) → List ℕ
-steps_by (directives.Wait queue) queues = steps_of queue queues
-steps_by (directives.Step queue) queues = queue ∷ []
+steps_by (directives.Wait device queue) queues = steps_of queue queues
+steps_by (directives.Step device queue) queues = queue ∷ []
 steps_by _ queues = []
 
 -- the state after the directive, from what its tasks left

@@ -8,7 +8,7 @@ ghost use Rattle.acc_base.specs.Clauses.{is_attach, section_named, copies_in};
 ghost use Rattle.acc_base.specs.declared.tasks.Task.TheVariants.{Enter};
 ghost use Rattle.acc_base.specs.declared.events.Step.TheVariants.{Born, Dropped, Moved};
 ghost use Rattle.acc_present.specs.Present.{HasRange, with_ranges, IsRoomKept};
-ghost use Rattle.acc_clauses.specs.Contents.{AreMarked, state_of, room_of, bare_state};
+ghost use Rattle.acc_clauses.specs.Contents.{AreMarked, beside, room_of, bare_state};
 ghost use Rattle.acc_clauses.specs.Overlays.{puts_by};
 ghost use Rattle.acc_clauses.specs.Acts.{CanAct, CanCount, CanBear, CanMove, CanDrop, HasRoomFor, IsRoomLeft, IsActedBy, CanMake, IsMade, is_copied_now, birth_of, CanDo, IsDoneBy, pointers_of, CanPut, CanQueue, CanNeed, HasPutRoom, IsFilledLater, IsGivenBy};
 
@@ -84,13 +84,14 @@ fn make_block(
 /// Puts the copy to a new block into the queue that is named, if the clause copies.
 fn fill_later(
     environment: &mut Environment,
+    host: &mut HostMem,
     queue: Option<u64>,
     item: Item<RegionClause>,
     block: u64,
 )
-    requires can { (q : ℕ) → queue ≡ Some q → copies_in item.clause ≡ true → CanPut q (record { block = block; offset = 0; section = section_named (is_attach item.clause) item.section; out = false }) environment.old }
-    requires marked { AreMarked environment.old }
-    ensures filled { IsFilledLater queue item block environment.old environment.new }
+    requires can { (q : ℕ) → queue ≡ Some q → copies_in item.clause ≡ true → CanPut q (record { block = block; offset = 0; section = section_named (is_attach item.clause) item.section; out = false }) environment.old.queues environment.old.device }
+    requires marked { AreMarked (beside environment.old host.old) }
+    ensures filled { IsFilledLater queue item block (beside environment.old host.old) (beside environment.new host.new) }
 {
     if queue.is_some() && copies_in(item.clause) {
         let section = section_of(Task::Enter {
@@ -104,25 +105,26 @@ fn fill_later(
             section,
             out: false,
         };
-        move_bytes(environment, queue, t);
+        move_bytes(environment, host, queue, t);
     }
 }
 
 /// Maps the section of an item to a new block, with a counter of one.
 fn bear(
     environment: &mut Environment,
+    host: &mut HostMem,
     counter: Counter,
     item: Item<RegionClause>,
     queue: Option<u64>,
     block: u64,
     place: u64,
 )
-    requires can { CanBear environment.old.present.table.counter_max environment.old.device.memory (section_of (Enter counter item queue)) block place (bare_state environment.old) }
-    requires queue { CanQueue (Enter counter item queue) (Born block place) environment.old }
-    requires room { HasRoomFor ((section_of (Enter counter item queue)).len ∷ []) (room_of environment.old) }
-    requires puts { HasPutRoom (λ q. puts_by q (Enter counter item queue) (Born block place)) (room_of environment.old) }
-    requires marked { AreMarked environment.old }
-    ensures acted { IsActedBy (Enter counter item queue) (Born block place) environment.old environment.new }
+    requires can { CanBear environment.old.present.table.counter_max environment.old.device.memory (section_of (Enter counter item queue)) block place (bare_state (beside environment.old host.old)) }
+    requires queue { CanQueue (Enter counter item queue) (Born block place) (beside environment.old host.old) }
+    requires room { HasRoomFor ((section_of (Enter counter item queue)).len ∷ []) (room_of (beside environment.old host.old)) }
+    requires puts { HasPutRoom (λ q. puts_by q (Enter counter item queue) (Born block place)) (room_of (beside environment.old host.old)) }
+    requires marked { AreMarked (beside environment.old host.old) }
+    ensures acted { IsActedBy (Enter counter item queue) (Born block place) (beside environment.old host.old) (beside environment.new host.new) }
 {
     let section = section_of(Task::Enter {
         counter,
@@ -131,43 +133,37 @@ fn bear(
     });
     let copied = is_copied_now(item.clause, queue);
     environment.device.laws();
-    make_block(
-        &mut environment.device,
-        &environment.host,
-        copied,
-        section,
-        item.clause,
-    );
+    make_block(&mut environment.device, host, copied, section, item.clause);
     let hint = environment.present.add_reserved(section, block);
     raise(&mut environment.present, counter, block, hint);
-    fill_later(environment, queue, item, block);
+    fill_later(environment, host, queue, item, block);
 }
 
 /// Where the task copies at the end of a mapping, host memory gets the bytes of the section, at once or later.
-fn give_bytes(environment: &mut Environment, task: Task, block: u64, hint: Hint)
-    requires can { CanMove (section_of task) block (bare_state environment.old) }
+fn give_bytes(environment: &mut Environment, host: &mut HostMem, task: Task, block: u64, hint: Hint)
+    requires can { CanMove (section_of task) block (bare_state (beside environment.old host.old)) }
     requires free { is_lent block environment.old.device.loans ≡ false }
-    requires queue { CanQueue task (Dropped block true) environment.old }
-    requires puts { HasPutRoom (λ q. puts_by q task (Dropped block true)) (room_of environment.old) }
-    requires marked { AreMarked environment.old }
-    ensures given { IsGivenBy task block environment.old environment.new }
+    requires queue { CanQueue task (Dropped block true) (beside environment.old host.old) }
+    requires puts { HasPutRoom (λ q. puts_by q task (Dropped block true)) (room_of (beside environment.old host.old)) }
+    requires marked { AreMarked (beside environment.old host.old) }
+    ensures given { IsGivenBy task block (beside environment.old host.old) (beside environment.new host.new) }
 {
     if gives_bytes(task) {
         let t = transfer_at(&environment.present, task, block, hint);
-        move_bytes(environment, queue_of(task), t);
+        move_bytes(environment, host, queue_of(task), t);
     }
 }
 
 /// Ends the mapping to a block. A block that a queued transfer names stays; else it is given back.
-fn end(environment: &mut Environment, task: Task, block: u64, hint: Hint)
-    requires can { CanDrop task block true (bare_state environment.old) }
+fn end(environment: &mut Environment, host: &mut HostMem, task: Task, block: u64, hint: Hint)
+    requires can { CanDrop task block true (bare_state (beside environment.old host.old)) }
     requires free { is_lent block environment.old.device.loans ≡ false }
-    requires queue { CanQueue task (Dropped block true) environment.old }
-    requires puts { HasPutRoom (λ q. puts_by q task (Dropped block true)) (room_of environment.old) }
-    requires marked { AreMarked environment.old }
-    ensures acted { IsActedBy task (Dropped block true) environment.old environment.new }
+    requires queue { CanQueue task (Dropped block true) (beside environment.old host.old) }
+    requires puts { HasPutRoom (λ q. puts_by q task (Dropped block true)) (room_of (beside environment.old host.old)) }
+    requires marked { AreMarked (beside environment.old host.old) }
+    ensures acted { IsActedBy task (Dropped block true) (beside environment.old host.old) (beside environment.new host.new) }
 {
-    give_bytes(environment, task, block, hint);
+    give_bytes(environment, host, task, block, hint);
     environment.device.laws();
     recount(&mut environment.present, task, block, hint);
     environment.present.remove(block, hint);
@@ -177,43 +173,50 @@ fn end(environment: &mut Environment, task: Task, block: u64, hint: Hint)
 }
 
 /// Lowers the counters of a range, or ends its mapping where none is above zero then.
-fn lower(environment: &mut Environment, task: Task, block: u64, ended: bool, hint: Hint)
-    requires can { CanDrop task block ended (bare_state environment.old) }
+fn lower(
+    environment: &mut Environment,
+    host: &mut HostMem,
+    task: Task,
+    block: u64,
+    ended: bool,
+    hint: Hint,
+)
+    requires can { CanDrop task block ended (bare_state (beside environment.old host.old)) }
     requires free { is_lent block environment.old.device.loans ≡ false }
-    requires queue { CanQueue task (Dropped block ended) environment.old }
-    requires puts { HasPutRoom (λ q. puts_by q task (Dropped block ended)) (room_of environment.old) }
-    requires marked { AreMarked environment.old }
-    ensures acted { IsActedBy task (Dropped block ended) environment.old environment.new }
+    requires queue { CanQueue task (Dropped block ended) (beside environment.old host.old) }
+    requires puts { HasPutRoom (λ q. puts_by q task (Dropped block ended)) (room_of (beside environment.old host.old)) }
+    requires marked { AreMarked (beside environment.old host.old) }
+    ensures acted { IsActedBy task (Dropped block ended) (beside environment.old host.old) (beside environment.new host.new) }
 {
     if ended {
-        end(environment, task, block, hint);
+        end(environment, host, task, block, hint);
     } else {
         recount(&mut environment.present, task, block, hint);
     }
 }
 
 /// Copies the section of an update, at once or later.
-fn update(environment: &mut Environment, task: Task, block: u64, hint: Hint)
-    requires can { CanMove (section_of task) block (bare_state environment.old) }
-    requires needed { CanNeed task (Moved block) environment.old }
-    requires queue { CanQueue task (Moved block) environment.old }
-    requires puts { HasPutRoom (λ q. puts_by q task (Moved block)) (room_of environment.old) }
-    requires marked { AreMarked environment.old }
-    ensures acted { IsActedBy task (Moved block) environment.old environment.new }
+fn update(environment: &mut Environment, host: &mut HostMem, task: Task, block: u64, hint: Hint)
+    requires can { CanMove (section_of task) block (bare_state (beside environment.old host.old)) }
+    requires needed { CanNeed task (Moved block) (beside environment.old host.old) }
+    requires queue { CanQueue task (Moved block) (beside environment.old host.old) }
+    requires puts { HasPutRoom (λ q. puts_by q task (Moved block)) (room_of (beside environment.old host.old)) }
+    requires marked { AreMarked (beside environment.old host.old) }
+    ensures acted { IsActedBy task (Moved block) (beside environment.old host.old) (beside environment.new host.new) }
 {
     let t = transfer_at(&environment.present, task, block, hint);
-    move_bytes(environment, queue_of(task), t);
+    move_bytes(environment, host, queue_of(task), t);
 }
 
 /// Does the step of a task.
-fn step_on(environment: &mut Environment, task: Task, step: Step, hint: Hint)
-    requires can { CanAct environment.old.present.table.counter_max environment.old.device.memory task step (bare_state environment.old) }
-    requires needed { CanNeed task step environment.old }
-    requires queue { CanQueue task step environment.old }
-    requires room { HasRoomFor (birth_of task step) (room_of environment.old) }
-    requires puts { HasPutRoom (λ q. puts_by q task step) (room_of environment.old) }
-    requires marked { AreMarked environment.old }
-    ensures acted { IsActedBy task step environment.old environment.new }
+fn step_on(environment: &mut Environment, host: &mut HostMem, task: Task, step: Step, hint: Hint)
+    requires can { CanAct environment.old.present.table.counter_max environment.old.device.memory task step (bare_state (beside environment.old host.old)) }
+    requires needed { CanNeed task step (beside environment.old host.old) }
+    requires queue { CanQueue task step (beside environment.old host.old) }
+    requires room { HasRoomFor (birth_of task step) (room_of (beside environment.old host.old)) }
+    requires puts { HasPutRoom (λ q. puts_by q task step) (room_of (beside environment.old host.old)) }
+    requires marked { AreMarked (beside environment.old host.old) }
+    ensures acted { IsActedBy task step (beside environment.old host.old) (beside environment.new host.new) }
 {
     match step {
         Step::Nothing => {}
@@ -227,31 +230,37 @@ fn step_on(environment: &mut Environment, task: Task, step: Step, hint: Hint)
             else {
                 unreachable!()
             };
-            bear(environment, counter, item, queue, block, place);
+            bear(environment, host, counter, item, queue, block, place);
         }
-        Step::Dropped { block, ended } => lower(environment, task, block, ended, hint),
-        Step::Moved { block } => update(environment, task, block, hint),
+        Step::Dropped { block, ended } => lower(environment, host, task, block, ended, hint),
+        Step::Moved { block } => update(environment, host, task, block, hint),
     }
 }
 
 /// Does what a task does: entry attaches after its step, and exit detaches before its step. The hint is of the range of
 /// the task.
-pub(crate) fn act_on(environment: &mut Environment, task: Task, did: Did, hint: Hint)
-    requires can { CanDo environment.old task did }
-    requires room { HasRoomFor (birth_of task did.step) (room_of environment.old) }
-    requires pointers { pointers_of did.aim ≤ (room_of environment.old).attachments }
-    requires puts { HasPutRoom (λ q. puts_by q task did.step) (room_of environment.old) }
-    requires marked { AreMarked environment.old }
-    ensures done { IsDoneBy task did environment.old environment.new }
+pub(crate) fn act_on(
+    environment: &mut Environment,
+    host: &mut HostMem,
+    task: Task,
+    did: Did,
+    hint: Hint,
+)
+    requires can { CanDo (beside environment.old host.old) task did }
+    requires room { HasRoomFor (birth_of task did.step) (room_of (beside environment.old host.old)) }
+    requires pointers { pointers_of did.aim ≤ (room_of (beside environment.old host.old)).attachments }
+    requires puts { HasPutRoom (λ q. puts_by q task did.step) (room_of (beside environment.old host.old)) }
+    requires marked { AreMarked (beside environment.old host.old) }
+    ensures done { IsDoneBy task did (beside environment.old host.old) (beside environment.new host.new) }
 {
     match task {
         Task::Enter { .. } => {
-            step_on(environment, task, did.step, hint);
-            aim_on(environment, did.aim);
+            step_on(environment, host, task, did.step, hint);
+            aim_on(environment, host, did.aim);
         }
         Task::Leave { .. } | Task::Exit { .. } | Task::Move { .. } => {
-            aim_on(environment, did.aim);
-            step_on(environment, task, did.step, hint);
+            aim_on(environment, host, did.aim);
+            step_on(environment, host, task, did.step, hint);
         }
     }
 }

@@ -38,7 +38,7 @@ pub(crate) fn attach(parts: &Parts, draft: &Draft, n: u64, pointer: u64) -> Resu
             target,
         });
     }
-    if parts.config().counter_max() <= count {
+    if parts.counter_max() <= count {
         return Err(Fault::CounterFull { item: n });
     }
     Ok(Aim::Again { pointer, block })

@@ -6,7 +6,7 @@ ghost use Rattle.acc_base.specs.Ranges.{start_of};
 ghost use Rattle.acc_base.specs.Bytes.{bytes_of, is_moved, bytes_moved_in, bytes_moved_out, memory_changed};
 ghost use Rattle.acc_base.specs.Loans.{is_lent};
 ghost use Rattle.acc_dev.specs.Device.{HasBlock};
-ghost use Rattle.acc_clauses.specs.Contents.{state_of, bare_state};
+ghost use Rattle.acc_clauses.specs.Contents.{beside, bare_state};
 ghost use Rattle.acc_clauses.specs.Acts.{CanCopy};
 ghost use Rattle.acc_clauses.specs.Copies.{IsRunEnd};
 
@@ -86,30 +86,36 @@ fn run_from(at: u64, stop: u64) -> Section
 
 /// Copies a section to host memory from a block whose bytes are those from the host address `start` on, but for the bytes
 /// of attached pointers.
-pub(crate) fn copy_out(environment: &mut Environment, section: Section, block: u64, start: u64)
-    requires can { CanCopy section block start (bare_state environment.old) }
-    ensures { let s = bare_state environment.old in environment.new ≡ record environment.old { host = bytes_moved_out (is_moved section block s.records.attached) (bytes_of block s.memories) start s.host } }
+pub(crate) fn copy_out(
+    environment: &Environment,
+    host: &mut HostMem,
+    section: Section,
+    block: u64,
+    start: u64,
+)
+    requires can { CanCopy section block start (bare_state (beside environment.now host.old)) }
+    ensures { let s = bare_state (beside environment.now host.old) in host.new ≡ bytes_moved_out (is_moved section block s.records.attached) (bytes_of block s.memories) start s.host }
 {
     let end = section.start + section.len;
     let mut at = section.start;
     while at < end {
         let stop = run_end(&environment.attached, block, at, end);
-        run_out(
-            &environment.device,
-            &mut environment.host,
-            run_from(at, stop),
-            block,
-            start,
-        );
+        run_out(&environment.device, host, run_from(at, stop), block, start);
         at = stop + POINTER_LEN;
     }
 }
 
 /// Copies a section of host memory to a block whose bytes are those from the host address `start` on, but for the bytes
 /// of attached pointers.
-pub(crate) fn copy_in(environment: &mut Environment, section: Section, block: u64, start: u64)
-    requires can { CanCopy section block start (bare_state environment.old) }
-    ensures { let s = bare_state environment.old in environment.new ≡ record environment.old { device = record environment.old.device { memories = map (memory_changed block (bytes_moved_in (is_moved section block s.records.attached) s.host start)) s.memories } } }
+pub(crate) fn copy_in(
+    environment: &mut Environment,
+    host: &HostMem,
+    section: Section,
+    block: u64,
+    start: u64,
+)
+    requires can { CanCopy section block start (bare_state (beside environment.old host.now)) }
+    ensures { let s = bare_state (beside environment.old host.now) in environment.new ≡ record environment.old { device = record environment.old.device { memories = map (memory_changed block (bytes_moved_in (is_moved section block s.records.attached) s.host start)) s.memories } } }
 {
     let end = section.start + section.len;
     let mut at = section.start;
@@ -117,7 +123,7 @@ pub(crate) fn copy_in(environment: &mut Environment, section: Section, block: u6
         let stop = run_end(&environment.attached, block, at, end);
         run_in(
             &mut environment.device,
-            &environment.host,
+            host,
             run_from(at, stop),
             block,
             start,

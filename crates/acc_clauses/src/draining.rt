@@ -37,20 +37,3 @@ pub fn drain(parts: &mut Parts, queue: Option<u64>)
         }
     }
 }
-
-/// How many transfers wait in a queue, or in all queues together.
-pub fn waiting(parts: &Parts, queue: Option<u64>) -> u64
-    ensures { result ≡ length (steps_of queue parts.now.state.records.queues) }
-{
-    match queue {
-        Some(q) => parts.queue_len(q),
-        None => {
-            let mut count = 0;
-            for q in 0..QUEUE_COUNT {
-                count += parts.queue_len(q);
-            }
-            parts.laws();
-            count
-        }
-    }
-}

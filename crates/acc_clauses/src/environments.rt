@@ -1,22 +1,55 @@
-//! The parts of a data environment, side by side.
+//! What one device has, side by side.
 
+ghost use Rattle.std.specs.Prelude.{◌≡◌, ◌<◌, IfOk, IfErr};
+ghost use Rattle.acc_base.specs.declared.faults.Fault.TheVariants.{Memory};
+ghost use Rattle.acc_base.specs.Limits.{limits_on};
+ghost use Rattle.acc_clauses.specs.Spares.{IsNewEnvironment};
+
+use crate::numbers::Numbers;
 use acc_attach::Attached;
+use acc_base::{Config, DEVICE_BASE, Fault};
 use acc_dev::Device;
-use acc_host::HostMem;
 use acc_present::Present;
 use acc_queues::Queues;
+use std::alloc::Global;
 
-/// The present table, the device, host memory, the attachment counters and the queues, side by side. How they fit one another is said by what holds them.
+/// What one device has: the present table, the blocks of its memory, the attachment counters and the queues, side by side.
+/// How they fit one another, and host memory, is said by what holds them.
 #[derive(Drop)]
 pub(crate) struct Environment {
     /// The mapped ranges and the open regions.
     pub(crate) present: Present,
     /// The blocks of device memory.
     pub(crate) device: Device,
-    /// Host memory.
-    pub(crate) host: HostMem,
     /// The attachment counters of the pointers in the blocks.
     pub(crate) attached: Attached,
     /// The transfers that are yet to be made.
     pub(crate) queues: Queues,
+}
+
+/// An environment apart from host memory, with the limits of its table, the number of its device, and the numbers of the
+/// next region and the next loan when it was set apart.
+#[derive(Drop)]
+pub(crate) struct Apart {
+    pub(crate) config: Config,
+    pub(crate) number: u64,
+    pub(crate) environment: Environment,
+    pub(crate) numbers: Numbers,
+}
+
+impl Environment {
+    /// That of the device of a number, where nothing is mapped and no block was born.
+    pub(crate) fn new(alloc: Global, config: &Config, number: u64) -> Result<Environment, Fault>
+        requires { number < config.now.devices }
+        ensures ok { IfOk result (IsNewEnvironment (limits_on number config.now)) }
+        ensures only { IfErr result (λ fault. fault ≡ Memory) }
+    {
+        config.laws();
+        Ok(Environment {
+            present: Present::new(alloc, config.counter_max()),
+            device: Device::new(alloc, (number + 1) * DEVICE_BASE, config.device())?,
+            attached: Attached::new(alloc, config.counter_max()),
+            queues: Queues::new(alloc, config.queue_cap())?,
+        })
+    }
 }

@@ -19,8 +19,8 @@ pub(crate) fn finish(parts: &mut Parts, directive: &Directive, plan: &Plan)
     match directive {
         Directive::Enter { .. } => parts.enter(plan.holdings()),
         Directive::Exit { number } => parts.leave(*number),
-        Directive::Wait { queue } => drain(parts, *queue),
-        Directive::Step { queue } => parts.step(*queue),
+        Directive::Wait { queue, .. } => drain(parts, *queue),
+        Directive::Step { queue, .. } => parts.step(*queue),
         _ => {}
     }
 }

@@ -36,7 +36,7 @@ pub(crate) fn in_host(parts: &Parts, n: u64, section: Section) -> Result<(), Fau
 {
     let host = Section {
         start: HOST_BASE,
-        len: parts.config().host(),
+        len: parts.host_size(),
     };
     if section.len != 0 && !is_within(section, host) {
         return Err(Fault::OutOfHost { item: n });
@@ -53,7 +53,7 @@ fn pointer_checked(parts: &Parts, n: u64, pointer: Option<u64>) -> Result<(), Fa
     };
     let host = Section {
         start: HOST_BASE,
-        len: parts.config().host(),
+        len: parts.host_size(),
     };
     if !is_within(pointer_at(pointer), host) {
         return Err(Fault::OutOfHost { item: n });
@@ -143,7 +143,7 @@ fn counted(
         Counter::Structured => counters.structured,
         Counter::Dynamic => counters.dynamic,
     };
-    if parts.config().counter_max() <= count {
+    if parts.counter_max() <= count {
         return Err(Fault::CounterFull { item: n });
     }
     Ok(Step::Counted { block })
@@ -314,7 +314,7 @@ fn room_for(parts: &Parts, draft: &Draft, task: Task, step: Step) -> Result<(), 
     let Some(q) = queue_of(task) else {
         return Ok(());
     };
-    if moves(task, step) && parts.config().queue_cap() <= queue_len_after(parts, draft, q) {
+    if moves(task, step) && parts.queue_cap() <= queue_len_after(parts, draft, q) {
         return Err(Fault::QueueFull { q });
     }
     Ok(())

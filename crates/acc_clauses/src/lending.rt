@@ -1,6 +1,6 @@
 //! What is refused because a block is lent (OpenACC 3.3, section 2.5, compute constructs).
 
-ghost use Rattle.std.specs.Prelude.{◌≡◌, Some, Ok, Err, MatchResult};
+ghost use Rattle.std.specs.Prelude.{ℕ, ◌≡◌, Some, Ok, Err, MatchResult};
 ghost use Rattle.acc_base.specs.Queues.{queue_at};
 ghost use Rattle.acc_base.specs.Waits.{transfers_of};
 ghost use Rattle.acc_base.specs.Judge.{transfers_in, region_open, lend_event, gathered, gather_event};
@@ -59,8 +59,8 @@ pub(crate) fn transfers_free(parts: &Parts, directive: &Directive) -> Result<(),
     ensures { result ≡ none_lent (transfers_in directive.now parts.now.state.records.queues) parts.now.state.records.loans }
 {
     match directive {
-        Directive::Wait { queue } => wait_free(parts, *queue),
-        Directive::Step { queue } => not_lent(parts, parts.head_block(*queue)),
+        Directive::Wait { queue, .. } => wait_free(parts, *queue),
+        Directive::Step { queue, .. } => not_lent(parts, parts.head_block(*queue)),
         _ => Ok(()),
     }
 }
@@ -78,7 +78,7 @@ fn region_open(parts: &Parts, number: u64) -> Result<(), Fault>
 /// The loan of a section in an open region, or what it is refused for.
 #[tactic(auto, unfolding(acc_base::specs::Judge::lend_event))]
 pub(crate) fn plan_loan(parts: &Parts, region: u64, section: Section) -> Result<Loan, Fault>
-    ensures { MatchResult result (λ loan. IsLoanPlanned parts.now.limits region section parts.now.state loan) (λ fault. lend_event parts.now.limits region section parts.now.state ≡ Err fault) }
+    ensures { (device : ℕ) → MatchResult result (λ loan. IsLoanPlanned parts.now.limits device region section parts.now.state loan) (λ fault. lend_event parts.now.limits device region section parts.now.state ≡ Err fault) }
 {
     region_open(parts, region)?;
     in_host(parts, 0, section)?;

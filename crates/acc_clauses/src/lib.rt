@@ -1,4 +1,5 @@
-//! The clauses of data directives, and their queues: a directive is judged whole, then all room is made, and then it is done.
+//! The clauses of data directives, and their queues, on one device at a time: a directive is judged whole, then all room is
+//! made, and then it is done.
 //!
 //! Judging takes no memory and changes nothing; making room changes nothing else; and doing takes no memory and is never
 //! refused.
@@ -28,13 +29,17 @@ mod readings;
 mod rows;
 mod running;
 mod sections;
+mod spares;
 mod stores;
 mod targets;
 mod tasks;
 mod transfers;
+mod views;
 
 pub use acted::Acted;
-pub use bases::Base;
+pub use bases::{Base, DeviceBase};
 pub use planning::check_items;
 pub use plans::Plan;
+pub use spares::Spare;
 pub use stores::Store;
+pub use views::View;

@@ -1,6 +1,6 @@
 //! A directive is judged whole, without memory and without a change.
 
-ghost use Rattle.std.specs.Prelude.{◌≡◌, ◌<◌, ◌≤◌, ◌^◌, MatchResult, OnOk, length, Ok, Err};
+ghost use Rattle.std.specs.Prelude.{ℕ, ◌≡◌, ◌<◌, ◌≤◌, ◌^◌, MatchResult, OnOk, length, Ok, Err};
 ghost use Rattle.std.specs.List.{AllByRecursion};
 ghost use Rattle.acc_base.specs.Acting.{judge_all};
 ghost use Rattle.acc_base.specs.Queues.{queue_named};
@@ -80,8 +80,8 @@ pub(crate) fn queue_in(directive: &Directive) -> Option<u64>
         Directive::EnterData { queue, .. } => *queue,
         Directive::ExitData { queue, .. } => *queue,
         Directive::Update { queue, .. } => *queue,
-        Directive::Wait { queue } => *queue,
-        Directive::Step { queue } => Some(*queue),
+        Directive::Wait { queue, .. } => *queue,
+        Directive::Step { queue, .. } => Some(*queue),
         _ => None,
     }
 }
@@ -106,8 +106,8 @@ fn check_queue(queue: Option<u64>) -> Result<(), Fault>
     }
 }
 
-/// Judges a directive whole: its first refusal, or what each of its items will do. It takes no memory, and nothing
-/// changes.
+/// Judges a directive whole, as one of any number of device: its first refusal, or what each of its items will do. It takes
+/// no memory, and nothing changes.
 ///
 /// # Errors
 ///
@@ -120,7 +120,7 @@ fn check_queue(queue: Option<u64>) -> Result<(), Fault>
 pub(crate) fn plan(parts: &Parts, directive: &Directive, plan: &mut Plan) -> Result<(), Fault>
     requires births { parts.now.state.records.births < 2 ^ 48 }
     requires register { AllByRecursion HasFewHoldings parts.now.state.register.regions }
-    ensures judged { let s = parts.now.state in MatchResult result (λ _. plan_of parts.now.limits directive.now s ≡ Ok (verdict_of directive.now s plan.new.dids)) (λ fault. plan_of parts.now.limits directive.now s ≡ Err fault) }
+    ensures judged { (device : ℕ) → let s = parts.now.state in MatchResult result (λ _. plan_of parts.now.limits device directive.now s ≡ Ok (verdict_of device directive.now s plan.new.dids)) (λ fault. plan_of parts.now.limits device directive.now s ≡ Err fault) }
     ensures planned { OnOk result (IsPlanOf parts.now.limits directive.now parts.now.state plan.new) }
 {
     check_items(directive)?;

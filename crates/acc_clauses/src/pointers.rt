@@ -1,11 +1,11 @@
 //! What attaching and detaching a pointer changes. Nothing is judged here, no memory is taken, and nothing is refused.
 
-ghost use Rattle.std.specs.Prelude.{◌≡◌, ◌-◌, ◌≤◌, length, slice_index};
+ghost use Rattle.std.specs.Prelude.{ℕ, List, [], ◌≡◌, ◌-◌, ◌≤◌, length, slice_index};
 ghost use Rattle.std.specs.Int.{w64, to_le_bytes};
 ghost use Rattle.acc_base.specs.declared.attachments.Aim.TheVariants.{Less};
 ghost use Rattle.acc_base.specs.Bytes.{host_byte};
 ghost use Rattle.acc_base.specs.Pointers.{pointer_written};
-ghost use Rattle.acc_clauses.specs.Contents.{AreMarked, state_of, room_of, bare_state};
+ghost use Rattle.acc_clauses.specs.Contents.{AreMarked, beside, room_of, bare_state};
 ghost use Rattle.acc_clauses.specs.Acts.{CanAttach, CanDetach, CanAim, IsAimedBy, pointers_of, pointers_in};
 ghost use Rattle.acc_clauses.specs.Overlays.{dids_in};
 
@@ -15,12 +15,13 @@ use crate::environments::Environment;
 use crate::sections::pointer_at;
 use acc_attach::Left;
 use acc_base::Aim;
+use acc_host::HostMem;
 use acc_present::Hint;
 
 /// Writes the device address of a target over a pointer in a block, which is not lent.
 fn write_target(environment: &mut Environment, pointer: u64, block: u64, target: u64)
-    requires can { CanAttach pointer block (bare_state environment.old) }
-    ensures { let s = bare_state environment.old in environment.new ≡ record environment.old { device = record environment.old.device { memories = pointer_written block pointer (λ a. slice_index (to_le_bytes w64 target) (a - pointer)) s } } }
+    requires can { (host : List ℕ) × CanAttach pointer block (bare_state (beside environment.old host)) }
+    ensures { let s = bare_state (beside environment.old []) in environment.new ≡ record environment.old { device = record environment.old.device { memories = pointer_written block pointer (λ a. slice_index (to_le_bytes w64 target) (a - pointer)) s } } }
 {
     environment.device.laws();
     let start = start_of(&environment.present, block, Hint::default());
@@ -30,14 +31,14 @@ fn write_target(environment: &mut Environment, pointer: u64, block: u64, target:
 }
 
 /// Writes the eight bytes of the host's pointer over the pointer in a block, which is not lent.
-fn write_back(environment: &mut Environment, pointer: u64, block: u64)
-    requires can { CanAttach pointer block (bare_state environment.old) }
-    ensures { let s = bare_state environment.old in environment.new ≡ record environment.old { device = record environment.old.device { memories = pointer_written block pointer (host_byte s.host) s } } }
+fn write_back(environment: &mut Environment, host: &HostMem, pointer: u64, block: u64)
+    requires can { CanAttach pointer block (bare_state (beside environment.old host.now)) }
+    ensures { let s = bare_state (beside environment.old host.now) in environment.new ≡ record environment.old { device = record environment.old.device { memories = pointer_written block pointer (host_byte s.host) s } } }
 {
     let start = start_of(&environment.present, block, Hint::default());
     run_in(
         &mut environment.device,
-        &environment.host,
+        host,
         pointer_at(pointer),
         block,
         start,
@@ -45,23 +46,23 @@ fn write_back(environment: &mut Environment, pointer: u64, block: u64)
 }
 
 /// Takes one from the counter of a pointer in a block; at zero its bytes there become those of the host's pointer.
-fn lessen(environment: &mut Environment, pointer: u64, block: u64)
-    requires can { CanDetach pointer block (bare_state environment.old) }
-    requires marked { AreMarked environment.old }
-    ensures aimed { IsAimedBy (Less pointer block) environment.old environment.new }
+fn lessen(environment: &mut Environment, host: &HostMem, pointer: u64, block: u64)
+    requires can { CanDetach pointer block (bare_state (beside environment.old host.now)) }
+    requires marked { AreMarked (beside environment.old host.now) }
+    ensures aimed { IsAimedBy (Less pointer block) (beside environment.old host.now) (beside environment.new host.now) }
 {
     match environment.attached.detach(block, pointer) {
-        Left::Zero => write_back(environment, pointer, block),
+        Left::Zero => write_back(environment, host, pointer, block),
         Left::Nothing | Left::Less => {}
     }
 }
 
 /// Attaches or detaches a pointer (OpenACC 3.3, section 2.7.2).
-pub(crate) fn aim_on(environment: &mut Environment, aim: Aim)
-    requires can { CanAim environment.old.attached.counter_max aim (bare_state environment.old) }
-    requires room { pointers_of aim ≤ (room_of environment.old).attachments }
-    requires marked { AreMarked environment.old }
-    ensures aimed { IsAimedBy aim environment.old environment.new }
+pub(crate) fn aim_on(environment: &mut Environment, host: &HostMem, aim: Aim)
+    requires can { CanAim environment.old.attached.counter_max aim (bare_state (beside environment.old host.now)) }
+    requires room { pointers_of aim ≤ (room_of (beside environment.old host.now)).attachments }
+    requires marked { AreMarked (beside environment.old host.now) }
+    ensures aimed { IsAimedBy aim (beside environment.old host.now) (beside environment.new host.now) }
 {
     match aim {
         Aim::None => {}
@@ -74,9 +75,9 @@ pub(crate) fn aim_on(environment: &mut Environment, aim: Aim)
             environment.attached.aim_reserved(block, pointer);
         }
         Aim::Again { pointer, block } => environment.attached.aim_again(block, pointer),
-        Aim::Less { pointer, block } => lessen(environment, pointer, block),
+        Aim::Less { pointer, block } => lessen(environment, host, pointer, block),
         Aim::Cleared { pointer, block } => {
-            write_back(environment, pointer, block);
+            write_back(environment, host, pointer, block);
             environment.attached.detach_now(block, pointer);
         }
     }

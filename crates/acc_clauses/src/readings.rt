@@ -47,7 +47,7 @@ pub(crate) fn place_after(parts: &Parts, draft: &Draft, len: u64) -> Option<u64>
     requires planned { IsPlanned parts.now.limits draft.now parts.now.state.records }
     requires entering { list_all enters (tasks_in draft.now) ≡ true }
     requires len { IsFromOne MEMORY_MAX len }
-    ensures { result ≡ place_for (device_memory parts.now.limits.device) (records_after draft.now parts.now.state.records).blocks (rounded len) }
+    ensures { result ≡ place_for (device_memory parts.now.limits) (records_after draft.now parts.now.state.records).blocks (rounded len) }
 {
     parts.would_take(draft.births(), len)
 }

@@ -1,33 +1,25 @@
-//! Everything that a table keeps beside its trace, as one value.
+//! What a directive of one device sees of a table, as one value.
 
-ghost use Rattle.std.specs.Prelude.{ℕ, ◌≡◌, ◌+◌, ◌<◌, ◌≤◌, ◌^◌, ◌↔◌, [], IfOk, IfErr, OnOk, OnErr, MatchResult, Ok, Err, IfSome, IfNone, IsSome, ◌==◌, ◌&&◌, find, length, option_map, true, false};
+ghost use Rattle.std.specs.Prelude.{ℕ, ◌≡◌, ◌+◌, ◌<◌, ◌≤◌, ◌^◌, [], IfOk, IfErr, OnOk, OnErr, MatchResult, Ok, Err, IfSome, IfNone, length, true};
 ghost use Rattle.acc_base.specs.declared.faults.Fault.TheVariants.{Memory};
-ghost use Rattle.acc_base.specs.Limits.{IsWithinBounds};
+ghost use Rattle.acc_base.specs.Limits.{IsWithinBounds, limits_on, recorded};
 ghost use Rattle.acc_base.specs.Clauses.{in_host};
-ghost use Rattle.acc_base.specs.Section.{covers, device_memory};
-ghost use Rattle.acc_base.specs.Holes.{IsDevice, IsNextHole};
-ghost use Rattle.acc_base.specs.Ranges.{where_is, range_from, structured_of, dynamic_of};
-ghost use Rattle.acc_base.specs.Loans.{is_lent};
-ghost use Rattle.acc_base.specs.Blocks.{block_at, place_of, used_bytes};
-ghost use Rattle.acc_base.specs.Bytes.{bytes_of, host_after_write};
-ghost use Rattle.acc_base.specs.Pointers.{attachment_of};
-ghost use Rattle.acc_base.specs.Calls.{base_of};
+ghost use Rattle.acc_base.specs.Section.{device_memory};
+ghost use Rattle.acc_base.specs.Holes.{IsDevice};
+ghost use Rattle.acc_base.specs.Bytes.{host_after_write};
 ghost use Rattle.acc_base.specs.Acting.{after};
-ghost use Rattle.acc_base.specs.Queues.{queue_at, head_of};
-ghost use Rattle.acc_base.specs.Waits.{steps_of, ended_from};
 ghost use Rattle.acc_base.specs.declared.items.Section.{Section};
 ghost use Rattle.acc_base.specs.declared.events.Event.TheVariants.{Lent};
 ghost use Rattle.acc_base.specs.Judge.{verdict_of, plan_of, lend_event, leased, gathered, gather_event};
 ghost use Rattle.acc_clauses.specs.Lending.{IsLoanPlanned};
-ghost use Rattle.acc_base.specs.Register.{newest_region};
 ghost use Rattle.acc_base.specs.Accounts.{IsSound};
 ghost use Rattle.acc_host.specs.Host.{bytes_in, IsRead, IsOutOfHost};
 ghost use Rattle.acc_clauses.specs.Contents.{AreNew};
+ghost use Rattle.acc_clauses.specs.Views.{device_in_view};
+ghost use Rattle.acc_clauses.specs.Spares.{in_use};
 ghost use Rattle.acc_clauses.specs.Planned.{IsPlanOf, state_by};
 ghost use Rattle.acc_clauses.specs.Acts.{CanWrite, HasPlanRoom, LacksPlanRoom};
 
-use crate::bases::Base;
-use crate::draining::waiting;
 use crate::effects::puts_in;
 use crate::finishing::finish;
 use crate::judging::in_host;
@@ -37,16 +29,16 @@ use crate::planning::{self, queue_in, regions_entered};
 use crate::plans::Plan;
 use crate::pointers::pointers_in;
 use crate::running::act_all;
-use acc_base::{
-    Attachment, Config, Counters, Directive, Ended, Fault, Found, Hole, Loan, Range, Section,
-};
+use crate::spares::Spare;
+use crate::views::View;
+use acc_base::{Config, Directive, Fault, Loan, Section};
 use acc_lend::Lease;
-use acc_present::Hint;
 use std::alloc::Global;
 use std::marker::Model;
 
-/// Host memory, the blocks of the device, the mapped ranges with their counters, the open data regions, and the queues of
-/// transfers that are yet to be made.
+/// Host memory, and of one device the blocks, the mapped ranges with their counters, the data regions that were entered on it
+/// and are open, and the queues of transfers that are yet to be made. What other devices of the table have stands apart
+/// ([`Spare`]).
 ///
 /// Contracts see the limits, the state, and the room that was made for more.
 #[derive(Drop)]
@@ -66,29 +58,34 @@ impl Model for Store {
 }
 
 impl Store {
-    /// Nothing is mapped, no region is open, the queues are empty, and host memory is zero.
+    /// What the device of a number sees of a new table: nothing is mapped, no region is open, the queues are empty, and host
+    /// memory is zero.
     ///
     /// # Errors
     ///
     /// [`Fault::Memory`] alone.
-    pub fn new(alloc: Global, config: &Config) -> Result<Store, Fault>
-        ensures ok { IfOk result (AreNew config.now) }
+    pub fn new(alloc: Global, config: &Config, number: u64) -> Result<Store, Fault>
+        requires { number < config.now.devices }
+        ensures ok { IfOk result (AreNew (limits_on number config.now)) }
         ensures only { IfErr result (λ fault. fault ≡ Memory) }
     {
-        let parts = Parts::new(alloc, config)?;
+        let parts = Parts::new(alloc, config, number)?;
         Ok(Store { parts })
     }
 
-    /// What the store has as a base, where so many events had led here: the bytes of both memories with full traces alone.
-    ///
-    /// # Errors
-    ///
-    /// [`Fault::Memory`] alone.
-    pub fn base(&self, alloc: Global, events: u64) -> Result<Base, Fault>
-        ensures ok { IfOk result (λ base. base ≡ base_of self.now.limits.full self.now.state events) }
-        ensures only { IfErr result (λ fault. fault ≡ Memory) }
+    /// Takes in another device in place of the one that the store has, which is answered. Host memory and the numbers of the
+    /// next region and the next loan stay: none of them is less than when the other device was set apart. Nothing is copied,
+    /// and no memory is taken.
+    pub fn exchange(&mut self, spare: Spare) -> Spare
+        requires host { spare.limits.host ≡ self.old.limits.host }
+        requires next { spare.next ≤ self.old.state.register.next }
+        requires serial { spare.serial ≤ self.old.state.register.serial }
+        ensures limits { self.new.limits ≡ spare.limits }
+        ensures state { self.new.state ≡ in_use spare.device self.old.state }
+        ensures parked { result ≡ record { limits = self.old.limits; device = device_in_view self.old.state; next = self.old.state.register.next; serial = self.old.state.register.serial } }
     {
-        self.parts.base(alloc, events)
+        let apart = self.parts.exchange(spare.apart);
+        Spare { apart }
     }
 
     /// The state is sound, the limits lie within their bounds, and the blocks and the holes that [`Store::hole`] answers are
@@ -96,7 +93,7 @@ impl Store {
     pub fn laws(&self)
         ensures sound { IsSound self.now.limits self.now.state }
         ensures limits { IsWithinBounds self.now.limits }
-        ensures holes { IsDevice (device_memory self.now.limits.device) self.now.state.records.blocks }
+        ensures holes { IsDevice (device_memory self.now.limits) self.now.state.records.blocks }
     {
         self.parts.laws();
     }
@@ -115,7 +112,7 @@ impl Store {
     /// block is lent. The plan is then of no use.
     pub fn plan(&self, directive: &Directive, plan: &mut Plan) -> Result<(), Fault>
         requires births { self.now.state.records.births < 2 ^ 48 }
-        ensures judged { let s = self.now.state in MatchResult result (λ _. plan_of self.now.limits directive.now s ≡ Ok (verdict_of directive.now s plan.new.dids)) (λ fault. plan_of self.now.limits directive.now s ≡ Err fault) }
+        ensures judged { (device : ℕ) → let s = self.now.state in MatchResult result (λ _. plan_of self.now.limits device directive.now s ≡ Ok (verdict_of device directive.now s plan.new.dids)) (λ fault. plan_of self.now.limits device directive.now s ≡ Err fault) }
         ensures planned { OnOk result (IsPlanOf self.now.limits directive.now self.now.state plan.new) }
     {
         planning::plan(&self.parts, directive, plan)
@@ -158,7 +155,7 @@ impl Store {
         requires next { self.old.state.register.next < 2 ^ 48 }
         requires room { HasPlanRoom directive.now plan.now self.old.room }
         ensures limits { self.new.limits ≡ self.old.limits }
-        ensures state { self.new.state ≡ state_by self.old.limits.full (verdict_of directive.now self.old.state plan.now.dids) self.old.state }
+        ensures state { (device : ℕ) → self.new.state ≡ state_by self.old.limits.full (verdict_of device directive.now self.old.state plan.now.dids) self.old.state }
     {
         self.parts.laws();
         act_all(&mut self.parts, plan.acts(), plan.hints());
@@ -197,7 +194,7 @@ impl Store {
     /// address of it is outside of host memory, `PartlyPresent` where some of its addresses are mapped but no one range has
     /// them all, and `NotPresent` where it is absent or empty; `Lent` where its block is lent.
     pub fn plan_loan(&self, region: u64, section: Section) -> Result<Loan, Fault>
-        ensures { MatchResult result (λ loan. IsLoanPlanned self.now.limits region section self.now.state loan) (λ fault. lend_event self.now.limits region section self.now.state ≡ Err fault) }
+        ensures { (device : ℕ) → MatchResult result (λ loan. IsLoanPlanned self.now.limits device region section self.now.state loan) (λ fault. lend_event self.now.limits device region section self.now.state ≡ Err fault) }
     {
         plan_loan(&self.parts, region, section)
     }
@@ -208,18 +205,18 @@ impl Store {
     /// # Errors
     ///
     /// [`Fault::Memory`], and with full traces alone. Nothing changed.
-    pub fn lend(&mut self, loan: Loan) -> Result<Lease, Fault>
-        requires planned { (region : ℕ) × (section : Section) × IsLoanPlanned self.old.limits region section self.old.state loan }
+    pub fn lend(&mut self, device: u64, loan: Loan) -> Result<Lease, Fault>
+        requires planned { (region : ℕ) × (section : Section) × IsLoanPlanned self.old.limits device region section self.old.state loan }
         requires serial { self.old.state.register.serial < 2 ^ 48 }
-        ensures lease { IfOk result (λ lease. lease ≡ leased loan self.old.state) }
+        ensures lease { IfOk result (λ lease. lease ≡ leased device loan self.old.state) }
         ensures limits { self.new.limits ≡ self.old.limits }
         ensures room { self.new.room ≡ self.old.room }
-        ensures state { OnOk result ((region : ℕ) (section : Section) → IsLoanPlanned self.old.limits region section self.old.state loan → self.new.state ≡ after self.old.limits.full (Lent region section loan.block loan.serial) [] self.old.state) }
+        ensures state { OnOk result ((region : ℕ) (section : Section) → IsLoanPlanned self.old.limits device region section self.old.state loan → self.new.state ≡ after self.old.limits.full (Lent device region section loan.block loan.serial) [] self.old.state) }
         ensures same { OnErr result (self.new.state ≡ self.old.state) }
         ensures only { IfErr result (λ fault. (self.old.limits.full ≡ true) × (fault ≡ Memory)) }
     {
         self.parts.laws();
-        let lease = self.parts.lend(loan)?;
+        let lease = self.parts.lend(device, loan)?;
         self.parts.laws();
         Ok(lease)
     }
@@ -251,105 +248,11 @@ impl Store {
 
     // ---- what it tells of itself
 
-    /// The limits.
-    pub fn config(&self) -> Config
-        ensures { result ≡ self.now.limits }
+    /// What the device has, to look at.
+    pub fn view(&self) -> View<'_>
+        ensures { result ≡ record { limits = self.now.limits; device = device_in_view self.now.state } }
     {
-        self.parts.config()
-    }
-
-    /// Where a section lies among the mapped ranges.
-    pub fn find(&self, section: Section) -> Found
-        ensures { result ≡ where_is section self.now.state.records.ranges }
-    {
-        self.parts.find(section).found
-    }
-
-    /// The mapped range of least start at or above a host address, if there is one.
-    pub fn next_range(&self, from: u64) -> Option<Range>
-        ensures { result ≡ range_from from self.now.state.records.ranges }
-    {
-        self.parts.next_range(from)
-    }
-
-    /// The reference counters of the range that is mapped to a block; both are 0 where none is.
-    pub fn counters(&self, block: u64) -> Counters
-        ensures structured { result.structured ≡ structured_of block self.now.state.records.ranges }
-        ensures dynamic { result.dynamic ≡ dynamic_of block self.now.state.records.ranges }
-    {
-        self.parts.counters(block, Hint::default())
-    }
-
-    /// The attachment counter of the pointer at a host address, in the block whose range has its eight bytes; 0 where it
-    /// is not present (OpenACC 3.3, section 2.6.8).
-    pub fn attachment(&self, pointer: u64) -> u64
-        ensures { result ≡ attachment_of pointer self.now.state.records }
-    {
-        self.parts.attachment(pointer)
-    }
-
-    /// The attached pointer of a block that has the least host address in a section, with its counter.
-    pub fn next_attached(&self, block: u64, section: Section) -> Option<Attachment>
-        ensures { result ≡ find (λ a. a.block == block && covers section a.pointer) self.now.state.records.attached }
-    {
-        self.parts.next_attached(block, section)
-    }
-
-    /// The device address of a block's first byte; 0 where there is no such block.
-    pub fn place(&self, block: u64) -> u64
-        ensures { result ≡ place_of block self.now.state.records.blocks }
-    {
-        self.parts.place(block)
-    }
-
-    /// The bytes of device memory that all blocks take, each rounded up to a multiple of 16.
-    pub fn used(&self) -> u64
-        ensures { result ≡ used_bytes self.now.state.records.blocks }
-    {
-        self.parts.used()
-    }
-
-    /// How many blocks were born so far, of which [`Store::plan`] and [`Store::commit`] say how many may be.
-    pub fn births(&self) -> u64
-        ensures { result ≡ self.now.state.records.births }
-    {
-        self.parts.next_block() - 1
-    }
-
-    /// Of the blocks whose mapping has ended, the one of least place at or above a device address. A block stays after the
-    /// end of its mapping while a queued transfer names it (OpenACC 3.3, section 2.16).
-    pub fn ended(&self, from: u64) -> Option<Ended>
-        ensures { result ≡ ended_from from self.now.state.records }
-    {
-        self.parts.ended(from)
-    }
-
-    /// The hole of least place at or above a device address: free addresses that lie side by side, as many as there are.
-    pub fn hole(&self, from: u64) -> Option<Hole>
-        ensures { IsNextHole from (device_memory self.now.limits.device) self.now.state.records.blocks result }
-    {
-        self.parts.hole(from)
-    }
-
-    /// How many transfers wait in a queue; 0 where there is no such queue (OpenACC 3.3, section 2.16).
-    pub fn queue_len(&self, q: u64) -> u64
-        ensures { result ≡ length (queue_at q self.now.state.records.queues) }
-    {
-        self.parts.queue_len(q)
-    }
-
-    /// How many transfers wait in a queue, or in all queues together: as many as `wait` makes.
-    pub fn waiting(&self, queue: Option<u64>) -> u64
-        ensures { result ≡ length (steps_of queue self.now.state.records.queues) }
-    {
-        waiting(&self.parts, queue)
-    }
-
-    /// The number of the block that the first transfer of a queue names, if the queue has one.
-    pub fn head_block(&self, q: u64) -> Option<u64>
-        ensures { result ≡ option_map (λ t. t.block) (head_of q self.now.state.records.queues) }
-    {
-        self.parts.head_block(q)
+        self.parts.view()
     }
 
     /// The number that the next data region gets, of which [`Store::commit`] says how great it may be.
@@ -366,20 +269,6 @@ impl Store {
         self.parts.next_serial()
     }
 
-    /// How many data regions are open.
-    pub fn regions(&self) -> u64
-        ensures { result ≡ length self.now.state.register.regions }
-    {
-        self.parts.regions()
-    }
-
-    /// The number of the open data region that was entered last, if one is open.
-    pub fn newest_region(&self) -> Option<u64>
-        ensures { result ≡ newest_region self.now.state.register.regions }
-    {
-        self.parts.newest_region()
-    }
-
     /// The bytes of a section of host memory. `None` exactly where some address of it is outside of host memory.
     pub fn host_read(&self, section: Section) -> Option<&[u8]>
         ensures each { IfSome result (λ bytes. IsRead self.now.state.host section bytes.now) }
@@ -389,18 +278,15 @@ impl Store {
         self.parts.host_read(section)
     }
 
-    /// Whether a block is lent.
-    pub fn is_lent(&self, block: u64) -> bool
-        ensures { result ≡ is_lent block self.now.state.records.loans }
+    /// The bytes of host memory, where traces are full; else none.
+    ///
+    /// # Errors
+    ///
+    /// [`Fault::Memory`] alone.
+    pub fn saved_host(&self, alloc: Global) -> Result<Vec<u8>, Fault>
+        ensures ok { IfOk result (λ bytes. bytes.items ≡ recorded self.now.limits.full self.now.state.host) }
+        ensures only { IfErr result (λ fault. fault ≡ Memory) }
     {
-        self.parts.is_lent(block)
-    }
-
-    /// The bytes of a block. `None` exactly where there is no such block, or it is lent.
-    pub fn bytes(&self, block: u64) -> Option<&[u8]>
-        ensures there { IsSome result ↔ (IsSome (block_at block self.now.state.records.blocks) × (is_lent block self.now.state.records.loans ≡ false)) }
-        ensures bytes { IfSome result (λ bytes. bytes.now ≡ bytes_of block self.now.state.memories) }
-    {
-        self.parts.bytes(block)
+        self.parts.saved_host(alloc)
     }
 }

@@ -40,7 +40,7 @@ pub(crate) fn task_count(directive: &Directive, holdings: &[Holding]) -> usize
     ensures { result ≡ length (tasks_with directive.now holdings.now) }
 {
     match directive {
-        Directive::Enter { items } => items.as_slice().len(),
+        Directive::Enter { items, .. } => items.as_slice().len(),
         Directive::Exit { .. } => holdings.len(),
         Directive::EnterData { items, .. } => items.as_slice().len(),
         Directive::ExitData { items, .. } => items.as_slice().len(),
@@ -57,7 +57,7 @@ pub(crate) fn task_at(directive: &Directive, holdings: &[Holding], n: usize) -> 
     ensures { (d : Task) → result ≡ get_or (tasks_with directive.now holdings.now) n d }
 {
     match directive {
-        Directive::Enter { items } => Task::Enter {
+        Directive::Enter { items, .. } => Task::Enter {
             counter: Counter::Structured,
             item: items.as_slice()[n],
             queue: None,
@@ -65,11 +65,12 @@ pub(crate) fn task_at(directive: &Directive, holdings: &[Holding], n: usize) -> 
         Directive::Exit { .. } => Task::Leave {
             holding: holdings[holdings.len() - 1 - n],
         },
-        Directive::EnterData { items, queue } => enter_data_task(items.as_slice()[n], *queue),
+        Directive::EnterData { items, queue, .. } => enter_data_task(items.as_slice()[n], *queue),
         Directive::ExitData {
             items,
             finalize,
             queue,
+            ..
         } => Task::Exit {
             finalize: *finalize,
             item: items.as_slice()[n],
@@ -79,6 +80,7 @@ pub(crate) fn task_at(directive: &Directive, holdings: &[Holding], n: usize) -> 
             items,
             if_present,
             queue,
+            ..
         } => Task::Move {
             if_present: *if_present,
             item: items.as_slice()[n],

@@ -122,7 +122,7 @@ fn enter(
     pointer: Option<u64>,
 ) -> Result<Directive, AllocError> {
     let items = items(alloc, listed, pointer)?;
-    Ok(Directive::Enter { items })
+    Ok(Directive::Enter { device: 0, items })
 }
 
 fn enter_data(
@@ -132,7 +132,11 @@ fn enter_data(
     queue: Option<u64>,
 ) -> Result<Directive, AllocError> {
     let items = items(alloc, listed, pointer)?;
-    Ok(Directive::EnterData { items, queue })
+    Ok(Directive::EnterData {
+        device: 0,
+        items,
+        queue,
+    })
 }
 
 fn exit_data(
@@ -144,6 +148,7 @@ fn exit_data(
 ) -> Result<Directive, AllocError> {
     let items = items(alloc, listed, pointer)?;
     Ok(Directive::ExitData {
+        device: 0,
         items,
         finalize,
         queue,
@@ -158,6 +163,7 @@ fn update(
     let items = items(alloc, listed, None)?;
     let if_present = false;
     Ok(Directive::Update {
+        device: 0,
         items,
         if_present,
         queue,
@@ -179,8 +185,8 @@ fn directive_of(alloc: Global, ask: Ask) -> Result<Directive, AllocError> {
         Ask::ExitDataLater(listed, q) => exit_data(alloc, listed, false, None, Some(q)),
         Ask::Update(listed) => update(alloc, listed, None),
         Ask::UpdateLater(listed, q) => update(alloc, listed, Some(q)),
-        Ask::Wait(queue) => Ok(Directive::Wait { queue }),
-        Ask::Step(queue) => Ok(Directive::Step { queue }),
+        Ask::Wait(queue) => Ok(Directive::Wait { device: 0, queue }),
+        Ask::Step(queue) => Ok(Directive::Step { device: 0, queue }),
     }
 }
 
@@ -198,7 +204,7 @@ fn carry_out(store: &mut Store, directive: &Directive) -> Result<Plan, Fault>
 
 /// What carrying a directive out answers, where the store has born few enough blocks.
 fn answer(store: &mut Store, directive: &Directive) -> Option<Result<Plan, Fault>> {
-    if store.births() < 1_000 && store.next_region() < 1_000 {
+    if store.view().births() < 1_000 && store.next_region() < 1_000 {
         Some(carry_out(store, directive))
     } else {
         None
@@ -241,7 +247,7 @@ fn has_counted(store: &Store, block: u64, structured: u64, dynamic: u64) -> bool
         structured,
         dynamic,
     };
-    store.counters(block) == wanted
+    store.view().counters(block) == wanted
 }
 
 fn host_has(store: &Store, start: u64, wanted: &[u8]) -> bool {
@@ -253,7 +259,7 @@ fn host_has(store: &Store, start: u64, wanted: &[u8]) -> bool {
 }
 
 fn block_has(store: &Store, block: u64, wanted: &[u8]) -> bool {
-    match store.bytes(block) {
+    match store.view().bytes(block) {
         Some(bytes) => bytes == wanted,
         None => false,
     }
@@ -273,7 +279,7 @@ fn writes(store: &mut Store, start: u64, bytes: &[u8]) -> bool {
 /// A block is lent by a loan, and the lease kept where none was.
 fn lends(store: &mut Store, kept: &mut Option<Lease>, section: Section, wanted: Loan) -> bool {
     match store.plan_loan(1, section) {
-        Ok(loan) if loan == wanted && loan.serial < 1_000 => match store.lend(loan) {
+        Ok(loan) if loan == wanted && loan.serial < 1_000 => match store.lend(0, loan) {
             Ok(lease) => keep(kept, lease),
             Err(_) => false,
         },
@@ -320,7 +326,7 @@ fn adds(kept: &mut Option<Lease>, number: u8) -> bool {
 /// A lease of block 1 that the store never made is refused.
 fn refuses_lease(alloc: Global, store: &Store, serial: u64, len: u8) -> Result<bool, AllocError> {
     let len = usize::from(len);
-    let lease = Lease::of(serial, 1, 0, len, vec![in alloc; 0; len]?);
+    let lease = Lease::of(0, serial, 1, 0, len, vec![in alloc; 0; len]?);
     let answer = store.check_lease(&lease);
     lease.abandon();
     Ok(answer == Err(Fault::NoLease { serial }))
@@ -338,7 +344,7 @@ fn lends_so(
         Lending::Refused(region, start, len, fault) => {
             Ok(store.plan_loan(region, Section { start, len }) == Err(fault))
         }
-        Lending::Lent(lent) => Ok(store.is_lent(1) == lent),
+        Lending::Lent(lent) => Ok(store.view().is_lent(1) == lent),
         Lending::Adds(number) => Ok(adds(kept, number)),
         Lending::Gathers => Ok(gathers(store, kept)),
         Lending::NoLease(serial, len) => refuses_lease(alloc, store, serial, len),
@@ -365,19 +371,19 @@ fn agrees(
             let directive = directive_of(alloc, ask)?;
             Ok(refuses(store, &directive, fault))
         }
-        Turn::Lies(start, len, found) => Ok(store.find(Section { start, len }) == found),
+        Turn::Lies(start, len, found) => Ok(store.view().find(Section { start, len }) == found),
         Turn::Counted(block, structured, dynamic) => {
             Ok(has_counted(store, block, structured, dynamic))
         }
-        Turn::Attached(pointer, count) => Ok(store.attachment(pointer) == count),
+        Turn::Attached(pointer, count) => Ok(store.view().attachment(pointer) == count),
         Turn::Block(block, bytes) => Ok(block_has(store, block, bytes)),
         Turn::Writes(start, bytes) => Ok(writes(store, start, bytes)),
-        Turn::Regions(regions) => Ok(store.regions() == regions),
-        Turn::Used(used) => Ok(store.used() == used),
+        Turn::Regions(regions) => Ok(store.view().regions() == regions),
+        Turn::Used(used) => Ok(store.view().used() == used),
         Turn::Host(start, bytes) => Ok(host_has(store, start, bytes)),
-        Turn::Queue(q, len) => Ok(store.queue_len(q) == len),
-        Turn::Waiting(queue, count) => Ok(store.waiting(queue) == count),
-        Turn::EndedFrom(from, ended) => Ok(store.ended(from) == ended),
+        Turn::Queue(q, len) => Ok(store.view().queue_len(q) == len),
+        Turn::Waiting(queue, count) => Ok(store.view().waiting(queue) == count),
+        Turn::EndedFrom(from, ended) => Ok(store.view().ended(from) == ended),
         Turn::Loans(turn) => lends_so(alloc, store, kept, turn),
     }
 }
@@ -385,7 +391,8 @@ fn agrees(
 /// A store of 64 bytes of host memory and 4096 of device memory, whose queues have room for two transfers each.
 fn store_of(alloc: Global, counter_max: u64) -> Result<Store, Fault> {
     let config = Config::new(64, 4_096, 64, 100, counter_max, 2, 100)?;
-    Store::new(alloc, &config)
+    config.laws();
+    Store::new(alloc, &config, 0)
 }
 
 /// The first turn that the store does not answer as the row says.
@@ -454,9 +461,9 @@ fn blocks_are_lent_as_the_rows_say(rt: HostRuntime) -> Result<(), Fail> {
 /// What a refused growth may not change.
 fn told(store: &Store) -> (u64, u64, u64, u64) {
     (
-        store.births(),
-        store.used(),
-        store.regions(),
+        store.view().births(),
+        store.view().used(),
+        store.view().regions(),
         store.next_region(),
     )
 }
@@ -497,7 +504,7 @@ fn grow(rt: &(impl Abort + AllocGlobal), store: &mut Store, ask: Ask) -> Result<
         Ok(directive) => directive,
         Err(_) => directive_of(rt.alloc(), ask)?,
     };
-    assert!(rt; store.births() < 1_000);
+    assert!(rt; store.view().births() < 1_000);
     assert!(rt; store.next_region() < 1_000);
     carry_out_twice(rt, store, &directive)?;
     Ok(())
@@ -509,7 +516,7 @@ fn grow_all(rt: &(impl Abort + AllocGlobal), store: &mut Store) -> Result<(), Fa
     for ask in GROWING {
         grow(rt, store, *ask)?;
     }
-    assert_eq!(rt; store.attachment(P), 1);
+    assert_eq!(rt; store.view().attachment(P), 1);
     assert_eq!(rt; told(store), (3, 48, 2, 3));
     Ok(())
 }

@@ -5,7 +5,6 @@ use Rattle.acc_base.specs.declared.faults.Fault.TheVariants.{Lent, Memory as Out
 use Rattle.acc_base.specs.declared.loans.Loan.{Loan}
 use Rattle.acc_base.specs.declared.mappings.Block.{Block}
 use Rattle.acc_base.specs.declared.items.Section.{Section}
-use Rattle.acc_base.specs.Section.{device_memory}
 use Rattle.acc_base.specs.Records.{Memory}
 use Rattle.acc_base.specs.Blocks.{rounded, place_for, block_at, without_block}
 use Rattle.acc_base.specs.Bytes.{fill_byte, memory_changed, memories_kept}
@@ -32,9 +31,9 @@ pub record DeviceState : Type 0 where
 abbrev pub HasBlock : DeviceState → ℕ → Type 0
 HasBlock d block = IsSome (block_at block d.blocks)
 
--- no block was born on the device
-pub record IsNew (size : ℕ) (d : DeviceState) : Type 0 where
-  pub memory_is : d.memory ≡ device_memory size
+-- the device's memory begins at this address and is so long, and no block was born
+pub record IsNew (base size : ℕ) (d : DeviceState) : Type 0 where
+  pub memory_is : d.memory ≡ record { start = base; len = size }
   pub blocks_are : d.blocks ≡ []
   pub memories_are : d.memories ≡ []
   pub marks_are : d.marks ≡ []

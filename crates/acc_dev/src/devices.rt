@@ -3,7 +3,7 @@
 ghost use Rattle.std.specs.Prelude.{◌≡◌, ◌+◌, ◌^◌, ◌<◌, ◌≤◌, ◌⊎◌, ◌↔◌, ◌++◌, length, drop, [], replicate, All, IfOk, IfErr, OnOk, OnErr, IsSome, IsSomeAnd, IfSome, IsTrue, Err, None, Some, true, false};
 ghost use Rattle.std.specs.List.{AllZip, AllByRecursion};
 ghost use Rattle.std.specs.Bool.{OnTrue, OnFalse};
-ghost use Rattle.acc_base.specs.Limits.{IsSize, IsFromOne};
+ghost use Rattle.acc_base.specs.Limits.{IsDeviceBase, IsSize, IsFromOne};
 ghost use Rattle.acc_base.specs.Section.{end_of};
 ghost use Rattle.acc_base.specs.Blocks.{rounded as rounded_of, place_for, block_at, size_of, used_bytes, IsPlaceFor};
 ghost use Rattle.acc_base.specs.Holes.{IsDevice, IsNextHole};
@@ -19,7 +19,7 @@ use crate::ended::EndedBlocks;
 use crate::entries::{Stored, make_room, put, remove_block, set_mark, slot_of_block, write_at};
 use crate::filling::{fill, filled, make_vectors};
 use crate::index::Index;
-use acc_base::{DEVICE_BASE, Ended, Fault, Hole, MEMORY_MAX};
+use acc_base::{Ended, Fault, Hole, MEMORY_MAX};
 use acc_placement::{Holes, rounded};
 use slab::Slab;
 use std::alloc::Global;
@@ -29,7 +29,7 @@ use std::marker::Model;
 /// Device memory: blocks, each with a number, a place and bytes (OpenACC 3.3, section 2.6, data environment).
 ///
 /// Blocks are numbered from 1 in the order of their births, and no number is used twice. Places are device addresses
-/// from [`DEVICE_BASE`] on. Contracts see the memory's addresses as a section, the blocks by rising number, the bytes of
+/// from the one on at which the memory begins. Contracts see the memory's addresses as a section, the blocks by rising number, the bytes of
 /// each, what keeps each, the loans by rising block, and how many blocks were ever born.
 ///
 /// A block is kept by its mapping, which [`Device::retire`] ends, and by each queued transfer that names it, which
@@ -80,19 +80,21 @@ impl Model for Device {
 }
 
 impl Device {
-    /// A device of `size` bytes, a multiple of 16 from 16 to 67,108,864, on which no block was born.
+    /// A device on which no block was born. Its memory begins at the device address `base`, which is 0x1_0000_0000 or
+    /// two, three or four times that, and has `size` bytes, a multiple of 16 from 16 to 67,108,864.
     ///
     /// # Errors
     ///
     /// [`Fault::Memory`] alone.
-    pub fn new(alloc: Global, size: u64) -> Result<Device, Fault>
-        requires { IsSize size }
-        ensures ok { IfOk result (IsNew size) }
+    pub fn new(alloc: Global, base: u64, size: u64) -> Result<Device, Fault>
+        requires base { IsDeviceBase base }
+        requires size { IsSize size }
+        ensures ok { IfOk result (IsNew base size) }
         ensures only { IfErr result (λ fault. fault ≡ Fault.Memory) }
     {
         Ok(Device {
             alloc,
-            holes: Holes::new(alloc, DEVICE_BASE, size)?,
+            holes: Holes::new(alloc, base, size)?,
             slab: Slab::new(alloc),
             index: Index::new(alloc),
             ended_blocks: EndedBlocks::new(alloc),

@@ -210,12 +210,18 @@ pub fn copy_at(
     Ok(stored.bytes.to_vec(alloc)?)
 }
 
-/// Moves the bytes of a slot into a lease of this loan, and leaves those that stay.
-pub fn lend_at(slab: &mut Slab<Stored>, slot: usize, stays: Vec<u8>, loan: Loan) -> Lease
+/// Moves the bytes of a slot into a lease of this loan, of the device of this number, and leaves those that stay.
+pub fn lend_at(
+    slab: &mut Slab<Stored>,
+    slot: usize,
+    stays: Vec<u8>,
+    device: u64,
+    loan: Loan,
+) -> Lease
     requires filled { IsSome (get slab.old slot) }
     requires within { loan.offset + loan.len ≤ length (stored_bytes (get slab.old slot)) }
     requires capped { length (stored_bytes (get slab.old slot)) ≤ MEMORY_MAX }
-    ensures lease { result ≡ record { serial = loan.serial; block = loan.block; offset = loan.offset; len = loan.len; bytes = stored_bytes (get slab.old slot) } }
+    ensures lease { result ≡ record { device = device; serial = loan.serial; block = loan.block; offset = loan.offset; len = loan.len; bytes = stored_bytes (get slab.old slot) } }
     ensures lent { IsRelent slab.old slab.new slot (Some loan) stays.items }
     ensures slots { slab_len slab.new ≡ slab_len slab.old }
     ensures capacity { slab.new.capacity ≡ slab.old.capacity }
@@ -226,6 +232,7 @@ pub fn lend_at(slab: &mut Slab<Stored>, slot: usize, stays: Vec<u8>, loan: Loan)
     stored.loan = Some(loan);
     let bytes = mem::replace(&mut stored.bytes, stays);
     Lease::of(
+        device,
         loan.serial,
         loan.block,
         loan.offset as usize,

@@ -15,7 +15,7 @@ use acc_lend::Lease;
 
 impl Device {
     /// Moves the bytes of a block of the device, which is mapped, into a lease of `len` bytes of it from place `offset`
-    /// on, which end within the block. The block stays where it is and is lent until [`Device::put_back`] takes the
+    /// on, which end within the block. The lease tells the number of the device. The block stays where it is and is lent until [`Device::put_back`] takes the
     /// lease (OpenACC 3.3, sections 2.5, compute constructs, and 2.6, data environment). With `keep`, a copy of all bytes
     /// of the block stays too; without it, no byte is copied, and no memory is needed.
     ///
@@ -25,6 +25,7 @@ impl Device {
     /// with `keep`. The device is then as before.
     pub fn take_out(
         &mut self,
+        device: u64,
         block: u64,
         serial: u64,
         offset: u64,
@@ -36,7 +37,7 @@ impl Device {
         requires within { offset + len ≤ len_of block self.old.blocks }
         ensures free { IsOk result → is_lent block self.old.loans ≡ false }
         ensures refused { IfErr result (IsLoanRefused self.old block keep) }
-        ensures lease { IfOk result (λ lease. lease ≡ record { serial = serial; block = block; offset = offset; len = len; bytes = bytes_of block self.old.memories }) }
+        ensures lease { IfOk result (λ lease. lease ≡ record { device = device; serial = serial; block = block; offset = offset; len = len; bytes = bytes_of block self.old.memories }) }
         ensures out { OnOk result (IsTakenOut self.old self.new (record { serial = serial; block = block; offset = offset; len = len }) keep) }
         ensures same { OnErr result (self.new ≡ self.old) }
     {
@@ -51,7 +52,7 @@ impl Device {
             len,
         };
         let stays = copy_at(&self.slab, slot, self.alloc, keep)?;
-        Ok(lend_at(&mut self.slab, slot, stays, loan))
+        Ok(lend_at(&mut self.slab, slot, stays, device, loan))
     }
 
     /// Moves the bytes of a lease back into its block, which is no longer lent, and lets a kept copy go. No byte is

@@ -10,6 +10,5 @@ mod index;
 mod lending;
 mod returning;
 
-pub use acc_base::DEVICE_BASE;
 pub use copying::SavedBlock;
 pub use devices::Device;

@@ -4,6 +4,7 @@ use crate::emitters::Emitter;
 use crate::faults::{EmitFault, Reason};
 use crate::marks::Marks;
 use crate::sheets::Sheet;
+use crate::twins::DEVICE;
 use acc_base::{Fault, Section};
 use acc_read::next_line;
 use acc_script::{Effect, MemorySink, write_effect};
@@ -36,8 +37,8 @@ pub fn emit_peek(emitter: &mut Emitter, section: Section) -> Result<(), EmitFaul
         sheet,
         ..
     } = emitter;
-    let own = twins.own.table.device_read(section);
-    let twin = twins.twin.table.device_read(section);
+    let own = twins.own.table.device_read(DEVICE, section);
+    let twin = twins.twin.table.device_read(DEVICE, section);
     let (Some(own), Some(twin)) = (own, twin) else {
         return put_word(sheet, "peek", section, "none");
     };
@@ -46,7 +47,7 @@ pub fn emit_peek(emitter: &mut Emitter, section: Section) -> Result<(), EmitFaul
 
 /// Emits a question for presence.
 pub fn emit_present(emitter: &mut Emitter, section: Section) -> Result<(), EmitFault> {
-    let is_present = emitter.twins.own.table.is_present(section);
+    let is_present = emitter.twins.own.table.is_present(DEVICE, section);
     let word = if is_present { "yes" } else { "no" };
     put_word(&mut emitter.sheet, "present", section, word)
 }

@@ -7,7 +7,7 @@ use crate::faults::{EmitFault, Reason};
 use crate::plans::{Plan, plan_of};
 use crate::refusals::emit_refused;
 use crate::sheets::Sheet;
-use crate::twins::{follow_on_twin, read_on};
+use crate::twins::{DEVICE, follow_on_twin, read_on};
 use crate::writes::{declare, emit_kernel, emit_point, emit_write};
 use acc_base::{Config, Fault, ScriptFault};
 use acc_page::{Page, statement_text};
@@ -120,6 +120,7 @@ fn emit_plan(
         Plan::Nothing => Ok(()),
         Plan::Declaration { name, array } => declare(alloc, &mut emitter.sheet, name, array),
         Plan::Directive => emit_directive(alloc, emitter, effect),
+        Plan::Device(device) => check_device(emitter, device),
         Plan::Kernel { kernel, section } => emit_kernel(emitter, kernel, section),
         Plan::Write(section) => emit_write(emitter, section),
         Plan::Point(section) => emit_point(emitter, section),
@@ -127,6 +128,15 @@ fn emit_plan(
         Plan::Peek(section) => emit_peek(emitter, section),
         Plan::Present(section) => emit_present(emitter, section),
         Plan::Comment => emit_comment(alloc, emitter, effect),
+    }
+}
+
+/// A program is for one device: there is nothing to emit where its own is chosen, and another cannot be.
+fn check_device(emitter: &Emitter, device: u64) -> Result<(), EmitFault> {
+    if device == DEVICE {
+        Ok(())
+    } else {
+        Err(emitter.unfit(Reason::OtherDevice))
     }
 }
 

@@ -31,7 +31,12 @@ pub fn told_event(alloc: Global, event: &Event) -> Result<Told, Fault> {
             did.as_slice(),
         )?)),
         Event::Left { did, .. } => Ok(Told::End(Vec::from_slice(alloc, did.as_slice())?)),
-        Event::EnteredData { items, queue, did } => {
+        Event::EnteredData {
+            items,
+            queue,
+            did,
+            ..
+        } => {
             let items = written_items(alloc, items.as_slice(), did.as_slice())?;
             Ok(Told::Standalone(enter_frame(*queue), items))
         }
@@ -40,6 +45,7 @@ pub fn told_event(alloc: Global, event: &Event) -> Result<Told, Fault> {
             finalize,
             queue,
             did,
+            ..
         } => {
             let items = written_items(alloc, items.as_slice(), did.as_slice())?;
             Ok(Told::Standalone(exit_frame(*queue, *finalize), items))
@@ -49,6 +55,7 @@ pub fn told_event(alloc: Global, event: &Event) -> Result<Told, Fault> {
             if_present,
             queue,
             did,
+            ..
         } => {
             let items = written_items(alloc, items.as_slice(), did.as_slice())?;
             Ok(Told::Standalone(update_frame(*queue, *if_present), items))
@@ -62,8 +69,12 @@ pub fn told_event(alloc: Global, event: &Event) -> Result<Told, Fault> {
 /// What C writes for a directive that is refused.
 pub fn told_directive(alloc: Global, directive: &Directive) -> Result<Told, Fault> {
     match directive {
-        Directive::Enter { items } => Ok(Told::Start(written_items(alloc, items.as_slice(), &[])?)),
-        Directive::EnterData { items, queue } => {
+        Directive::Enter { items, .. } => Ok(Told::Start(written_items(
+            alloc,
+            items.as_slice(),
+            &[],
+        )?)),
+        Directive::EnterData { items, queue, .. } => {
             let items = written_items(alloc, items.as_slice(), &[])?;
             Ok(Told::Standalone(enter_frame(*queue), items))
         }
@@ -71,6 +82,7 @@ pub fn told_directive(alloc: Global, directive: &Directive) -> Result<Told, Faul
             items,
             finalize,
             queue,
+            ..
         } => {
             let items = written_items(alloc, items.as_slice(), &[])?;
             Ok(Told::Standalone(exit_frame(*queue, *finalize), items))
@@ -79,6 +91,7 @@ pub fn told_directive(alloc: Global, directive: &Directive) -> Result<Told, Faul
             items,
             if_present,
             queue,
+            ..
         } => {
             let items = written_items(alloc, items.as_slice(), &[])?;
             Ok(Told::Standalone(update_frame(*queue, *if_present), items))

@@ -18,6 +18,8 @@ pub enum Plan<'a> {
     },
     /// A directive.
     Directive,
+    /// The choice of a device.
+    Device(u64),
     /// A parallel loop over a section.
     Kernel {
         /// What it does.
@@ -48,6 +50,7 @@ pub fn plan_of<'a>(statement: &Statement<'a>, line: &[u8]) -> Plan<'a> {
             array: *array,
         },
         Statement::Direct(_) => Plan::Directive,
+        Statement::Select(device) => Plan::Device(*device),
         Statement::Kernel {
             kernel,
             section,

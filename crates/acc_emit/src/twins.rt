@@ -10,6 +10,9 @@ use std::alloc::Global;
 use std::sync::Wait;
 use std::thread::Threads;
 
+/// The device of a program: an OpenACC program finds as many as its machine has, and the first is there on each.
+pub const DEVICE: u64 = 0;
+
 /// How many events the second table may have: it makes more of them than the first.
 const EVENTS: u64 = 16_777_216;
 
@@ -48,7 +51,9 @@ fn twin_config(config: Config) -> Result<Config, Fault> {
     let regions = config.regions().saturating_add(1).min(65_536);
     let host = config.host();
     let most = config.counter_max();
-    Config::new(host, MEMORY_MAX, regions, EVENTS, most, 4_096, EVENTS)
+    Config::new(host, MEMORY_MAX, regions, EVENTS, most, 4_096, EVENTS)?.with_devices(
+        config.devices(),
+    )
 }
 
 /// Reads the line of a number on a table.
@@ -58,7 +63,8 @@ pub fn read_on<'a>(
     number: u64,
     line: &'a [u8],
 ) -> Result<Statement<'a>, Fault> {
-    match line_at(alloc, &session.arrays, session.table.newest_region(), line) {
+    let innermost = session.innermost();
+    match line_at(alloc, &session.arrays, session.device, innermost, line) {
         Ok(statement) => Ok(statement),
         Err(Trouble::Memory) => Err(Fault::Memory),
         Err(Trouble::Line(kind)) => Err(Fault::Script { line: number, kind }),
@@ -152,8 +158,10 @@ fn fill<R: Threads + Wait + Sync + AllocGlobal>(
         pointer: None,
     };
     let items = List::from_vec(vec![in rt.alloc(); item]?);
-    twin.perform(rt, Statement::Direct(Directive::Enter { items }))?;
-    let Some(number) = twin.table.newest_region() else {
+    let device = DEVICE;
+    let enter = Directive::Enter { device, items };
+    twin.perform(rt, Statement::Direct(enter))?;
+    let Some(number) = twin.table.newest_region(device) else {
         return Ok(());
     };
     flip_gaps(rt, twin, number, section)?;
@@ -172,7 +180,7 @@ fn flip_gaps<R: Threads + Wait + Sync + AllocGlobal>(
     let mut start = section.start;
     for _ in 0..section.len {
         let len = end.saturating_sub(start);
-        let next = twin.table.next_attached(Section { start, len });
+        let next = twin.table.next_attached(DEVICE, Section { start, len });
         let stop = next.map_or(end, |attached| attached.pointer);
         flip(rt, twin, region, start, stop)?;
         if next.is_none() {

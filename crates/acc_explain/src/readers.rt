@@ -17,9 +17,9 @@ pub struct Reader<'a> {
 }
 
 impl Reader<'_> {
-    /// What is wrong with a text as a line, if something is. A region counts as open.
+    /// What is wrong with a text as a line, if something is. A region counts as open; no fault depends on the device.
     pub fn fault(self, text: &[u8]) -> Option<ScriptFault> {
-        match line_at(self.alloc, self.arrays, Some(1), text) {
+        match line_at(self.alloc, self.arrays, 0, Some(1), text) {
             Err(Trouble::Line(kind)) => Some(kind),
             _ => None,
         }

@@ -16,7 +16,24 @@ struct Named {
     pointer: Option<u64>,
 }
 
-/// Puts why a statement was refused: its item by the array's name, the mapped ranges that it meets
+/// One device of a table.
+#[derive(Clone, Copy)]
+struct DeviceView<'a> {
+    table: &'a Table,
+    device: u64,
+}
+
+impl DeviceView<'_> {
+    /// Puts which device it is, where there are several.
+    fn put_device(self, page: &mut Page) {
+        if self.table.config().devices() > 1 {
+            page.text(" on device ");
+            page.number(self.device);
+        }
+    }
+}
+
+/// Puts why a statement was refused: its item by the array's name, the mapped ranges that it meets on its device
 /// with their counters, and for a full device the largest hole.
 pub fn explain_refusal(
     page: &mut Page,
@@ -26,14 +43,37 @@ pub fn explain_refusal(
     statement: &Statement<'_>,
     fault: Fault,
 ) {
+    let device = device_of(table, statement);
+    let view = DeviceView { table, device };
     put_place(page, number);
     if let Some((nth, named)) = item_of(statement, fault) {
         put_item(page, names, nth, named);
         if is_of_ranges(fault) {
-            put_meetings(page, table, names, statement, nth, named.section);
+            put_meetings(page, view, names, statement, nth, named.section);
         }
     }
-    put_fault(page, table, fault);
+    put_fault(page, view, fault);
+}
+
+/// The device that a statement is for; 0 for one that is for none.
+fn device_of(table: &Table, statement: &Statement<'_>) -> u64 {
+    match statement {
+        Statement::Direct(directive) => directive_device(table, directive),
+        Statement::Kernel { region, .. } => table.device_of_region(*region),
+        _ => 0,
+    }
+}
+
+fn directive_device(table: &Table, directive: &Directive) -> u64 {
+    match directive {
+        Directive::Enter { device, .. }
+        | Directive::EnterData { device, .. }
+        | Directive::ExitData { device, .. }
+        | Directive::Update { device, .. }
+        | Directive::Wait { device, .. }
+        | Directive::Step { device, .. } => *device,
+        Directive::Exit { number } => table.device_of_region(*number),
+    }
 }
 
 /// Puts of which line this tells.
@@ -86,7 +126,7 @@ fn named_in(statement: &Statement<'_>, nth: usize) -> Option<Named> {
 /// What the item of a number names in a directive.
 fn named_by(directive: &Directive, nth: usize) -> Option<Named> {
     match directive {
-        Directive::Enter { items } => nth_of(items, nth),
+        Directive::Enter { items, .. } => nth_of(items, nth),
         Directive::EnterData { items, .. } => nth_of(items, nth),
         Directive::ExitData { items, .. } => nth_of(items, nth),
         Directive::Update { items, .. } => nth_of(items, nth),
@@ -156,16 +196,18 @@ fn put_byte(page: &mut Page, names: &Names, address: u64) {
 /// Puts the mapped ranges that a section meets, and the items before it in the same directive that do.
 fn put_meetings(
     page: &mut Page,
-    table: &Table,
+    view: DeviceView<'_>,
     names: &Names,
     statement: &Statement<'_>,
     nth: u64,
     section: Section,
 ) {
-    let told = put_ranges(page, table, names, section);
+    let told = put_ranges(page, view, names, section);
     if told == 0 {
         put_cause(page);
-        page.text("before the line no mapped range has any of these bytes\n");
+        page.text("before the line no mapped range has any of these bytes");
+        view.put_device(page);
+        page.text("\n");
     }
     if let Statement::Direct(directive) = statement {
         for other in 0..nth {
@@ -177,11 +219,11 @@ fn put_meetings(
 }
 
 /// Puts the mapped ranges that a section meets; answers how many they are.
-fn put_ranges(page: &mut Page, table: &Table, names: &Names, section: Section) -> u64 {
+fn put_ranges(page: &mut Page, view: DeviceView<'_>, names: &Names, section: Section) -> u64 {
     let mut told = 0;
     let mut from = 0;
     for _ in 0..u64::MAX {
-        let Some(mapped) = table.mapped(from) else {
+        let Some(mapped) = view.table.mapped(view.device, from) else {
             break;
         };
         if meets(range_of(mapped), section) {
@@ -248,29 +290,30 @@ fn put_other(page: &mut Page, names: &Names, other: u64, named: Section, section
 }
 
 /// Puts what a refusal says, in words.
-fn put_fault(page: &mut Page, table: &Table, fault: Fault) {
+fn put_fault(page: &mut Page, view: DeviceView<'_>, fault: Fault) {
     put_cause(page);
     match fault {
-        Fault::OutOfHost { .. } => put_host(page, table),
+        Fault::OutOfHost { .. } => put_host(page, view.table),
         Fault::Misaligned { .. } => page.text("a pointer lies at a multiple of 8"),
         Fault::PartlyPresent { .. } => {
             page.text("some of its bytes are mapped, and no one range has all of them")
         }
         Fault::NotPresent { .. } => page.text("it has to be mapped here"),
         Fault::CounterFull { .. } => page.text("a counter is at its limit"),
-        Fault::DeviceFull { need, .. } => put_holes(page, table, need),
+        Fault::DeviceFull { need, .. } => put_holes(page, view, need),
         Fault::TooManyItems { n } => put_limit(
             page,
             "the directive has ",
             n,
             " items, and may have 64",
         ),
+        Fault::NoDevice { device } => put_devices(page, view.table, device),
         Fault::NoQueue { q } => put_limit(page, "there is no queue ", q, "; they are 0 to 15"),
-        Fault::QueueFull { q } => put_queue(page, table, q),
+        Fault::QueueFull { q } => put_queue(page, view, q),
         Fault::NoAllowance { .. } => put_limit(
             page,
             "",
-            table.regions(),
+            view.table.regions(),
             " data regions are open, and no more may be",
         ),
         Fault::TraceFull { len } => put_limit(
@@ -302,26 +345,37 @@ fn put_host(page: &mut Page, table: &Table) {
     );
 }
 
+/// Puts which devices there are.
+fn put_devices(page: &mut Page, table: &Table, device: u64) {
+    let count = table.config().devices();
+    put_limit(page, "there is no device ", device, "; ");
+    if count > 1 {
+        put_limit(page, "they are 0 to ", count.saturating_sub(1), "");
+    } else {
+        page.text("there is 0 alone: --devices N makes more of them");
+    }
+}
+
 /// Puts how many copies wait in a queue.
-fn put_queue(page: &mut Page, table: &Table, q: u64) {
+fn put_queue(page: &mut Page, view: DeviceView<'_>, q: u64) {
     if q < QUEUE_COUNT {
         put_limit(
             page,
             "",
-            table.queue_len(q),
+            view.table.queue_len(view.device, q),
             " copies wait in the queue, and no more may",
         );
     }
 }
 
 /// Puts what is free of the device before the statement.
-fn put_holes(page: &mut Page, table: &Table, need: u64) {
+fn put_holes(page: &mut Page, view: DeviceView<'_>, need: u64) {
     let mut largest = 0;
     let mut free = 0;
     let mut count = 0;
     let mut from = 0;
     for _ in 0..u64::MAX {
-        let Some(hole) = table.hole(from) else {
+        let Some(hole) = view.table.hole(view.device, from) else {
             break;
         };
         largest = hole.size.max(largest);
@@ -333,4 +387,5 @@ fn put_holes(page: &mut Page, table: &Table, need: u64) {
     put_limit(page, "the largest hole has ", largest, ", and ");
     put_limit(page, "", free, " bytes are free in ");
     put_limit(page, "", count, if count == 1 { " hole" } else { " holes" });
+    view.put_device(page);
 }

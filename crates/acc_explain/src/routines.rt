@@ -81,6 +81,10 @@ pub const ROUTINES: &[Advice] = &[
         "acc_detach_finalize",
         "a script has directives: exit data detach(PLACE) finalize",
     ),
+    (
+        "acc_set_device_num",
+        "a script has directives: set device_num(N)",
+    ),
     ("acc_wait", "a script has directives: wait(QUEUE)"),
     ("acc_wait_all", "a script has directives: wait"),
     ("acc_is_present", "a script asks: present REF"),
@@ -161,9 +165,17 @@ pub const WORDS: &[Advice] = &[
     ("self", "self stands in update"),
     ("host", "host stands in update"),
     ("device", "device stands in update"),
-    ("device_type", "a script has one device"),
-    ("dtype", "a script has one device"),
-    ("init", "a script has its device from the start"),
-    ("shutdown", "a script has its device to the end"),
-    ("set", "a script has one device"),
+    ("device_num", "device_num stands in set"),
+    (
+        "device_type",
+        "devices have no types; their number chooses one: set device_num(N)",
+    ),
+    (
+        "dtype",
+        "devices have no types; their number chooses one: set device_num(N)",
+    ),
+    ("default_async", "async without a number is for queue 0"),
+    ("init", "a script has its devices from the start"),
+    ("shutdown", "a script has its devices to the end"),
+    ("set", "set stands alone on its line: set device_num(N)"),
 ];

@@ -20,6 +20,7 @@ pub const SENTENCES: &[&str] = &[
     "update async(0) self(a)",
     "wait(0)",
     "step(0)",
+    "set device_num(0)",
     "kernel add 0 a",
     "kernel xor 0 a",
     "kernel number 0 a",

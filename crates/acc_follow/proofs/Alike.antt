@@ -1,9 +1,8 @@
 -- Two outputs that begin with the same lines.
-use Rattle.std.proofs.Common.{rules, ◌≡◌, ℕ, ◌+◌, true, List, [], ◌∷◌, ◌++◌, length, drop, Option, Some, None, option_map, refl, sym, ap, ◌∙◌, arith}
+use Rattle.std.proofs.Common.{rules, ◌≡◌, ℕ, ◌+◌, true, List, [], ◌∷◌, ◌++◌, length, drop, Option, Some, None, option_map, refl, sym, ap, ◌∙◌}
 use Rattle.std.specs.List.{slice_get}
 use Rattle.std.specs.Option.{is_some}
 use Rattle.std.proofs.lemmas.List.{append_assoc, length-append}
-use Rattle.acc_read.specs.Lines.{lines_of}
 
 -- so many lines, the same in both, and what is left of each
 pub record IsAlike (count : ℕ) (expected found left came : List (List ℕ)) : Type 0 where
@@ -42,9 +41,3 @@ goes_on count expected found (line ∷ left) (other ∷ came) h same is =
 pub some_mapped : {A B : Type 0} (v : A → B) (o : Option A) → is_some (option_map v o) ≡ is_some o
 some_mapped v None = refl
 some_mapped v (Some a) = refl
-
--- no bytes are no lines
-pub lines_none : (input : List ℕ) → length input ≡ 0 → lines_of input ≡ []
-unfolding lines_of
-lines_none [] h = refl
-lines_none (b ∷ bytes) h = absurd (omega (arith, h))

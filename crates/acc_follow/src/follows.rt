@@ -25,7 +25,7 @@ pub struct Views {
     pub log: bool,
     /// Why a line is at fault, why a statement is refused, and which lines are comments that look like directives.
     pub explain: bool,
-    /// A picture of the two memories at the end.
+    /// A picture of the memories at the end.
     pub picture: bool,
     /// A picture of them behind each directive and each kernel.
     pub pictures: bool,
@@ -204,7 +204,7 @@ impl Follower {
         is_new && !matches!(trace.last(), Some(Event::HostWritten { .. }))
     }
 
-    /// Draws the two memories.
+    /// Draws the memories.
     fn draw<R: AllocGlobal, G: Gallery>(
         &self,
         rt: &R,
@@ -214,14 +214,10 @@ impl Follower {
     ) -> Result<(), Stop> {
         let mut page = Page::new(rt.alloc());
         self.put_picture(rt, &mut page, frame, text)?;
-        if gallery.keep(frame, page.whole()?) {
-            Ok(())
-        } else {
-            Err(Stop::Picture(frame))
-        }
+        gallery.keep(frame, page.whole()?)
     }
 
-    /// Puts the picture of the two memories.
+    /// Puts the picture of the memories.
     fn put_picture<R: AllocGlobal>(
         &self,
         rt: &R,
@@ -282,9 +278,7 @@ impl Follower {
         line: &[u8],
         reason: &mut Page,
     ) -> Result<Effect, Fault> {
-        let innermost = self.session.table.newest_region();
-        let read = line_at(rt.alloc(), &self.session.arrays, innermost, line);
-        match read {
+        match self.read(rt, line) {
             Ok(statement) => {
                 self.note_array(rt, &statement)?;
                 let effect = self.session.perform(rt, statement)?;
@@ -296,6 +290,12 @@ impl Follower {
                 Err(fault_of(number, trouble))
             }
         }
+    }
+
+    /// Reads a line, for the current device and the innermost region.
+    fn read<'a, R: AllocGlobal>(&self, rt: &R, line: &'a [u8]) -> Result<Statement<'a>, Trouble> {
+        let Session { arrays, device, .. } = &self.session;
+        line_at(rt.alloc(), arrays, *device, self.session.innermost(), line)
     }
 
     /// Keeps the number of a line that entered a region, until it is exited.
@@ -357,9 +357,8 @@ impl Follower {
             return Ok(());
         };
         let table = &self.session.table;
-        let innermost = table.newest_region();
         let mut page = Page::new(rt.alloc());
-        match line_at(rt.alloc(), &self.session.arrays, innermost, line) {
+        match self.read(rt, line) {
             Ok(statement) => {
                 explain_refusal(&mut page, table, &self.names, number, &statement, fault)
             }

@@ -13,8 +13,12 @@ pub enum Frame {
 
 /// Keeps pictures.
 pub trait Gallery {
-    /// Keeps a picture, a file of SVG; false where that failed.
-    fn keep(&self, frame: Frame, picture: &[u8]) -> bool;
+    /// Keeps a picture, a file of SVG.
+    ///
+    /// # Errors
+    ///
+    /// [`Stop::Picture`] where that failed; memory may be wanting for its name.
+    fn keep(&self, frame: Frame, picture: &[u8]) -> Result<(), Stop>;
 }
 
 /// Why a script that is followed ended early.

@@ -16,19 +16,19 @@ use std::thread::Threads;
 
 /// What the trace ends with after each accepted call of the life, in order.
 const ENDS: [&str; 13] = [
-    "EnteredData { items: List { items: [Item { clause: Copyin, section: Section { start: 4096, len: 16 }, pointer: None }] }, queue: None, did: List { items: [Did { step: Born { block: 1, place: 4294967296 }, aim: None }] } }",
-    "Entered { number: 1, items: List { items: [Item { clause: Present, section: Section { start: 4096, len: 16 }, pointer: None }] }, did: List { items: [Did { step: Counted { block: 1 }, aim: None }] } }",
+    "EnteredData { device: 0, items: List { items: [Item { clause: Copyin, section: Section { start: 4096, len: 16 }, pointer: None }] }, queue: None, did: List { items: [Did { step: Born { block: 1, place: 4294967296 }, aim: None }] } }",
+    "Entered { device: 0, number: 1, items: List { items: [Item { clause: Present, section: Section { start: 4096, len: 16 }, pointer: None }] }, did: List { items: [Did { step: Counted { block: 1 }, aim: None }] } }",
     "HostWritten { addr: 4096, len: 16, bytes: List { items: [] } }",
-    "Updated { items: List { items: [Item { clause: ToDevice, section: Section { start: 4096, len: 16 }, pointer: None }] }, if_present: true, queue: None, did: List { items: [Did { step: Moved { block: 1 }, aim: None }] } }",
+    "Updated { device: 0, items: List { items: [Item { clause: ToDevice, section: Section { start: 4096, len: 16 }, pointer: None }] }, if_present: true, queue: None, did: List { items: [Did { step: Moved { block: 1 }, aim: None }] } }",
     "HostWritten { addr: 4096, len: 16, bytes: List { items: [] } }",
-    "Lent { region: 1, section: Section { start: 4096, len: 16 }, block: 1, serial: 1 }",
-    "Waited { queue: None, count: 0 }",
-    "Gathered { serial: 1, block: 1, bytes: List { items: [] } }",
-    "Updated { items: List { items: [Item { clause: ToSelf, section: Section { start: 4096, len: 16 }, pointer: None }] }, if_present: false, queue: Some(0), did: List { items: [Did { step: Moved { block: 1 }, aim: None }] } }",
-    "Stepped { queue: 0, block: 1 }",
-    "ExitedData { items: List { items: [Item { clause: Copyout, section: Section { start: 4096, len: 16 }, pointer: None }] }, finalize: true, queue: Some(1), did: List { items: [Did { step: Dropped { block: 1, ended: false }, aim: None }] } }",
-    "Left { number: 1, did: List { items: [Did { step: Dropped { block: 1, ended: true }, aim: None }] } }",
-    "Waited { queue: Some(1), count: 0 }",
+    "Lent { device: 0, region: 1, section: Section { start: 4096, len: 16 }, block: 1, serial: 1 }",
+    "Waited { device: 0, queue: None, count: 0 }",
+    "Gathered { device: 0, serial: 1, block: 1, bytes: List { items: [] } }",
+    "Updated { device: 0, items: List { items: [Item { clause: ToSelf, section: Section { start: 4096, len: 16 }, pointer: None }] }, if_present: false, queue: Some(0), did: List { items: [Did { step: Moved { block: 1 }, aim: None }] } }",
+    "Stepped { device: 0, queue: 0, block: 1 }",
+    "ExitedData { device: 0, items: List { items: [Item { clause: Copyout, section: Section { start: 4096, len: 16 }, pointer: None }] }, finalize: true, queue: Some(1), did: List { items: [Did { step: Dropped { block: 1, ended: false }, aim: None }] } }",
+    "Left { device: 0, number: 1, did: List { items: [Did { step: Dropped { block: 1, ended: true }, aim: None }] } }",
+    "Waited { device: 0, queue: Some(1), count: 0 }",
 ];
 
 /// A life of an array, with what the trace ends with after each call.

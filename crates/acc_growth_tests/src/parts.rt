@@ -11,7 +11,7 @@ use std::thread::Threads;
 fn number_six<R: Threads + Wait + Sync + AllocGlobal>(rt: &R) -> Result<Vec<u8>, Fault> {
     let cuts = Cuts::even(rt.alloc(), 6, 2)?;
     let bytes = vec![in rt.alloc(); 0u8; 6]?;
-    let mut lease = Lease::of(1, 1, 0, 6, bytes);
+    let mut lease = Lease::of(0, 1, 1, 0, 6, bytes);
     run_parts(rt, &mut lease, &cuts, &Number(1), &[], &Open);
     Ok(lease.into_block())
 }

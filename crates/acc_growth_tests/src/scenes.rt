@@ -56,6 +56,7 @@ fn play_with<
         rt,
         runtime,
         caller,
+        device: 0,
     };
     play(&mut actor, scene)
 }

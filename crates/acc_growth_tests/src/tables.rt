@@ -8,8 +8,9 @@ use acc_table::{Answer, Call, Lease, Mapped, Reply, Table, Turn, abandon, abando
 use acc_table_rows::Ask::{
     Enter, EnterData, Exit, ExitData, ExitDataLater, Lend, Step, Update, UpdateLater, Wait, Write,
 };
+use acc_table_rows::subjects::devices::ROWS as DEVICES;
 use acc_table_rows::subjects::{A, FULL, SUBJECTS, TO_HOST, WIDE};
-use acc_table_rows::{Ask, Limits, Row, holds, table_of, take, turn_of};
+use acc_table_rows::{Ask, DevicesRow, Limits, Row, holds, table_of, take, turn_of};
 use std::alloc::{AllocError, Global};
 use std::fmt::Debug;
 use std::process::Abort;
@@ -42,9 +43,9 @@ const LIFE: &[Ask] = &[
 
 /// Makes what may want memory, and once more where the first time wanted it.
 fn twice(alloc: Global, ask: Ask) -> Result<Turn, AllocError> {
-    match turn_of(alloc, ask) {
+    match turn_of(alloc, 0, ask) {
         Ok(turn) => Ok(turn),
-        Err(_) => turn_of(alloc, ask),
+        Err(_) => turn_of(alloc, 0, ask),
     }
 }
 
@@ -58,7 +59,7 @@ fn call_from(turn: Turn) -> Option<Call> {
     }
 }
 
-/// What a refused call may not change.
+/// What a refused call may not change, of a device and of the whole.
 #[derive(Clone, Copy, Debug, PartialEq)]
 struct Told {
     /// The events in all, and those that are stored.
@@ -75,33 +76,37 @@ struct Told {
     queues: [u64; 3],
 }
 
-fn told_by(table: &Table) -> Told {
+fn told_by(table: &Table, device: u64) -> Told {
     Told {
         events: (table.events(), table.trace().len()),
         books: (table.ticket_book(), table.region_book(), table.regions()),
-        used: table.used(),
-        hole: table.hole(0),
-        mapped: table.mapped(0),
-        attached: table.attachment(A + 8),
-        ended: table.ended(0),
-        queues: [table.queue_len(0), table.queue_len(1), table.queue_len(3)],
+        used: table.used(device),
+        hole: table.hole(device, 0),
+        mapped: table.mapped(device, 0),
+        attached: table.attachment(device, A + 8),
+        ended: table.ended(device, 0),
+        queues: [
+            table.queue_len(device, 0),
+            table.queue_len(device, 1),
+            table.queue_len(device, 3),
+        ],
     }
 }
 
 /// Folds the events into the base, and once more where memory is refused.
 fn rebase_twice(rt: &impl Abort, table: &mut Table) {
-    let before = told_by(table);
+    let before = told_by(table, 0);
     let (events, stored) = before.events;
     if let Err(fault) = table.rebase() {
         same(rt, "a refused base", fault, Fault::Memory);
-        same(rt, "a refused base", told_by(table), before);
+        same(rt, "a refused base", told_by(table, 0), before);
         same(rt, "a refused base", table.rebase(), Ok(stored as u64));
     }
     let after = Told {
         events: (events, 0),
         ..before
     };
-    same(rt, "a refused base", told_by(table), after);
+    same(rt, "a refused base", told_by(table, 0), after);
     same(rt, "a refused base", table.base().events(), events);
 }
 
@@ -109,7 +114,7 @@ fn rebase_twice(rt: &impl Abort, table: &mut Table) {
 fn retry(rt: &impl Abort, table: &mut Table, before: Told, back: (Call, Fault)) -> Reply {
     let (call, fault) = back;
     same(rt, "a refused growth", fault, Fault::Memory);
-    same(rt, "a refused growth", told_by(table), before);
+    same(rt, "a refused growth", told_by(table, 0), before);
     match table.apply(call) {
         Ok(reply) => reply,
         Err((call, fault)) => {
@@ -121,7 +126,7 @@ fn retry(rt: &impl Abort, table: &mut Table, before: Told, back: (Call, Fault)) 
 
 /// Makes a call, and once more where memory is refused.
 fn apply_twice(rt: &impl Abort, table: &mut Table, call: Call) -> Reply {
-    let before = told_by(table);
+    let before = told_by(table, 0);
     match table.apply(call) {
         Ok(reply) => reply,
         Err(back) => retry(rt, table, before, back),
@@ -166,7 +171,7 @@ fn live_whole(
 ) -> Result<(), Fail> {
     live(rt, table, is_rebased)?;
     same(rt, "a refused growth", table.events(), 18);
-    same(rt, "a refused growth", table.used(), 0);
+    same(rt, "a refused growth", table.used(0), 0);
     Ok(())
 }
 
@@ -212,22 +217,23 @@ fn same<T: PartialEq + Debug + Copy>(rt: &impl Abort, row: &str, found: T, wante
 /// Ends the test where the table does not answer each query of a row as it says.
 fn check_all(rt: &impl Abort, row: &Row, table: &Table) {
     for &check in row.checks {
-        assert!(rt; holds(table, check), "{}: not {check:?}", row.name);
+        assert!(rt; holds(table, 0, check), "{}: not {check:?}", row.name);
     }
 }
 
-/// Takes a turn, and once more where memory was refused, which changed nothing.
+/// Takes a turn, of a device where it is for one, and once more where memory was refused, which changed nothing.
 fn take_twice(
     rt: &(impl Abort + AllocGlobal),
     table: &mut Table,
+    device: u64,
     ask: Ask,
     leases: &mut Vec<Lease>,
 ) -> Result<Option<Answer>, Fault> {
-    let before = told_by(table);
-    match take(table, rt.alloc(), ask, leases) {
+    let before = told_by(table, device);
+    match take(table, rt.alloc(), device, ask, leases) {
         Err(Fault::Memory) | Ok(Some(Answer::Refused(Fault::Memory))) => {
-            same(rt, "a refused growth", told_by(table), before);
-            take(table, rt.alloc(), ask, leases)
+            same(rt, "a refused growth", told_by(table, device), before);
+            take(table, rt.alloc(), device, ask, leases)
         }
         answer => answer,
     }
@@ -241,7 +247,7 @@ fn take_turns(
     leases: &mut Vec<Lease>,
 ) -> Result<(), Fault> {
     for &(ask, wanted) in row.turns {
-        let found = take_twice(rt, table, ask, leases)?;
+        let found = take_twice(rt, table, 0, ask, leases)?;
         same(rt, row.name, found, Some(wanted));
     }
     Ok(())
@@ -279,6 +285,51 @@ fn take_rows(rt: &(impl Abort + AllocGlobal), rows: &[Row]) -> Result<(), Fault>
 fn a_refused_growth_changes_no_row(rt: HostRuntime) -> Result<(), Fail> {
     for rows in SUBJECTS {
         take_rows(&rt, rows)?;
+    }
+    Ok(())
+}
+
+/// Takes the turns of a row of several devices.
+fn take_turns_on(
+    rt: &(impl Abort + AllocGlobal),
+    table: &mut Table,
+    row: &DevicesRow,
+    leases: &mut Vec<Lease>,
+) -> Result<(), Fault> {
+    for &(device, ask, wanted) in row.turns {
+        let found = take_twice(rt, table, device, ask, leases)?;
+        same(rt, row.name, found, Some(wanted));
+    }
+    Ok(())
+}
+
+/// Takes them with no lease at hand, abandons those that are out at the end, and compares what the table says then.
+fn take_devices_on(
+    rt: &(impl Abort + AllocGlobal),
+    table: &mut Table,
+    row: &DevicesRow,
+) -> Result<(), Fault> {
+    let mut leases = Vec::new(rt.alloc());
+    let outcome = take_turns_on(rt, table, row, &mut leases);
+    abandon_all(leases);
+    outcome?;
+    for &(device, check) in row.checks {
+        assert!(rt; holds(table, device, check), "{}: not {check:?}", row.name);
+    }
+    Ok(())
+}
+
+/// Takes a row of several devices on a new table.
+fn take_devices(rt: &(impl Abort + AllocGlobal), row: &DevicesRow) -> Result<(), Fault> {
+    let mut table = table_twice(rt.alloc(), row.limits)?;
+    take_devices_on(rt, &mut table, row)
+}
+
+/// The same for the rows of several devices.
+#[test]
+fn a_refused_growth_changes_no_row_of_several_devices(rt: HostRuntime) -> Result<(), Fail> {
+    for row in DEVICES {
+        take_devices(&rt, row)?;
     }
     Ok(())
 }

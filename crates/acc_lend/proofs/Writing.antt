@@ -38,6 +38,7 @@ pub kept_outside : (l : Leased) (bytes : List ℕ) → IsLoan l → length bytes
 kept_outside l bytes laws long =
     let fits : l.offset + length bytes ≤ length l.bytes = omega (arith, laws.within) in
     record {
+      device = refl;
       serial = refl;
       block = refl;
       offset = refl;

@@ -20,6 +20,7 @@ with_section l bytes = record l { bytes = written_over l.offset bytes l.bytes }
 
 -- the same loan, and each byte of the block outside its section is as it was
 pub record IsKeptOutside (old new : Leased) : Type 0 where
+  pub device : new.device ≡ old.device
   pub serial : new.serial ≡ old.serial
   pub block : new.block ≡ old.block
   pub offset : new.offset ≡ old.offset

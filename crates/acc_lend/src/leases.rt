@@ -12,9 +12,10 @@ use std::marker::Model;
 /// A lease has to be spent, by [`Lease::into_block`] or [`Lease::abandon`]: a block that is lent is not lost without a
 /// word. The bytes are moved into it and out of it, and never copied.
 ///
-/// Contracts see the serial number of the loan, the number of the block, the place and the length of the section in
-/// bytes, and the bytes of the block.
+/// Contracts see the number of the device, the serial number of the loan, the number of the block, the place and the
+/// length of the section in bytes, and the bytes of the block.
 pub struct Lease {
+    device: u64,
     serial: u64,
     block: u64,
     offset: usize,
@@ -29,7 +30,7 @@ impl Model for Lease {
 
     ghost Value = { Leased };
 
-    ghost view = { λ l. record { serial = l.serial; block = l.block; offset = l.offset; len = l.len; bytes = l.bytes.items } };
+    ghost view = { λ l. record { device = l.device; serial = l.serial; block = l.block; offset = l.offset; len = l.len; bytes = l.bytes.items } };
 
     ghost invariant = { λ l. (l.offset + l.len ≤ vec_len l.bytes) × (vec_len l.bytes ≤ MEMORY_MAX) };
 }
@@ -38,13 +39,22 @@ impl Lease {
     ghost use Rattle.std.specs.Borrow.{sem};
     ghost use Rattle.acc_lend.specs.Lending.{LendsSection};
 
-    /// A loan of `len` bytes from place `offset` on of the block with these bytes. The block has at most 67,108,864.
-    pub fn of(serial: u64, block: u64, offset: usize, len: usize, bytes: Vec<u8>) -> Lease
+    /// A loan of `len` bytes from place `offset` on of the block of a device with these bytes. The block has at most
+    /// 67,108,864.
+    pub fn of(
+        device: u64,
+        serial: u64,
+        block: u64,
+        offset: usize,
+        len: usize,
+        bytes: Vec<u8>,
+    ) -> Lease
         requires within { offset + len ≤ vec_len bytes }
         requires capped { vec_len bytes ≤ MEMORY_MAX }
-        ensures { result ≡ record { serial = serial; block = block; offset = offset; len = len; bytes = bytes.items } }
+        ensures { result ≡ record { device = device; serial = serial; block = block; offset = offset; len = len; bytes = bytes.items } }
     {
         Lease {
+            device,
             serial,
             block,
             offset,
@@ -58,6 +68,13 @@ impl Lease {
         ensures { IsLoan self.now }
     {
         let _ = &self.serial;
+    }
+
+    /// The number of the device whose block is lent.
+    pub fn device(&self) -> u64
+        ensures { result ≡ self.now.device }
+    {
+        self.device
     }
 
     /// The serial number of the loan.
@@ -132,6 +149,7 @@ impl Lease {
         ensures laws { IsLoan self }
     {
         let Lease {
+            device: _,
             serial: _,
             block: _,
             offset: _,

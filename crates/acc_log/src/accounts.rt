@@ -37,15 +37,29 @@ pub struct Copied {
 /// A copy that waits in a queue.
 #[derive(Clone, Copy)]
 struct Waiting {
-    queue: u64,
+    queue: Queue,
     copied: Copied,
 }
 
-/// What the events so far say. Where memory was wanting for some of it, it says so.
+/// A queue of a device.
+#[derive(Clone, Copy, PartialEq, Eq)]
+struct Queue {
+    device: u64,
+    queue: u64,
+}
+
+/// A block of a device.
+type Block = (u64, u64);
+
+/// What the events so far say, read and changed on one device at a time. Where memory was wanting for some of it, it says
+/// so.
 #[derive(Drop)]
 pub struct Account {
-    ranges: BTreeMap<u64, Placed>,
-    pointers: BTreeMap<(u64, u64), u64>,
+    /// The device that is read and changed.
+    pub device: u64,
+    /// The mapped ranges, by device and first address.
+    ranges: BTreeMap<(u64, u64), Placed>,
+    pointers: BTreeMap<(Block, u64), u64>,
     waiting: Vec<Waiting>,
     regions: Vec<usize>,
     wants: bool,
@@ -55,6 +69,7 @@ impl Account {
     /// That of a table without events.
     pub fn new(alloc: Global) -> Account {
         Account {
+            device: 0,
             ranges: BTreeMap::new(alloc),
             pointers: BTreeMap::new(alloc),
             waiting: Vec::new(alloc),
@@ -70,15 +85,17 @@ impl Account {
 
     /// The mapped range that a section is inside, if it is not empty and inside one.
     pub fn inside(&self, section: Section) -> Option<Placed> {
-        let (_, placed) = self.ranges.range(..=section.start).next_back()?;
-        is_in(section, placed.range.section).then_some(*placed)
+        let upto = (self.device, section.start);
+        let (key, placed) = self.ranges.range(..=upto).next_back()?;
+        let is_here = key.0 == self.device && is_in(section, placed.range.section);
+        is_here.then_some(*placed)
     }
 
     /// A range is mapped, or its counters are these now.
     pub fn set(&mut self, placed: Placed) {
         if self
             .ranges
-            .insert(placed.range.section.start, placed)
+            .insert((self.device, placed.range.section.start), placed)
             .is_err()
         {
             self.wants = true;
@@ -87,23 +104,27 @@ impl Account {
 
     /// The mapping of a range has ended.
     pub fn remove(&mut self, placed: Placed) {
-        self.ranges.remove(&placed.range.section.start);
+        self.ranges
+            .remove(&(self.device, placed.range.section.start));
     }
 
     /// How often a pointer in a block is attached.
     pub fn attached(&self, block: u64, pointer: u64) -> u64 {
-        self.pointers.get(&(block, pointer)).copied().unwrap_or(0)
+        let key = ((self.device, block), pointer);
+        self.pointers.get(&key).copied().unwrap_or(0)
     }
 
     /// A pointer in a block is attached so often now.
     pub fn attach(&mut self, block: u64, pointer: u64, count: u64) {
-        if self.pointers.insert((block, pointer), count).is_err() {
+        let key = ((self.device, block), pointer);
+        if self.pointers.insert(key, count).is_err() {
             self.wants = true;
         }
     }
 
     /// A copy is put into a queue.
     pub fn put(&mut self, queue: u64, copied: Copied) {
+        let queue = self.queue(queue);
         if self.waiting.push(Waiting { queue, copied }).is_err() {
             self.wants = true;
         }
@@ -111,6 +132,7 @@ impl Account {
 
     /// The first copy of a queue, which is made now.
     pub fn take(&mut self, queue: u64) -> Option<Copied> {
+        let queue = self.queue(queue);
         let nth = self.waiting.iter().position(|w| w.queue == queue)?;
         if nth < self.waiting.len() {
             return Some(self.waiting.remove(nth).copied);
@@ -118,12 +140,22 @@ impl Account {
         None
     }
 
-    /// The first of the queues in which copies wait.
-    pub fn first_queue(&self) -> Option<u64> {
-        self.waiting.iter().map(|w| w.queue).min()
+    /// The queue of a number.
+    fn queue(&self, queue: u64) -> Queue {
+        Queue {
+            device: self.device,
+            queue,
+        }
     }
 
-    /// How many copies wait.
+    /// The first of the device's queues in which copies wait.
+    pub fn first_queue(&self) -> Option<u64> {
+        let device = self.device;
+        let here = self.waiting.iter().filter(|w| w.queue.device == device);
+        here.map(|w| w.queue.queue).min()
+    }
+
+    /// How many copies wait, on all devices.
     pub fn waiting(&self) -> usize {
         self.waiting.len()
     }

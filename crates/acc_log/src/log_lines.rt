@@ -28,6 +28,14 @@ pub fn put_inner(page: &mut Page, words: &str) {
     page.text("\n");
 }
 
+/// Puts the line of the device on which a statement did something.
+pub fn put_device(page: &mut Page, device: u64) {
+    page.text(INNER_MARK);
+    page.text("device ");
+    page.number(device);
+    page.text("\n");
+}
+
 /// Puts that a statement was refused, and why.
 pub fn put_refused(page: &mut Page, fault: Fault) {
     page.text(INNER_MARK);

@@ -5,7 +5,7 @@
 use crate::accounts::{Account, Copied};
 use crate::log_items::{Drops, LogItem};
 use crate::log_lines::{
-    put_copied, put_head, put_inner, put_loan, put_refused, put_region, put_written,
+    put_copied, put_device, put_head, put_inner, put_loan, put_refused, put_region, put_written,
 };
 use crate::totals::{Totals, put_total};
 use acc_base::{
@@ -44,7 +44,8 @@ impl Log {
         }
     }
 
-    /// Puts the lines of a statement that was run: none where it made no call and was not refused.
+    /// Puts the lines of a statement that was run: none where it made no call and was not refused. With several devices
+    /// they say on which one something was done.
     ///
     /// # Errors
     ///
@@ -60,6 +61,7 @@ impl Log {
         let trace = table.trace();
         if self.told < trace.len() || is_outcome(effect) {
             put_head(&mut self.page, number, text);
+            self.tell_device(table);
             self.tell_events(names, trace);
             self.put_outcome(effect);
         }
@@ -73,6 +75,14 @@ impl Log {
     pub fn tell_total(&mut self) {
         let waiting = self.account.waiting() as u64;
         put_total(&mut self.page, &self.totals, waiting);
+    }
+
+    /// Tells on which device a statement did something, where there are several: all of its events are on one.
+    fn tell_device(&mut self, table: &Table) {
+        let device = table.trace().get(self.told).and_then(device_of);
+        if let (true, Some(device)) = (table.config().devices() > 1, device) {
+            put_device(&mut self.page, device);
+        }
     }
 
     /// Tells the events that were not told yet.
@@ -99,24 +109,34 @@ impl Log {
 
     /// Tells the event at a place of the trace.
     fn tell_event(&mut self, names: &Names, trace: &[Event], at: usize, event: &Event) {
+        self.account.device = device_of(event).unwrap_or(0);
         match event {
-            Event::Entered { number, items, did } => {
+            Event::Entered {
+                number,
+                items,
+                did,
+                ..
+            } => {
                 self.tell_entry(names, items.as_slice(), did.as_slice());
                 self.account.open(at);
                 put_region(&mut self.page, "entered region ", *number);
             }
-            Event::Left { number, did } => {
+            Event::Left { number, did, .. } => {
                 self.tell_exit(names, trace, did.as_slice());
                 put_region(&mut self.page, "exited region ", *number);
             }
-            Event::EnteredData { items, queue, did } => {
-                self.tell_entered(names, items.as_slice(), *queue, did.as_slice())
-            }
+            Event::EnteredData {
+                items,
+                queue,
+                did,
+                ..
+            } => { self.tell_entered(names, items.as_slice(), *queue, did.as_slice()) }
             Event::ExitedData {
                 items,
                 finalize,
                 queue,
                 did,
+                ..
             } => self.tell_exited(names, items.as_slice(), *finalize, *queue, did.as_slice()),
             Event::Updated {
                 items,
@@ -131,7 +151,7 @@ impl Log {
     /// Tells an event that names no item.
     fn tell_short(&mut self, names: &Names, event: &Event) {
         match event {
-            Event::Waited { queue, count } => self.tell_waited(names, *queue, *count),
+            Event::Waited { queue, count, .. } => self.tell_waited(names, *queue, *count),
             Event::Stepped { queue, .. } => self.tell_made(names, *queue),
             Event::HostWritten { addr, len, .. } => {
                 let section = Section {
@@ -298,6 +318,22 @@ impl Log {
             self.lent = None;
             put_loan(&mut self.page, names, "gathered", copied, serial);
         }
+    }
+}
+
+/// The device on which an event was; none for a write of the host.
+fn device_of(event: &Event) -> Option<u64> {
+    match event {
+        Event::Entered { device, .. }
+        | Event::Left { device, .. }
+        | Event::EnteredData { device, .. }
+        | Event::ExitedData { device, .. }
+        | Event::Updated { device, .. }
+        | Event::Waited { device, .. }
+        | Event::Stepped { device, .. }
+        | Event::Lent { device, .. }
+        | Event::Gathered { device, .. } => Some(*device),
+        Event::HostWritten { .. } => None,
     }
 }
 

@@ -287,7 +287,7 @@ fn is_out(device: &mut Device, block: u64) -> bool {
     if !device.has(block) || device.has_ended(block) || device.bytes(block).is_some() {
         return false;
     }
-    match device.take_out(block, 9, 0, 0, false) {
+    match device.take_out(0, block, 9, 0, 0, false) {
         Ok(lease) => {
             lease.abandon();
             false
@@ -303,7 +303,7 @@ fn take_out(device: &mut Device, block: u64, serial: u64, offset: u64, len: u64)
     }
     let whole = device.bytes(block)?.len() as u64;
     if offset <= whole && len <= whole - offset {
-        device.take_out(block, serial, offset, len, false).ok()
+        device.take_out(0, block, serial, offset, len, false).ok()
     } else {
         None
     }
@@ -325,7 +325,14 @@ fn put_back(rt: &impl Abort, device: &mut Device, lease: Lease) -> Option<Fault>
 fn refuse_all(rt: &impl Abort, alloc: Global, device: &mut Device) -> Result<(), AllocError> {
     for (serial, block, offset, len, count) in WRONG_LEASES {
         assert!(rt; *count < 16 && *offset <= *count && *len <= *count - *offset);
-        let lease = Lease::of(*serial, *block, *offset, *len, vec![in alloc; 0; *count]?);
+        let lease = Lease::of(
+            0,
+            *serial,
+            *block,
+            *offset,
+            *len,
+            vec![in alloc; 0; *count]?,
+        );
         let fault = put_back(rt, device, lease);
         assert_eq!(rt; fault, Some(Fault::NoLease { serial: *serial }));
     }
@@ -368,21 +375,21 @@ fn all_agree(rt: &impl Abort, device: &mut Device, turns: &[Turn]) {
 
 #[test]
 fn blocks_lie_where_they_fit_first(rt: HostRuntime) -> Result<(), Fail> {
-    let mut device = Device::new(rt.alloc(), 64)?;
+    let mut device = Device::new(rt.alloc(), DEVICE_BASE, 64)?;
     all_agree(&rt, &mut device, BLOCKS);
     Ok(())
 }
 
 #[test]
 fn a_write_changes_its_bytes_alone(rt: HostRuntime) -> Result<(), Fail> {
-    let mut device = Device::new(rt.alloc(), 64)?;
+    let mut device = Device::new(rt.alloc(), DEVICE_BASE, 64)?;
     all_agree(&rt, &mut device, WRITES);
     Ok(())
 }
 
 #[test]
 fn a_transfer_keeps_a_block_that_has_ended(rt: HostRuntime) -> Result<(), Fail> {
-    let mut device = Device::new(rt.alloc(), 64)?;
+    let mut device = Device::new(rt.alloc(), DEVICE_BASE, 64)?;
     all_agree(&rt, &mut device, PINS);
     Ok(())
 }
@@ -403,7 +410,7 @@ fn check_loan(rt: &impl Abort, alloc: Global, device: &mut Device) -> Result<(),
 
 #[test]
 fn a_block_is_lent_until_its_own_lease_comes_back(rt: HostRuntime) -> Result<(), Fail> {
-    let mut device = Device::new(rt.alloc(), 64)?;
+    let mut device = Device::new(rt.alloc(), DEVICE_BASE, 64)?;
     all_agree(&rt, &mut device, BEFORE_THE_LOAN);
     check_loan(&rt, rt.alloc(), &mut device)?;
     all_agree(&rt, &mut device, AFTER_THE_LOAN);
@@ -412,9 +419,10 @@ fn a_block_is_lent_until_its_own_lease_comes_back(rt: HostRuntime) -> Result<(),
 
 #[test]
 fn planned_blocks_are_in_the_way(rt: HostRuntime) -> Result<(), Fail> {
-    let device = Device::new(rt.alloc(), 64)?;
-    let planned = [(DEVICE_BASE, 16), (DEVICE_BASE + 16, 1)];
-    assert_eq!(rt; device.would_take(&planned, 32), Some(DEVICE_BASE + 32));
+    let base = 0x2_0000_0000;
+    let device = Device::new(rt.alloc(), base, 64)?;
+    let planned = [(base, 16), (base + 16, 1)];
+    assert_eq!(rt; device.would_take(&planned, 32), Some(0x2_0000_0020));
     Ok(())
 }
 
@@ -449,11 +457,11 @@ fn grow(rt: &impl Abort, device: &mut Device) {
 /// To be run with each allocation failing in turn: what is made here is made a second time where the first failed.
 #[test]
 fn a_refused_growth_changes_nothing(rt: HostRuntime) -> Result<(), Fail> {
-    let mut device = match Device::new(rt.alloc(), 256) {
+    let mut device = match Device::new(rt.alloc(), DEVICE_BASE, 256) {
         Ok(device) => device,
         Err(fault) => {
             assert_eq!(rt; fault, Fault::Memory);
-            Device::new(rt.alloc(), 256)?
+            Device::new(rt.alloc(), DEVICE_BASE, 256)?
         }
     };
     grow(&rt, &mut device);
@@ -520,9 +528,9 @@ fn check_two_births(rt: &impl Abort, device: &mut Device)
 /// To be run with each allocation failing in turn, too: the two births after the room was made want no memory.
 #[test]
 fn births_use_the_room_made_for_them_in_order(rt: HostRuntime) -> Result<(), Fail> {
-    let mut device = match Device::new(rt.alloc(), 64) {
+    let mut device = match Device::new(rt.alloc(), DEVICE_BASE, 64) {
         Ok(device) => device,
-        Err(_) => Device::new(rt.alloc(), 64)?,
+        Err(_) => Device::new(rt.alloc(), DEVICE_BASE, 64)?,
     };
     check_two_births(&rt, &mut device);
     Ok(())

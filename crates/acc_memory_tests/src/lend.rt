@@ -85,7 +85,7 @@ const BLOCK: [u8; 8] = [0, 254, 255, 0, 1, 2, 3, 4];
 /// A loan of six bytes of a block.
 fn loan(alloc: Global) -> Result<Lease, Fault> {
     let bytes = BLOCK.to_vec(alloc)?;
-    Ok(Lease::of(1, 3, 1, 6, bytes))
+    Ok(Lease::of(0, 1, 3, 1, 6, bytes))
 }
 
 /// A kernel leaves these bytes of a loan, and the block's other bytes.

@@ -1,7 +1,8 @@
 //! Arrows from blocks to what the attached pointers in them are aimed at.
 
-use crate::device_rows::{DeviceRow, row_at};
+use crate::device_rows::row_at;
 use crate::places::{DEVICE_END, WIDTH, middle_of};
+use crate::scenes::Scene;
 use crate::shapes::{Point, close_group, close_title, open_titled, put_curve};
 use acc_base::Section;
 use acc_page::{Names, Page};
@@ -21,18 +22,17 @@ struct Arrow {
     count: u64,
 }
 
-/// Puts the arrows of all attached pointers. What a lent block's pointers hold is not known.
+/// Puts the arrows of all attached pointers of a device. What a lent block's pointers hold is not known.
 pub fn put_arrows(
     page: &mut Page,
     alloc: Global,
     table: &Table,
     names: &Names,
-    rows: &[DeviceRow],
-    ranges: &[Mapped],
+    scene: &Scene,
 ) -> Result<(), AllocError> {
     let mut arrows = Vec::new(alloc);
-    for mapped in ranges {
-        add_pointers(table, rows, *mapped, &mut arrows)?;
+    for mapped in &scene.ranges {
+        add_pointers(table, scene, *mapped, &mut arrows)?;
     }
     for arrow in &arrows {
         put_arrow(page, names, *arrow);
@@ -43,7 +43,7 @@ pub fn put_arrows(
 /// Adds the pointers of a range.
 fn add_pointers(
     table: &Table,
-    rows: &[DeviceRow],
+    scene: &Scene,
     mapped: Mapped,
     arrows: &mut Vec<Arrow>,
 ) -> Result<(), AllocError> {
@@ -51,10 +51,10 @@ fn add_pointers(
     let mut start = mapped.start;
     for _ in 0..u64::MAX {
         let len = end.saturating_sub(start);
-        let Some(attached) = table.next_attached(Section { start, len }) else {
+        let Some(attached) = table.next_attached(scene.device, Section { start, len }) else {
             break;
         };
-        if let Some(arrow) = arrow_of(table, rows, attached.pointer) {
+        if let Some(arrow) = arrow_of(table, scene, attached.pointer) {
             add_arrow(arrows, arrow)?;
         }
         start = attached.pointer.saturating_add(1);
@@ -63,16 +63,17 @@ fn add_pointers(
 }
 
 /// The arrow of a pointer, where its target is known.
-fn arrow_of(table: &Table, rows: &[DeviceRow], pointer: u64) -> Option<Arrow> {
-    let place = table.device_address(pointer)?;
+fn arrow_of(table: &Table, scene: &Scene, pointer: u64) -> Option<Arrow> {
+    let device = scene.device;
+    let place = table.device_address(device, pointer)?;
     let section = Section {
         start: pointer,
         len: 8,
     };
-    let target = number_in(table.device_read(section)?);
+    let target = number_in(table.device_read(device, section)?);
     Some(Arrow {
-        from: row_at(rows, place)?,
-        to: row_at(rows, target)?,
+        from: row_at(&scene.rows, place)?,
+        to: row_at(&scene.rows, target)?,
         pointer,
         target,
         count: 1,

@@ -114,13 +114,10 @@ pub fn put_host_bar(page: &mut Page, y: u64, size: u64, ranges: &[Mapped]) {
     bar.put_last(page, last);
 }
 
-/// Puts the bar of the device, with its blocks.
-pub fn put_device_bar(page: &mut Page, y: u64, size: u64, entries: &[Entry]) {
-    let bar = Bar {
-        y,
-        base: DEVICE_BASE,
-        size,
-    };
+/// Puts the bar of a device, with its blocks.
+pub fn put_device_bar(page: &mut Page, y: u64, size: u64, device: u64, entries: &[Entry]) {
+    let base = DEVICE_BASE.saturating_mul(device.saturating_add(1));
+    let bar = Bar { y, base, size };
     bar.put_outline(page, "device");
     let mut last = None;
     for entry in entries {

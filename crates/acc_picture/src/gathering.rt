@@ -31,12 +31,12 @@ pub struct Entry {
     pub start: u64,
 }
 
-/// The mapped ranges, by rising host address.
-pub fn ranges_of(alloc: Global, table: &Table) -> Result<Vec<Mapped>, AllocError> {
+/// The mapped ranges of a device, by rising host address.
+pub fn ranges_of(alloc: Global, table: &Table, device: u64) -> Result<Vec<Mapped>, AllocError> {
     let mut ranges = Vec::new(alloc);
     let mut from = HOST_BASE;
     for _ in 0..u64::MAX {
-        let Some(mapped) = table.mapped(from) else {
+        let Some(mapped) = table.mapped(device, from) else {
             break;
         };
         ranges.push(mapped)?;
@@ -45,18 +45,19 @@ pub fn ranges_of(alloc: Global, table: &Table) -> Result<Vec<Mapped>, AllocError
     Ok(ranges)
 }
 
-/// The blocks and holes of the device, by rising device address.
+/// The blocks and holes of a device, by rising device address.
 pub fn entries_of(
     alloc: Global,
     table: &Table,
+    device: u64,
     ranges: &[Mapped],
 ) -> Result<Vec<Entry>, AllocError> {
     let mut by_place = BTreeMap::new(alloc);
     for mapped in ranges {
         by_place.insert(mapped.place, entry_of(*mapped))?;
     }
-    add_ended(table, &mut by_place)?;
-    add_holes(table, &mut by_place)?;
+    add_ended(table, device, &mut by_place)?;
+    add_holes(table, device, &mut by_place)?;
     let mut entries = Vec::new(alloc);
     for (_, entry) in by_place.iter() {
         entries.push(*entry)?;
@@ -77,10 +78,14 @@ fn entry_of(mapped: Mapped) -> Entry {
     }
 }
 
-fn add_ended(table: &Table, by_place: &mut BTreeMap<u64, Entry>) -> Result<(), AllocError> {
+fn add_ended(
+    table: &Table,
+    device: u64,
+    by_place: &mut BTreeMap<u64, Entry>,
+) -> Result<(), AllocError> {
     let mut from = 0;
     for _ in 0..u64::MAX {
-        let Some(ended) = table.ended(from) else {
+        let Some(ended) = table.ended(device, from) else {
             break;
         };
         let entry = Entry {
@@ -95,10 +100,14 @@ fn add_ended(table: &Table, by_place: &mut BTreeMap<u64, Entry>) -> Result<(), A
     Ok(())
 }
 
-fn add_holes(table: &Table, by_place: &mut BTreeMap<u64, Entry>) -> Result<(), AllocError> {
+fn add_holes(
+    table: &Table,
+    device: u64,
+    by_place: &mut BTreeMap<u64, Entry>,
+) -> Result<(), AllocError> {
     let mut from = 0;
     for _ in 0..u64::MAX {
-        let Some(hole) = table.hole(from) else {
+        let Some(hole) = table.hole(device, from) else {
             break;
         };
         let entry = Entry {
@@ -113,14 +122,14 @@ fn add_holes(table: &Table, by_place: &mut BTreeMap<u64, Entry>) -> Result<(), A
     Ok(())
 }
 
-/// How many attached pointers a mapped range has.
-pub fn pointers_in(table: &Table, mapped: Mapped) -> u64 {
+/// How many attached pointers a mapped range of a device has.
+pub fn pointers_in(table: &Table, device: u64, mapped: Mapped) -> u64 {
     let end = mapped.start.saturating_add(mapped.len);
     let mut count = 0;
     let mut start = mapped.start;
     for _ in 0..u64::MAX {
         let len = end.saturating_sub(start);
-        let Some(attached) = table.next_attached(Section { start, len }) else {
+        let Some(attached) = table.next_attached(device, Section { start, len }) else {
             break;
         };
         count = u64::saturating_add(count, 1);

@@ -34,8 +34,8 @@ pub struct HostRow {
     pointers: u64,
 }
 
-/// The row of some mapped ranges that lie one behind the other, if there are any.
-pub fn host_row(table: &Table, ranges: &[Mapped]) -> Option<HostRow> {
+/// The row of some mapped ranges of a device that lie one behind the other, if there are any.
+pub fn host_row(table: &Table, device: u64, ranges: &[Mapped]) -> Option<HostRow> {
     let first = ranges.first()?;
     let last = ranges.last()?;
     let mut row = HostRow {
@@ -49,7 +49,7 @@ pub fn host_row(table: &Table, ranges: &[Mapped]) -> Option<HostRow> {
         pointers: 0,
     };
     for mapped in ranges {
-        row.add(*mapped, pointers_in(table, *mapped));
+        row.add(*mapped, pointers_in(table, device, *mapped));
     }
     Some(row)
 }

@@ -10,7 +10,7 @@ text { font-family: monospace; font-size: 11px; fill: #202020; }
 .title { font-size: 14px; font-weight: bold; }
 .name { font-weight: bold; }
 rect { stroke: #404040; stroke-width: 1; }
-.paper { fill: #ffffff; stroke: none; }
+.background { fill: #ffffff; stroke: none; }
 .bar { fill: #f4f4f4; }
 .mapped { fill: #b7d3ee; }
 .lent { fill: #f6d68a; }

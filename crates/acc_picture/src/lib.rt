@@ -1,4 +1,5 @@
-//! A picture of the two memories of a table, as a file of SVG that a browser opens.
+//! A picture of host memory and of a device's memory, as a file of SVG that a browser opens; with several devices there is
+//! one of each, below one another.
 //!
 //! It has two bars to scale, and below them the mapped ranges and the device's blocks and holes as rows, in the order of
 //! their addresses and not to scale, so that each has room for its text. Where there are many, neighbours share a row.
@@ -13,6 +14,7 @@ mod legends;
 mod links;
 mod pictures;
 mod places;
+mod scenes;
 mod shapes;
 
 pub use pictures::{Caption, put_picture};

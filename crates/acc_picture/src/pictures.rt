@@ -2,16 +2,15 @@
 
 use crate::arrows::put_arrows;
 use crate::bars::{put_device_bar, put_host_bar};
-use crate::device_rows::{DeviceRow, device_row};
-use crate::gathering::{Entry, entries_of, ranges_of};
 use crate::host_rows::{HostRow, host_row};
 use crate::legends::{STYLE, put_legend};
 use crate::links::put_links;
-use crate::places::{DEVICE_X, HOST_X, MARGIN, ROWS_Y, WIDTH, group_size, row_y};
-use crate::shapes::{Area, Point, close_text, open_text, put_box, put_text};
+use crate::places::{DEVICE_X, HOST_X, MARGIN, ROWS_Y, WIDTH, group_size};
+use crate::scenes::Scene;
+use crate::shapes::{Area, Point, close_group, close_text, open_text, put_box, put_text};
 use acc_base::QUEUE_COUNT;
 use acc_page::{Names, Page};
-use acc_table::{Mapped, Table};
+use acc_table::Table;
 use std::alloc::{AllocError, Global};
 
 /// When the picture was made.
@@ -31,7 +30,7 @@ pub enum Caption<'a> {
 /// How many letters of a statement are shown at most.
 const STATEMENT_LIMIT: usize = 120;
 
-/// Puts the picture of the two memories of a table.
+/// Puts the picture of host memory and of the devices of a table: that of each device stands below the one before.
 ///
 /// # Errors
 ///
@@ -43,25 +42,59 @@ pub fn put_picture(
     names: &Names,
     caption: Caption<'_>,
 ) -> Result<(), AllocError> {
-    let ranges = ranges_of(alloc, table)?;
-    let entries = entries_of(alloc, table, &ranges)?;
-    let rows = device_rows(alloc, &entries)?;
-    let host_count = ranges.len().div_ceil(group_size(ranges.len()));
-    open_picture(
-        page,
-        row_y(host_count.max(rows.len())).saturating_add(MARGIN),
-    );
-    put_head(page, table, caption);
-    put_bars(page, table, &ranges, &entries);
-    put_legend(page, 146);
-    put_columns(page);
-    put_host_rows(page, alloc, table, names, &rows, &ranges);
-    for (nth, row) in rows.iter().enumerate() {
-        row.put(page, nth);
+    let mut scenes = Vec::new(alloc);
+    let mut height = 0;
+    for device in 0..table.config().devices() {
+        let scene = Scene::new(alloc, table, device)?;
+        height = u64::saturating_add(height, scene.height());
+        scenes.push(scene)?;
     }
-    put_arrows(page, alloc, table, names, &rows, &ranges)?;
+    open_picture(page, height);
+    let mut y = 0;
+    for scene in &scenes {
+        open_scene(page, y);
+        put_scene(page, alloc, table, names, caption, scene)?;
+        close_scene(page, y);
+        y = u64::saturating_add(y, scene.height());
+    }
     page.text("</svg>\n");
     Ok(())
+}
+
+/// Puts the picture of one device.
+fn put_scene(
+    page: &mut Page,
+    alloc: Global,
+    table: &Table,
+    names: &Names,
+    caption: Caption<'_>,
+    scene: &Scene,
+) -> Result<(), AllocError> {
+    put_head(page, table, scene.device, caption);
+    put_bars(page, table, scene);
+    put_legend(page, 146);
+    put_columns(page);
+    put_host_rows(page, alloc, table, names, scene);
+    for (nth, row) in scene.rows.iter().enumerate() {
+        row.put(page, nth);
+    }
+    put_arrows(page, alloc, table, names, scene)
+}
+
+/// Moves what follows so far down.
+fn open_scene(page: &mut Page, y: u64) {
+    if y > 0 {
+        page.text("<g transform=\"translate(0 ");
+        page.number(y);
+        page.text(")\">\n");
+    }
+}
+
+/// Ends what was moved down.
+fn close_scene(page: &mut Page, y: u64) {
+    if y > 0 {
+        close_group(page);
+    }
 }
 
 /// Puts what stands before all shapes.
@@ -79,7 +112,7 @@ fn open_picture(page: &mut Page, height: u64) {
     let (x, y, width) = (0, 0, WIDTH);
     put_box(
         page,
-        "paper",
+        "background",
         Area {
             x,
             y,
@@ -90,16 +123,26 @@ fn open_picture(page: &mut Page, height: u64) {
 }
 
 /// Puts when it was made, and the sums.
-fn put_head(page: &mut Page, table: &Table, caption: Caption<'_>) {
+fn put_head(page: &mut Page, table: &Table, device: u64, caption: Caption<'_>) {
     open_text(page, "title", Point { x: MARGIN, y: 26 });
+    put_device(page, table, device);
     put_caption(page, caption);
     close_text(page);
     open_text(page, "number", Point { x: MARGIN, y: 46 });
-    put_sums(page, table);
+    put_sums(page, table, device);
     close_text(page);
     open_text(page, "number", Point { x: MARGIN, y: 62 });
-    put_queues(page, table);
+    put_queues(page, table, device);
     close_text(page);
+}
+
+/// Puts which device it is, where there are several.
+fn put_device(page: &mut Page, table: &Table, device: u64) {
+    if table.config().devices() > 1 {
+        page.text("Device ");
+        page.number(device);
+        page.text(". ");
+    }
 }
 
 fn put_caption(page: &mut Page, caption: Caption<'_>) {
@@ -117,21 +160,21 @@ fn put_caption(page: &mut Page, caption: Caption<'_>) {
     }
 }
 
-fn put_sums(page: &mut Page, table: &Table) {
+fn put_sums(page: &mut Page, table: &Table, device: u64) {
     page.text("device bytes used ");
-    page.number(table.used());
+    page.number(table.used(device));
     page.text(", open regions ");
     page.number(table.regions());
     page.text(", events ");
     page.number(table.events());
 }
 
-/// Puts how many copies wait in each queue that is not empty.
-fn put_queues(page: &mut Page, table: &Table) {
+/// Puts how many copies wait in each queue of the device that is not empty.
+fn put_queues(page: &mut Page, table: &Table, device: u64) {
     page.text("copies that wait");
     let mut none = true;
     for queue in 0..QUEUE_COUNT {
-        let len = table.queue_len(queue);
+        let len = table.queue_len(device, queue);
         if len > 0 {
             page.text(if none { ", queue by queue: " } else { ", " });
             put_queue(page, queue, len);
@@ -150,10 +193,10 @@ fn put_queue(page: &mut Page, queue: u64, len: u64) {
 }
 
 /// Puts the two memories to scale.
-fn put_bars(page: &mut Page, table: &Table, ranges: &[Mapped], entries: &[Entry]) {
+fn put_bars(page: &mut Page, table: &Table, scene: &Scene) {
     let config = table.config();
-    put_host_bar(page, 78, config.host(), ranges);
-    put_device_bar(page, 110, config.device(), entries);
+    put_host_bar(page, 78, config.host(), &scene.ranges);
+    put_device_bar(page, 110, config.device(), scene.device, &scene.entries);
 }
 
 /// Puts what the two columns are.
@@ -173,30 +216,13 @@ fn put_columns(page: &mut Page) {
     );
 }
 
-/// The rows of the device.
-fn device_rows(alloc: Global, entries: &[Entry]) -> Result<Vec<DeviceRow>, AllocError> {
-    let mut rows = Vec::new(alloc);
-    for group in entries.chunks(group_size(entries.len())) {
-        if let Some(row) = device_row(group) {
-            rows.push(row)?;
-        }
-    }
-    Ok(rows)
-}
-
 /// Puts the rows of host memory with their lines to the device.
-fn put_host_rows(
-    page: &mut Page,
-    alloc: Global,
-    table: &Table,
-    names: &Names,
-    rows: &[DeviceRow],
-    ranges: &[Mapped],
-) {
+fn put_host_rows(page: &mut Page, alloc: Global, table: &Table, names: &Names, scene: &Scene) {
+    let ranges = &scene.ranges;
     let mut before = None;
     for (nth, group) in ranges.chunks(group_size(ranges.len())).enumerate() {
-        if let Some(row) = host_row(table, group) {
-            put_links(page, rows, group, nth);
+        if let Some(row) = host_row(table, scene.device, group) {
+            put_links(page, &scene.rows, group, nth);
             put_host_row(page, alloc, names, nth, row, before);
             before = Some(row);
         }

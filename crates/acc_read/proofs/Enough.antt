@@ -17,7 +17,7 @@ use Rattle.acc_read.specs.Tokens.{is_word_byte, is_blank, word_len, skip_blanks,
 use Rattle.acc_read.specs.Layout.{ArrayLayout, array_of}
 use Rattle.acc_read.specs.Places.{known_at, offset_at, address_at, part_at, section_at}
 use Rattle.acc_read.specs.Items.{via_at, aim_at, named_at}
-use Rattle.acc_read.specs.Queues.{queue_number_at, async_queue_at}
+use Rattle.acc_read.specs.Queues.{enclosed_number_at, async_queue_at}
 use Rattle.acc_read.specs.Grammar.{Grammar}
 use Rattle.acc_read.specs.Clauses.{item_at, items_at, modifier_at, modified_at, group_at, ClausesRead, listed, queued, clause_at, goes_on, all_clauses_at}
 use Rattle.acc_read.proofs.Repeated.{after_step}
@@ -140,7 +140,7 @@ named_leaves Pointers layout text = steps unread unread _ _ _ _ (address_leaves 
 
 -- the queue of `async` makes no text longer
 queue_leaves : (text : List ℕ) → LeavesText unread (length text + 1) (async_queue_at text)
-unfolding async_queue_at queue_number_at
+unfolding async_queue_at enclosed_number_at
 queue_leaves text = either unread _ (is_mark_next left_parenthesis text) _ _ (steps alone unread _ _ _ _ (mark_leaves left_parenthesis text) (λ inside l0. steps unread unread _ _ _ _ (number_leaves number_limit inside) (λ number l1. steps alone unread _ _ _ _ (mark_leaves right_parenthesis number.1) (λ close l2. omega arith)))) (omega arith)
 
 -- ---- one or more

@@ -17,25 +17,25 @@ wants_made needs f h (Ok x) right = h x
 wants_made needs f h (Err kind) right = absurd cc
 
 -- the clauses of `data` are right where they want memory
-pub data_wants : (layout : ArrayLayout) (text : List ℕ)
-    → wants always (clauses_at region_grammar layout text) ≡ true → wants takes_memory (data_at layout text) ≡ true
+pub data_wants : (layout : ArrayLayout) (device : ℕ) (text : List ℕ)
+    → wants always (clauses_at region_grammar layout text) ≡ true → wants takes_memory (data_at layout device text) ≡ true
 unfolding data_at
-data_wants layout text right = wants_made takes_memory (λ read. Direct (Enter read.items)) (λ read. refl) (clauses_at region_grammar layout text) right
+data_wants layout device text right = wants_made takes_memory (λ read. Direct (Enter device read.items)) (λ read. refl) (clauses_at region_grammar layout text) right
 
 -- the clauses of `enter data` are right where they want memory
-pub enter_wants : (layout : ArrayLayout) (text rest : List ℕ) → keyword_at (codes "data") text ≡ Ok rest
-    → wants always (clauses_at enter_grammar layout rest) ≡ true → wants takes_memory (enter_at layout text) ≡ true
+pub enter_wants : (layout : ArrayLayout) (device : ℕ) (text rest : List ℕ) → keyword_at (codes "data") text ≡ Ok rest
+    → wants always (clauses_at enter_grammar layout rest) ≡ true → wants takes_memory (enter_at layout device text) ≡ true
 unfolding enter_at
-enter_wants layout text rest e right = rw e (wants_made takes_memory (λ read. Direct (EnterData read.items read.queue)) (λ read. refl) (clauses_at enter_grammar layout rest) right)
+enter_wants layout device text rest e right = rw e (wants_made takes_memory (λ read. Direct (EnterData device read.items read.queue)) (λ read. refl) (clauses_at enter_grammar layout rest) right)
 
 -- the clauses of `exit data` are right where they want memory
-pub exit_wants : (layout : ArrayLayout) (text rest : List ℕ) → keyword_at (codes "data") text ≡ Ok rest
-    → wants always (clauses_at exit_grammar layout rest) ≡ true → wants takes_memory (exit_at layout text) ≡ true
+pub exit_wants : (layout : ArrayLayout) (device : ℕ) (text rest : List ℕ) → keyword_at (codes "data") text ≡ Ok rest
+    → wants always (clauses_at exit_grammar layout rest) ≡ true → wants takes_memory (exit_at layout device text) ≡ true
 unfolding exit_at
-exit_wants layout text rest e right = rw e (wants_made takes_memory (λ read. Direct (ExitData read.items read.has_option read.queue)) (λ read. refl) (clauses_at exit_grammar layout rest) right)
+exit_wants layout device text rest e right = rw e (wants_made takes_memory (λ read. Direct (ExitData device read.items read.has_option read.queue)) (λ read. refl) (clauses_at exit_grammar layout rest) right)
 
 -- the clauses of `update` are right where they want memory
-pub update_wants : (layout : ArrayLayout) (text : List ℕ)
-    → wants always (clauses_at update_grammar layout text) ≡ true → wants takes_memory (update_at layout text) ≡ true
+pub update_wants : (layout : ArrayLayout) (device : ℕ) (text : List ℕ)
+    → wants always (clauses_at update_grammar layout text) ≡ true → wants takes_memory (update_at layout device text) ≡ true
 unfolding update_at
-update_wants layout text right = wants_made takes_memory (λ read. Direct (Update read.items read.has_option read.queue)) (λ read. refl) (clauses_at update_grammar layout text) right
+update_wants layout device text right = wants_made takes_memory (λ read. Direct (Update device read.items read.has_option read.queue)) (λ read. refl) (clauses_at update_grammar layout text) right

@@ -6,13 +6,14 @@ use Rattle.acc_read.specs.declared.clauses.Unfinished.{Unfinished}
 use Rattle.acc_read.specs.declared.statements.Statement.{Statement}
 use Rattle.acc_read.specs.declared.statements.Statement.TheVariants as code
 use Rattle.acc_read.specs.Clauses.{ClausesRead}
-use Rattle.acc_read.specs.Statements.{Meaning, Blank, Declare, Direct, Kernel, Write, Show, Peek, Present, Address, Report}
+use Rattle.acc_read.specs.Statements.{Meaning, Blank, Declare, Direct, Select, Kernel, Write, Show, Peek, Present, Address, Report}
 
 -- what a statement says
 abbrev pub meaning_of : Statement → Meaning
 meaning_of code.Blank = Blank
 meaning_of (code.Declare name array) = Declare name.now array
 meaning_of (code.Direct directive) = Direct directive
+meaning_of (code.Select device) = Select device
 meaning_of (code.Kernel region kernel section) = Kernel region kernel section
 meaning_of (code.Write addr bytes) = Write addr bytes
 meaning_of (code.Show section) = Show section

@@ -14,7 +14,7 @@ use Rattle.acc_read.specs.Reading.{◌>>=◌}
 use Rattle.acc_read.specs.Tokens.{word_at, keyword_at, name_at, number_at, number_limit, is_at_end, tab}
 use Rattle.acc_read.specs.Layout.{ArrayLayout, array_of, next_array}
 use Rattle.acc_read.specs.Places.{address_at, last_address_at, last_section_at}
-use Rattle.acc_read.specs.Queues.{last_queue_at}
+use Rattle.acc_read.specs.Queues.{last_enclosed_at}
 use Rattle.acc_read.specs.Bytes.{bytes_said}
 use Rattle.acc_read.specs.Grammar.{region_grammar, enter_grammar, exit_grammar, update_grammar}
 use Rattle.acc_read.specs.Clauses.{clauses_at}
@@ -25,6 +25,7 @@ pub data Meaning : Type 0 where
   Blank : Meaning
   Declare : (name : List ℕ) (array : Array) → Meaning
   Direct : (directive : Directive) → Meaning
+  Select : (device : ℕ) → Meaning
   Kernel : (region : ℕ) (kernel : ScriptKernel) (section : Section) → Meaning
   Write : (addr : ℕ) (bytes : List ℕ) → Meaning
   Show : (section : Section) → Meaning
@@ -36,8 +37,8 @@ pub data Meaning : Type 0 where
 -- a directive with clauses, whose items are a list
 abbrev pub has_items : Directive → Bool
 has_items (Exit number) = false
-has_items (Wait queue) = false
-has_items (Step queue) = false
+has_items (Wait device queue) = false
+has_items (Step device queue) = false
 has_items d = true
 
 -- a statement that takes memory to read: a directive with clauses, and a write, whose bytes are a list
@@ -66,13 +67,13 @@ array_at layout text = do
   name ← name_at text
   if is_some (array_of name.0 layout) then Err NameTaken else length_at name.0 layout name.1
 
--- ---- directives
+-- ---- directives, each of the current device but for `end data`
 
 -- `data CLAUSES` (OpenACC 3.3, the data construct)
-unfoldable pub data_at : ArrayLayout → List ℕ → Result Meaning ScriptFault
-data_at layout text = do
+unfoldable pub data_at : ArrayLayout → ℕ → List ℕ → Result Meaning ScriptFault
+data_at layout device text = do
   read ← clauses_at region_grammar layout text
-  Ok (Direct (Enter read.items))
+  Ok (Direct (Enter device read.items))
 
 -- the exit from the innermost open region, where one is open
 abbrev pub exited : Option ℕ → Result Meaning ScriptFault
@@ -87,40 +88,47 @@ end_at innermost text = do
   if is_at_end rest then exited innermost else Err Syntax
 
 -- `enter data CLAUSES`, with the option `async` (OpenACC 3.3, the enter data directive)
-unfoldable pub enter_at : ArrayLayout → List ℕ → Result Meaning ScriptFault
-enter_at layout text = do
+unfoldable pub enter_at : ArrayLayout → ℕ → List ℕ → Result Meaning ScriptFault
+enter_at layout device text = do
   rest ← keyword_at (codes "data") text
   read ← clauses_at enter_grammar layout rest
-  Ok (Direct (EnterData read.items read.queue))
+  Ok (Direct (EnterData device read.items read.queue))
 
 -- `exit data CLAUSES`, with the options `finalize` and `async` (OpenACC 3.3, the exit data directive)
-unfoldable pub exit_at : ArrayLayout → List ℕ → Result Meaning ScriptFault
-exit_at layout text = do
+unfoldable pub exit_at : ArrayLayout → ℕ → List ℕ → Result Meaning ScriptFault
+exit_at layout device text = do
   rest ← keyword_at (codes "data") text
   read ← clauses_at exit_grammar layout rest
-  Ok (Direct (ExitData read.items read.has_option read.queue))
+  Ok (Direct (ExitData device read.items read.has_option read.queue))
 
 -- `update CLAUSES`, with the options `if_present` and `async` (OpenACC 3.3, the update directive)
-unfoldable pub update_at : ArrayLayout → List ℕ → Result Meaning ScriptFault
-update_at layout text = do
+unfoldable pub update_at : ArrayLayout → ℕ → List ℕ → Result Meaning ScriptFault
+update_at layout device text = do
   read ← clauses_at update_grammar layout text
-  Ok (Direct (Update read.items read.has_option read.queue))
+  Ok (Direct (Update device read.items read.has_option read.queue))
 
 -- `wait(N)`, of one queue
-unfoldable pub wait_one_at : List ℕ → Result Meaning ScriptFault
-wait_one_at text = do
-  queue ← last_queue_at text
-  Ok (Direct (Wait (Some queue)))
+unfoldable pub wait_one_at : ℕ → List ℕ → Result Meaning ScriptFault
+wait_one_at device text = do
+  queue ← last_enclosed_at text
+  Ok (Direct (Wait device (Some queue)))
 
 -- `wait`, of all queues, or `wait(N)` (OpenACC 3.3, the wait directive)
-unfoldable pub wait_at : List ℕ → Result Meaning ScriptFault
-wait_at text = if is_at_end text then Ok (Direct (Wait None)) else wait_one_at text
+unfoldable pub wait_at : ℕ → List ℕ → Result Meaning ScriptFault
+wait_at device text = if is_at_end text then Ok (Direct (Wait device None)) else wait_one_at device text
 
 -- `step(N)`: the next transfer of a queue is made (OpenACC 3.3, section 2.16, asynchronous behavior)
-unfoldable pub step_at : List ℕ → Result Meaning ScriptFault
-step_at text = do
-  queue ← last_queue_at text
-  Ok (Direct (Step queue))
+unfoldable pub step_at : ℕ → List ℕ → Result Meaning ScriptFault
+step_at device text = do
+  queue ← last_enclosed_at text
+  Ok (Direct (Step device queue))
+
+-- `set device_num(N)`: later lines are of another device (OpenACC 3.3, the set directive)
+unfoldable pub select_at : List ℕ → Result Meaning ScriptFault
+select_at text = do
+  rest ← keyword_at (codes "device_num") text
+  device ← last_enclosed_at rest
+  Ok (Select device)
 
 -- ---- kernels
 
@@ -173,18 +181,19 @@ question_at word layout text =
 
 -- ---- a statement
 
--- a statement, by its first word
-unfoldable pub statement_at : ArrayLayout → Option ℕ → List ℕ → Result Meaning ScriptFault
-statement_at layout innermost text = do
+-- a statement, by its first word, of the current device
+unfoldable pub statement_at : ArrayLayout → ℕ → Option ℕ → List ℕ → Result Meaning ScriptFault
+statement_at layout device innermost text = do
   word ← word_at text
   if bytes_eq word.0 (codes "array") then array_at layout word.1
-      else if bytes_eq word.0 (codes "data") then data_at layout word.1
+      else if bytes_eq word.0 (codes "data") then data_at layout device word.1
       else if bytes_eq word.0 (codes "end") then end_at innermost word.1
-      else if bytes_eq word.0 (codes "enter") then enter_at layout word.1
-      else if bytes_eq word.0 (codes "exit") then exit_at layout word.1
-      else if bytes_eq word.0 (codes "update") then update_at layout word.1
-      else if bytes_eq word.0 (codes "wait") then wait_at word.1
-      else if bytes_eq word.0 (codes "step") then step_at word.1
+      else if bytes_eq word.0 (codes "enter") then enter_at layout device word.1
+      else if bytes_eq word.0 (codes "exit") then exit_at layout device word.1
+      else if bytes_eq word.0 (codes "update") then update_at layout device word.1
+      else if bytes_eq word.0 (codes "wait") then wait_at device word.1
+      else if bytes_eq word.0 (codes "step") then step_at device word.1
+      else if bytes_eq word.0 (codes "set") then select_at word.1
       else if bytes_eq word.0 (codes "kernel") then kernel_at layout innermost word.1
       else if bytes_eq word.0 (codes "write") then write_at layout word.1
       else if bytes_eq word.0 (codes "point") then point_at layout word.1
@@ -208,10 +217,10 @@ before_comment line = before_first (λ b. b == hash) line
 abbrev pub line_limit : ℕ
 line_limit = 4096
 
--- what a line asks for, where the innermost open region has a number, if one is open; a line that is too long is told
--- first, then a byte that is no text
-unfoldable pub line_at : ArrayLayout → Option ℕ → List ℕ → Result Meaning ScriptFault
-line_at layout innermost line = if nat_lt line_limit (length line) then Err TooLong
+-- what a line asks for, where the current device has a number, and the innermost open region one, if one is open; a line
+-- that is too long is told first, then a byte that is no text
+unfoldable pub line_at : ArrayLayout → ℕ → Option ℕ → List ℕ → Result Meaning ScriptFault
+line_at layout device innermost line = if nat_lt line_limit (length line) then Err TooLong
     else if not (list_all is_text_byte (before_comment line)) then Err NotText
     else if is_at_end (before_comment line) then Ok Blank
-    else statement_at layout innermost (before_comment line)
+    else statement_at layout device innermost (before_comment line)

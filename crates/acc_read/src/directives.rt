@@ -1,25 +1,30 @@
-//! The directives of a script.
+//! The directives of a script, and which device they are for.
 
 ghost use Rattle.acc_read.specs.Reading.{Reads, Gives};
-ghost use Rattle.acc_read.specs.Statements.{data_at, end_at, enter_at, exit_at, update_at, wait_one_at, wait_at, step_at, takes_memory};
+ghost use Rattle.acc_read.specs.Statements.{data_at, end_at, enter_at, exit_at, update_at, wait_one_at, wait_at, step_at, select_at, takes_memory};
 ghost use Rattle.acc_read.specs.Meanings.{meaning_of};
 
 use crate::arrays::Arrays;
 use crate::clauses::clauses_at;
-use crate::queues::last_queue_at;
+use crate::queues::last_enclosed_at;
 use crate::statements::Statement;
 use crate::tokens::{is_at_end, keyword_at};
 use crate::troubles::Trouble;
 use acc_base::{Directive, List, ScriptFault};
 use std::alloc::Global;
 
-/// The start of a `data` construct.
+/// The start of a `data` construct on a device.
 #[tactic(auto, unfolding(crate::specs::Statements::data_at), using(crate::proofs::Wanting::data_wants))]
-pub fn data_at(alloc: Global, arrays: &Arrays, text: &[u8]) -> Result<Statement<'static>, Trouble>
-    ensures { Gives takes_memory meaning_of result (data_at arrays.now text.now) }
+pub fn data_at(
+    alloc: Global,
+    arrays: &Arrays,
+    device: u64,
+    text: &[u8],
+) -> Result<Statement<'static>, Trouble>
+    ensures { Gives takes_memory meaning_of result (data_at arrays.now device text.now) }
 {
     let items = List::from_vec(clauses_at(alloc, arrays, text)?.items);
-    Ok(Statement::Direct(Directive::Enter { items }))
+    Ok(Statement::Direct(Directive::Enter { device, items }))
 }
 
 /// The end of the `data` construct whose region is the innermost open one.
@@ -35,71 +40,102 @@ pub fn end_at(innermost: Option<u64>, text: &[u8]) -> Result<Statement<'static>,
     Ok(Statement::Direct(Directive::Exit { number }))
 }
 
-/// The `enter data` directive.
+/// The `enter data` directive, on a device.
 #[tactic(auto, unfolding(crate::specs::Statements::enter_at), using(crate::proofs::Wanting::enter_wants))]
-pub fn enter_at(alloc: Global, arrays: &Arrays, text: &[u8]) -> Result<Statement<'static>, Trouble>
-    ensures { Gives takes_memory meaning_of result (enter_at arrays.now text.now) }
+pub fn enter_at(
+    alloc: Global,
+    arrays: &Arrays,
+    device: u64,
+    text: &[u8],
+) -> Result<Statement<'static>, Trouble>
+    ensures { Gives takes_memory meaning_of result (enter_at arrays.now device text.now) }
 {
     let rest = keyword_at("data", text)?;
     let clauses = clauses_at(alloc, arrays, rest)?;
     Ok(Statement::Direct(Directive::EnterData {
+        device,
         queue: clauses.queue,
         items: List::from_vec(clauses.items),
     }))
 }
 
-/// The `exit data` directive.
+/// The `exit data` directive, on a device.
 #[tactic(auto, unfolding(crate::specs::Statements::exit_at), using(crate::proofs::Wanting::exit_wants))]
-pub fn exit_at(alloc: Global, arrays: &Arrays, text: &[u8]) -> Result<Statement<'static>, Trouble>
-    ensures { Gives takes_memory meaning_of result (exit_at arrays.now text.now) }
+pub fn exit_at(
+    alloc: Global,
+    arrays: &Arrays,
+    device: u64,
+    text: &[u8],
+) -> Result<Statement<'static>, Trouble>
+    ensures { Gives takes_memory meaning_of result (exit_at arrays.now device text.now) }
 {
     let rest = keyword_at("data", text)?;
     let clauses = clauses_at(alloc, arrays, rest)?;
     Ok(Statement::Direct(Directive::ExitData {
+        device,
         finalize: clauses.has_option,
         queue: clauses.queue,
         items: List::from_vec(clauses.items),
     }))
 }
 
-/// The `update` directive.
+/// The `update` directive, on a device.
 #[tactic(auto, unfolding(crate::specs::Statements::update_at), using(crate::proofs::Wanting::update_wants))]
-pub fn update_at(alloc: Global, arrays: &Arrays, text: &[u8]) -> Result<Statement<'static>, Trouble>
-    ensures { Gives takes_memory meaning_of result (update_at arrays.now text.now) }
+pub fn update_at(
+    alloc: Global,
+    arrays: &Arrays,
+    device: u64,
+    text: &[u8],
+) -> Result<Statement<'static>, Trouble>
+    ensures { Gives takes_memory meaning_of result (update_at arrays.now device text.now) }
 {
     let clauses = clauses_at(alloc, arrays, text)?;
     Ok(Statement::Direct(Directive::Update {
+        device,
         if_present: clauses.has_option,
         queue: clauses.queue,
         items: List::from_vec(clauses.items),
     }))
 }
 
-/// The `wait` directive, of one queue.
+/// The `wait` directive, of one queue of a device.
 #[tactic(auto, unfolding(crate::specs::Statements::wait_one_at))]
-fn wait_one_at(text: &[u8]) -> Result<Statement<'static>, ScriptFault>
-    ensures { Reads meaning_of result (wait_one_at text.now) }
+fn wait_one_at(device: u64, text: &[u8]) -> Result<Statement<'static>, ScriptFault>
+    ensures { Reads meaning_of result (wait_one_at device text.now) }
 {
-    let queue = Some(last_queue_at(text)?);
-    Ok(Statement::Direct(Directive::Wait { queue }))
+    let queue = Some(last_enclosed_at(text)?);
+    Ok(Statement::Direct(Directive::Wait { device, queue }))
 }
 
-/// The `wait` directive, of one queue or of all.
+/// The `wait` directive, of one queue of a device or of all.
 #[tactic(auto, unfolding(crate::specs::Statements::wait_at))]
-pub fn wait_at(text: &[u8]) -> Result<Statement<'static>, ScriptFault>
-    ensures { Reads meaning_of result (wait_at text.now) }
+pub fn wait_at(device: u64, text: &[u8]) -> Result<Statement<'static>, ScriptFault>
+    ensures { Reads meaning_of result (wait_at device text.now) }
 {
     if is_at_end(text) {
-        return Ok(Statement::Direct(Directive::Wait { queue: None }));
+        return Ok(Statement::Direct(Directive::Wait {
+            device,
+            queue: None,
+        }));
     }
-    wait_one_at(text)
+    wait_one_at(device, text)
 }
 
-/// The step of a queue.
+/// The step of a queue of a device.
 #[tactic(auto, unfolding(crate::specs::Statements::step_at))]
-pub fn step_at(text: &[u8]) -> Result<Statement<'static>, ScriptFault>
-    ensures { Reads meaning_of result (step_at text.now) }
+pub fn step_at(device: u64, text: &[u8]) -> Result<Statement<'static>, ScriptFault>
+    ensures { Reads meaning_of result (step_at device text.now) }
 {
-    let queue = last_queue_at(text)?;
-    Ok(Statement::Direct(Directive::Step { queue }))
+    let queue = last_enclosed_at(text)?;
+    Ok(Statement::Direct(Directive::Step { device, queue }))
+}
+
+/// The `set` directive, which chooses the device that later lines are for.
+#[tactic(auto, unfolding(crate::specs::Statements::select_at))]
+pub fn select_at(text: &[u8]) -> Result<Statement<'static>, ScriptFault>
+    ensures { Reads meaning_of result (select_at text.now) }
+{
+    let rest = keyword_at("device_num", text)?;
+    let device = last_enclosed_at(rest)?;
+    Ok(Statement::Select(device))
 }

@@ -1,15 +1,15 @@
-//! The queues that options and statements name.
+//! Numbers in parentheses: of the queues that options and statements name, and of devices.
 
 ghost use Rattle.acc_read.specs.Reading.{Reads};
-ghost use Rattle.acc_read.specs.Queues.{queue_number_at, async_queue_at, last_queue_at};
+ghost use Rattle.acc_read.specs.Queues.{enclosed_number_at, async_queue_at, last_enclosed_at};
 
 use crate::tokens::{is_at_end, is_mark_next, mark_at, number_at};
 use acc_base::ScriptFault;
 
-/// The number of a queue in parentheses, and the text after it.
-#[tactic(auto, unfolding(crate::specs::Queues::queue_number_at))]
-fn queue_number_at(text: &[u8]) -> Result<(u64, &[u8]), ScriptFault>
-    ensures { Reads (λ x. (x.0, x.1.now)) result (queue_number_at text.now) }
+/// A number in parentheses, and the text after it.
+#[tactic(auto, unfolding(crate::specs::Queues::enclosed_number_at))]
+fn enclosed_number_at(text: &[u8]) -> Result<(u64, &[u8]), ScriptFault>
+    ensures { Reads (λ x. (x.0, x.1.now)) result (enclosed_number_at text.now) }
 {
     let inside = mark_at(b'(', text)?;
     let (number, rest) = number_at(u32::MAX, inside)?;
@@ -24,20 +24,20 @@ pub fn async_queue_at(text: &[u8]) -> Result<(u64, &[u8]), ScriptFault>
     ensures { Reads (λ x. (x.0, x.1.now)) result (async_queue_at text.now) }
 {
     if is_mark_next(b'(', text) {
-        queue_number_at(text)
+        enclosed_number_at(text)
     } else {
         Ok((0, text))
     }
 }
 
-/// The number of a queue in parentheses, up to the end of the line.
-#[tactic(auto, unfolding(crate::specs::Queues::last_queue_at))]
-pub fn last_queue_at(text: &[u8]) -> Result<u64, ScriptFault>
-    ensures { Reads (λ x. x) result (last_queue_at text.now) }
+/// A number in parentheses, up to the end of the line.
+#[tactic(auto, unfolding(crate::specs::Queues::last_enclosed_at))]
+pub fn last_enclosed_at(text: &[u8]) -> Result<u64, ScriptFault>
+    ensures { Reads (λ x. x) result (last_enclosed_at text.now) }
 {
-    let (queue, rest) = queue_number_at(text)?;
+    let (number, rest) = enclosed_number_at(text)?;
     if !is_at_end(rest) {
         return Err(ScriptFault::Syntax);
     }
-    Ok(queue)
+    Ok(number)
 }

@@ -7,7 +7,9 @@ ghost use Rattle.acc_read.specs.Statements.{length_at, array_at, question_at, st
 ghost use Rattle.acc_read.specs.Meanings.{meaning_of};
 
 use crate::arrays::{Array, Arrays};
-use crate::directives::{data_at, end_at, enter_at, exit_at, step_at, update_at, wait_at};
+use crate::directives::{
+    data_at, end_at, enter_at, exit_at, select_at, step_at, update_at, wait_at,
+};
 use crate::kernels::{ScriptKernel, kernel_at};
 use crate::places::{last_address_at, last_section_at};
 use crate::tokens::{is_at_end, is_text, name_at, number_at, word_at};
@@ -33,6 +35,8 @@ pub enum Statement<'a> {
     },
     /// A directive.
     Direct(Directive),
+    /// The number of the device that later lines are for (OpenACC 3.3, the set directive).
+    Select(u64),
     /// A kernel, run on the device.
     Kernel {
         /// The number of the innermost open region.
@@ -61,15 +65,17 @@ pub enum Statement<'a> {
     Report,
 }
 
-/// What a line asks for, or its first fault. `innermost` is the number of the innermost open region, if one is open.
+/// What a line asks for, or its first fault. `device` is the number of the current device, which its directive is for, and
+/// `innermost` that of the innermost open region, if one is open.
 #[tactic(auto, unfolding(crate::specs::Statements::line_at))]
 pub fn line_at<'a>(
     alloc: Global,
     arrays: &Arrays,
+    device: u64,
     innermost: Option<u64>,
     line: &'a [u8],
 ) -> Result<Statement<'a>, Trouble>
-    ensures { Gives takes_memory meaning_of result (line_at arrays.now innermost line.now) }
+    ensures { Gives takes_memory meaning_of result (line_at arrays.now device innermost line.now) }
 {
     if line.len() > LINE_LIMIT {
         return Err(Trouble::Line(ScriptFault::TooLong));
@@ -81,7 +87,7 @@ pub fn line_at<'a>(
     if is_at_end(text) {
         return Ok(Statement::Blank);
     }
-    statement_at(alloc, arrays, innermost, text)
+    statement_at(alloc, arrays, device, innermost, text)
 }
 
 /// What stands before a comment.
@@ -114,33 +120,36 @@ fn has_text_bytes(bytes: &[u8]) -> bool
     bytes.iter().all(|b| is_text_byte(*b))
 }
 
-/// A statement, by its first word.
+/// A statement, by its first word, of the current device.
 #[tactic(auto, unfolding(crate::specs::Statements::statement_at))]
 fn statement_at<'a>(
     alloc: Global,
     arrays: &Arrays,
+    device: u64,
     innermost: Option<u64>,
     text: &'a [u8],
 ) -> Result<Statement<'a>, Trouble>
-    ensures { Gives takes_memory meaning_of result (statement_at arrays.now innermost text.now) }
+    ensures { Gives takes_memory meaning_of result (statement_at arrays.now device innermost text.now) }
 {
     let (word, rest) = word_at(text)?;
     if is_text(word, "array") {
         Ok(array_at(arrays, rest)?)
     } else if is_text(word, "data") {
-        data_at(alloc, arrays, rest)
+        data_at(alloc, arrays, device, rest)
     } else if is_text(word, "end") {
         Ok(end_at(innermost, rest)?)
     } else if is_text(word, "enter") {
-        enter_at(alloc, arrays, rest)
+        enter_at(alloc, arrays, device, rest)
     } else if is_text(word, "exit") {
-        exit_at(alloc, arrays, rest)
+        exit_at(alloc, arrays, device, rest)
     } else if is_text(word, "update") {
-        update_at(alloc, arrays, rest)
+        update_at(alloc, arrays, device, rest)
     } else if is_text(word, "wait") {
-        Ok(wait_at(rest)?)
+        Ok(wait_at(device, rest)?)
     } else if is_text(word, "step") {
-        Ok(step_at(rest)?)
+        Ok(step_at(device, rest)?)
+    } else if is_text(word, "set") {
+        Ok(select_at(rest)?)
     } else if is_text(word, "kernel") {
         Ok(kernel_at(arrays, innermost, rest)?)
     } else if is_text(word, "write") {

@@ -7,7 +7,7 @@ use std::process::Abort;
 use std::test::Fail;
 
 /// Faults, and what they print: the number, the name, and each field with its value.
-const FAULTS: [(Fault, &str); 29] = [
+const FAULTS: [(Fault, &str); 30] = [
     (Fault::Memory, "1 Memory"),
     (Fault::BadConfig, "2 BadConfig"),
     (Fault::NoTickets { left: 0 }, "3 NoTickets left 0"),
@@ -97,6 +97,7 @@ const FAULTS: [(Fault, &str); 29] = [
     ),
     (Fault::Read, "20 Read"),
     (Fault::Write, "21 Write"),
+    (Fault::NoDevice { device: 2 }, "22 NoDevice device 2"),
 ];
 
 /// What may be wrong with a line of a script, and what that prints.

@@ -15,6 +15,8 @@ use Rattle.acc_dev.specs.contracts.ended.EndedBlocks as EndedBlocks
 use Rattle.acc_placement.specs.contracts.placement.Holes as Holes
 use Rattle.acc_tree.proofs.nodes.Node.TheLaws.TheKnot as knot
 use Rattle.acc_clauses.specs.contracts.environments.Environment as Environment
+use Rattle.acc_clauses.specs.contracts.environments.Apart as Apart
+use Rattle.acc_clauses.specs.contracts.spares.Spare as Spare
 use Rattle.acc_clauses.specs.contracts.parts.Parts as Parts
 use Rattle.acc_clauses.specs.contracts.parts.Parts.TheInside as inside
 use Rattle.acc_clauses.specs.contracts.numbers.Numbers as Numbers
@@ -22,7 +24,9 @@ use Rattle.acc_base.specs.contracts.configs.Config as Config
 use denote.Struct.Declared.{shape}
 use Rattle.acc_clauses.specs.contracts.stores.Store as Store
 use Rattle.acc_clauses.specs.contracts.bases.Base as Base
+use Rattle.acc_clauses.specs.contracts.bases.DeviceBase as DeviceBase
 use Rattle.acc_clauses.specs.contracts.plans.Plan as Plan
+use Rattle.acc_table.specs.contracts.devices.Devices as Devices
 use Rattle.acc_table.specs.contracts.tables.Table as Table
 use Rattle.acc_runtime.specs.contracts.laws.Locked as Locked
 use Rattle.acc_runtime.specs.contracts.laws.Locked.TheInside as inside_locked
@@ -54,10 +58,10 @@ ended_blocks_send = search (sendable, crosses, knot.crosses) depth 60 fits 10000
 device_send : IsSend Device.the_row
 device_send = search (sendable, crosses, holes_send, stored_send, ended_blocks_send) depth 60 fits 100000
 
--- ---- a store and a plan, a table, and what stands around it
+-- ---- a store and a plan, the devices of a table, the table, and what stands around it
 
 environment_send : IsSend (Environment.the_field).row
-environment_send = search (sendable, crosses, device_send, present_send, attached_send, queues_send, host_send) depth 60 fits 100000
+environment_send = search (sendable, crosses, device_send, present_send, attached_send, queues_send) depth 60 fits 100000
 
 numbers_send : IsSend (Numbers.the_field).row
 numbers_send = search (sendable, crosses) depth 60 fits 100000
@@ -66,19 +70,31 @@ config_send : IsSend Config.the_row
 config_send = search (sendable, crosses) depth 60 fits 100000
 
 parts_send : IsSend Parts.the_row
-parts_send = view_send _ _ _ _ _ (recorded_send inside.the_field.row _ _ inside.the_type.to_one (struct_send (shape inside.the_type) (as_row_send Config.the_field config_send, (environment_send, (numbers_send, tt)))))
+parts_send = view_send _ _ _ _ _ (recorded_send inside.the_field.row _ _ inside.the_type.to_one (struct_send (shape inside.the_type) (as_row_send Config.the_field config_send, (search (sendable, crosses) depth 20, (environment_send, (as_row_send HostMem.the_field host_send, (numbers_send, tt)))))))
 
 pub store_send : IsSend Store.the_row
 store_send = search (sendable, crosses, parts_send) depth 60 fits 100000
 
+apart_send : IsSend (Apart.the_field).row
+apart_send = search (sendable, crosses, config_send, environment_send, numbers_send) depth 60 fits 100000
+
+spare_send : IsSend Spare.the_row
+spare_send = search (sendable, crosses, apart_send) depth 60 fits 100000
+
+devices_send : IsSend (Devices.the_field).row
+devices_send = search (sendable, crosses, store_send, spare_send) depth 60 fits 100000
+
+device_base_send : IsSend DeviceBase.the_row
+device_base_send = search (sendable, crosses) depth 60 fits 100000
+
 base_send : IsSend Base.the_row
-base_send = search (sendable, crosses) depth 60 fits 100000
+base_send = search (sendable, crosses, device_base_send) depth 60 fits 100000
 
 plan_send : IsSend Plan.the_row
 plan_send = search (sendable, crosses) depth 40 fits 100000
 
 table_send : IsSend Table.the_row
-table_send = search (sendable, crosses, store_send, base_send, plan_send) depth 60 fits 100000
+table_send = search (sendable, crosses, devices_send, base_send, plan_send) depth 60 fits 100000
 
 -- ---- under the lock, and shared, for ledgers of any types that cross
 

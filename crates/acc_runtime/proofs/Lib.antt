@@ -1,2 +1,3 @@
 pub mod Crossing
 pub mod Sharing
+pub mod Settling

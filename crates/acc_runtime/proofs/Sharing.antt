@@ -1,8 +1,7 @@
 -- What is known of a call once the lock is free again.
 use Rattle.std.proofs.Common.{Result, Ok, Err}
-use Rattle.std.specs.Prelude.{IfOk, IfErr}
+use Rattle.std.specs.Prelude.{IfOk}
 use Rattle.acc_base.specs.declared.calls.Call.{Call}
-use Rattle.acc_base.specs.declared.faults.Fault.{Fault}
 use Rattle.acc_base.specs.Loans.{Leased}
 use Rattle.acc_base.specs.Calls.{World}
 use Rattle.acc_table.specs.declared.calls.Reply.{Reply}

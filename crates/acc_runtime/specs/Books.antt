@@ -2,7 +2,8 @@
 use Rattle.std.specs.Prelude.{ℕ, ◌+◌, ◌≡◌, ◌≤◌}
 use Rattle.std.specs.List.{AllByRecursion}
 use Rattle.acc_base.specs.declared.mappings.Range.{Range}
-use Rattle.acc_base.specs.Calls.{World, event_count, open_regions}
+use Rattle.acc_base.specs.Devices.{view, open_regions}
+use Rattle.acc_base.specs.Calls.{World, event_count}
 use Rattle.acc_table.specs.Laws.{IsLawful}
 use Rattle.acc_runtime.specs.Shares.{Shares}
 
@@ -32,6 +33,6 @@ pub record IsSettled (regions tickets : ℕ) (p : Shares) (w : World) : Type 0 w
   pub made : p.made ≤ event_count w.history
   -- with all tickets, left or used by this caller, there are no other events
   pub alone : p.made + p.tickets ≡ tickets → event_count w.history ≡ p.made
-  -- with the whole allowance no region is open, and every structured counter is zero
+  -- with the whole allowance no region is open on any device, and every structured counter of each device is zero
   pub none_open : p.allowance ≡ regions → open_regions w.state ≡ 0
-  pub none_counted : p.allowance ≡ regions → AllByRecursion (λ (r : Range). r.structured ≡ 0) w.state.records.ranges
+  pub none_counted : p.allowance ≡ regions → (d : ℕ) → AllByRecursion (λ (r : Range). r.structured ≡ 0) (view d w.state).records.ranges

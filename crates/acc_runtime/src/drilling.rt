@@ -3,6 +3,7 @@
 ghost use Rattle.std.specs.Prelude.{◌≡◌, ◌+◌, ◌*◌, ◌<◌, ◌≤◌, length, All, vec_len, vec_capacity, IfOk, IfNone, OnOk, OnErr};
 ghost use Rattle.std.specs.List.{AllByRecursion};
 ghost use Rattle.acc_base.specs.declared.mappings.Range.{Range};
+ghost use Rattle.acc_base.specs.Devices.{view};
 ghost use Rattle.acc_base.specs.Calls.{event_count};
 ghost use Rattle.acc_runtime.specs.Drills.{HasRounds, IsWorked};
 
@@ -22,6 +23,9 @@ const ARRAY: Section = Section {
     len: 16,
 };
 
+/// The device on which all threads of a drill work.
+const DEVICE: u64 = 0;
+
 /// What a drill left.
 #[derive(Clone, Copy, Debug, PartialEq, Eq)]
 pub struct Drilled {
@@ -29,9 +33,9 @@ pub struct Drilled {
     pub allowance: u64,
     /// How many events were made on the table in all.
     pub events: u64,
-    /// The structured reference counter of the array, 0 where it is not mapped.
+    /// The structured reference counter of the array on the first device, 0 where it is not mapped there.
     pub structured: u64,
-    /// The dynamic reference counter of the array, 0 where it is not mapped.
+    /// The dynamic reference counter of the array on the first device, 0 where it is not mapped there.
     pub dynamic: u64,
 }
 
@@ -64,7 +68,7 @@ fn make_round<Regions: Ledger, Tickets: Ledger, Events: Ledger, R: Wait + AllocG
     ensures back { OnOk result (caller.new.allowance ≡ caller.old.allowance) }
 {
     let items = array_in(rt.alloc(), RegionClause::Copyin)?;
-    let region = runtime.enter(rt, caller, items)?;
+    let region = runtime.enter(rt, caller, DEVICE, items)?;
     if let Err((region, fault)) = runtime.exit(rt, caller, region) {
         region.abandon();
         return Err(fault);
@@ -227,10 +231,10 @@ fn merge_all<Regions: Ledger, Tickets: Ledger, Events: Ledger>(
 fn tell(table: &Table, allowance: u64) -> Drilled
     ensures allowance { result.allowance ≡ allowance }
     ensures events { result.events ≡ event_count table.now.history }
-    ensures structured { AllByRecursion (λ (r : Range). r.structured ≡ 0) table.now.state.records.ranges → result.structured ≡ 0 }
+    ensures structured { AllByRecursion (λ (r : Range). r.structured ≡ 0) (view 0 table.now.state).records.ranges → result.structured ≡ 0 }
 {
     let events = table.events();
-    match table.counters(ARRAY) {
+    match table.counters(DEVICE, ARRAY) {
         Some(counters) => Drilled {
             allowance,
             events,
@@ -261,10 +265,11 @@ fn look<Regions: Ledger, Tickets: Ledger, Events: Ledger, R: Wait>(
     runtime.look(rt, caller, |table| tell(table, allowance))
 }
 
-/// Maps an array by `enter data copyin`, and lets threads enter and exit regions over it (OpenACC 3.3, section 2.6.5,
-/// data construct): each thread has a caller of its own, with one region and as many tickets as it needs, which is split
-/// off before any begins and merged when all are done. It calls the gate's `before` with its number, counted from 0,
-/// makes so many rounds, and calls `after`. There are 1 to 64 threads, and 1 to 1,000 rounds.
+/// Maps an array on the first device by `enter data copyin`, and lets threads enter and exit regions over it there
+/// (OpenACC 3.3, section 2.6.5, data construct): each thread has a caller of its own, with one region and as many
+/// tickets as it needs, which is split off before any begins and merged when all are done. It calls the gate's `before`
+/// with its number, counted from 0, makes so many rounds, and calls `after`. There are 1 to 64 threads, and 1 to 1,000
+/// rounds.
 ///
 /// What it answers is read from the table: with the whole allowance back, no region of any thread is open.
 ///
@@ -298,7 +303,7 @@ pub fn drill<
 {
     let mut workers = Vec::with_capacity(rt.alloc(), threads)?;
     let mapped = array_in(rt.alloc(), EnterClause::Copyin)?;
-    runtime.enter_data(rt, caller, mapped, None)?;
+    runtime.enter_data(rt, caller, DEVICE, mapped, None)?;
     if let Err(fault) = split_all(caller, &mut workers, threads, rounds) {
         merge_back(caller, workers, rounds);
         return Err(fault);

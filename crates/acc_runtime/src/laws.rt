@@ -1,11 +1,12 @@
 //! The type behind the lock, with what it keeps in every value that the lock hands out.
 
-ghost use Rattle.std.specs.Prelude.{◌≡◌, ◌<◌, ◌≤◌, ◌↔◌, true, false, IsTrue, [], length, vec_len, vec_capacity, option_map, IfOk, IfErr, OnOk, OnErr};
+ghost use Rattle.std.specs.Prelude.{ℕ, ◌≡◌, ◌<◌, ◌≤◌, ◌↔◌, true, false, IsTrue, [], length, vec_len, vec_capacity, option_map, IfOk, IfErr, OnOk, OnErr};
 ghost use Rattle.std.specs.Fn.{FnOnceReturnsAt, FnOnceTakesAt};
 ghost use Rattle.std.specs.List.{AllByRecursion};
 ghost use Rattle.acc_base.specs.declared.mappings.Range.{Range};
 ghost use Rattle.acc_base.specs.declared.faults.Fault.TheVariants.{Memory};
-ghost use Rattle.acc_base.specs.Calls.{new_world, rebased, event_count, open_regions};
+ghost use Rattle.acc_base.specs.Calls.{new_world, rebased, event_count};
+ghost use Rattle.acc_base.specs.Devices.{view, open_regions};
 ghost use Rattle.acc_table.specs.Calls.{IsDone, IsRefusal};
 ghost use Rattle.acc_table.specs.Counts.{is_entry, is_exit, answers_idle, is_shortage, IsCountedOnce};
 ghost use Rattle.acc_table.specs.Laws.{IsLawful};
@@ -27,11 +28,12 @@ use std::sync::ledger::{Book, Ledger, Share};
 /// What the lock guards: a table, and the books of the shares of all callers. Its type keeps, whenever the lock is free,
 /// that
 ///
-/// - mapped ranges are not empty, lie in host memory, and do not overlap; blocks and holes are the device, with no
-///   address in two of them;
-/// - each range has a block of its own, and each other block is named by a queued transfer;
-/// - no range has both counters zero, and each counter is the count over the history;
-/// - the structured counter of a block is how often open regions hold it;
+/// - on each device mapped ranges are not empty, lie in host memory, and do not overlap; blocks and holes are the device,
+///   with no address in two of them;
+/// - there each range has a block of its own, and each other block is named by a queued transfer;
+/// - no range has both counters zero, and each counter is the count over what happened on its device;
+/// - the structured counter of a block is how often open regions of its device hold it;
+/// - each device has what its own events alone lead to, and no region is open on two devices;
 /// - the history is legal, and there are no more events than tickets and no more open regions than the limit says;
 /// - the allowances of all callers and the open regions make up all regions, their tickets and the events make up all
 ///   tickets, and the events are what they made.
@@ -57,7 +59,8 @@ struct Books<Regions: Ledger, Tickets: Ledger, Events: Ledger> {
 
 impl<Regions: Ledger, Tickets: Ledger, Events: Ledger> Model for Locked<Regions, Tickets, Events> {
     ghost use Rattle.std.specs.Prelude.{◌≡◌};
-    ghost use Rattle.acc_base.specs.Calls.{World, event_count, open_regions};
+    ghost use Rattle.acc_base.specs.Calls.{World, event_count};
+    ghost use Rattle.acc_base.specs.Devices.{open_regions};
     ghost use Rattle.acc_table.specs.Laws.{IsLawful};
     ghost use Rattle.acc_runtime.specs.Books.{IsBooked};
 
@@ -207,14 +210,14 @@ impl<Regions: Ledger, Tickets: Ledger, Events: Ledger> Locked<Regions, Tickets, 
     }
 
     /// Compares the shares of a caller with the books, and answers whether it has the whole allowance. Then no region is
-    /// open, and every structured counter is zero. Nothing changes.
-    #[tactic(auto, using(acc_table::proofs::Tallied::none_open))]
+    /// open on any device, and every structured counter of each of them is zero. Nothing changes.
+    #[tactic(auto, using(crate::proofs::Settling::none_anywhere))]
     pub fn settled(&mut self, caller: &mut Caller<Regions, Tickets, Events>) -> bool
         ensures same { (self.new ≡ self.old) × (caller.new ≡ caller.old) }
         ensures tells { IsSettled Regions.parts Tickets.parts caller.old self.old }
         ensures whole { IsTrue result ↔ caller.old.allowance ≡ self.old.limits.regions }
         ensures regions { result ≡ true → open_regions self.old.state ≡ 0 }
-        ensures counters { result ≡ true → AllByRecursion (λ (r : Range). r.structured ≡ 0) self.old.state.records.ranges }
+        ensures counters { result ≡ true → (d : ℕ) → AllByRecursion (λ (r : Range). r.structured ≡ 0) (view d self.old.state).records.ranges }
     {
         self.books.allowances.audit(&mut caller.regions);
         self.books.tickets.audit(&mut caller.uses);

@@ -1,13 +1,13 @@
 //! One table of an OpenACC 3.3 data runtime under one lock, for any number of threads.
 //!
 //! A [`Runtime`] is shared by reference. Each of its calls takes the lock once, for one call on the table. Whenever the
-//! lock is free, the laws of [`laws::Locked`] hold: mapped ranges and blocks are disjoint and account for every used
-//! byte, no range has both counters zero, and every counter is what the history of all calls gives.
+//! lock is free, the laws of [`laws::Locked`] hold: on each device mapped ranges and blocks are disjoint and account for
+//! every used byte, no range has both counters zero, and every counter is what the history of all calls gives.
 //!
 //! Who makes calls is a [`Caller`]. It has shares of what all callers together may do: of the regions that may be open,
 //! its allowance, and of the events that may be made, its tickets. They are split and merged, and never made or lost. So
-//! a caller that has the whole allowance again knows that no region is open and every structured counter is zero:
-//! [`Runtime::look`] tells it to the closure that it calls.
+//! a caller that has the whole allowance again knows that no region is open and every structured counter of each device
+//! is zero: [`Runtime::look`] tells it to the closure that it calls.
 //!
 //! Here two threads map the same bytes. Whichever comes first makes the mapping, and the other one counts it, so
 //! `used_by_two` answers 16:
@@ -28,7 +28,7 @@
 //!     mut caller: Caller<Regions, Tickets, Events>,
 //! ) -> (Caller<Regions, Tickets, Events>, Result<(), Fault>) {
 //!     let outcome = match array(rt.alloc()) {
-//!         Ok(items) => runtime.enter_data(rt, &mut caller, items, None),
+//!         Ok(items) => runtime.enter_data(rt, &mut caller, 0, items, None),
 //!         Err(fault) => Err(fault),
 //!     };
 //!     (caller, outcome)
@@ -70,7 +70,7 @@
 //!     one?;
 //!     two?;
 //!     first.merge(second);
-//!     Ok(runtime.look(rt, &mut first, |table| table.used()))
+//!     Ok(runtime.look(rt, &mut first, |table| table.used(0)))
 //! }
 //!
 //! /// A runtime for three ledgers, whose blanks are those of the configuration.

@@ -20,7 +20,7 @@ use acc_table::Call;
 use std::sync::ledger::Ledger;
 
 impl<Regions: Ledger, Tickets: Ledger, Events: Ledger> Locked<Regions, Tickets, Events> {
-    /// Enters a data region (OpenACC 3.3, section 2.6.5, data construct).
+    /// Enters a data region on a device (OpenACC 3.3, section 2.6.5, data construct).
     ///
     /// # Errors
     ///
@@ -28,17 +28,18 @@ impl<Regions: Ledger, Tickets: Ledger, Events: Ledger> Locked<Regions, Tickets, 
     pub fn enter(
         &mut self,
         caller: &mut Caller<Regions, Tickets, Events>,
+        device: u64,
         items: Vec<Item<RegionClause>>,
     ) -> Result<Region, Fault>
-        ensures done { IfOk result (λ region. IsActed caller.old self.old (Do (Enter items.items)) (Entered region) caller.new self.new) }
-        ensures refused { IfErr result (IsDenied caller.old self.old (Do (Enter items.items))) }
+        ensures done { IfOk result (λ region. IsActed caller.old self.old (Do (Enter device items.items)) (Entered region) caller.new self.new) }
+        ensures refused { IfErr result (IsDenied caller.old self.old (Do (Enter device items.items))) }
         ensures same { OnErr result ((self.new ≡ self.old) × (caller.new ≡ caller.old)) }
     {
         let items = List::from_vec(items);
-        entered(self.act(caller, Call::Do(Directive::Enter { items })))
+        entered(self.act(caller, Call::Do(Directive::Enter { device, items })))
     }
 
-    /// Exits from an open data region, which is spent (OpenACC 3.3, section 2.6.5, data construct).
+    /// Exits from an open data region, which is spent, on its own device (OpenACC 3.3, section 2.6.5, data construct).
     ///
     /// # Errors
     ///
@@ -59,7 +60,7 @@ impl<Regions: Ledger, Tickets: Ledger, Events: Ledger> Locked<Regions, Tickets, 
         )
     }
 
-    /// Carries out an `enter data` directive (OpenACC 3.3, section 2.6.6).
+    /// Carries out an `enter data` directive on a device (OpenACC 3.3, section 2.6.6).
     ///
     /// # Errors
     ///
@@ -67,18 +68,26 @@ impl<Regions: Ledger, Tickets: Ledger, Events: Ledger> Locked<Regions, Tickets, 
     pub fn enter_data(
         &mut self,
         caller: &mut Caller<Regions, Tickets, Events>,
+        device: u64,
         items: Vec<Item<EnterClause>>,
         queue: Option<u64>,
     ) -> Result<(), Fault>
-        ensures done { OnOk result (IsActed caller.old self.old (Do (EnterData items.items queue)) Done caller.new self.new) }
-        ensures refused { IfErr result (IsDenied caller.old self.old (Do (EnterData items.items queue))) }
+        ensures done { OnOk result (IsActed caller.old self.old (Do (EnterData device items.items queue)) Done caller.new self.new) }
+        ensures refused { IfErr result (IsDenied caller.old self.old (Do (EnterData device items.items queue))) }
         ensures same { OnErr result ((self.new ≡ self.old) × (caller.new ≡ caller.old)) }
     {
         let items = List::from_vec(items);
-        done(self.act(caller, Call::Do(Directive::EnterData { items, queue })))
+        done(self.act(
+            caller,
+            Call::Do(Directive::EnterData {
+                device,
+                items,
+                queue,
+            }),
+        ))
     }
 
-    /// Carries out an `exit data` directive (OpenACC 3.3, section 2.6.6).
+    /// Carries out an `exit data` directive on a device (OpenACC 3.3, section 2.6.6).
     ///
     /// # Errors
     ///
@@ -86,18 +95,20 @@ impl<Regions: Ledger, Tickets: Ledger, Events: Ledger> Locked<Regions, Tickets, 
     pub fn exit_data(
         &mut self,
         caller: &mut Caller<Regions, Tickets, Events>,
+        device: u64,
         items: Vec<Item<ExitClause>>,
         finalize: bool,
         queue: Option<u64>,
     ) -> Result<(), Fault>
-        ensures done { OnOk result (IsActed caller.old self.old (Do (ExitData items.items finalize queue)) Done caller.new self.new) }
-        ensures refused { IfErr result (IsDenied caller.old self.old (Do (ExitData items.items finalize queue))) }
+        ensures done { OnOk result (IsActed caller.old self.old (Do (ExitData device items.items finalize queue)) Done caller.new self.new) }
+        ensures refused { IfErr result (IsDenied caller.old self.old (Do (ExitData device items.items finalize queue))) }
         ensures same { OnErr result ((self.new ≡ self.old) × (caller.new ≡ caller.old)) }
     {
         let items = List::from_vec(items);
         done(self.act(
             caller,
             Call::Do(Directive::ExitData {
+                device,
                 items,
                 finalize,
                 queue,
@@ -105,7 +116,7 @@ impl<Regions: Ledger, Tickets: Ledger, Events: Ledger> Locked<Regions, Tickets, 
         ))
     }
 
-    /// Carries out an `update` directive (OpenACC 3.3, the update directive).
+    /// Carries out an `update` directive on a device (OpenACC 3.3, the update directive).
     ///
     /// # Errors
     ///
@@ -113,18 +124,20 @@ impl<Regions: Ledger, Tickets: Ledger, Events: Ledger> Locked<Regions, Tickets, 
     pub fn update(
         &mut self,
         caller: &mut Caller<Regions, Tickets, Events>,
+        device: u64,
         items: Vec<Item<UpdateClause>>,
         if_present: bool,
         queue: Option<u64>,
     ) -> Result<(), Fault>
-        ensures done { OnOk result (IsActed caller.old self.old (Do (Update items.items if_present queue)) Done caller.new self.new) }
-        ensures refused { IfErr result (IsDenied caller.old self.old (Do (Update items.items if_present queue))) }
+        ensures done { OnOk result (IsActed caller.old self.old (Do (Update device items.items if_present queue)) Done caller.new self.new) }
+        ensures refused { IfErr result (IsDenied caller.old self.old (Do (Update device items.items if_present queue))) }
         ensures same { OnErr result ((self.new ≡ self.old) × (caller.new ≡ caller.old)) }
     {
         let items = List::from_vec(items);
         done(self.act(
             caller,
             Call::Do(Directive::Update {
+                device,
                 items,
                 if_present,
                 queue,
@@ -132,8 +145,8 @@ impl<Regions: Ledger, Tickets: Ledger, Events: Ledger> Locked<Regions, Tickets, 
         ))
     }
 
-    /// Makes the transfers of a queue, or of all queues (OpenACC 3.3, the wait directive), and answers how many they
-    /// were.
+    /// Makes the transfers of a queue of a device, or of all its queues (OpenACC 3.3, the wait directive), and answers
+    /// how many they were.
     ///
     /// # Errors
     ///
@@ -141,17 +154,18 @@ impl<Regions: Ledger, Tickets: Ledger, Events: Ledger> Locked<Regions, Tickets, 
     pub fn wait(
         &mut self,
         caller: &mut Caller<Regions, Tickets, Events>,
+        device: u64,
         queue: Option<u64>,
     ) -> Result<u64, Fault>
-        ensures done { IfOk result (λ count. IsActed caller.old self.old (Do (Wait queue)) (Drained count) caller.new self.new) }
-        ensures refused { IfErr result (IsDenied caller.old self.old (Do (Wait queue))) }
+        ensures done { IfOk result (λ count. IsActed caller.old self.old (Do (Wait device queue)) (Drained count) caller.new self.new) }
+        ensures refused { IfErr result (IsDenied caller.old self.old (Do (Wait device queue))) }
         ensures same { OnErr result ((self.new ≡ self.old) × (caller.new ≡ caller.old)) }
     {
-        drained(self.act(caller, Call::Do(Directive::Wait { queue })))
+        drained(self.act(caller, Call::Do(Directive::Wait { device, queue })))
     }
 
-    /// Makes the next transfer of a queue (OpenACC 3.3, section 2.16), and answers whether there was one. The step of an
-    /// empty queue is no event.
+    /// Makes the next transfer of a queue of a device (OpenACC 3.3, section 2.16), and answers whether there was one.
+    /// The step of an empty queue is no event.
     ///
     /// # Errors
     ///
@@ -159,13 +173,14 @@ impl<Regions: Ledger, Tickets: Ledger, Events: Ledger> Locked<Regions, Tickets, 
     pub fn step(
         &mut self,
         caller: &mut Caller<Regions, Tickets, Events>,
+        device: u64,
         queue: u64,
     ) -> Result<bool, Fault>
-        ensures done { IfOk result (λ made. IsActed caller.old self.old (Do (Step queue)) (if made then Done else Idle) caller.new self.new) }
-        ensures refused { IfErr result (IsDenied caller.old self.old (Do (Step queue))) }
+        ensures done { IfOk result (λ made. IsActed caller.old self.old (Do (Step device queue)) (if made then Done else Idle) caller.new self.new) }
+        ensures refused { IfErr result (IsDenied caller.old self.old (Do (Step device queue))) }
         ensures same { OnErr result ((self.new ≡ self.old) × (caller.new ≡ caller.old)) }
     {
-        stepped(self.act(caller, Call::Do(Directive::Step { queue })))
+        stepped(self.act(caller, Call::Do(Directive::Step { device, queue })))
     }
 
     /// Writes bytes into host memory, from a host address on.
@@ -187,7 +202,8 @@ impl<Regions: Ledger, Tickets: Ledger, Events: Ledger> Locked<Regions, Tickets, 
         done(self.act(caller, Call::HostWrite { addr, bytes }))
     }
 
-    /// Lends the block of a section, in an open data region (OpenACC 3.3, section 2.5, compute constructs).
+    /// Lends the block of a section, in an open data region and on its device (OpenACC 3.3, section 2.5, compute
+    /// constructs).
     ///
     /// # Errors
     ///
@@ -206,7 +222,7 @@ impl<Regions: Ledger, Tickets: Ledger, Events: Ledger> Locked<Regions, Tickets, 
         leased(self.act(caller, Call::Lend { region, section }))
     }
 
-    /// Brings a lease back, which is spent (OpenACC 3.3, section 2.5, compute constructs).
+    /// Brings a lease back, which is spent, to its own device (OpenACC 3.3, section 2.5, compute constructs).
     ///
     /// # Errors
     ///

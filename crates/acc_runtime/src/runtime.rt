@@ -107,7 +107,7 @@ impl<Regions: Ledger, Tickets: Ledger, Events: Ledger> Runtime<Regions, Tickets,
         outcome
     }
 
-    /// Enters a data region (OpenACC 3.3, section 2.6.5, data construct).
+    /// Enters a data region on a device (OpenACC 3.3, section 2.6.5, data construct).
     ///
     /// # Errors
     ///
@@ -116,17 +116,18 @@ impl<Regions: Ledger, Tickets: Ledger, Events: Ledger> Runtime<Regions, Tickets,
         &self,
         rt: &R,
         caller: &mut Caller<Regions, Tickets, Events>,
+        device: u64,
         items: Vec<Item<RegionClause>>,
     ) -> Result<Region, Fault>
-        ensures accepted { IfOk result (λ region. WasAccepted caller.old (Do (Enter items.items)) (Entered region) caller.new) }
-        ensures refused { IfErr result (WasRefused caller.old (Do (Enter items.items))) }
+        ensures accepted { IfOk result (λ region. WasAccepted caller.old (Do (Enter device items.items)) (Entered region) caller.new) }
+        ensures refused { IfErr result (WasRefused caller.old (Do (Enter device items.items))) }
         ensures same { OnErr result (caller.new ≡ caller.old) }
     {
         let items = List::from_vec(items);
-        entered(self.act(rt, caller, Call::Do(Directive::Enter { items })))
+        entered(self.act(rt, caller, Call::Do(Directive::Enter { device, items })))
     }
 
-    /// Exits from an open data region, which is spent (OpenACC 3.3, section 2.6.5, data construct).
+    /// Exits from an open data region, which is spent, on its own device (OpenACC 3.3, section 2.6.5, data construct).
     ///
     /// # Errors
     ///
@@ -148,8 +149,8 @@ impl<Regions: Ledger, Tickets: Ledger, Events: Ledger> Runtime<Regions, Tickets,
         )
     }
 
-    /// Carries out an `enter data` directive, with an `async` clause where a queue is named (OpenACC 3.3, section
-    /// 2.6.6).
+    /// Carries out an `enter data` directive on a device, with an `async` clause where a queue is named (OpenACC 3.3,
+    /// section 2.6.6).
     ///
     /// # Errors
     ///
@@ -158,19 +159,28 @@ impl<Regions: Ledger, Tickets: Ledger, Events: Ledger> Runtime<Regions, Tickets,
         &self,
         rt: &R,
         caller: &mut Caller<Regions, Tickets, Events>,
+        device: u64,
         items: Vec<Item<EnterClause>>,
         queue: Option<u64>,
     ) -> Result<(), Fault>
-        ensures accepted { OnOk result (WasAccepted caller.old (Do (EnterData items.items queue)) Done caller.new) }
-        ensures refused { IfErr result (WasRefused caller.old (Do (EnterData items.items queue))) }
+        ensures accepted { OnOk result (WasAccepted caller.old (Do (EnterData device items.items queue)) Done caller.new) }
+        ensures refused { IfErr result (WasRefused caller.old (Do (EnterData device items.items queue))) }
         ensures same { OnErr result (caller.new ≡ caller.old) }
     {
         let items = List::from_vec(items);
-        done(self.act(rt, caller, Call::Do(Directive::EnterData { items, queue })))
+        done(self.act(
+            rt,
+            caller,
+            Call::Do(Directive::EnterData {
+                device,
+                items,
+                queue,
+            }),
+        ))
     }
 
-    /// Carries out an `exit data` directive, with a `finalize` clause or without, and with an `async` clause where a
-    /// queue is named (OpenACC 3.3, section 2.6.6).
+    /// Carries out an `exit data` directive on a device, with a `finalize` clause or without, and with an `async`
+    /// clause where a queue is named (OpenACC 3.3, section 2.6.6).
     ///
     /// # Errors
     ///
@@ -179,12 +189,13 @@ impl<Regions: Ledger, Tickets: Ledger, Events: Ledger> Runtime<Regions, Tickets,
         &self,
         rt: &R,
         caller: &mut Caller<Regions, Tickets, Events>,
+        device: u64,
         items: Vec<Item<ExitClause>>,
         finalize: bool,
         queue: Option<u64>,
     ) -> Result<(), Fault>
-        ensures accepted { OnOk result (WasAccepted caller.old (Do (ExitData items.items finalize queue)) Done caller.new) }
-        ensures refused { IfErr result (WasRefused caller.old (Do (ExitData items.items finalize queue))) }
+        ensures accepted { OnOk result (WasAccepted caller.old (Do (ExitData device items.items finalize queue)) Done caller.new) }
+        ensures refused { IfErr result (WasRefused caller.old (Do (ExitData device items.items finalize queue))) }
         ensures same { OnErr result (caller.new ≡ caller.old) }
     {
         let items = List::from_vec(items);
@@ -192,6 +203,7 @@ impl<Regions: Ledger, Tickets: Ledger, Events: Ledger> Runtime<Regions, Tickets,
             rt,
             caller,
             Call::Do(Directive::ExitData {
+                device,
                 items,
                 finalize,
                 queue,
@@ -199,8 +211,8 @@ impl<Regions: Ledger, Tickets: Ledger, Events: Ledger> Runtime<Regions, Tickets,
         ))
     }
 
-    /// Carries out an `update` directive, with an `if_present` clause or without, and with an `async` clause where a
-    /// queue is named (OpenACC 3.3, the update directive).
+    /// Carries out an `update` directive on a device, with an `if_present` clause or without, and with an `async`
+    /// clause where a queue is named (OpenACC 3.3, the update directive).
     ///
     /// # Errors
     ///
@@ -209,12 +221,13 @@ impl<Regions: Ledger, Tickets: Ledger, Events: Ledger> Runtime<Regions, Tickets,
         &self,
         rt: &R,
         caller: &mut Caller<Regions, Tickets, Events>,
+        device: u64,
         items: Vec<Item<UpdateClause>>,
         if_present: bool,
         queue: Option<u64>,
     ) -> Result<(), Fault>
-        ensures accepted { OnOk result (WasAccepted caller.old (Do (Update items.items if_present queue)) Done caller.new) }
-        ensures refused { IfErr result (WasRefused caller.old (Do (Update items.items if_present queue))) }
+        ensures accepted { OnOk result (WasAccepted caller.old (Do (Update device items.items if_present queue)) Done caller.new) }
+        ensures refused { IfErr result (WasRefused caller.old (Do (Update device items.items if_present queue))) }
         ensures same { OnErr result (caller.new ≡ caller.old) }
     {
         let items = List::from_vec(items);
@@ -222,6 +235,7 @@ impl<Regions: Ledger, Tickets: Ledger, Events: Ledger> Runtime<Regions, Tickets,
             rt,
             caller,
             Call::Do(Directive::Update {
+                device,
                 items,
                 if_present,
                 queue,
@@ -229,8 +243,8 @@ impl<Regions: Ledger, Tickets: Ledger, Events: Ledger> Runtime<Regions, Tickets,
         ))
     }
 
-    /// Makes the transfers that wait in a queue, or in all queues, and answers how many they were (OpenACC 3.3, the wait
-    /// directive).
+    /// Makes the transfers that wait in a queue of a device, or in all its queues, and answers how many they were
+    /// (OpenACC 3.3, the wait directive).
     ///
     /// # Errors
     ///
@@ -239,17 +253,18 @@ impl<Regions: Ledger, Tickets: Ledger, Events: Ledger> Runtime<Regions, Tickets,
         &self,
         rt: &R,
         caller: &mut Caller<Regions, Tickets, Events>,
+        device: u64,
         queue: Option<u64>,
     ) -> Result<u64, Fault>
-        ensures accepted { IfOk result (λ count. WasAccepted caller.old (Do (WaitFor queue)) (Drained count) caller.new) }
-        ensures refused { IfErr result (WasRefused caller.old (Do (WaitFor queue))) }
+        ensures accepted { IfOk result (λ count. WasAccepted caller.old (Do (WaitFor device queue)) (Drained count) caller.new) }
+        ensures refused { IfErr result (WasRefused caller.old (Do (WaitFor device queue))) }
         ensures same { OnErr result (caller.new ≡ caller.old) }
     {
-        drained(self.act(rt, caller, Call::Do(Directive::Wait { queue })))
+        drained(self.act(rt, caller, Call::Do(Directive::Wait { device, queue })))
     }
 
-    /// Makes the next transfer of a queue, and answers whether there was one (OpenACC 3.3, section 2.16, asynchronous
-    /// behavior). The step of an empty queue is no event.
+    /// Makes the next transfer of a queue of a device, and answers whether there was one (OpenACC 3.3, section 2.16,
+    /// asynchronous behavior). The step of an empty queue is no event.
     ///
     /// # Errors
     ///
@@ -258,13 +273,14 @@ impl<Regions: Ledger, Tickets: Ledger, Events: Ledger> Runtime<Regions, Tickets,
         &self,
         rt: &R,
         caller: &mut Caller<Regions, Tickets, Events>,
+        device: u64,
         queue: u64,
     ) -> Result<bool, Fault>
-        ensures accepted { IfOk result (λ made. WasAccepted caller.old (Do (Step queue)) (if made then Done else Idle) caller.new) }
-        ensures refused { IfErr result (WasRefused caller.old (Do (Step queue))) }
+        ensures accepted { IfOk result (λ made. WasAccepted caller.old (Do (Step device queue)) (if made then Done else Idle) caller.new) }
+        ensures refused { IfErr result (WasRefused caller.old (Do (Step device queue))) }
         ensures same { OnErr result (caller.new ≡ caller.old) }
     {
-        stepped(self.act(rt, caller, Call::Do(Directive::Step { queue })))
+        stepped(self.act(rt, caller, Call::Do(Directive::Step { device, queue })))
     }
 
     /// Writes bytes into host memory, from a host address on.
@@ -287,8 +303,8 @@ impl<Regions: Ledger, Tickets: Ledger, Events: Ledger> Runtime<Regions, Tickets,
         done(self.act(rt, caller, Call::HostWrite { addr, bytes }))
     }
 
-    /// Lends the block of a mapped section in an open data region, and answers its lease (OpenACC 3.3, section 2.5,
-    /// compute constructs).
+    /// Lends the block of a section that is mapped on the device of an open data region, and answers its lease (OpenACC
+    /// 3.3, section 2.5, compute constructs).
     ///
     /// # Errors
     ///
@@ -308,7 +324,7 @@ impl<Regions: Ledger, Tickets: Ledger, Events: Ledger> Runtime<Regions, Tickets,
         leased(self.act(rt, caller, Call::Lend { region, section }))
     }
 
-    /// Brings a lease back, which is spent (OpenACC 3.3, section 2.5, compute constructs).
+    /// Brings a lease back, which is spent, to its own device (OpenACC 3.3, section 2.5, compute constructs).
     ///
     /// # Errors
     ///
@@ -379,7 +395,8 @@ impl<Regions: Ledger, Tickets: Ledger, Events: Ledger> Runtime<Regions, Tickets,
 
     /// Calls `look` once on the table, and answers what it answers. The table is as it was when the lock was taken. All
     /// laws of [`Locked`] hold of it, and all that [`Locked::settled`] tells of this caller: with the whole allowance no
-    /// region is open there, and every structured counter is zero. Until `look` returns, no other thread gets on.
+    /// region is open there, and every structured counter of each device is zero. Until `look` returns, no other thread
+    /// gets on.
     pub fn look<R: Wait, T, F: FnOnce(&Table) -> T>(
         &self,
         rt: &R,

@@ -1,9 +1,11 @@
 //! A worker that makes the transfers of the queues that it is told of.
 
-ghost use Rattle.std.specs.Prelude.{◌≡◌, ◌+◌, ◌≤◌};
+ghost use Rattle.std.specs.Prelude.{◌≡◌, ◌<◌, ◌≤◌, ◌+◌, ◌*◌};
+ghost use Rattle.acc_base.specs.declared.transfers.TheConstants.{QUEUE_COUNT};
 
 use crate::callers::Caller;
 use crate::runtime::Runtime;
+use acc_base::QUEUE_COUNT;
 use acc_lend::Gate;
 use crossbeam_channel::Receiver;
 use std::sync::Wait;
@@ -18,12 +20,21 @@ pub struct Served {
     pub refusals: u64,
 }
 
-/// Steps a queue until it is empty, or a step is refused, or as many are made as a queue may have. Answers whether one
-/// was refused.
+/// The device of the queue that a word means, and its number there.
+fn queue_of(word: u64) -> (u64, u64)
+    ensures word { result.0 * QUEUE_COUNT + result.1 ≡ word }
+    ensures queue { result.1 < QUEUE_COUNT }
+{
+    (word / QUEUE_COUNT, word % QUEUE_COUNT)
+}
+
+/// Steps a queue of a device until it is empty, or a step is refused, or as many are made as a queue may have. Answers
+/// whether one was refused.
 fn drain<Regions: Ledger, Tickets: Ledger, Events: Ledger, R: Wait>(
     rt: &R,
     runtime: &Runtime<Regions, Tickets, Events>,
     caller: &mut Caller<Regions, Tickets, Events>,
+    device: u64,
     queue: u64,
 ) -> bool
     ensures events { caller.new.made + caller.new.tickets ≡ caller.old.made + caller.old.tickets }
@@ -31,7 +42,7 @@ fn drain<Regions: Ledger, Tickets: Ledger, Events: Ledger, R: Wait>(
     ensures allowance { caller.new.allowance ≡ caller.old.allowance }
 {
     for _i in 0..runtime.config().queue_cap() {
-        match runtime.step(rt, caller, queue) {
+        match runtime.step(rt, caller, device, queue) {
             Ok(true) => {}
             Ok(false) => return false,
             Err(_) => return true,
@@ -40,12 +51,13 @@ fn drain<Regions: Ledger, Tickets: Ledger, Events: Ledger, R: Wait>(
     false
 }
 
-/// Makes the transfers of each queue whose number is received, until the channel is closed (OpenACC 3.3, section 2.16,
-/// asynchronous behavior). For the n-th number, counted from 0, the gate's `before(n)` is called, and `after(n)` when the
+/// Makes the transfers of each queue whose word is received, until the channel is closed (OpenACC 3.3, section 2.16,
+/// asynchronous behavior): the word `w` means queue `w % 16` of device `w / 16`, so the words below 16 are the queues of
+/// the first device. For the n-th word, counted from 0, the gate's `before(n)` is called, and `after(n)` when the
 /// queue is empty, or a step was refused, or as many steps were made as a queue may have. The lock is free between two
 /// steps, and while the gate is called.
 ///
-/// A number that is no queue's is a refusal, as every step is that the table or the caller's shares refuse.
+/// A word of a device that is not there is a refusal, as every step is that the table or the caller's shares refuse.
 pub fn serve<Regions: Ledger, Tickets: Ledger, Events: Ledger, R: Wait, G: Gate<R>>(
     rt: &R,
     runtime: &Runtime<Regions, Tickets, Events>,
@@ -60,9 +72,10 @@ pub fn serve<Regions: Ledger, Tickets: Ledger, Events: Ledger, R: Wait, G: Gate<
     let before = caller.made();
     let mut number: usize = 0;
     let mut refusals: u64 = 0;
-    for queue in bells.iter(rt) {
+    for word in bells.iter(rt) {
         gate.before(rt, number);
-        if drain(rt, runtime, caller, queue) {
+        let (device, queue) = queue_of(word);
+        if drain(rt, runtime, caller, device, queue) {
             refusals = refusals.saturating_add(1);
         }
         gate.after(rt, number);

@@ -1,4 +1,4 @@
-//! Who makes calls in a scene: each names the one array.
+//! Who makes calls in a scene: each names the one array, on one device at a time.
 
 use crate::settings::ARRAY;
 use acc_base::{EnterClause, ExitClause, Fault, Item, RegionClause, Section, UpdateClause};
@@ -17,6 +17,8 @@ pub struct Actor<'a, Regions: Ledger, Tickets: Ledger, Events: Ledger, R> {
     pub runtime: &'a Runtime<Regions, Tickets, Events>,
     /// The caller that makes them.
     pub caller: Caller<Regions, Tickets, Events>,
+    /// The number of the device that its directives are for.
+    pub device: u64,
 }
 
 /// The items of a directive that names a section in one clause.
@@ -37,12 +39,17 @@ impl<Regions: Ledger, Tickets: Ledger, Events: Ledger, R: Wait + AllocGlobal> Ac
     Events,
     R,
 > {
-    /// Open regions, events, and whether the array is present.
+    /// Open regions, events, and whether the array is present on the device.
     pub fn state(&mut self) -> (u64, u64, bool) {
+        let device = self.device;
         self.runtime.look(
             self.rt,
             &mut self.caller,
-            |table: &Table| (table.regions(), table.events(), table.is_present(ARRAY)),
+            |table: &Table| (
+                table.regions(),
+                table.events(),
+                table.is_present(device, ARRAY),
+            ),
         )
     }
 
@@ -52,10 +59,11 @@ impl<Regions: Ledger, Tickets: Ledger, Events: Ledger, R: Wait + AllocGlobal> Ac
         (caller.allowance(), caller.tickets(), caller.made())
     }
 
-    /// Enters a region over the array.
+    /// Enters a region over the array on the device.
     pub fn enter(&mut self, clause: RegionClause) -> Result<Region, Fault> {
         let items = list(self.rt.alloc(), clause, ARRAY)?;
-        self.runtime.enter(self.rt, &mut self.caller, items)
+        self.runtime
+            .enter(self.rt, &mut self.caller, self.device, items)
     }
 
     /// Exits from a region, or answers it with what that was refused for.
@@ -74,11 +82,11 @@ impl<Regions: Ledger, Tickets: Ledger, Events: Ledger, R: Wait + AllocGlobal> Ac
         }
     }
 
-    /// Maps the array.
+    /// Maps the array on the device.
     pub fn enter_data(&mut self) -> Result<(), Fault> {
         let items = list(self.rt.alloc(), EnterClause::Copyin, ARRAY)?;
         self.runtime
-            .enter_data(self.rt, &mut self.caller, items, None)
+            .enter_data(self.rt, &mut self.caller, self.device, items, None)
     }
 
     /// Lets the array go.
@@ -89,8 +97,9 @@ impl<Regions: Ledger, Tickets: Ledger, Events: Ledger, R: Wait + AllocGlobal> Ac
         queue: Option<u64>,
     ) -> Result<(), Fault> {
         let items = list(self.rt.alloc(), clause, ARRAY)?;
+        let device = self.device;
         self.runtime
-            .exit_data(self.rt, &mut self.caller, items, finalize, queue)
+            .exit_data(self.rt, &mut self.caller, device, items, finalize, queue)
     }
 
     /// Copies the array.
@@ -101,18 +110,20 @@ impl<Regions: Ledger, Tickets: Ledger, Events: Ledger, R: Wait + AllocGlobal> Ac
         queue: Option<u64>,
     ) -> Result<(), Fault> {
         let items = list(self.rt.alloc(), clause, ARRAY)?;
-        self.runtime
-            .update(self.rt, &mut self.caller, items, if_present, queue)
+        let device = self.device;
+        self.runtime.update(self.rt, &mut self.caller, device, items, if_present, queue)
     }
 
-    /// Waits for a queue, or for all.
+    /// Waits for a queue of the device, or for all.
     pub fn wait(&mut self, queue: Option<u64>) -> Result<u64, Fault> {
-        self.runtime.wait(self.rt, &mut self.caller, queue)
+        self.runtime
+            .wait(self.rt, &mut self.caller, self.device, queue)
     }
 
-    /// Makes one transfer of a queue.
+    /// Makes one transfer of a queue of the device.
     pub fn step(&mut self, queue: u64) -> Result<bool, Fault> {
-        self.runtime.step(self.rt, &mut self.caller, queue)
+        self.runtime
+            .step(self.rt, &mut self.caller, self.device, queue)
     }
 
     /// Writes a byte into each place of the array.

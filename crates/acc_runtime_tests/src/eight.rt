@@ -47,7 +47,7 @@ fn make_round<Regions: Ledger, Tickets: Ledger, Events: Ledger, R: Wait + AllocG
     thread: usize,
 ) -> Result<(), Fault> {
     let items = both(rt.alloc(), thread)?;
-    let region = runtime.enter(rt, caller, items)?;
+    let region = runtime.enter(rt, caller, 0, items)?;
     if let Err((region, fault)) = runtime.exit(rt, caller, region) {
         region.abandon();
         return Err(fault);
@@ -122,7 +122,7 @@ pub fn run_and_look<
     same(actor.rt, actor.state(), (0, 16_000, false));
     let used = actor
         .runtime
-        .look(actor.rt, &mut actor.caller, |table| table.used());
+        .look(actor.rt, &mut actor.caller, |table| table.used(0));
     same(actor.rt, used, 0);
     Ok(())
 }

@@ -18,7 +18,7 @@ fn map<Regions: Ledger, Tickets: Ledger, Events: Ledger, R: Wait + AllocGlobal>(
     mut caller: Caller<Regions, Tickets, Events>,
 ) -> (Caller<Regions, Tickets, Events>, Result<(), Fault>) {
     let outcome = match array(rt.alloc()) {
-        Ok(items) => runtime.enter_data(rt, &mut caller, items, None),
+        Ok(items) => runtime.enter_data(rt, &mut caller, 0, items, None),
         Err(fault) => Err(fault),
     };
     (caller, outcome)
@@ -60,7 +60,7 @@ fn map_twice<
     one?;
     two?;
     first.merge(second);
-    Ok(runtime.look(rt, &mut first, |table| table.used()))
+    Ok(runtime.look(rt, &mut first, |table| table.used(0)))
 }
 
 /// A runtime for three ledgers, whose blanks are those of the configuration.

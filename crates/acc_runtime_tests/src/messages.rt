@@ -37,6 +37,7 @@ fn find_when_told<
         rt,
         runtime,
         caller,
+        device: 0,
     };
     meeting.before(rt, TOLD);
     let finding = (actor.state(), actor.has_everywhere(7), actor.enter_data());
@@ -96,6 +97,7 @@ fn enter<Regions: Ledger, Tickets: Ledger, Events: Ledger, R: Abort + Wait + All
         rt,
         runtime,
         caller,
+        device: 0,
     };
     let region = actor.enter(RegionClause::Copy);
     let Actor { caller, .. } = actor;

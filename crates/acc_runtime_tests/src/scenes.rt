@@ -2,7 +2,7 @@
 
 ghost use Rattle.std.specs.Prelude.{◌≡◌};
 
-use crate::{calls, eight, meetings, messages, shares};
+use crate::{calls, devices, eight, meetings, messages, shares};
 use acc_base::{Config, Fault};
 use acc_runtime::{Blanks, Caller, Runtime, blanks};
 use acc_runtime_actors::Actor;
@@ -34,6 +34,10 @@ pub enum Scene {
     Tell,
     /// A thread that exits from what another entered.
     HandOver,
+    /// Regions of two devices.
+    Settled,
+    /// A worker that serves the queues of two devices.
+    Words,
 }
 
 /// Plays a scene on a new runtime.
@@ -67,6 +71,7 @@ fn play_with<
         rt,
         runtime,
         caller,
+        device: 0,
     };
     play(&mut actor, scene)
 }
@@ -88,6 +93,8 @@ fn play<
         Scene::Workers { held, first } => meetings::serve_both(actor, held, first),
         Scene::Tell => messages::tell(actor),
         Scene::HandOver => messages::hand_over(actor),
+        Scene::Settled => devices::settle(actor),
+        Scene::Words => devices::serve_words(actor),
     }
 }
 

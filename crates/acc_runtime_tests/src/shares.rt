@@ -34,6 +34,7 @@ fn entered<Regions: Ledger, Tickets: Ledger, Events: Ledger, R: Abort + Wait + A
         rt: actor.rt,
         runtime: actor.runtime,
         caller,
+        device: 0,
     };
     let outcome = match other.enter(RegionClause::Copy) {
         Ok(region) => other.exit_or_leave(region),

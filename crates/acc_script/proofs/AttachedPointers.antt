@@ -1,6 +1,6 @@
 -- The attached pointers of a section inside one range, one after the other.
-use Rattle.std.proofs.Common.{ℕ, ◌≡◌, ◌+◌, ◌-◌, ◌<◌, ◌≤◌, refl, sym, ap, ◌∙◌, Bool, true, false, cond, List, [], ◌∷◌, ◌++◌, Some, None, arith, inl, inr}
-use Rattle.std.specs.Prelude.{◌==◌, ◌&&◌, nat_le, nat_lt, find, filter}
+use Rattle.std.proofs.Common.{ℕ, ◌≡◌, ◌+◌, ◌-◌, ◌<◌, ◌≤◌, refl, sym, ap, Bool, true, false, cond, List, [], ◌∷◌, ◌++◌, Some, None, arith, inl, inr}
+use Rattle.std.specs.Prelude.{◌==◌, ◌&&◌, nat_le, find, filter}
 use Rattle.std.specs.List.{AllByRecursion, flat_map}
 use Rattle.std.proofs.lemmas.Bool.Decides.{nat_tests}
 use Rattle.acc_base.specs.declared.attachments.Attachment.{Attachment}
@@ -8,8 +8,8 @@ use Rattle.acc_base.specs.declared.items.Section.{Section}
 use Rattle.acc_base.specs.declared.mappings.Range.{Range}
 use Rattle.acc_base.specs.declared.mappings.Found.{Found}
 use Rattle.acc_base.specs.declared.mappings.Found.TheVariants.{Inside, Empty, Partly, Absent}
-use Rattle.acc_base.specs.Section.{covers, end_of, is_empty, is_within, is_apart}
-use Rattle.acc_base.specs.Ranges.{where_is, range_around, found_in}
+use Rattle.acc_base.specs.Section.{covers, end_of, is_empty, is_within}
+use Rattle.acc_base.specs.Ranges.{where_is, range_around}
 use Rattle.acc_base.specs.Records.{Records}
 use Rattle.acc_base.specs.Attachments.{IsBefore}
 use Rattle.acc_base.specs.Accounts.{EachPair, IsBelow}

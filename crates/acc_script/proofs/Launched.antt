@@ -16,7 +16,7 @@ use Rattle.acc_base.specs.Calls.{World, judge, world_after}
 use Rattle.acc_read.specs.declared.kernels.ScriptKernel.{ScriptKernel}
 use Rattle.acc_read.specs.Statements.{Kernel}
 use Rattle.acc_table.specs.declared.calls.Reply.TheVariants.{Lease}
-use Rattle.acc_table.specs.Calls.{reply_of, IsCarriedOut, IsDone, IsRefusal}
+use Rattle.acc_table.specs.Calls.{reply_in, IsCarriedOut, IsDone, IsRefusal}
 use Rattle.acc_table.specs.Queries.{host_read_of}
 use Rattle.acc_script.specs.declared.print.effects.Effect.{Effect}
 use Rattle.acc_script.specs.Kernels.{source_of}
@@ -26,10 +26,10 @@ use Rattle.acc_script.proofs.Accepted.{memory_accepted}
 use Rattle.acc_script.proofs.Refused.{refused_by}
 
 -- an event that hands out a lease leaves host memory alone
-host_kept : (call : Call Leased) (e : Event) (w : World) (lease : Leased) → Lease lease ≡ reply_of e w.state
+host_kept : (call : Call Leased) (e : Event) (w : World) (lease : Leased) → Lease lease ≡ reply_in e w
     → (world_after call e w).state.host ≡ w.state.host
 unfolding world_after after act_all_state drained
-host_kept call (Lent region section block serial) w lease h = refl
+host_kept call (Lent device region section block serial) w lease h = refl
 host_kept call _ w lease h = absurd cc
 
 -- the bytes that were found in host memory
@@ -53,12 +53,12 @@ module _ (old new : SessionState) (region : ℕ) (kernel : ScriptKernel) (over :
     -- the loan was made, and the block was brought back or that was refused
     pub launch_done : (result : Result Effect Fault) → IsDone old.world (Lend region over) (Lease lease) mid
         → IfSome (host_read_of (source_of kernel) mid.state.host)
-        (λ src. CallsFor (record { world = mid; layout = old.layout }) (back_from kernel src lease) new result)
+        (λ src. CallsFor (record { world = mid; layout = old.layout; device = old.device }) (back_from kernel src lease) new result)
         → Performs old (Kernel region kernel over) new result
     launch_done result done back = by (judge old.world (Lend region over)) refl done
       where
         made : (e : Event) → judge old.world (Lend region over) ≡ Ok (Makes e)
-            → Lease lease ≡ reply_of e old.world.state → mid ≡ world_after (Lend region over) e old.world
+            → Lease lease ≡ reply_in e old.world → mid ≡ world_after (Lend region over) e old.world
             → Performs old (Kernel region kernel over) new result
         made e is replied now =
             let kept : mid.state.host ≡ old.world.state.host = ap (λ (w : World). w.state.host) now ∙ host_kept (Lend region over) e old.world lease replied in
@@ -66,11 +66,11 @@ module _ (old new : SessionState) (region : ℕ) (kernel : ScriptKernel) (over :
             told result (rw there at back)
           where
             told : (r : Result Effect Fault)
-                → CallsFor (record { world = mid; layout = old.layout }) (back_from kernel src lease) new r
+                → CallsFor (record { world = mid; layout = old.layout; device = old.device }) (back_from kernel src lease) new r
                 → Performs old (Kernel region kernel over) new r
             told (Ok effect) h = rw (read, is, ← replied, ← now) h
             told (Err fault) h =
-                let lent : new ≡ session_after (Lend region over) e old = h.2 ∙ ap (λ (w : World). record { world = w; layout = old.layout }) now in
+                let lent : new ≡ session_after (Lend region over) e old = h.2 ∙ ap (λ (w : World). record { world = w; layout = old.layout; device = old.device }) now in
                 (h.0, (rw (read, is) refl, inr (e, is, lent)))
 
         by : (r : Result Verdict Fault) → judge old.world (Lend region over) ≡ r

@@ -14,4 +14,5 @@ pub mod LeftToWrite
 pub mod AttachedPointers
 pub mod RisingBlocks
 pub mod WaitingQueues
+pub mod NumberedDevices
 pub mod Encoded

@@ -4,9 +4,9 @@ use Rattle.std.specs.Prelude.{codes}
 use Rattle.std.specs.Fmt.{decimal}
 use Rattle.acc_base.specs.declared.faults.Fault.{Fault}
 use Rattle.acc_base.specs.Faults.{number_of, name_of, fields_text}
-use Rattle.acc_base.specs.Blocks.{used_bytes}
-use Rattle.acc_base.specs.Calls.{World, event_count, open_regions}
-use Rattle.acc_script.specs.Texts.{refusal_start, refusal_text, sizes_text, device_text, totals_text, report_text}
+use Rattle.acc_base.specs.Devices.{open_regions}
+use Rattle.acc_base.specs.Calls.{World, event_count}
+use Rattle.acc_script.specs.Texts.{refusal_start, refusal_text, memories_text, totals_text, report_text}
 
 -- the texts of a refusal, grouped as they are written
 regrouped : (line number name fields : List ℕ)
@@ -23,19 +23,11 @@ refusal_parts line fault =
 
 -- ---- the report
 
--- the line of sizes of a world
-abbrev pub sizes_of : World → List ℕ
-sizes_of w = sizes_text w.limits.host w.limits.device (used_bytes w.state.records.blocks)
-
--- the lines of a world's device
-abbrev pub device_lines_of : World → List ℕ
-device_lines_of w = device_text w.state.records
-
 -- the line of totals of a world
 abbrev pub totals_of : World → List ℕ
 totals_of w = totals_text (open_regions w.state) (event_count w.history)
 
--- a report as its lines of sizes, of the device and of totals
-pub report_parts : (w : World) → report_text w ≡ (sizes_of w ++ device_lines_of w) ++ totals_of w
+-- a report as the lines of its memories and that of totals
+pub report_parts : (w : World) → report_text w ≡ memories_text w ++ totals_of w
 unfolding report_text
 report_parts w = refl

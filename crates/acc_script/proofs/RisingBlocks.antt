@@ -174,7 +174,7 @@ module _ (memory : Section) (births from : ℕ) (w : Records) (apart : AreBlocks
         (seen.0, sym found_lowest ∙ seen.1, seen.2)
 
     -- it lies where the search began or above, and well below the last address
-    pub ended_place : end_of memory < 2 ^ 34 → (from ≤ e.place) × (e.place < 2 ^ 34)
+    pub ended_place : end_of memory < 2 ^ 35 → (from ≤ e.place) × (e.place < 2 ^ 35)
     ended_place small =
         let kept = found_has (IsOnDevice memory) (lies_from from) (ended_by_place w) block_found.0 (all_by_place (IsOnDevice memory) (filter (has_ended w) w.blocks) (AllByRecursion-filter (IsOnDevice memory) (has_ended w) w.blocks apart.on_device)) block_found.1 in
         let place : block_found.0.place ≡ e.place = ap (λ (x : Ended). x.place) block_found.2 in

@@ -5,7 +5,7 @@ use Rattle.std.specs.List.{AllByRecursion}
 use Rattle.std.proofs.lemmas.Bool.{leb-true, and_parts}
 use Rattle.acc_base.proofs.Elements.{AllByRecursion-weaker, found_has}
 use Rattle.acc_base.specs.declared.mappings.Range.{Range}
-use Rattle.acc_base.specs.Limits.{Limits, IsWithinBounds}
+use Rattle.acc_base.specs.Limits.{Limits, IsSize}
 use Rattle.acc_base.specs.Section.{host_memory, host_base, end_of}
 use Rattle.acc_base.specs.Ranges.{range_from}
 use Rattle.acc_base.specs.Records.{Records}
@@ -39,14 +39,14 @@ rise l w (r ∷ rs) in_host rising = (AllByRecursion-weaker (λ t. IsBelow r.sec
 
 module _ (l : Limits) (from : ℕ) (w : Records) (apart : AreRangesApart l w.ranges) (m : Mapped) (found : Some m ≡ mapped_from from w) where
   -- it starts where the search began or behind, and it lies well below the last address
-  pub found_start : IsWithinBounds l → (from ≤ m.start) × (m.start + m.len < 2 ^ 32)
-  found_start bounds =
+  pub found_start : IsSize l.host → (from ≤ m.start) × (m.start + m.len < 2 ^ 32)
+  found_start size =
       let at = found_view (seen w) (range_from from w.ranges) m found in
       let lies = found_has (λ r. IsHostSection l r.section) (λ r. nat_le from r.section.start) w.ranges at.0 apart.in_host at.1 in
       let ends : end_of at.0.section ≤ host_base + l.host = leb-true (end_of at.0.section) (end_of (host_memory l.host)) (and_parts (nat_le host_base at.0.section.start) (nat_le (end_of at.0.section) (end_of (host_memory l.host))) lies.0.within).1 in
       let start = ap mapped_start at.2 in
       let len = ap (λ (m : Mapped). m.len) at.2 in
-      (omega (arith, leb-true from at.0.section.start lies.1, start), omega (arith, ends, bounds.host, start, len))
+      (omega (arith, leb-true from at.0.section.start lies.1, start), omega (arith, ends, size, start, len))
 
   -- what there is to write from the address on is its text, and what there is behind it
   pub ranges_turn : ranges_texts from w ≡ range_text w m ++ ranges_texts (m.start + 1) w

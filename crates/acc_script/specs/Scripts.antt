@@ -1,5 +1,5 @@
 -- What a script does and prints, line by line, and how it ends.
-use Rattle.std.specs.Prelude.{◌≡◌, ℕ, ◌+◌, Bool, true, false, ◌&&◌, ◌||◌, List, [], ◌∷◌, Option, Some, None, Result, Ok, Err, is_some, ◌==◌, if◌then◌else◌}
+use Rattle.std.specs.Prelude.{◌≡◌, ℕ, ◌+◌, Bool, true, false, ◌&&◌, ◌||◌, List, [], ◌∷◌, Option, Some, None, Result, Ok, Err, is_some, ◌==◌, if◌then◌else◌, ⊤}
 use Rattle.acc_base.specs.declared.calls.Call.{Call}
 use Rattle.acc_base.specs.declared.calls.Call.TheVariants.{Do, HostWrite, Lend, Gather}
 use Rattle.acc_base.specs.declared.events.Event.{Event}
@@ -10,16 +10,16 @@ use Rattle.acc_base.specs.declared.faults.ScriptFault.TheVariants.{Unclosed}
 use Rattle.acc_base.specs.declared.items.Section.{Section}
 use Rattle.acc_base.specs.Limits.{Limits}
 use Rattle.acc_base.specs.Loans.{Leased}
-use Rattle.acc_base.specs.Calls.{World, new_world, judge, world_after, open_regions}
+use Rattle.acc_base.specs.Calls.{World, new_world, judge, world_after, device_there}
+use Rattle.acc_base.specs.Devices.{view, open_regions}
 use Rattle.acc_base.specs.Judge.{Verdict, Makes, Idle}
-use Rattle.acc_base.specs.Register.{newest_region}
 use Rattle.acc_base.specs.Ranges.{where_is}
 use Rattle.acc_base.specs.Pointers.{device_address_of}
 use Rattle.acc_lend.specs.Loans.{section, with_section}
 use Rattle.acc_table.specs.declared.calls.Reply.{Reply}
 use Rattle.acc_table.specs.declared.calls.Reply.TheVariants as replies
-use Rattle.acc_table.specs.Calls.{reply_of}
-use Rattle.acc_table.specs.Queries.{is_inside, host_read_of, device_read_of}
+use Rattle.acc_table.specs.Calls.{reply_in}
+use Rattle.acc_table.specs.Queries.{is_inside, host_read_of, device_read_of, newest_of}
 use Rattle.acc_script.specs.declared.print.effects.Effect.{Effect}
 use Rattle.acc_script.specs.declared.print.effects.Effect.TheVariants.{Nothing, EmptyQueue, Refused, HostBytes, DeviceBytes, Presence, Place, Reported}
 use Rattle.acc_script.specs.declared.runs.Status.{Status}
@@ -28,19 +28,20 @@ use Rattle.acc_read.specs.Reading.{◌>>=◌, wants}
 use Rattle.acc_read.specs.Lines.{lines_of}
 use Rattle.acc_read.specs.Layout.{ArrayLayout, no_arrays, with_array}
 use Rattle.acc_read.specs.declared.kernels.ScriptKernel.{ScriptKernel}
-use Rattle.acc_read.specs.Statements.{Meaning, Blank, Declare, Direct, Kernel, Write, Show, Peek, Present, Address, Report, takes_memory, line_at}
+use Rattle.acc_read.specs.Statements.{Meaning, Blank, Declare, Direct, Select, Kernel, Write, Show, Peek, Present, Address, Report, takes_memory, line_at}
 use Rattle.acc_script.specs.Texts.{refusal_text, report_text}
 use Rattle.acc_script.specs.Kernels.{source_of, image_of}
 use Rattle.acc_script.specs.Shown.{idle_text, read_text, presence_text, place_text}
 
--- a table's world, and the arrays of the script
+-- a table's world, the arrays of the script, and the number of the device that its lines are for
 pub record SessionState : Type 0 where
   pub world : World
   pub layout : ArrayLayout
+  pub device : ℕ
 
--- a new table, and no array
+-- a new table, and no array; the first device is the current one
 abbrev pub new_session : Limits → SessionState
-new_session limits = record { world = new_world limits; layout = no_arrays limits.host }
+new_session limits = record { world = new_world limits; layout = no_arrays limits.host; device = 0 }
 
 -- ---- a statement
 
@@ -55,7 +56,7 @@ answered s effect = record { state = s; effect = effect }
 
 -- the state after an event of a call
 abbrev pub session_after : Call Leased → Event → SessionState → SessionState
-session_after call event s = record { world = world_after call event s.world; layout = s.layout }
+session_after call event s = record { world = world_after call event s.world; layout = s.layout; device = s.device }
 
 -- a call changes the world where the table accepts it and makes an event; what is accepted and makes none is the step
 -- of an empty queue
@@ -78,7 +79,7 @@ gathered s kernel src _ = answered s Nothing
 -- a kernel with what the call for its loan comes to, which is never that there is nothing to do
 abbrev pub on_loan : SessionState → ScriptKernel → List ℕ → Call Leased → Result Verdict Fault → Turned
 on_loan s kernel src call (Ok (Makes event)) =
-    gathered (session_after call event s) kernel src (reply_of event s.world.state)
+    gathered (session_after call event s) kernel src (reply_in event s.world)
 on_loan s kernel src call (Ok Idle) = answered s Nothing
 on_loan s kernel src call (Err fault) = answered s (Refused fault)
 
@@ -99,19 +100,26 @@ abbrev pub shown : Section → Option (List ℕ) → Effect
 shown section None = Refused (OutOfHost 0)
 shown section (Some bytes) = HostBytes section
 
+-- another device is the current one, where it is there
+abbrev pub selected : SessionState → ℕ → Result ⊤ Fault → Turned
+selected s device (Ok there) =
+    record { state = record { world = s.world; layout = s.layout; device = device }; effect = Nothing }
+selected s device (Err fault) = answered s (Refused fault)
+
 -- a state and a statement, as the state after it and what there is to print
 abbrev pub turned : SessionState → Meaning → Turned
 turned s Blank = answered s Nothing
 turned s (Declare name array) =
-    record { state = record { world = s.world; layout = with_array name array s.layout }; effect = Nothing }
+    record { state = record { world = s.world; layout = with_array name array s.layout; device = s.device }; effect = Nothing }
 turned s (Direct directive) = called s (Do directive) (judge s.world (Do directive))
+turned s (Select device) = selected s device (device_there s.world device)
 turned s (Kernel region kernel over) =
     launched s region kernel over (host_read_of (source_of kernel) s.world.state.host)
 turned s (Write addr bytes) = called s (HostWrite addr bytes) (judge s.world (HostWrite addr bytes))
 turned s (Show section) = answered s (shown section (host_read_of section s.world.state.host))
-turned s (Peek section) = answered s (DeviceBytes section)
-turned s (Present section) = answered s (Presence (is_inside (where_is section s.world.state.records.ranges)))
-turned s (Address addr) = answered s (Place (device_address_of addr s.world.state.records))
+turned s (Peek section) = answered s (DeviceBytes s.device section)
+turned s (Present section) = answered s (Presence (is_inside (where_is section (view s.device s.world.state).records.ranges)))
+turned s (Address addr) = answered s (Place (device_address_of addr (view s.device s.world.state).records))
 turned s Report = answered s Reported
 
 -- a call comes to an event
@@ -136,7 +144,7 @@ effect_text number w Nothing = []
 effect_text number w EmptyQueue = idle_text
 effect_text number w (Refused fault) = refusal_text number fault
 effect_text number w (HostBytes section) = read_text (host_read_of section w.state.host)
-effect_text number w (DeviceBytes section) = read_text (device_read_of section w.state)
+effect_text number w (DeviceBytes device section) = read_text (device_read_of section (view device w.state))
 effect_text number w (Presence present) = presence_text present
 effect_text number w (Place place) = place_text place
 effect_text number w Reported = report_text w
@@ -150,7 +158,7 @@ is_refused _ = false
 
 -- what a line asks for in a state, or its fault: the innermost open region is the one that was entered last
 abbrev pub meaning_in : SessionState → List ℕ → Result Meaning ScriptFault
-meaning_in s line = line_at s.layout (newest_region s.world.state.register.regions) line
+meaning_in s line = line_at s.layout s.device (newest_of s.world.state.devices) line
 
 -- a line run in a state, or its fault
 unfoldable pub line_turned : SessionState → List ℕ → Result Turned ScriptFault

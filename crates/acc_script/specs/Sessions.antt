@@ -14,9 +14,9 @@ use Rattle.acc_script.specs.declared.sessions.Session.{Session}
 use Rattle.acc_read.specs.Statements.{Meaning, Kernel}
 use Rattle.acc_script.specs.Scripts.{SessionState, new_session, called, IsLentFrom, turned, makes_event, run_takes_memory}
 
--- a session as its table's world and its arrays
+-- a session as its table's world, its arrays and its current device
 abbrev pub session_state : Session → SessionState
-session_state session = record { world = session.table; layout = session.arrays }
+session_state session = record { world = session.table; layout = session.arrays; device = session.device }
 
 -- a new session, or no memory for it
 abbrev pub Opens : Limits → Result Session Fault → Type 0

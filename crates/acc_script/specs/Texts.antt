@@ -1,5 +1,5 @@
 -- What a script prints.
-use Rattle.std.specs.Prelude.{ℕ, zero, suc, Bool, ◌+◌, false, List, [], ◌∷◌, ◌++◌, length, filter, ◌==◌, ◌&&◌, nat_le, if◌then◌else◌, codes}
+use Rattle.std.specs.Prelude.{ℕ, suc, Bool, false, List, [], ◌∷◌, ◌++◌, length, filter, ◌==◌, ◌&&◌, nat_le, if◌then◌else◌, codes}
 use Rattle.std.specs.Fmt.{decimal, digits}
 use Rattle.std.specs.List.{flat_map}
 use Rattle.acc_base.specs.declared.faults.Fault.{Fault}
@@ -16,7 +16,8 @@ use Rattle.acc_base.specs.Ranges.{where_is}
 use Rattle.acc_base.specs.Blocks.{used_bytes}
 use Rattle.acc_base.specs.Records.{Records}
 use Rattle.acc_base.specs.Waits.{ended_blocks, told_ended}
-use Rattle.acc_base.specs.Calls.{World, event_count, open_regions}
+use Rattle.acc_base.specs.Devices.{OneDevice, view, open_regions}
+use Rattle.acc_base.specs.Calls.{World, event_count}
 use Rattle.acc_table.specs.declared.calls.Mapped.{Mapped}
 use Rattle.acc_table.specs.Queries.{mapped_as}
 
@@ -42,11 +43,21 @@ refusal_text line fault = codes "line " ++ (decimal line ++ (codes ": refused " 
 
 -- ---- the report
 
--- the sizes of the two memories, and what blocks take of the device
+-- the sizes of host memory and of the memory of the one device there is, and what blocks take of that
 abbrev pub sizes_text : ℕ → ℕ → ℕ → List ℕ
 sizes_text host device used =
     codes "host "
     ++ (decimal host ++ (codes " device " ++ (decimal device ++ (codes " used " ++ (decimal used ++ codes "\n")))))
+
+-- the sizes of host memory and of the memory of each device, and how many devices there are
+abbrev pub devices_text : ℕ → ℕ → ℕ → List ℕ
+devices_text host device count =
+    codes "host "
+    ++ (decimal host ++ (codes " device " ++ (decimal device ++ (codes " devices " ++ (decimal count ++ codes "\n")))))
+
+-- a device by its number, and what blocks take of it
+abbrev pub used_text : ℕ → ℕ → List ℕ
+used_text device used = codes "device " ++ (decimal device ++ (codes " used " ++ (decimal used ++ codes "\n")))
 
 -- where a range is mapped to, and its counters
 abbrev pub mapping_text : ℕ → ℕ → ℕ → List ℕ
@@ -131,13 +142,33 @@ queues_text q (transfers ∷ queues) = waiting_text q (length transfers) ++ queu
 
 -- ---- all of it
 
--- what the device has: mapped ranges, blocks whose mapping has ended, and queues
+-- what a device has: mapped ranges, blocks whose mapping has ended, and queues
 abbrev pub device_text : Records → List ℕ
 device_text w = ranges_text w ++ ended_texts 0 w ++ queues_text 0 w.queues
 
+-- the one device there is, behind the sizes
+abbrev pub only_text : World → List ℕ
+only_text w =
+    sizes_text w.limits.host w.limits.device (used_bytes (view 0 w.state).records.blocks)
+    ++ device_text (view 0 w.state).records
+
+-- one of several devices: its number, what blocks take of it, and what it has
+abbrev pub one_text : ℕ → OneDevice → List ℕ
+one_text device x = used_text device (used_bytes x.records.blocks) ++ device_text x.records
+
+-- the devices from a number on
+abbrev pub each_text : ℕ → List OneDevice → List ℕ
+each_text device [] = []
+each_text device (x ∷ xs) = one_text device x ++ each_text (suc device) xs
+
+-- several devices, behind the sizes and their number
+abbrev pub several_text : World → List ℕ
+several_text w = devices_text w.limits.host w.limits.device w.limits.devices ++ each_text 0 w.state.devices
+
+-- all devices: the number of one that is alone is not told
+abbrev pub memories_text : World → List ℕ
+memories_text w = if w.limits.devices == 1 then only_text w else several_text w
+
 -- the report of a table
 unfoldable pub report_text : World → List ℕ
-report_text w =
-    sizes_text w.limits.host w.limits.device (used_bytes w.state.records.blocks)
-    ++ device_text w.state.records
-    ++ totals_text (open_regions w.state) (event_count w.history)
+report_text w = memories_text w ++ totals_text (open_regions w.state) (event_count w.history)

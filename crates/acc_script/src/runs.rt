@@ -111,8 +111,9 @@ fn run_line<R: Threads + Wait + Sync + AllocGlobal, W: Sink>(
 ) -> Result<bool, Fault>
     ensures { LineRuns number (session_state session.old) line.now (W.told writer.old) (W.told writer.new) (session_state session.new) result }
 {
-    let innermost = session.table.newest_region();
-    let statement = match line_at(rt.alloc(), &session.arrays, innermost, line) {
+    let innermost = session.innermost();
+    let device = session.device;
+    let statement = match line_at(rt.alloc(), &session.arrays, device, innermost, line) {
         Ok(statement) => statement,
         Err(Trouble::Memory) => return Err(Fault::Memory),
         Err(Trouble::Line(kind)) => return Err(Fault::Script { line: number, kind }),

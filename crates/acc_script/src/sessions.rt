@@ -5,8 +5,9 @@ ghost use Rattle.acc_read.specs.Meanings.{meaning_of};
 ghost use Rattle.acc_read.specs.Statements.{Kernel};
 ghost use Rattle.acc_script.specs.Kernels.{source_of};
 ghost use Rattle.acc_script.specs.Sessions.{session_state, Opens, Performs, CallsFor, effect_of, refusal_of};
-ghost use Rattle.acc_script.specs.Scripts.{back_from, shown};
-ghost use Rattle.acc_table.specs.Queries.{host_read_of};
+ghost use Rattle.acc_base.specs.Calls.{device_there};
+ghost use Rattle.acc_script.specs.Scripts.{back_from, shown, selected};
+ghost use Rattle.acc_table.specs.Queries.{host_read_of, newest_of};
 
 use crate::kernels::{run_kernel, source_of};
 use crate::print::effects::Effect;
@@ -18,19 +19,22 @@ use std::alloc::Global;
 use std::sync::Wait;
 use std::thread::Threads;
 
-/// A table, the arrays that the script has declared, and how kernels run.
+/// A table, the arrays that the script has declared, which device its lines are for, and how kernels run.
 #[derive(Drop)]
 pub struct Session {
     /// The table.
     pub table: Table,
     /// The arrays.
     pub arrays: Arrays,
+    /// The number of the current device.
+    pub device: u64,
     /// Into how many parts the work of a kernel is cut at most.
     parts: usize,
 }
 
 impl Session {
-    /// A new table of these limits, and no array. Each kernel is to run in so many parts at most.
+    /// A new table of these limits, and no array; the first device is the current one. Each kernel is to run in so many
+    /// parts at most.
     ///
     /// # Errors
     ///
@@ -41,6 +45,7 @@ impl Session {
         Ok(Session {
             table: Table::new(alloc, config)?,
             arrays: Arrays::new(alloc, config.host() as u32),
+            device: 0,
             parts,
         })
     }
@@ -65,6 +70,7 @@ impl Session {
                 Ok(Effect::Nothing)
             }
             Statement::Direct(directive) => self.call(Call::Do(directive)),
+            Statement::Select(device) => Ok(self.select(device)),
             Statement::Kernel {
                 region,
                 kernel,
@@ -72,11 +78,36 @@ impl Session {
             } => self.launch(rt, region, kernel, section),
             Statement::Write { addr, bytes } => self.call(Call::HostWrite { addr, bytes }),
             Statement::Show(section) => Ok(self.answer_show(section)),
-            Statement::Peek(section) => Ok(Effect::DeviceBytes(section)),
-            Statement::Present(section) => Ok(Effect::Presence(self.table.is_present(section))),
-            Statement::Address(addr) => Ok(Effect::Place(self.table.device_address(addr))),
+            Statement::Peek(section) => Ok(Effect::DeviceBytes {
+                device: self.device,
+                section,
+            }),
+            Statement::Present(section) => Ok(Effect::Presence(
+                self.table.is_present(self.device, section),
+            )),
+            Statement::Address(addr) => {
+                Ok(Effect::Place(self.table.device_address(self.device, addr)))
+            }
             Statement::Report => Ok(Effect::Reported),
         }
+    }
+
+    /// The number of the open region that was entered last, on whichever device.
+    pub fn innermost(&self) -> Option<u64>
+        ensures { result ≡ newest_of (session_state self.now).world.state.devices }
+    {
+        self.table.innermost()
+    }
+
+    /// Makes a device the current one, where it is there. It is no call on the table.
+    fn select(&mut self, device: u64) -> Effect
+        ensures { selected (session_state self.old) device (device_there (session_state self.old).world device) ≡ record { state = session_state self.new; effect = result } }
+    {
+        if self.table.config().devices() <= device {
+            return Effect::Refused(Fault::NoDevice { device });
+        }
+        self.device = device;
+        Effect::Nothing
     }
 
     /// Makes a call on the table. A lease is let go that it replies, or that it brings and the table refuses.

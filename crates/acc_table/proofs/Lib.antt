@@ -1,7 +1,15 @@
+pub mod DeviceLists
+pub mod NewDevices
+pub mod Selecting
+pub mod AllDevices
+pub mod Nothing
 pub mod Verdicts
+pub mod Judging
 pub mod Keeping
 pub mod Answering
 pub mod Running
 pub mod Replying
 pub mod Telling
 pub mod Tallied
+pub mod Lawful
+pub mod Apart

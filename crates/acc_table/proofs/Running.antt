@@ -1,6 +1,6 @@
 -- One turn after the other.
 use Rattle.std.proofs.Common.{ℕ, ◌≡◌, ◌≤◌, ◌∙◌, arith, false, cond, refl, sym, ap, subst, List, [], ◌∷◌, ◌++◌, length, Result, Ok, Err, inl}
-use Rattle.std.specs.Prelude.{MatchResult, Bool, true, find, filter, IfOk, IfErr, OnErr, ◌+◌, slice_get, slice_index_or, nat_lt, ◌==◌, ◌&&◌, Option, Some, None}
+use Rattle.std.specs.Prelude.{MatchResult, Bool, true, find, filter, ◌+◌, slice_get, slice_index_or, nat_lt, ◌==◌, ◌&&◌, Option, Some, None}
 use Rattle.std.specs.List.{position, position_or_len, remove}
 use Rattle.std.proofs.lemmas.List.Folds.{find_at}
 use Rattle.std.proofs.lemmas.Option.{slice_get-get_or, get_or_from_slice_get, slice_get_past}
@@ -17,27 +17,30 @@ use Rattle.acc_base.specs.Calls.{Base, World, judge}
 use Rattle.acc_base.specs.Judge.{Verdict, Makes, Idle, gathered, gather_event}
 use Rattle.acc_table.specs.declared.calls.Turn.{Turn}
 use Rattle.acc_table.specs.declared.calls.Turn.TheVariants.{Back}
-use Rattle.acc_table.specs.declared.calls.Turn.TheVariants as turns
 use Rattle.acc_lend.specs.Loans.{IsLoan, section, with_section}
 use Rattle.acc_lend.proofs.Writing.{section_written}
 use Rattle.acc_table.specs.declared.calls.Answer.{Answer}
 use Rattle.acc_table.specs.declared.calls.Answer.TheVariants.{Refused}
 use Rattle.acc_table.specs.declared.calls.Reply.{Reply}
 use Rattle.acc_table.specs.declared.calls.Reply.TheVariants as replies
-use Rattle.acc_table.specs.Calls.{reply_of, IsCarriedOut, IsDone, MayWantMemory, IsRefusal}
+use Rattle.acc_table.specs.Calls.{reply_of, IsCarriedOut, IsDone, MayWantMemory}
 use Rattle.acc_clauses.specs.Contents.{Contents}
-use Rattle.acc_table.specs.Kept.{IsKept, world_of}
+use Rattle.acc_base.specs.Limits.{Limits}
+use Rattle.acc_base.specs.Devices.{view, device_in}
+use Rattle.acc_table.specs.declared.devices.Devices.{Devices}
+use Rattle.acc_table.specs.Devices.{AreSet}
+use Rattle.acc_table.specs.Kept.{IsKept}
 use Rattle.acc_table.specs.Making.{is_loan, IsLeaseJudged, IsMadeInto}
 use Rattle.acc_table.specs.Turns.{is_meant, brought_back, asked_by, kept_by, lent_by, refuse_back, StaysRefused, MayCome, MayAnswer, IsRun}
-use Rattle.acc_table.specs.Turning.{is_lend, lends_in, IsTurnTaken, IsTurnMade, IsRefusalOf, IsTurnRefused}
-use Rattle.acc_table.proofs.Verdicts.{directive_no_loan, write_no_loan, gather_rewritten, judged_rewritten, refused_rewritten, judged_refused, made_wanted, made_done}
+use Rattle.acc_table.specs.Turning.{is_lend, lends_in, IsTurnMade, IsRefusalOf, IsTurnRefused}
+use Rattle.acc_table.proofs.Verdicts.{with_store, world_in, directive_no_loan, write_no_loan, gather_rewritten, judged_rewritten, refused_rewritten, judged_refused, made_wanted, made_done}
 use Rattle.acc_table.proofs.Keeping.{kept_alone, kept_called}
 
 -- ---- which call lends
 
 -- an event that is not that of a loan is replied no lease
 no_lease : (e : Event) (s : State) → is_loan e ≡ false → lent_by (reply_of e s) ≡ []
-no_lease (Lent region section block serial) s h = cc
+no_lease (Lent device region section block serial) s h = cc
 no_lease _ s h = refl
 
 -- nor is a call that makes none
@@ -45,7 +48,7 @@ lends_none : (w next : World) (call : Call Leased) (reply : Reply) → ((e : Eve
 lends_none w next call reply unlent done = go (judge w call) refl done
   where
     go : (r : Result Verdict Fault) → judge w call ≡ r → MatchResult r (λ verdict. IsCarriedOut w call verdict reply next) (λ fault. ⊥) → lent_by reply ≡ []
-    go (Ok (Makes e)) is h = ap lent_by h.0 ∙ no_lease e w.state (unlent e is)
+    go (Ok (Makes e)) is h = ap lent_by h.0 ∙ no_lease e (view (device_in e) w.state) (unlent e is)
     go (Ok Idle) is h = ap lent_by h.0
     go (Err fault) is h = absurd h
 
@@ -130,7 +133,7 @@ same_back {leases = leases} {at = at} {lease = lease} {removed = removed} back i
 pub record IsReturned (w : World) (serial : ℕ) (bytes : List ℕ) (leases : List Leased) (at : ℕ) (lease : Leased) : Type 0 where
   pub asked : asked_by (Back serial bytes) leases ≡ Ok (Gather lease)
   pub kept : remove leases at ≡ kept_by (Back serial bytes) leases
-  pub event : gather_event w.limits.full lease w.state ≡ Ok (gathered w.limits.full lease)
+  pub event : gather_event w.limits.full lease (view lease.device w.state) ≡ Ok (gathered w.limits.full lease)
   pub judged : judge w (Gather lease) ≡ Ok (Makes (gathered w.limits.full lease))
   pub stored : bytes ≡ section lease
 
@@ -142,33 +145,35 @@ returned {serial = serial} {bytes = bytes} {leases = leases} {at = at} {lease = 
     subst (λ (l : Leased). IsReturned w serial bytes leases at l) taken_of (record {
       asked = back.asked;
       kept = back.kept;
-      event = gather_rewritten w.limits.full lease bytes w.state loan back.len before.0;
+      event = gather_rewritten w.limits.full lease bytes (view lease.device w.state) loan back.len before.0;
       judged = judged_rewritten w lease bytes loan back.len before.1;
       stored = sym (section_written lease bytes loan back.len);
     })
 
--- what a store and a trace keep that took it back
-pub back_kept : (base : Base) {serial : ℕ} {bytes : List ℕ} {leases : List Leased} {at : ℕ} {lease : Leased} {reply : Reply} (old new : Contents) (trace room longer : List Event) → IsKept (world_of base old trace) → IsReturned (world_of base old trace) serial bytes leases at lease → room ≡ trace
-    → IsMadeInto (gathered old.limits.full lease) lease.bytes reply old new room longer → IsKept (world_of base new longer)
-back_kept base {lease = lease} {reply = reply} old new trace room longer k returned same m =
-    let made = subst (λ (before : List Event). IsMadeInto (gathered old.limits.full lease) lease.bytes reply old new before longer) same m in
-    kept_called base (Gather lease) (gathered old.limits.full lease) old new trace longer reply (kept_alone (world_of base old trace) (Gather lease) (gathered old.limits.full lease) k returned.judged refl) made
+-- the event of the store is that of the table
+made_full : (l : Limits) (x : Devices) (new : Contents) (lease : Leased) (reply : Reply) (trace room longer : List Event) → AreSet l x → room ≡ trace → IsMadeInto (gathered x.store.limits.full lease) lease.bytes reply x.store new room longer → IsMadeInto (gathered l.full lease) lease.bytes reply x.store new trace longer
+made_full l x new lease reply trace room longer set same m =
+    subst (λ (before : List Event). IsMadeInto (gathered l.full lease) lease.bytes reply x.store new before longer) same
+    (subst (λ (k : Limits). IsMadeInto (gathered k.full lease) lease.bytes reply x.store new room longer) set.used m)
+
+-- what the devices and a trace keep that took it back
+pub back_kept : (l : Limits) (base : Base) {serial : ℕ} {bytes : List ℕ} {leases : List Leased} {at : ℕ} {lease : Leased} {reply : Reply} (x : Devices) (new : Contents) (trace room longer : List Event) → AreSet l x → lease.device ≡ x.current → IsKept (world_in l base x trace) → IsReturned (world_in l base x trace) serial bytes leases at lease → room ≡ trace
+    → IsMadeInto (gathered x.store.limits.full lease) lease.bytes reply x.store new room longer → IsKept (world_in l base (with_store x new) longer) × AreSet l (with_store x new)
+back_kept l base {lease = lease} {reply = reply} x new trace room longer set on k returned same m =
+    kept_called l base x new (Gather lease) (gathered l.full lease) trace longer reply set on (kept_alone (world_in l base x trace) (Gather lease) (gathered l.full lease) k returned.judged refl) (made_full l x new lease reply trace room longer set same m)
 
 -- the turn is made that brought it back
-pub back_made : (base : Base) {serial : ℕ} {bytes : List ℕ} {leases : List Leased} {at : ℕ} {lease : Leased} {reply : Reply} (old new : Contents) (trace room longer : List Event) → IsReturned (world_of base old trace) serial bytes leases at lease → room ≡ trace
-    → IsMadeInto (gathered old.limits.full lease) lease.bytes reply old new room longer → IsTurnMade (world_of base old trace) leases (Back serial bytes) reply (world_of base new longer) (remove leases at)
-back_made base {lease = lease} {reply = reply} old new trace room longer returned same m =
-    let made = subst (λ (before : List Event). IsMadeInto (gathered old.limits.full lease) lease.bytes reply old new before longer) same m in
+pub back_made : (l : Limits) (base : Base) {serial : ℕ} {bytes : List ℕ} {leases : List Leased} {at : ℕ} {lease : Leased} {reply : Reply} (x : Devices) (new : Contents) (trace room longer : List Event) → AreSet l x → lease.device ≡ x.current → IsReturned (world_in l base x trace) serial bytes leases at lease → room ≡ trace
+    → IsMadeInto (gathered x.store.limits.full lease) lease.bytes reply x.store new room longer → IsTurnMade (world_in l base x trace) leases (Back serial bytes) reply (world_in l base (with_store x new) longer) (remove leases at)
+back_made l base {lease = lease} {reply = reply} x new trace room longer set on returned same m =
     record {
       call = Gather lease;
       asked = returned.asked;
-      done = made_done base (Gather lease) (gathered old.limits.full lease) reply old new trace longer returned.judged made;
+      done = made_done l base x new (Gather lease) (gathered l.full lease) reply trace longer set on returned.judged (made_full l x new lease reply trace room longer set same m);
       kept_is = returned.kept;
       idle = λ idle. (let both : ◌≡◌ {A = Reply} replies.Done replies.Idle = sym m.reply ∙ idle in cc);
       few = (let none : lent_by reply ≡ [] = ap lent_by m.reply in omega (arith, ap length none));
     }
-
--- ---- a write of the host
 
 -- ---- one turn after the other
 

@@ -1,5 +1,5 @@
 -- What a call is refused for beside want of tickets, of regions and of memory: no other rule tells these.
-use Rattle.std.proofs.Common.{◌≡◌, ◌<◌, ◌≤◌, ◌⊎◌, inl, inr, ℕ, suc, Bool, true, false, cond, List, [], ◌∷◌, length, Option, Some, None, Result, Ok, Err, refl, subst, arith, rules}
+use Rattle.std.proofs.Common.{◌≡◌, ◌<◌, ◌≤◌, ◌⊎◌, inl, inr, ℕ, suc, Bool, true, false, cond, List, [], ◌∷◌, Option, Some, None, Result, Ok, Err, refl, subst, arith, rules}
 use Rattle.std.proofs.lemmas.Bool.Decides.{nat_tests}
 use Rattle.std.specs.Prelude.{⊤, ok_or, nat_le, ◌==◌, MatchResult}
 use Rattle.acc_base.specs.declared.items.Section.{Section}
@@ -13,7 +13,7 @@ use Rattle.acc_base.specs.declared.events.Event.TheVariants.{Lent as LentOut}
 use Rattle.acc_base.specs.declared.events.Step.{Step}
 use Rattle.acc_base.specs.declared.events.Step.TheVariants as steps
 use Rattle.acc_base.specs.declared.faults.Fault.{Fault}
-use Rattle.acc_base.specs.declared.faults.Fault.TheVariants.{Memory, Lent, NoTickets, NoRegion, NoAllowance, NoQueue, NotPresent}
+use Rattle.acc_base.specs.declared.faults.Fault.TheVariants.{Memory, Lent, NoTickets, NoRegion, NoAllowance, NoQueue, NotPresent, NoDevice}
 use Rattle.acc_base.specs.declared.loans.Loan.{Loan}
 use Rattle.acc_base.specs.declared.mappings.Counter.{Counter}
 use Rattle.acc_base.specs.declared.mappings.Found.{Found}
@@ -43,7 +43,8 @@ use Rattle.acc_base.specs.Pointers.{target_of, attach_there, judge_attach}
 use Rattle.acc_base.specs.Acting.{attach_if, judge_aim, judge_task, judge_all}
 use Rattle.acc_base.specs.Walk.{leave_tasks}
 use Rattle.acc_base.specs.Judge.{Verdict, Makes, Idle, few_items, tasks_of, directive_verdict, host_write_event, lend_there, lend_event, gather_event}
-use Rattle.acc_base.specs.Calls.{World, event_count, open_regions, ticket, trace_room, judge}
+use Rattle.acc_base.specs.Devices.{view, device_of_region, open_regions}
+use Rattle.acc_base.specs.Calls.{World, event_count, ticket, trace_room, device_for, device_there, verdict_on, loan_on, judge}
 use Rattle.acc_table.specs.Calls.{MayWantMemory, IsRefusal}
 use Rattle.acc_table.specs.Counts.{is_entry, is_shortage}
 
@@ -88,7 +89,7 @@ born_tells n section w (Some place) = tt
 -- the row of an absent section tells others alone
 absent_tells : (clause : RegionClause) (l : Limits) (n : ℕ) (section : Section) (w : Records)
     → Tells (enter_absent clause l n section w)
-absent_tells clause l n section w = grind (arith, nat_tests, born_tells n section w (place_for (device_memory l.device) w.blocks (rounded section.len)))
+absent_tells clause l n section w = grind (arith, nat_tests, born_tells n section w (place_for (device_memory l) w.blocks (rounded section.len)))
 
 -- an entry tells others alone, wherever its section lies
 enter_tells : (found : Found) (l : Limits) (counter : Counter) (clause : RegionClause) (n : ℕ) (section : Section)
@@ -197,28 +198,32 @@ named_tells None = tt
 named_tells (Some q) = either_tells (nat_le QUEUE_COUNT q) (Err (NoQueue q)) (Ok tt) tt tt
 
 -- a directive tells others alone
-directive_tells : (l : Limits) (directive : Directive) (s : State) → Tells (directive_verdict l directive s)
+directive_tells : (l : Limits) (d : ℕ) (directive : Directive) (s : State) → Tells (directive_verdict l d directive s)
 unfolding directive_verdict
-directive_tells l directive s = search (rules, telling, asked_tells, named_tells, all_tells, all_lent_tells)
+directive_tells l d directive s = search (rules, telling, asked_tells, named_tells, all_tells, all_lent_tells)
 
 -- a loan of a section tells others alone, wherever it lies
-there_tells : (found : Found) (region : ℕ) (section : Section) (s : State) → Tells (lend_there found region section s)
-there_tells (Inside block offset) region section s = then_tells (not_lent (Some block) s.records.loans) (Ok (LentOut region section block s.register.serial)) (lent_tells (Some block) s.records.loans) tt
-there_tells _ region section s = tt
+there_tells : (found : Found) (d region : ℕ) (section : Section) (s : State) → Tells (lend_there found d region section s)
+there_tells (Inside block offset) d region section s = then_tells (not_lent (Some block) s.records.loans) (Ok (LentOut d region section block s.register.serial)) (lent_tells (Some block) s.records.loans) tt
+there_tells _ d region section s = tt
+
+-- nor does a look for a device
+device_tells : (w : World) (d : ℕ) → Tells (device_there w d)
+device_tells w d = either_tells (nat_le w.limits.devices d) (Err (NoDevice d)) (Ok tt) tt tt
 
 -- ---- a call
 
 -- what a call is judged by where there are a ticket and a region left
 abbrev rest_of : World → Call Leased → Result Verdict Fault
-rest_of w (Do directive) = few_items directive >> (trace_room w >> directive_verdict w.limits directive w.state)
+rest_of w (Do directive) = few_items directive >> (trace_room w >> (device_there w (device_for directive w.state) >> verdict_on w (device_for directive w.state) directive))
 rest_of w (HostWrite addr bytes) = trace_room w >> (host_write_event w.limits addr bytes >>= λ e. Ok (Makes e))
-rest_of w (Lend region section) = trace_room w >> (lend_event w.limits region section w.state >>= λ e. Ok (Makes e))
-rest_of w (Gather lease) = trace_room w >> (gather_event w.limits.full lease w.state >>= λ e. Ok (Makes e))
+rest_of w (Lend region section) = trace_room w >> (loan_on w (device_of_region region w.state) region section >>= λ e. Ok (Makes e))
+rest_of w (Gather lease) = trace_room w >> (gather_event w.limits.full lease (view lease.device w.state) >>= λ e. Ok (Makes e))
 
 -- it tells others alone
 rest_tells : (w : World) (call : Call Leased) → Tells (rest_of w call)
 unfolding host_write_event lend_event gather_event
-rest_tells w (Do directive) = search (rules, telling, directive_tells)
+rest_tells w (Do directive) = search (rules, telling, device_tells, directive_tells)
 rest_tells w (Lend region section) = search (rules, telling, there_tells)
 rest_tells w _ = search (rules, telling)
 
@@ -253,8 +258,8 @@ ticket_told w call r h =
 
 told : (w : World) (call : Call Leased) → MayTell w call (judge w call)
 unfolding judge
-told w (Do (directives.Enter items)) =
-    let call : Call Leased = Do (directives.Enter items) in
+told w (Do (directives.Enter device items)) =
+    let call : Call Leased = Do (directives.Enter device items) in
     let rest : MayTell w call (rest_of w call) = other_told w call (rest_of w call) (rest_tells w call) in
     ticket_told w call _ (tested w call (nat_le w.limits.regions (open_regions w.state)) (NoAllowance 0) (rest_of w call) (λ full. inr (refl, grind (arith, nat_tests))) rest)
 told w (Do directive) = ticket_told w (Do directive) _ (other_told w (Do directive) (rest_of w (Do directive)) (rest_tells w (Do directive)))

@@ -14,14 +14,16 @@ use Rattle.acc_base.specs.declared.faults.Fault.TheVariants.{Memory, NoLease}
 use Rattle.acc_base.specs.Results.{◌>>=◌, ◌>>◌, refuse_if}
 use Rattle.acc_base.specs.Loans.{Leased}
 use Rattle.acc_base.specs.Walk.{loaned}
+use Rattle.acc_base.specs.Limits.{Limits, limits_on}
 use Rattle.acc_base.specs.Records.{State}
+use Rattle.acc_base.specs.Devices.{OneDevice, Whole, view, with_view, device_in, after_on}
 use Rattle.acc_base.specs.Queues.{head_of}
 use Rattle.acc_base.specs.Bytes.{host_after_write}
 use Rattle.acc_base.specs.Waits.{drained}
 use Rattle.acc_base.specs.Acting.{act_all_state, after}
 use Rattle.acc_base.specs.Clauses.{in_host}
-use Rattle.acc_base.specs.Judge.{few_items, step_verdict, verdict_of, directive_verdict, plan_of, written, host_write_event, gathered, gather_event}
-use Rattle.acc_base.specs.Calls.{Base, World, judge, ticket, allowance, trace_room, bytes_brought, world_after}
+use Rattle.acc_base.specs.Judge.{few_items, step_verdict, verdict_of, plan_of, written, host_write_event, gathered, gather_event}
+use Rattle.acc_base.specs.Calls.{Base, World, judge, ticket, allowance, trace_room, device_for, device_there, verdict_on, bytes_brought, world_after}
 use Rattle.acc_base.specs.Judge.{Verdict, Makes, Idle}
 use Rattle.acc_clauses.specs.Contents.{Contents}
 use Rattle.acc_clauses.specs.Planned.{Planned, in_written_order}
@@ -31,78 +33,125 @@ use Rattle.acc_lend.proofs.Writing.{kept_outside}
 use Rattle.acc_table.specs.declared.calls.Reply.{Reply}
 use Rattle.acc_table.specs.declared.calls.Reply.TheVariants.{Done}
 use Rattle.acc_table.specs.Calls.{reply_of, IsCarriedOut, IsDone, IsRefusal}
+use Rattle.acc_table.specs.declared.devices.Devices.{Devices}
+use Rattle.acc_table.specs.Devices.{whole_with, whole_of, AreSet}
 use Rattle.acc_table.specs.Kept.{world_of}
+use Rattle.acc_table.proofs.DeviceLists.{view_used, whole_put, set_own}
 use Rattle.acc_table.specs.Making.{is_idle, number_told, event_told, reply_told, is_loan, admitted, write_admitted, planned_verdict, MayBeToldOf, IsMadeInto, IsCommitted, IsAsBefore}
 
 -- ---- the event
 
 -- where there is something to do, a directive comes to the event that tells the number
-pub told : (d : Directive) (s : State) (dids : List Did) → is_idle d s ≡ false → verdict_of d s dids ≡ Makes (event_told d (number_told d s) (in_written_order d dids))
-told (Step queue) s dids e = go (head_of queue s.records.queues) e
+pub told : (n : ℕ) (d : Directive) (s : State) (dids : List Did) → is_idle d s ≡ false → verdict_of n d s dids ≡ Makes (event_told n d (number_told d s) (in_written_order d dids))
+told n (Step device queue) s dids e = go (head_of queue s.records.queues) e
   where
-    go : (o : Option Transfer) → is_none (option_map (λ (t : Transfer). t.block) o) ≡ false → step_verdict queue o ≡ Makes (Stepped queue (unwrap_or (option_map (λ (t : Transfer). t.block) o) 0))
+    go : (o : Option Transfer) → is_none (option_map (λ (t : Transfer). t.block) o) ≡ false → step_verdict n queue o ≡ Makes (Stepped n queue (unwrap_or (option_map (λ (t : Transfer). t.block) o) 0))
     go None x = cc
     go (Some t) x = refl
-told _ s dids e = refl
+told n _ s dids e = refl
 
 -- its reply is the one that tells the number
-pub replied : (d : Directive) (n : ℕ) (did : List Did) (s : State) → reply_told d n ≡ reply_of (event_told d n did) s
-replied (Enter items) n did s = refl
-replied _ n did s = refl
+pub replied : (k : ℕ) (d : Directive) (n : ℕ) (did : List Did) (s : State) → reply_told d n ≡ reply_of (event_told k d n did) s
+replied k (Enter device items) n did s = refl
+replied k _ n did s = refl
 
 -- where the directive is the step of an empty queue, there is nothing to do
-pub told_idle : (d : Directive) (s : State) (dids : List Did) → is_idle d s ≡ true → verdict_of d s dids ≡ Idle
-told_idle (Step queue) s dids e = go (head_of queue s.records.queues) e
+pub told_idle : (n : ℕ) (d : Directive) (s : State) (dids : List Did) → is_idle d s ≡ true → verdict_of n d s dids ≡ Idle
+told_idle n (Step device queue) s dids e = go (head_of queue s.records.queues) e
   where
-    go : (o : Option Transfer) → is_none (option_map (λ (t : Transfer). t.block) o) ≡ true → step_verdict queue o ≡ Idle
+    go : (o : Option Transfer) → is_none (option_map (λ (t : Transfer). t.block) o) ≡ true → step_verdict n queue o ≡ Idle
     go None x = refl
     go (Some t) x = cc
-told_idle _ s dids e = cc
+told_idle n _ s dids e = cc
 
 -- ---- the world
 
--- the world of a store and a trace after a call is the world after its event
-pub event_made : (base : Base) (call : Call Leased) (e : Event) (reply : Reply) (old new : Contents) (trace longer : List Event) → IsMadeInto e (bytes_brought call) reply old new trace longer → world_of base new longer ≡ world_after call e (world_of base old trace)
+-- the devices with another store
+abbrev pub with_store : Devices → Contents → Devices
+with_store x new = record { store = new; current = x.current; spares = x.spares }
+
+-- the world of these devices
+abbrev pub world_in : Limits → Base → Devices → List Event → World
+world_in l base x trace = world_of l base (whole_of x) trace
+
+-- what the device in use is made into is put back
+pub state_put : (l : Limits) (x : Devices) (new : Contents) → AreSet l x → whole_of (with_store x new) ≡ with_view x.current new.state (whole_of x)
+state_put l x new set = whole_put x.current x.spares.items x.store.state new.state set.only
+
+-- and its view is the state of the store
+pub state_used : (l : Limits) (x : Devices) → AreSet l x → view x.current (whole_of x) ≡ x.store.state
+state_used l x set = view_used x.current x.spares.items x.store.state set.only
+
+-- the world of a store and a trace after a call is the world after its event, if that is of the device in use
+pub event_made : (l : Limits) (base : Base) (x : Devices) (new : Contents) (call : Call Leased) (e : Event) (reply : Reply) (trace longer : List Event) → AreSet l x → device_in e ≡ x.current → IsMadeInto e (bytes_brought call) reply x.store new trace longer
+    → world_in l base (with_store x new) longer ≡ world_after call e (world_in l base x trace)
 unfolding world_after
-event_made base call e reply old new trace longer h = rw (h.limits, h.state, h.trace) refl
+event_made l base x new call e reply trace longer set on h =
+    let full : x.store.limits.full ≡ l.full = ap (λ (m : Limits). m.full) set.used in
+    let is : new.state ≡ after l.full e (bytes_brought call) (view x.current (whole_of x)) = h.state ∙ (ap (λ b. after b e (bytes_brought call) x.store.state) full ∙ ap (after l.full e (bytes_brought call)) (sym (state_used l x set))) in
+    let whole : whole_of (with_store x new) ≡ after_on l.full e (bytes_brought call) (whole_of x) =
+    state_put l x new set ∙ (ap (λ s. with_view x.current s (whole_of x)) is ∙ ap (λ n. with_view n (after l.full e (bytes_brought call) (view n (whole_of x))) (whole_of x)) (sym on)) in
+    ap (λ w. world_of l base w longer) whole ∙ ap (λ t. world_of l base (after_on l.full e (bytes_brought call) (whole_of x)) t) h.trace
 
 -- and as before where only room was made
-pub unchanged : (base : Base) (old new : Contents) (trace same : List Event) → IsAsBefore old new trace same → world_of base new same ≡ world_of base old trace
-unchanged base old new trace same h = rw (h.limits, h.state, h.trace) refl
+pub unchanged : (l : Limits) (base : Base) (x : Devices) (new : Contents) (trace same : List Event) → IsAsBefore x.store new trace same → world_in l base (with_store x new) same ≡ world_in l base x trace
+unchanged l base x new trace same h = ap (λ s. world_of l base (whole_with x.spares.items s) same) h.state ∙ ap (λ t. world_in l base x t) h.trace
 
--- the world of a store and a trace after a write of the host
-pub write_made : (base : Base) (addr : ℕ) (bytes : List ℕ) (old new : Contents) (trace longer : List Event) → new.limits ≡ old.limits → new.state ≡ record old.state { host = host_after_write addr (length bytes) bytes old.state.host } → longer ≡ trace ++ written old.limits.full addr bytes ∷ []
-    → world_of base new longer ≡ world_after (HostWrite addr bytes) (written old.limits.full addr bytes) (world_of base old trace)
-unfolding world_after after act_all_state drained loaned
-write_made base addr bytes old new trace longer l s t = rw (l, s, t) refl
+-- the world of a store and a trace after a write of the host, whatever device is in use
+write_whole : (n : ℕ) (w : Whole) (host : List ℕ) → with_view n (record (view n w) { host = host }) w ≡ record w { host = host }
+write_whole n w host = ap (λ (ds : List OneDevice). let v : Whole = record { devices = ds; next = w.next; serial = w.serial; host = host } in v) (set_own n w.devices)
+
+pub write_made : (l : Limits) (base : Base) (x : Devices) (new : Contents) (addr : ℕ) (bytes : List ℕ) (trace longer : List Event) → AreSet l x → new.state ≡ record x.store.state { host = host_after_write addr (length bytes) bytes x.store.state.host } → longer ≡ trace ++ written l.full addr bytes ∷ []
+    → world_in l base (with_store x new) longer ≡ world_after (HostWrite addr bytes) (written l.full addr bytes) (world_in l base x trace)
+unfolding world_after after loaned drained act_all_state
+write_made l base x new addr bytes trace longer set state is =
+    let host : List ℕ = host_after_write addr (length bytes) bytes (whole_of x).host in
+    let whole : whole_of (with_store x new) ≡ with_view 0 (record (view 0 (whole_of x)) { host = host }) (whole_of x) = ap (λ s. whole_with x.spares.items s) state ∙ sym (write_whole 0 (whole_of x) host) in
+    ap (λ w. world_of l base w longer) whole ∙ ap (λ t. world_of l base (with_view 0 (record (view 0 (whole_of x)) { host = host }) (whole_of x)) t) is
 
 -- ---- the verdict
 
+-- what a directive is planned to be on its device, in that device's view
+abbrev pub planned_on : World → Directive → Result Verdict Fault
+planned_on w d = plan_of (limits_on (device_for d w.state) w.limits) (device_for d w.state) d (view (device_for d w.state) w.state)
+
 -- the verdict on a directive, from what is told before its items are judged and from the plan of the items
-pub judge_directive : (w : World) (d : Directive) → judge w (Do d) ≡ (admitted w d >> plan_of w.limits d w.state)
+pub judge_directive : (w : World) (d : Directive) → judge w (Do d) ≡ (admitted w d >> planned_on w d)
 unfolding judge admitted plan_of
-judge_directive w d = go (ticket w) (allowance w d) (few_items d) (trace_room w)
+judge_directive w d = go (ticket w) (allowance w d) (few_items d) (trace_room w) (device_there w (device_for d w.state))
   where
-    go : (a b c t : Result ⊤ Fault)
-        → (a >> (b >> (c >> (t >> directive_verdict w.limits d w.state)))) ≡ ((a >> (b >> (c >> t))) >> (c >> directive_verdict w.limits d w.state))
-    go (Ok x) (Ok y) (Ok z) (Err f) = refl
-    go _ _ _ _ = refl
+    go : (a b c t k : Result ⊤ Fault)
+        → (a >> (b >> (c >> (t >> (k >> verdict_on w (device_for d w.state) d))))) ≡ ((a >> (b >> (c >> (t >> k)))) >> (c >> verdict_on w (device_for d w.state) d))
+    go (Ok x) (Ok y) (Ok z) (Ok u) (Err f) = refl
+    go (Ok x) (Ok y) (Ok z) (Err f) _ = refl
+    go _ _ _ _ _ = refl
 
 -- what a plan answers is the verdict, where nothing was told before
-pub judged_plan : (w : World) (d : Directive) (v : Verdict) → admitted w d ≡ Ok tt → plan_of w.limits d w.state ≡ Ok v → judge w (Do d) ≡ Ok v
+pub judged_plan : (w : World) (d : Directive) (v : Verdict) → admitted w d ≡ Ok tt → planned_on w d ≡ Ok v → judge w (Do d) ≡ Ok v
 judged_plan w d v ok h = judge_directive w d ∙ rw (ok, h) refl
 
 -- so is what is told of a plan
-pub refused_plan : (w : World) (d : Directive) (fault : Fault) → admitted w d ≡ Ok tt → MayBeToldOf (plan_of w.limits d w.state) fault → IsRefusal w (Do d) fault
-refused_plan w d fault ok told = go (plan_of w.limits d w.state) refl told
+pub refused_plan : (w : World) (d : Directive) (fault : Fault) → admitted w d ≡ Ok tt → MayBeToldOf (planned_on w d) fault → IsRefusal w (Do d) fault
+refused_plan w d fault ok told = go (planned_on w d) refl told
   where
-    go : (r : Result Verdict Fault) → plan_of w.limits d w.state ≡ r → MayBeToldOf r fault → IsRefusal w (Do d) fault
+    go : (r : Result Verdict Fault) → planned_on w d ≡ r → MayBeToldOf r fault → IsRefusal w (Do d) fault
     go (Ok v) is h = let says : judge w (Do d) ≡ Ok v = judged_plan w d v ok is in rw says h
     go (Err refusal) is h = let says : judge w (Do d) ≡ Err refusal = judge_directive w d ∙ rw (ok, is) refl in rw says h
 
 -- and what is told before
 pub refused_before : (w : World) (d : Directive) (fault : Fault) → admitted w d ≡ Err fault → IsRefusal w (Do d) fault
 refused_before w d fault e = let v : judge w (Do d) ≡ Err fault = judge_directive w d ∙ rw e refl in rw v refl
+
+-- a device is there whose directive is not refused before its items are judged
+pub device_admitted : (w : World) (d : Directive) → admitted w d ≡ Ok tt → device_for d w.state < w.limits.devices
+unfolding admitted
+device_admitted w d ok =
+    let tickets = then_ok (ticket w) (allowance w d >> (few_items d >> (trace_room w >> device_there w (device_for d w.state)))) tt ok in
+    let regions = then_ok (allowance w d) (few_items d >> (trace_room w >> device_there w (device_for d w.state))) tt tickets.1 in
+    let items = then_ok (few_items d) (trace_room w >> device_there w (device_for d w.state)) tt regions.1 in
+    let room = then_ok (trace_room w) (device_there w (device_for d w.state)) tt items.1 in
+    let there : nat_le w.limits.devices (device_for d w.state) ≡ false = refused_not _ _ room.1 in
+    grind (arith, nat_tests)
 
 -- the verdict on a write of the host
 pub judge_write : (w : World) (addr : ℕ) (bytes : List ℕ) → judge w (HostWrite addr bytes) ≡ (write_admitted w (record { start = addr; len = length bytes }) >> Ok (Makes (written w.limits.full addr bytes)))
@@ -160,7 +209,8 @@ gather_rewritten full lease bytes s loan long h =
 pub judged_rewritten : (w : World) (lease : Leased) (bytes : List ℕ) → IsLoan lease → length bytes ≡ lease.len → judge w (Gather lease) ≡ Ok (Makes (gathered w.limits.full lease)) → judge w (Gather (with_section lease bytes)) ≡ Ok (Makes (gathered w.limits.full (with_section lease bytes)))
 unfolding judge gather_event
 judged_rewritten w lease bytes loan long h =
-    rw (returnable_rewritten w.limits.full lease bytes w.state loan long) (go (ticket w) (trace_room w) (refuse_if (not (is_returnable w.limits.full lease w.state.records.blocks w.state.records.loans w.state.memories)) (NoLease lease.serial)) (gathered w.limits.full lease) (gathered w.limits.full (with_section lease bytes)) h)
+    let v : State = view lease.device w.state in
+    rw (returnable_rewritten w.limits.full lease bytes v loan long) (go (ticket w) (trace_room w) (refuse_if (not (is_returnable w.limits.full lease v.records.blocks v.records.loans v.memories)) (NoLease lease.serial)) (gathered w.limits.full lease) (gathered w.limits.full (with_section lease bytes)) h)
   where
     go : (a b c : Result ⊤ Fault) (x y : Event) → (a >> (b >> ((c >> Ok x) >>= λ e. Ok (Makes e)))) ≡ Ok (Makes x) → (a >> (b >> ((c >> Ok y) >>= λ e. Ok (Makes e)))) ≡ Ok (Makes y)
     go (Ok r) (Ok s) (Ok t) x y k = refl
@@ -170,7 +220,8 @@ judged_rewritten w lease bytes loan long h =
 pub refused_rewritten : (w : World) (lease : Leased) (bytes : List ℕ) (fault : Fault) → IsLoan lease → length bytes ≡ lease.len → judge w (Gather lease) ≡ Err fault → judge w (Gather (with_section lease bytes)) ≡ Err fault
 unfolding judge gather_event
 refused_rewritten w lease bytes fault loan long h =
-    rw (returnable_rewritten w.limits.full lease bytes w.state loan long) (go (ticket w) (trace_room w) (refuse_if (not (is_returnable w.limits.full lease w.state.records.blocks w.state.records.loans w.state.memories)) (NoLease lease.serial)) (gathered w.limits.full lease) (gathered w.limits.full (with_section lease bytes)) h)
+    let v : State = view lease.device w.state in
+    rw (returnable_rewritten w.limits.full lease bytes v loan long) (go (ticket w) (trace_room w) (refuse_if (not (is_returnable w.limits.full lease v.records.blocks v.records.loans v.memories)) (NoLease lease.serial)) (gathered w.limits.full lease) (gathered w.limits.full (with_section lease bytes)) h)
   where
     go : (a b c : Result ⊤ Fault) (x y : Event) → (a >> (b >> ((c >> Ok x) >>= λ e. Ok (Makes e)))) ≡ Err fault → (a >> (b >> ((c >> Ok y) >>= λ e. Ok (Makes e)))) ≡ Err fault
     go (Ok r) (Ok s) (Ok t) x y k = cc
@@ -181,26 +232,27 @@ refused_rewritten w lease bytes fault loan long h =
 no_loan_made : (e f : Event) → ◌≡◌ {A = Verdict} (Makes f) (Makes e) → is_loan f ≡ false → is_loan e ≡ false
 no_loan_made e f h p = let same : f ≡ e = cc in subst (λ (x : Event). is_loan x ≡ false) same p
 
-told_no_loan : (d : Directive) (n : ℕ) (did : List Did) → is_loan (event_told d n did) ≡ false
-told_no_loan (Enter items) n did = refl
-told_no_loan _ n did = refl
+told_no_loan : (k : ℕ) (d : Directive) (n : ℕ) (did : List Did) → is_loan (event_told k d n did) ≡ false
+told_no_loan k (Enter device items) n did = refl
+told_no_loan k _ n did = refl
 
-verdict_no_loan : (d : Directive) (s : State) (dids : List Did) (e : Event) → verdict_of d s dids ≡ Makes e → is_loan e ≡ false
-verdict_no_loan d s dids e h = go (is_idle d s) refl
+verdict_no_loan : (n : ℕ) (d : Directive) (s : State) (dids : List Did) (e : Event) → verdict_of n d s dids ≡ Makes e → is_loan e ≡ false
+verdict_no_loan n d s dids e h = go (is_idle d s) refl
   where
     go : (b : Bool) → is_idle d s ≡ b → is_loan e ≡ false
-    go true idle = let none : verdict_of d s dids ≡ Idle = told_idle d s dids idle in cc
-    go false busy = no_loan_made e _ (sym (told d s dids busy) ∙ h) (told_no_loan d (number_told d s) (in_written_order d dids))
+    go true idle = let none : verdict_of n d s dids ≡ Idle = told_idle n d s dids idle in cc
+    go false busy = no_loan_made e _ (sym (told n d s dids busy) ∙ h) (told_no_loan n d (number_told d s) (in_written_order d dids))
 
 -- so is the event that a directive makes
 pub directive_no_loan : (w : World) (d : Directive) (e : Event) → judge w (Do d) ≡ Ok (Makes e) → is_loan e ≡ false
 unfolding plan_of
 directive_no_loan w d e h =
-    let s : State = w.state in
-    let planned : plan_of w.limits d s ≡ Ok (Makes e) = (then_ok (admitted w d) (plan_of w.limits d s) (Makes e) (sym (judge_directive w d) ∙ h)).1 in
-    let judged : directive_verdict w.limits d s ≡ Ok (Makes e) = (then_ok (few_items d) (directive_verdict w.limits d s) (Makes e) planned).1 in
-    let event_made : IsMadeBy w.limits d s e = made_by w.limits d s e judged in
-    verdict_no_loan d s event_made.dids e event_made.verdict_is
+    let n : ℕ = device_for d w.state in
+    let s : State = view n w.state in
+    let planned : planned_on w d ≡ Ok (Makes e) = (then_ok (admitted w d) (planned_on w d) (Makes e) (sym (judge_directive w d) ∙ h)).1 in
+    let judged : verdict_on w n d ≡ Ok (Makes e) = (then_ok (few_items d) (verdict_on w n d) (Makes e) planned).1 in
+    let event_made : IsMadeBy (limits_on n w.limits) n d s e = made_by (limits_on n w.limits) n d s e judged in
+    verdict_no_loan n d s event_made.dids e event_made.verdict_is
 
 -- and that of a write of the host
 pub write_no_loan : (w : World) (addr : ℕ) (bytes : List ℕ) (e : Event) → judge w (HostWrite addr bytes) ≡ Ok (Makes e) → is_loan e ≡ false
@@ -211,14 +263,16 @@ write_no_loan w addr bytes e h =
 -- ---- a call that was carried out
 
 -- a call that was judged so and made its event is done
-pub made_done : (base : Base) (call : Call Leased) (e : Event) (reply : Reply) (old new : Contents) (trace longer : List Event) → judge (world_of base old trace) call ≡ Ok (Makes e) → IsMadeInto e (bytes_brought call) reply old new trace longer
-    → IsDone (world_of base old trace) call reply (world_of base new longer)
-made_done base call e reply old new trace longer h m = rw h (m.reply, event_made base call e reply old new trace longer m)
+pub made_done : (l : Limits) (base : Base) (x : Devices) (new : Contents) (call : Call Leased) (e : Event) (reply : Reply) (trace longer : List Event) → AreSet l x → device_in e ≡ x.current → judge (world_in l base x trace) call ≡ Ok (Makes e) → IsMadeInto e (bytes_brought call) reply x.store new trace longer
+    → IsDone (world_in l base x trace) call reply (world_in l base (with_store x new) longer)
+made_done l base x new call e reply trace longer set on h m =
+    let seen : x.store.state ≡ view (device_in e) (whole_of x) = sym (ap (λ n. view n (whole_of x)) on ∙ state_used l x set) in
+    rw h (m.reply ∙ ap (reply_of e) seen, event_made l base x new call e reply trace longer set on m)
 
-pub done_either : (base : Base) {E : Type 0} (call : Call Leased) (e : Event) (old new : Contents) (trace longer : List Event) (r : Result Reply E) → judge (world_of base old trace) call ≡ Ok (Makes e)
-    → IfOk r (λ reply. IsMadeInto e (bytes_brought call) reply old new trace longer) → IfOk r (λ reply. IsDone (world_of base old trace) call reply (world_of base new longer))
-done_either base call e old new trace longer (Ok reply) h m = made_done base call e reply old new trace longer h m
-done_either base call e old new trace longer (Err x) h m = tt
+pub done_either : (l : Limits) (base : Base) {E : Type 0} (x : Devices) (new : Contents) (call : Call Leased) (e : Event) (trace longer : List Event) (r : Result Reply E) → AreSet l x → device_in e ≡ x.current → judge (world_in l base x trace) call ≡ Ok (Makes e)
+    → IfOk r (λ reply. IsMadeInto e (bytes_brought call) reply x.store new trace longer) → IfOk r (λ reply. IsDone (world_in l base x trace) call reply (world_in l base (with_store x new) longer))
+done_either l base x new call e trace longer (Ok reply) set on h m = made_done l base x new call e reply trace longer set on h m
+done_either l base x new call e trace longer (Err back) set on h m = tt
 
 -- and may be refused for want of memory
 pub made_wanted : (w : World) (call : Call Leased) (e : Event) → judge w call ≡ Ok (Makes e) → IsRefusal w call Memory
@@ -228,26 +282,51 @@ made_wanted w call e h = rw h refl
 pub judged_refused : (w : World) (call : Call Leased) (fault : Fault) → judge w call ≡ Err fault → IsRefusal w call fault
 judged_refused w call fault h = rw h refl
 
+-- the device of the event that a directive comes to
+pub device_told : (n : ℕ) (d : Directive) (s : State) (dids : List Did) (e : Event) → verdict_of n d s dids ≡ Makes e → device_in e ≡ n
+device_told n d s dids e h = go (is_idle d s) refl
+  where
+    same : (f : Event) → ◌≡◌ {A = Verdict} (Makes f) (Makes e) → device_in f ≡ n → device_in e ≡ n
+    same f p is = let one : f ≡ e = cc in subst (λ x. device_in x ≡ n) one is
+
+    on : (x : Directive) (k : ℕ) (did : List Did) → device_in (event_told n x k did) ≡ n
+    on (Enter device items) k did = refl
+    on _ k did = refl
+
+    go : (b : Bool) → is_idle d s ≡ b → device_in e ≡ n
+    go true idle = let none : verdict_of n d s dids ≡ Idle = told_idle n d s dids idle in cc
+    go false busy = same _ (sym (told n d s dids busy) ∙ h) (on d (number_told d s) (in_written_order d dids))
+
 -- what a directive came to, which was judged so, is done
-carried_out : (base : Base) (d : Directive) (v : Verdict) (reply : Reply) (old new : Contents) (trace longer : List Event) → IsCommitted v reply old new trace longer → IsCarriedOut (world_of base old trace) (Do d) v reply (world_of base new longer)
-carried_out base d (Makes e) reply old new trace longer h = (h.reply, event_made base (Do d) e reply old new trace longer h)
-carried_out base d Idle reply old new trace longer h = (h.0, unchanged base old new trace longer h.1)
+carried_out : (l : Limits) (base : Base) (x : Devices) (new : Contents) (d : Directive) (p : Planned) (v : Verdict) (reply : Reply) (trace longer : List Event) → AreSet l x → planned_verdict x.current d p x.store ≡ v → IsCommitted v reply x.store new trace longer
+    → IsCarriedOut (world_in l base x trace) (Do d) v reply (world_in l base (with_store x new) longer)
+carried_out l base x new d p (Makes e) reply trace longer set is h =
+    let on : device_in e ≡ x.current = device_told x.current d x.store.state p.dids e is in
+    let seen : x.store.state ≡ view (device_in e) (whole_of x) = sym (ap (λ n. view n (whole_of x)) on ∙ state_used l x set) in
+    (h.reply ∙ ap (reply_of e) seen, event_made l base x new (Do d) e reply trace longer set on h)
+carried_out l base x new d p Idle reply trace longer set is h = (h.0, unchanged l base x new trace longer h.1)
 
-pub directive_done : (base : Base) (d : Directive) (p : Planned) (old new : Contents) (trace longer : List Event) (r : Result Reply (Directive × Fault)) → OnOk r (judge (world_of base old trace) (Do d) ≡ Ok (planned_verdict d p old))
-    → IfOk r (λ reply. IsCommitted (planned_verdict d p old) reply old new trace longer) → IfOk r (λ reply. IsDone (world_of base old trace) (Do d) reply (world_of base new longer))
-directive_done base d p old new trace longer (Ok reply) h done = rw h (carried_out base d (planned_verdict d p old) reply old new trace longer done)
-directive_done base d p old new trace longer (Err back) h done = tt
+pub directive_done : (l : Limits) (base : Base) (x : Devices) (new : Contents) (d : Directive) (p : Planned) (trace longer : List Event) (r : Result Reply (Directive × Fault)) → AreSet l x → OnOk r (judge (world_in l base x trace) (Do d) ≡ Ok (planned_verdict x.current d p x.store))
+    → IfOk r (λ reply. IsCommitted (planned_verdict x.current d p x.store) reply x.store new trace longer) → IfOk r (λ reply. IsDone (world_in l base x trace) (Do d) reply (world_in l base (with_store x new) longer))
+directive_done l base x new d p trace longer (Ok reply) set h done = rw h (carried_out l base x new d p (planned_verdict x.current d p x.store) reply trace longer set refl done)
+directive_done l base x new d p trace longer (Err back) set h done = tt
 
-pub directive_judged : (base : Base) (d : Directive) (p : Planned) (old : Contents) (trace : List Event) (r : Result Reply (Directive × Fault)) → admitted (world_of base old trace) d ≡ Ok tt
-    → OnOk r (plan_of old.limits d old.state ≡ Ok (planned_verdict d p old)) → OnOk r (judge (world_of base old trace) (Do d) ≡ Ok (planned_verdict d p old))
-directive_judged base d p old trace (Ok reply) ok h = judged_plan (world_of base old trace) d (planned_verdict d p old) ok h
-directive_judged base d p old trace (Err back) ok h = tt
+-- what is planned in the store is planned on the device in use
+pub planned_used : (l : Limits) (base : Base) (x : Devices) (d : Directive) (trace : List Event) → AreSet l x → x.current ≡ device_for d (whole_of x) → planned_on (world_in l base x trace) d ≡ plan_of x.store.limits x.current d x.store.state
+planned_used l base x d trace set for =
+    let seen : view x.current (whole_of x) ≡ x.store.state = state_used l x set in
+    ap (λ n. plan_of (limits_on n l) n d (view n (whole_of x))) (sym for) ∙ (ap (λ s. plan_of (limits_on x.current l) x.current d s) seen ∙ ap (λ m. plan_of m x.current d x.store.state) (sym set.used))
 
-pub directive_refused : (base : Base) (d : Directive) (old : Contents) (trace : List Event) (r : Result Reply (Directive × Fault)) → admitted (world_of base old trace) d ≡ Ok tt
-    → IfErr r (λ back. MayBeToldOf (plan_of old.limits d old.state) back.1) → IfErr r (λ back. IsRefusal (world_of base old trace) (Do d) back.1)
-directive_refused base d old trace (Ok reply) ok h = tt
-directive_refused base d old trace (Err back) ok h = refused_plan (world_of base old trace) d back.1 ok h
+pub directive_judged : (l : Limits) (base : Base) (x : Devices) (d : Directive) (p : Planned) (trace : List Event) (r : Result Reply (Directive × Fault)) → AreSet l x → x.current ≡ device_for d (whole_of x) → admitted (world_in l base x trace) d ≡ Ok tt
+    → OnOk r (plan_of x.store.limits x.current d x.store.state ≡ Ok (planned_verdict x.current d p x.store)) → OnOk r (judge (world_in l base x trace) (Do d) ≡ Ok (planned_verdict x.current d p x.store))
+directive_judged l base x d p trace (Ok reply) set for ok h = judged_plan (world_in l base x trace) d (planned_verdict x.current d p x.store) ok (planned_used l base x d trace set for ∙ h)
+directive_judged l base x d p trace (Err back) set for ok h = tt
 
-pub write_done : (base : Base) (addr : ℕ) (bytes : List ℕ) (old new : Contents) (trace longer : List Event) → judge (world_of base old trace) (HostWrite addr bytes) ≡ Ok (Makes (written old.limits.full addr bytes))
-    → world_of base new longer ≡ world_after (HostWrite addr bytes) (written old.limits.full addr bytes) (world_of base old trace) → IsDone (world_of base old trace) (HostWrite addr bytes) Done (world_of base new longer)
-write_done base addr bytes old new trace longer h is = rw h (refl, is)
+pub directive_refused : (l : Limits) (base : Base) (x : Devices) (d : Directive) (trace : List Event) (r : Result Reply (Directive × Fault)) → AreSet l x → x.current ≡ device_for d (whole_of x) → admitted (world_in l base x trace) d ≡ Ok tt
+    → IfErr r (λ back. MayBeToldOf (plan_of x.store.limits x.current d x.store.state) back.1) → IfErr r (λ back. IsRefusal (world_in l base x trace) (Do d) back.1)
+directive_refused l base x d trace (Ok reply) set for ok h = tt
+directive_refused l base x d trace (Err back) set for ok h = refused_plan (world_in l base x trace) d back.1 ok (subst (λ r. MayBeToldOf r back.1) (sym (planned_used l base x d trace set for)) h)
+
+pub write_done : (l : Limits) (base : Base) (x : Devices) (new : Contents) (addr : ℕ) (bytes : List ℕ) (trace longer : List Event) → judge (world_in l base x trace) (HostWrite addr bytes) ≡ Ok (Makes (written l.full addr bytes))
+    → world_in l base (with_store x new) longer ≡ world_after (HostWrite addr bytes) (written l.full addr bytes) (world_in l base x trace) → IsDone (world_in l base x trace) (HostWrite addr bytes) Done (world_in l base (with_store x new) longer)
+write_done l base x new addr bytes trace longer h is = rw h (refl, is)

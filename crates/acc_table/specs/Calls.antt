@@ -6,21 +6,26 @@ use Rattle.acc_base.specs.declared.faults.Fault.TheVariants.{Memory}
 use Rattle.acc_base.specs.Loans.{Leased}
 use Rattle.acc_base.specs.Records.{State}
 use Rattle.acc_base.specs.Walk.{loan_at}
+use Rattle.acc_base.specs.Devices.{view, device_in}
 use Rattle.acc_base.specs.Calls.{World, judge, world_after}
 use Rattle.acc_base.specs.Judge.{Verdict, Makes, Idle, leased}
 use Rattle.acc_table.specs.declared.calls.Reply.{Reply}
 use Rattle.acc_table.specs.declared.calls.Reply.TheVariants as replies
 
--- what a call that made this event of a state answers: an entry to a region its number, a wait how many transfers it made, and a loan its lease, with the bytes that the block had
+-- what a call that made this event answers, of its device's view before it: an entry to a region its number, a wait how many transfers it made, and a loan its lease, with the bytes that the block had
 abbrev pub reply_of : Event → State → Reply
-reply_of (events.Entered number items did) s = replies.Entered number
-reply_of (events.Waited queue count) s = replies.Drained count
-reply_of (events.Lent region section block serial) s = replies.Lease (leased (loan_at serial block section s.records.ranges) s)
+reply_of (events.Entered device number items did) s = replies.Entered number
+reply_of (events.Waited device queue count) s = replies.Drained count
+reply_of (events.Lent device region section block serial) s = replies.Lease (leased device (loan_at serial block section s.records.ranges) s)
 reply_of _ s = replies.Done
+
+-- the reply in a world, by what the device of the event had
+abbrev pub reply_in : Event → World → Reply
+reply_in e w = reply_of e (view (device_in e) w.state)
 
 -- the reply is that of the event, and the world is that after it; where there was nothing to do, the world is the same
 abbrev pub IsCarriedOut : World → Call Leased → Verdict → Reply → World → Type 0
-IsCarriedOut w call (Makes e) reply v = (reply ≡ reply_of e w.state) × (v ≡ world_after call e w)
+IsCarriedOut w call (Makes e) reply v = (reply ≡ reply_in e w) × (v ≡ world_after call e w)
 IsCarriedOut w call Idle reply v = (reply ≡ replies.Idle) × (v ≡ w)
 
 -- the call was accepted, and carried out

@@ -1,17 +1,18 @@
 -- What a call takes of the tickets and of the regions that may be open.
-use Rattle.std.specs.Prelude.{ℕ, ◌+◌, ◌≡◌, Bool, true, false, if◌then◌else◌}
+use Rattle.std.specs.Prelude.{◌+◌, ◌≡◌, Bool, true, false, if◌then◌else◌}
 use Rattle.acc_clauses.specs.Words.{Call, Fault}
 use Rattle.acc_base.specs.declared.calls.Call.TheVariants.{Do}
 use Rattle.acc_base.specs.declared.directives.Directive.TheVariants.{Enter, Exit}
 use Rattle.acc_base.specs.declared.faults.Fault.TheVariants.{NoTickets, NoAllowance}
 use Rattle.acc_base.specs.Loans.{Leased}
-use Rattle.acc_base.specs.Calls.{World, event_count, open_regions}
+use Rattle.acc_base.specs.Devices.{open_regions}
+use Rattle.acc_base.specs.Calls.{World, event_count}
 use Rattle.acc_table.specs.declared.calls.Reply.{Reply}
 use Rattle.acc_table.specs.declared.calls.Reply.TheVariants as replies
 
 -- the call enters a data region
 abbrev pub is_entry : Call Leased → Bool
-is_entry (Do (Enter items)) = true
+is_entry (Do (Enter device items)) = true
 is_entry _ = false
 
 -- the call exits from a data region

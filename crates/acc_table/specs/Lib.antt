@@ -1,3 +1,4 @@
+pub mod Devices
 pub mod Kept
 pub mod Calls
 pub mod Counts

@@ -12,7 +12,9 @@ use Rattle.acc_base.specs.Waits.{steps_of}
 use Rattle.acc_base.specs.Clauses.{in_host}
 use Rattle.acc_base.specs.Loans.{Leased}
 use Rattle.acc_base.specs.Judge.{Verdict, Makes, Idle, few_items, verdict_of, gathered, gather_event}
-use Rattle.acc_base.specs.Calls.{World, judge, ticket, allowance, trace_room}
+use Rattle.acc_base.specs.Limits.{limits_on}
+use Rattle.acc_base.specs.Devices.{view, device_of_region}
+use Rattle.acc_base.specs.Calls.{World, judge, ticket, allowance, trace_room, device_for, device_there}
 use Rattle.acc_clauses.specs.Lending.{IsLoanPlanned}
 use Rattle.acc_clauses.specs.Contents.{Contents}
 use Rattle.acc_clauses.specs.Planned.{Planned}
@@ -22,30 +24,30 @@ use Rattle.acc_table.specs.Calls.{reply_of, MayWantMemory}
 
 -- the directive is the step of an empty queue
 abbrev pub is_idle : Directive → State → Bool
-is_idle (Step queue) s = is_none (option_map (λ t. t.block) (head_of queue s.records.queues))
+is_idle (Step device queue) s = is_none (option_map (λ t. t.block) (head_of queue s.records.queues))
 is_idle d s = false
 
 -- the number that the event of a directive tells of the state before it, and 0 where it tells none
 abbrev pub number_told : Directive → State → ℕ
-number_told (Enter items) s = s.register.next
-number_told (Wait queue) s = length (steps_of queue s.records.queues)
-number_told (Step queue) s = unwrap_or (option_map (λ t. t.block) (head_of queue s.records.queues)) 0
+number_told (Enter device items) s = s.register.next
+number_told (Wait device queue) s = length (steps_of queue s.records.queues)
+number_told (Step device queue) s = unwrap_or (option_map (λ t. t.block) (head_of queue s.records.queues)) 0
 number_told d s = 0
 
--- the event of a directive, not idle, that tells this number, and whose items did this, in written order
-abbrev pub event_told : Directive → ℕ → List Did → Event
-event_told (Enter items) n did = events.Entered n items did
-event_told (Exit number) n did = events.Left number did
-event_told (EnterData items queue) n did = events.EnteredData items queue did
-event_told (ExitData items finalize queue) n did = events.ExitedData items finalize queue did
-event_told (Update items if_present queue) n did = events.Updated items if_present queue did
-event_told (Wait queue) n did = events.Waited queue n
-event_told (Step queue) n did = events.Stepped queue n
+-- the event of a directive on a device, not idle, that tells this number, and whose items did this, in written order
+abbrev pub event_told : ℕ → Directive → ℕ → List Did → Event
+event_told d (Enter device items) n did = events.Entered d n items did
+event_told d (Exit number) n did = events.Left d number did
+event_told d (EnterData device items queue) n did = events.EnteredData d items queue did
+event_told d (ExitData device items finalize queue) n did = events.ExitedData d items finalize queue did
+event_told d (Update device items if_present queue) n did = events.Updated d items if_present queue did
+event_told d (Wait device queue) n did = events.Waited d queue n
+event_told d (Step device queue) n did = events.Stepped d queue n
 
 -- what a directive is answered whose event tells this number
 abbrev pub reply_told : Directive → ℕ → Reply
-reply_told (Enter items) n = replies.Entered n
-reply_told (Wait queue) n = replies.Drained n
+reply_told (Enter device items) n = replies.Entered n
+reply_told (Wait device queue) n = replies.Drained n
 reply_told d n = replies.Done
 
 -- the refusals of a directive that come before those of its items
@@ -55,6 +57,7 @@ admitted w d = do
   allowance w d
   few_items d
   trace_room w
+  device_there w (device_for d w.state)
 
 -- the refusals of a write of the host into this section
 unfoldable pub write_admitted : World → Section → Result ⊤ Fault
@@ -65,15 +68,17 @@ write_admitted w section = do
 
 -- what lending the block of a section comes to, or what it is refused for
 abbrev pub IsLoanJudged : World → ℕ → Section → Result Loan Fault → Type 0
-IsLoanJudged w region section result = MatchResult result (λ loan. IsLoanPlanned w.limits region section w.state loan × (judge w (Lend region section) ≡ Ok (Makes (events.Lent region section loan.block loan.serial)))) (λ fault. judge w (Lend region section) ≡ Err fault)
+IsLoanJudged w region section result =
+    let d : ℕ = device_of_region region w.state in
+    MatchResult result (λ loan. IsLoanPlanned (limits_on d w.limits) d region section (view d w.state) loan × (judge w (Lend region section) ≡ Ok (Makes (events.Lent d region section loan.block loan.serial)))) (λ fault. judge w (Lend region section) ≡ Err fault)
 
 -- what a lease comes to that is brought back, or what it is refused for
 abbrev pub IsLeaseJudged : World → Leased → Result ⊤ Fault → Type 0
-IsLeaseJudged w lease result = MatchResult result (λ _. (gather_event w.limits.full lease w.state ≡ Ok (gathered w.limits.full lease)) × (judge w (Gather lease) ≡ Ok (Makes (gathered w.limits.full lease)))) (λ fault. judge w (Gather lease) ≡ Err fault)
+IsLeaseJudged w lease result = MatchResult result (λ _. (gather_event w.limits.full lease (view lease.device w.state) ≡ Ok (gathered w.limits.full lease)) × (judge w (Gather lease) ≡ Ok (Makes (gathered w.limits.full lease)))) (λ fault. judge w (Gather lease) ≡ Err fault)
 
--- what a directive comes to for which this was planned
-abbrev pub planned_verdict : Directive → Planned → Contents → Verdict
-planned_verdict d p c = verdict_of d c.state p.dids
+-- what a directive comes to on a device for which this was planned
+abbrev pub planned_verdict : ℕ → Directive → Planned → Contents → Verdict
+planned_verdict n d p c = verdict_of n d c.state p.dids
 
 -- the fault is what a judgement refuses, or want of memory where it refuses nothing and there is something to do
 abbrev pub MayBeToldOf : Result Verdict Fault → Fault → Type 0
@@ -94,7 +99,7 @@ pub record IsMadeInto (e : Event) (brought : List ℕ) (answered : Reply) (old n
 
 -- the event is that of a loan
 abbrev pub is_loan : Event → Bool
-is_loan (events.Lent region section block serial) = true
+is_loan (events.Lent device region section block serial) = true
 is_loan _ = false
 
 -- a store and a trace after what a directive came to

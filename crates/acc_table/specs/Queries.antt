@@ -1,5 +1,5 @@
 -- What the queries of a table answer.
-use Rattle.std.specs.Prelude.{ℕ, ◌-◌, ◌<◌, ◌≤◌, Bool, true, false, ◌||◌, if◌then◌else◌, ◌==◌, ◌&&◌, List, length, take, drop, find, Option, Some, None, option_map}
+use Rattle.std.specs.Prelude.{ℕ, ◌-◌, ◌<◌, ◌≤◌, Bool, true, false, ◌||◌, if◌then◌else◌, ◌==◌, ◌&&◌, List, [], ◌∷◌, length, take, drop, find, max, Option, Some, None, IsSome, option_map}
 use Rattle.std.specs.List.{AllByRecursion}
 use Rattle.acc_clauses.specs.Words.{Section, Range, Block, Counters, Loan, Found}
 use Rattle.acc_base.specs.declared.mappings.Found.TheVariants.{Inside}
@@ -10,6 +10,8 @@ use Rattle.acc_base.specs.Blocks.{place_of}
 use Rattle.acc_base.specs.Loans.{is_lent}
 use Rattle.acc_base.specs.Records.{Records, State}
 use Rattle.acc_base.specs.Bytes.{bytes_of}
+use Rattle.acc_base.specs.Register.{region_at, newest_region}
+use Rattle.acc_base.specs.Devices.{OneDevice, Whole, view, device_of_region}
 use Rattle.acc_table.specs.declared.calls.Mapped.{Mapped}
 
 -- the section lies inside one mapped range
@@ -60,3 +62,25 @@ device_read_in _ len state = None
 -- the bytes on the device of a section that is inside a mapped range, whose block is not lent
 abbrev pub device_read_of : Section → State → Option (List ℕ)
 device_read_of s state = device_read_in (where_is s state.records.ranges) s.len state
+
+-- ---- the open regions of all devices
+
+-- the later of two regions, by their numbers, which rise
+abbrev pub later : Option ℕ → Option ℕ → Option ℕ
+later None other = other
+later (Some number) None = Some number
+later (Some number) (Some next) = Some (max number next)
+
+-- the number of the open region that was entered last, on whichever of these devices
+abbrev pub newest_of : List OneDevice → Option ℕ
+newest_of [] = None
+newest_of (x ∷ xs) = later (newest_region x.regions) (newest_of xs)
+
+-- a region of the number is open on a device
+abbrev pub IsOpenOn : ℕ → ℕ → Whole → Type 0
+IsOpenOn number d w = IsSome (region_at number (view d w).register.regions)
+
+-- the region is open, and each that is open on any device was entered before it; without one, none is open on any
+abbrev pub IsLastEntered : Whole → Option ℕ → Type 0
+IsLastEntered w None = (d number : ℕ) → IsOpenOn number d w → ⊥
+IsLastEntered w (Some n) = IsOpenOn n (device_of_region n w) w × ((d number : ℕ) → IsOpenOn number d w → number ≤ n)

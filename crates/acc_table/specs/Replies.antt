@@ -1,8 +1,8 @@
 -- Which of the replies a call is answered.
 use Rattle.std.specs.Prelude.{◌≡◌, ◌⊎◌, ⊤}
 use Rattle.acc_clauses.specs.Words.{Call, Directive}
-use Rattle.acc_base.specs.declared.calls.Call.TheVariants.{Do, HostWrite, Lend, Gather}
-use Rattle.acc_base.specs.declared.directives.Directive.TheVariants.{Enter, Exit, EnterData, ExitData, Update, Wait, Step}
+use Rattle.acc_base.specs.declared.calls.Call.TheVariants.{Do, Lend}
+use Rattle.acc_base.specs.declared.directives.Directive.TheVariants.{Enter, Wait, Step}
 use Rattle.acc_base.specs.Loans.{Leased}
 use Rattle.acc_table.specs.declared.calls.Reply.{Reply}
 use Rattle.acc_table.specs.declared.calls.Reply.TheVariants as replies
@@ -24,9 +24,9 @@ HasLease _ = ⊥
 
 -- a directive is answered so: an entry to a region its number, a wait how many transfers it made, and a step whether there was one
 abbrev pub IsReplyToDirective : Directive → Reply → Type 0
-IsReplyToDirective (Enter items) reply = HasNumber reply
-IsReplyToDirective (Wait queue) reply = HasCount reply
-IsReplyToDirective (Step queue) reply = (reply ≡ replies.Done) ⊎ (reply ≡ replies.Idle)
+IsReplyToDirective (Enter device items) reply = HasNumber reply
+IsReplyToDirective (Wait device queue) reply = HasCount reply
+IsReplyToDirective (Step device queue) reply = (reply ≡ replies.Done) ⊎ (reply ≡ replies.Idle)
 IsReplyToDirective _ reply = reply ≡ replies.Done
 
 -- a call is answered so: a loan its lease

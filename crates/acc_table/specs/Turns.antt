@@ -15,7 +15,7 @@ use Rattle.acc_table.specs.declared.calls.Reply.{Reply}
 use Rattle.acc_table.specs.declared.calls.Reply.TheVariants as replies
 use Rattle.acc_table.specs.declared.calls.Answer.{Answer}
 use Rattle.acc_table.specs.declared.calls.Answer.TheVariants as answers
-use Rattle.acc_table.specs.Calls.{reply_of}
+use Rattle.acc_table.specs.Calls.{reply_in}
 
 -- ---- what a turn asks
 
@@ -63,9 +63,9 @@ pub record StaysRefused (w : World) (leases : List Leased) (fault : Fault) (answ
 
 -- the turn made this event: the leases are those that it kept, and at the end that which is replied
 pub record IsTurnDone (w : World) (kept : List Leased) (call : Call Leased) (e : Event) (answer : Answer) (next : World) (rest : List Leased) : Type 0 where
-  pub answer_is : answer ≡ answer_to (reply_of e w.state)
+  pub answer_is : answer ≡ answer_to (reply_in e w)
   pub next_is : next ≡ world_after call e w
-  pub rest_is : rest ≡ kept ++ lent_by (reply_of e w.state)
+  pub rest_is : rest ≡ kept ++ lent_by (reply_in e w)
 
 -- there was nothing to do in the turn, and the world and the leases stayed
 pub record StaysIdle (w : World) (leases : List Leased) (answer : Answer) (next : World) (rest : List Leased) : Type 0 where

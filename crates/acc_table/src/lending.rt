@@ -23,13 +23,14 @@ use acc_lend::Lease;
 pub fn lend(
     store: &mut Store,
     trace: &mut Vec<Event>,
+    device: u64,
     region: u64,
     section: Section,
     loan: Loan,
 ) -> Result<Reply, Fault>
-    requires planned { IsLoanPlanned store.old.limits region section store.old.state loan }
+    requires planned { IsLoanPlanned store.old.limits device region section store.old.state loan }
     requires serial { store.old.state.register.serial < 2 ^ 48 }
-    ensures done { IfOk result (λ reply. IsMadeInto (Lent region section loan.block loan.serial) [] reply store.old store.new trace.old.items trace.new.items) }
+    ensures done { IfOk result (λ reply. IsMadeInto (Lent device region section loan.block loan.serial) [] reply store.old store.new trace.old.items trace.new.items) }
     ensures only { IfErr result (λ fault. fault ≡ Memory) }
     ensures succeeds { store.old.limits.full ≡ false → vec_len trace.old < vec_capacity trace.old → IsOk result }
     ensures same { OnErr result (IsAsBefore store.old store.new trace.old.items trace.new.items) }
@@ -37,8 +38,9 @@ pub fn lend(
     trace.reserve(1)?;
     let block = loan.block;
     let serial = loan.serial;
-    let lease = store.lend(loan)?;
+    let lease = store.lend(device, loan)?;
     trace.push_reserved(Event::Lent {
+        device,
         region,
         section,
         block,
@@ -55,10 +57,12 @@ pub fn take_back(store: &mut Store, trace: &mut Vec<Event>, lease: Lease, bytes:
     requires place { vec_len trace.old < vec_capacity trace.old }
     ensures { IsMadeInto (gathered store.old.limits.full lease) lease.bytes result store.old store.new trace.old.items trace.new.items }
 {
+    let device = lease.device();
     let serial = lease.serial();
     let block = lease.block();
     store.gather(lease);
     trace.push_reserved(Event::Gathered {
+        device,
         serial,
         block,
         bytes,
@@ -94,15 +98,17 @@ fn make_room(trace: &mut Vec<Event>, lease: &Lease, full: bool) -> Result<List<u
 pub fn gather(
     store: &mut Store,
     trace: &mut Vec<Event>,
+    full: bool,
     lease: Lease,
 ) -> Result<Reply, (Lease, Fault)>
+    requires full { full ≡ store.old.limits.full }
     requires ready { gather_event store.old.limits.full lease store.old.state ≡ Ok (gathered store.old.limits.full lease) }
     ensures done { IfOk result (λ reply. IsMadeInto (gathered store.old.limits.full lease) lease.bytes reply store.old store.new trace.old.items trace.new.items) }
     ensures succeeds { store.old.limits.full ≡ false → vec_len trace.old < vec_capacity trace.old → IsOk result }
     ensures back { IfErr result (λ back. (back.0 ≡ lease) × (back.1 ≡ Memory)) }
     ensures same { OnErr result (IsAsBefore store.old store.new trace.old.items trace.new.items) }
 {
-    match make_room(trace, &lease, store.config().full()) {
+    match make_room(trace, &lease, full) {
         Ok(bytes) => Ok(take_back(store, trace, lease, bytes)),
         Err(fault) => Err((lease, fault)),
     }

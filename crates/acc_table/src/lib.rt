@@ -1,4 +1,5 @@
-//! The table of an OpenACC 3.3 data runtime on one device with memory of its own: one call is one event or no change.
+//! The table of an OpenACC 3.3 data runtime on one to four devices with memories of their own: one call is one event or no
+//! change.
 //!
 //! A [`Table`] holds both memories, the mapped ranges with their reference counters (OpenACC 3.3, section 2.6.7), the
 //! open data regions, the device blocks with those that are lent to kernels, the queues of transfers, and the trace of
@@ -6,6 +7,7 @@
 #![tactic(auto)]
 
 mod calls;
+mod devices;
 pub mod laws;
 mod lending;
 mod making;
@@ -14,7 +16,7 @@ mod rebasing;
 mod runs;
 mod tables;
 
-pub use acc_clauses::Base;
+pub use acc_clauses::{Base, DeviceBase};
 pub use acc_lend::Lease;
 pub use calls::{Answer, Call, Mapped, Reply, Turn, abandon, abandon_all};
 pub use tables::Table;

@@ -1,6 +1,6 @@
 //! How a judged directive becomes an event. All growths come before the first change.
 
-ghost use Rattle.std.specs.Prelude.{◌≡◌, ◌+◌, ◌<◌, ◌≤◌, ◌^◌, ◌++◌, ◌∷◌, [], false, length, Ok, vec_len, vec_capacity, is_none, IsOk, IfOk, IfErr, OnOk, OnErr, IfSome};
+ghost use Rattle.std.specs.Prelude.{ℕ, ◌≡◌, ◌+◌, ◌<◌, ◌≤◌, ◌^◌, ◌++◌, ◌∷◌, [], false, length, Ok, vec_len, vec_capacity, is_none, IsOk, IfOk, IfErr, OnOk, OnErr, IfSome};
 ghost use Rattle.acc_base.specs.declared.faults.Fault.TheVariants.{Memory};
 ghost use Rattle.acc_base.specs.Limits.{recorded};
 ghost use Rattle.acc_base.specs.Bytes.{host_after_write};
@@ -20,7 +20,7 @@ fn is_idle(store: &Store, directive: &Directive) -> bool
     ensures { result ≡ is_idle directive.now store.now.state }
 {
     match directive {
-        Directive::Step { queue } => store.head_block(*queue).is_none(),
+        Directive::Step { queue, .. } => store.view().head_block(*queue).is_none(),
         _ => false,
     }
 }
@@ -32,25 +32,41 @@ fn number_told(store: &Store, directive: &Directive) -> u64
 {
     match directive {
         Directive::Enter { .. } => store.next_region(),
-        Directive::Wait { queue } => store.waiting(*queue),
-        Directive::Step { queue } => store.head_block(*queue).unwrap_or(0),
+        Directive::Wait { queue, .. } => store.view().waiting(*queue),
+        Directive::Step { queue, .. } => store.view().head_block(*queue).unwrap_or(0),
         _ => 0,
     }
 }
 
-/// The event of a directive that tells this number, and whose items did this, in written order.
-fn event_told(directive: Directive, number: u64, did: List<Did>) -> Event
-    ensures { result ≡ event_told directive number did }
+/// The event of a directive on a device that tells this number, and whose items did this, in written order.
+fn event_told(device: u64, directive: Directive, number: u64, did: List<Did>) -> Event
+    ensures { result ≡ event_told device directive number did }
 {
     match directive {
-        Directive::Enter { items } => Event::Entered { number, items, did },
-        Directive::Exit { number } => Event::Left { number, did },
-        Directive::EnterData { items, queue } => Event::EnteredData { items, queue, did },
+        Directive::Enter { items, .. } => Event::Entered {
+            device,
+            number,
+            items,
+            did,
+        },
+        Directive::Exit { number } => Event::Left {
+            device,
+            number,
+            did,
+        },
+        Directive::EnterData { items, queue, .. } => Event::EnteredData {
+            device,
+            items,
+            queue,
+            did,
+        },
         Directive::ExitData {
             items,
             finalize,
             queue,
+            ..
         } => Event::ExitedData {
+            device,
             items,
             finalize,
             queue,
@@ -60,17 +76,21 @@ fn event_told(directive: Directive, number: u64, did: List<Did>) -> Event
             items,
             if_present,
             queue,
+            ..
         } => Event::Updated {
+            device,
             items,
             if_present,
             queue,
             did,
         },
-        Directive::Wait { queue } => Event::Waited {
+        Directive::Wait { queue, .. } => Event::Waited {
+            device,
             queue,
             count: number,
         },
-        Directive::Step { queue } => Event::Stepped {
+        Directive::Step { queue, .. } => Event::Stepped {
+            device,
             queue,
             block: number,
         },
@@ -109,11 +129,12 @@ fn make_room(
     Ok(List::from_vec(did))
 }
 
-/// Does a directive for which this was planned and room was made, and which is not idle, and answers the reply.
+/// Does a directive on the device of the store for which this was planned and room was made, and which is not idle, and answers the reply.
 fn commit(
     store: &mut Store,
     trace: &mut Vec<Event>,
     plan: &Plan,
+    device: u64,
     directive: Directive,
     did: List<Did>,
 ) -> Reply
@@ -124,12 +145,12 @@ fn commit(
     requires busy { is_idle directive store.old.state ≡ false }
     requires room { HasPlanRoom directive plan.now store.old.room }
     requires place { vec_len trace.old < vec_capacity trace.old }
-    ensures done { IsCommitted (planned_verdict directive plan.now store.old) result store.old store.new trace.old.items trace.new.items }
+    ensures done { IsCommitted (planned_verdict device directive plan.now store.old) result store.old store.new trace.old.items trace.new.items }
 {
     let number = number_told(store, &directive);
     let reply = reply_told(&directive, number);
     store.commit(&directive, plan);
-    trace.push_reserved(event_told(directive, number, did));
+    trace.push_reserved(event_told(device, directive, number, did));
     reply
 }
 
@@ -147,13 +168,13 @@ fn prepare(
 ) -> Result<Option<List<Did>>, Fault>
     requires births { store.old.state.records.births + 64 ≤ 2 ^ 48 }
     ensures same { IsAsBefore store.old store.new trace.old.items trace.new.items }
-    ensures judged { OnOk result (plan_of store.old.limits directive.now store.old.state ≡ Ok (planned_verdict directive.now plan.new store.old)) }
+    ensures judged { (device : ℕ) → OnOk result (plan_of store.old.limits device directive.now store.old.state ≡ Ok (planned_verdict device directive.now plan.new store.old)) }
     ensures planned { OnOk result (IsPlanOf store.new.limits directive.now store.new.state plan.new) }
     ensures idle { IfOk result (λ did. is_none did ≡ is_idle directive.now store.old.state) }
     ensures did { IfOk result (λ told. IfSome told (λ did. did ≡ plan.new.written)) }
     ensures room { IfOk result (λ told. IfSome told (λ _. HasPlanRoom directive.now plan.new store.new.room)) }
     ensures place { IfOk result (λ told. IfSome told (λ _. vec_len trace.new < vec_capacity trace.new)) }
-    ensures refused { IfErr result (MayBeToldOf (plan_of store.old.limits directive.now store.old.state)) }
+    ensures refused { (device : ℕ) → IfErr result (MayBeToldOf (plan_of store.old.limits device directive.now store.old.state)) }
 {
     store.plan(directive, plan)?;
     if is_idle(store, directive) {
@@ -162,7 +183,8 @@ fn prepare(
     Ok(Some(make_room(store, trace, directive, plan)?))
 }
 
-/// Judges a directive, makes room for it, does it and stores its event, and answers the reply.
+/// Judges a directive on the device that the store has, makes room for it, does it and stores its event, and answers the
+/// reply.
 ///
 /// # Errors
 ///
@@ -172,19 +194,20 @@ pub fn carry_out(
     store: &mut Store,
     trace: &mut Vec<Event>,
     plan: &mut Plan,
+    device: u64,
     directive: Directive,
 ) -> Result<Reply, (Directive, Fault)>
     requires births { store.old.state.records.births + 64 ≤ 2 ^ 48 }
     requires regions { store.old.state.register.next < 2 ^ 48 }
-    ensures judged { OnOk result (plan_of store.old.limits directive store.old.state ≡ Ok (planned_verdict directive plan.new store.old)) }
+    ensures judged { OnOk result (plan_of store.old.limits device directive store.old.state ≡ Ok (planned_verdict device directive plan.new store.old)) }
     ensures planned { OnOk result (IsPlanOf store.old.limits directive store.old.state plan.new) }
-    ensures done { IfOk result (λ reply. IsCommitted (planned_verdict directive plan.new store.old) reply store.old store.new trace.old.items trace.new.items) }
+    ensures done { IfOk result (λ reply. IsCommitted (planned_verdict device directive plan.new store.old) reply store.old store.new trace.old.items trace.new.items) }
     ensures back { IfErr result (λ back. back.0 ≡ directive) }
-    ensures refused { IfErr result (λ back. MayBeToldOf (plan_of store.old.limits directive store.old.state) back.1) }
+    ensures refused { IfErr result (λ back. MayBeToldOf (plan_of store.old.limits device directive store.old.state) back.1) }
     ensures same { OnErr result (IsAsBefore store.old store.new trace.old.items trace.new.items) }
 {
     match prepare(store, trace, plan, &directive) {
-        Ok(Some(did)) => Ok(commit(store, trace, plan, directive, did)),
+        Ok(Some(did)) => Ok(commit(store, trace, plan, device, directive, did)),
         Ok(None) => Ok(Reply::Idle),
         Err(fault) => Err((directive, fault)),
     }
@@ -209,10 +232,12 @@ pub fn recorded(full: bool, bytes: List<u8>, alloc: Global) -> List<u8>
 pub fn write_host(
     store: &mut Store,
     trace: &mut Vec<Event>,
+    full: bool,
     addr: u64,
     bytes: List<u8>,
 ) -> Result<(), (List<u8>, Fault)>
-    requires { CanWrite (record { start = addr; len = length bytes }) store.old.state.host }
+    requires can { CanWrite (record { start = addr; len = length bytes }) store.old.state.host }
+    requires full { full ≡ store.old.limits.full }
     ensures limits { store.new.limits ≡ store.old.limits }
     ensures state { OnOk result (store.new.state ≡ record store.old.state { host = host_after_write addr (length bytes) bytes store.old.state.host }) }
     ensures trace { OnOk result (trace.new.items ≡ trace.old.items ++ written store.old.limits.full addr bytes ∷ []) }
@@ -225,7 +250,7 @@ pub fn write_host(
     }
     store.host_write(addr, bytes.as_slice());
     let len = bytes.as_slice().len() as u64;
-    let bytes = recorded(store.config().full(), bytes, *trace.allocator());
+    let bytes = recorded(full, bytes, *trace.allocator());
     trace.push_reserved(Event::HostWritten { addr, len, bytes });
     Ok(())
 }

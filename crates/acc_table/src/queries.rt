@@ -1,8 +1,10 @@
 //! What a table tells of itself. No query takes memory or is refused.
 
-ghost use Rattle.std.specs.Prelude.{◌≡◌, ◌-◌, ◌↔◌, IsTrue, length, option_map};
+ghost use Rattle.std.specs.Prelude.{◌≡◌, ◌-◌, ◌<◌, ◌≤◌, ◌↔◌, None, IsTrue, IfSome, IfNone, length, option_map};
 ghost use Rattle.acc_base.specs.Blocks.{used_bytes};
-ghost use Rattle.acc_base.specs.Calls.{event_count, open_regions};
+ghost use Rattle.acc_base.specs.Limits.{limits_on};
+ghost use Rattle.acc_base.specs.Calls.{event_count};
+ghost use Rattle.acc_base.specs.Devices.{device_at, new_device, view, open_regions, device_of_region};
 ghost use Rattle.acc_base.specs.Register.{newest_region};
 ghost use Rattle.acc_base.specs.Ranges.{where_is, IsPlacedAt};
 ghost use Rattle.acc_base.specs.Pointers.{device_address_of, attachment_of};
@@ -11,12 +13,12 @@ ghost use Rattle.acc_base.specs.Section.{device_memory};
 ghost use Rattle.acc_base.specs.Holes.{IsNextHole};
 ghost use Rattle.acc_base.specs.Waits.{ended_from};
 ghost use Rattle.acc_base.specs.Inside.{IsInsideOne};
-ghost use Rattle.acc_table.specs.Queries.{is_inside, counters_of_section, mapped_from, first_attached, IsLeastFrom, host_read_of, device_read_of};
+ghost use Rattle.acc_table.specs.Queries.{is_inside, counters_of_section, mapped_from, first_attached, IsLeastFrom, host_read_of, device_read_of, later, newest_of, IsLastEntered};
 
 use crate::calls::Mapped;
 use crate::tables::Table;
 use acc_base::{Attachment, Config, Counters, Ended, Event, Found, Hole, Section};
-use acc_clauses::Base;
+use acc_clauses::{Base, View};
 
 /// The section is inside one range.
 fn is_inside(found: Found) -> bool
@@ -25,84 +27,121 @@ fn is_inside(found: Found) -> bool
     matches!(found, Found::Inside { .. })
 }
 
+/// The later of two regions, by their numbers.
+fn later(one: Option<u64>, other: Option<u64>) -> Option<u64>
+    ensures { result ≡ later one other }
+{
+    let Some(number) = one else {
+        return other;
+    };
+    let Some(next) = other else {
+        return one;
+    };
+    Some(number.max(next))
+}
+
 impl Table {
-    /// Where the section lies among the mapped ranges, by its addresses: it has none, one range has them all, no range
-    /// has any, or some are mapped and no one range has them all.
-    pub fn find(&self, section: Section) -> Found
-        ensures value { result ≡ where_is section self.now.state.records.ranges }
-        ensures addresses { IsPlacedAt section self.now.state.records.ranges result }
+    /// What a device has, to look at. `None` exactly where there is no such device.
+    fn on(&self, device: u64) -> Option<View<'_>>
+        ensures there { IfSome result (λ v. v ≡ record { limits = limits_on device self.now.limits; device = device_at device self.now.state.devices }) }
+        ensures known { IfSome result (λ _. device < self.now.limits.devices) }
+        ensures none { IfNone result (self.now.limits.devices ≤ device) }
+        ensures new { IfNone result (device_at device self.now.state.devices ≡ new_device) }
     {
-        self.store.find(section)
+        self.devices.view(device)
     }
 
-    /// Whether the section is not empty and each of its addresses is in one mapped range.
-    pub fn is_present(&self, section: Section) -> bool
-        ensures value { result ≡ is_inside (where_is section self.now.state.records.ranges) }
-        ensures addresses { IsTrue result ↔ IsInsideOne section self.now.state.records.ranges }
+    /// Where the section lies among the mapped ranges of a device, by its addresses: it has none, one range has them all, no
+    /// range has any, or some are mapped and no one range has them all. A device that is not there maps nothing.
+    pub fn find(&self, device: u64, section: Section) -> Found
+        ensures value { result ≡ where_is section (view device self.now.state).records.ranges }
+        ensures addresses { IsPlacedAt section (view device self.now.state).records.ranges result }
     {
-        is_inside(self.store.find(section))
+        self.laws();
+        match self.on(device) {
+            Some(view) => view.find(section),
+            None if section.len == 0 => Found::Empty,
+            None => Found::Absent,
+        }
     }
 
-    /// The device address that a host address is mapped to, if it is.
-    pub fn device_address(&self, address: u64) -> Option<u64>
-        ensures { result ≡ device_address_of address self.now.state.records }
+    /// Whether the section is not empty and each of its addresses is in one mapped range of a device.
+    pub fn is_present(&self, device: u64, section: Section) -> bool
+        ensures value { result ≡ is_inside (where_is section (view device self.now.state).records.ranges) }
+        ensures addresses { IsTrue result ↔ IsInsideOne section (view device self.now.state).records.ranges }
     {
+        self.laws();
+        is_inside(self.find(device, section))
+    }
+
+    /// The device address that a host address is mapped to on a device, if it is.
+    pub fn device_address(&self, device: u64, address: u64) -> Option<u64>
+        ensures { result ≡ device_address_of address (view device self.now.state).records }
+    {
+        self.laws();
         let only = Section {
             start: address,
             len: 1,
         };
-        match self.store.find(only) {
-            Found::Inside { block, offset } => { Some(self.store.place(block) + offset) }
+        let view = self.on(device)?;
+        match view.find(only) {
+            Found::Inside { block, offset } => Some(view.place(block) + offset),
             Found::Empty | Found::Partly | Found::Absent => None,
         }
     }
 
-    /// How often the pointer at a host address is attached in the block that its eight bytes are mapped to (OpenACC
-    /// 3.3, section 2.6.8); 0 where they are not inside one mapped range.
-    pub fn attachment(&self, pointer: u64) -> u64
-        ensures { result ≡ attachment_of pointer self.now.state.records }
+    /// How often the pointer at a host address is attached on a device, in the block that its eight bytes are mapped to
+    /// (OpenACC 3.3, section 2.6.8); 0 where they are not inside one mapped range.
+    pub fn attachment(&self, device: u64, pointer: u64) -> u64
+        ensures { result ≡ attachment_of pointer (view device self.now.state).records }
     {
-        self.store.attachment(pointer)
+        match self.on(device) {
+            Some(view) => view.attachment(pointer),
+            None => 0,
+        }
     }
 
-    /// The attached pointer that has the least host address in a section, with its counter, where the section is inside
-    /// one mapped range; else `None` (OpenACC 3.3, section 2.6.8). So a caller finds all of a range, one after the other.
-    pub fn next_attached(&self, section: Section) -> Option<Attachment>
-        ensures { result ≡ first_attached section self.now.state.records }
+    /// The attached pointer that has the least host address in a section, with its counter on a device, where the section is
+    /// inside one mapped range; else `None` (OpenACC 3.3, section 2.6.8). So a caller finds all of a range, one after the
+    /// other.
+    pub fn next_attached(&self, device: u64, section: Section) -> Option<Attachment>
+        ensures { result ≡ first_attached section (view device self.now.state).records }
     {
-        match self.store.find(section) {
-            Found::Inside { block, .. } => self.store.next_attached(block, section),
+        let view = self.on(device)?;
+        match view.find(section) {
+            Found::Inside { block, .. } => view.next_attached(block, section),
             Found::Empty | Found::Partly | Found::Absent => None,
         }
     }
 
-    /// The reference counters of the mapped range that the section is inside (OpenACC 3.3, section 2.6.7), if it is
-    /// inside one.
-    pub fn counters(&self, section: Section) -> Option<Counters>
-        ensures { result ≡ counters_of_section section self.now.state.records }
+    /// The reference counters of the mapped range of a device that the section is inside (OpenACC 3.3, section 2.6.7), if it
+    /// is inside one.
+    pub fn counters(&self, device: u64, section: Section) -> Option<Counters>
+        ensures { result ≡ counters_of_section section (view device self.now.state).records }
     {
-        match self.store.find(section) {
-            Found::Inside { block, .. } => Some(self.store.counters(block)),
+        let view = self.on(device)?;
+        match view.find(section) {
+            Found::Inside { block, .. } => Some(view.counters(block)),
             Found::Empty | Found::Partly | Found::Absent => None,
         }
     }
 
-    /// The mapped range of least start at or above a host address, if there is one.
-    pub fn mapped(&self, from: u64) -> Option<Mapped>
-        ensures value { result ≡ mapped_from from self.now.state.records }
-        ensures least { IsLeastFrom from self.now.state.records.ranges result }
+    /// The mapped range of a device of least start at or above a host address, if there is one.
+    pub fn mapped(&self, device: u64, from: u64) -> Option<Mapped>
+        ensures value { result ≡ mapped_from from (view device self.now.state).records }
+        ensures least { IsLeastFrom from (view device self.now.state).records.ranges result }
     {
-        match self.store.next_range(from) {
-            Some(range) => Some(Mapped {
-                start: range.section.start,
-                len: range.section.len,
-                place: self.store.place(range.block),
-                structured: range.structured,
-                dynamic: range.dynamic,
-                lent: self.store.is_lent(range.block),
-            }),
-            None => None,
-        }
+        self.laws();
+        let view = self.on(device)?;
+        let range = view.next_range(from)?;
+        Some(Mapped {
+            start: range.section.start,
+            len: range.section.len,
+            place: view.place(range.block),
+            structured: range.structured,
+            dynamic: range.dynamic,
+            lent: view.is_lent(range.block),
+        })
     }
 
     /// The bytes of a section of host memory, as many as it is long; an empty one has none, wherever it starts. `None`
@@ -110,18 +149,20 @@ impl Table {
     pub fn host_read(&self, section: Section) -> Option<&[u8]>
         ensures { option_map (λ bytes. bytes.now) result ≡ host_read_of section self.now.state.host }
     {
-        self.store.host_read(section)
+        self.devices.store.host_read(section)
     }
 
-    /// The bytes that the device has of a section, as many as it is long. `None` where the section is not inside one
+    /// The bytes that a device has of a section, as many as it is long. `None` where the section is not inside one
     /// mapped range, as an empty one never is, and while its block is lent (OpenACC 3.3, section 2.5, compute
     /// constructs).
-    pub fn device_read(&self, section: Section) -> Option<&[u8]>
-        ensures { option_map (λ bytes. bytes.now) result ≡ device_read_of section self.now.state }
+    pub fn device_read(&self, device: u64, section: Section) -> Option<&[u8]>
+        ensures { option_map (λ bytes. bytes.now) result ≡ device_read_of section (view device self.now.state) }
     {
-        match self.store.find(section) {
+        self.laws();
+        let view = self.on(device)?;
+        match view.find(section) {
             Found::Inside { block, offset } => {
-                let bytes = self.store.bytes(block)?;
+                let bytes = view.bytes(block)?;
                 let from = offset as usize;
                 Some(&bytes[from..from + section.len as usize])
             }
@@ -129,41 +170,56 @@ impl Table {
         }
     }
 
-    /// Of the blocks whose mapping has ended, the one of least place at or above a device address: such a block stays
-    /// while a queued transfer names it (OpenACC 3.3, section 2.16, asynchronous behavior).
-    pub fn ended(&self, from: u64) -> Option<Ended>
-        ensures { result ≡ ended_from from self.now.state.records }
+    /// Of the blocks of a device whose mapping has ended, the one of least place at or above a device address: such a block
+    /// stays while a queued transfer names it (OpenACC 3.3, section 2.16, asynchronous behavior).
+    pub fn ended(&self, device: u64, from: u64) -> Option<Ended>
+        ensures { result ≡ ended_from from (view device self.now.state).records }
     {
-        self.store.ended(from)
+        self.on(device)?.ended(from)
     }
 
-    /// The hole of least place at or above a device address: free addresses of the device that lie side by side, as many as
-    /// there are.
-    pub fn hole(&self, from: u64) -> Option<Hole>
-        ensures { IsNextHole from (device_memory self.now.limits.device) self.now.state.records.blocks result }
+    /// The hole of a device of least place at or above a device address: free addresses of the device that lie side by side,
+    /// as many as there are. `None` also where there is no such device.
+    pub fn hole(&self, device: u64, from: u64) -> Option<Hole>
+        ensures there { device < self.now.limits.devices → IsNextHole from (device_memory (limits_on device self.now.limits)) (view device self.now.state).records.blocks result }
+        ensures none { self.now.limits.devices ≤ device → result ≡ None }
     {
-        self.store.hole(from)
+        self.on(device)?.hole(from)
     }
 
-    /// How many transfers wait in a queue; 0 where there is no such queue (OpenACC 3.3, section 2.16).
-    pub fn queue_len(&self, q: u64) -> u64
-        ensures { result ≡ length (queue_at q self.now.state.records.queues) }
+    /// How many transfers wait in a queue of a device; 0 where there is no such queue (OpenACC 3.3, section 2.16).
+    pub fn queue_len(&self, device: u64, q: u64) -> u64
+        ensures { result ≡ length (queue_at q (view device self.now.state).records.queues) }
     {
-        self.store.queue_len(q)
+        match self.on(device) {
+            Some(view) => view.queue_len(q),
+            None => 0,
+        }
     }
 
-    /// The bytes of device memory that all blocks take, each rounded up to a multiple of 16.
-    pub fn used(&self) -> u64
-        ensures { result ≡ used_bytes self.now.state.records.blocks }
+    /// The bytes of the memory of a device that all blocks take, each rounded up to a multiple of 16.
+    pub fn used(&self, device: u64) -> u64
+        ensures { result ≡ used_bytes (view device self.now.state).records.blocks }
     {
-        self.store.used()
+        match self.on(device) {
+            Some(view) => view.used(),
+            None => 0,
+        }
     }
 
-    /// How many data regions are open.
+    /// How many data regions are open, on all devices.
     pub fn regions(&self) -> u64
         ensures { result ≡ open_regions self.now.state }
     {
-        self.store.regions()
+        self.devices.regions()
+    }
+
+    /// The device on which the region of a number is open; 0 where no such region is open.
+    pub fn device_of_region(&self, number: u64) -> u64
+        ensures value { result ≡ device_of_region number self.now.state }
+        ensures there { result < self.now.limits.devices }
+    {
+        self.devices.device_of_region(number)
     }
 
     /// How many more data regions may be opened.
@@ -174,11 +230,24 @@ impl Table {
         self.config().regions() - self.regions()
     }
 
-    /// The number of the open data region that was entered last, if one is open.
-    pub fn newest_region(&self) -> Option<u64>
-        ensures { result ≡ newest_region self.now.state.register.regions }
+    /// The number of the open data region of a device that was entered last, if one is open.
+    pub fn newest_region(&self, device: u64) -> Option<u64>
+        ensures { result ≡ newest_region (view device self.now.state).register.regions }
     {
-        self.store.newest_region()
+        self.on(device)?.newest_region()
+    }
+
+    /// The number of the open data region that was entered last, on whichever device, if one is open.
+    pub fn innermost(&self) -> Option<u64>
+        ensures value { result ≡ newest_of self.now.state.devices }
+        ensures last { IsLastEntered self.now.state result }
+    {
+        self.laws();
+        let mut newest = None;
+        for device in 0..self.config().devices() {
+            newest = later(newest, self.newest_region(device));
+        }
+        newest
     }
 
     /// How many events there were in all, those before the base too.
@@ -215,6 +284,6 @@ impl Table {
     pub fn config(&self) -> Config
         ensures { result ≡ self.now.limits }
     {
-        self.store.config()
+        self.config
     }
 }

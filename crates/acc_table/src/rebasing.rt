@@ -13,7 +13,7 @@ impl Table {
     /// room in the trace again. It is no event and takes no ticket, and every query but [`Table::base`] and
     /// [`Table::trace`] answers as before. The memory of the trace is kept for the events to come; the base takes memory
     /// for each range, block, attached pointer, queued transfer, loan and open region, and with full traces for the bytes of
-    /// both memories.
+    /// all memories.
     ///
     /// # Errors
     ///
@@ -26,7 +26,7 @@ impl Table {
     {
         let folded = self.trace.len() as u64;
         let alloc = *self.trace.allocator();
-        let base = self.store.base(alloc, self.events())?;
+        let base = self.devices.base(alloc, &self.config, self.events())?;
         self.base = base;
         self.trace.clear();
         Ok(folded)

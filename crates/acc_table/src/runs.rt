@@ -146,8 +146,9 @@ impl Table {
         self.trace.reserve(1)?;
         let mut lease = leases.remove(at);
         lease.overwrite(bytes.as_slice());
-        let bytes = recorded(self.store.config().full(), bytes, *self.trace.allocator());
-        Ok(take_back(&mut self.store, &mut self.trace, lease, bytes))
+        let bytes = recorded(self.config.full(), bytes, *self.trace.allocator());
+        self.devices.select(lease.device());
+        Ok(take_back(&mut self.devices.store, &mut self.trace, lease, bytes))
     }
 
     /// What bringing back a lease is refused for that is not in the list.

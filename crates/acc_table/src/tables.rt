@@ -1,36 +1,39 @@
 //! A table, and one call on it.
 
-ghost use Rattle.std.specs.Prelude.{◌≡◌, Ok, Err, IfOk, IfErr, OnErr, MatchResult};
+ghost use Rattle.std.specs.Prelude.{ℕ, ◌≡◌, ◌<◌, Ok, Err, IfOk, IfErr, OnOk, OnErr, MatchResult};
 ghost use Rattle.acc_base.specs.declared.calls.Call.TheVariants.{Do, HostWrite, Lend, Gather};
 ghost use Rattle.acc_base.specs.declared.events.Event.TheVariants.{Lent};
 ghost use Rattle.acc_base.specs.declared.faults.Fault.TheVariants.{Memory};
-ghost use Rattle.acc_base.specs.Limits.{IsWithinBounds};
 ghost use Rattle.acc_base.specs.Section.{device_memory};
 ghost use Rattle.acc_base.specs.Holes.{IsDevice};
 ghost use Rattle.acc_base.specs.Judge.{Makes, gather_event};
-ghost use Rattle.acc_base.specs.Calls.{ticket, allowance, trace_room, new_world, judge};
+ghost use Rattle.acc_base.specs.Limits.{IsWithinBounds, limits_on};
+ghost use Rattle.acc_base.specs.Devices.{view, device_of_region};
+ghost use Rattle.acc_base.specs.Calls.{ticket, allowance, trace_room, device_for, device_there, new_world, judge};
 ghost use Rattle.acc_base.specs.Accounts.{IsAccounted};
 ghost use Rattle.acc_table.specs.Calls.{IsDone, IsRefusal};
 ghost use Rattle.acc_clauses.specs.Lending.{IsLoanPlanned};
 ghost use Rattle.acc_table.specs.Making.{admitted, write_admitted, IsLoanJudged, IsLeaseJudged};
 
 use crate::calls::{Call, Reply};
+use crate::devices::Devices;
 use crate::lending::{gather, lend};
 use crate::making::{carry_out, write_host};
 use acc_base::{Config, Directive, Event, Fault, List, Loan, Section};
-use acc_clauses::{Base, Plan, Store, check_items};
+use acc_clauses::{Base, Plan, check_items};
 use acc_lend::Lease;
 use std::alloc::Global;
 use std::marker::Model;
 
-/// The data environment of one device: both memories, the mapped ranges and blocks, the open data regions, the blocks
-/// that are lent to kernels, the queues of transfers, and the trace of all events since its base (OpenACC 3.3, sections
-/// 2.5 and 2.6).
+/// The data environment of one to four devices: host memory, and of each device its memory, the mapped ranges and blocks, the
+/// open data regions, the blocks that are lent to kernels and the queues of transfers; and the trace of all events since its
+/// base (OpenACC 3.3, sections 2.5 and 2.6).
 ///
-/// One call is one event or no change. Contracts see a table as a world: its limits, its history and its state.
+/// One call is one event or no change. Contracts see a table as a world: its limits, its history and what its devices have.
 #[derive(Drop)]
 pub struct Table {
-    pub(crate) store: Store,
+    pub(crate) config: Config,
+    pub(crate) devices: Devices,
     pub(crate) base: Base,
     // The events since the base.
     pub(crate) trace: Vec<Event>,
@@ -41,12 +44,13 @@ pub struct Table {
 impl Model for Table {
     ghost use Rattle.acc_base.specs.Calls.{World};
     ghost use Rattle.acc_table.specs.Kept.{IsKept, world_of};
+    ghost use Rattle.acc_table.specs.Devices.{whole_of, AreSet};
 
     ghost Value = { World };
 
-    ghost view = { λ t. world_of t.base t.store t.trace.items };
+    ghost view = { λ t. world_of t.config t.base (whole_of t.devices) t.trace.items };
 
-    ghost invariant = { λ t. IsKept (world_of t.base t.store t.trace.items) };
+    ghost invariant = { λ t. IsKept (world_of t.config t.base (whole_of t.devices) t.trace.items) × AreSet t.config t.devices };
 }
 
 impl Table {
@@ -60,30 +64,39 @@ impl Table {
         ensures err { IfErr result (λ fault. fault ≡ Memory) }
     {
         config.laws();
-        let store = Store::new(alloc, &config)?;
-        let base = store.base(alloc, 0)?;
+        let devices = Devices::new(alloc, &config)?;
+        let base = devices.base(alloc, &config, 0)?;
         Ok(Table {
-            store,
+            config,
+            devices,
             base,
             trace: Vec::new(alloc),
             plan: Plan::new(),
         })
     }
 
-    /// What holds of every table: mapped ranges and blocks are apart and account for every used byte, each range has a
-    /// block of its own, each other block is named by a queued transfer, no range has both counters zero, every counter
-    /// is what the history gives and within its limit, a structured counter is how often open regions hold its block,
-    /// each queue is within its limit and each queued transfer within its block, each loan is of a section within a
-    /// mapped block, each memory has its size where it is not lent, the history is legal, with full traces both memories
-    /// are what the events give from the base on (of a lent block the copy that is kept), the limits are within their
-    /// bounds, and the blocks and the holes that [`Table::hole`] answers are the device, with no address in two of them.
-    /// Nothing is done.
+    /// What holds of every table. On each device mapped ranges and blocks are apart and account for every used byte, each
+    /// range has a block of its own, each other block is named by a queued transfer, no range has both counters zero, every
+    /// counter is what the events of the device give and within its limit, a structured counter is how often open regions
+    /// hold its block, each queue is within its limit and each queued transfer within its block, each loan is of a section
+    /// within a mapped block, each memory has its size where it is not lent, and the device has what its own events alone
+    /// lead to. The history is legal, with full traces all memories are what the events give from the base on (of a lent block
+    /// the copy that is kept), and the limits are within their bounds. Nothing is done.
     pub fn laws(&self)
         ensures accounted { IsAccounted self.now }
         ensures bounds { IsWithinBounds self.now.limits }
-        ensures holes { IsDevice (device_memory self.now.limits.device) self.now.state.records.blocks }
     {
-        self.store.laws();
+        self.config.laws();
+    }
+
+    /// The blocks of a device and the holes that [`Table::hole`] answers are the device, with no address in two of them.
+    /// Nothing is done.
+    pub fn holes_laws(&self, device: u64)
+        ensures { device < self.now.limits.devices → IsDevice (device_memory (limits_on device self.now.limits)) (view device self.now.state).records.blocks }
+    {
+        if let Some(view) = self.devices.view(device) {
+            view.laws();
+        }
     }
 
     /// Makes one call: an event, or no change (OpenACC 3.3, section 2.6.5, data construct; section 2.6.6, enter data
@@ -102,6 +115,7 @@ impl Table {
     /// - [`Fault::NoAllowance`] where a region is entered and as many are open as the limit says;
     /// - [`Fault::TooManyItems`] where a directive has more than 64 items;
     /// - [`Fault::TraceFull`] where the stored trace has as many events as it may;
+    /// - [`Fault::NoDevice`] where a directive names a device that is not there;
     /// - [`Fault::NoRegion`] where no region of the number is open that is exited;
     /// - [`Fault::NoQueue`] where the directive names a queue above 15;
     /// - then, for the items in the order in which they act, each judged in what those before it leave, where a refusal
@@ -161,17 +175,20 @@ impl Table {
         ensures refused { IfErr result (λ back. IsRefusal self.old (Do directive) back.1) }
         ensures same { IfErr result (λ back. (back.0 ≡ directive) × (self.new ≡ self.old)) }
     {
-        match self.admit(&directive) {
-            Ok(()) => carry_out(&mut self.store, &mut self.trace, &mut self.plan, directive),
-            Err(fault) => Err((directive, fault)),
-        }
+        let device = match self.admit(&directive) {
+            Ok(device) => device,
+            Err(fault) => return Err((directive, fault)),
+        };
+        self.devices.select(device);
+        let store = &mut self.devices.store;
+        carry_out(store, &mut self.trace, &mut self.plan, device, directive)
     }
 
     /// There is a ticket for one more event.
     pub(crate) fn admit_ticket(&self) -> Result<(), Fault>
         ensures { result ≡ ticket self.now }
     {
-        if self.store.config().tickets() <= self.events() {
+        if self.config.tickets() <= self.events() {
             Err(Fault::NoTickets { left: 0 })
         } else {
             Ok(())
@@ -184,7 +201,7 @@ impl Table {
     {
         match directive {
             Directive::Enter { .. } => {
-                if self.store.config().regions() <= self.store.regions() {
+                if self.config.regions() <= self.regions() {
                     Err(Fault::NoAllowance { left: 0 })
                 } else {
                     Ok(())
@@ -199,22 +216,51 @@ impl Table {
         ensures { result ≡ trace_room self.now }
     {
         let events = self.trace.len() as u64;
-        if self.store.config().trace_cap() <= events {
+        if self.config.trace_cap() <= events {
             Err(Fault::TraceFull { len: events })
         } else {
             Ok(())
         }
     }
 
-    /// The refusals of a directive that come before those of its items.
+    /// There is such a device.
+    fn admit_device(&self, device: u64) -> Result<(), Fault>
+        ensures { result ≡ device_there self.now device }
+    {
+        if self.config.devices() <= device {
+            Err(Fault::NoDevice { device })
+        } else {
+            Ok(())
+        }
+    }
+
+    /// The device that a directive names, or that of the region that it leaves.
+    fn device_for(&self, directive: &Directive) -> u64
+        ensures { result ≡ device_for directive.now self.now.state }
+    {
+        match directive {
+            Directive::Enter { device, .. } => *device,
+            Directive::Exit { number } => self.device_of_region(*number),
+            Directive::EnterData { device, .. } => *device,
+            Directive::ExitData { device, .. } => *device,
+            Directive::Update { device, .. } => *device,
+            Directive::Wait { device, .. } => *device,
+            Directive::Step { device, .. } => *device,
+        }
+    }
+
+    /// The device of a directive, or what is refused before its items are judged.
     #[tactic(auto, unfolding(crate::specs::Making::admitted))]
-    fn admit(&self, directive: &Directive) -> Result<(), Fault>
-        ensures { result ≡ admitted self.now directive.now }
+    fn admit(&self, directive: &Directive) -> Result<u64, Fault>
+        ensures { MatchResult result (λ device. (device ≡ device_for directive.now self.now.state) × (admitted self.now directive.now ≡ Ok tt)) (λ fault. admitted self.now directive.now ≡ Err fault) }
     {
         self.admit_ticket()?;
         self.admit_region(directive)?;
         check_items(directive)?;
-        self.admit_event()
+        self.admit_event()?;
+        let device = self.device_for(directive);
+        self.admit_device(device)?;
+        Ok(device)
     }
 
     /// What a write of the host into this section is refused for.
@@ -224,7 +270,7 @@ impl Table {
     {
         self.admit_ticket()?;
         self.admit_event()?;
-        self.store.check_host(0, section)
+        self.devices.store.check_host(0, section)
     }
 
     /// Writes into host memory, or hands the bytes back with what that is refused for.
@@ -240,7 +286,8 @@ impl Table {
         };
         match self.admit_write(section) {
             Ok(()) => {
-                write_host(&mut self.store, &mut self.trace, addr, bytes)?;
+                let full = self.config.full();
+                write_host(&mut self.devices.store, &mut self.trace, full, addr, bytes)?;
                 Ok(Reply::Done)
             }
             Err(fault) => Err((bytes, fault)),
@@ -249,12 +296,15 @@ impl Table {
 
     /// What lending the block of a section comes to, or what it is refused for.
     #[tactic(auto, unfolding(acc_base::specs::Calls::judge))]
-    fn admit_loan(&self, region: u64, section: Section) -> Result<Loan, Fault>
-        ensures { IsLoanJudged self.now region section result }
+    fn admit_loan(&mut self, device: u64, region: u64, section: Section) -> Result<Loan, Fault>
+        requires { device ≡ device_of_region region self.old.state }
+        ensures judged { IsLoanJudged self.old region section result }
+        ensures same { self.new ≡ self.old }
     {
         self.admit_ticket()?;
         self.admit_event()?;
-        self.store.plan_loan(region, section)
+        self.devices.select(device);
+        self.devices.store.plan_loan(region, section)
     }
 
     /// Lends the block of a section, and answers its lease.
@@ -263,18 +313,36 @@ impl Table {
         ensures refused { IfErr result (IsRefusal self.old (Lend region section)) }
         ensures same { OnErr result (self.new ≡ self.old) }
     {
-        let loan = self.admit_loan(region, section)?;
-        lend(&mut self.store, &mut self.trace, region, section, loan)
+        let device = self.device_of_region(region);
+        let loan = self.admit_loan(device, region, section)?;
+        self.devices.select(device);
+        lend(
+            &mut self.devices.store,
+            &mut self.trace,
+            device,
+            region,
+            section,
+            loan,
+        )
     }
 
     /// What bringing back a lease is refused for. With full traces it compares its bytes outside of the section.
     #[tactic(auto, unfolding(acc_base::specs::Calls::judge))]
-    pub(crate) fn admit_lease(&self, lease: &Lease) -> Result<(), Fault>
-        ensures { IsLeaseJudged self.now lease.now result }
+    pub(crate) fn admit_lease(&mut self, lease: &Lease) -> Result<(), Fault>
+        ensures judged { IsLeaseJudged self.old lease.now result }
+        ensures there { OnOk result (lease.now.device < self.old.limits.devices) }
+        ensures same { self.new ≡ self.old }
     {
         self.admit_ticket()?;
         self.admit_event()?;
-        self.store.check_lease(lease)
+        let device = lease.device();
+        if self.config.devices() <= device {
+            return Err(Fault::NoLease {
+                serial: lease.serial(),
+            });
+        }
+        self.devices.select(device);
+        self.devices.store.check_lease(lease)
     }
 
     /// Brings a lease back, or hands it back with what it is refused for.
@@ -284,7 +352,11 @@ impl Table {
         ensures same { IfErr result (λ back. (back.0 ≡ lease) × (self.new ≡ self.old)) }
     {
         match self.admit_lease(&lease) {
-            Ok(()) => gather(&mut self.store, &mut self.trace, lease),
+            Ok(()) => {
+                let full = self.config.full();
+                self.devices.select(lease.device());
+                gather(&mut self.devices.store, &mut self.trace, full, lease)
+            }
             Err(fault) => Err((lease, fault)),
         }
     }

@@ -5,7 +5,8 @@ use acc_base::{
 };
 use acc_table::{Answer, Mapped};
 
-/// The limits in which rows differ. Both memories have 64 bytes.
+/// The limits in which rows differ. Host memory and the memory of each device have 64 bytes, and a queue has room for one
+/// transfer.
 #[derive(Clone, Copy)]
 pub struct Limits {
     /// How many regions may be open.
@@ -18,12 +19,14 @@ pub struct Limits {
     pub trace_cap: u64,
     /// Whether events store bytes too.
     pub full: bool,
+    /// How many devices there are.
+    pub devices: u64,
 }
 
 /// The items of one data clause each: the clause, the first host address and the length.
 pub type Items<C> = &'static [(C, u64, u64)];
 
-/// What a row asks of a table.
+/// What a row asks of a table. A directive other than an exit is for a device that stands beside it.
 #[derive(Clone, Copy)]
 pub enum Ask {
     /// An entry to a data region.
@@ -58,7 +61,8 @@ pub enum Ask {
     Back(u64, &'static [u8]),
 }
 
-/// A query with its answer. A section is given by its first host address and its length.
+/// A query with its answer. A section is given by its first host address and its length. What is asked of a device is asked
+/// of one that stands beside the query.
 #[derive(Clone, Copy, Debug)]
 pub enum Check {
     /// Where a section lies.
@@ -103,7 +107,7 @@ pub enum Check {
     Newest(Option<u64>),
 }
 
-/// Turns on a new table with their answers, and what the table says then.
+/// Turns on a new table with their answers, and what the table says then. All of it is for the first device.
 pub struct Row {
     /// What it shows.
     pub name: &'static str,
@@ -113,4 +117,17 @@ pub struct Row {
     pub turns: &'static [(Ask, Answer)],
     /// What the table says then.
     pub checks: &'static [Check],
+}
+
+/// Turns on a new table of several devices with their answers, and what the table says then, each with the number of the
+/// device that it is for. That number is not read where a turn or a query names no device.
+pub struct DevicesRow {
+    /// What it shows.
+    pub name: &'static str,
+    /// The limits of the table.
+    pub limits: Limits,
+    /// The turns, with what each is answered.
+    pub turns: &'static [(u64, Ask, Answer)],
+    /// What the table says then.
+    pub checks: &'static [(u64, Check)],
 }

@@ -46,36 +46,36 @@ fn bytes_at(trace: &[Event], number: usize) -> Option<&[u8]> {
     }
 }
 
-fn counted(table: &Table, section: Section) -> Option<(u64, u64)> {
+fn counted(table: &Table, device: u64, section: Section) -> Option<(u64, u64)> {
     let Counters {
         structured,
         dynamic,
-    } = table.counters(section)?;
+    } = table.counters(device, section)?;
     Some((structured, dynamic))
 }
 
-/// Whether a table answers a query as the row says.
-pub fn holds(table: &Table, check: Check) -> bool {
+/// Whether a table answers a query, of a device where it is asked of one, as the row says.
+pub fn holds(table: &Table, device: u64, check: Check) -> bool {
     match check {
-        Check::Found(at, wanted) => table.find(section(at)) == wanted,
-        Check::Present(at, wanted) => table.is_present(section(at)) == wanted,
-        Check::Address(address, wanted) => table.device_address(address) == wanted,
-        Check::Counted(at, wanted) => counted(table, section(at)) == wanted,
-        Check::MappedFrom(from, wanted) => table.mapped(from) == wanted,
+        Check::Found(at, wanted) => table.find(device, section(at)) == wanted,
+        Check::Present(at, wanted) => table.is_present(device, section(at)) == wanted,
+        Check::Address(address, wanted) => table.device_address(device, address) == wanted,
+        Check::Counted(at, wanted) => counted(table, device, section(at)) == wanted,
+        Check::MappedFrom(from, wanted) => table.mapped(device, from) == wanted,
         Check::Step(number, wanted) => step_at(table.trace(), number) == wanted,
         Check::Aim(number, wanted) => aim_at(table.trace(), number) == wanted,
         Check::Bytes(number, wanted) => bytes_at(table.trace(), number) == wanted,
-        Check::Attached(pointer, wanted) => table.attachment(pointer) == wanted,
+        Check::Attached(pointer, wanted) => table.attachment(device, pointer) == wanted,
         Check::Host(at, wanted) => table.host_read(section(at)) == wanted,
-        Check::Device(at, wanted) => table.device_read(section(at)) == wanted,
-        Check::Queue(q, wanted) => table.queue_len(q) == wanted,
-        Check::EndedFrom(from, wanted) => table.ended(from) == wanted,
-        Check::HoleFrom(from, wanted) => table.hole(from) == wanted,
-        Check::Used(wanted) => table.used() == wanted,
+        Check::Device(at, wanted) => table.device_read(device, section(at)) == wanted,
+        Check::Queue(q, wanted) => table.queue_len(device, q) == wanted,
+        Check::EndedFrom(from, wanted) => table.ended(device, from) == wanted,
+        Check::HoleFrom(from, wanted) => table.hole(device, from) == wanted,
+        Check::Used(wanted) => table.used(device) == wanted,
         Check::Events(wanted) => table.events() == wanted,
         Check::TicketBook(wanted) => table.ticket_book() == wanted,
         Check::Regions(wanted) => table.regions() == wanted,
         Check::RegionBook(wanted) => table.region_book() == wanted,
-        Check::Newest(wanted) => table.newest_region() == wanted,
+        Check::Newest(wanted) => table.newest_region(device) == wanted,
     }
 }

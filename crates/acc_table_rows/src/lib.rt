@@ -7,6 +7,6 @@ mod checks;
 pub mod subjects;
 mod turns;
 
-pub use asks::{Ask, Check, Items, Limits, Row};
+pub use asks::{Ask, Check, DevicesRow, Items, Limits, Row};
 pub use checks::holds;
 pub use turns::{table_of, take, turn_of};

@@ -7,13 +7,14 @@ use acc_table::Answer;
 
 mod arrays;
 mod bytes;
+pub mod devices;
 mod limits;
 mod loans;
 mod pointers;
 mod queues;
 mod regions;
 
-/// The rows of each subject.
+/// The rows of each subject, all for the first device.
 pub const SUBJECTS: [&[Row]; 7] = [
     limits::ROWS,
     arrays::ROWS,
@@ -31,6 +32,7 @@ pub const WIDE: Limits = Limits {
     counter_max: 100,
     trace_cap: 100,
     full: false,
+    devices: 1,
 };
 
 /// The same, with full traces.
@@ -39,7 +41,7 @@ pub const FULL: Limits = Limits { full: true, ..WIDE };
 /// The first address of host memory.
 pub const A: u64 = HOST_BASE;
 
-/// The first address of device memory.
+/// The first address of the memory of the first device.
 pub const DEVICE: u64 = DEVICE_BASE;
 
 /// The answer to what is done.

@@ -31,12 +31,14 @@ fn items<C: Copy + Drop>(
 
 fn update(
     alloc: Global,
+    device: u64,
     listed: &[(UpdateClause, u64, u64)],
     if_present: bool,
     queue: Option<u64>,
 ) -> Result<Turn, AllocError> {
     let items = items(alloc, listed, None)?;
     Ok(Turn::Do(Directive::Update {
+        device,
         items,
         if_present,
         queue,
@@ -58,50 +60,61 @@ fn lend(region: u64, at: (u64, u64)) -> Turn {
     Turn::Lend { region, section }
 }
 
-fn enter(alloc: Global, listed: &[(RegionClause, u64, u64)]) -> Result<Turn, AllocError> {
+fn enter(
+    alloc: Global,
+    device: u64,
+    listed: &[(RegionClause, u64, u64)],
+) -> Result<Turn, AllocError> {
     let items = items(alloc, listed, None)?;
-    Ok(Turn::Do(Directive::Enter { items }))
+    Ok(Turn::Do(Directive::Enter { device, items }))
 }
 
 fn enter_data(
     alloc: Global,
+    device: u64,
     listed: &[(EnterClause, u64, u64)],
     pointer: Option<u64>,
 ) -> Result<Turn, AllocError> {
     let items = items(alloc, listed, pointer)?;
     let queue = None;
-    Ok(Turn::Do(Directive::EnterData { items, queue }))
+    Ok(Turn::Do(Directive::EnterData {
+        device,
+        items,
+        queue,
+    }))
 }
 
 fn exit_data(
     alloc: Global,
+    device: u64,
     listed: &[(ExitClause, u64, u64)],
     finalize: bool,
     queue: Option<u64>,
 ) -> Result<Turn, AllocError> {
     let items = items(alloc, listed, None)?;
     Ok(Turn::Do(Directive::ExitData {
+        device,
         items,
         finalize,
         queue,
     }))
 }
 
-/// The turn that is asked for.
-pub fn turn_of(alloc: Global, ask: Ask) -> Result<Turn, AllocError> {
+/// The turn that is asked for, of a device where it is for one.
+pub fn turn_of(alloc: Global, device: u64, ask: Ask) -> Result<Turn, AllocError> {
     match ask {
-        Ask::Enter(listed) => enter(alloc, listed),
+        Ask::Enter(listed) => enter(alloc, device, listed),
         Ask::Exit(number) => Ok(Turn::Do(Directive::Exit { number })),
-        Ask::EnterData(listed) => enter_data(alloc, listed, None),
-        Ask::EnterDataVia(listed, pointer) => enter_data(alloc, listed, Some(pointer)),
-        Ask::ExitData(listed) => exit_data(alloc, listed, false, None),
-        Ask::ExitDataLater(listed, q) => exit_data(alloc, listed, false, Some(q)),
-        Ask::Finalize(listed) => exit_data(alloc, listed, true, None),
-        Ask::Update(listed) => update(alloc, listed, false, None),
-        Ask::UpdateIfPresent(listed) => update(alloc, listed, true, None),
-        Ask::UpdateLater(listed, q) => update(alloc, listed, false, Some(q)),
-        Ask::Wait(queue) => Ok(Turn::Do(Directive::Wait { queue })),
-        Ask::Step(queue) => Ok(Turn::Do(Directive::Step { queue })),
+        Ask::EnterData(listed) => enter_data(alloc, device, listed, None),
+        Ask::EnterDataVia(listed, pointer) => enter_data(alloc, device, listed, Some(pointer)),
+        Ask::ExitData(listed) => exit_data(alloc, device, listed, false, None),
+        Ask::ExitDataLater(listed, q) => exit_data(alloc, device, listed, false, Some(q)),
+        Ask::Finalize(listed) => exit_data(alloc, device, listed, true, None),
+        Ask::Update(listed) => update(alloc, device, listed, false, None),
+        Ask::UpdateIfPresent(listed) => update(alloc, device, listed, true, None),
+        Ask::UpdateLater(listed, q) => update(alloc, device, listed, false, Some(q)),
+        Ask::Wait(queue) => Ok(Turn::Do(Directive::Wait { device, queue })),
+        Ask::Step(queue) => Ok(Turn::Do(Directive::Step { device, queue })),
         Ask::Write(addr, bytes) => write(alloc, addr, bytes),
         Ask::Lend(region, at) => Ok(lend(region, at)),
         Ask::Back(serial, bytes) => back(alloc, serial, bytes),
@@ -116,8 +129,11 @@ pub fn table_of(alloc: Global, limits: Limits) -> Result<Table, Fault> {
         counter_max,
         trace_cap,
         full,
+        devices,
     } = limits;
-    let counted = Config::new(64, 64, regions, tickets, counter_max, 1, trace_cap)?;
+    let counted = Config::new(64, 64, regions, tickets, counter_max, 1, trace_cap)?.with_devices(
+        devices,
+    )?;
     let config = if full {
         counted.with_full_trace()
     } else {
@@ -126,15 +142,16 @@ pub fn table_of(alloc: Global, limits: Limits) -> Result<Table, Fault> {
     Table::new(alloc, config)
 }
 
-/// Takes one turn, and answers what it was answered.
+/// Takes one turn, of a device where it is for one, and answers what it was answered.
 pub fn take(
     table: &mut Table,
     alloc: Global,
+    device: u64,
     ask: Ask,
     leases: &mut Vec<Lease>,
 ) -> Result<Option<Answer>, Fault> {
     let mut turns = Vec::new(alloc);
-    turns.push(turn_of(alloc, ask)?)?;
+    turns.push(turn_of(alloc, device, ask)?)?;
     let answers = table.run(turns, leases)?;
     Ok(answers.first().copied())
 }

@@ -29,11 +29,15 @@ fn map_one_array(table: &mut Table, alloc: Global) -> Result<u64, Fault> {
             pointer: None
         },
     ]?);
-    let queue = None;
-    match table.apply(Call::Do(Directive::EnterData { items, queue })) {
+    let (device, queue) = (0, None);
+    match table.apply(Call::Do(Directive::EnterData {
+        device,
+        items,
+        queue,
+    })) {
         Ok(reply) => {
             reply.abandon();
-            Ok(table.used())
+            Ok(table.used(device))
         }
         Err((call, fault)) => {
             abandon(call);
@@ -55,8 +59,8 @@ fn an_array_of_20_bytes_takes_32(rt: HostRuntime) -> Result<(), Fail> {
 }
 
 #[test]
-fn an_event_takes_80_bytes_and_each_item_96(rt: HostRuntime) {
-    assert_eq!(&rt; size_of::<Event>(), 80);
+fn an_event_takes_88_bytes_and_each_item_96(rt: HostRuntime) {
+    assert_eq!(&rt; size_of::<Event>(), 88);
     assert_eq!(&rt; size_of::<Item<RegionClause>>(), 40);
     assert_eq!(&rt; size_of::<Did>(), 56);
 }

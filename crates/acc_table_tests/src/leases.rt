@@ -72,7 +72,7 @@ fn refuse_each(rt: &(impl Abort + AllocGlobal), table: &mut Table) -> Result<(),
     for &(serial, block, offset, len, count) in STRANGE {
         let bytes = vec![in rt.alloc(); 0; count]?;
         if offset + len <= bytes.len() {
-            refuse(rt, table, Lease::of(serial, block, offset, len, bytes));
+            refuse(rt, table, Lease::of(0, serial, block, offset, len, bytes));
         }
     }
     Ok(())
@@ -81,7 +81,7 @@ fn refuse_each(rt: &(impl Abort + AllocGlobal), table: &mut Table) -> Result<(),
 /// The lease that the table is yet to lend is refused.
 fn refuse_early(rt: &(impl Abort + AllocGlobal), table: &mut Table) -> Result<(), AllocError> {
     let bytes = vec![in rt.alloc(); 0; 16]?;
-    refuse(rt, table, Lease::of(1, 1, 0, 16, bytes));
+    refuse(rt, table, Lease::of(0, 1, 1, 0, 16, bytes));
     Ok(())
 }
 
@@ -110,7 +110,7 @@ fn changed(alloc: Global, place: usize) -> Result<Option<Lease>, AllocError> {
     if bytes.len() < 12 {
         return Ok(None);
     }
-    Ok(Some(Lease::of(1, 1, 4, 8, bytes)))
+    Ok(Some(Lease::of(0, 1, 1, 4, 8, bytes)))
 }
 
 /// A lease is refused where a byte outside of its section has changed.

@@ -3,6 +3,8 @@
 #![tactic(auto)]
 
 #[cfg(test)]
+mod devices;
+#[cfg(test)]
 mod example;
 #[cfg(test)]
 mod leases;
@@ -30,10 +32,19 @@ fn same<T: PartialEq + Debug + Copy>(rt: &impl Abort, row: &str, found: T, wante
     assert_eq!(rt; found, wanted, "{row}");
 }
 
-/// Ends the test where the table does not answer a query as a row says.
+/// Ends the test where the table does not answer a query, of a device where it is asked of one, as a row says.
+#[cfg(test)]
+fn check_on(rt: &impl Abort, row: &str, table: &Table, device: u64, check: Check) {
+    assert!(rt;
+        holds(table, device, check),
+        "{row}: not {check:?} on device {device}"
+    );
+}
+
+/// Ends the test where the table does not answer a query of the first device as a row says.
 #[cfg(test)]
 fn check_one(rt: &impl Abort, row: &str, table: &Table, check: Check) {
-    assert!(rt; holds(table, check), "{row}: not {check:?}");
+    check_on(rt, row, table, 0, check);
 }
 
 /// Ends the test where the table does not answer each query of a row as it says.

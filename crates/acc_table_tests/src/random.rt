@@ -1,4 +1,5 @@
-//! A thousand turns in no order with full traces: a replay of the stored events alone has the bytes of both memories.
+//! A thousand turns in no order on two devices, with full traces: a replay of the stored events alone has the bytes of all
+//! memories.
 
 use crate::replay::Replay;
 use crate::same;
@@ -21,6 +22,9 @@ use std::test::Fail;
 /// How many turns are taken.
 const TURNS: u64 = 1_000;
 
+/// How many devices there are.
+const DEVICES: u64 = 2;
+
 /// How many events are folded into the base together.
 const FOLDED: usize = 50;
 
@@ -31,6 +35,7 @@ const LIMITS: Limits = Limits {
     counter_max: TURNS,
     trace_cap: TURNS,
     full: true,
+    devices: DEVICES,
 };
 
 /// A second array, behind the first one.
@@ -157,39 +162,48 @@ impl Life {
     }
 }
 
-/// All of host memory, and each block that is not lent, have the bytes of the replay.
-fn compare(rt: &impl Abort, table: &Table, replay: &Replay) {
-    let whole = Section { start: A, len: 64 };
-    let host = Some(replay.host.as_slice());
-    same(rt, "host memory", table.host_read(whole), host);
+/// Each block of a device that is not lent has the bytes of the replay.
+fn compare_blocks(rt: &impl Abort, table: &Table, replay: &Replay, device: u64) {
     for from in [A, B, C] {
-        if let Some(mapped) = table.mapped(from)
+        if let Some(mapped) = table.mapped(device, from)
             && !mapped.lent
         {
             let section = Section {
                 start: mapped.start,
                 len: mapped.len,
             };
-            let found = table.device_read(section);
-            same(rt, "a block", found, replay.block_from(mapped.start));
+            let found = table.device_read(device, section);
+            let wanted = replay.block_from(device, mapped.start);
+            same(rt, "a block", found, wanted);
         }
     }
 }
 
-/// Takes a turn, and compares both memories with the replay.
+/// All of host memory, and each block that is not lent, have the bytes of the replay.
+fn compare(rt: &impl Abort, table: &Table, replay: &Replay) {
+    let whole = Section { start: A, len: 64 };
+    let host = Some(replay.host.as_slice());
+    same(rt, "host memory", table.host_read(whole), host);
+    for device in 0..DEVICES {
+        compare_blocks(rt, table, replay, device);
+    }
+}
+
+/// Takes a turn on a device, and compares all memories with the replay.
 fn take_one(
     rt: &(impl Abort + AllocGlobal),
     table: &mut Table,
     life: &mut Life,
     leases: &mut Vec<Lease>,
+    device: u64,
     choice: usize,
 ) -> Result<(), Fault> {
-    let region = table.newest_region().unwrap_or(0);
+    let region = table.newest_region(device).unwrap_or(0);
     let ask = match ASKS.get(choice) {
         Some(ask) => *ask,
         None => ask_of(choice.saturating_sub(ASKS.len()), region, leases.last()),
     };
-    take(table, rt.alloc(), ask, leases)?;
+    take(table, rt.alloc(), device, ask, leases)?;
     life.listen(rt.alloc(), table)?;
     compare(rt, table, &life.replay);
     if table.trace().len() >= FOLDED {
@@ -208,8 +222,9 @@ fn take_all(
 ) -> Result<(), Fault> {
     let mut numbers = Numbers { state: 1 };
     for _ in 0..TURNS {
+        let device = numbers.below(DEVICES as usize) as u64;
         let choice = numbers.below(ASKS.len() + CHOICES);
-        take_one(rt, table, life, leases, choice)?;
+        take_one(rt, table, life, leases, device, choice)?;
     }
     Ok(())
 }
@@ -243,7 +258,7 @@ fn live_whole(rt: &(impl Abort + AllocGlobal), table: &mut Table) -> Result<(), 
 }
 
 #[test]
-fn stored_events_give_both_memories(rt: HostRuntime) -> Result<(), Fail> {
+fn stored_events_give_all_memories(rt: HostRuntime) -> Result<(), Fail> {
     let mut table = table_of(rt.alloc(), LIMITS)?;
     live_whole(&rt, &mut table)
 }

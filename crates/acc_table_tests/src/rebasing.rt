@@ -52,7 +52,7 @@ const LIFE: &[(Deed, u64, usize)] = &[
 /// Takes one turn of a table that lends nothing.
 fn take_alone(table: &mut Table, alloc: Global, ask: Ask) -> Result<Option<Answer>, Fault> {
     let mut leases = Vec::new(alloc);
-    let answer = take(table, alloc, ask, &mut leases);
+    let answer = take(table, alloc, 0, ask, &mut leases);
     abandon_all(leases);
     answer
 }
@@ -110,7 +110,7 @@ fn take_turns(
     leases: &mut Vec<Lease>,
 ) -> Result<(), Fault> {
     for &(ask, wanted) in row.turns {
-        let found = take(table, rt.alloc(), ask, leases)?;
+        let found = take(table, rt.alloc(), 0, ask, leases)?;
         same(rt, row.name, found, Some(wanted));
         let stored = table.trace().len() as u64;
         same(rt, row.name, table.rebase(), Ok(stored));
@@ -119,7 +119,7 @@ fn take_turns(
 }
 
 /// Whether it is answered from the trace, which is empty behind a rebase.
-fn is_of_trace(check: Check) -> bool {
+pub fn is_of_trace(check: Check) -> bool {
     matches!(check, Check::Step(..) | Check::Aim(..) | Check::Bytes(..))
 }
 

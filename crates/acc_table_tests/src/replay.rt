@@ -7,10 +7,17 @@ use acc_base::{
 };
 use std::alloc::{AllocError, Global};
 
-/// A block of the device.
+/// A block or a queue of a device, by its number there.
+#[derive(Clone, Copy, PartialEq, Eq)]
+struct Name {
+    device: u64,
+    number: u64,
+}
+
+/// A block of a device.
 #[derive(Drop)]
 struct Block {
-    number: u64,
+    name: Name,
     bytes: Vec<u8>,
     // The host address that its first byte is mapped from.
     start: u64,
@@ -19,7 +26,7 @@ struct Block {
 /// A copy between host memory and a block.
 #[derive(Clone, Copy)]
 struct Transfer {
-    block: u64,
+    block: Name,
     section: Section,
     out: bool,
 }
@@ -27,11 +34,11 @@ struct Transfer {
 /// A loan of a block: the place in it of the bytes that are lent.
 #[derive(Clone, Copy)]
 struct Loan {
-    block: u64,
+    block: Name,
     at: usize,
 }
 
-/// Both memories, as events told one after the other give them. No event of the replay attaches a pointer.
+/// All memories, as events told one after the other give them. No event of the replay attaches a pointer.
 #[derive(Drop)]
 pub struct Replay {
     /// The bytes of host memory.
@@ -39,10 +46,12 @@ pub struct Replay {
     // The blocks that were born, those too that are gone.
     blocks: Vec<Block>,
     // What waits in each queue, in the order in which it was put there.
-    later: Vec<(u64, Transfer)>,
+    later: Vec<(Name, Transfer)>,
     // What each entry to a region listed.
     regions: Vec<(u64, Vec<Item<RegionClause>>)>,
     loans: Vec<Loan>,
+    // The device of the event that is told.
+    device: u64,
 }
 
 /// The place of an address behind a first one.
@@ -109,6 +118,22 @@ fn copies_of_exit(clause: ExitClause) -> Copies {
     Copies { into, zero, out }
 }
 
+/// The device of an event. A write of the host is on none, and counts as the first one's.
+fn device_of(event: &Event) -> u64 {
+    match event {
+        Event::Entered { device, .. }
+        | Event::Left { device, .. }
+        | Event::EnteredData { device, .. }
+        | Event::ExitedData { device, .. }
+        | Event::Updated { device, .. }
+        | Event::Waited { device, .. }
+        | Event::Stepped { device, .. }
+        | Event::Lent { device, .. }
+        | Event::Gathered { device, .. } => *device,
+        Event::HostWritten { .. } => 0,
+    }
+}
+
 impl Replay {
     /// So many bytes of host memory, which are zero, and no block.
     pub fn new(alloc: Global, host: usize) -> Result<Replay, AllocError> {
@@ -118,13 +143,21 @@ impl Replay {
             later: Vec::new(alloc),
             regions: Vec::new(alloc),
             loans: Vec::new(alloc),
+            device: 0,
         })
     }
 
-    /// The bytes of the block that was last mapped from a host address.
-    pub fn block_from(&self, start: u64) -> Option<&[u8]> {
-        let block = self.blocks.iter().rev().find(|block| block.start == start)?;
+    /// The bytes of the block of a device that was last mapped from a host address.
+    pub fn block_from(&self, device: u64, start: u64) -> Option<&[u8]> {
+        let mut blocks = self.blocks.iter().rev();
+        let block = blocks.find(|block| block.name.device == device && block.start == start)?;
         Some(block.bytes.as_slice())
+    }
+
+    /// A block or a queue of the device of the event.
+    fn name(&self, number: u64) -> Name {
+        let device = self.device;
+        Name { device, number }
     }
 
     /// Makes a copy with the bytes of this moment.
@@ -135,24 +168,13 @@ impl Replay {
             out,
         } = transfer;
         let host = place(HOST_BASE, section.start);
-        for kept in self.blocks.iter_mut().filter(|kept| kept.number == block) {
-            let device = place(kept.start, section.start);
+        let len = section.len as usize;
+        for kept in self.blocks.iter_mut().filter(|kept| kept.name == block) {
+            let at = place(kept.start, section.start);
             if out {
-                copy(
-                    &kept.bytes,
-                    device,
-                    &mut self.host,
-                    host,
-                    section.len as usize,
-                );
+                copy(&kept.bytes, at, &mut self.host, host, len);
             } else {
-                copy(
-                    &self.host,
-                    host,
-                    &mut kept.bytes,
-                    device,
-                    section.len as usize,
-                );
+                copy(&self.host, host, &mut kept.bytes, at, len);
             }
         }
     }
@@ -160,7 +182,10 @@ impl Replay {
     /// Makes a copy, or puts it into a queue.
     fn make_or_put(&mut self, transfer: Transfer, queue: Option<u64>) -> Result<(), AllocError> {
         match queue {
-            Some(queue) => self.later.push((queue, transfer))?,
+            Some(queue) => {
+                let name = self.name(queue);
+                self.later.push((name, transfer))?;
+            }
             None => self.make(transfer),
         }
         Ok(())
@@ -168,6 +193,7 @@ impl Replay {
 
     /// Makes the first copy that waits in a queue.
     fn step(&mut self, queue: u64) {
+        let queue = self.name(queue);
         let first = self.later.iter().position(|later| later.0 == queue);
         if let Some(at) = first
             && at < self.later.len()
@@ -190,16 +216,16 @@ impl Replay {
             return Ok(());
         };
         let fill = if copies.zero { 0 } else { 0xa5 };
+        let name = self.name(block);
         self.blocks.push(Block {
-            number: block,
+            name,
             bytes: vec![in alloc; fill; section.len as usize]?,
             start: section.start,
         })?;
-        let out = false;
         let transfer = Transfer {
-            block,
+            block: name,
             section,
-            out,
+            out: false,
         };
         if copies.into {
             self.make_or_put(transfer, queue)?;
@@ -219,7 +245,7 @@ impl Replay {
         match step {
             Step::Dropped { block, ended: true } if out => {
                 let transfer = Transfer {
-                    block,
+                    block: self.name(block),
                     section,
                     out,
                 };
@@ -300,7 +326,7 @@ impl Replay {
             let out = matches!(item.clause, UpdateClause::ToSelf);
             if let Step::Moved { block } = did.step {
                 let transfer = Transfer {
-                    block,
+                    block: self.name(block),
                     section,
                     out,
                 };
@@ -325,8 +351,9 @@ impl Replay {
 
     /// A block is lent.
     fn lend(&mut self, section: Section, block: u64) -> Result<(), AllocError> {
+        let block = self.name(block);
         for kept in &self.blocks {
-            if kept.number == block {
+            if kept.name == block {
                 let at = place(kept.start, section.start);
                 self.loans.push(Loan { block, at })?;
             }
@@ -336,8 +363,9 @@ impl Replay {
 
     /// The lent section of a block comes back with these bytes. All others are those that the block had before.
     fn gather(&mut self, block: u64, bytes: &[u8]) {
+        let block = self.name(block);
         for loan in self.loans.iter().filter(|loan| loan.block == block) {
-            for kept in self.blocks.iter_mut().filter(|kept| kept.number == block) {
+            for kept in self.blocks.iter_mut().filter(|kept| kept.name == block) {
                 overwrite(&mut kept.bytes, loan.at, bytes);
             }
         }
@@ -346,14 +374,21 @@ impl Replay {
 
     /// Does what an event tells.
     pub fn tell(&mut self, alloc: Global, event: &Event) -> Result<(), AllocError> {
+        self.device = device_of(event);
         match event {
-            Event::Entered { number, items, did } => {
-                self.enter_region(alloc, *number, items.as_slice(), did.as_slice())
-            }
-            Event::Left { number, did } => self.leave_region(*number, did.as_slice()),
-            Event::EnteredData { items, queue, did } => {
-                self.enter_data(alloc, items.as_slice(), *queue, did.as_slice())
-            }
+            Event::Entered {
+                number,
+                items,
+                did,
+                ..
+            } => self.enter_region(alloc, *number, items.as_slice(), did.as_slice()),
+            Event::Left { number, did, .. } => self.leave_region(*number, did.as_slice()),
+            Event::EnteredData {
+                items,
+                queue,
+                did,
+                ..
+            } => self.enter_data(alloc, items.as_slice(), *queue, did.as_slice()),
             Event::ExitedData {
                 items,
                 queue,

@@ -12,7 +12,7 @@ use std::test::Fail;
 fn turns_of(alloc: Global, asked: &[(Ask, Answer)]) -> Result<Vec<Turn>, AllocError> {
     let mut turns = Vec::new(alloc);
     for &(ask, _) in asked {
-        turns.push(turn_of(alloc, ask)?)?;
+        turns.push(turn_of(alloc, 0, ask)?)?;
     }
     Ok(turns)
 }

@@ -2,24 +2,11 @@
 //! output.
 #![tactic(auto)]
 
-mod drills;
-mod endings;
-mod options;
-mod programs;
-mod shelves;
-#[cfg(test)]
-mod tests;
-mod tools;
-mod walls;
 mod watching;
-mod words;
 
-use crate::endings::tell;
-use crate::shelves::Disk;
-use crate::tools::{FAULTED, tell_words, tool};
 use crate::watching::watched;
-use crate::words::read_words;
 use acc_base::Fault;
+use acc_command::{Disk, FAULTED, read_words, tell, tell_words, tool};
 use acc_follow::Output;
 use acc_script::{FromRead, Sink, Source, ToWrite};
 use std::io::{BufWriter, IsTerminal};

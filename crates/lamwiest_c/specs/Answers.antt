@@ -12,7 +12,7 @@ use Rattle.acc_base.specs.Calls.{World, judge, world_after, rebased}
 use Rattle.acc_base.specs.Judge.{Verdict, Makes, Idle}
 use Rattle.acc_table.specs.declared.calls.Reply.{Reply}
 use Rattle.acc_table.specs.declared.calls.Reply.TheVariants as replies
-use Rattle.acc_table.specs.Calls.{reply_of}
+use Rattle.acc_table.specs.Calls.{reply_in}
 use Rattle.acc_table.specs.Turns.{lent_by}
 use Rattle.lamwiest_c.specs.declared.statuses.Refusal.{Refusal}
 use Rattle.lamwiest_c.specs.declared.statuses.Refusal.TheVariants.{Ended, OfTable}
@@ -40,7 +40,7 @@ number_in replies.Idle = 0
 abbrev pub CameOf : World → Call Leased → Result Verdict Fault → Told → World → Type 0
 CameOf w call (Err fault) T v = T (Err (OfTable fault)) × (v ≡ w)
 CameOf w call (Ok Idle) T v = T (Ok (number_in replies.Idle)) × (v ≡ w)
-CameOf w call (Ok (Makes e)) T v = (T (Err (OfTable Memory)) × (v ≡ w)) ⊎ (T (Ok (number_in (reply_of e w.state))) × (v ≡ world_after call e w))
+CameOf w call (Ok (Makes e)) T v = (T (Err (OfTable Memory)) × (v ≡ w)) ⊎ (T (Ok (number_in (reply_in e w))) × (v ≡ world_after call e w))
 
 abbrev pub IsMade : World → Call Leased → Told → World → Type 0
 IsMade w call T v = CameOf w call (judge w call) T v
@@ -72,8 +72,8 @@ abbrev pub CameOfLoan : DataEnvironment → Call Leased → Result Verdict Fault
 CameOfLoan e call (Err fault) T v = T (Err (OfTable fault)) × (v ≡ e)
 CameOfLoan e call (Ok Idle) T v = ⊥
 CameOfLoan e call (Ok (Makes event)) T v =
-    T (Ok (number_in (reply_of event e.world.state)))
-    × (v ≡ record { world = world_after call event e.world; leases = e.leases ++ lent_by (reply_of event e.world.state) })
+    T (Ok (number_in (reply_in event e.world)))
+    × (v ≡ record { world = world_after call event e.world; leases = e.leases ++ lent_by (reply_in event e.world) })
 
 abbrev pub IsLent : DataEnvironment → ℕ → Section → Told → DataEnvironment → Type 0
 IsLent e region section T v =
@@ -97,7 +97,7 @@ CameOfLease e serial call (Err fault) T v = T (Err (OfTable fault)) × (v ≡ e)
 CameOfLease e serial call (Ok Idle) T v = ⊥
 CameOfLease e serial call (Ok (Makes event)) T v =
     (T (Err (OfTable Memory)) × (v ≡ e))
-    ⊎ (T (Ok (number_in (reply_of event e.world.state))) × (v ≡ record { world = world_after call event e.world; leases = leases_without serial e.leases }))
+    ⊎ (T (Ok (number_in (reply_in event e.world))) × (v ≡ record { world = world_after call event e.world; leases = leases_without serial e.leases }))
 
 abbrev pub IsGathered : DataEnvironment → ℕ → Told → DataEnvironment → Type 0
 IsGathered e serial T v =
@@ -107,7 +107,7 @@ IsGathered e serial T v =
 
 -- a lease of no bytes, which stands for one that is on its way back
 abbrev pub lease_of_nothing : Leased
-lease_of_nothing = record { serial = 0; block = 0; offset = 0; len = 0; bytes = [] }
+lease_of_nothing = record { device = 0; serial = 0; block = 0; offset = 0; len = 0; bytes = [] }
 
 -- the lease of a call that came back, or what stood in its place
 abbrev pub lease_in : Call Leased → Leased → Leased

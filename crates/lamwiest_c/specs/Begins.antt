@@ -9,9 +9,9 @@ use Rattle.lamwiest_c.specs.declared.tables.RawLimits.{RawLimits}
 use Rattle.lamwiest_c.specs.Environments.{DataEnvironment}
 use Rattle.lamwiest_c.specs.Answers.{Told}
 
--- the limits of a table, as C writes them
+-- the limits of a table of one device, as C writes them
 abbrev pub limits_in : RawLimits → Limits
-limits_in l = limits_of l.host l.device l.regions l.tickets l.counter_max l.queue_cap l.trace_cap l.full
+limits_in l = limits_of l.host l.device l.regions l.tickets l.counter_max l.queue_cap l.trace_cap l.full 1
 
 abbrev pub default_limits : RawLimits
 default_limits = record { host = 65536; device = 65536; regions = 64; tickets = 1048576; counter_max = 4294967295; queue_cap = 256; trace_cap = 262144; full = false }

@@ -79,7 +79,7 @@ abbrev pub IsRead : {C : Type 0} → Result (List (Item C)) Refusal → Result (
 IsRead (Err refusal) result = result ≡ Err refusal
 IsRead (Ok items) result = (result ≡ Ok items) ⊎ (result ≡ Err (OfTable Memory))
 
--- ---- the directives of arrays
+-- ---- the directives of arrays, all on the one device that a table of C has
 
 -- a directive with its items, where these were read
 abbrev pub directive_with : {A B : Type 0} → (A → B) → Result A Refusal → Result B Refusal
@@ -87,13 +87,13 @@ directive_with f (Ok items) = Ok (f items)
 directive_with f (Err refusal) = Err refusal
 
 abbrev pub enter_of : List RawItem → Result Directive Refusal
-enter_of items = directive_with Enter (items_from region_clause 0 items)
+enter_of items = directive_with (Enter 0) (items_from region_clause 0 items)
 
 abbrev pub enter_data_of : List RawItem → ℕ → Result Directive Refusal
-enter_data_of items queue = directive_with (λ read. EnterData read (queue_of queue)) (items_from enter_clause 0 items)
+enter_data_of items queue = directive_with (λ read. EnterData 0 read (queue_of queue)) (items_from enter_clause 0 items)
 
 abbrev pub exit_data_of : List RawItem → Bool → ℕ → Result Directive Refusal
-exit_data_of items finalize queue = directive_with (λ read. ExitData read finalize (queue_of queue)) (items_from exit_clause 0 items)
+exit_data_of items finalize queue = directive_with (λ read. ExitData 0 read finalize (queue_of queue)) (items_from exit_clause 0 items)
 
 abbrev pub update_of : List RawItem → Bool → ℕ → Result Directive Refusal
-update_of items if_present queue = directive_with (λ read. Update read if_present (queue_of queue)) (items_from update_clause 0 items)
+update_of items if_present queue = directive_with (λ read. Update 0 read if_present (queue_of queue)) (items_from update_clause 0 items)

@@ -1,7 +1,7 @@
 -- The status of what came of a call, and the fields of a refusal.
 use Rattle.std.specs.Prelude.{ℕ, ◌≡◌, ◌==◌, if◌then◌else◌, Option, Some, None, Result, Ok, Err}
 use Rattle.acc_base.specs.declared.faults.Fault.{Fault}
-use Rattle.acc_base.specs.declared.faults.Fault.TheVariants.{Memory, BadConfig, NoTickets, NoAllowance, TooManyItems, TraceFull, OutOfHost, Misaligned, NoQueue, PartlyPresent, NotPresent, CounterFull, Lent, DeviceFull, QueueFull, NoRegion, NoLease}
+use Rattle.acc_base.specs.declared.faults.Fault.TheVariants.{Memory, BadConfig, NoTickets, NoAllowance, TooManyItems, TraceFull, OutOfHost, Misaligned, NoQueue, PartlyPresent, NotPresent, CounterFull, Lent, DeviceFull, QueueFull, NoRegion, NoLease, NoDevice}
 use Rattle.acc_base.specs.Faults.{number_of}
 use Rattle.lamwiest_c.specs.declared.statuses.TheConstants.{ENDED, BAD_CLAUSE, BAD_LENGTH, ABSENT}
 use Rattle.lamwiest_c.specs.declared.statuses.Refusal.{Refusal}
@@ -30,6 +30,7 @@ value_of (Lent block) = block
 value_of (DeviceFull item need) = need
 value_of (NoRegion number) = number
 value_of (NoLease serial) = serial
+value_of (NoDevice device) = device
 value_of _ = 0
 
 abbrev pub status_of : Refusal → ℕ
@@ -82,6 +83,7 @@ refusal_with status item value =
     if status == 15 then Some (OfTable (QueueFull value)) else
     if status == 16 then Some (OfTable (NoRegion value)) else
     if status == 17 then Some (OfTable (NoLease value)) else
+    if status == 22 then Some (OfTable (NoDevice value)) else
     if status == ENDED then Some Ended else
     if status == BAD_CLAUSE then Some (BadClause item) else
     if status == BAD_LENGTH then Some (BadLength value) else

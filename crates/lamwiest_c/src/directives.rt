@@ -1,4 +1,4 @@
-//! The directives, each under a name of its own.
+//! The directives, each under a name of its own. All are on the one device that a table of C has.
 
 ghost use Rattle.std.specs.Prelude.{◌≡◌};
 ghost use Rattle.acc_base.specs.declared.calls.Call.TheVariants.{Do};
@@ -129,13 +129,13 @@ pub extern "C" fn lw_wait(
     fault: &mut FaultFields,
 ) -> u32
     ensures { IsOf table.old.value table.new.value (IsNumberAnswered result fault.new count.old count.new)
-        (λ e v. IsMadeIn e (Do (Wait (queue_of queue))) (IsNumberAnswered result fault.new count.old count.new) v) }
+        (λ e v. IsMadeIn e (Do (Wait 0 (queue_of queue))) (IsNumberAnswered result fault.new count.old count.new) v) }
 {
     let Some(mut environment) = take_out(alloc, table) else {
         return tell_number(Err(Refusal::Ended), count, fault);
     };
     let queue = queue_of(queue);
-    let made = environment.direct(Directive::Wait { queue });
+    let made = environment.direct(Directive::Wait { device: 0, queue });
     put_back(table, environment);
     tell_number(made, count, fault)
 }
@@ -151,12 +151,12 @@ pub extern "C" fn lw_step(
     fault: &mut FaultFields,
 ) -> u32
     ensures { IsOf table.old.value table.new.value (IsNumberAnswered result fault.new count.old count.new)
-        (λ e v. IsMadeIn e (Do (Step queue)) (IsNumberAnswered result fault.new count.old count.new) v) }
+        (λ e v. IsMadeIn e (Do (Step 0 queue)) (IsNumberAnswered result fault.new count.old count.new) v) }
 {
     let Some(mut environment) = take_out(alloc, table) else {
         return tell_number(Err(Refusal::Ended), count, fault);
     };
-    let made = environment.direct(Directive::Step { queue });
+    let made = environment.direct(Directive::Step { device: 0, queue });
     put_back(table, environment);
     tell_number(made, count, fault)
 }

@@ -100,7 +100,7 @@ impl Environment {
         ensures { IsDirected self.old (enter_of items.now) (λ r. result ≡ r) self.new }
     {
         let items = items_of(alloc, items)?;
-        self.direct(Directive::Enter { items })
+        self.direct(Directive::Enter { device: 0, items })
     }
 
     /// Carries out `enter data` with the items of an array.
@@ -113,8 +113,12 @@ impl Environment {
         ensures { IsDirected self.old (enter_data_of items.now queue) (λ r. result ≡ r) self.new }
     {
         let items = items_of(alloc, items)?;
-        let queue = queue_of(queue);
-        self.direct(Directive::EnterData { items, queue })
+        let (device, queue) = (0, queue_of(queue));
+        self.direct(Directive::EnterData {
+            device,
+            items,
+            queue,
+        })
     }
 
     /// Carries out `exit data` with the items of an array.
@@ -130,6 +134,7 @@ impl Environment {
         let items = items_of(alloc, items)?;
         let queue = queue_of(queue);
         self.direct(Directive::ExitData {
+            device: 0,
             items,
             finalize,
             queue,
@@ -149,6 +154,7 @@ impl Environment {
         let items = items_of(alloc, items)?;
         let queue = queue_of(queue);
         self.direct(Directive::Update {
+            device: 0,
             items,
             if_present,
             queue,

@@ -3,6 +3,7 @@
 ghost use Rattle.std.specs.Prelude.{◌≡◌, Ok, length};
 ghost use Rattle.acc_base.specs.declared.calls.Call.TheVariants.{HostWrite};
 ghost use Rattle.acc_base.specs.declared.faults.Fault.TheVariants.{OutOfHost};
+ghost use Rattle.acc_base.specs.Devices.{view};
 ghost use Rattle.acc_table.specs.Queries.{host_read_of, device_read_of};
 ghost use Rattle.lamwiest_c.specs.declared.statuses.Refusal.TheVariants.{Absent, OfTable};
 ghost use Rattle.lamwiest_c.specs.Statuses.{IsAnswered};
@@ -32,11 +33,11 @@ impl Environment {
 
     /// Copies the bytes that the device has from a host address on, as many as the buffer has.
     fn device_read(&self, start: u64, into: &mut [u8]) -> Result<u64, Refusal>
-        ensures { IsCopied (device_read_of (section_at start (length into.old)) self.now.world.state) Absent into.old into.new (λ r. result ≡ r) }
+        ensures { IsCopied (device_read_of (section_at start (length into.old)) (view 0 self.now.world.state)) Absent into.old into.new (λ r. result ≡ r) }
     {
         self.table.laws();
         let len = into.len() as u64;
-        match self.table.device_read(Section { start, len }) {
+        match self.table.device_read(0, Section { start, len }) {
             Some(bytes) => {
                 into.copy_from_slice(bytes);
                 Ok(len)
@@ -99,7 +100,7 @@ pub extern "C" fn lw_device_read(
     fault: &mut FaultFields,
 ) -> u32
     ensures { IsOf table.old.value table.new.value (IsAnswered result fault.new)
-        (λ e v. IsCopied (device_read_of (section_at start (length bytes.old)) e.world.state) Absent bytes.old bytes.new (IsAnswered result fault.new) × (v ≡ e)) }
+        (λ e v. IsCopied (device_read_of (section_at start (length bytes.old)) (view 0 e.world.state)) Absent bytes.old bytes.new (IsAnswered result fault.new) × (v ≡ e)) }
 {
     let Some(environment) = take_out(alloc, table) else {
         return tell(Err(Refusal::Ended), fault);

@@ -1,9 +1,10 @@
 //! What a table tells of itself. No query takes memory, changes anything or is refused; where there is nothing to find,
-//! what stands in the place of the answer stays.
+//! what stands in the place of the answer stays. What is asked of a device is asked of the one that a table of C has.
 
 ghost use Rattle.std.specs.Prelude.{◌≡◌, Some, length, option_map};
 ghost use Rattle.acc_base.specs.Blocks.{used_bytes};
-ghost use Rattle.acc_base.specs.Calls.{event_count, open_regions};
+ghost use Rattle.acc_base.specs.Devices.{view, open_regions};
+ghost use Rattle.acc_base.specs.Calls.{event_count};
 ghost use Rattle.acc_base.specs.Pointers.{device_address_of, attachment_of};
 ghost use Rattle.acc_base.specs.Queues.{queue_at};
 ghost use Rattle.acc_base.specs.Ranges.{where_is};
@@ -98,12 +99,12 @@ pub extern "C" fn lw_is_present(
     len: u64,
     present: &mut u64,
 ) -> u32
-    ensures { IsAskedOf table.old.value table.new.value (λ e. Some (number_of_bool (is_inside (where_is (section_at start len) e.world.state.records.ranges)))) result present.old present.new }
+    ensures { IsAskedOf table.old.value table.new.value (λ e. Some (number_of_bool (is_inside (where_is (section_at start len) (view 0 e.world.state).records.ranges)))) result present.old present.new }
 {
     let Some(environment) = take_out(alloc, table) else {
         return ENDED;
     };
-    let answer = number_of_bool(environment.table.is_present(Section { start, len }));
+    let answer = number_of_bool(environment.table.is_present(0, Section { start, len }));
     put_back(table, environment);
     found(Some(answer), present)
 }
@@ -116,12 +117,12 @@ pub extern "C" fn lw_device_address(
     address: u64,
     place: &mut u64,
 ) -> u32
-    ensures { IsAskedOf table.old.value table.new.value (λ e. device_address_of address e.world.state.records) result place.old place.new }
+    ensures { IsAskedOf table.old.value table.new.value (λ e. device_address_of address (view 0 e.world.state).records) result place.old place.new }
 {
     let Some(environment) = take_out(alloc, table) else {
         return ENDED;
     };
-    let answer = environment.table.device_address(address);
+    let answer = environment.table.device_address(0, address);
     put_back(table, environment);
     found(answer, place)
 }
@@ -135,12 +136,12 @@ pub extern "C" fn lw_counters(
     len: u64,
     counters: &mut RawCounters,
 ) -> u32
-    ensures { IsAskedOf table.old.value table.new.value (λ e. option_map raw_counters (counters_of_section (section_at start len) e.world.state.records)) result counters.old counters.new }
+    ensures { IsAskedOf table.old.value table.new.value (λ e. option_map raw_counters (counters_of_section (section_at start len) (view 0 e.world.state).records)) result counters.old counters.new }
 {
     let Some(environment) = take_out(alloc, table) else {
         return ENDED;
     };
-    let answer = environment.table.counters(Section { start, len });
+    let answer = environment.table.counters(0, Section { start, len });
     put_back(table, environment);
     match answer {
         Some(told) => found(Some(raw_counters(told)), counters),
@@ -156,12 +157,12 @@ pub extern "C" fn lw_attachment(
     pointer: u64,
     count: &mut u64,
 ) -> u32
-    ensures { IsAskedOf table.old.value table.new.value (λ e. Some (attachment_of pointer e.world.state.records)) result count.old count.new }
+    ensures { IsAskedOf table.old.value table.new.value (λ e. Some (attachment_of pointer (view 0 e.world.state).records)) result count.old count.new }
 {
     let Some(environment) = take_out(alloc, table) else {
         return ENDED;
     };
-    let answer = environment.table.attachment(pointer);
+    let answer = environment.table.attachment(0, pointer);
     put_back(table, environment);
     found(Some(answer), count)
 }
@@ -174,12 +175,12 @@ pub extern "C" fn lw_mapped(
     from: u64,
     mapped: &mut RawMapped,
 ) -> u32
-    ensures { IsAskedOf table.old.value table.new.value (λ e. option_map raw_mapped (mapped_from from e.world.state.records)) result mapped.old mapped.new }
+    ensures { IsAskedOf table.old.value table.new.value (λ e. option_map raw_mapped (mapped_from from (view 0 e.world.state).records)) result mapped.old mapped.new }
 {
     let Some(environment) = take_out(alloc, table) else {
         return ENDED;
     };
-    let answer = environment.table.mapped(from);
+    let answer = environment.table.mapped(0, from);
     put_back(table, environment);
     match answer {
         Some(told) => found(Some(raw_mapped(told)), mapped),
@@ -190,12 +191,12 @@ pub extern "C" fn lw_mapped(
 /// How many transfers wait in a queue; 0 where there is no such queue (OpenACC 3.3, section 2.16).
 #[unsafe(no_mangle)]
 pub extern "C" fn lw_queue_len(alloc: Global, table: &mut Handle, queue: u64, len: &mut u64) -> u32
-    ensures { IsAskedOf table.old.value table.new.value (λ e. Some (length (queue_at queue e.world.state.records.queues))) result len.old len.new }
+    ensures { IsAskedOf table.old.value table.new.value (λ e. Some (length (queue_at queue (view 0 e.world.state).records.queues))) result len.old len.new }
 {
     let Some(environment) = take_out(alloc, table) else {
         return ENDED;
     };
-    let answer = environment.table.queue_len(queue);
+    let answer = environment.table.queue_len(0, queue);
     put_back(table, environment);
     found(Some(answer), len)
 }
@@ -203,12 +204,12 @@ pub extern "C" fn lw_queue_len(alloc: Global, table: &mut Handle, queue: u64, le
 /// The bytes of device memory that all blocks take, each rounded up to a multiple of 16.
 #[unsafe(no_mangle)]
 pub extern "C" fn lw_used(alloc: Global, table: &mut Handle, used: &mut u64) -> u32
-    ensures { IsAskedOf table.old.value table.new.value (λ e. Some (used_bytes e.world.state.records.blocks)) result used.old used.new }
+    ensures { IsAskedOf table.old.value table.new.value (λ e. Some (used_bytes (view 0 e.world.state).records.blocks)) result used.old used.new }
 {
     let Some(environment) = take_out(alloc, table) else {
         return ENDED;
     };
-    let answer = environment.table.used();
+    let answer = environment.table.used(0);
     put_back(table, environment);
     found(Some(answer), used)
 }

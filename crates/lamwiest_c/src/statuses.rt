@@ -52,7 +52,7 @@ pub struct FaultFields {
     /// The place of the item that is refused, counted from 0; 0 where the refusal names none.
     pub item: u64,
     /// The other number of the refusal: how many tickets or regions are left, how many items or events there are, which
-    /// queue, block, region or lease is meant, or how many bytes are wanted; 0 where the refusal has none.
+    /// queue, block, region, lease or device is meant, or how many bytes are wanted; 0 where the refusal has none.
     pub value: u64,
 }
 
@@ -84,6 +84,7 @@ fn value_of(fault: Fault) -> u64
         Fault::DeviceFull { need, .. } => need,
         Fault::NoRegion { number } => number,
         Fault::NoLease { serial } => serial,
+        Fault::NoDevice { device } => device,
         _ => 0,
     }
 }
@@ -175,6 +176,7 @@ impl FaultFields {
             15 => Some(Refusal::OfTable(Fault::QueueFull { q: value })),
             16 => Some(Refusal::OfTable(Fault::NoRegion { number: value })),
             17 => Some(Refusal::OfTable(Fault::NoLease { serial: value })),
+            22 => Some(Refusal::OfTable(Fault::NoDevice { device: value })),
             ENDED => Some(Refusal::Ended),
             BAD_CLAUSE => Some(Refusal::BadClause { item }),
             BAD_LENGTH => Some(Refusal::BadLength { len: value }),

@@ -6,9 +6,7 @@ ghost use Rattle.acc_base.specs.declared.addresses.TheConstants.{MEMORY_MAX};
 ghost use Rattle.acc_base.specs.Section.{end_of, device_memory};
 ghost use Rattle.acc_base.specs.Loans.{loan_of, is_lent};
 ghost use Rattle.acc_base.specs.Leases.{is_returnable};
-ghost use Rattle.acc_base.specs.Blocks.{rounded, place_of, place_for, used_bytes};
-ghost use Rattle.acc_base.specs.Holes.{IsNextHole};
-ghost use Rattle.acc_base.specs.Waits.{ended_from};
+ghost use Rattle.acc_base.specs.Blocks.{rounded, place_of, place_for};
 ghost use Rattle.acc_placement.specs.Ranges.{IsTakeBelow};
 ghost use Rattle.acc_dev.specs.Device.{planned_blocks};
 
@@ -39,32 +37,10 @@ impl Parts {
     /// where it fits nowhere.
     pub(crate) fn would_take(&self, listed: &[(u64, u64)], len: u64) -> Option<u64>
         requires len { IsFromOne MEMORY_MAX len }
-        requires listed { All (IsTakeBelow (end_of (device_memory self.now.limits.device))) listed.now }
-        ensures { result ≡ place_for (device_memory self.now.limits.device) (self.now.state.records.blocks ++ planned_blocks (self.now.state.records.births + 1) listed.now) (rounded len) }
+        requires listed { All (IsTakeBelow (end_of (device_memory self.now.limits))) listed.now }
+        ensures { result ≡ place_for (device_memory self.now.limits) (self.now.state.records.blocks ++ planned_blocks (self.now.state.records.births + 1) listed.now) (rounded len) }
     {
         self.environment.device.would_take(listed, len)
-    }
-
-    /// The bytes of device memory that all blocks take, each rounded up to a multiple of 16.
-    pub(crate) fn used(&self) -> u64
-        ensures { result ≡ used_bytes self.now.state.records.blocks }
-    {
-        self.environment.device.used()
-    }
-
-    /// The hole of least place at or above a device address, if there is one.
-    pub(crate) fn hole(&self, from: u64) -> Option<Hole>
-        ensures { IsNextHole from (device_memory self.now.limits.device) self.now.state.records.blocks result }
-    {
-        self.environment.device.hole(from)
-    }
-
-    /// The block of least place at or above a device address whose mapping has ended, if there is one.
-    pub(crate) fn ended(&self, from: u64) -> Option<Ended>
-        ensures { result ≡ ended_from from self.now.state.records }
-    {
-        self.environment.device.laws();
-        self.environment.device.ended(from)
     }
 
     /// The loan of a block, if there is such a block and it is lent.

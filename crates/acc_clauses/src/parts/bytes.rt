@@ -1,12 +1,10 @@
 //! The bytes of both memories, and the pointers among them.
 
-ghost use Rattle.std.specs.Prelude.{◌≡◌, ◌^◌, ◌<◌, ◌≤◌, ◌↔◌, ◌==◌, ◌&&◌, find, IfSome, IfNone, IsSome, Some, true, false};
-ghost use Rattle.acc_base.specs.Section.{covers, is_within, host_memory};
+ghost use Rattle.std.specs.Prelude.{◌≡◌, ◌^◌, ◌<◌, ◌≤◌, IfSome, IfNone, Some, true, false};
+ghost use Rattle.acc_base.specs.Section.{is_within, host_memory};
 ghost use Rattle.acc_base.specs.Loans.{is_lent};
-ghost use Rattle.acc_base.specs.Blocks.{block_at};
-ghost use Rattle.acc_base.specs.Bytes.{bytes_of};
-ghost use Rattle.acc_base.specs.Pointers.{attachment_of, host_pointer, device_pointer};
-ghost use Rattle.acc_base.specs.Attachments.{pointer_at, count_at, next_pointer};
+ghost use Rattle.acc_base.specs.Pointers.{host_pointer, device_pointer};
+ghost use Rattle.acc_base.specs.Attachments.{pointer_at, count_at};
 ghost use Rattle.acc_base.specs.Detaching.{block_with};
 ghost use Rattle.acc_host.specs.Host.{bytes_in, IsRead, IsOutOfHost};
 
@@ -22,30 +20,7 @@ impl Parts {
         ensures part { IfSome result (λ bytes. bytes.now ≡ bytes_in self.now.state.host section) }
         ensures none { IfNone result (IsOutOfHost self.now.state.host section) }
     {
-        self.environment.host.read(section)
-    }
-
-    /// The bytes of a block. `None` exactly where there is no such block, or it is lent.
-    pub(crate) fn bytes(&self, block: u64) -> Option<&[u8]>
-        ensures there { IsSome result ↔ (IsSome (block_at block self.now.state.records.blocks) × (is_lent block self.now.state.records.loans ≡ false)) }
-        ensures bytes { IfSome result (λ bytes. bytes.now ≡ bytes_of block self.now.state.memories) }
-    {
-        if self.environment.device.has(block) {
-            self.environment.device.bytes(block)
-        } else {
-            None
-        }
-    }
-
-    /// The attachment counter of the pointer at a host address, in the block whose range has its eight bytes; 0 where it
-    /// is not present.
-    pub(crate) fn attachment(&self, pointer: u64) -> u64
-        ensures { result ≡ attachment_of pointer self.now.state.records }
-    {
-        match self.find(pointer_at(pointer)).found {
-            Found::Inside { block, .. } => self.count(block, pointer),
-            Found::Empty | Found::Partly | Found::Absent => 0,
-        }
+        self.host.read(section)
     }
 
     /// How often a pointer in a block is attached. `pointer` is its host address.
@@ -58,40 +33,12 @@ impl Parts {
         self.environment.attached.count(block, pointer)
     }
 
-    /// The least host address, from one on, at which an attached pointer of a block begins.
-    fn next_pointer(&self, block: u64, from: u64) -> Option<u64>
-        ensures { result ≡ next_pointer block from self.now.state.records.attached }
-    {
-        self.environment.attached.next_pointer(block, from)
-    }
-
-    /// The attached pointer of a block that has the least address in a section, with its counter.
-    pub(crate) fn next_attached(&self, block: u64, section: Section) -> Option<Attachment>
-        ensures { result ≡ find (λ a. a.block == block && covers section a.pointer) self.now.state.records.attached }
-    {
-        self.laws();
-        match self.next_pointer(block, section.start) {
-            Some(pointer) => {
-                if section.len <= pointer - section.start {
-                    return None;
-                }
-                let count = self.count(block, pointer);
-                Some(Attachment {
-                    block,
-                    pointer,
-                    count,
-                })
-            }
-            None => None,
-        }
-    }
-
     /// The address that a pointer in host memory holds.
     pub(crate) fn host_pointer(&self, pointer: u64) -> u64
         requires { is_within (pointer_at pointer) (host_memory self.now.limits.host) ≡ true }
         ensures { result ≡ host_pointer pointer self.now.state }
     {
-        let Some(address) = self.environment.host.pointer_at(pointer) else {
+        let Some(address) = self.host.pointer_at(pointer) else {
             unreachable!()
         };
         address
@@ -102,7 +49,7 @@ impl Parts {
         ensures { block_with pointer self.now.state.records.ranges ≡ Some block → is_lent block self.now.state.records.loans ≡ false → result ≡ device_pointer block pointer self.now.state }
     {
         self.laws();
-        let Some(bytes) = self.bytes(block) else {
+        let Some(bytes) = self.view().bytes(block) else {
             return 0;
         };
         let from = pointer.saturating_sub(self.start(block, hint)) as usize;

@@ -40,8 +40,7 @@ impl Parts {
         ensures state { self.new.state ≡ act_state task did self.old.state }
         ensures room { IsRoomLeft (birth_of task did.step) (pointers_of did.aim) (λ q. puts_by q task did.step) self.old.room self.new.room }
     {
-        self.config.laws();
-        act_on(&mut self.environment, task, did, hint);
+        act_on(&mut self.environment, &mut self.host, task, did, hint);
     }
 
     /// Makes the first transfer of a queue, if it has one; its block is not lent. It takes no memory and is never refused.
@@ -51,7 +50,7 @@ impl Parts {
         ensures state { self.new.state ≡ stepped q self.old.state }
     {
         self.laws();
-        step(&mut self.environment, q);
+        step(&mut self.environment, &mut self.host, q);
     }
 
     /// Makes room for births of blocks of these lengths, in this order, for so many regions, the next of which has so many
@@ -114,7 +113,7 @@ impl Parts {
         requires new { region_at self.old.state.register.next self.old.state.register.regions ≡ None }
         requires room { HasRegionRoom 1 (length holdings.now) self.old.room }
         ensures limits { self.new.limits ≡ self.old.limits }
-        ensures state { self.new.state ≡ record self.old.state { register = opened holdings.now self.old.state.register } }
+        ensures state { self.new.state ≡ record self.old.state { register = opened self.old.state.register.next holdings.now self.old.state.register } }
     {
         self.environment
             .present
@@ -139,22 +138,22 @@ impl Parts {
         ensures room { self.new.room ≡ self.old.room }
         ensures state { self.new.state ≡ record self.old.state { host = host_after_write addr (length bytes.now) bytes.now self.old.state.host } }
     {
-        let Ok(()) = self.environment.host.write(addr, bytes) else {
+        let Ok(()) = self.host.write(addr, bytes) else {
             unreachable!()
         };
     }
 
     /// Moves the bytes of a block that is not lent into a lease, for a loan under the next serial number of a section that
-    /// lies in the range of the block. With full traces a copy of them stays.
+    /// lies in the range of the block. The lease tells the device by this number. With full traces a copy of them stays.
     ///
     /// # Errors
     ///
     /// [`Fault::Memory`], and with full traces alone. Nothing changed.
-    pub(crate) fn lend(&mut self, loan: Loan) -> Result<Lease, Fault>
+    pub(crate) fn lend(&mut self, device: u64, loan: Loan) -> Result<Lease, Fault>
         requires free { is_lent loan.block self.old.state.records.loans ≡ false }
         requires sound { IsLoanSound self.old.state.records.ranges loan }
         requires few { self.old.state.register.serial < 2 ^ 48 }
-        ensures lease { IfOk result (λ lease. lease ≡ leased loan self.old.state) }
+        ensures lease { IfOk result (λ lease. lease ≡ leased device loan self.old.state) }
         ensures limits { self.new.limits ≡ self.old.limits }
         ensures room { self.new.room ≡ self.old.room }
         ensures state { OnOk result (self.new.state ≡ lent_state self.old.limits.full loan self.old.state) }
@@ -163,10 +162,14 @@ impl Parts {
     {
         self.environment.device.laws();
         let keep = self.config.full();
-        let lease = self
-            .environment
-            .device
-            .take_out(loan.block, loan.serial, loan.offset, loan.len, keep)?;
+        let lease = self.environment.device.take_out(
+            device,
+            loan.block,
+            loan.serial,
+            loan.offset,
+            loan.len,
+            keep,
+        )?;
         self.numbers.serial += 1;
         self.numbers.lent += 1;
         Ok(lease)

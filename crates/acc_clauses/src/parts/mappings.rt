@@ -1,7 +1,7 @@
 //! Where sections lie among the mapped ranges, and what those count.
 
 ghost use Rattle.std.specs.Prelude.{◌≡◌, ◌^◌, ◌<◌, ◌≤◌};
-ghost use Rattle.acc_base.specs.Ranges.{where_is, where_is_apart, range_of, range_from, structured_of, dynamic_of, start_of};
+ghost use Rattle.acc_base.specs.Ranges.{where_is, where_is_apart, range_of, structured_of, dynamic_of, start_of};
 
 use crate::parts::Parts;
 use acc_base::{Counters, Range, Section};
@@ -27,13 +27,6 @@ impl Parts {
         ensures { result ≡ range_of block self.now.state.records.ranges }
     {
         self.environment.present.range(block, hint)
-    }
-
-    /// The mapped range of least start at or above a host address, if there is one.
-    pub(crate) fn next_range(&self, from: u64) -> Option<Range>
-        ensures { result ≡ range_from from self.now.state.records.ranges }
-    {
-        self.environment.present.next_range(from)
     }
 
     /// The reference counters of the range that is mapped to a block; both are 0 where none is.

@@ -1,7 +1,7 @@
 //! What the parts tell of open data regions.
 
-ghost use Rattle.std.specs.Prelude.{◌≡◌, MatchOption, None, Some, length};
-ghost use Rattle.acc_base.specs.Register.{holdings_at, newest_region};
+ghost use Rattle.std.specs.Prelude.{◌≡◌, MatchOption, None, Some};
+ghost use Rattle.acc_base.specs.Register.{holdings_at};
 
 use crate::parts::Parts;
 use acc_base::Holding;
@@ -12,20 +12,6 @@ impl Parts {
         ensures { MatchOption result (holdings_at number self.now.state.register.regions ≡ None) (λ holdings. holdings_at number self.now.state.register.regions ≡ Some holdings.now) }
     {
         self.environment.present.holdings(number)
-    }
-
-    /// How many data regions are open.
-    pub(crate) fn regions(&self) -> u64
-        ensures { result ≡ length self.now.state.register.regions }
-    {
-        self.environment.present.regions()
-    }
-
-    /// The number of the open region that was entered last, if one is open.
-    pub(crate) fn newest_region(&self) -> Option<u64>
-        ensures { result ≡ newest_region self.now.state.register.regions }
-    {
-        self.environment.present.newest_region()
     }
 
     /// The number that the next region gets.

@@ -1,5 +1,7 @@
 //! The blocks whose mapping has ended, written without memory.
 
+ghost use Rattle.std.specs.Prelude.{◌<◌};
+ghost use Rattle.acc_base.specs.Devices.{view};
 ghost use Rattle.acc_script.specs.Ends.{Wrote};
 ghost use Rattle.acc_script.specs.Texts.{ended_text, ended_texts};
 
@@ -10,13 +12,14 @@ use acc_base::Ended;
 use acc_table::Table;
 use itoa::Buffer;
 
-/// A line for each block whose mapping has ended, by rising place; false where the sink failed.
-pub fn write_ended<W: Sink>(table: &Table, writer: &mut W) -> bool
-    ensures { Wrote (W.told writer.old) (W.told writer.new) (ended_texts 0 table.now.state.records) result }
+/// A line for each block of a device whose mapping has ended, by rising place; false where the sink failed.
+pub fn write_ended<W: Sink>(table: &Table, writer: &mut W, device: u64) -> bool
+    requires there { device < table.now.limits.devices }
+    ensures { Wrote (W.told writer.old) (W.told writer.new) (ended_texts 0 (view device table.now.state).records) result }
 {
     table.laws();
     let mut from = 0u64;
-    'each: while let Some(ended) = table.ended(from) {
+    'each: while let Some(ended) = table.ended(device, from) {
         if !write_block(writer, ended) {
             return false;
         }

@@ -22,8 +22,13 @@ pub enum Effect {
     Refused(Fault),
     /// The bytes of a section of host memory.
     HostBytes(Section),
-    /// The bytes that the device has of a section, if it is present.
-    DeviceBytes(Section),
+    /// The bytes that a device has of a section, if it is present there.
+    DeviceBytes {
+        /// The number of the device.
+        device: u64,
+        /// The section.
+        section: Section,
+    },
     /// Whether a section is present.
     Presence(bool),
     /// A device address, if there is one.
@@ -51,7 +56,9 @@ pub fn write_effect<W: Sink>(writer: &mut W, number: u64, table: &Table, effect:
         Effect::EmptyQueue => write_idle(writer),
         Effect::Refused(fault) => write_refusal(writer, number, fault),
         Effect::HostBytes(section) => write_read(writer, table.host_read(section)),
-        Effect::DeviceBytes(section) => write_read(writer, table.device_read(section)),
+        Effect::DeviceBytes { device, section } => {
+            write_read(writer, table.device_read(device, section))
+        }
         Effect::Presence(present) => write_presence(writer, present),
         Effect::Place(place) => write_place(writer, place),
         Effect::Reported => write_report(table, writer),

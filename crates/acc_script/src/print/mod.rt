@@ -7,5 +7,6 @@ mod blocks;
 pub mod effects;
 mod pointers;
 mod queues;
+mod ranges;
 mod refusals;
 pub mod reports;

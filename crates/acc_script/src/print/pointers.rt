@@ -1,6 +1,7 @@
 //! The attached pointers of a mapped range, written without memory.
 
 ghost use Rattle.std.specs.Prelude.{◌+◌, ◌<◌, ◌^◌};
+ghost use Rattle.acc_base.specs.Devices.{view};
 ghost use Rattle.acc_script.specs.Ends.{Wrote};
 ghost use Rattle.acc_script.specs.Texts.{pointer_text, pointers_text};
 
@@ -11,16 +12,17 @@ use acc_base::{Attachment, Section};
 use acc_table::Table;
 use itoa::Buffer;
 
-/// A line for each attached pointer that begins in a section inside one mapped range, by rising address; false where
-/// the sink failed.
-pub fn write_pointers<W: Sink>(table: &Table, writer: &mut W, section: Section) -> bool
-    requires { section.start + section.len < 2 ^ 32 }
-    ensures { Wrote (W.told writer.old) (W.told writer.new) (pointers_text section table.now.state.records) result }
+/// A line for each attached pointer that begins in a section inside one mapped range of a device, by rising address;
+/// false where the sink failed.
+pub fn write_pointers<W: Sink>(table: &Table, writer: &mut W, device: u64, section: Section) -> bool
+    requires there { device < table.now.limits.devices }
+    requires low { section.start + section.len < 2 ^ 32 }
+    ensures { Wrote (W.told writer.old) (W.told writer.new) (pointers_text section (view device table.now.state).records) result }
 {
     table.laws();
     let end = section.start + section.len;
     let mut rest = section;
-    'each: while let Some(attached) = table.next_attached(rest) {
+    'each: while let Some(attached) = table.next_attached(device, rest) {
         if !write_pointer(writer, attached) {
             return false;
         }

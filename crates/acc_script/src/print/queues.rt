@@ -1,5 +1,7 @@
 //! The queues in which transfers wait, written without memory.
 
+ghost use Rattle.std.specs.Prelude.{◌<◌};
+ghost use Rattle.acc_base.specs.Devices.{view};
 ghost use Rattle.acc_script.specs.Ends.{Wrote};
 ghost use Rattle.acc_script.specs.Texts.{queue_text, waiting_text, queues_text};
 
@@ -9,13 +11,14 @@ use acc_base::QUEUE_COUNT;
 use acc_table::Table;
 use itoa::Buffer;
 
-/// A line for each queue that is not empty, by rising number; false where the sink failed.
-pub fn write_queues<W: Sink>(table: &Table, writer: &mut W) -> bool
-    ensures { Wrote (W.told writer.old) (W.told writer.new) (queues_text 0 table.now.state.records.queues) result }
+/// A line for each queue of a device that is not empty, by rising number; false where the sink failed.
+pub fn write_queues<W: Sink>(table: &Table, writer: &mut W, device: u64) -> bool
+    requires there { device < table.now.limits.devices }
+    ensures { Wrote (W.told writer.old) (W.told writer.new) (queues_text 0 (view device table.now.state).records.queues) result }
 {
     table.laws();
     for q in 0..QUEUE_COUNT {
-        if !write_waiting(writer, q, table.queue_len(q)) {
+        if !write_waiting(writer, q, table.queue_len(device, q)) {
             return false;
         }
     }

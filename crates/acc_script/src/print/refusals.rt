@@ -67,6 +67,7 @@ fn write_fields<W: Sink>(writer: &mut W, fault: Fault) -> bool
         Fault::Lent { block } => write_field(writer, b" block ", block),
         Fault::DeviceFull { item, need } => write_need(writer, item, need),
         Fault::NoRegion { number } => write_field(writer, b" number ", number),
+        Fault::NoDevice { device } => write_field(writer, b" device ", device),
         Fault::NoLease { serial } => write_field(writer, b" serial ", serial),
         Fault::Script { line, kind } => write_kind(writer, line, kind),
     }

@@ -1,24 +1,25 @@
 //! The report of a table, written without memory.
 
-ghost use Rattle.std.specs.Prelude.{◌≡◌, ◌+◌, ◌<◌, ◌^◌};
+ghost use Rattle.std.specs.Prelude.{◌<◌};
+ghost use Rattle.acc_base.specs.Devices.{device_at, view};
 ghost use Rattle.acc_script.specs.Ends.{Wrote};
-ghost use Rattle.acc_script.specs.Texts.{mapped_text, range_text, ranges_text, device_text, report_text, sizes_text, mapping_text, lent_text, counters_text, totals_text};
+ghost use Rattle.acc_script.specs.Texts.{device_text, only_text, one_text, each_text, several_text, memories_text, report_text, sizes_text, devices_text, used_text, totals_text};
 ghost use Rattle.acc_script.specs.Runs.{Printed};
 
 use crate::Sink;
 use crate::ends::whole::write_pieces;
-use crate::print::addresses::AddressBuffer;
 use crate::print::blocks::write_ended;
-use crate::print::pointers::write_pointers;
 use crate::print::queues::write_queues;
-use acc_base::{Fault, Section};
-use acc_table::{Mapped, Table};
+use crate::print::ranges::write_ranges;
+use acc_base::Fault;
+use acc_table::Table;
 use itoa::Buffer;
 
-/// Writes the report of a table: the sizes of its memories, its mapped ranges by rising start with their counters,
-/// whether their blocks are lent and the attached pointers in them, the blocks whose mapping has ended by rising place,
-/// the queues that are not empty, and the numbers of open regions and of events. Takes no memory. What was written is
-/// proved where the sink tells its bytes.
+/// Writes the report of a table: the sizes of its memories; of each device what blocks take of it, its mapped ranges by
+/// rising start with their counters, whether their blocks are lent and the attached pointers in them, the blocks whose
+/// mapping has ended by rising place, and the queues that are not empty; and the numbers of open regions and of events.
+/// Devices stand by number where there are several. Takes no memory. What was written is proved where the sink tells its
+/// bytes.
 ///
 /// # Errors
 ///
@@ -37,73 +38,91 @@ pub fn report<W: Sink>(table: &Table, writer: &mut W) -> Result<(), Fault>
 pub fn write_report<W: Sink>(table: &Table, writer: &mut W) -> bool
     ensures { Wrote (W.told writer.old) (W.told writer.new) (report_text table.now) result }
 {
-    let config = table.config();
-    if !write_sizes(writer, config.host(), config.device(), table.used()) {
-        return false;
-    }
-    if !write_device(table, writer) {
+    if !write_memories(table, writer) {
         return false;
     }
     write_totals(writer, table.regions(), table.events())
 }
 
-/// The lines of mapped ranges, of blocks whose mapping has ended, and of queues; false where the sink failed.
-#[tactic(auto, using(crate::proofs::Fronts::writing_laws))]
-fn write_device<W: Sink>(table: &Table, writer: &mut W) -> bool
-    ensures { Wrote (W.told writer.old) (W.told writer.new) (device_text table.now.state.records) result }
+/// The lines of all devices; the number of one that is alone is not told. False where the sink failed.
+fn write_memories<W: Sink>(table: &Table, writer: &mut W) -> bool
+    ensures { Wrote (W.told writer.old) (W.told writer.new) (memories_text table.now) result }
 {
-    if !write_ranges(table, writer) {
-        return false;
+    if table.config().devices() == 1 {
+        write_only(table, writer)
+    } else {
+        write_several(table, writer)
     }
-    if !write_ended(table, writer) {
-        return false;
-    }
-    write_queues(table, writer)
 }
 
-/// A line for each mapped range and each attached pointer; false where the sink failed.
-fn write_ranges<W: Sink>(table: &Table, writer: &mut W) -> bool
-    ensures { Wrote (W.told writer.old) (W.told writer.new) (ranges_text table.now.state.records) result }
+/// The sizes, and the lines of the one device there is; false where the sink failed.
+#[tactic(auto, using(crate::proofs::Fronts::writing_laws))]
+fn write_only<W: Sink>(table: &Table, writer: &mut W) -> bool
+    ensures { Wrote (W.told writer.old) (W.told writer.new) (only_text table.now) result }
 {
     table.laws();
-    let mut from = 0u64;
-    'each: while let Some(mapped) = table.mapped(from) {
-        if !write_range(table, writer, mapped) {
+    let config = table.config();
+    if !write_sizes(writer, config.host(), config.device(), table.used(0)) {
+        return false;
+    }
+    write_device(table, writer, 0)
+}
+
+/// The sizes, and the lines of several devices; false where the sink failed.
+#[tactic(auto, using(crate::proofs::Fronts::writing_laws))]
+fn write_several<W: Sink>(table: &Table, writer: &mut W) -> bool
+    ensures { Wrote (W.told writer.old) (W.told writer.new) (several_text table.now) result }
+{
+    let config = table.config();
+    if !write_devices(writer, config.host(), config.device(), config.devices()) {
+        return false;
+    }
+    write_each(table, writer)
+}
+
+/// The lines of each device, by rising number; false where the sink failed.
+fn write_each<W: Sink>(table: &Table, writer: &mut W) -> bool
+    ensures { Wrote (W.told writer.old) (W.told writer.new) (each_text 0 table.now.state.devices) result }
+{
+    table.laws();
+    let count = table.config().devices();
+    for device in 0..count {
+        if !write_one(table, writer, device) {
             return false;
         }
-        from = mapped.start + 1;
     }
     true
 }
 
-/// The line of a mapped range, and those of the attached pointers in it; false where the sink failed.
+/// The lines of one of several devices; false where the sink failed.
 #[tactic(auto, using(crate::proofs::Fronts::writing_laws))]
-fn write_range<W: Sink>(table: &Table, writer: &mut W, mapped: Mapped) -> bool
-    requires { mapped.start + mapped.len < 2 ^ 32 }
-    ensures { Wrote (W.told writer.old) (W.told writer.new) (range_text table.now.state.records mapped) result }
+fn write_one<W: Sink>(table: &Table, writer: &mut W, device: u64) -> bool
+    requires there { device < table.now.limits.devices }
+    ensures { Wrote (W.told writer.old) (W.told writer.new) (one_text device (device_at device table.now.state.devices)) result }
 {
-    if !write_mapped(writer, mapped) {
+    if !write_used(writer, device, table.used(device)) {
         return false;
     }
-    let section = Section {
-        start: mapped.start,
-        len: mapped.len,
-    };
-    write_pointers(table, writer, section)
+    write_device(table, writer, device)
 }
 
-/// The line of a mapped range; false where the sink failed.
-fn write_mapped<W: Sink>(writer: &mut W, mapped: Mapped) -> bool
-    ensures { Wrote (W.told writer.old) (W.told writer.new) (mapped_text mapped) result }
+/// The lines of mapped ranges, of blocks whose mapping has ended, and of queues of a device; false where the sink failed.
+#[tactic(auto, using(crate::proofs::Fronts::writing_laws))]
+fn write_device<W: Sink>(table: &Table, writer: &mut W, device: u64) -> bool
+    requires there { device < table.now.limits.devices }
+    ensures { Wrote (W.told writer.old) (W.told writer.new) (device_text (view device table.now.state).records) result }
 {
-    if !write_mapping(writer, mapped.start, mapped.len, mapped.place) {
+    if !write_ranges(table, writer, device) {
         return false;
     }
-    write_counters(writer, mapped.structured, mapped.dynamic, mapped.lent)
+    if !write_ended(table, writer, device) {
+        return false;
+    }
+    write_queues(table, writer, device)
 }
 
-/// The sizes of the two memories, and how much of the device is used, in bytes.
-pub fn write_sizes<W: Sink>(writer: &mut W, host: u64, device: u64, used: u64) -> bool
+/// The sizes of host memory and of the memory of the one device there is, and how much of that is used, in bytes.
+fn write_sizes<W: Sink>(writer: &mut W, host: u64, device: u64, used: u64) -> bool
     ensures { Wrote (W.told writer.old) (W.told writer.new) (sizes_text host device used) result }
 {
     let mut host_buffer = Buffer::new();
@@ -126,59 +145,52 @@ pub fn write_sizes<W: Sink>(writer: &mut W, host: u64, device: u64, used: u64) -
     )
 }
 
-/// Where a mapped range starts, its length, and where its block lies.
-pub fn write_mapping<W: Sink>(writer: &mut W, start: u64, len: u64, place: u64) -> bool
-    ensures { Wrote (W.told writer.old) (W.told writer.new) (mapping_text start len place) result }
+/// The sizes of host memory and of the memory of each device in bytes, and how many devices there are.
+fn write_devices<W: Sink>(writer: &mut W, host: u64, device: u64, count: u64) -> bool
+    ensures { Wrote (W.told writer.old) (W.told writer.new) (devices_text host device count) result }
 {
-    let mut start_buffer = AddressBuffer::new();
-    let mut len_buffer = Buffer::new();
-    let mut place_buffer = AddressBuffer::new();
-    let start = start_buffer.format(start);
-    let len = len_buffer.format(len);
-    let place = place_buffer.format(place);
+    let mut host_buffer = Buffer::new();
+    let mut device_buffer = Buffer::new();
+    let mut count_buffer = Buffer::new();
+    let host = host_buffer.format(host);
+    let device = device_buffer.format(device);
+    let count = count_buffer.format(count);
     write_pieces(
         writer,
         &[
-            b"map 0x".as_slice(),
-            start,
-            b" ",
-            len.as_bytes(),
-            b" at 0x",
-            place,
+            b"host ".as_slice(),
+            host.as_bytes(),
+            b" device ",
+            device.as_bytes(),
+            b" devices ",
+            count.as_bytes(),
+            b"\n",
         ],
     )
 }
 
-/// The two reference counters, and whether the block is lent, up to the end of the line.
-pub fn write_counters<W: Sink>(writer: &mut W, structured: u64, dynamic: u64, lent: bool) -> bool
-    ensures { Wrote (W.told writer.old) (W.told writer.new) (counters_text structured dynamic lent) result }
+/// The number of a device, and how much of it is used, in bytes.
+fn write_used<W: Sink>(writer: &mut W, device: u64, used: u64) -> bool
+    ensures { Wrote (W.told writer.old) (W.told writer.new) (used_text device used) result }
 {
-    let mut structured_buffer = Buffer::new();
-    let mut dynamic_buffer = Buffer::new();
-    let structured = structured_buffer.format(structured);
-    let dynamic = dynamic_buffer.format(dynamic);
-    let start: &[u8] = b" structured ";
+    let mut device_buffer = Buffer::new();
+    let mut used_buffer = Buffer::new();
+    let device = device_buffer.format(device);
+    let used = used_buffer.format(used);
     write_pieces(
         writer,
         &[
-            start,
-            structured.as_bytes(),
-            b" dynamic ",
-            dynamic.as_bytes(),
-            lent_end(lent),
+            b"device ".as_slice(),
+            device.as_bytes(),
+            b" used ",
+            used.as_bytes(),
+            b"\n",
         ],
     )
-}
-
-/// The end of the line of a mapped range, which says whether its block is lent.
-fn lent_end(lent: bool) -> &'static [u8]
-    ensures { result.now ≡ lent_text lent }
-{
-    if lent { b" lent\n" } else { b"\n" }
 }
 
 /// The numbers of open regions and of events.
-pub fn write_totals<W: Sink>(writer: &mut W, regions: u64, events: u64) -> bool
+fn write_totals<W: Sink>(writer: &mut W, regions: u64, events: u64) -> bool
     ensures { Wrote (W.told writer.old) (W.told writer.new) (totals_text regions events) result }
 {
     let mut regions_buffer = Buffer::new();

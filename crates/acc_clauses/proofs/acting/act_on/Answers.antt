@@ -1,28 +1,29 @@
 use Rattle.acc_clauses.specs.Overlays.{puts_by}
+use Rattle.acc_clauses.specs.Contents.{beside}
 use Rattle.acc_clauses.proofs.Doing.{aim_after, step_after, needed_kept, do_needed, not_entry, entry_done, leaves, queues_kept, puts_kept, do_queue}
 use Rattle.acc_clauses.proofs.acting.act_on.Goals as goal
 
 pub returns-in-Enter : goal.returns-in-Enter
-returns-in-Enter c = record { done = entry_done c.args.task c.args.did c.args.environment.now c.step_on.new.environment c.aim_on.new.environment (rw c.in-Enter.is tt) c.step_on.ensures.acted c.aim_on.ensures.aimed }
+returns-in-Enter c = record { done = entry_done c.args.task c.args.did (beside c.args.environment.now c.args.host.now) (beside c.step_on.new.environment c.step_on.new.host) (beside c.aim_on.new.environment c.step_on.new.host) (rw c.in-Enter.is tt) c.step_on.ensures.acted c.aim_on.ensures.aimed }
 
 pub returns-in-Leave : goal.returns-in-Leave
-returns-in-Leave c = record { done = leaves c.args.task c.args.did c.args.environment.now c.aim_on-in-Leave.new.environment c.step_on-in-Leave.new.environment (not_entry c.args.task c.in-Leave.is) c.aim_on-in-Leave.ensures.aimed c.step_on-in-Leave.ensures.acted }
+returns-in-Leave c = record { done = leaves c.args.task c.args.did (beside c.args.environment.now c.args.host.now) (beside c.aim_on-in-Leave.new.environment c.args.host.now) (beside c.step_on-in-Leave.new.environment c.step_on-in-Leave.new.host) (not_entry c.args.task c.in-Leave.is) c.aim_on-in-Leave.ensures.aimed c.step_on-in-Leave.ensures.acted }
 
 pub step_on-requires-in-Leave-clause-queue : goal.step_on-requires-in-Leave-clause-queue
 step_on-requires-in-Leave-clause-queue c =
-    let x = c.args.environment.now in
-    queues_kept c.args.did.aim c.args.task c.args.did.step x c.aim_on-in-Leave.new.environment c.aim_on-in-Leave.ensures.aimed (do_queue x c.args.task c.args.did c.requires.can)
+    let x = beside c.args.environment.now c.args.host.now in
+    queues_kept c.args.did.aim c.args.task c.args.did.step x (beside c.aim_on-in-Leave.new.environment c.args.host.now) c.aim_on-in-Leave.ensures.aimed (do_queue x c.args.task c.args.did c.requires.can)
 
 pub step_on-requires-in-Leave-clause-puts : goal.step_on-requires-in-Leave-clause-puts
-step_on-requires-in-Leave-clause-puts c = puts_kept c.args.did.aim (λ q. puts_by q c.args.task c.args.did.step) c.args.environment.now c.aim_on-in-Leave.new.environment c.aim_on-in-Leave.ensures.aimed c.requires.puts
+step_on-requires-in-Leave-clause-puts c = puts_kept c.args.did.aim (λ q. puts_by q c.args.task c.args.did.step) (beside c.args.environment.now c.args.host.now) (beside c.aim_on-in-Leave.new.environment c.args.host.now) c.aim_on-in-Leave.ensures.aimed c.requires.puts
 
 pub step_on-requires-in-Leave-clause-needed : goal.step_on-requires-in-Leave-clause-needed
 step_on-requires-in-Leave-clause-needed c =
-    let x = c.args.environment.now in
-    needed_kept c.args.did.aim c.args.task c.args.did.step x c.aim_on-in-Leave.new.environment c.aim_on-in-Leave.ensures.aimed (do_needed x c.args.task c.args.did c.requires.can)
+    let x = beside c.args.environment.now c.args.host.now in
+    needed_kept c.args.did.aim c.args.task c.args.did.step x (beside c.aim_on-in-Leave.new.environment c.args.host.now) c.aim_on-in-Leave.ensures.aimed (do_needed x c.args.task c.args.did c.requires.can)
 
 pub aim_on-requires-clause-can : goal.aim_on-requires-clause-can
-aim_on-requires-clause-can c = aim_after c.args.task c.args.did c.args.environment.now c.step_on.new.environment (rw c.in-Enter.is tt) c.requires.can c.step_on.ensures.acted
+aim_on-requires-clause-can c = aim_after c.args.task c.args.did (beside c.args.environment.now c.args.host.now) (beside c.step_on.new.environment c.step_on.new.host) (rw c.in-Enter.is tt) c.requires.can c.step_on.ensures.acted
 
 pub step_on-requires-in-Leave-clause-can : goal.step_on-requires-in-Leave-clause-can
-step_on-requires-in-Leave-clause-can c = step_after c.args.task c.args.did c.args.environment.now c.aim_on-in-Leave.new.environment (not_entry c.args.task c.in-Leave.is) c.requires.can c.aim_on-in-Leave.ensures.aimed
+step_on-requires-in-Leave-clause-can c = step_after c.args.task c.args.did (beside c.args.environment.now c.args.host.now) (beside c.aim_on-in-Leave.new.environment c.args.host.now) (not_entry c.args.task c.in-Leave.is) c.requires.can c.aim_on-in-Leave.ensures.aimed

@@ -1,3 +1,4 @@
+use Rattle.acc_clauses.specs.Contents.{beside}
 use Rattle.acc_clauses.proofs.Steps.{new_absent, new_there, new_below}
 use Rattle.acc_clauses.proofs.Bearing.{born_changes, born_can_put, born_acts}
 use Rattle.acc_clauses.proofs.acting.bear.Goals as goal
@@ -13,7 +14,7 @@ raise-requires-clause-below c = new_below c.args.counter c.section_of-section.re
 
 pub fill_later-requires-clause-can : goal.fill_later-requires-clause-can
 fill_later-requires-clause-can c q named copies =
-    let x = c.args.environment.now in
+    let x = beside c.args.environment.now c.args.host.now in
     let made = rw c.section_of-section.ensures at c.make_block.ensures in
     born_can_put c.args.counter c.args.item c.args.queue c.is_copied_now-copied.result c.args.block c.args.place q x c.raise.new.present c.make_block.new.device c.requires.queue c.requires.puts c.requires.can.number made c.laws.ensures.blocks_apart.born named copies
 
@@ -21,15 +22,15 @@ pub fill_later-requires-clause-marked : goal.fill_later-requires-clause-marked
 fill_later-requires-clause-marked c =
     let made = rw c.section_of-section.ensures at c.make_block.ensures in
     let put = rw c.section_of-section.ensures at c.add_reserved-hint.ensures.table in
-    let born = born_changes c.args.counter c.args.item c.args.queue c.is_copied_now-copied.result c.args.block c.args.place c.args.environment.now c.add_reserved-hint.new.self c.raise.new.present c.make_block.new.device c.requires.can made put
+    let born = born_changes c.args.counter c.args.item c.args.queue c.is_copied_now-copied.result c.args.block c.args.place (beside c.args.environment.now c.args.host.now) c.add_reserved-hint.new.self c.raise.new.present c.make_block.new.device c.requires.can made put
     c.add_reserved-hint.ensures.room_ranges c.add_reserved-hint.ensures.room_regions c.add_reserved-hint.ensures.room_holdings c.raise.ensures.table c.raise.ensures.room c.laws.ensures.marks c.laws.ensures.blocks_apart.born c.requires.marked in
     born.marked
 
 pub returns : goal.returns
 returns c =
-    let x = c.args.environment.now in
+    let x = beside c.args.environment.now c.args.host.now in
     let made = rw c.section_of-section.ensures at c.make_block.ensures in
     let put = rw c.section_of-section.ensures at c.add_reserved-hint.ensures.table in
     let born = born_changes c.args.counter c.args.item c.args.queue c.is_copied_now-copied.result c.args.block c.args.place x c.add_reserved-hint.new.self c.raise.new.present c.make_block.new.device c.requires.can made put
     c.add_reserved-hint.ensures.room_ranges c.add_reserved-hint.ensures.room_regions c.add_reserved-hint.ensures.room_holdings c.raise.ensures.table c.raise.ensures.room c.laws.ensures.marks c.laws.ensures.blocks_apart.born c.requires.marked in
-    record { acted = born_acts c.args.counter c.args.item c.args.queue c.is_copied_now-copied.result c.args.block c.args.place x _ c.fill_later.new.environment c.requires.can c.is_copied_now-copied.ensures born c.fill_later.ensures.filled }
+    record { acted = born_acts c.args.counter c.args.item c.args.queue c.is_copied_now-copied.result c.args.block c.args.place x _ (beside c.fill_later.new.environment c.fill_later.new.host) c.requires.can c.is_copied_now-copied.ensures born c.fill_later.ensures.filled }

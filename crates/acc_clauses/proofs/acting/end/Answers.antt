@@ -1,5 +1,6 @@
 use Rattle.std.proofs.Common.{sym, ◌∙◌, arith}
 use Rattle.acc_base.specs.declared.mappings.Counter.TheVariants.{Structured, Dynamic}
+use Rattle.acc_clauses.specs.Contents.{beside}
 use Rattle.acc_clauses.proofs.Steps.{changed_there, changed_zero}
 use Rattle.acc_clauses.proofs.Ending.{loans_kept, range_there, range_ends, falls, end_there, end_mark, end_mapped, gone_changes, kept_changes, ended_acts}
 use Rattle.acc_clauses.proofs.acting.end.Goals as goal
@@ -7,38 +8,38 @@ use Rattle.std.proofs.lemmas.Bool.{false≢true}
 
 pub recount-requires : goal.recount-requires
 recount-requires c =
-    let x = c.args.environment.now in
-    let y = c.give_bytes.new.environment in
+    let x = beside c.args.environment.now c.args.host.now in
+    let y = beside c.give_bytes.new.environment c.give_bytes.new.host in
     let can = c.requires.can in
     record { can = falls y.present.table.counter_max c.args.task c.args.block y.present.table.ranges can.move.range can.not_entry (range_there c.args.task c.args.block _ x y can c.give_bytes.ensures.given) }
 
 pub remove-requires-clause-there : goal.remove-requires-clause-there
-remove-requires-clause-there c = grind (arith, changed_there, range_there c.args.task c.args.block _ c.args.environment.now c.give_bytes.new.environment c.requires.can c.give_bytes.ensures.given)
+remove-requires-clause-there c = grind (arith, changed_there, range_there c.args.task c.args.block _ (beside c.args.environment.now c.args.host.now) (beside c.give_bytes.new.environment c.give_bytes.new.host) c.requires.can c.give_bytes.ensures.given)
 
 pub remove-requires-clause-structured : goal.remove-requires-clause-structured
 remove-requires-clause-structured c =
-    let x = c.args.environment.now in
-    let y = c.give_bytes.new.environment in
+    let x = beside c.args.environment.now c.args.host.now in
+    let y = beside c.give_bytes.new.environment c.give_bytes.new.host in
     let can = c.requires.can in
     changed_zero Structured c.args.task c.args.block y.present.table c.recount.new.present.table can.move.range c.recount.ensures.table (range_there c.args.task c.args.block _ x y can c.give_bytes.ensures.given) (range_ends c.args.task c.args.block _ x y can c.give_bytes.ensures.given)
 
 pub remove-requires-clause-dynamic : goal.remove-requires-clause-dynamic
 remove-requires-clause-dynamic c =
-    let x = c.args.environment.now in
-    let y = c.give_bytes.new.environment in
+    let x = beside c.args.environment.now c.args.host.now in
+    let y = beside c.give_bytes.new.environment c.give_bytes.new.host in
     let can = c.requires.can in
     changed_zero Dynamic c.args.task c.args.block y.present.table c.recount.new.present.table can.move.range c.recount.ensures.table (range_there c.args.task c.args.block _ x y can c.give_bytes.ensures.given) (range_ends c.args.task c.args.block _ x y can c.give_bytes.ensures.given)
 
 pub retire-requires-clause-there : goal.retire-requires-clause-there
-retire-requires-clause-there c = end_there c.args.task c.args.block _ c.args.environment.now c.give_bytes.new.environment c.requires.can c.give_bytes.ensures.given
+retire-requires-clause-there c = end_there c.args.task c.args.block _ (beside c.args.environment.now c.args.host.now) (beside c.give_bytes.new.environment c.give_bytes.new.host) c.requires.can c.give_bytes.ensures.given
 
 pub retire-requires-clause-mapped : goal.retire-requires-clause-mapped
-retire-requires-clause-mapped c = end_mapped c.args.task c.args.block _ c.args.environment.now c.give_bytes.new.environment c.requires.can c.give_bytes.ensures.given c.laws.ensures.marks
+retire-requires-clause-mapped c = end_mapped c.args.task c.args.block _ (beside c.args.environment.now c.args.host.now) (beside c.give_bytes.new.environment c.give_bytes.new.host) c.requires.can c.give_bytes.ensures.given c.laws.ensures.marks
 
 pub returns-then-retire : goal.returns-then-retire
 returns-then-retire c =
-    let x = c.args.environment.now in
-    let y = c.give_bytes.new.environment in
+    let x = beside c.args.environment.now c.args.host.now in
+    let y = beside c.give_bytes.new.environment c.give_bytes.new.host in
     let given = c.give_bytes.ensures.given in
     let mark = end_mark c.args.task c.args.block _ x y c.requires.can given c.laws.ensures.marks in
     record {
@@ -48,8 +49,8 @@ returns-then-retire c =
 
 pub returns-else-retire : goal.returns-else-retire
 returns-else-retire c =
-    let x = c.args.environment.now in
-    let y = c.give_bytes.new.environment in
+    let x = beside c.args.environment.now c.args.host.now in
+    let y = beside c.give_bytes.new.environment c.give_bytes.new.host in
     let given = c.give_bytes.ensures.given in
     let mark = end_mark c.args.task c.args.block _ x y c.requires.can given c.laws.ensures.marks in
     record {
@@ -58,4 +59,4 @@ returns-else-retire c =
     }
 
 pub retire-requires-clause-free : goal.retire-requires-clause-free
-retire-requires-clause-free c = loans_kept c.args.task c.args.block c.args.environment.now c.give_bytes.new.environment c.give_bytes.ensures.given c.requires.free
+retire-requires-clause-free c = loans_kept c.args.task c.args.block (beside c.args.environment.now c.args.host.now) (beside c.give_bytes.new.environment c.give_bytes.new.host) c.give_bytes.ensures.given c.requires.free

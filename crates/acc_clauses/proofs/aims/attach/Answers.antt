@@ -48,11 +48,10 @@ returns-then-counter_max-count c =
     let there = attach-targeted p.limits c.args.n c.args.pointer xs p.state c.requires.planned c.requires.entering block target c.host_pointer.result c.in-Some.ensures c.host_pointer.ensures c.in-Some-address_after.ensures c.in_ok-not_lent.ensures in
     let count = c.count_after-count.ensures in
     let some = c.if-count-eq0.false in
-    let config = ap (λ (l : Limits). l.counter_max) c.config.ensures in
-    let most = c.counter_max.ensures.value in
+    let most = c.counter_max.ensures in
     let tested = c.if-counter_max-count.true in
     attach-full p.limits.counter_max c.args.n block c.args.pointer target (device_pointer block c.args.pointer (state_after xs p.state)) (records_after xs p.state.records).attached
-    (λ none. some (count ∙ none)) (sym c.value_after.ensures ∙ c.if-value_after-target.false) (omega (arith, count, config, most, tested))
+    (λ none. some (count ∙ none)) (sym c.value_after.ensures ∙ c.if-value_after-target.false) (omega (arith, count, most, tested))
     ∙ sym there
 
 pub returns : goal.returns
@@ -64,9 +63,8 @@ returns c =
     let there = attach-targeted p.limits c.args.n c.args.pointer xs p.state c.requires.planned c.requires.entering block target c.host_pointer.result c.in-Some.ensures c.host_pointer.ensures c.in-Some-address_after.ensures c.in_ok-not_lent.ensures in
     let count = c.count_after-count.ensures in
     let some = c.if-count-eq0.false in
-    let config = ap (λ (l : Limits). l.counter_max) c.config.ensures in
-    let most = c.counter_max.ensures.value in
+    let most = c.counter_max.ensures in
     let tested = c.if-counter_max-count.false in
     attach-again p.limits.counter_max c.args.n block c.args.pointer target (device_pointer block c.args.pointer (state_after xs p.state)) (records_after xs p.state.records).attached
-    (λ none. some (count ∙ none)) (sym c.value_after.ensures ∙ c.if-value_after-target.false) (omega (arith, count, config, most, tested))
+    (λ none. some (count ∙ none)) (sym c.value_after.ensures ∙ c.if-value_after-target.false) (omega (arith, count, most, tested))
     ∙ sym there

@@ -6,7 +6,7 @@ abbrev pub invariant-loop-at : goal.invariant-loop-at
 invariant-loop-at l = record {
   low : l.fn.section.start ≤ l.at;
   most : l.at ≤ l.end + 8;
-  swept : l.environment ≡ swept_in l.fn.section l.fn.block l.fn.start l.at l.fn.environment;
+  swept : l.environment ≡ swept_in l.fn.section l.fn.block l.fn.start l.at l.fn.host l.fn.environment;
 }
 
 abbrev pub decreases-loop-at : goal.decreases-loop-at

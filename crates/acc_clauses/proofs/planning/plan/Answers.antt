@@ -15,6 +15,6 @@ judge_all-judged-requires-clause-queues c =
     queues_there _ _ known (left_fit c.args.directive.now c.args.parts.now.state.register _ c.requires.register (sym c.in_ok-check_items.ensures) c.in_ok-holdings.ensures).queues
 
 pub returns-clause-judged : goal.returns-clause-judged
-returns-clause-judged c =
+returns-clause-judged c n =
     let known = ap queue_named (sym c.queue_in.ensures) ∙ sym c.in_ok-check_queue.ensures in
-    plan_told c.args.parts.now.limits c.args.directive.now c.args.parts.now.state _ _ c.transfers_free.result (sym c.in_ok-check_items.ensures) c.in_ok-holdings.ensures known c.in_ok-judged.ensures.judged c.transfers_free.ensures
+    plan_told c.args.parts.now.limits n c.args.directive.now c.args.parts.now.state _ _ c.transfers_free.result (sym c.in_ok-check_items.ensures) c.in_ok-holdings.ensures known c.in_ok-judged.ensures.judged c.transfers_free.ensures

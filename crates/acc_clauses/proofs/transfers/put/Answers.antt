@@ -1,4 +1,5 @@
 use Rattle.std.proofs.Common.{arith}
+use Rattle.acc_clauses.specs.Contents.{beside}
 use Rattle.acc_clauses.proofs.Marked.{pins_below}
 use Rattle.acc_clauses.proofs.Putting.{queue_there, put_moves}
 use Rattle.acc_clauses.proofs.transfers.put.Goals as goal
@@ -14,5 +15,5 @@ returns c =
     let x = c.args.environment.now in
     let there = queue_there c.args.q x.queues.spare c.laws.ensures.spare c.requires.can.spare in
     record {
-      moved = put_moves c.args.q c.args.t x c.put_reserved.new.self c.pin.new.self (omega (arith, there, c.laws.ensures.queues.count)) c.requires.marked c.put_reserved.ensures.queues c.put_reserved.ensures.cap c.put_reserved.ensures.room c.pin.ensures;
+      moved = λ host. put_moves c.args.q c.args.t (beside x host) c.put_reserved.new.self c.pin.new.self (omega (arith, there, c.laws.ensures.queues.count)) c.requires.marked c.put_reserved.ensures.queues c.put_reserved.ensures.cap c.put_reserved.ensures.room c.pin.ensures;
     }

@@ -1,6 +1,6 @@
 use Rattle.std.proofs.Common.{refl, sym, ◌∙◌}
 use Rattle.std.proofs.lemmas.Bool.{eqb-true}
-use Rattle.acc_follow.proofs.Alike.{lines_none}
+use Rattle.acc_script.proofs.LineByLine.{lines_none}
 use Rattle.acc_follow.proofs.differences.front.Goals as goal
 
 pub returns-then-is_empty-clause-line : goal.returns-then-is_empty-clause-line

@@ -1,4 +1,4 @@
-use Rattle.std.proofs.Common.{List, ℕ, Option, Result, Ok, Err, false, inr, subst}
+use Rattle.std.proofs.Common.{Option, Result, Ok, Err, false, inr, subst}
 use Rattle.acc_base.specs.declared.faults.Fault.{Fault}
 use Rattle.acc_base.specs.declared.faults.Fault.TheVariants.{Memory}
 use Rattle.acc_read.specs.Lines.{lines_of}

@@ -1,7 +1,7 @@
 use Rattle.std.proofs.Common.{◌≡◌, ◌+◌, ◌<◌, false, sym, ◌∙◌, arith}
 use Rattle.std.proofs.lemmas.Result.{err_from_is_err_and}
 use Rattle.std.proofs.lemmas.Bool.{eqb-true}
-use Rattle.acc_base.specs.Calls.{open_regions}
+use Rattle.acc_base.specs.Devices.{open_regions}
 use Rattle.acc_read.specs.Lines.{lines_of}
 use Rattle.acc_script.specs.Sessions.{session_state}
 use Rattle.acc_script.specs.Scripts.{transcript_from}

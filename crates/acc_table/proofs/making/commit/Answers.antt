@@ -8,17 +8,18 @@ use Rattle.acc_table.proofs.making.commit.Goals as goal
 
 pub returns : goal.returns
 returns c =
+    let k = c.args.device in
     let d = c.args.directive in
     let s = c.args.store.now.state in
     let dids : List Did = c.args.plan.now.dids in
     let written : c.args.did ≡ in_written_order d dids = c.requires.did ∙ c.requires.planned.written in
-    let event : Event = event_told d (number_told d s) c.args.did in
-    let made : verdict_of d s dids ≡ Makes event = told d s dids c.requires.busy ∙ ap (λ did. Makes (event_told d (number_told d s) did)) (sym written) in
+    let event : Event = event_told k d (number_told d s) c.args.did in
+    let made : verdict_of k d s dids ≡ Makes event = told k d s dids c.requires.busy ∙ ap (λ did. Makes (event_told k d (number_told d s) did)) (sym written) in
     record {
       done = subst (λ (v : Verdict). IsCommitted v c.reply_told-reply.result c.args.store.now c.commit.new.self c.args.trace.now.items c.push_reserved.new.self.items) (sym made) (record {
-        reply = c.reply_told-reply.ensures ∙ (ap (reply_told d) c.number_told-number.ensures ∙ replied d (number_told d s) c.args.did s);
+        reply = c.reply_told-reply.ensures ∙ (ap (reply_told d) c.number_told-number.ensures ∙ replied k d (number_told d s) c.args.did s);
         limits = c.commit.ensures.limits;
-        state = c.commit.ensures.state ∙ ap (λ (v : Verdict). state_by c.args.store.now.limits.full v s) made;
-        trace = c.push_reserved.ensures.items ∙ ap (λ (e : Event). c.args.trace.now.items ++ e ∷ []) (c.event_told.ensures ∙ ap (λ n. event_told d n c.args.did) c.number_told-number.ensures);
+        state = c.commit.ensures.state k ∙ ap (λ (v : Verdict). state_by c.args.store.now.limits.full v s) made;
+        trace = c.push_reserved.ensures.items ∙ ap (λ (e : Event). c.args.trace.now.items ++ e ∷ []) (c.event_told.ensures ∙ ap (λ n. event_told k d n c.args.did) c.number_told-number.ensures);
       });
     }

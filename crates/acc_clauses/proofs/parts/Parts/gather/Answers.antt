@@ -2,7 +2,8 @@ use Rattle.std.proofs.Common.{◌≡◌, sym, subst, true, Result, Ok, Err, OnOk
 use Rattle.std.specs.Result.{IsOk}
 use Rattle.acc_base.specs.Leases.{is_returnable}
 use Rattle.acc_dev.specs.Device.{IsPutBack}
-use Rattle.acc_clauses.specs.Contents.{Contents, ArePartsSound}
+use Rattle.acc_base.specs.Limits.{limits_on}
+use Rattle.acc_clauses.specs.Contents.{beside, Contents, ArePartsSound}
 use Rattle.acc_clauses.proofs.Lends.{gathered_parts}
 use Rattle.acc_clauses.proofs.parts.Parts.gather.Goals as goal
 
@@ -16,4 +17,4 @@ invariant_of-self c =
     let fits : is_returnable p.config.full c.args.lease p.environment.device.blocks p.environment.device.loans p.environment.device.memories ≡ true
     = subst (λ (k : Contents). is_returnable k.limits.full c.args.lease k.state.records.blocks k.state.records.loans k.state.memories ≡ true) (sym c.self.view_is) c.requires in
     let put : IsPutBack p.environment.device c.put_back.new.self c.args.lease = on_ok c.put_back.result (c.put_back.ensures.fits.1 (subst (λ full. is_returnable full c.args.lease p.environment.device.blocks p.environment.device.loans p.environment.device.memories ≡ true) (sym c.full-kept.ensures) fits)) c.put_back.ensures.put in
-    subst (λ k. ArePartsSound p.config (record p.environment { device = c.put_back.new.self }) (record p.numbers { lent = k })) (sym c.saturating_sub-self-inside.ensures) (gathered_parts p.config p.environment p.numbers c.put_back.new.self c.args.lease c.self.invariant fits put)
+    subst (λ k. ArePartsSound (limits_on p.number p.config) (record (beside p.environment p.host) { device = c.put_back.new.self }) (record p.numbers { lent = k })) (sym c.saturating_sub-self-inside.ensures) (gathered_parts (limits_on p.number p.config) (beside p.environment p.host) p.numbers c.put_back.new.self c.args.lease c.self.invariant fits put)

@@ -74,7 +74,7 @@ returns-clause-lease c =
     let slot = c.slot_of_block-slot.ensures in
     let bytes = bytes_at s.slab.slots s.index.entries c.args.block c.slot_of_block-slot.result c.self.invariant.0.rising slot in
     let now = subst (λ (d : DeviceState). bytes_of c.args.block d.memories ≡ stored_bytes (get_or s.slab.slots c.slot_of_block-slot.result None)) c.self.view_is bytes in
-    c.lend_at.ensures.lease ∙ ap (λ (b : List ℕ). let l : Leased = record { serial = c.args.serial; block = c.args.block; offset = c.args.offset; len = c.args.len; bytes = b } in l) (sym now)
+    c.lend_at.ensures.lease ∙ ap (λ (b : List ℕ). let l : Leased = record { device = c.args.device; serial = c.args.serial; block = c.args.block; offset = c.args.offset; len = c.args.len; bytes = b } in l) (sym now)
 
 pub returns-clause-out : goal.returns-clause-out
 returns-clause-out c =

@@ -19,7 +19,7 @@ returns-in-Ok-Lease g c =
 pub returns-in-Err : goal.returns-in-Err
 returns-in-Err g c =
     let old = session_state c.args.self.now in
-    let now : World → SessionState = λ w. record { world = w; layout = old.layout } in
+    let now : World → SessionState = λ w. record { world = w; layout = old.layout; device = old.device } in
     let some : is_none c.host_read.result ≡ false = search rules in
     let found = found_bytes (λ b. b.now) c.host_read.result (host_read_of (source_of c.args.kernel) old.world.state.host) (rw c.source_of.ensures at c.host_read.ensures) some in
     rw c.refused.ensures (launch_refused old (now c.apply.new.self) c.args.region c.args.kernel c.args.section found.0 found.1 c.in-Err.back.1 c.in-Err.ensures.refused (ap now c.in-Err.ensures.same.1))

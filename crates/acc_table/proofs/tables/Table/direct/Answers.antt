@@ -1,32 +1,94 @@
-use Rattle.std.proofs.Common.{◌≡◌, ◌∙◌, sym, subst, Ok}
+use Rattle.std.proofs.Common.{◌≡◌, ◌<◌, ◌∙◌, ap, sym, subst, arith, Ok, Result, List}
 use Rattle.std.specs.Prelude.{IfOk, IfErr, OnOk}
+use Rattle.acc_clauses.specs.Words.{Event, Directive, Fault}
 use Rattle.acc_base.specs.declared.calls.Call.TheVariants.{Do}
-use Rattle.acc_base.specs.Calls.{World, judge}
+use Rattle.acc_base.specs.Limits.{Limits}
+use Rattle.acc_base.specs.Judge.{plan_of}
+use Rattle.acc_base.specs.Calls.{Base, World, judge, device_for}
+use Rattle.acc_clauses.specs.Contents.{Contents}
+use Rattle.acc_clauses.specs.Planned.{Planned}
+use Rattle.acc_table.specs.declared.calls.Reply.{Reply}
+use Rattle.acc_table.specs.declared.devices.Devices.{Devices}
+use Rattle.acc_table.specs.Devices.{whole_of}
 use Rattle.acc_table.specs.Calls.{IsDone, IsRefusal}
-use Rattle.acc_table.specs.Kept.{world_of}
-use Rattle.acc_table.specs.Making.{admitted, planned_verdict}
-use Rattle.acc_table.proofs.Verdicts.{directive_done, directive_judged, directive_refused}
-use Rattle.acc_table.proofs.Keeping.{kept_carried}
+use Rattle.acc_table.specs.Making.{admitted, planned_verdict, MayBeToldOf, IsCommitted}
+use Rattle.acc_table.proofs.Verdicts.{with_store, world_in, device_admitted, directive_done, directive_judged, directive_refused}
+use Rattle.acc_table.proofs.Keeping.{AreDevicesOf, selected, births_fit, region_fits, kept_carried}
 use Rattle.acc_table.proofs.tables.Table.direct.Goals as goal
+
+pub select-requires-clause-there : goal.select-requires-clause-there
+select-requires-clause-there c =
+    let there : device_for c.args.directive c.args.self.now.state < c.args.self.now.limits.devices = device_admitted c.args.self.now c.args.directive c.in-Ok.ensures.1 in
+    let known : c.in-Ok.device < c.args.self.now.limits.devices = omega (arith, there, c.in-Ok.ensures.0) in
+    let of_config : c.in-Ok.device < c.self.inside.config.devices = subst (λ (w : World). c.in-Ok.device < w.limits.devices) (sym c.self.view_is) known in
+    omega (arith, of_config, c.self.invariant.1.count)
+
+pub carry_out-requires-clause-births : goal.carry_out-requires-clause-births
+carry_out-requires-clause-births c =
+    let l : Limits = c.self.inside.config in
+    let base : Base = c.self.inside.base in
+    let x : Devices = c.select.new.self in
+    let trace : List Event = c.self.inside.trace.items in
+    let t : AreDevicesOf l base x trace c.args.self.now = selected l base c.self.inside.devices x trace c.args.self.now c.self.invariant c.self.view_is (c.select.ensures.set l c.self.invariant.1) c.select.ensures.same in
+    births_fit l base x trace c.args.self.now t
+
+pub carry_out-requires-clause-regions : goal.carry_out-requires-clause-regions
+carry_out-requires-clause-regions c =
+    let l : Limits = c.self.inside.config in
+    let base : Base = c.self.inside.base in
+    let x : Devices = c.select.new.self in
+    let trace : List Event = c.self.inside.trace.items in
+    let t : AreDevicesOf l base x trace c.args.self.now = selected l base c.self.inside.devices x trace c.args.self.now c.self.invariant c.self.view_is (c.select.ensures.set l c.self.invariant.1) c.select.ensures.same in
+    region_fits l base x trace c.args.self.now t
 
 pub invariant_of-self : goal.invariant_of-self
 invariant_of-self c =
-    let w : World = world_of c.self.inside.base c.self.inside.store c.self.inside.trace.items in
-    let ok : admitted w c.args.directive ≡ Ok tt = subst (λ (x : World). admitted x c.args.directive ≡ Ok tt) (sym c.self.view_is) (sym c.admit.ensures ∙ c.in-Ok.is) in
-    let judged : OnOk c.carry_out.result (judge w (Do c.args.directive) ≡ Ok (planned_verdict c.args.directive c.carry_out.new.plan c.self.inside.store)) = directive_judged c.self.inside.base c.args.directive c.carry_out.new.plan c.self.inside.store c.self.inside.trace.items c.carry_out.result ok c.carry_out.ensures.judged in
-    kept_carried c.self.inside.base c.args.directive c.carry_out.new.plan c.self.inside.store c.carry_out.new.store c.self.inside.trace.items c.carry_out.new.trace.items c.carry_out.result c.self.invariant c.carry_out.ensures.planned judged c.carry_out.ensures.done c.carry_out.ensures.same
+    let l : Limits = c.self.inside.config in
+    let base : Base = c.self.inside.base in
+    let x : Devices = c.select.new.self in
+    let trace : List Event = c.self.inside.trace.items in
+    let t : AreDevicesOf l base x trace c.args.self.now = selected l base c.self.inside.devices x trace c.args.self.now c.self.invariant c.self.view_is (c.select.ensures.set l c.self.invariant.1) c.select.ensures.same in
+    let d : Directive = c.args.directive in
+    let r : Result Reply (Directive × Fault) = c.carry_out.result in
+    let p : Planned = c.carry_out.new.plan in
+    let new : Contents = c.carry_out.new.store in
+    let longer : List Event = c.carry_out.new.trace.items in
+    let for : x.current ≡ device_for d (whole_of x) = c.select.ensures.current ∙ (c.in-Ok.ensures.0 ∙ ap (λ (w : World). device_for d w.state) (sym t.same)) in
+    let ok : admitted (world_in l base x trace) d ≡ Ok tt = subst (λ (w : World). admitted w d ≡ Ok tt) (sym t.same) c.in-Ok.ensures.1 in
+    let told : OnOk r (plan_of x.store.limits x.current d x.store.state ≡ Ok (planned_verdict x.current d p x.store)) = subst (λ k. OnOk r (plan_of x.store.limits k d x.store.state ≡ Ok (planned_verdict k d p x.store))) (sym c.select.ensures.current) c.carry_out.ensures.judged in
+    let judged : OnOk r (judge (world_in l base x trace) (Do d) ≡ Ok (planned_verdict x.current d p x.store)) = directive_judged l base x d p trace r t.set for ok told in
+    let done : IfOk r (λ reply. IsCommitted (planned_verdict x.current d p x.store) reply x.store new trace longer) = subst (λ k. IfOk r (λ reply. IsCommitted (planned_verdict k d p x.store) reply x.store new trace longer)) (sym c.select.ensures.current) c.carry_out.ensures.done in
+    kept_carried l base x new d p trace longer r t.set t.kept c.carry_out.ensures.planned judged done c.carry_out.ensures.same
 
-pub returns-in-Ok-clause-done : goal.returns-in-Ok-clause-done
-returns-in-Ok-clause-done c =
-    let w : World = world_of c.self.inside.base c.self.inside.store c.self.inside.trace.items in
-    let ok : admitted w c.args.directive ≡ Ok tt = subst (λ (x : World). admitted x c.args.directive ≡ Ok tt) (sym c.self.view_is) (sym c.admit.ensures ∙ c.in-Ok.is) in
-    let judged : OnOk c.carry_out.result (judge w (Do c.args.directive) ≡ Ok (planned_verdict c.args.directive c.carry_out.new.plan c.self.inside.store)) = directive_judged c.self.inside.base c.args.directive c.carry_out.new.plan c.self.inside.store c.self.inside.trace.items c.carry_out.result ok c.carry_out.ensures.judged in
-    subst (λ (x : World). IfOk c.carry_out.result (λ reply. IsDone x (Do c.args.directive) reply (world_of c.self.inside.base c.carry_out.new.store c.carry_out.new.trace.items))) c.self.view_is
-    (directive_done c.self.inside.base c.args.directive c.carry_out.new.plan c.self.inside.store c.carry_out.new.store c.self.inside.trace.items c.carry_out.new.trace.items c.carry_out.result judged c.carry_out.ensures.done)
+pub returns-clause-done : goal.returns-clause-done
+returns-clause-done c =
+    let l : Limits = c.self.inside.config in
+    let base : Base = c.self.inside.base in
+    let x : Devices = c.select.new.self in
+    let trace : List Event = c.self.inside.trace.items in
+    let t : AreDevicesOf l base x trace c.args.self.now = selected l base c.self.inside.devices x trace c.args.self.now c.self.invariant c.self.view_is (c.select.ensures.set l c.self.invariant.1) c.select.ensures.same in
+    let d : Directive = c.args.directive in
+    let r : Result Reply (Directive × Fault) = c.carry_out.result in
+    let p : Planned = c.carry_out.new.plan in
+    let new : Contents = c.carry_out.new.store in
+    let longer : List Event = c.carry_out.new.trace.items in
+    let for : x.current ≡ device_for d (whole_of x) = c.select.ensures.current ∙ (c.in-Ok.ensures.0 ∙ ap (λ (w : World). device_for d w.state) (sym t.same)) in
+    let ok : admitted (world_in l base x trace) d ≡ Ok tt = subst (λ (w : World). admitted w d ≡ Ok tt) (sym t.same) c.in-Ok.ensures.1 in
+    let told : OnOk r (plan_of x.store.limits x.current d x.store.state ≡ Ok (planned_verdict x.current d p x.store)) = subst (λ k. OnOk r (plan_of x.store.limits k d x.store.state ≡ Ok (planned_verdict k d p x.store))) (sym c.select.ensures.current) c.carry_out.ensures.judged in
+    let judged : OnOk r (judge (world_in l base x trace) (Do d) ≡ Ok (planned_verdict x.current d p x.store)) = directive_judged l base x d p trace r t.set for ok told in
+    let done : IfOk r (λ reply. IsCommitted (planned_verdict x.current d p x.store) reply x.store new trace longer) = subst (λ k. IfOk r (λ reply. IsCommitted (planned_verdict k d p x.store) reply x.store new trace longer)) (sym c.select.ensures.current) c.carry_out.ensures.done in
+    subst (λ (w : World). IfOk r (λ reply. IsDone w (Do d) reply (world_in l base (with_store x new) longer))) t.same (directive_done l base x new d p trace longer r t.set judged done)
 
-pub returns-in-Ok-clause-refused : goal.returns-in-Ok-clause-refused
-returns-in-Ok-clause-refused c =
-    let w : World = world_of c.self.inside.base c.self.inside.store c.self.inside.trace.items in
-    let ok : admitted w c.args.directive ≡ Ok tt = subst (λ (x : World). admitted x c.args.directive ≡ Ok tt) (sym c.self.view_is) (sym c.admit.ensures ∙ c.in-Ok.is) in
-    subst (λ (x : World). IfErr c.carry_out.result (λ back. IsRefusal x (Do c.args.directive) back.1)) c.self.view_is
-    (directive_refused c.self.inside.base c.args.directive c.self.inside.store c.self.inside.trace.items c.carry_out.result ok c.carry_out.ensures.refused)
+pub returns-clause-refused : goal.returns-clause-refused
+returns-clause-refused c =
+    let l : Limits = c.self.inside.config in
+    let base : Base = c.self.inside.base in
+    let x : Devices = c.select.new.self in
+    let trace : List Event = c.self.inside.trace.items in
+    let t : AreDevicesOf l base x trace c.args.self.now = selected l base c.self.inside.devices x trace c.args.self.now c.self.invariant c.self.view_is (c.select.ensures.set l c.self.invariant.1) c.select.ensures.same in
+    let d : Directive = c.args.directive in
+    let r : Result Reply (Directive × Fault) = c.carry_out.result in
+    let for : x.current ≡ device_for d (whole_of x) = c.select.ensures.current ∙ (c.in-Ok.ensures.0 ∙ ap (λ (w : World). device_for d w.state) (sym t.same)) in
+    let ok : admitted (world_in l base x trace) d ≡ Ok tt = subst (λ (w : World). admitted w d ≡ Ok tt) (sym t.same) c.in-Ok.ensures.1 in
+    let told : IfErr r (λ back. MayBeToldOf (plan_of x.store.limits x.current d x.store.state) back.1) = subst (λ k. IfErr r (λ back. MayBeToldOf (plan_of x.store.limits k d x.store.state) back.1)) (sym c.select.ensures.current) c.carry_out.ensures.refused in
+    subst (λ (w : World). IfErr r (λ back. IsRefusal w (Do d) back.1)) t.same (directive_refused l base x d trace r t.set for ok told)

@@ -1,27 +1,73 @@
-use Rattle.std.proofs.Common.{◌≡◌, refl, sym, subst, Ok}
+use Rattle.std.proofs.Common.{◌≡◌, ◌∙◌, refl, sym, ap, subst, List, Ok}
 use Rattle.std.specs.Prelude.{IfOk}
+use Rattle.acc_clauses.specs.Words.{Event}
 use Rattle.acc_base.specs.declared.calls.Call.TheVariants.{Gather}
-use Rattle.acc_base.specs.declared.events.Event.{Event}
-use Rattle.acc_base.specs.Calls.{World, judge}
-use Rattle.acc_base.specs.Judge.{Makes, gathered}
+use Rattle.acc_base.specs.Limits.{Limits}
+use Rattle.acc_base.specs.Loans.{Leased}
+use Rattle.acc_base.specs.Calls.{Base, World, judge}
+use Rattle.acc_base.specs.Judge.{Makes, gathered, gather_event}
+use Rattle.acc_base.specs.Devices.{view}
+use Rattle.acc_clauses.specs.Contents.{Contents}
+use Rattle.acc_table.specs.declared.devices.Devices.{Devices}
 use Rattle.acc_table.specs.Calls.{IsDone}
-use Rattle.acc_table.specs.Kept.{world_of}
-use Rattle.acc_table.proofs.Verdicts.{done_either}
-use Rattle.acc_table.proofs.Keeping.{kept_alone, kept_either}
+use Rattle.acc_table.specs.Making.{IsMadeInto}
+use Rattle.acc_table.proofs.Verdicts.{with_store, world_in, done_either}
+use Rattle.acc_table.proofs.Keeping.{AreDevicesOf, selected, kept_alone, kept_either}
+use Rattle.acc_table.proofs.Judging.{of_view}
 use Rattle.acc_table.proofs.tables.Table.gather.Goals as goal
+
+pub gather-requires-clause-full : goal.gather-requires-clause-full
+gather-requires-clause-full c =
+    let l : Limits = c.self.inside.config in
+    let base : Base = c.self.inside.base in
+    let x : Devices = c.select.new.self in
+    let trace : List Event = c.self.inside.trace.items in
+    let t : AreDevicesOf l base x trace c.args.self.now = selected l base c.self.inside.devices x trace c.args.self.now c.self.invariant (c.self.view_is ∙ c.in-Ok.ensures.same) (c.select.ensures.set l c.self.invariant.1) c.select.ensures.same in
+    let lease : Leased = c.args.lease in
+    let on : x.current ≡ lease.device = c.select.ensures.current ∙ c.device.ensures in
+    c.full-full.ensures ∙ ap (λ (m : Limits). m.full) (sym t.set.used)
+
+pub gather-requires-clause-ready : goal.gather-requires-clause-ready
+gather-requires-clause-ready c =
+    let l : Limits = c.self.inside.config in
+    let base : Base = c.self.inside.base in
+    let x : Devices = c.select.new.self in
+    let trace : List Event = c.self.inside.trace.items in
+    let t : AreDevicesOf l base x trace c.args.self.now = selected l base c.self.inside.devices x trace c.args.self.now c.self.invariant (c.self.view_is ∙ c.in-Ok.ensures.same) (c.select.ensures.set l c.self.invariant.1) c.select.ensures.same in
+    let lease : Leased = c.args.lease in
+    let on : x.current ≡ lease.device = c.select.ensures.current ∙ c.device.ensures in
+    let ready = subst (λ (w : World). gather_event w.limits.full lease (view lease.device w.state) ≡ Ok (gathered w.limits.full lease)) (sym t.same) c.in-Ok.ensures.judged.0 in
+    of_view l x lease.device (λ n m s. gather_event m.full lease s ≡ Ok (gathered m.full lease)) t.set on ready
 
 pub invariant_of-self : goal.invariant_of-self
 invariant_of-self c =
-    let w : World = world_of c.self.inside.base c.self.inside.store c.self.inside.trace.items in
-    let e : Event = gathered w.limits.full c.args.lease in
-    let judged : judge w (Gather c.args.lease) ≡ Ok (Makes e) = subst (λ (x : World). judge x (Gather c.args.lease) ≡ Ok (Makes (gathered x.limits.full c.args.lease))) (sym c.self.view_is) c.in-Ok.ensures.1 in
-    kept_either c.self.inside.base (Gather c.args.lease) e c.self.inside.store c.gather.new.store c.self.inside.trace.items c.gather.new.trace.items c.gather.result c.self.invariant
-    (kept_alone w (Gather c.args.lease) e c.self.invariant judged refl) c.gather.ensures.done c.gather.ensures.same
+    let l : Limits = c.self.inside.config in
+    let base : Base = c.self.inside.base in
+    let x : Devices = c.select.new.self in
+    let trace : List Event = c.self.inside.trace.items in
+    let t : AreDevicesOf l base x trace c.args.self.now = selected l base c.self.inside.devices x trace c.args.self.now c.self.invariant (c.self.view_is ∙ c.in-Ok.ensures.same) (c.select.ensures.set l c.self.invariant.1) c.select.ensures.same in
+    let lease : Leased = c.args.lease in
+    let on : x.current ≡ lease.device = c.select.ensures.current ∙ c.device.ensures in
+    let new : Contents = c.gather.new.store in
+    let longer : List Event = c.gather.new.trace.items in
+    let e : Event = gathered l.full lease in
+    let judged : judge (world_in l base x trace) (Gather lease) ≡ Ok (Makes e) = subst (λ (w : World). judge w (Gather lease) ≡ Ok (Makes (gathered w.limits.full lease))) (sym t.same) c.in-Ok.ensures.judged.1 in
+    let done : IfOk c.gather.result (λ reply. IsMadeInto e lease.bytes reply x.store new trace longer) = subst (λ (m : Limits). IfOk c.gather.result (λ reply. IsMadeInto (gathered m.full lease) lease.bytes reply x.store new trace longer)) t.set.used c.gather.ensures.done in
+    kept_either l base x new (Gather lease) e trace longer c.gather.result t.set (sym on) t.kept (kept_alone (world_in l base x trace) (Gather lease) e t.kept judged refl) done c.gather.ensures.same
 
 pub returns-in-Ok-clause-done : goal.returns-in-Ok-clause-done
 returns-in-Ok-clause-done c =
-    let w : World = world_of c.self.inside.base c.self.inside.store c.self.inside.trace.items in
-    let e : Event = gathered w.limits.full c.args.lease in
-    let judged : judge w (Gather c.args.lease) ≡ Ok (Makes e) = subst (λ (x : World). judge x (Gather c.args.lease) ≡ Ok (Makes (gathered x.limits.full c.args.lease))) (sym c.self.view_is) c.in-Ok.ensures.1 in
-    subst (λ (x : World). IfOk c.gather.result (λ reply. IsDone x (Gather c.args.lease) reply (world_of c.self.inside.base c.gather.new.store c.gather.new.trace.items))) c.self.view_is
-    (done_either c.self.inside.base (Gather c.args.lease) e c.self.inside.store c.gather.new.store c.self.inside.trace.items c.gather.new.trace.items c.gather.result judged c.gather.ensures.done)
+    let l : Limits = c.self.inside.config in
+    let base : Base = c.self.inside.base in
+    let x : Devices = c.select.new.self in
+    let trace : List Event = c.self.inside.trace.items in
+    let t : AreDevicesOf l base x trace c.args.self.now = selected l base c.self.inside.devices x trace c.args.self.now c.self.invariant (c.self.view_is ∙ c.in-Ok.ensures.same) (c.select.ensures.set l c.self.invariant.1) c.select.ensures.same in
+    let lease : Leased = c.args.lease in
+    let on : x.current ≡ lease.device = c.select.ensures.current ∙ c.device.ensures in
+    let new : Contents = c.gather.new.store in
+    let longer : List Event = c.gather.new.trace.items in
+    let e : Event = gathered l.full lease in
+    let judged : judge (world_in l base x trace) (Gather lease) ≡ Ok (Makes e) = subst (λ (w : World). judge w (Gather lease) ≡ Ok (Makes (gathered w.limits.full lease))) (sym t.same) c.in-Ok.ensures.judged.1 in
+    let done : IfOk c.gather.result (λ reply. IsMadeInto e lease.bytes reply x.store new trace longer) = subst (λ (m : Limits). IfOk c.gather.result (λ reply. IsMadeInto (gathered m.full lease) lease.bytes reply x.store new trace longer)) t.set.used c.gather.ensures.done in
+    subst (λ (w : World). IfOk c.gather.result (λ reply. IsDone w (Gather lease) reply (world_in l base (with_store x new) longer))) t.same
+    (done_either l base x new (Gather lease) e trace longer c.gather.result t.set (sym on) judged done)

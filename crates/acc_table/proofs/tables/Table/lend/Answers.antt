@@ -1,30 +1,80 @@
-use Rattle.std.proofs.Common.{◌≡◌, refl, sym, subst, Ok}
+use Rattle.std.proofs.Common.{◌≡◌, ◌∙◌, refl, sym, subst, List, Ok}
 use Rattle.std.specs.Prelude.{IfOk}
-use Rattle.acc_base.specs.declared.calls.Call.TheVariants.{Lend}
 use Rattle.acc_clauses.specs.Words.{Event, Loan}
+use Rattle.acc_base.specs.declared.calls.Call.TheVariants.{Lend}
 use Rattle.acc_base.specs.declared.events.Event.TheVariants.{Lent}
-use Rattle.acc_base.specs.Calls.{World, judge}
+use Rattle.acc_base.specs.Limits.{Limits, limits_on}
+use Rattle.acc_base.specs.Calls.{Base, World, judge}
 use Rattle.acc_base.specs.Judge.{Makes}
+use Rattle.acc_base.specs.Devices.{view}
+use Rattle.acc_clauses.specs.Contents.{Contents}
+use Rattle.acc_clauses.specs.Lending.{IsLoanPlanned}
+use Rattle.acc_table.specs.declared.devices.Devices.{Devices}
 use Rattle.acc_table.specs.Calls.{IsDone}
-use Rattle.acc_table.specs.Kept.{world_of}
-use Rattle.acc_table.proofs.Verdicts.{done_either}
-use Rattle.acc_table.proofs.Keeping.{kept_alone, kept_either}
+use Rattle.acc_table.proofs.Verdicts.{with_store, world_in, done_either}
+use Rattle.acc_table.proofs.Keeping.{AreDevicesOf, selected, serial_fits, kept_alone, kept_either}
+use Rattle.acc_table.proofs.Judging.{of_view}
 use Rattle.acc_table.proofs.tables.Table.lend.Goals as goal
+
+pub lend-requires-clause-planned : goal.lend-requires-clause-planned
+lend-requires-clause-planned c =
+    let l : Limits = c.self.inside.config in
+    let base : Base = c.self.inside.base in
+    let x : Devices = c.select.new.self in
+    let trace : List Event = c.self.inside.trace.items in
+    let t : AreDevicesOf l base x trace c.args.self.now = selected l base c.self.inside.devices x trace c.args.self.now c.self.invariant (c.self.view_is ∙ c.in_ok-loan.ensures.same) (c.select.ensures.set l c.self.invariant.1) c.select.ensures.same in
+    let d = c.device_of_region-device.result in
+    let on : x.current ≡ d = c.select.ensures.current in
+    let loan : Loan = c.in_ok-loan.loan in
+    let e : Event = Lent d c.args.region c.args.section loan.block loan.serial in
+    let planned = subst (λ n. IsLoanPlanned (limits_on n c.args.self.now.limits) n c.args.region c.args.section (view n c.args.self.now.state) loan) (sym c.device_of_region-device.ensures.value) c.in_ok-loan.ensures.judged.0 in
+    let seen = subst (λ (w : World). IsLoanPlanned (limits_on d w.limits) d c.args.region c.args.section (view d w.state) loan) (sym t.same) planned in
+    subst (λ n. IsLoanPlanned x.store.limits n c.args.region c.args.section x.store.state loan) on (of_view l x d (λ n m s. IsLoanPlanned m n c.args.region c.args.section s loan) t.set on seen)
+
+pub lend-requires-clause-serial : goal.lend-requires-clause-serial
+lend-requires-clause-serial c =
+    let l : Limits = c.self.inside.config in
+    let base : Base = c.self.inside.base in
+    let x : Devices = c.select.new.self in
+    let trace : List Event = c.self.inside.trace.items in
+    let t : AreDevicesOf l base x trace c.args.self.now = selected l base c.self.inside.devices x trace c.args.self.now c.self.invariant (c.self.view_is ∙ c.in_ok-loan.ensures.same) (c.select.ensures.set l c.self.invariant.1) c.select.ensures.same in
+    let d = c.device_of_region-device.result in
+    let on : x.current ≡ d = c.select.ensures.current in
+    let loan : Loan = c.in_ok-loan.loan in
+    let e : Event = Lent d c.args.region c.args.section loan.block loan.serial in
+    serial_fits l base x trace c.args.self.now t
 
 pub invariant_of-self : goal.invariant_of-self
 invariant_of-self c =
-    let w : World = world_of c.self.inside.base c.self.inside.store c.self.inside.trace.items in
+    let l : Limits = c.self.inside.config in
+    let base : Base = c.self.inside.base in
+    let x : Devices = c.select.new.self in
+    let trace : List Event = c.self.inside.trace.items in
+    let t : AreDevicesOf l base x trace c.args.self.now = selected l base c.self.inside.devices x trace c.args.self.now c.self.invariant (c.self.view_is ∙ c.in_ok-loan.ensures.same) (c.select.ensures.set l c.self.invariant.1) c.select.ensures.same in
+    let d = c.device_of_region-device.result in
+    let on : x.current ≡ d = c.select.ensures.current in
     let loan : Loan = c.in_ok-loan.loan in
-    let e : Event = Lent c.args.region c.args.section loan.block loan.serial in
-    let judged : judge w (Lend c.args.region c.args.section) ≡ Ok (Makes e) = subst (λ (x : World). judge x (Lend c.args.region c.args.section) ≡ Ok (Makes e)) (sym c.self.view_is) c.in_ok-loan.ensures.1 in
-    kept_either c.self.inside.base (Lend c.args.region c.args.section) e c.self.inside.store c.lend.new.store c.self.inside.trace.items c.lend.new.trace.items c.lend.result c.self.invariant
-    (kept_alone w (Lend c.args.region c.args.section) e c.self.invariant judged refl) c.lend.ensures.done c.lend.ensures.same
+    let e : Event = Lent d c.args.region c.args.section loan.block loan.serial in
+    let new : Contents = c.lend.new.store in
+    let longer : List Event = c.lend.new.trace.items in
+    let told : judge c.args.self.now (Lend c.args.region c.args.section) ≡ Ok (Makes e) = subst (λ n. judge c.args.self.now (Lend c.args.region c.args.section) ≡ Ok (Makes (Lent n c.args.region c.args.section loan.block loan.serial))) (sym c.device_of_region-device.ensures.value) c.in_ok-loan.ensures.judged.1 in
+    let judged : judge (world_in l base x trace) (Lend c.args.region c.args.section) ≡ Ok (Makes e) = subst (λ (w : World). judge w (Lend c.args.region c.args.section) ≡ Ok (Makes e)) (sym t.same) told in
+    kept_either l base x new (Lend c.args.region c.args.section) e trace longer c.lend.result t.set (sym on) t.kept (kept_alone (world_in l base x trace) (Lend c.args.region c.args.section) e t.kept judged refl) c.lend.ensures.done c.lend.ensures.same
 
 pub returns-clause-done : goal.returns-clause-done
 returns-clause-done c =
-    let w : World = world_of c.self.inside.base c.self.inside.store c.self.inside.trace.items in
+    let l : Limits = c.self.inside.config in
+    let base : Base = c.self.inside.base in
+    let x : Devices = c.select.new.self in
+    let trace : List Event = c.self.inside.trace.items in
+    let t : AreDevicesOf l base x trace c.args.self.now = selected l base c.self.inside.devices x trace c.args.self.now c.self.invariant (c.self.view_is ∙ c.in_ok-loan.ensures.same) (c.select.ensures.set l c.self.invariant.1) c.select.ensures.same in
+    let d = c.device_of_region-device.result in
+    let on : x.current ≡ d = c.select.ensures.current in
     let loan : Loan = c.in_ok-loan.loan in
-    let e : Event = Lent c.args.region c.args.section loan.block loan.serial in
-    let judged : judge w (Lend c.args.region c.args.section) ≡ Ok (Makes e) = subst (λ (x : World). judge x (Lend c.args.region c.args.section) ≡ Ok (Makes e)) (sym c.self.view_is) c.in_ok-loan.ensures.1 in
-    subst (λ (x : World). IfOk c.lend.result (λ reply. IsDone x (Lend c.args.region c.args.section) reply (world_of c.self.inside.base c.lend.new.store c.lend.new.trace.items))) c.self.view_is
-    (done_either c.self.inside.base (Lend c.args.region c.args.section) e c.self.inside.store c.lend.new.store c.self.inside.trace.items c.lend.new.trace.items c.lend.result judged c.lend.ensures.done)
+    let e : Event = Lent d c.args.region c.args.section loan.block loan.serial in
+    let new : Contents = c.lend.new.store in
+    let longer : List Event = c.lend.new.trace.items in
+    let told : judge c.args.self.now (Lend c.args.region c.args.section) ≡ Ok (Makes e) = subst (λ n. judge c.args.self.now (Lend c.args.region c.args.section) ≡ Ok (Makes (Lent n c.args.region c.args.section loan.block loan.serial))) (sym c.device_of_region-device.ensures.value) c.in_ok-loan.ensures.judged.1 in
+    let judged : judge (world_in l base x trace) (Lend c.args.region c.args.section) ≡ Ok (Makes e) = subst (λ (w : World). judge w (Lend c.args.region c.args.section) ≡ Ok (Makes e)) (sym t.same) told in
+    subst (λ (w : World). IfOk c.lend.result (λ reply. IsDone w (Lend c.args.region c.args.section) reply (world_in l base (with_store x new) longer))) t.same
+    (done_either l base x new (Lend c.args.region c.args.section) e trace longer c.lend.result t.set (sym on) judged c.lend.ensures.done)

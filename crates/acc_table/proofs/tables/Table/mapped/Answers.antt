@@ -1,20 +1,25 @@
-use Rattle.std.proofs.Common.{◌≡◌, sym, subst, Option, Some, None, rules}
+use Rattle.std.proofs.Common.{◌≡◌, sym, subst, Option, Some, rules}
+use Rattle.acc_base.specs.Limits.{limits_on}
+use Rattle.acc_base.specs.Records.{State}
+use Rattle.acc_base.specs.Devices.{view}
 use Rattle.acc_base.specs.Calls.{World}
-use Rattle.acc_table.specs.Kept.{world_of}
+use Rattle.acc_base.proofs.Accounted.{sound_on}
 use Rattle.acc_table.specs.declared.calls.Mapped.{Mapped}
 use Rattle.acc_table.specs.Queries.{mapped_from, IsLeastFrom}
 use Rattle.acc_table.proofs.Answering.{least_from}
 use Rattle.acc_table.proofs.tables.Table.mapped.Goals as goal
 
-pub returns-in-Some-clause-least : goal.returns-in-Some-clause-least
-returns-in-Some-clause-least c =
-    let w : World = world_of c.self.inside.base c.self.inside.store c.self.inside.trace.items in
-    let told : Option Mapped = Some (record { start = c.in-Some.range.section.start; len = c.in-Some.range.section.len; place = c.place.result; structured = c.in-Some.range.structured; dynamic = c.in-Some.range.dynamic; lent = c.is_lent.result }) in
-    let value : told ≡ mapped_from c.args.from c.args.self.now.state.records = search rules in
-    subst (IsLeastFrom c.args.from c.args.self.now.state.records.ranges) (sym value) (subst (λ (x : World). IsLeastFrom c.args.from x.state.records.ranges (mapped_from c.args.from x.state.records)) c.self.view_is (least_from w c.args.from c.self.invariant.accounted))
+pub returns-in_err-range-clause-least : goal.returns-in_err-range-clause-least
+returns-in_err-range-clause-least c =
+    let w : World = c.args.self.now in
+    let s : State = view c.args.device w.state in
+    let value : c.from_residual-in_err-range.result ≡ mapped_from c.args.from s.records = search rules in
+    subst (IsLeastFrom c.args.from s.records.ranges) (sym value) (least_from (limits_on c.args.device w.limits) s c.args.from (sound_on w c.laws.ensures.accounted c.args.device))
 
-pub returns-in-None-clause-least : goal.returns-in-None-clause-least
-returns-in-None-clause-least c =
-    let w : World = world_of c.self.inside.base c.self.inside.store c.self.inside.trace.items in
-    let value : ◌≡◌ {A = Option Mapped} None (mapped_from c.args.from c.args.self.now.state.records) = search rules in
-    subst (IsLeastFrom c.args.from c.args.self.now.state.records.ranges) (sym value) (subst (λ (x : World). IsLeastFrom c.args.from x.state.records.ranges (mapped_from c.args.from x.state.records)) c.self.view_is (least_from w c.args.from c.self.invariant.accounted))
+pub returns-clause-least : goal.returns-clause-least
+returns-clause-least c =
+    let w : World = c.args.self.now in
+    let s : State = view c.args.device w.state in
+    let told : Option Mapped = Some (record { start = c.in_ok-range.range.section.start; len = c.in_ok-range.range.section.len; place = c.place.result; structured = c.in_ok-range.range.structured; dynamic = c.in_ok-range.range.dynamic; lent = c.is_lent.result }) in
+    let value : told ≡ mapped_from c.args.from s.records = search rules in
+    subst (IsLeastFrom c.args.from s.records.ranges) (sym value) (least_from (limits_on c.args.device w.limits) s c.args.from (sound_on w c.laws.ensures.accounted c.args.device))

@@ -1,0 +1,364 @@
+//! The command line.
+
+use acc_follow::Views;
+use clap::{Arg, ArgAction, ArgMatches, Command, Error, value_parser};
+use std::alloc::{AllocError, Global};
+
+/// The default of both sizes in bytes. `size_option` names it again as text, for `clap`; it is used here only if `clap`
+/// finds no value.
+const DEFAULT_SIZE: u64 = 65_536;
+
+/// The default of `--devices`, as `DEFAULT_SIZE` is that of sizes.
+const DEFAULT_DEVICES: u64 = 1;
+
+/// The default of `--threads`, as `DEFAULT_SIZE` is that of sizes.
+const DEFAULT_THREADS: u64 = 1;
+
+/// What a trace may keep of each event: what it did to counters, or the bytes of all memories too.
+const TRACES: &[&str] = &["counts", "full"];
+
+/// The version that `--version` tells.
+const VERSION: &str = "0.1.0 (OpenACC 3.3)";
+
+/// What the command line says.
+#[derive(Clone, Copy)]
+pub struct Options<'a> {
+    /// The file that has the script; standard input has it where none is named.
+    pub file: Option<&'a str>,
+    /// The file that the output is compared with, in place of writing it.
+    pub expect: Option<&'a str>,
+    /// What is shown beside what the script prints.
+    pub views: Views,
+    /// Whether the script is emitted as a program in C, in place of a run.
+    pub emit: bool,
+    /// Whether that program ends with the first statement that is refused.
+    pub until_refusal: bool,
+    /// The file of a picture of the memories at the end.
+    pub svg: Option<&'a str>,
+    /// The file of the pictures behind directives, each with the number of its line in the name.
+    pub svg_every: Option<&'a str>,
+    /// The size of host memory in bytes.
+    pub host: u64,
+    /// The size of each device's memory in bytes.
+    pub device: u64,
+    /// How many devices there are.
+    pub devices: u64,
+    /// Whether the trace keeps bytes too.
+    pub full: bool,
+    /// In how many threads each kernel works at most, or a drill.
+    pub threads: u64,
+    /// How often each thread of a drill enters and exits a region, where there is a drill in place of a script.
+    pub drill: Option<u64>,
+}
+
+/// An option that takes the size of a memory.
+fn size_option<'a>(alloc: Global, name: &'a str, help: &'a str) -> Arg<'a> {
+    Arg::new(alloc, name)
+        .long(name)
+        .value_name("BYTES")
+        .help(help)
+        .action(ArgAction::Set)
+        .value_parser(value_parser!(u64).range(16..=67_108_864))
+        .default_value("65536")
+}
+
+/// The option of how many devices there are.
+fn devices_option<'a>(alloc: Global) -> Arg<'a> {
+    Arg::new(alloc, "devices")
+        .long("devices")
+        .value_name("N")
+        .help("How many devices there are")
+        .action(ArgAction::Set)
+        .value_parser(value_parser!(u64).range(1..=4))
+        .default_value("1")
+}
+
+/// The option of how many threads each kernel works in.
+fn threads_option<'a>(alloc: Global) -> Arg<'a> {
+    Arg::new(alloc, "threads")
+        .long("threads")
+        .value_name("N")
+        .help("In how many threads each kernel works")
+        .action(ArgAction::Set)
+        .value_parser(value_parser!(u64).range(1..=64))
+        .default_value("1")
+}
+
+/// The option of a drill.
+fn drill_option<'a>(alloc: Global) -> Arg<'a> {
+    Arg::new(alloc, "drill")
+        .long("drill")
+        .value_name("ROUNDS")
+        .help("Enter and exit regions in N threads instead")
+        .action(ArgAction::Set)
+        .value_parser(value_parser!(u64).range(1..=1_000))
+}
+
+/// The option of what the trace keeps of each event.
+fn trace_option<'a>(alloc: Global) -> Arg<'a> {
+    Arg::new(alloc, "trace")
+        .long("trace")
+        .value_name("WHAT")
+        .help("What the trace keeps")
+        .action(ArgAction::Set)
+        .value_parser(TRACES)
+        .hide_possible_values(true)
+        .default_value("counts")
+}
+
+/// The file that has the script.
+fn file_argument<'a>(alloc: Global) -> Arg<'a> {
+    Arg::new(alloc, "FILE")
+        .help("The script, in place of standard input")
+        .action(ArgAction::Set)
+}
+
+/// The option of the file that the output is compared with.
+fn expect_option<'a>(alloc: Global) -> Arg<'a> {
+    Arg::new(alloc, "expect")
+        .long("expect")
+        .value_name("OUTPUT")
+        .help("Compare the output with this file")
+        .action(ArgAction::Set)
+}
+
+/// The languages that a script can be emitted in.
+const LANGUAGES: &[&str] = &["c"];
+
+/// What belongs to a run, and so does not go with a program that is emitted.
+const OF_RUNS: &[&str] = &[
+    "echo",
+    "json",
+    "log",
+    "explain",
+    "svg",
+    "svg-every",
+    "drill",
+];
+
+/// The option of the language that the script is emitted in.
+fn emit_option<'a>(alloc: Global) -> Result<Arg<'a>, AllocError> {
+    let mut option = Arg::new(alloc, "emit")
+        .long("emit")
+        .value_name("LANGUAGE")
+        .help("Write the script as a program instead")
+        .action(ArgAction::Set)
+        .value_parser(LANGUAGES)
+        .hide_possible_values(true);
+    for name in OF_RUNS {
+        option = option.conflicts_with(name)?;
+    }
+    Ok(option)
+}
+
+/// An option of the file of a picture.
+fn picture_option<'a>(alloc: Global, name: &'a str, help: &'a str) -> Arg<'a> {
+    Arg::new(alloc, name)
+        .long(name)
+        .value_name("PICTURE")
+        .help(help)
+        .action(ArgAction::Set)
+}
+
+/// An option that is there or not.
+fn flag<'a>(alloc: Global, name: &'a str, help: &'a str) -> Arg<'a> {
+    Arg::new(alloc, name)
+        .long(name)
+        .help(help)
+        .action(ArgAction::SetTrue)
+}
+
+/// Reads the command line. The first word is the program's name.
+///
+/// # Errors
+///
+/// `clap`'s own, whose text is for the user: also where help was asked for, and for want of memory.
+pub fn parsed_options<'a>(alloc: Global, words: &'a [String]) -> Result<Options<'a>, Error> {
+    let command = with_views(alloc, with_limits(alloc, bare(alloc))?)?;
+    let command = with_programs(alloc, command)?;
+    let matches = command.try_get_matches_from(words)?;
+    Ok(options_of(&matches))
+}
+
+/// The command, without its options.
+fn bare<'a>(alloc: Global) -> Command<'a> {
+    Command::new(alloc, "accrun")
+        .about("Runs a script of OpenACC data directives on simulated devices")
+        .version(VERSION)
+        .override_usage(USAGE)
+        .after_help(AFTER_HELP)
+}
+
+/// Adds the options of what runs, and within which limits.
+fn with_limits<'a>(alloc: Global, command: Command<'a>) -> Result<Command<'a>, Error> {
+    Ok(
+        command
+            .arg(size_option(alloc, "host", "Size of host memory"))?
+            .arg(size_option(alloc, "device", "Size of each device's memory"))?
+            .arg(devices_option(alloc))?
+            .arg(threads_option(alloc))?
+            .arg(drill_option(alloc))?
+            .arg(trace_option(alloc))?,
+    )
+}
+
+/// Adds the script, and the options of what is shown of it.
+fn with_views<'a>(alloc: Global, command: Command<'a>) -> Result<Command<'a>, Error> {
+    Ok(
+        command
+            .arg(file_argument(alloc))?
+            .arg(expect_option(alloc))?
+            .arg(flag(alloc, "echo", "Write each statement before its output"))?
+            .arg(flag(alloc, "json", "Write the report as JSON"))?
+            .arg(flag(alloc, "log", "Tell what each call did"))?
+            .arg(flag(alloc, "explain", "Tell why a line is at fault or refused"))?
+            .arg(picture_option(alloc, "svg", "Draw the memories at the end"))?
+            .arg(picture_option(alloc, "svg-every", "Draw them behind each directive"))?,
+    )
+}
+
+/// Adds the options of the program that a script is emitted as.
+fn with_programs<'a>(alloc: Global, command: Command<'a>) -> Result<Command<'a>, Error> {
+    let until = flag(alloc, "until-refusal", "End it with the first refusal");
+    Ok(
+        command
+            .arg(emit_option(alloc)?)?
+            .arg(until.requires_arg("emit")?)?,
+    )
+}
+
+/// What the command line says, once it is read.
+fn options_of<'a>(matches: &ArgMatches<'a>) -> Options<'a> {
+    Options {
+        file: matches.get_str("FILE"),
+        expect: matches.get_str("expect"),
+        views: Views {
+            echo: matches.get_flag("echo"),
+            json: matches.get_flag("json"),
+            log: matches.get_flag("log"),
+            explain: matches.get_flag("explain"),
+            picture: matches.get_str("svg").is_some(),
+            pictures: matches.get_str("svg-every").is_some(),
+        },
+        emit: matches.contains_id("emit"),
+        until_refusal: matches.get_flag("until-refusal"),
+        svg: matches.get_str("svg"),
+        svg_every: matches.get_str("svg-every"),
+        host: matches.get_one::<u64>("host").unwrap_or(DEFAULT_SIZE),
+        device: matches.get_one::<u64>("device").unwrap_or(DEFAULT_SIZE),
+        devices: matches.get_one::<u64>("devices").unwrap_or(DEFAULT_DEVICES),
+        threads: matches.get_one::<u64>("threads").unwrap_or(DEFAULT_THREADS),
+        drill: matches.get_one::<u64>("drill"),
+        full: matches.get_str("trace") == Some("full"),
+    }
+}
+
+/// How the program is called.
+const USAGE: &str = "accrun [OPTIONS] [FILE]";
+
+/// What the help says after the options: the statements, an example, the status.
+const AFTER_HELP: &str = "\
+A size is from 16 to 67108864 bytes, a multiple of 16. There are 1 to 4 devices,
+numbered from 0. A kernel works in 1 to 64 threads, and the output of a script
+does not depend on that. WHAT is counts or full: of each event the trace keeps
+what it did to counters and, where it is full, its bytes; the output does not
+depend on it. ROUNDS is from 1 to 1000: how often each thread enters and exits a
+region over one array on device 0. Then no script is read, and one line tells
+what is left: the allowance of regions, the number of events, and both counters
+of the array.
+
+The script is FILE, or comes on standard input. It is read whole before its
+first line runs. With --echo each statement stands behind '> ' before what it
+prints. With --json the report is one object on one line. With --expect the
+output is not written: it is compared with OUTPUT, and the first line that
+differs is told on standard error. Then the status is 1, and 0 where none
+differs, whatever was refused. --svg draws the memories at the end of the
+script, as a file that a browser opens; --svg-every draws them behind each
+directive and each kernel, with the number of the line in the file's name:
+life.7.svg for life.svg.
+
+With --emit c the script is written as a C program with OpenACC directives,
+which does what the script does, and has the expected output in it. A statement
+that is refused, or that C cannot say, is a fault. With --until-refusal the
+program ends with the first statement that is refused, and has to fail there.
+
+Statements, one to a line, with comments after '#':
+  array NAME BYTES         an array in host memory
+  write PLACE DIGITS       write bytes to host memory, two hexadecimal digits
+                           each
+  point PLACE to PLACE     write the address of the second byte at the first, as
+                           a pointer
+  data CLAUSES             enter a region, which counts its sections:
+    copy(REFS)             as copyin here, and as copyout at the region's end
+    copyin(REFS)           where absent, map it to a new block with its bytes
+    copyout(REFS)          where absent, map it to a new block; where the region
+                           ends the mapping, its bytes are first copied to host
+                           memory
+    create(REFS)           where absent, map it to a new block
+    no_create(REFS)        where absent, pass it over
+    present(REFS)          where absent, refuse it
+    attach(PLACES)         attach these pointers, and detach them at the end of
+                           the region
+  end data                 exit the region that was entered last: what its own
+                           entry counted is taken back; at zero the mapping ends
+  enter data copyin(REFS)  map it, with its bytes, or count it once more
+  enter data create(REFS)  the same without its bytes
+  enter data attach(PLACES)
+                           attach these pointers
+  exit data delete(REFS)   count it once less; at zero the mapping ends
+  exit data copyout(REFS)  the same, and its bytes are copied to host memory
+                           before the mapping ends
+  exit data detach(PLACES) take one attachment of each back
+  update self(REFS)        copy its bytes from the device to host memory;
+                           host(REFS) says the same
+  update device(REFS)      copy its bytes from host memory to the device
+  wait, wait(QUEUE)        make all copies that wait in the queues, or in one
+  step(QUEUE)              make the next copy of a queue, or print idle
+  set device_num(N)        later lines are for device N; the first is for 0
+  kernel add K REF         in the innermost open region, add K to each of its
+                           bytes on the device
+  kernel xor K REF         flip the bits of K in each of these
+  kernel number K REF      write K plus its place from 0 on to each of these
+  kernel plus REF REF      add the bytes of the first in host memory, as far as
+                           they reach, to those of the second on the device
+  show REF                 its bytes in host memory
+  peek REF                 its bytes on the device, or none
+  present REF              whether all of it lies in one mapped range: yes or no
+  address PLACE            its device address, or none
+  report                   the sizes; of each device the mapped ranges with
+                           their counters, the attached pointers, the blocks
+                           that only queued copies keep, and the queues that are
+                           not empty; the numbers of open regions and of events
+NAME is a lower-case letter, then lower-case letters, digits and '_', 32 at
+most. REF is NAME, or NAME[OFFSET:LENGTH], in bytes from the start of the array.
+REFS is one REF or more, separated by commas. PLACE is NAME[OFFSET], and PLACES
+is one or more. A pointer is the eight bytes from a PLACE on. In place of a REF,
+but not in an update, REF via PLACE names the pointer to it too.
+
+A directive has one clause or more, and 64 REFs at most. create(zero: REFS), and
+copyout(zero: REFS) of a region, fill a new block with zero; copyin(readonly:
+REFS) is copyin(REFS). An exit data with the option finalize takes all counts of
+enter data. An update with the option if_present passes over what is absent, and
+not over what is partly mapped. With the option async(QUEUE), or async for queue
+0, the copies of enter data, exit data and update wait in a queue, in order; a
+block of the device stays while a copy of it waits. A QUEUE is from 0 to 15, and
+256 copies may wait in it. A region that is open at the end of the script is a
+fault.
+
+Each device has a memory, mapped ranges, counters and queues of its own. Lines
+are for the device that was set last, but end data and kernel for that of the
+innermost open region.
+
+A kernel's REF lies in one mapped range, whose block is lent to the kernel and
+brought back. K is from 0 to 255, and sums are modulo 256. Where the loan is
+made and cannot be brought back, report says lent of the range.
+
+A statement that is refused changes nothing and prints 'line L: refused ..'; the
+script goes on. A line that is at fault ends the script.
+
+Example:
+  printf 'array a 32\\nenter data copyin(a)\\nreport\\n' | accrun --device 4096
+
+Status: 0; 1 where a statement was refused, or the output is not as expected; 2
+for a fault, which standard error names.
+";

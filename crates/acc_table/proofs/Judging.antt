@@ -1,0 +1,95 @@
+-- Loans and leases that are judged on their device, which is the one in use.
+use Rattle.std.proofs.Common.{ℕ, ◌≡◌, ◌≤◌, refl, sym, ◌∙◌, ap, subst, Bool, List, length, Result, Ok, Err}
+use Rattle.std.specs.Prelude.{⊤, MatchResult}
+use Rattle.acc_clauses.specs.Words.{Section, Loan, Event, Fault}
+use Rattle.acc_base.specs.declared.calls.Call.TheVariants.{Lend, Gather}
+use Rattle.acc_base.specs.declared.events.Event.TheVariants.{Lent}
+use Rattle.acc_base.specs.declared.faults.Fault.TheVariants.{NoLease}
+use Rattle.acc_base.specs.Results.{◌>>=◌}
+use Rattle.acc_base.specs.Limits.{Limits, limits_on}
+use Rattle.acc_base.specs.Records.{State}
+use Rattle.acc_base.specs.Loans.{Leased}
+use Rattle.acc_base.specs.Devices.{OneDevice, new_device, device_at, view, device_of_region}
+use Rattle.acc_base.specs.Judge.{Verdict, Makes, lend_event, gathered, gather_event}
+use Rattle.acc_base.specs.Calls.{Base, World, judge, ticket, trace_room, loan_on}
+use Rattle.acc_clauses.specs.Lending.{IsLoanPlanned}
+use Rattle.acc_table.specs.declared.devices.Devices.{Devices}
+use Rattle.acc_table.specs.Devices.{whole_of, AreSet}
+use Rattle.acc_table.specs.Making.{IsLoanJudged, IsLeaseJudged}
+use Rattle.acc_table.proofs.Verdicts.{world_in, state_used}
+use Rattle.acc_table.proofs.AllDevices.{beyond_new}
+
+-- ---- the device in use
+
+-- what holds of the store holds of the view of its device
+pub in_view : (l : Limits) (x : Devices) (d : ℕ) (P : ℕ → Limits → State → Type 0) → AreSet l x → x.current ≡ d → P x.current x.store.limits x.store.state → P d (limits_on d l) (view d (whole_of x))
+in_view l x d P set on h = subst (λ n. P n (limits_on n l) (view n (whole_of x))) on (subst (λ m. P x.current m (view x.current (whole_of x))) set.used (subst (λ s. P x.current x.store.limits s) (sym (state_used l x set)) h))
+
+-- and the other way round
+pub of_view : (l : Limits) (x : Devices) (d : ℕ) (P : ℕ → Limits → State → Type 0) → AreSet l x → x.current ≡ d → P d (limits_on d l) (view d (whole_of x)) → P x.current x.store.limits x.store.state
+of_view l x d P set on h = subst (λ s. P x.current x.store.limits s) (state_used l x set) (subst (λ m. P x.current m (view x.current (whole_of x))) (sym set.used) (subst (λ n. P n (limits_on n l) (view n (whole_of x))) (sym on) h))
+
+-- ---- loans
+
+loan_judgement : (w : World) (region : ℕ) (section : Section) → ticket w ≡ Ok tt → trace_room w ≡ Ok tt → judge w (Lend region section) ≡ (loan_on w (device_of_region region w.state) region section >>= λ e. Ok (Makes e))
+unfolding judge
+loan_judgement w region section ticket_is room_is = rw (ticket_is, room_is) refl
+
+made_from : (r : Result Event Fault) (e : Event) → r ≡ Ok e → ◌≡◌ {A = Result Verdict Fault} (r >>= λ e. Ok (Makes e)) (Ok (Makes e))
+made_from r e h = rw h refl
+
+refused_from : (r : Result Event Fault) (fault : Fault) → r ≡ Err fault → ◌≡◌ {A = Result Verdict Fault} (r >>= λ e. Ok (Makes e)) (Err fault)
+refused_from r fault h = rw h refl
+
+-- a loan that was planned in the store of its device is judged so
+pub loan_judged : (l : Limits) (base : Base) (x : Devices) (trace : List Event) (w : World) (region : ℕ) (section : Section) (r : Result Loan Fault) → AreSet l x → world_in l base x trace ≡ w → x.current ≡ device_of_region region w.state → ticket w ≡ Ok tt → trace_room w ≡ Ok tt
+    → ((device : ℕ) → MatchResult r (λ loan. IsLoanPlanned x.store.limits device region section x.store.state loan) (λ fault. lend_event x.store.limits device region section x.store.state ≡ Err fault))
+    → IsLoanJudged w region section r
+loan_judged l base x trace w region section r set same on ticket_is room_is h = subst (λ (v : World). IsLoanJudged v region section r) same (go r (in_view l x d (λ n m s. MatchResult r (λ loan. IsLoanPlanned m n region section s loan) (λ fault. lend_event m n region section s ≡ Err fault)) set here (h x.current)))
+  where
+    v : World
+    v = world_in l base x trace
+
+    d : ℕ
+    d = device_of_region region (whole_of x)
+
+    here : x.current ≡ d
+    here = on ∙ ap (λ (u : World). device_of_region region u.state) (sym same)
+
+    judgement : judge v (Lend region section) ≡ (loan_on v d region section >>= λ e. Ok (Makes e))
+    judgement = loan_judgement v region section (ap (λ (u : World). ticket u) same ∙ ticket_is) (ap (λ (u : World). trace_room u) same ∙ room_is)
+
+    go : (q : Result Loan Fault) → MatchResult q (λ loan. IsLoanPlanned (limits_on d l) d region section (view d (whole_of x)) loan) (λ fault. lend_event (limits_on d l) d region section (view d (whole_of x)) ≡ Err fault) → IsLoanJudged v region section q
+    go (Ok loan) planned = (planned, judgement ∙ made_from (loan_on v d region section) (Lent d region section loan.block loan.serial) planned.event)
+    go (Err fault) refused = judgement ∙ refused_from (loan_on v d region section) fault refused
+
+-- ---- leases
+
+lease_judgement : (w : World) (lease : Leased) → ticket w ≡ Ok tt → trace_room w ≡ Ok tt → judge w (Gather lease) ≡ (gather_event w.limits.full lease (view lease.device w.state) >>= λ e. Ok (Makes e))
+unfolding judge
+lease_judgement w lease ticket_is room_is = rw (ticket_is, room_is) refl
+
+-- a lease that was compared in the store of its device is judged so
+pub lease_judged : (l : Limits) (base : Base) (x : Devices) (trace : List Event) (w : World) (lease : Leased) (r : Result ⊤ Fault) → AreSet l x → world_in l base x trace ≡ w → x.current ≡ lease.device → ticket w ≡ Ok tt → trace_room w ≡ Ok tt
+    → MatchResult r (λ _. gather_event x.store.limits.full lease x.store.state ≡ Ok (gathered x.store.limits.full lease)) (λ fault. gather_event x.store.limits.full lease x.store.state ≡ Err fault)
+    → IsLeaseJudged w lease r
+lease_judged l base x trace w lease r set same on ticket_is room_is h = subst (λ (v : World). IsLeaseJudged v lease r) same (go r (in_view l x lease.device (λ n m s. MatchResult r (λ _. gather_event m.full lease s ≡ Ok (gathered m.full lease)) (λ fault. gather_event m.full lease s ≡ Err fault)) set on h))
+  where
+    v : World
+    v = world_in l base x trace
+
+    judgement : judge v (Gather lease) ≡ (gather_event l.full lease (view lease.device (whole_of x)) >>= λ e. Ok (Makes e))
+    judgement = lease_judgement v lease (ap (λ (u : World). ticket u) same ∙ ticket_is) (ap (λ (u : World). trace_room u) same ∙ room_is)
+
+    go : (q : Result ⊤ Fault) → MatchResult q (λ _. gather_event l.full lease (view lease.device (whole_of x)) ≡ Ok (gathered l.full lease)) (λ fault. gather_event l.full lease (view lease.device (whole_of x)) ≡ Err fault) → IsLeaseJudged v lease q
+    go (Ok t) made = (made, judgement ∙ made_from _ (gathered l.full lease) made)
+    go (Err fault) refused = judgement ∙ refused_from _ fault refused
+
+-- a device that has nothing has lent nothing
+gather_none : (full : Bool) (lease : Leased) (s : State) (x : OneDevice) → s.records ≡ x.records → x ≡ new_device → gather_event full lease s ≡ Err (NoLease lease.serial)
+unfolding gather_event
+gather_none full lease s x records new = let none : s.records ≡ new_device.records = records ∙ ap (λ (y : OneDevice). y.records) new in rw none refl
+
+-- so a lease of a device that is not there is refused
+pub lease_beyond : (w : World) (lease : Leased) → length w.state.devices ≤ lease.device → ticket w ≡ Ok tt → trace_room w ≡ Ok tt → judge w (Gather lease) ≡ Err (NoLease lease.serial)
+lease_beyond w lease beyond ticket_is room_is = lease_judgement w lease ticket_is room_is ∙ refused_from _ (NoLease lease.serial) (gather_none w.limits.full lease (view lease.device w.state) (device_at lease.device w.state.devices) refl (beyond_new lease.device w.state.devices beyond))

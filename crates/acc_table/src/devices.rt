@@ -1,0 +1,149 @@
+//! What the devices of a table have: one of them is in use, and the others stand apart.
+
+ghost use Rattle.std.specs.Prelude.{◌≡◌, ◌<◌, ◌≤◌, ◌^◌, length, is_some, IfOk, IfErr, IfSome, IfNone};
+ghost use Rattle.acc_base.specs.declared.faults.Fault.TheVariants.{Memory};
+ghost use Rattle.acc_base.specs.Limits.{Limits, limits_on};
+ghost use Rattle.acc_base.specs.Register.{region_at};
+ghost use Rattle.acc_base.specs.Calls.{base_of};
+ghost use Rattle.acc_base.specs.Devices.{device_at, new_whole, open_regions, device_of_region};
+ghost use Rattle.acc_table.specs.Devices.{whole_of, AreSet};
+
+use acc_base::{Config, Fault};
+use acc_clauses::{Base, Spare, Store, View};
+use std::alloc::Global;
+
+/// What the devices of a table have. That of one device stands in the store, with host memory and the numbers that all
+/// share: so a directive on it finds all that it needs in one place, and a table of one device is no slower than a store.
+#[derive(Drop)]
+pub(crate) struct Devices {
+    /// Host memory, the numbers, and what the device in use has.
+    pub(crate) store: Store,
+    /// The number of the device in use.
+    pub(crate) current: u64,
+    /// What the others have, each in the place of its number.
+    pub(crate) spares: Vec<Option<Spare>>,
+}
+
+impl Devices {
+    /// Nothing is mapped on any device, no region is open, and host memory is zero.
+    pub(crate) fn new(alloc: Global, config: &Config) -> Result<Devices, Fault>
+        ensures set { IfOk result (AreSet config.now) }
+        ensures new { IfOk result (λ devices. whole_of devices ≡ new_whole config.now.devices config.now.host) }
+        ensures only { IfErr result (λ fault. fault ≡ Memory) }
+    {
+        config.laws();
+        let store = Store::new(alloc, config, 0)?;
+        let mut spares = Vec::new(alloc);
+        spares.push(None)?;
+        for device in 1..config.devices() {
+            spares.push(Some(Spare::new(alloc, config, device)?))?;
+        }
+        Ok(Devices {
+            store,
+            current: 0,
+            spares,
+        })
+    }
+
+    /// Puts a device in use, which is there. Nothing that any device has changes.
+    pub(crate) fn select(&mut self, device: u64)
+        requires there { device < length self.old.spares.items }
+        requires set { (l : Limits) × AreSet l self.old }
+        ensures set { (l : Limits) → AreSet l self.old → AreSet l self.new }
+        ensures same { whole_of self.new ≡ whole_of self.old }
+        ensures current { self.new.current ≡ device }
+    {
+        if device == self.current {
+            return;
+        }
+        let Some(spare) = self.spares[device as usize].take() else {
+            unreachable!()
+        };
+        let parked = self.store.exchange(spare);
+        self.spares[self.current as usize] = Some(parked);
+        self.current = device;
+    }
+
+    /// What a device has, to look at. `None` exactly where there is no such device.
+    pub(crate) fn view(&self, device: u64) -> Option<View<'_>>
+        requires { (l : Limits) × AreSet l self.now }
+        ensures there { IfSome result (λ v. (l : Limits) → AreSet l self.now → v ≡ record { limits = limits_on device l; device = device_at device (whole_of self.now).devices }) }
+        ensures known { IfSome result (λ _. device < length self.now.spares.items) }
+        ensures none { IfNone result (length self.now.spares.items ≤ device) }
+    {
+        match self.spares.get(device as usize)? {
+            Some(spare) => Some(spare.view()),
+            None => Some(self.store.view()),
+        }
+    }
+
+    /// What all devices have as a base, where so many events had led here: the bytes of all memories with full traces alone.
+    pub(crate) fn base(&self, alloc: Global, config: &Config, events: u64) -> Result<Base, Fault>
+        requires { AreSet config.now self.now }
+        ensures ok { IfOk result (λ base. base ≡ base_of config.now.full (whole_of self.now) events) }
+        ensures only { IfErr result (λ fault. fault ≡ Memory) }
+    {
+        let host = self.store.saved_host(alloc)?;
+        let mut saved = Vec::new(alloc);
+        for device in 0..config.devices() {
+            if let Some(view) = self.view(device) {
+                saved.push(view.saved(alloc)?)?;
+            }
+        }
+        Ok(Base::of(
+            saved,
+            self.store.next_region(),
+            self.store.next_serial(),
+            host,
+            events,
+        ))
+    }
+
+    /// How many of the open data regions were entered on a device.
+    fn regions_on(&self, device: u64) -> u64
+        requires { (l : Limits) × AreSet l self.now }
+        ensures { result ≡ length (device_at device (whole_of self.now).devices).regions }
+    {
+        match self.view(device) {
+            Some(view) => view.regions(),
+            None => 0,
+        }
+    }
+
+    /// How many data regions are open on all devices.
+    pub(crate) fn regions(&self) -> u64
+        requires set { (l : Limits) × AreSet l self.now }
+        requires few { open_regions (whole_of self.now) < 2 ^ 64 }
+        ensures { result ≡ open_regions (whole_of self.now) }
+    {
+        let mut open = 0;
+        for device in 0..self.spares.len() as u64 {
+            open += self.regions_on(device);
+        }
+        open
+    }
+
+    /// Whether a region of the number is open that was entered on a device.
+    fn has_region(&self, device: u64, number: u64) -> bool
+        requires { (l : Limits) × AreSet l self.now }
+        ensures { result ≡ is_some (region_at number (device_at device (whole_of self.now).devices).regions) }
+    {
+        match self.view(device) {
+            Some(view) => view.has_region(number),
+            None => false,
+        }
+    }
+
+    /// The device on which a region of the number is open; 0 where none is.
+    pub(crate) fn device_of_region(&self, number: u64) -> u64
+        requires { (l : Limits) × AreSet l self.now }
+        ensures { result ≡ device_of_region number (whole_of self.now) }
+    {
+        for device in 0..self.spares.len() as u64 {
+            if self.has_region(device, number) {
+                return device;
+            }
+        }
+        0
+    }
+}

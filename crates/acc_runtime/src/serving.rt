@@ -1,11 +1,15 @@
 //! A worker that makes the transfers of the queues that it is told of.
 
-ghost use Rattle.std.specs.Prelude.{◌≡◌, ◌<◌, ◌≤◌, ◌+◌, ◌*◌};
+ghost use Rattle.std.specs.Prelude.{◌≡◌, ◌≤◌, ◌+◌, ◌/◌, ◌%◌, if◌then◌else◌, IfOk, IfErr, OnErr};
+ghost use Rattle.acc_base.specs.declared.calls.Call.TheVariants.{Do};
+ghost use Rattle.acc_base.specs.declared.directives.Directive.TheVariants.{Step};
 ghost use Rattle.acc_base.specs.declared.transfers.TheConstants.{QUEUE_COUNT};
+ghost use Rattle.acc_table.specs.declared.calls.Reply.TheVariants.{Done, Idle};
+ghost use Rattle.acc_runtime.specs.Shared.{WasAccepted, WasRefused};
 
 use crate::callers::Caller;
 use crate::runtime::Runtime;
-use acc_base::QUEUE_COUNT;
+use acc_base::{Fault, QUEUE_COUNT};
 use acc_lend::Gate;
 use crossbeam_channel::Receiver;
 use std::sync::Wait;
@@ -20,29 +24,34 @@ pub struct Served {
     pub refusals: u64,
 }
 
-/// The device of the queue that a word means, and its number there.
-fn queue_of(word: u64) -> (u64, u64)
-    ensures word { result.0 * QUEUE_COUNT + result.1 ≡ word }
-    ensures queue { result.1 < QUEUE_COUNT }
+/// Makes the next transfer of the queue that a word means, and answers whether there was one.
+fn step_of<Regions: Ledger, Tickets: Ledger, Events: Ledger, R: Wait>(
+    rt: &R,
+    runtime: &Runtime<Regions, Tickets, Events>,
+    caller: &mut Caller<Regions, Tickets, Events>,
+    word: u64,
+) -> Result<bool, Fault>
+    ensures accepted { IfOk result (λ made. WasAccepted caller.old (Do (Step (word / QUEUE_COUNT) (word % QUEUE_COUNT))) (if made then Done else Idle) caller.new) }
+    ensures refused { IfErr result (WasRefused caller.old (Do (Step (word / QUEUE_COUNT) (word % QUEUE_COUNT)))) }
+    ensures same { OnErr result (caller.new ≡ caller.old) }
 {
-    (word / QUEUE_COUNT, word % QUEUE_COUNT)
+    runtime.step(rt, caller, word / QUEUE_COUNT, word % QUEUE_COUNT)
 }
 
-/// Steps a queue of a device until it is empty, or a step is refused, or as many are made as a queue may have. Answers
-/// whether one was refused.
+/// Steps the queue that a word means until it is empty, or a step is refused, or as many are made as a queue may have.
+/// Answers whether one was refused.
 fn drain<Regions: Ledger, Tickets: Ledger, Events: Ledger, R: Wait>(
     rt: &R,
     runtime: &Runtime<Regions, Tickets, Events>,
     caller: &mut Caller<Regions, Tickets, Events>,
-    device: u64,
-    queue: u64,
+    word: u64,
 ) -> bool
     ensures events { caller.new.made + caller.new.tickets ≡ caller.old.made + caller.old.tickets }
     ensures more { caller.old.made ≤ caller.new.made }
     ensures allowance { caller.new.allowance ≡ caller.old.allowance }
 {
     for _i in 0..runtime.config().queue_cap() {
-        match runtime.step(rt, caller, device, queue) {
+        match step_of(rt, runtime, caller, word) {
             Ok(true) => {}
             Ok(false) => return false,
             Err(_) => return true,
@@ -74,8 +83,7 @@ pub fn serve<Regions: Ledger, Tickets: Ledger, Events: Ledger, R: Wait, G: Gate<
     let mut refusals: u64 = 0;
     for word in bells.iter(rt) {
         gate.before(rt, number);
-        let (device, queue) = queue_of(word);
-        if drain(rt, runtime, caller, device, queue) {
+        if drain(rt, runtime, caller, word) {
             refusals = refusals.saturating_add(1);
         }
         gate.after(rt, number);

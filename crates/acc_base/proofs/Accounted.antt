@@ -8,16 +8,16 @@ use Rattle.std.proofs.lemmas.List.{length-map, length-set, length-replicate}
 use Rattle.std.proofs.lemmas.List.Sums.{sum_by-set, sum_by-cons}
 use Rattle.acc_base.specs.Words.{Range, Call, Event}
 use Rattle.acc_base.specs.declared.events.Event.TheVariants.{Entered, Left}
-use Rattle.acc_base.specs.Limits.{Limits, IsWithinBounds, limits_on, recorded}
+use Rattle.acc_base.specs.Limits.{Limits, IsWithinBounds, limits_on}
 use Rattle.acc_base.specs.Records.{Layout, State, layout_of, new_state}
-use Rattle.acc_base.specs.Register.{Region, Register}
+use Rattle.acc_base.specs.Register.{Register}
 use Rattle.acc_base.specs.Ranges.{range_of}
 use Rattle.acc_base.specs.Loans.{Leased}
 use Rattle.acc_base.specs.Acting.{after}
-use Rattle.acc_base.specs.Walk.{walk, register_after, holdings_of}
+use Rattle.acc_base.specs.Walk.{register_after, holdings_of}
 use Rattle.acc_base.specs.Replay.{bytes_told}
-use Rattle.acc_base.specs.Devices.{OneDevice, Whole, Shelf, Shelves, device_at, shelf_of, shelves_of, new_device, new_shelf, new_whole, new_shelves, view, with_view, open_regions, device_in, walk_on, walk_all_on, after_on, replayed, recorded_device, recorded_whole}
-use Rattle.acc_base.specs.Calls.{Base, History, World, base_of, new_history, with_event, event_count, rebased, judge, world_after, new_world, bytes_brought}
+use Rattle.acc_base.specs.Devices.{OneDevice, Whole, DeviceLayout, WholeLayout, device_at, device_layout_of, whole_layout_of, new_device, new_device_layout, new_whole, new_whole_layout, view, with_view, open_regions, device_in, walk_on, walk_all_on, after_on, replayed, recorded_device, recorded_whole}
+use Rattle.acc_base.specs.Calls.{History, World, base_of, new_history, with_event, event_count, rebased, judge, world_after, new_world, bytes_brought}
 use Rattle.acc_base.specs.Judge.{Makes}
 use Rattle.acc_base.specs.History.{Past, NamesRight, entries_in, exits_in, IsLegal, IsLegalOn, AreLegal}
 use Rattle.acc_base.specs.Accounts.{IsRegisterSound, AreMemoriesSized, AreRecordsSound, IsTraced, IsFounded, IsHistoryLegal, IsReplayed, IsAccountedOn, IsAccounted, past_on}
@@ -28,30 +28,30 @@ use Rattle.acc_base.proofs.Sound.{new_sound}
 use Rattle.acc_base.proofs.Registers.{IsNumbered, AreFew, register_sound, opened_few, opened_count, holdings_short, closed_few, closed_count}
 use Rattle.acc_base.proofs.Told.{IsLedTo}
 use Rattle.acc_base.proofs.Used.{used_le}
-use Rattle.acc_base.proofs.Memories.{AreBrought, event_sized, new_sized}
+use Rattle.acc_base.proofs.Memories.{event_sized, new_sized}
 use Rattle.acc_base.proofs.Accepted.{IsEntryAllowed, IsAccepted, accepted}
-use Rattle.acc_base.proofs.Views.{view-own, view-other, layout-view, shelves-after}
+use Rattle.acc_base.proofs.Views.{device_beyond, view-own, view-other, layout-view, whole_layout-after}
 use Rattle.acc_base.proofs.OnDevices.{IsDeviceTold, device_told}
 use Rattle.acc_base.proofs.Isolated.{device_alone}
 
 -- ---- the history with one event more
 
-walk_all-push : (events : List Event) (e : Event) (w : Shelves) → walk_all_on (events ++ e ∷ []) w ≡ walk_on e (walk_all_on events w)
+walk_all-push : (events : List Event) (e : Event) (w : WholeLayout) → walk_all_on (events ++ e ∷ []) w ≡ walk_on e (walk_all_on events w)
 unfolding walk_all_on
 walk_all-push [] e w = refl
 walk_all-push (x ∷ events) e w = walk_all-push events e (walk_on x w)
 
-legal-push : (l : Limits) (events : List Event) (e : Event) (w : Shelves) → AreLegal l events w → IsLegalOn l e (walk_all_on events w) → AreLegal l (events ++ e ∷ []) w
+legal-push : (l : Limits) (events : List Event) (e : Event) (w : WholeLayout) → AreLegal l events w → IsLegalOn l e (walk_all_on events w) → AreLegal l (events ++ e ∷ []) w
 unfolding walk_all_on
 legal-push l [] e w h k = (k, tt)
 legal-push l (x ∷ events) e w h k = (h.0, legal-push l events e (walk_on x w) h.1 k)
 
 -- a history that is legal and leads to what the devices have, with one event more that is legal there
-pub history_after : (l : Limits) (h : History) (e : Event) (w new : Shelves) → IsHistoryLegal l h w → IsLegalOn l e w → new ≡ walk_on e w → IsHistoryLegal l (with_event e h) new
+pub history_after : (l : Limits) (h : History) (e : Event) (w new : WholeLayout) → IsHistoryLegal l h w → IsLegalOn l e w → new ≡ walk_on e w → IsHistoryLegal l (with_event e h) new
 history_after l h e w new legal now is = record {
   founded = legal.founded;
-  legal = legal-push l h.trace e (shelves_of h.base.state) legal.legal (subst (IsLegalOn l e) (sym legal.leads) now);
-  leads = walk_all-push h.trace e (shelves_of h.base.state) ∙ (ap (walk_on e) legal.leads ∙ sym is);
+  legal = legal-push l h.trace e (whole_layout_of h.base.state) legal.legal (subst (IsLegalOn l e) (sym legal.leads) now);
+  leads = walk_all-push h.trace e (whole_layout_of h.base.state) ∙ (ap (walk_on e) legal.leads ∙ sym is);
 }
 
 -- ---- the register after an event
@@ -92,10 +92,10 @@ pub record IsKept (l : Limits) (s : State) : Type 0 where
   pub few : AreFew s.register
   pub sized : AreMemoriesSized l s
 
-accounted_on : (l : Limits) (h : History) (d : ℕ) (w : Whole) → IsWithinBounds l → IsHistoryLegal l h (shelves_of w) → d < l.devices → d < length w.devices → IsKept (limits_on d l) (view d w) → IsAccountedOn l h d w
+accounted_on : (l : Limits) (h : History) (d : ℕ) (w : Whole) → IsWithinBounds l → IsHistoryLegal l h (whole_layout_of w) → d < l.devices → d < length w.devices → IsKept (limits_on d l) (view d w) → IsAccountedOn l h d w
 accounted_on l h d w bounds history known there kept =
     let s : State = view d w in
-    let t : IsDeviceTold l h d (layout_of s) = subst (IsDeviceTold l h d) (layout-view d w) (device_told l h (shelves_of w) d bounds history known (omega (arith, there, length-map w.devices shelf_of))) in
+    let t : IsDeviceTold l h d (layout_of s) = subst (IsDeviceTold l h d) (layout-view d w) (device_told l h (whole_layout_of w) d bounds history known (omega (arith, there, length-map w.devices device_layout_of))) in
     record {
       sound = record {
         layout = record { records = t.led.sound; register = register_sound s.register t.led.numbered kept.few; held = t.led.held };
@@ -136,12 +136,12 @@ state_kept true w set = ap (λ (xs : List OneDevice). let v : Whole = record { d
 state_kept false w set = absurd (true≢false (sym set))
 
 -- and any base has all but the bytes
-shelves_all : (full : Bool) (devices : List OneDevice) → map shelf_of (map (recorded_device full) devices) ≡ map shelf_of devices
-shelves_all full [] = refl
-shelves_all full (x ∷ devices) = ap (λ xs. shelf_of x ∷ xs) (shelves_all full devices)
+whole_layout_all : (full : Bool) (devices : List OneDevice) → map device_layout_of (map (recorded_device full) devices) ≡ map device_layout_of devices
+whole_layout_all full [] = refl
+whole_layout_all full (x ∷ devices) = ap (λ xs. device_layout_of x ∷ xs) (whole_layout_all full devices)
 
-shelves_kept : (full : Bool) (w : Whole) → shelves_of (recorded_whole full w) ≡ shelves_of w
-shelves_kept full w = ap (λ (xs : List Shelf). let v : Shelves = record { devices = xs; next = w.next; serial = w.serial } in v) (shelves_all full w.devices)
+whole_layout_kept : (full : Bool) (w : Whole) → whole_layout_of (recorded_whole full w) ≡ whole_layout_of w
+whole_layout_kept full w = ap (λ (xs : List DeviceLayout). let v : WholeLayout = record { devices = xs; next = w.next; serial = w.serial } in v) (whole_layout_all full w.devices)
 
 -- ---- the world after an accepted call
 
@@ -189,10 +189,10 @@ accounted_after w call e bounds ok h =
     many : length next.devices ≡ length w.state.devices
     many = length-set w.state.devices d (record { records = made.records; regions = made.register.regions; memories = made.memories })
 
-    history : IsHistoryLegal l longer (shelves_of next)
+    history : IsHistoryLegal l longer (whole_layout_of next)
     history =
-        let now : IsLegalOn l e (shelves_of w.state) = record { there = omega (arith, ok.there, length-map w.state.devices shelf_of); legal = subst (IsLegal (limits_on d l) e) (sym (layout-view d w.state)) ok.legal } in
-        history_after l w.history e (shelves_of w.state) (shelves_of next) h.history_legal now (shelves-after l.full e (bytes_brought call) w.state)
+        let now : IsLegalOn l e (whole_layout_of w.state) = record { there = omega (arith, ok.there, length-map w.state.devices device_layout_of); legal = subst (IsLegal (limits_on d l) e) (sym (layout-view d w.state)) ok.legal } in
+        history_after l w.history e (whole_layout_of w.state) (whole_layout_of next) h.history_legal now (whole_layout-after l.full e (bytes_brought call) w.state)
 
     here : IsAccountedOn l w.history d w.state
     here = h.devices d (omega (arith, ok.there, h.as_many))
@@ -222,15 +222,10 @@ accounted_after w call e bounds ok h =
         let count : length made.register.regions ≡ length (register_after e (view d w.state).register).regions = ap (λ (g : Register). length g.regions) register_is in
         omega (arith, after_it, count, all_of, open_after d made w.state ok.there)
 
--- a device that is not there has sound records too: those of a new one
-device_beyond : (d : ℕ) (devices : List OneDevice) → length devices ≤ d → device_at d devices ≡ new_device
-device_beyond d [] le = refl
-device_beyond zero (x ∷ devices) le = absurd (omega (arith, le))
-device_beyond (suc d) (x ∷ devices) le = device_beyond d devices (omega (arith, le))
-
 not_below : (a b : ℕ) → nat_lt a b ≡ false → b ≤ a
 not_below a b e = grind (arith, nat_tests)
 
+-- a device that is not there has sound records too: those of a new one
 pub sound_on : (w : World) → IsAccounted w → (d : ℕ) → AreRecordsSound (limits_on d w.limits) (view d w.state).records
 sound_on w h d = go (nat_lt d w.limits.devices) refl
   where
@@ -251,9 +246,9 @@ devices_new zero d = refl
 devices_new (suc n) zero = refl
 devices_new (suc n) (suc d) = devices_new n d
 
-shelves_new : (count : ℕ) → map shelf_of (replicate count new_device) ≡ replicate count new_shelf
-shelves_new zero = refl
-shelves_new (suc n) = ap (λ xs. new_shelf ∷ xs) (shelves_new n)
+whole_layout_new : (count : ℕ) → map device_layout_of (replicate count new_device) ≡ replicate count new_device_layout
+whole_layout_new zero = refl
+whole_layout_new (suc n) = ap (λ xs. new_device_layout ∷ xs) (whole_layout_new n)
 
 none_open : (count : ℕ) → sum_by (λ (x : OneDevice). length x.regions) (replicate count new_device) ≡ 0
 none_open zero = refl
@@ -264,10 +259,10 @@ unfolding walk_all_on replayed
 new_accounted l bounds =
     let w : Whole = new_whole l.devices l.host in
     let h : History = new_history l in
-    let start : new_shelves l.devices ≡ shelves_of w = sym (ap (λ (xs : List Shelf). let v : Shelves = record { devices = xs; next = 1; serial = 1 } in v) (shelves_new l.devices)) in
-    let based : shelves_of h.base.state ≡ shelves_of w = shelves_kept l.full w in
+    let start : new_whole_layout l.devices ≡ whole_layout_of w = sym (ap (λ (xs : List DeviceLayout). let v : WholeLayout = record { devices = xs; next = 1; serial = 1 } in v) (whole_layout_new l.devices)) in
+    let based : whole_layout_of h.base.state ≡ whole_layout_of w = whole_layout_kept l.full w in
     let founded : IsFounded l h.base = record { events = []; count = refl; legal = tt; leads = start ∙ sym based; replayed = λ full. sym (state_kept l.full w full) } in
-    let history : IsHistoryLegal l h (shelves_of w) = record { founded = founded; legal = tt; leads = based } in
+    let history : IsHistoryLegal l h (whole_layout_of w) = record { founded = founded; legal = tt; leads = based } in
     let count : length w.devices ≡ l.devices = length-replicate l.devices new_device in
     record {
       as_many = count;
@@ -282,29 +277,29 @@ new_accounted l bounds =
 -- ---- a world with a new base
 
 -- what one list of events and then another lead to
-walk_all-append : (events more : List Event) (w : Shelves) → walk_all_on (events ++ more) w ≡ walk_all_on more (walk_all_on events w)
+walk_all-append : (events more : List Event) (w : WholeLayout) → walk_all_on (events ++ more) w ≡ walk_all_on more (walk_all_on events w)
 unfolding walk_all_on
 walk_all-append [] more w = refl
 walk_all-append (e ∷ events) more w = walk_all-append events more (walk_on e w)
 
 -- they are legal, one after the other
-legal-append : (l : Limits) (events more : List Event) (w : Shelves) → AreLegal l events w → AreLegal l more (walk_all_on events w) → AreLegal l (events ++ more) w
+legal-append : (l : Limits) (events more : List Event) (w : WholeLayout) → AreLegal l events w → AreLegal l more (walk_all_on events w) → AreLegal l (events ++ more) w
 unfolding walk_all_on
 legal-append l [] more w h k = k
 legal-append l (e ∷ events) more w h k = (h.0, legal-append l events more (walk_on e w) h.1 k)
 
 -- the history of a world founds its base
-founded_by : (w : World) → IsHistoryLegal w.limits w.history (shelves_of w.state) → IsReplayed w → IsFounded w.limits (base_of w.limits.full w.state (event_count w.history))
+founded_by : (w : World) → IsHistoryLegal w.limits w.history (whole_layout_of w.state) → IsReplayed w → IsFounded w.limits (base_of w.limits.full w.state (event_count w.history))
 founded_by w legal replay =
     let l : Limits = w.limits in
     let h : History = w.history in
     let before = legal.founded in
-    let new : Shelves = new_shelves l.devices in
+    let new : WholeLayout = new_whole_layout l.devices in
     record {
       events = before.events ++ h.trace;
       count = length-append before.events h.trace ∙ ap (λ n. n + length h.trace) before.count;
       legal = legal-append l before.events h.trace new before.legal (subst (AreLegal l h.trace) (sym before.leads) legal.legal);
-      leads = walk_all-append before.events h.trace new ∙ (ap (walk_all_on h.trace) before.leads ∙ (legal.leads ∙ sym (shelves_kept l.full w.state)));
+      leads = walk_all-append before.events h.trace new ∙ (ap (walk_all_on h.trace) before.leads ∙ (legal.leads ∙ sym (whole_layout_kept l.full w.state)));
       replayed = λ full. replayed-append before.events h.trace (new_whole l.devices l.host) ∙ (ap (replayed h.trace) (before.replayed full) ∙ (replay full ∙ sym (state_kept l.full w.state full)));
     }
 
@@ -314,7 +309,7 @@ unfolding walk_all_on replayed
 rebased_accounted w bounds h =
     let l : Limits = w.limits in
     let since : History = (rebased w).history in
-    let history : IsHistoryLegal l since (shelves_of w.state) = record { founded = founded_by w h.history_legal h.memories_replayed; legal = tt; leads = shelves_kept l.full w.state } in
+    let history : IsHistoryLegal l since (whole_layout_of w.state) = record { founded = founded_by w h.history_legal h.memories_replayed; legal = tt; leads = whole_layout_kept l.full w.state } in
     record {
       as_many = h.as_many;
       devices = λ d within.

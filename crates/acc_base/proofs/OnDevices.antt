@@ -1,7 +1,6 @@
 -- Over every legal history of several devices: each device's records stay sound, and its counters are counts over its own events.
 use Rattle.std.proofs.Common.{ℕ, zero, suc, ◌≡◌, ◌+◌, ◌<◌, ◌≤◌, refl, sym, ◌∙◌, ap, subst, Bool, true, false, List, [], ◌∷◌, length, arith}
 use Rattle.std.specs.Prelude.{◌==◌, fold, sum_by, replicate, slice_index_or}
-use Rattle.std.specs.List.{AllByRecursion}
 use Rattle.std.proofs.lemmas.List.Sums.{sum_by-cons}
 use Rattle.acc_base.specs.Words.{Event}
 use Rattle.acc_base.specs.declared.events.Event.TheVariants.{Entered, Left, Lent}
@@ -13,8 +12,8 @@ use Rattle.acc_base.specs.Attachments.{count_at}
 use Rattle.acc_base.specs.Walk.{register_after, walk}
 use Rattle.acc_base.specs.Calls.{Base, History}
 use Rattle.acc_base.specs.History.{IsLegal, AreLegal, entries_of, exits_of, dynamic_after, attached_after}
-use Rattle.acc_base.specs.Accounts.{AreRecordsSound, AreAttachmentsTraced, IsFounded, IsHistoryLegal, past_on}
-use Rattle.acc_base.specs.Devices.{Shelf, Shelves, device_at, new_shelf, new_shelves, shelves_of, layout_in, with_layout, view, device_in, events_on, walk_on, walk_all_on}
+use Rattle.acc_base.specs.Accounts.{AreAttachmentsTraced, IsFounded, IsHistoryLegal, past_on}
+use Rattle.acc_base.specs.Devices.{DeviceLayout, WholeLayout, new_device_layout, new_whole_layout, whole_layout_of, layout_in, with_layout, view, device_in, events_on, walk_on, walk_all_on}
 use Rattle.acc_base.proofs.Results.{equal, differ}
 use Rattle.acc_base.proofs.Elements.{AllByRecursion-weaker}
 use Rattle.acc_base.proofs.Told.{IsTold, IsLedTo, walk_told, new_told}
@@ -90,7 +89,7 @@ told_then l e events lay entries exits dynamics pointers h = record {
 -- ---- a list of events
 
 -- what one device's layout is after events of all devices, by those of its own
-pub told_all : (l : Limits) (events : List Event) (w : Shelves) (d : ℕ) (entries exits dynamics : ℕ → ℕ) (pointers : ℕ → ℕ → ℕ) → IsWithinBounds l → d < l.devices → d < length w.devices → IsToldOn (limits_on d l) (layout_in d w) entries exits dynamics pointers → AreLegal l events w
+pub told_all : (l : Limits) (events : List Event) (w : WholeLayout) (d : ℕ) (entries exits dynamics : ℕ → ℕ) (pointers : ℕ → ℕ → ℕ) → IsWithinBounds l → d < l.devices → d < length w.devices → IsToldOn (limits_on d l) (layout_in d w) entries exits dynamics pointers → AreLegal l events w
     → IsToldBy (limits_on d l) (layout_in d (walk_all_on events w)) entries exits dynamics pointers (events_on d events)
 unfolding walk_all_on
 told_all l [] w d entries exits dynamics pointers bounds within there h legal = told_none (limits_on d l) (layout_in d w) entries exits dynamics pointers h
@@ -127,19 +126,19 @@ told_all l (e ∷ events) w d entries exits dynamics pointers bounds within ther
 -- ---- from a new table on
 
 -- all devices stay there
-pub devices_all : (events : List Event) (w : Shelves) → length (walk_all_on events w).devices ≡ length w.devices
+pub devices_all : (events : List Event) (w : WholeLayout) → length (walk_all_on events w).devices ≡ length w.devices
 unfolding walk_all_on
 devices_all [] w = refl
 devices_all (e ∷ events) w = devices_all events (walk_on e w) ∙ devices-layout (device_in e) (walk e (layout_in (device_in e) w)) w
 
-new_at : (count d : ℕ) (x : Shelf) → slice_index_or (replicate count x) d x ≡ x
+new_at : (count d : ℕ) (x : DeviceLayout) → slice_index_or (replicate count x) d x ≡ x
 new_at zero d x = refl
 new_at (suc count) zero x = refl
 new_at (suc count) (suc d) x = new_at count d x
 
 -- each device of a new table is a new one
-pub new_is : (count d : ℕ) → layout_in d (new_shelves count) ≡ new_layout
-new_is count d = ap (λ (x : Shelf). record { records = x.records; register = record { regions = x.regions; next = 1; serial = 1 } }) (new_at count d new_shelf)
+pub new_is : (count d : ℕ) → layout_in d (new_whole_layout count) ≡ new_layout
+new_is count d = ap (λ (x : DeviceLayout). record { records = x.records; register = record { regions = x.regions; next = 1; serial = 1 } }) (new_at count d new_device_layout)
 
 new_on : (l : Limits) → IsToldOn l new_layout (λ b. 0) (λ b. 0) (λ b. 0) (λ b pointer. count_at b pointer new_layout.records.attached)
 new_on l = let told = new_told l in record { told = told; pointed = own_pointers_told l new_layout.records told.sound }
@@ -149,13 +148,13 @@ abbrev IsToldItself : Limits → Layout → Type 0
 IsToldItself l lay = IsToldOn l lay (λ k. structured_of k lay.records.ranges) (λ k. 0) (λ k. dynamic_of k lay.records.ranges) (λ k pointer. count_at k pointer lay.records.attached)
 
 -- the layout of a device of a base is
-base_told : (l : Limits) (b : Base) (d : ℕ) → IsWithinBounds l → IsFounded l b → d < l.devices → d < length (shelves_of b.state).devices → IsToldItself (limits_on d l) (layout_in d (shelves_of b.state))
+base_told : (l : Limits) (b : Base) (d : ℕ) → IsWithinBounds l → IsFounded l b → d < l.devices → d < length (whole_layout_of b.state).devices → IsToldItself (limits_on d l) (layout_in d (whole_layout_of b.state))
 base_told l b d bounds founded known there =
-    let new : Shelves = new_shelves l.devices in
-    let within : d < length new.devices = omega (arith, there, ap (λ (w : Shelves). length w.devices) founded.leads, devices_all founded.events new) in
+    let new : WholeLayout = new_whole_layout l.devices in
+    let within : d < length new.devices = omega (arith, there, ap (λ (w : WholeLayout). length w.devices) founded.leads, devices_all founded.events new) in
     let first = subst (λ (lay : Layout). IsToldOn (limits_on d l) lay (λ k. 0) (λ k. 0) (λ k. 0) (λ k pointer. count_at k pointer new_layout.records.attached)) (sym (new_is l.devices d)) (new_on (limits_on d l)) in
     let all_of = told_all l founded.events new d (λ k. 0) (λ k. 0) (λ k. 0) (λ k pointer. count_at k pointer new_layout.records.attached) bounds known within first founded.legal in
-    subst (λ (w : Shelves). IsToldItself (limits_on d l) (layout_in d w)) founded.leads (record {
+    subst (λ (w : WholeLayout). IsToldItself (limits_on d l) (layout_in d w)) founded.leads (record {
       told = record { sound = all_of.told.sound; numbered = all_of.told.numbered; held = all_of.told.held; structured = λ k. omega arith; dynamic = λ k. refl };
       pointed = own_pointers_told (limits_on d l) _ all_of.told.sound;
     })
@@ -176,13 +175,13 @@ told_since l h d lay all_of = record {
 }
 
 -- a legal history of all devices leads to sound records on each, and its own events tell all three counters there
-pub device_told : (l : Limits) (h : History) (w : Shelves) (d : ℕ) → IsWithinBounds l → IsHistoryLegal l h w → d < l.devices → d < length w.devices → IsDeviceTold l h d (layout_in d w)
+pub device_told : (l : Limits) (h : History) (w : WholeLayout) (d : ℕ) → IsWithinBounds l → IsHistoryLegal l h w → d < l.devices → d < length w.devices → IsDeviceTold l h d (layout_in d w)
 device_told l h w d bounds history known there =
-    let start : Shelves = shelves_of h.base.state in
-    let within : d < length start.devices = omega (arith, there, ap (λ (v : Shelves). length v.devices) history.leads, devices_all h.trace start) in
+    let start : WholeLayout = whole_layout_of h.base.state in
+    let within : d < length start.devices = omega (arith, there, ap (λ (v : WholeLayout). length v.devices) history.leads, devices_all h.trace start) in
     let own : layout_in d start ≡ layout_of (view d h.base.state) = layout-view d h.base.state in
     let first = base_told l h.base d bounds history.founded known within in
     let all_of = told_all l h.trace start d (λ k. structured_of k (layout_in d start).records.ranges) (λ k. 0) (λ k. dynamic_of k (layout_in d start).records.ranges) (λ k pointer. count_at k pointer (layout_in d start).records.attached) bounds known within first history.legal in
-    subst (λ (v : Shelves). IsDeviceTold l h d (layout_in d v)) history.leads
+    subst (λ (v : WholeLayout). IsDeviceTold l h d (layout_in d v)) history.leads
     (told_since l h d (layout_in d (walk_all_on h.trace start))
     (subst (λ (lay : Layout). IsToldBy (limits_on d l) (layout_in d (walk_all_on h.trace start)) (λ k. structured_of k lay.records.ranges) (λ k. 0) (λ k. dynamic_of k lay.records.ranges) (λ k pointer. count_at k pointer lay.records.attached) (events_on d h.trace)) own all_of))

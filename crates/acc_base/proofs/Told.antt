@@ -1,6 +1,6 @@
 -- A legal event keeps the records of its device sound and the numbers of regions rising, and tells both counters of every block.
 use Rattle.std.proofs.Common.{ℕ, ◌≡◌, ◌+◌, ◌-◌, ◌≤◌, ◌<◌, refl, sym, ◌∙◌, ap, subst, Bool, cond, List, [], ◌∷◌, Option, Some, None, arith}
-use Rattle.std.specs.Prelude.{reverse, fold, sum_by, unwrap_or, option_map, IsSome, IfSome, ⊤}
+use Rattle.std.specs.Prelude.{reverse, unwrap_or, option_map, IsSome, IfSome}
 use Rattle.std.specs.List.{AllByRecursion}
 use Rattle.std.proofs.lemmas.List.Sums.{sum_by-cons}
 use Rattle.acc_base.specs.Words.{Item, RegionClause, EnterClause, Range, Holding, Task, Did, Event}

@@ -27,7 +27,6 @@ use Rattle.acc_base.proofs.Judged.{IsJudgedTo, step_judged, task_says, IsStepFre
 use Rattle.acc_base.proofs.Memories.{recounted-block}
 use Rattle.acc_base.proofs.Aimed.{IsAimThere, attach_block, leave_block, exit_block, leave_sound, exit_sound, move_sound, says_aimed, IsLeft, task_left}
 use Rattle.acc_base.proofs.Puts.{acted_sound}
-use Rattle.acc_base.proofs.AllTasks.{AreLeft, all_left}
 
 number_in : Block → ℕ
 number_in b = b.number

@@ -12,7 +12,7 @@ use Rattle.acc_base.specs.Loans.{is_lent}
 use Rattle.acc_base.specs.Register.{Region, Register, held_in}
 use Rattle.acc_base.specs.Records.{Records, Memory, Layout, State, layout_of}
 use Rattle.acc_base.specs.Steps.{is_in_use}
-use Rattle.acc_base.specs.Devices.{Whole, Shelves, device_at, shelf_of, shelves_of, new_whole, new_shelves, open_regions, view, events_on, walk_all_on, replayed, shelf_alone}
+use Rattle.acc_base.specs.Devices.{Whole, WholeLayout, device_at, device_layout_of, whole_layout_of, new_whole, new_whole_layout, open_regions, view, events_on, walk_all_on, replayed, device_layout_alone}
 use Rattle.acc_base.specs.Calls.{Base, History, World, event_count}
 use Rattle.acc_base.specs.History.{Past, entries_in, exits_in, dynamic_in, attached_in, AreLegal}
 
@@ -180,15 +180,15 @@ AreAttachmentsTraced p w = (block pointer : ℕ) → IsSome (block_at block w.bl
 pub record IsFounded (l : Limits) (base : Base) : Type 0 where
   pub events : List Event
   pub count : length events ≡ base.events
-  pub legal : AreLegal l events (new_shelves l.devices)
-  pub leads : walk_all_on events (new_shelves l.devices) ≡ shelves_of base.state
+  pub legal : AreLegal l events (new_whole_layout l.devices)
+  pub leads : walk_all_on events (new_whole_layout l.devices) ≡ whole_layout_of base.state
   pub replayed : l.full ≡ true → replayed events (new_whole l.devices l.host) ≡ base.state
 
 -- the history is legal from its base on and leads to what the devices have but bytes
-pub record IsHistoryLegal (l : Limits) (h : History) (w : Shelves) : Type 0 where
+pub record IsHistoryLegal (l : Limits) (h : History) (w : WholeLayout) : Type 0 where
   pub founded : IsFounded l h.base
-  pub legal : AreLegal l h.trace (shelves_of h.base.state)
-  pub leads : walk_all_on h.trace (shelves_of h.base.state) ≡ w
+  pub legal : AreLegal l h.trace (whole_layout_of h.base.state)
+  pub leads : walk_all_on h.trace (whole_layout_of h.base.state) ≡ w
 
 -- there are no more events than tickets and places in the trace, and no more open regions on all devices than the limit says
 pub record AreBooksCounted (w : World) : Type 0 where
@@ -207,11 +207,11 @@ pub record IsAccountedOn (l : Limits) (h : History) (d : ℕ) (w : Whole) : Type
   pub sound : IsSound (limits_on d l) (view d w)
   pub counters_traced : AllByRecursion (IsTraced (past_on d h)) (view d w).records.ranges
   pub attachments_traced : AreAttachmentsTraced (past_on d h) (view d w).records
-  pub alone : shelf_of (device_at d w.devices) ≡ shelf_alone (shelf_of (device_at d h.base.state.devices)) (events_on d h.trace)
+  pub alone : device_layout_of (device_at d w.devices) ≡ device_layout_alone (device_layout_of (device_at d h.base.state.devices)) (events_on d h.trace)
 
 pub record IsAccounted (w : World) : Type 0 where
   pub as_many : length w.state.devices ≡ w.limits.devices
   pub devices : (d : ℕ) → d < w.limits.devices → IsAccountedOn w.limits w.history d w.state
-  pub history_legal : IsHistoryLegal w.limits w.history (shelves_of w.state)
+  pub history_legal : IsHistoryLegal w.limits w.history (whole_layout_of w.state)
   pub memories_replayed : IsReplayed w
   pub books_counted : AreBooksCounted w

@@ -25,35 +25,35 @@ pub record Whole : Type 0 where
   pub host : List ℕ
 
 -- a device without bytes
-pub record Shelf : Type 0 where
+pub record DeviceLayout : Type 0 where
   pub records : Records
   pub regions : List Region
 
 -- the devices without bytes
-pub record Shelves : Type 0 where
-  pub devices : List Shelf
+pub record WholeLayout : Type 0 where
+  pub devices : List DeviceLayout
   pub next : ℕ
   pub serial : ℕ
 
-abbrev pub shelf_of : OneDevice → Shelf
-shelf_of x = record { records = x.records; regions = x.regions }
+abbrev pub device_layout_of : OneDevice → DeviceLayout
+device_layout_of x = record { records = x.records; regions = x.regions }
 
-abbrev pub shelves_of : Whole → Shelves
-shelves_of w = record { devices = map shelf_of w.devices; next = w.next; serial = w.serial }
+abbrev pub whole_layout_of : Whole → WholeLayout
+whole_layout_of w = record { devices = map device_layout_of w.devices; next = w.next; serial = w.serial }
 
 -- nothing is mapped, no region is open, and no block was born
 abbrev pub new_device : OneDevice
 new_device = record { records = new_records; regions = []; memories = [] }
 
-abbrev pub new_shelf : Shelf
-new_shelf = record { records = new_records; regions = [] }
+abbrev pub new_device_layout : DeviceLayout
+new_device_layout = record { records = new_records; regions = [] }
 
 -- a new table of so many devices, with so many bytes of host memory
 abbrev pub new_whole : ℕ → ℕ → Whole
 new_whole count host = record { devices = replicate count new_device; next = 1; serial = 1; host = replicate host 0 }
 
-abbrev pub new_shelves : ℕ → Shelves
-new_shelves count = record { devices = replicate count new_shelf; next = 1; serial = 1 }
+abbrev pub new_whole_layout : ℕ → WholeLayout
+new_whole_layout count = record { devices = replicate count new_device_layout; next = 1; serial = 1 }
 
 -- how many data regions are open on all devices
 abbrev pub open_regions : Whole → ℕ
@@ -65,8 +65,8 @@ open_regions w = sum_by (λ x. length x.regions) w.devices
 abbrev pub device_at : ℕ → List OneDevice → OneDevice
 device_at d devices = slice_index_or devices d new_device
 
-abbrev pub shelf_at : ℕ → List Shelf → Shelf
-shelf_at d devices = slice_index_or devices d new_shelf
+abbrev pub device_layout_at : ℕ → List DeviceLayout → DeviceLayout
+device_layout_at d devices = slice_index_or devices d new_device_layout
 
 -- what a directive of a device sees: what the device has, with the numbers of all and host memory
 abbrev pub view : ℕ → Whole → State
@@ -87,10 +87,10 @@ with_view d s w = record {
 }
 
 -- the same without bytes
-abbrev pub layout_in : ℕ → Shelves → Layout
-layout_in d w = record { records = (shelf_at d w.devices).records; register = record { regions = (shelf_at d w.devices).regions; next = w.next; serial = w.serial } }
+abbrev pub layout_in : ℕ → WholeLayout → Layout
+layout_in d w = record { records = (device_layout_at d w.devices).records; register = record { regions = (device_layout_at d w.devices).regions; next = w.next; serial = w.serial } }
 
-abbrev pub with_layout : ℕ → Layout → Shelves → Shelves
+abbrev pub with_layout : ℕ → Layout → WholeLayout → WholeLayout
 with_layout d lay w = record { devices = slice_set w.devices d (record { records = lay.records; regions = lay.register.regions }); next = lay.register.next; serial = lay.register.serial }
 
 -- ---- where a region is
@@ -119,10 +119,10 @@ abbrev pub events_on : ℕ → List Event → List Event
 events_on d events = filter (λ e. device_in e == d) events
 
 -- an event leaves of its device what it leaves of that device's layout, and all other devices as they were
-abbrev pub walk_on : Event → Shelves → Shelves
+abbrev pub walk_on : Event → WholeLayout → WholeLayout
 walk_on e w = with_layout (device_in e) (walk e (layout_in (device_in e) w)) w
 
-unfoldable pub walk_all_on : List Event → Shelves → Shelves
+unfoldable pub walk_all_on : List Event → WholeLayout → WholeLayout
 walk_all_on [] w = w
 walk_all_on (e ∷ events) w = walk_all_on events (walk_on e w)
 
@@ -136,14 +136,14 @@ replayed [] w = w
 replayed (e ∷ events) w = replayed events (after_on true e (bytes_told e (view (device_in e) w)) w)
 
 -- what an event leaves of its device, whatever the numbers of the next region and the next loan are: it tells its own
-abbrev pub shelf_left : Shelf → Event → Shelf
-shelf_left x e =
+abbrev pub device_layout_left : DeviceLayout → Event → DeviceLayout
+device_layout_left x e =
     let lay : Layout = walk e (record { records = x.records; register = record { regions = x.regions; next = 0; serial = 0 } }) in
     record { records = lay.records; regions = lay.register.regions }
 
 -- after these events alone
-abbrev pub shelf_alone : Shelf → List Event → Shelf
-shelf_alone x events = fold shelf_left x events
+abbrev pub device_layout_alone : DeviceLayout → List Event → DeviceLayout
+device_layout_alone x events = fold device_layout_left x events
 
 -- ---- what is stored
 

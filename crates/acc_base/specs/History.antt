@@ -18,7 +18,7 @@ use Rattle.acc_base.specs.Pointers.{device_address_of}
 use Rattle.acc_base.specs.Queues.{head_of, queue_named}
 use Rattle.acc_base.specs.Waits.{steps_of, transfers_of}
 use Rattle.acc_base.specs.Walk.{asked_in, done_in}
-use Rattle.acc_base.specs.Devices.{Shelves, device_in, layout_in, walk_on}
+use Rattle.acc_base.specs.Devices.{WholeLayout, device_in, layout_in, walk_on}
 
 -- what a device had when the trace was last made empty, and its events since
 pub record Past : Type 0 where
@@ -136,11 +136,11 @@ pub record IsLegal (l : Limits) (e : Event) (lay : Layout) : Type 0 where
   pub judged : AreJudged l 0 (asked_in e lay.register) (done_in e) lay.records
 
 -- its device is there, and it is legal in that device's layout
-pub record IsLegalOn (l : Limits) (e : Event) (w : Shelves) : Type 0 where
+pub record IsLegalOn (l : Limits) (e : Event) (w : WholeLayout) : Type 0 where
   pub there : device_in e < length w.devices
   pub legal : IsLegal (limits_on (device_in e) l) e (layout_in (device_in e) w)
 
 -- each event in what the events before it left
-abbrev pub AreLegal : Limits → List Event → Shelves → Type 0
+abbrev pub AreLegal : Limits → List Event → WholeLayout → Type 0
 AreLegal l [] w = ⊤
 AreLegal l (e ∷ events) w = IsLegalOn l e w × AreLegal l events (walk_on e w)

@@ -40,7 +40,7 @@ is_within s t = nat_le t.start s.start && nat_le (end_of s) (end_of t)
 abbrev pub is_apart : Section → Section → Bool
 is_apart s t = nat_le (end_of s) t.start || nat_le (end_of t) s.start
 
--- ---- the two memories
+-- ---- host memory, and the memory of a device
 
 -- where host memory begins
 abbrev pub host_base : ℕ

@@ -7,7 +7,7 @@ ghost use Rattle.acc_base.specs.declared.addresses.TheConstants.{DEVICE_BASE};
 use crate::{Fault, MEMORY_MAX};
 use std::marker::Model;
 
-/// The limits of a table: the sizes of its two memories, and how much it may hold.
+/// The limits of a table: the sizes of host memory and of each device's, and how much it may hold.
 ///
 /// Each value lies within the bounds that [`Config::new`] states.
 #[derive(Clone, Copy, Debug, PartialEq, Eq)]
@@ -97,7 +97,7 @@ impl Config {
     }
 
     /// The same limits, of tables whose traces are full: an event then stores the bytes that its call brought, a base the
-    /// bytes of both memories, and a lent block keeps a copy of its bytes. So both memories can be had again from a base
+    /// bytes of all memories, and a lent block keeps a copy of its bytes. So all memories can be had again from a base
     /// and the events since. A counted trace stores none of these.
     pub fn with_full_trace(self) -> Config
         ensures { result ≡ record self { full = true } }

@@ -1,5 +1,8 @@
 //! What an accepted call did, as it is kept in the trace of a table.
 
+ghost use Rattle.std.specs.Prelude.{◌≡◌};
+ghost use Rattle.acc_base.specs.Devices.{device_in};
+
 use crate::{Aim, EnterClause, ExitClause, Item, List, RegionClause, Section, UpdateClause};
 
 /// What an item of a data clause did to mappings, counters and bytes.
@@ -154,4 +157,24 @@ pub enum Event {
         /// The bytes with which the lent section came back, where the trace is full; none where it is counted.
         bytes: List<u8>,
     },
+}
+
+impl Event {
+    /// The number of the device on which it acted; 0 for a write of the host, which is on none.
+    pub fn device(&self) -> u64
+        ensures { result ≡ device_in self.now }
+    {
+        match self {
+            Event::Entered { device, .. } => *device,
+            Event::Left { device, .. } => *device,
+            Event::EnteredData { device, .. } => *device,
+            Event::ExitedData { device, .. } => *device,
+            Event::Updated { device, .. } => *device,
+            Event::Waited { device, .. } => *device,
+            Event::Stepped { device, .. } => *device,
+            Event::HostWritten { .. } => 0,
+            Event::Lent { device, .. } => *device,
+            Event::Gathered { device, .. } => *device,
+        }
+    }
 }

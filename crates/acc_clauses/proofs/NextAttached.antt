@@ -1,5 +1,5 @@
 -- The first attached pointer of a block in a section, from the next pointer at the section's start or behind.
-use Rattle.std.proofs.Common.{ℕ, ◌≡◌, ◌+◌, ◌<◌, ◌≤◌, refl, Bool, true, false, cond, ◌&&◌, List, [], ◌∷◌, Some, None, arith, inl, inr}
+use Rattle.std.proofs.Common.{ℕ, ◌≡◌, ◌<◌, ◌≤◌, refl, Bool, true, false, cond, ◌&&◌, List, [], ◌∷◌, Some, None, arith, inl, inr}
 use Rattle.std.specs.Prelude.{◌==◌, nat_le, nat_lt, find, option_map, unwrap_or}
 use Rattle.std.specs.List.{AllByRecursion}
 use Rattle.std.proofs.lemmas.Bool.Decides.{nat_tests}

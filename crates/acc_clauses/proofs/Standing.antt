@@ -1,17 +1,15 @@
 -- Which blocks have a range, and which have ended and are kept by queued transfers, as the marks of the device tell it.
 use Rattle.std.proofs.lemmas.Bool.Decides.{nat_tests}
-use Rattle.std.proofs.Common.{ℕ, ◌≡◌, ◌<◌, ◌∙◌, ap, Bool, List, [], ◌∷◌, Option, Some, None, arith}
+use Rattle.std.proofs.Common.{ℕ, ◌≡◌, ◌<◌, ◌∙◌, ap, Bool, List, [], ◌∷◌, Option, Some, arith}
 use Rattle.std.specs.Prelude.{◌&&◌, nat_le, filter, is_none, option_map, IfSome, IsSome}
 use Rattle.std.specs.List.{AllByRecursion, AllZip}
 use Rattle.acc_clauses.specs.Words.{Range, Block, Transfer}
-use Rattle.acc_base.specs.Loans.{loan_of}
-use Rattle.acc_dev.specs.Device.{DeviceState, HasBlock, IsLoanOn}
 use Rattle.acc_base.specs.Ranges.{range_of}
 use Rattle.acc_base.specs.Blocks.{block_at, lowest}
 use Rattle.acc_base.specs.Queues.{pins_of}
 use Rattle.acc_base.specs.Waits.{told_ended, ended_from}
 use Rattle.acc_base.specs.Accounts.{IsClearOf, EachPair}
-use Rattle.acc_base.proofs.Elements.{AllByRecursion-weaker, AllByRecursion-filter, EachPair-weaker, found_has}
+use Rattle.acc_base.proofs.Elements.{AllByRecursion-weaker, AllByRecursion-filter, EachPair-weaker}
 use Rattle.acc_base.proofs.Lookups.{at-own}
 use Rattle.acc_base.proofs.KeptMemories.{filter-same}
 use Rattle.acc_dev.specs.Marks.{Mark, pins_at, is_ended_at, ended_told, lowest_ended, IsMarkOf}
@@ -54,9 +52,3 @@ ended_is x from marked clear zip =
     lowest_same from x.present.table.ranges x.queues.queues x.device.marks x.device.blocks
     (AllByRecursion-weaker (λ (b : Block). block_at b.number x.device.blocks ≡ Some b) (λ (b : Block). IsMarkAt x.present.table.ranges x.queues.queues x.device.marks b.number) x.device.blocks
     (λ b own. told_by_mark x b.number marked zip (is_some (block_at b.number x.device.blocks) b own)) (at-own own_number x.device.blocks distinct))
-
--- ---- loans
-
--- a block that is not there is not lent
-pub no_loan : (k : ℕ) (d : DeviceState) → AllByRecursion (IsLoanOn d) d.loans → (HasBlock d k → ⊥) → loan_of k d.loans ≡ None
-no_loan k d h none = grind (arith, nat_tests, found_has)

@@ -1,5 +1,5 @@
 -- What one device has while another is in use, apart from host memory and from the numbers that all devices share.
-use Rattle.std.specs.Prelude.{ℕ, ◌≡◌, List, [], replicate}
+use Rattle.std.specs.Prelude.{ℕ, ◌≡◌, [], replicate}
 use Rattle.acc_base.specs.Limits.{Limits, limits_on}
 use Rattle.acc_base.specs.Records.{State}
 use Rattle.acc_base.specs.Devices.{OneDevice, new_device}

@@ -1,5 +1,5 @@
 -- What one device has, as queries see it, and what holds of every device beside the numbers and host memory.
-use Rattle.std.specs.Prelude.{◌≡◌, length, []}
+use Rattle.std.specs.Prelude.{[]}
 use Rattle.acc_base.specs.Limits.{Limits, IsWithinBounds}
 use Rattle.acc_base.specs.Records.{State}
 use Rattle.acc_base.specs.Devices.{OneDevice}

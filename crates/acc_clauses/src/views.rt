@@ -210,8 +210,7 @@ impl<'a> View<'a> {
     pub fn is_lent(&self, block: u64) -> bool
         ensures { result ≡ is_lent block self.now.device.records.loans }
     {
-        self.environment.device.laws();
-        self.environment.device.has(block) && self.environment.device.loan(block).is_some()
+        self.environment.device.loan(block).is_some()
     }
 
     /// The bytes of a block. `None` exactly where there is no such block, or it is lent.

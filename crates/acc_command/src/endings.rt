@@ -1,6 +1,6 @@
 //! How the program ends, and what it tells then.
 
-use crate::walls::put_numbered;
+use crate::picture_files::put_numbered;
 use acc_base::Fault;
 use acc_emit::{EmitFault, Reason};
 use acc_follow::{Difference, Page};

@@ -4,14 +4,14 @@
 
 mod drills;
 mod endings;
+mod file_stores;
 mod options;
+mod picture_files;
 mod programs;
-mod shelves;
 mod tools;
-mod walls;
 mod words;
 
 pub use endings::tell;
-pub use shelves::{Disk, Shelf};
+pub use file_stores::{Disk, FileStore};
 pub use tools::{CLEAN, FAULTED, REFUSED, tell_words, tool};
 pub use words::{WordsFault, read_words};

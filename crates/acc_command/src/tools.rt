@@ -1,13 +1,13 @@
-//! The program, over any source, any two sinks and any shelf of files.
+//! The program, over any source, any two sinks and any store of files.
 
 ghost use Rattle.std.specs.Prelude.{◌≤◌};
 
 use crate::drills::run_drill;
 use crate::endings::{Mishap, tell, tell_difference, tell_mishap};
+use crate::file_stores::FileStore;
 use crate::options::{Options, parsed_options};
+use crate::picture_files::PictureFiles;
 use crate::programs::emit_script;
-use crate::shelves::Shelf;
-use crate::walls::Wall;
 use crate::words::WordsFault;
 use acc_base::{Config, Fault};
 use acc_follow::{Frame, Output, Page, Setting, Stop, first_difference, follow};
@@ -61,19 +61,19 @@ pub fn tell_words<E: Sink>(err: &mut E, fault: WordsFault) -> u8 {
 /// Parses the command line, runs the script or the drill, flushes the output and answers the status: 0, 1 where a
 /// statement was refused or the output is not as expected, 2 for a fault.
 ///
-/// `words` begins with the program's name. The script is read from `reader`, or is a file of the shelf, and its output
-/// goes to `out`, or is compared with a file of the shelf. For a drill nothing is read. A fault of
+/// `words` begins with the program's name. The script is read from `reader`, or is one of the files, and its output
+/// goes to `out`, or is compared with one of them. For a drill nothing is read. A fault of
 /// the command line is told on `err` in the parser's words, and then nothing is read. Each other fault is told there in
 /// one line, after `out` was flushed: [`Fault::BadConfig`] before those of the run, and [`Fault::Write`] where the
 /// flush fails after a run without fault. Help and the version that were asked for go to `out`, with status 0. A
 /// failure of `err` changes nothing.
-pub fn tool<R: Threads + Wait + Sync + AllocGlobal, S: Source, O: Output, E: Sink, D: Shelf>(
+pub fn tool<R: Threads + Wait + Sync + AllocGlobal, S: Source, O: Output, E: Sink, D: FileStore>(
     rt: &R,
     words: Vec<String>,
     reader: &mut S,
     out: &mut O,
     err: &mut E,
-    shelf: &D,
+    files: &D,
 ) -> u8 {
     let options = match parsed_options(rt.alloc(), &words) {
         Ok(options) => options,
@@ -81,8 +81,8 @@ pub fn tool<R: Threads + Wait + Sync + AllocGlobal, S: Source, O: Output, E: Sin
     };
     let mut reason = Page::new(rt.alloc());
     let ending = match options.expect {
-        Some(name) => compared(rt, options, name, reader, err, shelf, &mut reason),
-        None => carried_out(rt, options, reader, out, err, shelf, &mut reason),
+        Some(name) => compared(rt, options, name, reader, err, files, &mut reason),
+        None => carried_out(rt, options, reader, out, err, files, &mut reason),
     };
     match flushed(out, ending) {
         Ok(Status::Clean) => CLEAN,
@@ -107,59 +107,73 @@ fn flushed<'a, O: Output>(
 }
 
 /// Does what the options say, within the program's limits.
-fn carried_out<'a, R: Threads + Wait + Sync + AllocGlobal, S: Source, O: Output, E: Sink, D: Shelf>(
+fn carried_out<
+    'a,
+    R: Threads + Wait + Sync + AllocGlobal,
+    S: Source,
+    O: Output,
+    E: Sink,
+    D: FileStore,
+>(
     rt: &R,
     options: Options<'a>,
     reader: &mut S,
     out: &mut O,
     err: &mut E,
-    shelf: &D,
+    files: &D,
     reason: &mut Page,
 ) -> Result<Status, Mishap<'a>> {
     let config = limits(options)?;
     match (options.drill, options.file) {
         (Some(rounds), _) => Ok(drill_threads(rt, options, config, rounds, out)?),
-        (None, Some(name)) => run_file(rt, options, config, name, out, err, shelf, reason),
-        (None, None) => use_script(rt, options, config, reader, out, err, shelf, reason),
+        (None, Some(name)) => run_file(rt, options, config, name, out, err, files, reason),
+        (None, None) => use_script(rt, options, config, reader, out, err, files, reason),
     }
 }
 
 /// Runs the script of a file.
-fn run_file<'a, R: Threads + Wait + Sync + AllocGlobal, O: Output, E: Sink, D: Shelf>(
+fn run_file<'a, R: Threads + Wait + Sync + AllocGlobal, O: Output, E: Sink, D: FileStore>(
     rt: &R,
     options: Options<'a>,
     config: Config,
     name: &'a str,
     out: &mut O,
     err: &mut E,
-    shelf: &D,
+    files: &D,
     reason: &mut Page,
 ) -> Result<Status, Mishap<'a>> {
-    let script = read_file(shelf, name)?;
+    let script = read_file(files, name)?;
     let mut reader = MemorySource::new(&script);
-    use_script(rt, options, config, &mut reader, out, err, shelf, reason)
+    use_script(rt, options, config, &mut reader, out, err, files, reason)
 }
 
 /// Runs the script within these limits, or emits it as a program.
-fn use_script<'a, R: Threads + Wait + Sync + AllocGlobal, S: Source, O: Output, E: Sink, D: Shelf>(
+fn use_script<
+    'a,
+    R: Threads + Wait + Sync + AllocGlobal,
+    S: Source,
+    O: Output,
+    E: Sink,
+    D: FileStore,
+>(
     rt: &R,
     options: Options<'a>,
     config: Config,
     reader: &mut S,
     out: &mut O,
     err: &mut E,
-    shelf: &D,
+    files: &D,
     reason: &mut Page,
 ) -> Result<Status, Mishap<'a>> {
     if options.emit {
         return emit_script(rt, options, config, reader, out);
     }
-    run_script(rt, options, config, reader, out, err, shelf, reason)
+    run_script(rt, options, config, reader, out, err, files, reason)
 }
 
 /// The bytes of a file.
-fn read_file<'a, D: Shelf>(shelf: &D, name: &'a str) -> Result<Vec<u8>, Mishap<'a>> {
-    match shelf.read(name) {
+fn read_file<'a, D: FileStore>(files: &D, name: &'a str) -> Result<Vec<u8>, Mishap<'a>> {
+    match files.read(name) {
         Ok(bytes) => Ok(bytes),
         Err(Fault::Memory) => Err(Mishap::Fault(Fault::Memory)),
         Err(_) => Err(Mishap::Unread(name)),
@@ -167,18 +181,18 @@ fn read_file<'a, D: Shelf>(shelf: &D, name: &'a str) -> Result<Vec<u8>, Mishap<'
 }
 
 /// Does what the options say, and compares the output with a file in place of writing it.
-fn compared<'a, R: Threads + Wait + Sync + AllocGlobal, S: Source, E: Sink, D: Shelf>(
+fn compared<'a, R: Threads + Wait + Sync + AllocGlobal, S: Source, E: Sink, D: FileStore>(
     rt: &R,
     options: Options<'a>,
     name: &'a str,
     reader: &mut S,
     err: &mut E,
-    shelf: &D,
+    files: &D,
     reason: &mut Page,
 ) -> Result<Status, Mishap<'a>> {
-    let expected = read_file(shelf, name)?;
+    let expected = read_file(files, name)?;
     let mut found = MemorySink::new(rt.alloc());
-    match carried_out(rt, options, reader, &mut found, err, shelf, reason) {
+    match carried_out(rt, options, reader, &mut found, err, files, reason) {
         Ok(_) => Ok(agreement(rt, &expected, found.as_slice(), err)),
         // This sink fails for want of memory alone.
         Err(Mishap::Fault(Fault::Write)) => Err(Mishap::Fault(Fault::Memory)),
@@ -203,14 +217,21 @@ fn agreement<R: AllocGlobal, E: Sink>(
 }
 
 /// Runs the script within these limits, and shows more of it where that is asked for.
-fn run_script<'a, R: Threads + Wait + Sync + AllocGlobal, S: Source, O: Output, E: Sink, D: Shelf>(
+fn run_script<
+    'a,
+    R: Threads + Wait + Sync + AllocGlobal,
+    S: Source,
+    O: Output,
+    E: Sink,
+    D: FileStore,
+>(
     rt: &R,
     options: Options<'a>,
     config: Config,
     reader: &mut S,
     out: &mut O,
     err: &mut E,
-    shelf: &D,
+    files: &D,
     reason: &mut Page,
 ) -> Result<Status, Mishap<'a>> {
     let parts = threads(options);
@@ -223,13 +244,13 @@ fn run_script<'a, R: Threads + Wait + Sync + AllocGlobal, S: Source, O: Output, 
         parts,
         views,
     };
-    let wall = Wall {
-        shelf,
+    let pictures = PictureFiles {
+        files,
         alloc: rt.alloc(),
         last: options.svg,
         each: options.svg_every,
     };
-    match follow(rt, setting, reader, out, err, &wall, reason) {
+    match follow(rt, setting, reader, out, err, &pictures, reason) {
         Ok(status) => Ok(status),
         Err(stop) => Err(mishap_of(options, stop)),
     }

@@ -1,7 +1,7 @@
 //! What the program does, over sources and sinks in memory.
 
 use acc_base::Fault;
-use acc_command::{Shelf, WordsFault, read_words, tell_words, tool};
+use acc_command::{FileStore, WordsFault, read_words, tell_words, tool};
 use acc_script::{MemorySink, MemorySource};
 use programs::{NO_PROGRAMS, PROGRAMS, ProgramRow};
 use rows::{
@@ -49,7 +49,7 @@ const FILES: [(&str, &str); 4] = [
     ("other.out", "line 3: refused 11 NotPresent item 0\nno\n"),
 ];
 
-/// The shelf of these files. It takes pictures too, and looks whether each has some texts.
+/// A store of these files. It takes pictures too, and looks whether each has some texts.
 #[derive(Drop)]
 struct Pages {
     alloc: Global,
@@ -59,7 +59,7 @@ struct Pages {
     pictures: Cell<u64>,
 }
 
-impl Shelf for Pages {
+impl FileStore for Pages {
     fn read(&self, name: &str) -> Result<Vec<u8>, Fault> {
         for (file, text) in &FILES {
             if *file == name {
@@ -87,8 +87,8 @@ fn has_part(name: &str, text: &str, part: &str) -> bool {
     name == part || text.contains(part)
 }
 
-/// The shelf on which tests find files.
-fn shelf(alloc: Global) -> Pages {
+/// The store in which tests find files.
+fn files(alloc: Global) -> Pages {
     Pages {
         alloc,
         wanted: &[],
@@ -106,7 +106,7 @@ fn run_tool<R: Threads + Wait + Sync + AllocGlobal>(
 ) -> Result<u8, AllocError> {
     let words = words(rt.alloc(), options)?;
     let mut reader = MemorySource::new(script.as_bytes());
-    Ok(tool(rt, words, &mut reader, out, err, &shelf(rt.alloc())))
+    Ok(tool(rt, words, &mut reader, out, err, &files(rt.alloc())))
 }
 
 /// Compares what was found at a place with what is wanted there.

@@ -5,7 +5,7 @@ use Rattle.acc_base.specs.Bytes.{bytes_of}
 use Rattle.std.specs.List.{AllByRecursion}
 use Rattle.acc_base.specs.declared.addresses.TheConstants.{MEMORY_MAX}
 use Rattle.acc_base.specs.declared.loans.Loan.{Loan}
-use Rattle.acc_base.specs.Loans.{Leased, is_lent, len_of, is_loan_of}
+use Rattle.acc_base.specs.Loans.{Leased, loan_of, is_lent, len_of, is_loan_of}
 use Rattle.acc_base.specs.Leases.{is_kept_outside, is_returnable}
 use Rattle.acc_base.proofs.Results.{and_true, equal}
 use Rattle.acc_placement.specs.Space.{Space}
@@ -39,9 +39,13 @@ returnable_at s xs k lease kept is rise backed slot here =
     ap₂ (λ (o : Option Loan) (n : ℕ). is_loan_of lease o && n == length lease.bytes && (not kept || is_kept_outside lease (bytes_of lease.block (memories_in s xs)))) (loan_of_slot s xs lease.block k rise backed slot) (long_at s xs lease.block k rise slot)
     ∙ (ap (λ (bytes : List ℕ). is_loan_of lease (stored_loan (get_or s k None)) && stored_len (get_or s k None) == length lease.bytes && (not kept || is_kept_outside lease bytes)) (bytes_at s xs lease.block k rise slot) ∙ sym here)
 
+-- a block that is not there is not lent
+pub not_lent : (s : List (Option Stored)) (xs : List (ℕ × ℕ)) (n : ℕ) → AreBacked s xs → AllByRecursion (λ e. e.0 ≡ n → ⊥) xs → loan_of n (loans_in s xs) ≡ None
+not_lent s xs n backed none = loan_of-none n (loans_in s xs) (loans_all (λ m. m ≡ n → ⊥) s xs backed none)
+
 -- a lease of a block that is not there brings none back
 pub unknown_block : (s : List (Option Stored)) (xs : List (ℕ × ℕ)) (lease : Leased) (kept : Bool) → AreBacked s xs → AllByRecursion (λ e. e.0 ≡ lease.block → ⊥) xs → is_returnable kept lease (blocks_in s xs) (loans_in s xs) (memories_in s xs) ≡ false
-unknown_block s xs lease kept backed none = rw (loan_of-none lease.block (loans_in s xs) (loans_all (λ n. n ≡ lease.block → ⊥) s xs backed none))
+unknown_block s xs lease kept backed none = rw (not_lent s xs lease.block backed none)
 
 -- a lease that brings its block back has as many bytes as it is long
 pub long_lease : (o : Option Stored) (lease : Leased) (kept is : Bool) → is ≡ is_back_at kept lease o → is ≡ true → stored_len o ≡ length lease.bytes

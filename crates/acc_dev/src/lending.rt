@@ -77,12 +77,12 @@ impl Device {
         Ok(())
     }
 
-    /// The loan of a block of the device; `None` exactly where it is not lent.
+    /// The loan of a block; `None` exactly where the device has no such block, or it is not lent.
     pub fn loan(&self, block: u64) -> Option<Loan>
-        requires { HasBlock self.now block }
         ensures { result ≡ loan_of block self.now.loans }
     {
-        self.stored(block).loan
+        let slot = self.index.slot(block)?;
+        loan_at(&self.slab, slot)
     }
 
     /// Whether [`Device::put_back`] takes a lease. It needs no memory.

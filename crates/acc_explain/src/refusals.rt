@@ -58,21 +58,9 @@ pub fn explain_refusal(
 /// The device that a statement is for; 0 for one that is for none.
 fn device_of(table: &Table, statement: &Statement<'_>) -> u64 {
     match statement {
-        Statement::Direct(directive) => directive_device(table, directive),
+        Statement::Direct(directive) => table.device_for(directive),
         Statement::Kernel { region, .. } => table.device_of_region(*region),
         _ => 0,
-    }
-}
-
-fn directive_device(table: &Table, directive: &Directive) -> u64 {
-    match directive {
-        Directive::Enter { device, .. }
-        | Directive::EnterData { device, .. }
-        | Directive::ExitData { device, .. }
-        | Directive::Update { device, .. }
-        | Directive::Wait { device, .. }
-        | Directive::Step { device, .. } => *device,
-        Directive::Exit { number } => table.device_of_region(*number),
     }
 }
 

@@ -1,7 +1,7 @@
 //! Follows a script.
 
-use crate::galleries::{Frame, Gallery, Stop};
 use crate::outputs::Output;
+use crate::picture_sinks::{Frame, PictureSink, Stop};
 use crate::report_objects::put_report;
 use acc_base::{Config, Event, Fault, ScriptFault};
 use acc_explain::{explain_fault, explain_refusal, explain_unclosed, is_pragma, warn_of_pragma};
@@ -56,37 +56,43 @@ pub struct Setting {
 
 /// Reads a whole script and runs it as `acc_script::run` does, line by line on a new table of these limits, and shows
 /// more of it. The log and what is explained go to `err`, each line's behind what it prints; why a line is at fault goes
-/// to `reason`, since that stands behind the fault itself. Pictures go to the gallery.
+/// to `reason`, since that stands behind the fault itself. Pictures go to `pictures`.
 ///
 /// # Errors
 ///
 /// Those of `acc_script::run`; what the lines before the fault print was written. Memory may be wanting for what is
 /// shown, too. [`Stop::Picture`] where a picture cannot be kept. A failure of `err` changes nothing.
-pub fn follow<R: Threads + Wait + Sync + AllocGlobal, S: Source, O: Output, E: Sink, G: Gallery>(
+pub fn follow<
+    R: Threads + Wait + Sync + AllocGlobal,
+    S: Source,
+    O: Output,
+    E: Sink,
+    G: PictureSink,
+>(
     rt: &R,
     setting: Setting,
     reader: &mut S,
     out: &mut O,
     err: &mut E,
-    gallery: &G,
+    pictures: &G,
     reason: &mut Page,
 ) -> Result<Status, Stop> {
     let input = read_all(rt.alloc(), reader)?;
-    follow_input(rt, setting, &input, out, err, gallery, reason)
+    follow_input(rt, setting, &input, out, err, pictures, reason)
 }
 
 /// Follows the script of an input, on a new table.
-fn follow_input<R: Threads + Wait + Sync + AllocGlobal, O: Output, E: Sink, G: Gallery>(
+fn follow_input<R: Threads + Wait + Sync + AllocGlobal, O: Output, E: Sink, G: PictureSink>(
     rt: &R,
     setting: Setting,
     input: &[u8],
     out: &mut O,
     err: &mut E,
-    gallery: &G,
+    pictures: &G,
     reason: &mut Page,
 ) -> Result<Status, Stop> {
     let mut follower = follower_of(rt, setting)?;
-    follower.follow(rt, input, out, err, gallery, reason)
+    follower.follow(rt, input, out, err, pictures, reason)
 }
 
 /// How a script ended, where its log was written to its end or not.
@@ -124,45 +130,45 @@ struct Follower {
 
 impl Follower {
     /// Follows a whole script, and ends its log.
-    fn follow<R: Threads + Wait + Sync + AllocGlobal, O: Output, E: Sink, G: Gallery>(
+    fn follow<R: Threads + Wait + Sync + AllocGlobal, O: Output, E: Sink, G: PictureSink>(
         &mut self,
         rt: &R,
         input: &[u8],
         out: &mut O,
         err: &mut E,
-        gallery: &G,
+        pictures: &G,
         reason: &mut Page,
     ) -> Result<Status, Stop> {
-        let ending = self.script(rt, input, out, err, gallery, reason);
+        let ending = self.script(rt, input, out, err, pictures, reason);
         let is_told = self.end_log(out, err);
         ended(ending, is_told)
     }
 
     /// Runs a whole script, and draws what it leaves.
-    fn script<R: Threads + Wait + Sync + AllocGlobal, O: Output, E: Sink, G: Gallery>(
+    fn script<R: Threads + Wait + Sync + AllocGlobal, O: Output, E: Sink, G: PictureSink>(
         &mut self,
         rt: &R,
         input: &[u8],
         out: &mut O,
         err: &mut E,
-        gallery: &G,
+        pictures: &G,
         reason: &mut Page,
     ) -> Result<Status, Stop> {
-        let status = self.lines(rt, input, out, err, gallery, reason)?;
+        let status = self.lines(rt, input, out, err, pictures, reason)?;
         if self.views.picture {
-            self.draw(rt, Frame::Last, &[], gallery)?;
+            self.draw(rt, Frame::Last, &[], pictures)?;
         }
         Ok(status)
     }
 
     /// Follows all lines of an input.
-    fn lines<R: Threads + Wait + Sync + AllocGlobal, O: Output, E: Sink, G: Gallery>(
+    fn lines<R: Threads + Wait + Sync + AllocGlobal, O: Output, E: Sink, G: PictureSink>(
         &mut self,
         rt: &R,
         input: &[u8],
         out: &mut O,
         err: &mut E,
-        gallery: &G,
+        pictures: &G,
         reason: &mut Page,
     ) -> Result<Status, Stop> {
         let mut rest = input;
@@ -176,24 +182,24 @@ impl Follower {
             let (line, after) = next_line(rest);
             done = done.saturating_add(1);
             refused |= self.line(rt, done, line, out, err, reason)?;
-            self.draw_line(rt, done, line, gallery)?;
+            self.draw_line(rt, done, line, pictures)?;
             rest = after;
         }
         Ok(self.end_at(done.saturating_add(1), refused, reason)?)
     }
 
     /// Draws what a line left, where it is a directive or a kernel that was done and each of these is drawn.
-    fn draw_line<R: AllocGlobal, G: Gallery>(
+    fn draw_line<R: AllocGlobal, G: PictureSink>(
         &mut self,
         rt: &R,
         number: u64,
         line: &[u8],
-        gallery: &G,
+        pictures: &G,
     ) -> Result<(), Stop> {
         if !self.views.pictures || !self.is_picture_due() {
             return Ok(());
         }
-        self.draw(rt, Frame::Line(number), statement_text(line), gallery)
+        self.draw(rt, Frame::Line(number), statement_text(line), pictures)
     }
 
     /// Whether there is an event that was not there before, and that is no write of the host.
@@ -205,16 +211,16 @@ impl Follower {
     }
 
     /// Draws the memories.
-    fn draw<R: AllocGlobal, G: Gallery>(
+    fn draw<R: AllocGlobal, G: PictureSink>(
         &self,
         rt: &R,
         frame: Frame,
         text: &[u8],
-        gallery: &G,
+        pictures: &G,
     ) -> Result<(), Stop> {
         let mut page = Page::new(rt.alloc());
         self.put_picture(rt, &mut page, frame, text)?;
-        gallery.keep(frame, page.whole()?)
+        pictures.keep(frame, page.whole()?)
     }
 
     /// Puts the picture of the memories.

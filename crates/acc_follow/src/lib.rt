@@ -3,12 +3,12 @@
 
 mod differences;
 mod follows;
-mod galleries;
 mod outputs;
+mod picture_sinks;
 mod report_objects;
 
 pub use acc_page::{Names, Page, Spot, statement_text};
 pub use differences::{Difference, first_difference};
 pub use follows::{Setting, Views, fault_of, follow, write_page};
-pub use galleries::{Frame, Gallery, Stop};
 pub use outputs::Output;
+pub use picture_sinks::{Frame, PictureSink, Stop};

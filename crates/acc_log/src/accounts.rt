@@ -23,7 +23,7 @@ impl Placed {
     }
 }
 
-/// A copy of a section between the two memories.
+/// A copy of a section between host memory and a device.
 #[derive(Clone, Copy)]
 pub struct Copied {
     /// The section of host memory.

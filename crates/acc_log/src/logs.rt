@@ -109,7 +109,7 @@ impl Log {
 
     /// Tells the event at a place of the trace.
     fn tell_event(&mut self, names: &Names, trace: &[Event], at: usize, event: &Event) {
-        self.account.device = device_of(event).unwrap_or(0);
+        self.account.device = event.device();
         match event {
             Event::Entered {
                 number,
@@ -321,19 +321,11 @@ impl Log {
     }
 }
 
-/// The device on which an event was; none for a write of the host.
+/// The device on which an event acted; none for a write of the host.
 fn device_of(event: &Event) -> Option<u64> {
     match event {
-        Event::Entered { device, .. }
-        | Event::Left { device, .. }
-        | Event::EnteredData { device, .. }
-        | Event::ExitedData { device, .. }
-        | Event::Updated { device, .. }
-        | Event::Waited { device, .. }
-        | Event::Stepped { device, .. }
-        | Event::Lent { device, .. }
-        | Event::Gathered { device, .. } => Some(*device),
         Event::HostWritten { .. } => None,
+        _ => Some(event.device()),
     }
 }
 

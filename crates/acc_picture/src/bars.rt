@@ -1,4 +1,4 @@
-//! The two memories to scale, as bars.
+//! Host memory and the device's to scale, as bars.
 
 use crate::gathering::{Entry, Kind};
 use crate::places::{BAR_HEIGHT, BAR_WIDTH, BAR_X, MARGIN};

@@ -1,4 +1,4 @@
-//! What a table has in its two memories.
+//! What a table has in host memory and on one device.
 
 use acc_base::{HOST_BASE, Section};
 use acc_table::{Mapped, Table};

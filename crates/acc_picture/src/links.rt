@@ -1,4 +1,4 @@
-//! Lines between the rows of the two memories, from a mapped range to its block.
+//! Lines between the rows of host memory and of the device, from a mapped range to its block.
 
 use crate::device_rows::{DeviceRow, row_at};
 use crate::places::{DEVICE_X, HOST_END, middle_of};

@@ -192,7 +192,7 @@ fn put_queue(page: &mut Page, queue: u64, len: u64) {
     page.number(len);
 }
 
-/// Puts the two memories to scale.
+/// Puts host memory and the device's to scale.
 fn put_bars(page: &mut Page, table: &Table, scene: &Scene) {
     let config = table.config();
     put_host_bar(page, 78, config.host(), &scene.ranges);

@@ -1,5 +1,5 @@
 -- One device after the other: their bases, their open regions, and the one on which a region is open.
-use Rattle.std.proofs.Common.{ℕ, zero, suc, ◌≡◌, ◌+◌, ◌<◌, ◌≤◌, refl, sym, ◌∙◌, ap, Bool, true, false, List, [], ◌∷◌, ◌++◌, append_assoc, length, drop, Option, Some, None, cond, arith}
+use Rattle.std.proofs.Common.{ℕ, ◌≡◌, ◌+◌, ◌<◌, ◌≤◌, refl, sym, ◌∙◌, ap, Bool, true, false, List, [], ◌∷◌, ◌++◌, append_assoc, length, drop, Option, Some, None, cond, arith}
 use Rattle.std.specs.Prelude.{map, nat_lt, slice_index_or, is_some, sum_by, unwrap_or, max, ◌==◌, IfSome, IfNone}
 use Rattle.std.specs.List.{position_or_len}
 use Rattle.std.proofs.lemmas.Bool.Decides.{nat_tests}
@@ -11,6 +11,7 @@ use Rattle.acc_base.specs.Calls.{Base, base_of}
 use Rattle.acc_base.specs.Register.{region_at, newest_region}
 use Rattle.acc_base.specs.Devices.{OneDevice, Whole, device_at, new_device, open_regions, device_of_region, recorded_device}
 use Rattle.acc_base.proofs.Results.{equal, differ}
+use Rattle.acc_base.proofs.Views.{device_beyond}
 use Rattle.acc_clauses.specs.Views.{Seen, device_in_view}
 use Rattle.acc_clauses.specs.Spares.{Parked}
 use Rattle.acc_table.specs.declared.devices.Devices.{Devices}
@@ -22,12 +23,6 @@ use Rattle.acc_table.proofs.Selecting.{is_apart}
 -- there are as many devices as places
 pub devices_count : (x : Devices) → length (whole_of x).devices ≡ length x.spares.items
 devices_count x = length-map x.spares.items (device_or (device_in_view x.store.state))
-
--- a device that is not there has what a new one has
-pub beyond_new : (d : ℕ) (devices : List OneDevice) → length devices ≤ d → device_at d devices ≡ new_device
-beyond_new d [] le = refl
-beyond_new zero (x ∷ devices) le = absurd (omega (arith, le))
-beyond_new (suc d) (x ∷ devices) le = beyond_new d devices (omega (arith, le))
 
 -- ---- the view of one
 
@@ -60,7 +55,7 @@ seen_known l x d None set h = tt
 
 pub seen_none : (l : Limits) (x : Devices) (d : ℕ) (r : Option Seen) → AreSet l x → IfNone r (length x.spares.items ≤ d) → IfNone r (device_at d (whole_of x).devices ≡ new_device)
 seen_none l x d (Some v) set h = tt
-seen_none l x d None set h = beyond_new d (whole_of x).devices (omega (arith, h, devices_count x))
+seen_none l x d None set h = device_beyond d (whole_of x).devices (omega (arith, h, devices_count x))
 
 -- ---- bases
 

@@ -9,14 +9,14 @@ use Rattle.acc_base.specs.Register.{Region, Register, region_at, newest_region, 
 use Rattle.acc_base.specs.Records.{Layout}
 use Rattle.acc_base.specs.Walk.{register_after, holdings_of, walk}
 use Rattle.acc_base.specs.History.{NamesRight, IsLegalOn, AreLegal}
-use Rattle.acc_base.specs.Devices.{OneDevice, Whole, Shelves, device_at, new_shelves, shelves_of, layout_in, device_in, device_of_region, walk_on, walk_all_on}
+use Rattle.acc_base.specs.Devices.{OneDevice, Whole, WholeLayout, device_at, new_whole_layout, whole_layout_of, layout_in, device_in, device_of_region, walk_on, walk_all_on}
 use Rattle.acc_base.specs.Accounts.{EachPair, IsAccounted}
 use Rattle.acc_base.specs.Calls.{World}
 use Rattle.acc_base.proofs.Results.{equal, equal_self, differ}
-use Rattle.acc_base.proofs.Views.{layout-own, layout-other, layout-view}
+use Rattle.acc_base.proofs.Views.{device_beyond, layout-own, layout-other, layout-view}
 use Rattle.acc_base.proofs.OnDevices.{new_is}
 use Rattle.acc_table.specs.Queries.{later, newest_of, IsOpenOn, IsLastEntered}
-use Rattle.acc_table.proofs.AllDevices.{beyond_new, region_found}
+use Rattle.acc_table.proofs.AllDevices.{region_found}
 
 nothing_open : {P : Type 0} → IsSome (region_at 0 []) → P
 nothing_open h = let never : false ≡ true = h in absurd cc
@@ -71,12 +71,12 @@ at_after l _ lay m names h = inr h
 -- ---- all devices
 
 -- no region is open on two devices, and each that is open is below the next one
-pub record AreRegionsApart (w : Shelves) : Type 0 where
+pub record AreRegionsApart (w : WholeLayout) : Type 0 where
   pub apart : (number d k : ℕ) → IsSome (region_at number (layout_in d w).register.regions) → IsSome (region_at number (layout_in k w).register.regions) → d ≡ k
   pub known : (number d : ℕ) → IsSome (region_at number (layout_in d w).register.regions) → number < w.next
 
 -- a region that is open after an event is the one that was entered, or was open before
-was_open : (l : Limits) (e : Event) (w : Shelves) (number d : ℕ) → IsLegalOn l e w → IsSome (region_at number (layout_in d (walk_on e w)).register.regions)
+was_open : (l : Limits) (e : Event) (w : WholeLayout) (number d : ℕ) → IsLegalOn l e w → IsSome (region_at number (layout_in d (walk_on e w)).register.regions)
     → ((d ≡ device_in e) × (number ≡ w.next) × ((walk_on e w).next ≡ w.next + 1)) ⊎ IsSome (region_at number (layout_in d w).register.regions)
 unfolding walk
 was_open l e w number d legal h = go (d == device_in e) refl
@@ -104,7 +104,7 @@ was_open l e w number d legal h = go (d == device_in e) refl
         inr (subst (λ (x : Layout). IsSome (region_at number x.register.regions)) same h)
 
 -- numbers rise
-next_rises : (e : Event) (w : Shelves) → w.next ≤ (walk_on e w).next
+next_rises : (e : Event) (w : WholeLayout) → w.next ≤ (walk_on e w).next
 unfolding walk
 next_rises e w = go e (layout_in (device_in e) w).register
   where
@@ -114,7 +114,7 @@ next_rises e w = go e (layout_in (device_in e) w).register
     go (Lent device region section block serial) g = omega arith
     go _ g = omega arith
 
-apart_after : (l : Limits) (e : Event) (w : Shelves) → IsLegalOn l e w → AreRegionsApart w → AreRegionsApart (walk_on e w)
+apart_after : (l : Limits) (e : Event) (w : WholeLayout) → IsLegalOn l e w → AreRegionsApart w → AreRegionsApart (walk_on e w)
 apart_after l e w legal h = record { apart = apart; known = known }
   where
     apart : (number d k : ℕ) → IsSome (region_at number (layout_in d (walk_on e w)).register.regions) → IsSome (region_at number (layout_in k (walk_on e w)).register.regions) → d ≡ k
@@ -135,27 +135,27 @@ apart_after l e w legal h = record { apart = apart; known = known }
       | inr old ↦ omega (arith, h.known number d old, next_rises e w)
     ]
 
-apart_all : (l : Limits) (events : List Event) (w : Shelves) → AreLegal l events w → AreRegionsApart w → AreRegionsApart (walk_all_on events w)
+apart_all : (l : Limits) (events : List Event) (w : WholeLayout) → AreLegal l events w → AreRegionsApart w → AreRegionsApart (walk_all_on events w)
 unfolding walk_all_on
 apart_all l [] w legal h = h
 apart_all l (e ∷ events) w legal h = apart_all l events (walk_on e w) legal.1 (apart_after l e w legal.0 h)
 
-apart_new : (count : ℕ) → AreRegionsApart (new_shelves count)
+apart_new : (count : ℕ) → AreRegionsApart (new_whole_layout count)
 apart_new count = record { apart = λ number d k x y. none number d x; known = λ number d x. none number d x }
   where
-    none : {P : Type 0} (number d : ℕ) → IsSome (region_at number (layout_in d (new_shelves count)).register.regions) → P
+    none : {P : Type 0} (number d : ℕ) → IsSome (region_at number (layout_in d (new_whole_layout count)).register.regions) → P
     none number d x = nothing_open (subst (λ (lay : Layout). IsSome (region_at number lay.register.regions)) (new_is count d) x)
 
 -- so on the devices of every table
-pub apart_world : (w : World) → IsAccounted w → AreRegionsApart (shelves_of w.state)
+pub apart_world : (w : World) → IsAccounted w → AreRegionsApart (whole_layout_of w.state)
 apart_world w h =
     let legal = h.history_legal in
-    let founded = apart_all w.limits legal.founded.events (new_shelves w.limits.devices) legal.founded.legal (apart_new w.limits.devices) in
-    let base : AreRegionsApart (shelves_of w.history.base.state) = subst AreRegionsApart legal.founded.leads founded in
-    subst AreRegionsApart legal.leads (apart_all w.limits w.history.trace (shelves_of w.history.base.state) legal.legal base)
+    let founded = apart_all w.limits legal.founded.events (new_whole_layout w.limits.devices) legal.founded.legal (apart_new w.limits.devices) in
+    let base : AreRegionsApart (whole_layout_of w.history.base.state) = subst AreRegionsApart legal.founded.leads founded in
+    subst AreRegionsApart legal.leads (apart_all w.limits w.history.trace (whole_layout_of w.history.base.state) legal.legal base)
 
-open_shelf : (number d : ℕ) (w : Whole) → IsOpenOn number d w → IsSome (region_at number (layout_in d (shelves_of w)).register.regions)
-open_shelf number d w h = subst (λ (lay : Layout). IsSome (region_at number lay.register.regions)) (sym (layout-view d w)) h
+open_device_layout : (number d : ℕ) (w : Whole) → IsOpenOn number d w → IsSome (region_at number (layout_in d (whole_layout_of w)).register.regions)
+open_device_layout number d w h = subst (λ (lay : Layout). IsSome (region_at number lay.register.regions)) (sym (layout-view d w)) h
 
 -- a region is open on the device where it is found, and on no other
 pub region_placed : (w : World) → IsAccounted w → (number d : ℕ) → IsOpenOn number d w.state → d ≡ device_of_region number w.state
@@ -166,11 +166,11 @@ region_placed w h number d here = go (nat_lt d (length w.state.devices)) refl
 
     before : (k : ℕ) → k < d → (b : Bool) → p k ≡ b → p k ≡ false
     before k lt false e = e
-    before k lt true e = absurd (let same : k ≡ d = (apart_world w h).apart number k d (open_shelf number k w.state e) (open_shelf number d w.state here) in omega (arith, same, lt))
+    before k lt true e = absurd (let same : k ≡ d = (apart_world w h).apart number k d (open_device_layout number k w.state e) (open_device_layout number d w.state here) in omega (arith, same, lt))
 
     go : (b : Bool) → nat_lt d (length w.state.devices) ≡ b → d ≡ device_of_region number w.state
     go true e = let there : d < length w.state.devices = grind (arith, nat_tests) in region_found number d w.state there (λ k lt. before k lt (p k) refl) here
-    go false e = let high : length w.state.devices ≤ d = grind (arith, nat_tests) in nothing_open (subst (λ (x : OneDevice). IsSome (region_at number x.regions)) (beyond_new d w.state.devices high) here)
+    go false e = let high : length w.state.devices ≤ d = grind (arith, nat_tests) in nothing_open (subst (λ (x : OneDevice). IsSome (region_at number x.regions)) (device_beyond d w.state.devices high) here)
 
 -- ---- the region that was entered last
 
@@ -256,7 +256,7 @@ rising_on w h d = go (nat_lt d w.limits.devices) refl
     go true e = let there : d < w.limits.devices = grind (arith, nat_tests) in (h.devices d there).sound.layout.register.rising
     go false e =
         let high : w.limits.devices ≤ d = grind (arith, nat_tests) in
-        subst (λ (x : OneDevice). EachPair (λ (r : Region) (t : Region). r.number < t.number) x.regions) (sym (beyond_new d w.state.devices (omega (arith, high, h.as_many)))) tt
+        subst (λ (x : OneDevice). EachPair (λ (r : Region) (t : Region). r.number < t.number) x.regions) (sym (device_beyond d w.state.devices (omega (arith, high, h.as_many)))) tt
 
 -- the open region that was entered last on all devices has the greatest number
 pub last_entered : (w : World) → IsAccounted w → IsLastEntered w.state (newest_of w.state.devices)

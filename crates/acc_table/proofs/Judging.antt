@@ -12,12 +12,12 @@ use Rattle.acc_base.specs.Loans.{Leased}
 use Rattle.acc_base.specs.Devices.{OneDevice, new_device, device_at, view, device_of_region}
 use Rattle.acc_base.specs.Judge.{Verdict, Makes, lend_event, gathered, gather_event}
 use Rattle.acc_base.specs.Calls.{Base, World, judge, ticket, trace_room, loan_on}
+use Rattle.acc_base.proofs.Views.{device_beyond}
 use Rattle.acc_clauses.specs.Lending.{IsLoanPlanned}
 use Rattle.acc_table.specs.declared.devices.Devices.{Devices}
 use Rattle.acc_table.specs.Devices.{whole_of, AreSet}
 use Rattle.acc_table.specs.Making.{IsLoanJudged, IsLeaseJudged}
 use Rattle.acc_table.proofs.Verdicts.{world_in, state_used}
-use Rattle.acc_table.proofs.AllDevices.{beyond_new}
 
 -- ---- the device in use
 
@@ -92,4 +92,4 @@ gather_none full lease s x records new = let none : s.records ≡ new_device.rec
 
 -- so a lease of a device that is not there is refused
 pub lease_beyond : (w : World) (lease : Leased) → length w.state.devices ≤ lease.device → ticket w ≡ Ok tt → trace_room w ≡ Ok tt → judge w (Gather lease) ≡ Err (NoLease lease.serial)
-lease_beyond w lease beyond ticket_is room_is = lease_judgement w lease ticket_is room_is ∙ refused_from _ (NoLease lease.serial) (gather_none w.limits.full lease (view lease.device w.state) (device_at lease.device w.state.devices) refl (beyond_new lease.device w.state.devices beyond))
+lease_beyond w lease beyond ticket_is room_is = lease_judgement w lease ticket_is room_is ∙ refused_from _ (NoLease lease.serial) (gather_none w.limits.full lease (view lease.device w.state) (device_at lease.device w.state.devices) refl (device_beyond lease.device w.state.devices beyond))

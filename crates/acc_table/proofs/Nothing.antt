@@ -13,8 +13,8 @@ use Rattle.acc_base.specs.Waits.{ended_from}
 use Rattle.acc_base.specs.Register.{newest_region}
 use Rattle.acc_base.specs.Devices.{OneDevice, device_at, new_device, view}
 use Rattle.acc_base.specs.Calls.{World}
+use Rattle.acc_base.proofs.Views.{device_beyond}
 use Rattle.acc_table.specs.Laws.{IsUnknown}
-use Rattle.acc_table.proofs.AllDevices.{beyond_new}
 use Rattle.acc_table.specs.Queries.{is_inside, counters_inside, counters_of_section, attached_inside, first_attached, mapped_from, device_read_in, device_read_of}
 
 pub inside_none : (s : Section) → is_inside (where_is s []) ≡ false
@@ -55,4 +55,4 @@ unknown_beyond w d beyond = record {
 }
   where
     new : device_at d w.state.devices ≡ new_device
-    new = beyond_new d w.state.devices beyond
+    new = device_beyond d w.state.devices beyond

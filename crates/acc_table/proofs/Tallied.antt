@@ -34,6 +34,7 @@ use Rattle.acc_base.proofs.Registers.{IsNumbered, opened_count, closed_one}
 use Rattle.acc_base.proofs.Accepted.{accepted}
 use Rattle.acc_base.proofs.Accounted.{open_after, open_on}
 use Rattle.acc_base.proofs.Sound.{new_sound}
+use Rattle.acc_base.proofs.Views.{device_beyond}
 use Rattle.std.proofs.lemmas.Bool.Decides.{nat_tests}
 use Rattle.acc_table.specs.declared.calls.Reply.{Reply}
 use Rattle.acc_table.specs.declared.calls.Reply.TheVariants as replies
@@ -42,7 +43,6 @@ use Rattle.acc_table.specs.Counts.{is_entry, is_exit, answers_idle, IsCountedOnc
 use Rattle.acc_table.specs.Laws.{IsLawful, IsLawfulOn}
 use Rattle.acc_table.specs.Queries.{counters_inside, counters_of_section}
 use Rattle.acc_table.proofs.Replying.{seen_by, judged_as, made_of}
-use Rattle.acc_table.proofs.AllDevices.{beyond_new}
 
 -- ---- an event, and the call that made it
 
@@ -124,7 +124,7 @@ records_sound w h d = go (nat_lt d w.limits.devices) refl
         record { ranges_apart = on.ranges; blocks_apart = on.blocks; one_block_each = on.owned; counted = on.counted; attached = on.attached; queues = on.queues; loans = on.loans }
     go false beyond =
         let high : w.limits.devices ≤ d = grind (arith, nat_tests) in
-        subst (λ (x : OneDevice). AreRecordsSound (limits_on d w.limits) x.records) (sym (beyond_new d w.state.devices (omega (arith, h.count, high)))) (new_sound (limits_on d w.limits))
+        subst (λ (x : OneDevice). AreRecordsSound (limits_on d w.limits) x.records) (sym (device_beyond d w.state.devices (omega (arith, h.count, high)))) (new_sound (limits_on d w.limits))
 
 event_counted : (w : World) (call : Call Leased) (e : Event) → IsLawful w → judge w call ≡ Ok (Makes e) → IsCountedOnce call (reply_in e w) w (world_after call e w)
 unfolding world_after after

@@ -13,7 +13,7 @@ use Rattle.acc_base.specs.Waits.{ended_from}
 use Rattle.acc_base.specs.Register.{newest_region}
 use Rattle.acc_base.specs.Holes.{IsDevice}
 use Rattle.acc_base.specs.Records.{layout_of}
-use Rattle.acc_base.specs.Devices.{view, device_at, device_of_region, shelf_of, shelves_of, events_on, shelf_alone}
+use Rattle.acc_base.specs.Devices.{view, device_at, device_of_region, device_layout_of, whole_layout_of, events_on, device_layout_alone}
 use Rattle.acc_base.specs.Accounts.{AreRangesApart, AreBlocksApart, HasOneBlockEach, IsCounted, IsTraced, AreHeld, IsRegisterSound, AreAttachmentsSound, AreAttachmentsTraced, AreQueuesSound, AreLoansSound, AreMemoriesSized, IsHistoryLegal, IsReplayed, AreBooksCounted, past_on}
 use Rattle.acc_base.specs.Calls.{World}
 use Rattle.acc_table.specs.Queries.{is_inside, first_attached, counters_of_section, mapped_from, device_read_of, IsOpenOn}
@@ -47,7 +47,7 @@ pub record IsLawfulOn (w : World) (d : ℕ) : Type 0 where
   -- host memory has its size, and each block that is not lent has a memory of its length
   pub memories : AreMemoriesSized (limits_on d w.limits) (view d w.state)
   -- whatever happened on other devices, the device has what its own events alone lead to
-  pub alone : shelf_of (device_at d w.state.devices) ≡ shelf_alone (shelf_of (device_at d w.history.base.state.devices)) (events_on d w.history.trace)
+  pub alone : device_layout_of (device_at d w.state.devices) ≡ device_layout_alone (device_layout_of (device_at d w.history.base.state.devices)) (events_on d w.history.trace)
 
 -- the world keeps each law
 pub record IsLawful (w : World) : Type 0 where
@@ -60,7 +60,7 @@ pub record IsLawful (w : World) : Type 0 where
   -- no region is open on two devices: it is open on the one where it is found
   pub placed : (number d : ℕ) → IsOpenOn number d w.state → d ≡ device_of_region number w.state
   -- the history is legal, and leads to what the devices have
-  pub history : IsHistoryLegal w.limits w.history (shelves_of w.state)
+  pub history : IsHistoryLegal w.limits w.history (whole_layout_of w.state)
   -- with full traces all memories, and all else, are what the stored events give from the base on; of a lent block that is the copy that is kept
   pub replayed : IsReplayed w
   -- there are no more events than tickets and places in the trace, and no more open regions than the limit says

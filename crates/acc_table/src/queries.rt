@@ -3,7 +3,7 @@
 ghost use Rattle.std.specs.Prelude.{◌≡◌, ◌-◌, ◌<◌, ◌≤◌, ◌↔◌, None, IsTrue, IfSome, IfNone, length, option_map};
 ghost use Rattle.acc_base.specs.Blocks.{used_bytes};
 ghost use Rattle.acc_base.specs.Limits.{limits_on};
-ghost use Rattle.acc_base.specs.Calls.{event_count};
+ghost use Rattle.acc_base.specs.Calls.{event_count, device_for};
 ghost use Rattle.acc_base.specs.Devices.{device_at, new_device, view, open_regions, device_of_region};
 ghost use Rattle.acc_base.specs.Register.{newest_region};
 ghost use Rattle.acc_base.specs.Ranges.{where_is, IsPlacedAt};
@@ -17,7 +17,7 @@ ghost use Rattle.acc_table.specs.Queries.{is_inside, counters_of_section, mapped
 
 use crate::calls::Mapped;
 use crate::tables::Table;
-use acc_base::{Attachment, Config, Counters, Ended, Event, Found, Hole, Section};
+use acc_base::{Attachment, Config, Counters, Directive, Ended, Event, Found, Hole, Section};
 use acc_clauses::{Base, View};
 
 /// The section is inside one range.
@@ -220,6 +220,22 @@ impl Table {
         ensures there { result < self.now.limits.devices }
     {
         self.devices.device_of_region(number)
+    }
+
+    /// The device for which a directive is: the one that it names, or that of the region that it leaves; 0 where no such
+    /// region is open. It need not be there.
+    pub fn device_for(&self, directive: &Directive) -> u64
+        ensures { result ≡ device_for directive.now self.now.state }
+    {
+        match directive {
+            Directive::Enter { device, .. } => *device,
+            Directive::Exit { number } => self.device_of_region(*number),
+            Directive::EnterData { device, .. } => *device,
+            Directive::ExitData { device, .. } => *device,
+            Directive::Update { device, .. } => *device,
+            Directive::Wait { device, .. } => *device,
+            Directive::Step { device, .. } => *device,
+        }
     }
 
     /// How many more data regions may be opened.

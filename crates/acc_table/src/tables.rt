@@ -234,21 +234,6 @@ impl Table {
         }
     }
 
-    /// The device that a directive names, or that of the region that it leaves.
-    fn device_for(&self, directive: &Directive) -> u64
-        ensures { result ≡ device_for directive.now self.now.state }
-    {
-        match directive {
-            Directive::Enter { device, .. } => *device,
-            Directive::Exit { number } => self.device_of_region(*number),
-            Directive::EnterData { device, .. } => *device,
-            Directive::ExitData { device, .. } => *device,
-            Directive::Update { device, .. } => *device,
-            Directive::Wait { device, .. } => *device,
-            Directive::Step { device, .. } => *device,
-        }
-    }
-
     /// The device of a directive, or what is refused before its items are judged.
     #[tactic(auto, unfolding(crate::specs::Making::admitted))]
     fn admit(&self, directive: &Directive) -> Result<u64, Fault>

@@ -118,22 +118,6 @@ fn copies_of_exit(clause: ExitClause) -> Copies {
     Copies { into, zero, out }
 }
 
-/// The device of an event. A write of the host is on none, and counts as the first one's.
-fn device_of(event: &Event) -> u64 {
-    match event {
-        Event::Entered { device, .. }
-        | Event::Left { device, .. }
-        | Event::EnteredData { device, .. }
-        | Event::ExitedData { device, .. }
-        | Event::Updated { device, .. }
-        | Event::Waited { device, .. }
-        | Event::Stepped { device, .. }
-        | Event::Lent { device, .. }
-        | Event::Gathered { device, .. } => *device,
-        Event::HostWritten { .. } => 0,
-    }
-}
-
 impl Replay {
     /// So many bytes of host memory, which are zero, and no block.
     pub fn new(alloc: Global, host: usize) -> Result<Replay, AllocError> {
@@ -374,7 +358,7 @@ impl Replay {
 
     /// Does what an event tells.
     pub fn tell(&mut self, alloc: Global, event: &Event) -> Result<(), AllocError> {
-        self.device = device_of(event);
+        self.device = event.device();
         match event {
             Event::Entered {
                 number,

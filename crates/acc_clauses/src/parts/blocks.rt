@@ -47,12 +47,7 @@ impl Parts {
     pub(crate) fn loan(&self, block: u64) -> Option<Loan>
         ensures { result ≡ loan_of block self.now.state.records.loans }
     {
-        self.environment.device.laws();
-        if self.environment.device.has(block) {
-            self.environment.device.loan(block)
-        } else {
-            None
-        }
+        self.environment.device.loan(block)
     }
 
     /// Whether a block is lent.

@@ -1,4 +1,4 @@
-//! The bytes of both memories, and the pointers among them.
+//! The bytes of host memory and of one device, and the pointers among them.
 
 ghost use Rattle.std.specs.Prelude.{◌≡◌, ◌^◌, ◌<◌, ◌≤◌, IfSome, IfNone, Some, true, false};
 ghost use Rattle.acc_base.specs.Section.{is_within, host_memory};

@@ -1,6 +1,6 @@
 //! What the program tells where a source or a sink fails.
 
-use super::{check_status, same, shelf, words};
+use super::{check_status, files, same, words};
 use acc_command::tool;
 use acc_follow::Output;
 use acc_script::{MemorySink, MemorySource, Sink, Source, ToWrite};
@@ -83,7 +83,7 @@ fn check_failed_read<R: Threads + Wait + Sync + AllocGlobal + Abort>(
     let mut reader = FailingSource {
         bytes: b"report\nreport\n",
     };
-    let status = tool(rt, words, &mut reader, out, err, &shelf(rt.alloc()));
+    let status = tool(rt, words, &mut reader, out, err, &files(rt.alloc()));
     check_status(rt, err, status, "accrun: 20 Read\n", 2, "a failed read");
     Ok(())
 }
@@ -190,7 +190,7 @@ fn check_output_over<R: Threads + Wait + Sync + AllocGlobal + Abort, O: Output>(
         taken,
         seen: None,
     };
-    let found = tool(rt, words, &mut reader, out, &mut err, &shelf(rt.alloc()));
+    let found = tool(rt, words, &mut reader, out, &mut err, &files(rt.alloc()));
     check_status(rt, &err.text, found, told, status, script);
     same(rt, taken.get(), wanted, script);
     let is_told = !told.is_empty();
@@ -247,7 +247,7 @@ fn run_fault<R: Threads + Wait + Sync + AllocGlobal>(
     let words = words(rt.alloc(), "")?;
     let mut reader = MemorySource::new(b"array\n");
     let mut out = MemorySink::new(rt.alloc());
-    Ok(tool(rt, words, &mut reader, &mut out, err, &shelf(rt.alloc())))
+    Ok(tool(rt, words, &mut reader, &mut out, err, &files(rt.alloc())))
 }
 
 #[test]

@@ -116,16 +116,16 @@ fn check_row<R: Threads + Wait + Sync + AllocGlobal + Abort>(
     err: &mut MemorySink,
 ) -> Result<(), AllocError> {
     let (options, script, status, wanted, count) = row;
-    let shelf = Pages {
+    let files = Pages {
         alloc: rt.alloc(),
         wanted,
         pictures: Cell::new(0),
     };
     let words = words(rt.alloc(), options)?;
     let mut reader = MemorySource::new(script.as_bytes());
-    let found = tool(rt, words, &mut reader, out, err, &shelf);
+    let found = tool(rt, words, &mut reader, out, err, &files);
     same(rt, found, status, options);
-    same(rt, shelf.pictures.get(), count, options);
+    same(rt, files.pictures.get(), count, options);
     Ok(())
 }
 

@@ -1,6 +1,5 @@
-use Rattle.std.proofs.Common.{◌∙◌, sym, ap, arith, inl, inr}
+use Rattle.std.proofs.Common.{◌∙◌, sym, arith, inl, inr}
 use Rattle.acc_base.proofs.Judged.{not_lent_says}
-use Rattle.acc_base.specs.Limits.{Limits}
 use Rattle.acc_base.specs.Pointers.{device_pointer}
 use Rattle.acc_clauses.specs.Overlays.{records_after, state_after}
 use Rattle.acc_clauses.proofs.AimsValued.{aligned}

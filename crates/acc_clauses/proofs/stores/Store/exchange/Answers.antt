@@ -1,4 +1,4 @@
-use Rattle.std.proofs.Common.{ℕ, ◌≡◌, ◌≤◌, refl, sym, ◌∙◌, subst, length, arith}
+use Rattle.std.proofs.Common.{◌≡◌, ◌≤◌, refl, sym, ◌∙◌, subst}
 use Rattle.acc_base.specs.Limits.{Limits}
 use Rattle.acc_clauses.specs.declared.environments.Apart.{Apart}
 use Rattle.acc_clauses.specs.Contents.{Contents, beside, contents_of}

@@ -12,7 +12,7 @@ pub enum Frame {
 }
 
 /// Keeps pictures.
-pub trait Gallery {
+pub trait PictureSink {
     /// Keeps a picture, a file of SVG.
     ///
     /// # Errors

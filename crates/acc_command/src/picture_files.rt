@@ -1,15 +1,15 @@
 //! The files that pictures become.
 
-use crate::shelves::Shelf;
+use crate::file_stores::FileStore;
 use acc_base::Fault;
-use acc_follow::{Frame, Gallery, Page, Stop};
+use acc_follow::{Frame, Page, PictureSink, Stop};
 use std::alloc::Global;
 
-/// Hangs pictures as files of a shelf.
+/// Keeps pictures as files.
 #[derive(Clone, Copy)]
-pub struct Wall<'a, D> {
-    /// The shelf.
-    pub shelf: &'a D,
+pub struct PictureFiles<'a, D> {
+    /// Where the files are.
+    pub files: &'a D,
     /// The allocator.
     pub alloc: Global,
     /// The file of the picture at the end, if there is one.
@@ -18,13 +18,13 @@ pub struct Wall<'a, D> {
     pub each: Option<&'a str>,
 }
 
-impl<D: Shelf> Gallery for Wall<'_, D> {
+impl<D: FileStore> PictureSink for PictureFiles<'_, D> {
     fn keep(&self, frame: Frame, picture: &[u8]) -> Result<(), Stop> {
-        let is_hung = match frame {
-            Frame::Last => self.hang(self.last.unwrap_or(""), picture),
-            Frame::Line(number) => self.hang_numbered(number, picture)?,
+        let is_written = match frame {
+            Frame::Last => self.write(self.last.unwrap_or(""), picture),
+            Frame::Line(number) => self.write_numbered(number, picture)?,
         };
-        if is_hung {
+        if is_written {
             Ok(())
         } else {
             Err(Stop::Picture(frame))
@@ -32,17 +32,17 @@ impl<D: Shelf> Gallery for Wall<'_, D> {
     }
 }
 
-impl<D: Shelf> Wall<'_, D> {
-    fn hang(&self, name: &str, picture: &[u8]) -> bool {
-        self.shelf.write(name, picture)
+impl<D: FileStore> PictureFiles<'_, D> {
+    fn write(&self, name: &str, picture: &[u8]) -> bool {
+        self.files.write(name, picture)
     }
 
-    /// Hangs the picture behind the line of a number.
-    fn hang_numbered(&self, number: u64, picture: &[u8]) -> Result<bool, Fault> {
+    /// Writes the picture behind the line of a number.
+    fn write_numbered(&self, number: u64, picture: &[u8]) -> Result<bool, Fault> {
         let mut page = Page::new(self.alloc);
         put_numbered(&mut page, self.each.unwrap_or(""), number);
         let name = page.whole()?;
-        Ok(str::from_utf8(name).is_ok_and(|name| self.hang(name, picture)))
+        Ok(str::from_utf8(name).is_ok_and(|name| self.write(name, picture)))
     }
 }
 

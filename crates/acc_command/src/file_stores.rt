@@ -7,7 +7,7 @@ use std::io::Write;
 use std::rt::Files;
 
 /// Where files are.
-pub trait Shelf {
+pub trait FileStore {
     /// The bytes of a file.
     ///
     /// # Errors
@@ -27,7 +27,7 @@ pub struct Disk<'a, R> {
     pub rt: &'a R,
 }
 
-impl<R: Files + AllocGlobal> Shelf for Disk<'_, R> {
+impl<R: Files + AllocGlobal> FileStore for Disk<'_, R> {
     fn read(&self, name: &str) -> Result<Vec<u8>, Fault> {
         match fs::open(self.rt, name) {
             Ok(file) => read_all(self.rt.alloc(), &mut FromRead::new(file)),

@@ -28,11 +28,11 @@ extern "C" {
 
 /* ---- Statuses ---- */
 
-/* What a call answers: LW_DONE, or why it was refused. A refused call changes nothing. */
+/* What a call answers: LW_DONE, or why it was refused. A refused call fills in its fault, and changes nothing else. */
 enum {
     LW_DONE = 0,           /* it is done */
-    LW_MEMORY = 1,         /* no memory could be had: for the list of a directive's items or the bytes of a write, which
-                              is told before all that a table refuses; else it is told last of all */
+    LW_MEMORY = 1,         /* no memory could be had. For the list of a directive's items, the bytes of a write or one
+                              more lease it is told before all that a table refuses; else it is told last of all */
     LW_BAD_CONFIG = 2,     /* a limit is out of its bounds */
     LW_NO_TICKETS = 3,     /* there are as many events as there may be; value: how many are left, 0 */
     LW_NO_ALLOWANCE = 4,   /* there are as many open data regions as there may be; value: how many are left, 0 */
@@ -136,7 +136,9 @@ typedef struct lw_item {
 
 /* ---- Directives ---- */
 
-/* Items act in their order. LW_BAD_CLAUSE tells the first one whose clause is none of the directive's. */
+/* Items act in their order. LW_BAD_CLAUSE tells the first one whose clause is none of the directive's. LW_LENT where a
+   block is lent whose counter an item takes down, whose bytes it copies at once, or in which it attaches or detaches a
+   pointer. */
 
 /* The start of a data construct (section 2.6.5). region: the number by which lw_exit exits from it. */
 uint32_t lw_enter(lw_table *table, const lw_item *items, size_t count, uint64_t *region, lw_fault *fault);
@@ -180,7 +182,8 @@ uint32_t lw_device_read(lw_table *table, uint64_t start, uint8_t *bytes, size_t 
 /* ---- Kernels: a loan of the device's bytes (section 2.5, compute constructs) ---- */
 
 /* Lends the device's bytes of a section, which lies in one mapped range, in an open data region. lease: the number of
-   the lease. Until lw_gather spends it, no other call reads or writes these bytes. */
+   the lease. Until lw_gather spends it, lw_lease_read and lw_lease_write alone reach these bytes. The whole block is
+   lent: LW_LENT where it is already. */
 uint32_t lw_lend(lw_table *table, uint64_t region, uint64_t start, uint64_t len, uint64_t *lease, lw_fault *fault);
 
 /* Copies the bytes of a lease. LW_BAD_LENGTH where len is not the length of its section. It is no event. */
@@ -237,7 +240,7 @@ uint32_t lw_used(lw_table *table, uint64_t *used);
 /* regions: how many data regions are open. */
 uint32_t lw_regions(lw_table *table, uint64_t *regions);
 
-/* events: how many calls were accepted in all. */
+/* events: how many calls were accepted in all, but for those that are no event. */
 uint32_t lw_events(lw_table *table, uint64_t *events);
 
 /* ---- Texts, in ASCII, without a zero at the end ---- */

@@ -1,7 +1,8 @@
 /*
  * Each call of the library, right and wrong, with what it has to answer. A row is one call; the rows of a scene are
  * made in their order on one table. A refused call has to leave the report of the table as it was. Before a call is
- * made for good it is made with each of its growths of memory refused: then it is LW_MEMORY.
+ * made for good it is made with each of its growths of memory refused: then it is LW_MEMORY, or what it is
+ * refused for in any case.
  */
 #include "lamwiest.h"
 #include "refusing.h"

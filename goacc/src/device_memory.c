@@ -1,5 +1,5 @@
-/* The routines of device addresses and of memory of the device (OpenACC 3.3, sections 3.2.32 to 3.2.40), as GCC 12's
-   openacc.h declares them. */
+/* The routines of device addresses and of memory of the device (OpenACC 3.3, section 3.2), as GCC 12's openacc.h
+   declares them. */
 #include <stdlib.h>
 #include <string.h>
 

@@ -1,4 +1,4 @@
-/* The routines of devices and of queues (OpenACC 3.3, sections 3.2.1 to 3.2.17), as GCC 12's openacc.h has them. */
+/* The routines of devices and of queues (OpenACC 3.3, section 3.2), as GCC 12's openacc.h has them. */
 #include "inner.h"
 
 /* The numbers of openacc.h. */
@@ -24,7 +24,7 @@ bool lwa_is_for_table(void)
     return !host_chosen;
 }
 
-/* ---- Devices (sections 3.2.1 to 3.2.8) ---- */
+/* ---- Devices ---- */
 
 static bool is_table_type(int type)
 {
@@ -138,7 +138,7 @@ LWA_EXPORT int acc_on_device(int type)
     return type == DEVICE_HOST || type == DEVICE_NONE;
 }
 
-/* ---- Queues (sections 3.2.9 to 3.2.17) ---- */
+/* ---- Queues ---- */
 
 uint64_t lwa_queue(int async)
 {

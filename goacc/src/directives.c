@@ -2,7 +2,7 @@
  * Directives: the bytes before and after, and the call of the table that decides.
  *
  * What a directive will do is not known before it is done. So what it may copy in is written to the table before it,
- * and what it may have copied out is read after it; where a part alone may be copied out, the program's bytes of all
+ * and what it may have copied out is read after it. Where a part alone may be copied out, the program's bytes of all
  * are written before, and so stay as they are.
  */
 #include <stdlib.h>

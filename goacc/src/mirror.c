@@ -2,9 +2,9 @@
  * Bytes between the program and the table's host memory.
  *
  * Before a directive the bytes that it may copy in are written to the table, and after it those that it copied out are
- * read. A copy that waits takes its bytes when it is made. So this keeps a list of the copies that may wait, and what
- * is made of a queue finds the program's bytes of that time, of those that come in and of those that go out alike: so
- * an entry of the list that the table has no copy for changes no byte.
+ * read. A copy that waits takes its bytes when it is made. So this keeps a list of the copies that may wait. Before
+ * copies of a queue are made the program's bytes of all of them are written, of those that go out too: so an entry of
+ * the list that the table has no copy for changes no byte.
  */
 #define _GNU_SOURCE
 #include <stdlib.h>

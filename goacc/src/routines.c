@@ -1,5 +1,4 @@
-/* The routines that are directives of one item (OpenACC 3.3, sections 3.2.18 to 3.2.31), as GCC 12's openacc.h declares
-   them. */
+/* The routines that are directives of one item (OpenACC 3.3, section 3.2), as GCC 12's openacc.h declares them. */
 #include "inner.h"
 
 /* One directive of one item. Answers the device address of its section, where that is mapped then. */

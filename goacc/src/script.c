@@ -217,14 +217,25 @@ static void write_report(FILE *to)
     free(text);
 }
 
+/* The table ends, so a file that cannot be written is told, and ends nothing. */
+static void finish_report(const char *name)
+{
+    FILE *to = fopen(name, "w");
+
+    if (to == NULL) {
+        fprintf(stderr, "lamwiest: the file of LAMWIEST_REPORT cannot be written\n");
+        return;
+    }
+    write_report(to);
+    fclose(to);
+}
+
 void lwa_finish_script(void)
 {
     const char *name = getenv("LAMWIEST_REPORT");
-    FILE *to = name != NULL ? fopen(name, "w") : NULL;
 
-    if (to != NULL) {
-        write_report(to);
-        fclose(to);
+    if (name != NULL) {
+        finish_report(name);
     }
     if (script != NULL) {
         fputs("report\n", script);

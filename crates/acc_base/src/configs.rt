@@ -9,7 +9,7 @@ use std::marker::Model;
 
 /// The limits of a table: the sizes of host memory and of each device's, and how much it may hold.
 ///
-/// Each value lies within the bounds that [`Config::new`] states.
+/// Each value lies within the bounds that [`Config::new`] and [`Config::with_devices`] state.
 #[derive(Clone, Copy, Debug, PartialEq, Eq)]
 pub struct Config {
     host: u64,
@@ -105,8 +105,10 @@ impl Config {
         Config { full: true, ..self }
     }
 
-    /// The same limits, of tables of so many devices, 1 to 4. Each device has a memory of the size that the configuration
-    /// says, and queues, mapped ranges and counters of its own; host memory, the open regions and the trace are there once.
+    /// The same limits, of tables of so many devices, 1 to 4 (OpenACC 3.3, section 3.2, `acc_set_device_num`). Each device
+    /// has a memory of the size that the configuration says, and mapped ranges, counters, open regions and queues of its
+    /// own. Host memory, the trace and the numbers of regions are there once, and the limits of open regions and of events
+    /// are those of all devices together.
     ///
     /// # Errors
     ///
@@ -123,7 +125,7 @@ impl Config {
         }
     }
 
-    /// Each limit is within the bounds that [`Config::new`] states, and the memory of the first
+    /// Each limit is within the bounds that [`Config::new`] and [`Config::with_devices`] state, and the memory of the first
     /// device begins at [`DEVICE_BASE`](crate::DEVICE_BASE). Nothing is done.
     pub fn laws(&self)
         ensures bounds { IsWithinBounds self.now }

@@ -74,8 +74,8 @@ impl Store {
     }
 
     /// Takes in another device in place of the one that the store has, which is answered. Host memory and the numbers of the
-    /// next region and the next loan stay: none of them is less than when the other device was set apart. Nothing is copied,
-    /// and no memory is taken.
+    /// next region and the next loan stay: none of them is less than when the other device was set apart. No memory is taken,
+    /// and no byte of a block, no range and no queue is copied.
     pub fn exchange(&mut self, spare: Spare) -> Spare
         requires host { spare.limits.host ≡ self.old.limits.host }
         requires next { spare.next ≤ self.old.state.register.next }

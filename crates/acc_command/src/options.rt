@@ -73,12 +73,12 @@ fn devices_option<'a>(alloc: Global) -> Arg<'a> {
         .default_value("1")
 }
 
-/// The option of how many threads each kernel works in.
+/// The option of how many threads each kernel works in, or the drill has.
 fn threads_option<'a>(alloc: Global) -> Arg<'a> {
     Arg::new(alloc, "threads")
         .long("threads")
         .value_name("N")
-        .help("In how many threads each kernel works")
+        .help("Threads of a kernel, or of the drill")
         .action(ArgAction::Set)
         .value_parser(value_parser!(u64).range(1..=64))
         .default_value("1")
@@ -335,15 +335,15 @@ REFS is one REF or more, separated by commas. PLACE is NAME[OFFSET], and PLACES
 is one or more. A pointer is the eight bytes from a PLACE on. In place of a REF,
 but not in an update, REF via PLACE names the pointer to it too.
 
-A directive has one clause or more, and 64 REFs at most. create(zero: REFS), and
-copyout(zero: REFS) of a region, fill a new block with zero; copyin(readonly:
-REFS) is copyin(REFS). An exit data with the option finalize takes all counts of
-enter data. An update with the option if_present passes over what is absent, and
-not over what is partly mapped. With the option async(QUEUE), or async for queue
-0, the copies of enter data, exit data and update wait in a queue, in order; a
-block of the device stays while a copy of it waits. A QUEUE is from 0 to 15, and
-256 copies may wait in it. A region that is open at the end of the script is a
-fault.
+A data, enter data, exit data or update has one clause or more, and 64 REFs at
+most. create(zero: REFS), and copyout(zero: REFS) of a region, fill a new block
+with zero; copyin(readonly: REFS) is copyin(REFS). An exit data with the option
+finalize takes all counts of enter data. An update with the option if_present
+passes over what is absent, and not over what is partly mapped. With the option
+async(QUEUE), or async for queue 0, the copies of enter data, exit data and
+update wait in a queue, in order; a block of the device stays while a copy of it
+waits. A QUEUE is from 0 to 15, and 256 copies may wait in it. A region that is
+open at the end of the script is a fault.
 
 Each device has a memory, mapped ranges, counters and queues of its own. Lines
 are for the device that was set last, but end data and kernel for that of the

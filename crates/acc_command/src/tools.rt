@@ -64,8 +64,8 @@ pub fn tell_words<E: Sink>(err: &mut E, fault: WordsFault) -> u8 {
 /// `words` begins with the program's name. The script is read from `reader`, or is one of the files, and its output
 /// goes to `out`, or is compared with one of them. For a drill nothing is read. A fault of
 /// the command line is told on `err` in the parser's words, and then nothing is read. Each other fault is told there in
-/// one line, after `out` was flushed: [`Fault::BadConfig`] before those of the run, and [`Fault::Write`] where the
-/// flush fails after a run without fault. Help and the version that were asked for go to `out`, with status 0. A
+/// one line, after `out` was flushed: first that the file with the expected output cannot be read, then
+/// [`Fault::BadConfig`], then those of the run, and [`Fault::Write`] where the flush fails after a run without fault. Help and the version that were asked for go to `out`, with status 0. A
 /// failure of `err` changes nothing.
 pub fn tool<R: Threads + Wait + Sync + AllocGlobal, S: Source, O: Output, E: Sink, D: FileStore>(
     rt: &R,

@@ -51,7 +51,7 @@ pub const NO_QUEUE_GIVEN: u64 = 18_446_744_073_709_551_615;
 
 /// One item of a data clause, as C writes it.
 #[repr(C)]
-#[derive(Clone, Copy, Debug, PartialEq, Eq)]
+#[derive(Clone, Copy)]
 pub struct RawItem {
     /// The number of the clause in which it stands.
     pub clause: u32,

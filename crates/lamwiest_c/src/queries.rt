@@ -20,7 +20,7 @@ use std::alloc::Global;
 
 /// The two reference counters of a mapped range (OpenACC 3.3, section 2.6.7).
 #[repr(C)]
-#[derive(Clone, Copy, Debug, PartialEq, Eq)]
+#[derive(Clone, Copy)]
 pub struct RawCounters {
     /// The structured reference counter.
     pub structured: u64,
@@ -30,7 +30,7 @@ pub struct RawCounters {
 
 /// A mapped range.
 #[repr(C)]
-#[derive(Clone, Copy, Debug, PartialEq, Eq)]
+#[derive(Clone, Copy)]
 pub struct RawMapped {
     /// The first host address.
     pub start: u64,

@@ -23,7 +23,7 @@ pub const BAD_LENGTH: u32 = 34;
 pub const ABSENT: u32 = 35;
 
 /// Why a call from C was refused. A refused call changes nothing.
-#[derive(Clone, Copy, Debug, PartialEq, Eq)]
+#[derive(Clone, Copy)]
 pub enum Refusal {
     /// The handle has no table.
     Ended,
@@ -45,7 +45,7 @@ pub enum Refusal {
 
 /// A refusal as C sees it: its status, and its fields. All are 0 where a call was done.
 #[repr(C)]
-#[derive(Clone, Copy, Debug, PartialEq, Eq)]
+#[derive(Clone, Copy)]
 pub struct FaultFields {
     /// The status: the number of the refusal.
     pub status: u32,

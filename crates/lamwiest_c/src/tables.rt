@@ -14,7 +14,7 @@ use std::mem;
 
 /// The limits of a table: the sizes of its two memories, and how much it may hold.
 #[repr(C)]
-#[derive(Clone, Copy, Debug, PartialEq, Eq)]
+#[derive(Clone, Copy)]
 pub struct RawLimits {
     /// The size of host memory in bytes: a multiple of 16 from 16 to 67,108,864.
     pub host: u64,

@@ -6,7 +6,7 @@ use Rattle.std.proofs.lemmas.List.{get_or_default}
 use Rattle.acc_base.proofs.Splitting.{all_at}
 use Rattle.acc_base.proofs.Lookups.{at-own}
 use Rattle.acc_base.proofs.Keyed as keyed
-use Rattle.acc_base.proofs.Keyed.{rise_distinct}
+use Rattle.acc_base.proofs.Keyed.{all_from, rise_distinct}
 use Rattle.acc_dev.specs.Kept.{IsIndexRising}
 
 -- ---- numbers that rise

@@ -240,7 +240,8 @@ uint32_t lw_used(lw_table *table, uint64_t *used);
 /* regions: how many data regions are open. */
 uint32_t lw_regions(lw_table *table, uint64_t *regions);
 
-/* events: how many calls were accepted in all, but for those that are no event. */
+/* events: how many events there were in all. Each accepted directive, write, loan and gather is one, but for the step
+   of an empty queue. */
 uint32_t lw_events(lw_table *table, uint64_t *events);
 
 /* ---- Texts, in ASCII, without a zero at the end ---- */

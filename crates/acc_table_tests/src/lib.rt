@@ -9,11 +9,7 @@ mod example;
 #[cfg(test)]
 mod leases;
 #[cfg(test)]
-mod random;
-#[cfg(test)]
 mod rebasing;
-#[cfg(test)]
-mod replay;
 #[cfg(test)]
 mod rows;
 

@@ -156,7 +156,7 @@ fn live(
 }
 
 /// A new table, and another where memory for the first was refused.
-fn table_twice(alloc: Global, limits: Limits) -> Result<Table, Fault> {
+fn table_twice(alloc: Global, limits: Limits) -> Result<Box<Table>, Fault> {
     match table_of(alloc, limits) {
         Err(Fault::Memory) => table_of(alloc, limits),
         table => table,

@@ -121,8 +121,8 @@ pub fn turn_of(alloc: Global, device: u64, ask: Ask) -> Result<Turn, AllocError>
     }
 }
 
-/// A new table within limits.
-pub fn table_of(alloc: Global, limits: Limits) -> Result<Table, Fault> {
+/// The configuration of limits, with memories of 64 bytes.
+fn config_of(limits: Limits) -> Result<Config, Fault> {
     let Limits {
         regions,
         tickets,
@@ -134,12 +134,16 @@ pub fn table_of(alloc: Global, limits: Limits) -> Result<Table, Fault> {
     let counted = Config::new(64, 64, regions, tickets, counter_max, 1, trace_cap)?.with_devices(
         devices,
     )?;
-    let config = if full {
-        counted.with_full_trace()
+    if full {
+        Ok(counted.with_full_trace())
     } else {
-        counted
-    };
-    Table::new(alloc, config)
+        Ok(counted)
+    }
+}
+
+/// A new table within limits. It is boxed, since a test that owns an unboxed one takes long to check.
+pub fn table_of(alloc: Global, limits: Limits) -> Result<Box<Table>, Fault> {
+    Ok(Box::new(alloc, Table::new(alloc, config_of(limits)?)?)?)
 }
 
 /// Takes one turn, of a device where it is for one, and answers what it was answered.

@@ -46,6 +46,11 @@ fn map_one_array(table: &mut Table, alloc: Global) -> Result<u64, Fault> {
     }
 }
 
+/// That table in a box, since a test that owns an unboxed one takes long to check.
+fn boxed_table(alloc: Global) -> Result<Box<Table>, Fault> {
+    Ok(Box::new(alloc, new_table(alloc)?)?)
+}
+
 /// Mapping the array takes so many bytes of the device.
 fn takes(rt: &(impl Abort + AllocGlobal), table: &mut Table, used: u64) -> Result<(), Fail> {
     assert_eq!(rt; map_one_array(table, rt.alloc())?, used);
@@ -54,7 +59,7 @@ fn takes(rt: &(impl Abort + AllocGlobal), table: &mut Table, used: u64) -> Resul
 
 #[test]
 fn an_array_of_20_bytes_takes_32(rt: HostRuntime) -> Result<(), Fail> {
-    let mut table = new_table(rt.alloc())?;
+    let mut table = boxed_table(rt.alloc())?;
     takes(&rt, &mut table, 32)
 }
 

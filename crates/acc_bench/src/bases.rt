@@ -35,8 +35,17 @@ pub fn run<R: Print + Clock + AllocGlobal>(rt: &R) -> Result<()> {
 /// How long a pair takes on a new table.
 fn time_pairs<R: Clock + AllocGlobal>(rt: &R, is_folded: bool) -> Result<Duration> {
     let mut table = new_table(rt.alloc())?;
+    time_pairs_on(rt, &mut table, is_folded)
+}
+
+/// How long a pair takes on a table.
+fn time_pairs_on<R: Clock + AllocGlobal>(
+    rt: &R,
+    table: &mut Table,
+    is_folded: bool,
+) -> Result<Duration> {
     let start = Instant::now(rt)?;
-    make_turns(&mut table, rt.alloc(), is_folded)?;
+    make_turns(table, rt.alloc(), is_folded)?;
     each_since(rt, start, PAIRS * TURNS, 0)
 }
 

@@ -5,6 +5,7 @@ use acc_base::{EnterClause, ExitClause, Fault};
 use acc_bench_work::each_since;
 use acc_bench_work::work::{Work, new_table, only_item, repeat, sixteen_bytes_at};
 use acc_runtime::{Caller, Runtime};
+use acc_table::Table;
 use anyhow::{Result, anyhow};
 use std::rt::Clock;
 use std::sync::Wait;
@@ -49,14 +50,14 @@ fn least_alone<R: Clock + AllocGlobal>(rt: &R) -> Result<Duration> {
 /// How long a pair takes on a table of its own.
 fn time_alone<R: Clock + AllocGlobal>(rt: &R) -> Result<Duration> {
     let mut table = new_table(rt.alloc())?;
+    time_alone_on(rt, &mut table)
+}
+
+/// How long a pair takes on a table.
+fn time_alone_on<R: Clock + AllocGlobal>(rt: &R, table: &mut Table) -> Result<Duration> {
     let start = Instant::now(rt)?;
-    repeat(
-        &mut table,
-        rt.alloc(),
-        Work::Data,
-        sixteen_bytes_at(0),
-        PAIRS,
-    )?;
+    let section = sixteen_bytes_at(0);
+    repeat(table, rt.alloc(), Work::Data, section, PAIRS)?;
     each_since(rt, start, PAIRS, 0)
 }
 

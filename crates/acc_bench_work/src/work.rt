@@ -114,9 +114,10 @@ fn put_and_step(table: &mut Table, alloc: Global, section: Section) -> Result<()
     )
 }
 
-/// A table with as much memory as there may be.
-pub fn new_table(alloc: Global) -> Result<Table, Fault> {
-    Table::new(alloc, largest()?)
+/// A table with as much memory as there may be. It is boxed, since a function that owns an unboxed one takes long to
+/// check.
+pub fn new_table(alloc: Global) -> Result<Box<Table>, Fault> {
+    Ok(Box::new(alloc, Table::new(alloc, largest()?)?)?)
 }
 
 /// The place of the range of a number, counted from 0.

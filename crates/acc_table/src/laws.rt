@@ -21,8 +21,8 @@ use crate::tables::Table;
 /// And of all:
 ///
 /// - No region is open on two devices.
-/// - The history is legal and leads to what the devices have. There are no more events than tickets and places in the trace, and
-///   no more open regions than the limit says. Each limit is within its bounds.
+/// - The history is legal and leads to what the devices have. There are no more events than tickets and places in the
+///   trace, and no more open regions than the limit says. Each limit is within its bounds.
 pub fn hold(table: &Table)
     ensures { IsLawful table.now }
 {

@@ -8,6 +8,7 @@ ghost use Rattle.acc_dev.specs.Device.{birth_place};
 use crate::calls::{Subject, is_as_wanted};
 use acc_base::{DEVICE_BASE, Fault, MEMORY_MAX};
 use acc_dev::Device;
+use acc_lend::Lease;
 use std::alloc::Global;
 
 /// One call of a device, and its answer.
@@ -18,11 +19,11 @@ pub enum Row {
     Holds(u64, usize, u8),
     /// Room for births of these lengths.
     Reserves(&'static [u64]),
-    /// A block of this length is lent whole with a copy kept, and comes back.
+    /// A block of this length is lent whole with a copy kept, the loans are copied, and it comes back.
     Lends(u64, u64),
     /// Room for births of 3 and of 16 bytes, and the births in it, the second with sevens.
     BornInRoom,
-    /// The copies of so many blocks, of their bytes, and of the loans.
+    /// The copies of so many blocks, and of their bytes.
     Copies(usize),
 }
 
@@ -76,25 +77,28 @@ fn reserve(device: &mut Device, lens: &[u64]) -> Result<bool, Fault> {
     is_as_wanted(device.reserve(lens), Ok(()))
 }
 
-/// Whether a block of this length can be lent.
-fn can_lend(device: &Device, block: u64, len: u64) -> bool {
+/// The answer to a loan of a block with a copy kept, or `None` where it has not so many bytes.
+fn take_out(device: &mut Device, block: u64, len: u64) -> Option<Result<Lease, Fault>> {
     if !device.has(block) || device.has_ended(block) {
-        return false;
+        return None;
     }
-    match device.bytes(block) {
-        Some(bytes) => bytes.len() as u64 == len,
-        None => false,
+    let whole = device.bytes(block)?.len() as u64;
+    if len <= whole {
+        Some(device.take_out(0, block, 7, 0, len, true))
+    } else {
+        None
     }
 }
 
-/// Lends a block whole with a copy kept, and brings it back.
-fn lend(device: &mut Device, block: u64, len: u64) -> Result<bool, Fault> {
-    if !can_lend(device, block, len) {
+/// Lends a block with a copy kept, copies the loans, and brings it back.
+fn lend(device: &mut Device, alloc: Global, block: u64, len: u64) -> Result<bool, Fault> {
+    let Some(lent) = take_out(device, block, len) else {
         return Ok(false);
-    }
-    let lease = device.take_out(0, block, 7, 0, len, true)?;
+    };
+    let lease = lent?;
+    let loans = device.copy_loans(alloc).map(|loans| loans.len());
     match device.put_back(lease, true) {
-        Ok(()) => Ok(true),
+        Ok(()) => is_as_wanted(loans, Ok(1)),
         Err((lease, _)) => {
             lease.abandon();
             Ok(false)
@@ -145,12 +149,11 @@ fn born_in_room(device: &mut Device) -> Result<bool, Fault> {
     Ok(born_filled(device) && born_given(device))
 }
 
-/// Whether the copies have so many blocks and memories, and no loan.
-fn copies(device: &Device, alloc: Global) -> Result<(usize, usize, usize), Fault> {
+/// How many blocks and memories the copies have.
+fn copies(device: &Device, alloc: Global) -> Result<(usize, usize), Fault> {
     let blocks = device.copy_blocks(alloc)?.len();
     let memories = device.copy_memories(alloc)?.len();
-    let loans = device.copy_loans(alloc)?.len();
-    Ok((blocks, memories, loans))
+    Ok((blocks, memories))
 }
 
 impl Subject for Device {
@@ -170,9 +173,9 @@ impl Subject for Device {
             },
             Row::Holds(block, len, byte) => Ok(holds(self, *block, *len, *byte)),
             Row::Reserves(lens) => reserve(self, lens),
-            Row::Lends(block, len) => lend(self, *block, *len),
+            Row::Lends(block, len) => lend(self, alloc, *block, *len),
             Row::BornInRoom => born_in_room(self),
-            Row::Copies(blocks) => is_as_wanted(copies(self, alloc), Ok((*blocks, *blocks, 0))),
+            Row::Copies(blocks) => is_as_wanted(copies(self, alloc), Ok((*blocks, *blocks))),
         }
     }
 }

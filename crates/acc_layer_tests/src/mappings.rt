@@ -1,5 +1,10 @@
 //! The present table.
 
+ghost use Rattle.std.specs.Prelude.{◌≡◌, None};
+ghost use Rattle.std.specs.Bool.{OnTrue};
+ghost use Rattle.acc_base.specs.declared.mappings.Found.TheVariants.{Absent};
+ghost use Rattle.acc_base.specs.Ranges.{where_is, range_of};
+
 use crate::calls::{Subject, is_as_wanted};
 use acc_base::{Fault, Found, HOST_BASE, Section};
 use acc_present::{Hint, Present};
@@ -55,17 +60,20 @@ fn section_of(block: u64) -> Section {
     }
 }
 
-/// Whether no range is mapped to a block, nor where its section lies.
-fn is_absent(present: &Present, block: u64) -> bool {
-    present.range(block, Hint::default()).is_none()
-        && present.find(section_of(block)).found == Found::Absent
+/// Whether a section is absent, and no range is mapped to a block.
+fn is_absent(present: &Present, section: Section, block: u64) -> bool
+    ensures absent { OnTrue result (where_is section present.now.table.ranges ≡ Absent) }
+    ensures new { OnTrue result (range_of block present.now.table.ranges ≡ None) }
+{
+    present.range(block, Hint::default()).is_none() && present.find(section).found == Found::Absent
 }
 
 /// Maps a section to each of the first so many blocks that has none.
 pub fn map_all(present: &mut Present, count: u64) -> Result<bool, Fault> {
     for block in 0..count {
-        if is_absent(present, block) {
-            present.add(section_of(block), block)?;
+        let section = section_of(block);
+        if is_absent(present, section, block) {
+            present.add(section, block)?;
         }
     }
     Ok(true)
@@ -74,9 +82,10 @@ pub fn map_all(present: &mut Present, count: u64) -> Result<bool, Fault> {
 /// Makes room for a range, and maps a section to a block in it.
 fn map_in_room(present: &mut Present, block: u64) -> Result<bool, Fault> {
     present.reserve(1, 0, 0)?;
-    let absent = is_absent(present, block);
+    let section = section_of(block);
+    let absent = is_absent(present, section, block);
     if absent {
-        present.add_reserved(section_of(block), block);
+        present.add_reserved(section, block);
     }
     Ok(absent)
 }

@@ -24,11 +24,14 @@ impl Table {
         ensures same { OnErr result (self.new ≡ self.old) }
         ensures err { IfErr result (λ fault. fault ≡ Memory) }
     {
-        let folded = self.trace.len() as u64;
-        let alloc = *self.trace.allocator();
-        let base = self.devices.base(alloc, &self.config, self.events())?;
-        self.base = base;
-        self.trace.clear();
+        let folded = self.kept.trace.len() as u64;
+        let alloc = *self.kept.trace.allocator();
+        let base = self
+            .kept
+            .devices
+            .base(alloc, &self.kept.config, self.events())?;
+        self.kept.base = base;
+        self.kept.trace.clear();
         Ok(folded)
     }
 }

@@ -40,11 +40,11 @@ overwrite-requires c =
 
 pub take_back-requires-clause-ready : goal.take_back-requires-clause-ready
 take_back-requires-clause-ready c =
-    let l : Limits = c.self.inside.config in
-    let base : Base = c.self.inside.base in
+    let l : Limits = c.self.inside.kept.value.config in
+    let base : Base = c.self.inside.kept.value.base in
     let x : Devices = c.select.new.self in
-    let trace : List Event = c.self.inside.trace.items in
-    let t : AreDevicesOf l base x trace c.args.self.now = selected l base c.self.inside.devices x trace c.args.self.now c.self.invariant (c.self.view_is ∙ c.in_ok-admit_lease.ensures.same) (c.select.ensures.set l c.self.invariant.1) c.select.ensures.same in
+    let trace : List Event = c.self.inside.kept.value.trace.items in
+    let t : AreDevicesOf l base x trace c.args.self.now = selected l base c.self.inside.kept.value.devices x trace c.args.self.now c.self.invariant (c.self.view_is ∙ c.in_ok-admit_lease.ensures.same) (c.select.ensures.set l c.self.invariant.1) c.select.ensures.same in
     let w : World = world_in l base x trace in
     let back : IsBackAt c.args.serial c.args.bytes c.args.leases.now.items c.in-Some.at c.index-lease.result.now = back_at c.deref.ensures.value c.place_of.ensures c.in-Some.is c.index-lease.ensures in
     let lease : IsReturned w c.args.serial c.args.bytes c.args.leases.now.items c.in-Some.at c.overwrite.new.self = returned back c.remove-lease.ensures.value c.overwrite.ensures c.as_slice.ensures t.same c.laws.ensures c.in_ok-admit_lease.ensures.judged in
@@ -53,11 +53,11 @@ take_back-requires-clause-ready c =
 
 pub take_back-requires-clause-stored : goal.take_back-requires-clause-stored
 take_back-requires-clause-stored c =
-    let l : Limits = c.self.inside.config in
-    let base : Base = c.self.inside.base in
+    let l : Limits = c.self.inside.kept.value.config in
+    let base : Base = c.self.inside.kept.value.base in
     let x : Devices = c.select.new.self in
-    let trace : List Event = c.self.inside.trace.items in
-    let t : AreDevicesOf l base x trace c.args.self.now = selected l base c.self.inside.devices x trace c.args.self.now c.self.invariant (c.self.view_is ∙ c.in_ok-admit_lease.ensures.same) (c.select.ensures.set l c.self.invariant.1) c.select.ensures.same in
+    let trace : List Event = c.self.inside.kept.value.trace.items in
+    let t : AreDevicesOf l base x trace c.args.self.now = selected l base c.self.inside.kept.value.devices x trace c.args.self.now c.self.invariant (c.self.view_is ∙ c.in_ok-admit_lease.ensures.same) (c.select.ensures.set l c.self.invariant.1) c.select.ensures.same in
     let w : World = world_in l base x trace in
     let back : IsBackAt c.args.serial c.args.bytes c.args.leases.now.items c.in-Some.at c.index-lease.result.now = back_at c.deref.ensures.value c.place_of.ensures c.in-Some.is c.index-lease.ensures in
     let lease : IsReturned w c.args.serial c.args.bytes c.args.leases.now.items c.in-Some.at c.overwrite.new.self = returned back c.remove-lease.ensures.value c.overwrite.ensures c.as_slice.ensures t.same c.laws.ensures c.in_ok-admit_lease.ensures.judged in
@@ -67,11 +67,11 @@ take_back-requires-clause-stored c =
 
 pub invariant_of-self-2 : goal.invariant_of-self-2
 invariant_of-self-2 c =
-    let l : Limits = c.self.inside.config in
-    let base : Base = c.self.inside.base in
+    let l : Limits = c.self.inside.kept.value.config in
+    let base : Base = c.self.inside.kept.value.base in
     let x : Devices = c.select.new.self in
-    let trace : List Event = c.self.inside.trace.items in
-    let t : AreDevicesOf l base x trace c.args.self.now = selected l base c.self.inside.devices x trace c.args.self.now c.self.invariant (c.self.view_is ∙ c.in_ok-admit_lease.ensures.same) (c.select.ensures.set l c.self.invariant.1) c.select.ensures.same in
+    let trace : List Event = c.self.inside.kept.value.trace.items in
+    let t : AreDevicesOf l base x trace c.args.self.now = selected l base c.self.inside.kept.value.devices x trace c.args.self.now c.self.invariant (c.self.view_is ∙ c.in_ok-admit_lease.ensures.same) (c.select.ensures.set l c.self.invariant.1) c.select.ensures.same in
     let w : World = world_in l base x trace in
     let back : IsBackAt c.args.serial c.args.bytes c.args.leases.now.items c.in-Some.at c.index-lease.result.now = back_at c.deref.ensures.value c.place_of.ensures c.in-Some.is c.index-lease.ensures in
     let lease : IsReturned w c.args.serial c.args.bytes c.args.leases.now.items c.in-Some.at c.overwrite.new.self = returned back c.remove-lease.ensures.value c.overwrite.ensures c.as_slice.ensures t.same c.laws.ensures c.in_ok-admit_lease.ensures.judged in
@@ -80,11 +80,11 @@ invariant_of-self-2 c =
 
 pub returns-clause-done : goal.returns-clause-done
 returns-clause-done c =
-    let l : Limits = c.self.inside.config in
-    let base : Base = c.self.inside.base in
+    let l : Limits = c.self.inside.kept.value.config in
+    let base : Base = c.self.inside.kept.value.base in
     let x : Devices = c.select.new.self in
-    let trace : List Event = c.self.inside.trace.items in
-    let t : AreDevicesOf l base x trace c.args.self.now = selected l base c.self.inside.devices x trace c.args.self.now c.self.invariant (c.self.view_is ∙ c.in_ok-admit_lease.ensures.same) (c.select.ensures.set l c.self.invariant.1) c.select.ensures.same in
+    let trace : List Event = c.self.inside.kept.value.trace.items in
+    let t : AreDevicesOf l base x trace c.args.self.now = selected l base c.self.inside.kept.value.devices x trace c.args.self.now c.self.invariant (c.self.view_is ∙ c.in_ok-admit_lease.ensures.same) (c.select.ensures.set l c.self.invariant.1) c.select.ensures.same in
     let w : World = world_in l base x trace in
     let back : IsBackAt c.args.serial c.args.bytes c.args.leases.now.items c.in-Some.at c.index-lease.result.now = back_at c.deref.ensures.value c.place_of.ensures c.in-Some.is c.index-lease.ensures in
     let lease : IsReturned w c.args.serial c.args.bytes c.args.leases.now.items c.in-Some.at c.overwrite.new.self = returned back c.remove-lease.ensures.value c.overwrite.ensures c.as_slice.ensures t.same c.laws.ensures c.in_ok-admit_lease.ensures.judged in

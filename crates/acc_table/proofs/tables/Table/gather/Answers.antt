@@ -18,22 +18,22 @@ use Rattle.acc_table.proofs.tables.Table.gather.Goals as goal
 
 pub gather-requires-clause-full : goal.gather-requires-clause-full
 gather-requires-clause-full c =
-    let l : Limits = c.self.inside.config in
-    let base : Base = c.self.inside.base in
+    let l : Limits = c.self.inside.kept.value.config in
+    let base : Base = c.self.inside.kept.value.base in
     let x : Devices = c.select.new.self in
-    let trace : List Event = c.self.inside.trace.items in
-    let t : AreDevicesOf l base x trace c.args.self.now = selected l base c.self.inside.devices x trace c.args.self.now c.self.invariant (c.self.view_is ∙ c.in-Ok.ensures.same) (c.select.ensures.set l c.self.invariant.1) c.select.ensures.same in
+    let trace : List Event = c.self.inside.kept.value.trace.items in
+    let t : AreDevicesOf l base x trace c.args.self.now = selected l base c.self.inside.kept.value.devices x trace c.args.self.now c.self.invariant (c.self.view_is ∙ c.in-Ok.ensures.same) (c.select.ensures.set l c.self.invariant.1) c.select.ensures.same in
     let lease : Leased = c.args.lease in
     let on : x.current ≡ lease.device = c.select.ensures.current ∙ c.device.ensures in
     c.full-full.ensures ∙ ap (λ (m : Limits). m.full) (sym t.set.used)
 
 pub gather-requires-clause-ready : goal.gather-requires-clause-ready
 gather-requires-clause-ready c =
-    let l : Limits = c.self.inside.config in
-    let base : Base = c.self.inside.base in
+    let l : Limits = c.self.inside.kept.value.config in
+    let base : Base = c.self.inside.kept.value.base in
     let x : Devices = c.select.new.self in
-    let trace : List Event = c.self.inside.trace.items in
-    let t : AreDevicesOf l base x trace c.args.self.now = selected l base c.self.inside.devices x trace c.args.self.now c.self.invariant (c.self.view_is ∙ c.in-Ok.ensures.same) (c.select.ensures.set l c.self.invariant.1) c.select.ensures.same in
+    let trace : List Event = c.self.inside.kept.value.trace.items in
+    let t : AreDevicesOf l base x trace c.args.self.now = selected l base c.self.inside.kept.value.devices x trace c.args.self.now c.self.invariant (c.self.view_is ∙ c.in-Ok.ensures.same) (c.select.ensures.set l c.self.invariant.1) c.select.ensures.same in
     let lease : Leased = c.args.lease in
     let on : x.current ≡ lease.device = c.select.ensures.current ∙ c.device.ensures in
     let ready = subst (λ (w : World). gather_event w.limits.full lease (view lease.device w.state) ≡ Ok (gathered w.limits.full lease)) (sym t.same) c.in-Ok.ensures.judged.0 in
@@ -41,11 +41,11 @@ gather-requires-clause-ready c =
 
 pub invariant_of-self : goal.invariant_of-self
 invariant_of-self c =
-    let l : Limits = c.self.inside.config in
-    let base : Base = c.self.inside.base in
+    let l : Limits = c.self.inside.kept.value.config in
+    let base : Base = c.self.inside.kept.value.base in
     let x : Devices = c.select.new.self in
-    let trace : List Event = c.self.inside.trace.items in
-    let t : AreDevicesOf l base x trace c.args.self.now = selected l base c.self.inside.devices x trace c.args.self.now c.self.invariant (c.self.view_is ∙ c.in-Ok.ensures.same) (c.select.ensures.set l c.self.invariant.1) c.select.ensures.same in
+    let trace : List Event = c.self.inside.kept.value.trace.items in
+    let t : AreDevicesOf l base x trace c.args.self.now = selected l base c.self.inside.kept.value.devices x trace c.args.self.now c.self.invariant (c.self.view_is ∙ c.in-Ok.ensures.same) (c.select.ensures.set l c.self.invariant.1) c.select.ensures.same in
     let lease : Leased = c.args.lease in
     let on : x.current ≡ lease.device = c.select.ensures.current ∙ c.device.ensures in
     let new : Contents = c.gather.new.store in
@@ -57,11 +57,11 @@ invariant_of-self c =
 
 pub returns-in-Ok-clause-done : goal.returns-in-Ok-clause-done
 returns-in-Ok-clause-done c =
-    let l : Limits = c.self.inside.config in
-    let base : Base = c.self.inside.base in
+    let l : Limits = c.self.inside.kept.value.config in
+    let base : Base = c.self.inside.kept.value.base in
     let x : Devices = c.select.new.self in
-    let trace : List Event = c.self.inside.trace.items in
-    let t : AreDevicesOf l base x trace c.args.self.now = selected l base c.self.inside.devices x trace c.args.self.now c.self.invariant (c.self.view_is ∙ c.in-Ok.ensures.same) (c.select.ensures.set l c.self.invariant.1) c.select.ensures.same in
+    let trace : List Event = c.self.inside.kept.value.trace.items in
+    let t : AreDevicesOf l base x trace c.args.self.now = selected l base c.self.inside.kept.value.devices x trace c.args.self.now c.self.invariant (c.self.view_is ∙ c.in-Ok.ensures.same) (c.select.ensures.set l c.self.invariant.1) c.select.ensures.same in
     let lease : Leased = c.args.lease in
     let on : x.current ≡ lease.device = c.select.ensures.current ∙ c.device.ensures in
     let new : Contents = c.gather.new.store in

@@ -17,10 +17,10 @@ use Rattle.acc_table.proofs.tables.Table.write.Goals as goal
 
 pub write_host-requires-clause-can : goal.write_host-requires-clause-can
 write_host-requires-clause-can c =
-    let l : Limits = c.self.inside.config in
-    let base : Base = c.self.inside.base in
-    let x : Devices = c.self.inside.devices in
-    let trace : List Event = c.self.inside.trace.items in
+    let l : Limits = c.self.inside.kept.value.config in
+    let base : Base = c.self.inside.kept.value.base in
+    let x : Devices = c.self.inside.kept.value.devices in
+    let trace : List Event = c.self.inside.kept.value.trace.items in
     let w : World = world_in l base x trace in
     let section : Section = record { start = c.args.addr; len = length c.args.bytes } in
     let admitted : write_admitted w section ≡ Ok tt = subst (λ (v : World). write_admitted v section ≡ Ok tt) (sym c.self.view_is) (subst (λ (bytes : List ℕ). write_admitted c.args.self.now (record { start = c.args.addr; len = length bytes }) ≡ Ok tt) c.as_slice.ensures (sym c.admit_write.ensures ∙ c.in-Ok.is)) in
@@ -28,10 +28,10 @@ write_host-requires-clause-can c =
 
 pub invariant_of-self-in-Ok : goal.invariant_of-self-in-Ok
 invariant_of-self-in-Ok c =
-    let l : Limits = c.self.inside.config in
-    let base : Base = c.self.inside.base in
-    let x : Devices = c.self.inside.devices in
-    let trace : List Event = c.self.inside.trace.items in
+    let l : Limits = c.self.inside.kept.value.config in
+    let base : Base = c.self.inside.kept.value.base in
+    let x : Devices = c.self.inside.kept.value.devices in
+    let trace : List Event = c.self.inside.kept.value.trace.items in
     let w : World = world_in l base x trace in
     let section : Section = record { start = c.args.addr; len = length c.args.bytes } in
     let admitted : write_admitted w section ≡ Ok tt = subst (λ (v : World). write_admitted v section ≡ Ok tt) (sym c.self.view_is) (subst (λ (bytes : List ℕ). write_admitted c.args.self.now (record { start = c.args.addr; len = length bytes }) ≡ Ok tt) c.as_slice.ensures (sym c.admit_write.ensures ∙ c.in-Ok.is)) in
@@ -44,14 +44,14 @@ invariant_of-self-in-Ok c =
     )
 
 pub invariant_of-self : goal.invariant_of-self
-invariant_of-self c = kept_same c.self.inside.config c.self.inside.base c.self.inside.devices c.write_host.new.store c.self.inside.trace.items c.write_host.new.trace.items c.self.invariant.1 c.self.invariant.0 c.in_err-write_host-in-Ok.ensures.same
+invariant_of-self c = kept_same c.self.inside.kept.value.config c.self.inside.kept.value.base c.self.inside.kept.value.devices c.write_host.new.store c.self.inside.kept.value.trace.items c.write_host.new.trace.items c.self.invariant.1 c.self.invariant.0 c.in_err-write_host-in-Ok.ensures.same
 
 pub returns-in_ok-write_host-in-Ok-clause-done : goal.returns-in_ok-write_host-in-Ok-clause-done
 returns-in_ok-write_host-in-Ok-clause-done c =
-    let l : Limits = c.self.inside.config in
-    let base : Base = c.self.inside.base in
-    let x : Devices = c.self.inside.devices in
-    let trace : List Event = c.self.inside.trace.items in
+    let l : Limits = c.self.inside.kept.value.config in
+    let base : Base = c.self.inside.kept.value.base in
+    let x : Devices = c.self.inside.kept.value.devices in
+    let trace : List Event = c.self.inside.kept.value.trace.items in
     let w : World = world_in l base x trace in
     let section : Section = record { start = c.args.addr; len = length c.args.bytes } in
     let admitted : write_admitted w section ≡ Ok tt = subst (λ (v : World). write_admitted v section ≡ Ok tt) (sym c.self.view_is) (subst (λ (bytes : List ℕ). write_admitted c.args.self.now (record { start = c.args.addr; len = length bytes }) ≡ Ok tt) c.as_slice.ensures (sym c.admit_write.ensures ∙ c.in-Ok.is)) in

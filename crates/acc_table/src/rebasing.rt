@@ -24,14 +24,13 @@ impl Table {
         ensures same { OnErr result (self.new ≡ self.old) }
         ensures err { IfErr result (λ fault. fault ≡ Memory) }
     {
-        let folded = self.kept.trace.len() as u64;
-        let alloc = *self.kept.trace.allocator();
-        let base = self
-            .kept
-            .devices
-            .base(alloc, &self.kept.config, self.events())?;
-        self.kept.base = base;
-        self.kept.trace.clear();
+        let events = self.events();
+        let kept = &mut *self.kept;
+        let folded = kept.trace.len() as u64;
+        let alloc = *kept.trace.allocator();
+        let base = kept.devices.base(alloc, &kept.config, events)?;
+        kept.base = base;
+        kept.trace.clear();
         Ok(folded)
     }
 }

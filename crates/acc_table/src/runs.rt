@@ -143,10 +143,10 @@ impl Table {
         let lease = &leases[at];
         lease.laws();
         self.admit_lease(lease)?;
-        self.kept.trace.reserve(1)?;
+        let kept = &mut *self.kept;
+        kept.trace.reserve(1)?;
         let mut lease = leases.remove(at);
         lease.overwrite(bytes.as_slice());
-        let kept = &mut *self.kept;
         let bytes = recorded(kept.config.full(), bytes, *kept.trace.allocator());
         kept.devices.select(lease.device());
         Ok(take_back(&mut kept.devices.store, &mut kept.trace, lease, bytes))

@@ -300,8 +300,9 @@ impl Table {
     {
         self.admit_ticket()?;
         self.admit_event()?;
-        self.kept.devices.select(device);
-        self.kept.devices.store.plan_loan(region, section)
+        let kept = &mut *self.kept;
+        kept.devices.select(device);
+        kept.devices.store.plan_loan(region, section)
     }
 
     /// Lends the block of a section, and answers its lease.
@@ -334,13 +335,14 @@ impl Table {
         self.admit_ticket()?;
         self.admit_event()?;
         let device = lease.device();
-        if self.kept.config.devices() <= device {
+        let kept = &mut *self.kept;
+        if kept.config.devices() <= device {
             return Err(Fault::NoLease {
                 serial: lease.serial(),
             });
         }
-        self.kept.devices.select(device);
-        self.kept.devices.store.check_lease(lease)
+        kept.devices.select(device);
+        kept.devices.store.check_lease(lease)
     }
 
     /// Brings a lease back, or hands it back with what it is refused for.

@@ -4,7 +4,9 @@ use acc_base::{Config, Fault};
 use language::Row;
 use listing::play_in_lists;
 use playing::play_alone;
-use rows::{SUBJECTS, WIDE};
+use rows::{
+    SUBJECTS, arrays, bytes, devices, limits, loans, memory, pointers, queues, rebasing, regions,
+};
 use std::fmt::Debug;
 use std::process::Abort;
 use std::test::Fail;
@@ -36,7 +38,7 @@ fn play_each_alone(
     rt: &(impl Abort + AllocGlobal),
     rows: &[Row],
     is_rebased: bool,
-) -> Result<(), Fault> {
+) -> Result<(), Fail> {
     for row in rows {
         play_alone(rt, row, is_rebased)?;
     }
@@ -52,22 +54,75 @@ fn each_row_holds_for_lists_of_turns(rt: HostRuntime) -> Result<(), Fail> {
     Ok(())
 }
 
-/// Each call is made by itself, and once more where memory is refused for it.
+/// Each call is made by itself, with a rebase behind it.
 #[test]
-fn each_row_holds_where_a_growth_is_refused(rt: HostRuntime) -> Result<(), Fail> {
-    for rows in SUBJECTS {
-        play_each_alone(&rt, rows, false)?;
-    }
-    Ok(())
-}
-
-/// The same, with a rebase behind each call.
-#[test]
-fn each_row_holds_where_a_growth_is_refused_and_with_rebases(rt: HostRuntime) -> Result<(), Fail> {
+fn each_row_holds_with_a_rebase_behind_each_call(rt: HostRuntime) -> Result<(), Fail> {
     for rows in SUBJECTS {
         play_each_alone(&rt, rows, true)?;
     }
     Ok(())
+}
+
+/// Each call is made by itself, and once more where memory is refused for it, which changed nothing.
+#[test]
+fn a_refused_growth_changes_no_row_of_limits(rt: HostRuntime) -> Result<(), Fail> {
+    play_each_alone(&rt, limits::ROWS, false)
+}
+
+#[test]
+fn a_refused_growth_changes_no_row_of_arrays(rt: HostRuntime) -> Result<(), Fail> {
+    play_each_alone(&rt, arrays::ROWS, false)
+}
+
+#[test]
+fn a_refused_growth_changes_no_row_of_regions(rt: HostRuntime) -> Result<(), Fail> {
+    play_each_alone(&rt, regions::ROWS, false)
+}
+
+#[test]
+fn a_refused_growth_changes_no_row_of_pointers(rt: HostRuntime) -> Result<(), Fail> {
+    play_each_alone(&rt, pointers::ROWS, false)
+}
+
+#[test]
+fn a_refused_growth_changes_no_row_of_queues(rt: HostRuntime) -> Result<(), Fail> {
+    play_each_alone(&rt, queues::ROWS, false)
+}
+
+#[test]
+fn a_refused_growth_changes_no_row_of_loans(rt: HostRuntime) -> Result<(), Fail> {
+    play_each_alone(&rt, loans::ROWS, false)
+}
+
+#[test]
+fn a_refused_growth_changes_no_row_of_bytes(rt: HostRuntime) -> Result<(), Fail> {
+    play_each_alone(&rt, bytes::ROWS, false)
+}
+
+#[test]
+fn a_refused_growth_changes_no_row_of_devices(rt: HostRuntime) -> Result<(), Fail> {
+    play_each_alone(&rt, devices::ROWS, false)
+}
+
+#[test]
+fn a_refused_growth_changes_no_row_of_rebases(rt: HostRuntime) -> Result<(), Fail> {
+    play_each_alone(&rt, rebasing::ROWS, false)
+}
+
+#[test]
+fn a_refused_growth_changes_no_row_of_large_blocks(rt: HostRuntime) -> Result<(), Fail> {
+    play_each_alone(&rt, memory::ROWS, false)
+}
+
+/// The same, with a rebase behind each call, and once more where memory is refused for that.
+#[test]
+fn a_refused_growth_changes_no_row_of_bytes_with_rebases(rt: HostRuntime) -> Result<(), Fail> {
+    play_each_alone(&rt, bytes::ROWS, true)
+}
+
+#[test]
+fn a_refused_growth_changes_no_row_of_pointers_with_rebases(rt: HostRuntime) -> Result<(), Fail> {
+    play_each_alone(&rt, pointers::ROWS, true)
 }
 
 /// The number of devices is from 1 to 4.

@@ -3,7 +3,7 @@
 use crate::tests::language::{At, Check};
 use crate::tests::turns::section;
 use acc_base::{Aim, Counters, Did, Event, Step};
-use acc_table::Table;
+use acc_table::{DeviceBase, Table};
 use std::process::Abort;
 
 /// What each item of an event did.
@@ -50,6 +50,49 @@ fn counted(table: &Table, device: u64, at: At) -> Option<(u64, u64)> {
     Some((structured, dynamic))
 }
 
+/// How much of each kind the base has of a device.
+fn based(table: &Table, device: u64) -> [usize; 7] {
+    match table.base().devices().get(device as usize) {
+        Some(base) => [
+            base.ranges().len(),
+            base.blocks().len(),
+            base.attached().len(),
+            base.loans().len(),
+            queued(base),
+            base.regions().len(),
+            base.memories().len(),
+        ],
+        None => [0; 7],
+    }
+}
+
+/// How many transfers wait in the queues of a base.
+fn queued(base: &DeviceBase) -> usize {
+    let mut count: usize = 0;
+    for queue in base.queues() {
+        count = count.saturating_add(queue.len());
+    }
+    count
+}
+
+fn births_in(table: &Table, device: u64) -> u64 {
+    match table.base().devices().get(device as usize) {
+        Some(base) => base.births(),
+        None => 0,
+    }
+}
+
+/// The numbers that a base has.
+fn numbers_in(table: &Table, device: u64) -> (u64, u64, u64, usize) {
+    let base = table.base();
+    (
+        births_in(table, device),
+        base.next_region(),
+        base.next_serial(),
+        base.host().len(),
+    )
+}
+
 /// Whether a query is answered from the trace, which is empty behind a rebase.
 pub fn is_of_trace(check: Check) -> bool {
     matches!(
@@ -70,6 +113,10 @@ fn holds(table: &Table, device: u64, check: Check) -> bool {
         Check::Aims(number, wanted) => are_aims(did_at(table, number), wanted),
         Check::Bytes(number, wanted) => bytes_at(table, number) == wanted,
         Check::Stored(wanted) => table.trace().len() == wanted,
+        Check::Based(wanted) => based(table, device) == wanted,
+        Check::BasedNumbers(births, region, serial, host) => {
+            numbers_in(table, device) == (births, region, serial, host)
+        }
         Check::Attached(pointer, wanted) => table.attachment(device, pointer) == wanted,
         Check::Host(at, wanted) => table.host_read(section(at)) == wanted,
         Check::Device(at, wanted) => table.device_read(device, section(at)) == wanted,

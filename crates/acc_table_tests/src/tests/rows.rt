@@ -4,16 +4,16 @@
 use crate::tests::language::{Limits, Row};
 use acc_base::{DEVICE_BASE, Fault, HOST_BASE, Step};
 
-mod arrays;
-mod bytes;
-mod devices;
-mod limits;
-mod loans;
-mod memory;
-mod pointers;
-mod queues;
-mod rebasing;
-mod regions;
+pub mod arrays;
+pub mod bytes;
+pub mod devices;
+pub mod limits;
+pub mod loans;
+pub mod memory;
+pub mod pointers;
+pub mod queues;
+pub mod rebasing;
+pub mod regions;
 
 /// The rows of each subject.
 pub const SUBJECTS: [&[Row]; 10] = [

@@ -1,13 +1,13 @@
 //! Events that are folded into the base, and the room that the trace has then.
 
 use crate::tests::language::Ask::{
-    Enter, EnterData, Exit, ExitDataLater, UpdateLater, Wait, Write,
+    Enter, EnterData, Exit, ExitDataLater, Lend, UpdateLater, Wait, Write,
 };
-use crate::tests::language::Check::{Events, Host, Present, Stored, Used};
+use crate::tests::language::Check::{Based, BasedNumbers, Events, Host, Present, Stored, Used};
 use crate::tests::language::Line::{Does, Drains, Gives, Rebases, Refuses, Says, Spares};
 use crate::tests::language::{Ask, Limits, Row};
-use crate::tests::rows::{A, WIDE};
-use acc_base::EnterClause::Copyin;
+use crate::tests::rows::{A, FULL, TO_HOST, WIDE};
+use acc_base::EnterClause::{Attach, Copyin};
 use acc_base::ExitClause::Copyout;
 use acc_base::UpdateClause::ToSelf;
 use acc_base::{Fault, RegionClause};
@@ -84,6 +84,21 @@ pub const ROWS: &[Row] = &[
             Rebases(2),
             Says(Events(11)),
             Says(Used(32)),
+        ],
+    },
+    Row {
+        name: "a base has all that the table has",
+        limits: FULL,
+        lines: &[
+            Does(Write(A + 8, TO_HOST)),
+            Does(EnterData(&[(Copyin, A, 16), (Copyin, A + 16, 16), (Copyin, A + 32, 16)])),
+            Does(EnterData(&[(Attach, A + 8, 8)])),
+            Gives(Enter(&[(RegionClause::Present, A + 16, 16)]), 1),
+            Gives(Lend(1, (A + 16, 16)), 1),
+            Does(ExitDataLater(&[(Copyout, A + 32, 16)], 2)),
+            Rebases(6),
+            Says(Based([2, 3, 1, 1, 1, 1, 3])),
+            Says(BasedNumbers(3, 2, 2, 64)),
         ],
     },
 ];

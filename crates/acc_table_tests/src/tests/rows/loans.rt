@@ -118,7 +118,7 @@ pub const ROWS: &[Row] = &[
             Gives(Enter(&[]), 1),
             Gives(Lend(1, (A + 4, 8)), 1),
             Brings(
-                &[Write(A + 0, &[9]), ARRAY, REGION, LEND_MIDDLE],
+                &[Write(A, &[9]), ARRAY, REGION, LEND_MIDDLE],
                 Some(NO_LEASE_1),
             ),
             Brings(

@@ -1,4 +1,4 @@
-//! Rows of the table, and lives, drills and workers on a runtime: with ample memory, and where a growth is refused. Each is
+//! Lives, drills and workers on a runtime: with ample memory, and where a growth is refused. Each is
 //! refused in turn where an allocator is loaded before the program of these tests that refuses one.
 #![tactic(auto)]
 
@@ -16,8 +16,6 @@ mod lives;
 mod parts;
 #[cfg(test)]
 mod scenes;
-#[cfg(test)]
-mod tables;
 
 #[cfg(test)]
 use std::fmt::Debug;

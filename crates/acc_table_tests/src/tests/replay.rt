@@ -2,10 +2,13 @@
 //! than its base and its events.
 
 use acc_base::{
-    Did, EnterClause, Event, ExitClause, HOST_BASE, Item, QUEUE_COUNT, RegionClause, Section, Step,
-    UpdateClause,
+    Aim, Did, EnterClause, Event, ExitClause, HOST_BASE, Item, QUEUE_COUNT, RegionClause, Section,
+    Step, UpdateClause,
 };
 use std::alloc::{AllocError, Global};
+
+/// How many bytes a pointer has.
+const POINTER_LEN: u64 = 8;
 
 /// A block or a queue of a device, by its number there.
 #[derive(Clone, Copy, PartialEq, Eq)]
@@ -38,7 +41,15 @@ struct Loan {
     at: usize,
 }
 
-/// All memories, as events told one after the other give them. No event of the replay attaches a pointer.
+/// A pointer in a block that is attached, and how often.
+#[derive(Clone, Copy)]
+struct Attached {
+    block: Name,
+    pointer: u64,
+    count: u64,
+}
+
+/// All memories, as events told one after the other give them.
 #[derive(Drop)]
 pub struct Replay {
     /// The bytes of host memory.
@@ -50,6 +61,9 @@ pub struct Replay {
     // What each entry to a region listed.
     regions: Vec<(u64, Vec<Item<RegionClause>>)>,
     loans: Vec<Loan>,
+    attached: Vec<Attached>,
+    /// How often a pointer was aimed at a new target; at the same one again; detached once; and at once.
+    pub aims: [u64; 4],
     // The device of the event that is told.
     device: u64,
 }
@@ -66,15 +80,36 @@ fn overwrite(bytes: &mut [u8], at: usize, new: &[u8]) {
     }
 }
 
-/// Copies so many bytes from one place to another.
-fn copy(from: &[u8], at: usize, to: &mut [u8], place: usize, len: usize) {
+/// Whether an address is one of the eight of a pointer in a block that is attached.
+fn is_left_out(attached: &[Attached], block: Name, address: u64) -> bool {
+    attached.iter().any(|kept| {
+        kept.block == block
+            && kept.pointer <= address
+            && address < kept.pointer.saturating_add(POINTER_LEN)
+    })
+}
+
+/// Copies the bytes of a transfer from one place to another, but for those of attached pointers.
+fn copy(
+    transfer: Transfer,
+    attached: &[Attached],
+    from: &[u8],
+    at: usize,
+    to: &mut [u8],
+    place: usize,
+) {
+    let Section { start, len } = transfer.section;
+    let mut address = start;
     for (byte, read) in to
         .iter_mut()
         .skip(place)
         .zip(from.iter().skip(at))
-        .take(len)
+        .take(len as usize)
     {
-        *byte = *read;
+        if !is_left_out(attached, transfer.block, address) {
+            *byte = *read;
+        }
+        address = address.saturating_add(1);
     }
 }
 
@@ -127,6 +162,8 @@ impl Replay {
             later: Vec::new(alloc),
             regions: Vec::new(alloc),
             loans: Vec::new(alloc),
+            attached: Vec::new(alloc),
+            aims: [0; 4],
             device: 0,
         })
     }
@@ -146,19 +183,115 @@ impl Replay {
 
     /// Makes a copy with the bytes of this moment.
     fn make(&mut self, transfer: Transfer) {
-        let Transfer {
-            block,
-            section,
-            out,
-        } = transfer;
-        let host = place(HOST_BASE, section.start);
-        let len = section.len as usize;
-        for kept in self.blocks.iter_mut().filter(|kept| kept.name == block) {
-            let at = place(kept.start, section.start);
-            if out {
-                copy(&kept.bytes, at, &mut self.host, host, len);
+        let start = transfer.section.start;
+        let host = place(HOST_BASE, start);
+        for kept in self.blocks.iter_mut() {
+            let at = place(kept.start, start);
+            if kept.name != transfer.block {
+                continue;
+            }
+            if transfer.out {
+                copy(
+                    transfer,
+                    &self.attached,
+                    &kept.bytes,
+                    at,
+                    &mut self.host,
+                    host,
+                );
             } else {
-                copy(&self.host, host, &mut kept.bytes, at, len);
+                copy(
+                    transfer,
+                    &self.attached,
+                    &self.host,
+                    host,
+                    &mut kept.bytes,
+                    at,
+                );
+            }
+        }
+    }
+
+    /// Writes the eight bytes of a pointer in a block.
+    fn point(&mut self, block: Name, pointer: u64, bytes: [u8; 8]) {
+        for kept in self.blocks.iter_mut().filter(|kept| kept.name == block) {
+            let at = place(kept.start, pointer);
+            overwrite(&mut kept.bytes, at, &bytes);
+        }
+    }
+
+    /// The eight bytes of a pointer in host memory.
+    fn host_pointer(&self, pointer: u64) -> [u8; 8] {
+        let mut bytes = [0; 8];
+        let host = self.host.iter().skip(place(HOST_BASE, pointer));
+        for (byte, read) in bytes.iter_mut().zip(host) {
+            *byte = *read;
+        }
+        bytes
+    }
+
+    /// A pointer in a block is attached so often now.
+    fn count(&mut self, block: Name, pointer: u64, count: u64) -> Result<(), AllocError> {
+        self.attached
+            .retain(|kept| kept.block != block || kept.pointer != pointer);
+        if count > 0 {
+            self.attached.push(Attached {
+                block,
+                pointer,
+                count,
+            })?;
+        }
+        Ok(())
+    }
+
+    /// How often a pointer in a block is attached.
+    fn counted(&self, block: Name, pointer: u64) -> u64 {
+        let mut attached = self.attached.iter();
+        match attached.find(|kept| kept.block == block && kept.pointer == pointer) {
+            Some(kept) => kept.count,
+            None => 0,
+        }
+    }
+
+    /// A pointer is attached once less, or not at all: then it holds what the host's does.
+    fn detach(&mut self, block: Name, pointer: u64, count: u64) -> Result<(), AllocError> {
+        if count == 0 {
+            let bytes = self.host_pointer(pointer);
+            self.point(block, pointer, bytes);
+        }
+        self.count(block, pointer, count)
+    }
+
+    /// What becomes of the pointer of an item.
+    fn aim(&mut self, aim: Aim) -> Result<(), AllocError> {
+        match aim {
+            Aim::None => Ok(()),
+            Aim::New {
+                pointer,
+                block,
+                target,
+            } => {
+                self.aims[0] = self.aims[0].saturating_add(1);
+                let block = self.name(block);
+                self.point(block, pointer, target.to_le_bytes());
+                self.count(block, pointer, 1)
+            }
+            Aim::Again { pointer, block } => {
+                self.aims[1] = self.aims[1].saturating_add(1);
+                let block = self.name(block);
+                let count = self.counted(block, pointer).saturating_add(1);
+                self.count(block, pointer, count)
+            }
+            Aim::Less { pointer, block } => {
+                self.aims[2] = self.aims[2].saturating_add(1);
+                let block = self.name(block);
+                let count = self.counted(block, pointer).saturating_sub(1);
+                self.detach(block, pointer, count)
+            }
+            Aim::Cleared { pointer, block } => {
+                self.aims[3] = self.aims[3].saturating_add(1);
+                let block = self.name(block);
+                self.detach(block, pointer, 0)
             }
         }
     }
@@ -187,18 +320,30 @@ impl Replay {
         }
     }
 
-    /// A new block is filled, and gets the bytes of the host where the clause copies them.
+    /// A new block is filled, and gets the bytes of the host where the clause copies them. Then the pointer is attached.
     fn enter(
         &mut self,
         alloc: Global,
         section: Section,
         copies: Copies,
         queue: Option<u64>,
-        step: Step,
+        did: Did,
     ) -> Result<(), AllocError> {
-        let Step::Born { block, place: _ } = step else {
-            return Ok(());
-        };
+        if let Step::Born { block, place: _ } = did.step {
+            self.bear(alloc, section, copies, queue, block)?;
+        }
+        self.aim(did.aim)
+    }
+
+    /// A block is born and filled.
+    fn bear(
+        &mut self,
+        alloc: Global,
+        section: Section,
+        copies: Copies,
+        queue: Option<u64>,
+        block: u64,
+    ) -> Result<(), AllocError> {
         let fill = if copies.zero { 0 } else { 0xa5 };
         let name = self.name(block);
         self.blocks.push(Block {
@@ -217,16 +362,18 @@ impl Replay {
         Ok(())
     }
 
-    /// The bytes of a block whose mapping has ended go to the host where the clause copies them.
+    /// The pointer is detached. Then the bytes of a block whose mapping has ended go to the host where the clause copies
+    /// them.
     fn leave(
         &mut self,
         section: Section,
         copies: Copies,
         queue: Option<u64>,
-        step: Step,
+        did: Did,
     ) -> Result<(), AllocError> {
+        self.aim(did.aim)?;
         let out = copies.out;
-        match step {
+        match did.step {
             Step::Dropped { block, ended: true } if out => {
                 let transfer = Transfer {
                     block: self.name(block),
@@ -249,7 +396,7 @@ impl Replay {
     ) -> Result<(), AllocError> {
         for (item, did) in items.iter().zip(did) {
             let copies = copies_of_region(item.clause);
-            self.enter(alloc, item.section, copies, None, did.step)?;
+            self.enter(alloc, item.section, copies, None, *did)?;
         }
         let kept = Vec::from_slice(alloc, items)?;
         self.regions.push((number, kept))?;
@@ -264,7 +411,7 @@ impl Replay {
         if at < self.regions.len() {
             let (_, items) = self.regions.remove(at);
             for (item, did) in items.iter().zip(did) {
-                self.leave(item.section, copies_of_region(item.clause), None, did.step)?;
+                self.leave(item.section, copies_of_region(item.clause), None, *did)?;
             }
         }
         Ok(())
@@ -280,7 +427,7 @@ impl Replay {
     ) -> Result<(), AllocError> {
         for (item, did) in items.iter().zip(did) {
             let copies = copies_of_enter(item.clause);
-            self.enter(alloc, item.section, copies, queue, did.step)?;
+            self.enter(alloc, item.section, copies, queue, *did)?;
         }
         Ok(())
     }
@@ -293,7 +440,7 @@ impl Replay {
         did: &[Did],
     ) -> Result<(), AllocError> {
         for (item, did) in items.iter().zip(did) {
-            self.leave(item.section, copies_of_exit(item.clause), queue, did.step)?;
+            self.leave(item.section, copies_of_exit(item.clause), queue, *did)?;
         }
         Ok(())
     }

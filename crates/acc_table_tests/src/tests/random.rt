@@ -1,26 +1,27 @@
-//! A thousand turns in no order on two devices, with full traces: a replay of the stored events alone has the bytes of all
+//! Two thousand turns in no order on two devices, with full traces: a replay of the stored events alone has the bytes of all
 //! memories.
 
-use crate::replay::Replay;
-use crate::same;
-use acc_base::EnterClause::{self, Copyin};
-use acc_base::ExitClause::{Copyout, Delete};
+use crate::tests::language::Ask::{
+    self, Back, Enter, EnterData, EnterDataVia, EnterVia, Exit, ExitData, ExitDataLater, Finalize,
+    FinalizeVia, Lend, Update, UpdateIfPresent, UpdateLater, Wait, Write,
+};
+use crate::tests::language::Limits;
+use crate::tests::replay::Replay;
+use crate::tests::rows::{A, WIDE};
+use crate::tests::same;
+use crate::tests::turns::{table_of, turn_of};
+use acc_base::EnterClause::{self, Attach, Copyin};
+use acc_base::ExitClause::{Copyout, Delete, Detach};
 use acc_base::RegionClause::{self, Copy, Present};
 use acc_base::UpdateClause::{ToDevice, ToSelf};
 use acc_base::{Event, Fault, Section};
 use acc_table::{Lease, Table, abandon_all};
-use acc_table_rows::Ask::{
-    Back, Enter, EnterData, Exit, ExitData, ExitDataLater, Finalize, Lend, Update, UpdateIfPresent,
-    UpdateLater, Wait, Write,
-};
-use acc_table_rows::subjects::{A, WIDE};
-use acc_table_rows::{Ask, Limits, table_of, take};
 use std::alloc::{AllocError, Global};
 use std::process::Abort;
 use std::test::Fail;
 
 /// How many turns are taken.
-const TURNS: u64 = 1_000;
+const TURNS: u64 = 2_000;
 
 /// How many devices there are.
 const DEVICES: u64 = 2;
@@ -36,6 +37,7 @@ const LIMITS: Limits = Limits {
     trace_cap: TURNS,
     full: true,
     devices: DEVICES,
+    ..WIDE
 };
 
 /// A second array, behind the first one.
@@ -44,15 +46,32 @@ const B: u64 = A + 16;
 /// A third.
 const C: u64 = A + 32;
 
+/// The address of the first array, as a pointer in the second one holds it.
+const TO_A: &[u8] = &[0, 0x10, 0, 0, 0, 0, 0, 0];
+
+/// That of the third.
+const TO_C: &[u8] = &[0x20, 0x10, 0, 0, 0, 0, 0, 0];
+
 /// Turns that name neither a region nor a loan.
 const ASKS: &[Ask] = &[
     Write(A, &[1, 2, 3]),
     Write(A + 6, &[4, 5, 6, 7]),
     Write(B, &[8, 9, 10, 11, 12, 13, 14, 15]),
+    Write(B, TO_A),
+    Write(B, TO_A),
+    Write(B, TO_C),
+    Write(B, TO_C),
     Write(C + 4, &[16, 17]),
     EnterData(&[(Copyin, A, 16)]),
     EnterData(&[(EnterClause::Create { zero: true }, B, 8), (Copyin, C, 16)]),
     EnterData(&[(EnterClause::Create { zero: false }, C, 16)]),
+    EnterDataVia(&[(Copyin, A, 16)], B),
+    EnterDataVia(&[(Copyin, C, 16)], B),
+    EnterData(&[(Attach, B, 8)]),
+    EnterData(&[(Attach, B, 8); 2]),
+    ExitData(&[(Detach, B, 8)]),
+    Finalize(&[(Detach, B, 8)]),
+    FinalizeVia(&[(Copyout, A, 16)], B),
     ExitData(&[(Copyout, A, 16)]),
     ExitData(&[(Delete, B, 8)]),
     ExitDataLater(&[(Copyout, C, 12)], 1),
@@ -71,6 +90,7 @@ const ASKS: &[Ask] = &[
     Ask::Step(1),
     Ask::Step(2),
     Enter(&[(Copy, A, 16), (RegionClause::Copyin, C, 16)]),
+    EnterVia(&[(Copy, A, 16), (RegionClause::Copyin, C, 16)], B),
     Enter(&[(RegionClause::Copyout { zero: true }, B, 8)]),
     Enter(&[(RegionClause::Create { zero: false }, C, 16), (Copy, B, 8)]),
     Enter(&[
@@ -203,7 +223,8 @@ fn take_one(
         Some(ask) => *ask,
         None => ask_of(choice.saturating_sub(ASKS.len()), region, leases.last()),
     };
-    take(table, rt.alloc(), device, ask, leases)?;
+    let turns = vec![in rt.alloc(); turn_of(rt.alloc(), device, ask)?]?;
+    drop(table.run(turns, leases)?);
     life.listen(rt.alloc(), table)?;
     compare(rt, table, &life.replay);
     if table.trace().len() >= FOLDED {
@@ -238,21 +259,27 @@ fn new_life(alloc: Global) -> Result<Life, AllocError> {
     })
 }
 
-/// Takes all turns on a table that lends nothing, and counts the events of each kind.
-fn live(rt: &(impl Abort + AllocGlobal), table: &mut Table) -> Result<[u64; 10], Fault> {
+/// Takes all turns on a table that lends nothing, and counts the events and the aims of each kind.
+fn live(
+    rt: &(impl Abort + AllocGlobal),
+    table: &mut Table,
+) -> Result<([u64; 10], [u64; 4]), Fault> {
     let mut life = new_life(rt.alloc())?;
     let mut leases = Vec::new(rt.alloc());
     let outcome = take_all(rt, table, &mut life, &mut leases);
     abandon_all(leases);
     outcome?;
-    Ok(life.kinds)
+    Ok((life.kinds, life.replay.aims))
 }
 
 /// Takes all turns, among which there are some of each kind.
 fn live_whole(rt: &(impl Abort + AllocGlobal), table: &mut Table) -> Result<(), Fail> {
-    let kinds = live(rt, table)?;
-    for count in kinds {
-        same(rt, "events of each kind", count >= 10, true);
+    let (kinds, aims) = live(rt, table)?;
+    for (kind, count) in kinds.iter().enumerate() {
+        assert!(rt; *count >= 10, "{count} events of kind {kind}");
+    }
+    for (kind, count) in aims.iter().enumerate() {
+        assert!(rt; *count >= 10, "{count} aims of kind {kind}");
     }
     Ok(())
 }

@@ -1,11 +1,8 @@
-//! The example of the README, as it stands there, and the sizes that it tells.
+//! The example of the README, as it stands there.
 
-use acc_base::{
-    Config, Did, Directive, EnterClause, Event, Fault, HOST_BASE, Item, List, RegionClause, Section,
-};
+use acc_base::{Config, Directive, EnterClause, Fault, HOST_BASE, Item, List, Section};
 use acc_table::{Call, Table, abandon};
 use std::alloc::Global;
-use std::mem::size_of;
 use std::process::Abort;
 use std::test::Fail;
 
@@ -61,11 +58,4 @@ fn takes(rt: &(impl Abort + AllocGlobal), table: &mut Table, used: u64) -> Resul
 fn an_array_of_20_bytes_takes_32(rt: HostRuntime) -> Result<(), Fail> {
     let mut table = boxed_table(rt.alloc())?;
     takes(&rt, &mut table, 32)
-}
-
-#[test]
-fn an_event_takes_88_bytes_and_each_item_96(rt: HostRuntime) {
-    assert_eq!(&rt; size_of::<Event>(), 88);
-    assert_eq!(&rt; size_of::<Item<RegionClause>>(), 40);
-    assert_eq!(&rt; size_of::<Did>(), 56);
 }

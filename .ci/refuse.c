@@ -1,5 +1,5 @@
-/* Loaded before a test program, it refuses one growth of memory, and one start of a thread: those of the numbers that the
-   variables REFUSE_GROWTH and REFUSE_THREAD give, counted from 1. Where it did, it leaves an empty file of the name that
+/* Loaded before a test program, it refuses one growth of memory, or one start of a thread: that of the number that the
+   variable REFUSE_GROWTH or REFUSE_THREAD gives, counted from 1. Where it did, it leaves an empty file of the name that
    REFUSE_REPORT gives. Each call of a function below counts, also one that asks for less memory than before. */
 #define _GNU_SOURCE
 #include <dlfcn.h>
@@ -30,19 +30,16 @@ static bool is_refused(atomic_long *counter, const char *variable)
     return true;
 }
 
-/* A function of the C library: `answer` is what it answers where it is refused. `dlsym` asks for no memory where it finds
-   a name. */
-#define REFUSING(counter, variable, answer, type, name, parameters, arguments)                                           \
+/* A function of the C library: `answer` is what it answers where it is refused. `dlsym` asks for no memory where it
+   finds a name. The others that give memory, such as reallocarray, have it of these. */
+#define REFUSING(counter, variable, answer, type, name, parameters, arguments)                                         \
     type name parameters                                                                                               \
     {                                                                                                                  \
-        static type(*_Atomic real) parameters;                                                                         \
-        if (is_refused(&counter, variable)) {                                                                            \
+        if (is_refused(&counter, variable)) {                                                                          \
             errno = ENOMEM;                                                                                            \
             return answer;                                                                                             \
         }                                                                                                              \
-        if (!real)                                                                                                     \
-            real = (type(*) parameters)dlsym(RTLD_NEXT, #name);                                                        \
-        return real arguments;                                                                                         \
+        return ((type(*) parameters)dlsym(RTLD_NEXT, #name)) arguments;                                                \
     }
 #define GROWING(answer, type, name, parameters, arguments)                                                             \
     REFUSING(growths, "REFUSE_GROWTH", answer, type, name, parameters, arguments)
@@ -50,7 +47,6 @@ static bool is_refused(atomic_long *counter, const char *variable)
 GROWING(NULL, void *, malloc, (size_t size), (size))
 GROWING(NULL, void *, calloc, (size_t count, size_t size), (count, size))
 GROWING(NULL, void *, realloc, (void *at, size_t size), (at, size))
-GROWING(NULL, void *, reallocarray, (void *at, size_t count, size_t size), (at, count, size))
 GROWING(NULL, void *, aligned_alloc, (size_t align, size_t size), (align, size))
 GROWING(NULL, void *, memalign, (size_t align, size_t size), (align, size))
 GROWING(NULL, void *, valloc, (size_t size), (size))

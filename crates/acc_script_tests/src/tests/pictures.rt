@@ -1,10 +1,8 @@
 //! What pictures have, and which are made.
 
-use super::{Pages, same, words};
-use acc_command::tool;
-use acc_script::{MemorySink, MemorySource};
+use super::{pictures_with, run_tool, same};
+use acc_script::MemorySink;
 use std::alloc::AllocError;
-use std::cell::Cell;
 use std::process::Abort;
 use std::sync::Wait;
 use std::test::Fail;
@@ -108,41 +106,25 @@ const ROWS: [Row; 13] = [
     ),
 ];
 
-/// Runs the script of a row, and compares.
+/// Runs the script of a row, and compares the status and how many pictures have what they have to.
 fn check_row<R: Threads + Wait + Sync + AllocGlobal + Abort>(
     rt: &R,
     row: Row,
-    out: &mut MemorySink,
-    err: &mut MemorySink,
 ) -> Result<(), AllocError> {
     let (options, script, status, wanted, count) = row;
-    let files = Pages {
-        alloc: rt.alloc(),
-        wanted,
-        pictures: Cell::new(0),
-    };
-    let words = words(rt.alloc(), options)?;
-    let mut reader = MemorySource::new(script.as_bytes());
-    let found = tool(rt, words, &mut reader, out, err, &files);
-    same(rt, found, status, options);
-    same(rt, files.pictures.get(), count, options);
-    Ok(())
-}
-
-/// Runs the script of a row over two sinks.
-fn run_row<R: Threads + Wait + Sync + AllocGlobal + Abort>(
-    rt: &R,
-    row: Row,
-) -> Result<(), AllocError> {
     let mut out = MemorySink::new(rt.alloc());
     let mut err = MemorySink::new(rt.alloc());
-    check_row(rt, row, &mut out, &mut err)
+    let store = pictures_with(wanted);
+    let found = run_tool(rt, options, script.as_bytes(), &mut out, &mut err, &store)?;
+    same(rt, found, status, options);
+    same(rt, store.pictures.get(), count, options);
+    Ok(())
 }
 
 #[test]
 fn pictures_have_what_the_memories_have(rt: HostRuntime) -> Result<(), Fail> {
     for row in &ROWS {
-        run_row(&rt, *row)?;
+        check_row(&rt, *row)?;
     }
     Ok(())
 }

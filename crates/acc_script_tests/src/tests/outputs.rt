@@ -1,9 +1,10 @@
 //! What the program tells where a source or a sink fails.
 
-use super::{check_status, files, same, words};
+use super::ends::Trickle;
+use super::{check_status, pictures_with, same, words};
 use acc_command::tool;
 use acc_follow::Output;
-use acc_script::{MemorySink, MemorySource, Sink, Source, ToWrite};
+use acc_script::{MemorySink, MemorySource, Sink, ToWrite};
 use std::alloc::AllocError;
 use std::cell::Cell;
 use std::io::{self, BufWriter, ErrorKind, Write};
@@ -40,59 +41,41 @@ impl Write for LimitedWriter<'_> {
     }
 }
 
-/// Keeps what it is told, and how many bytes of the output were taken by then.
+/// Keeps what it is told, in how many pieces, and how many bytes of the output were taken by then.
 #[derive(Drop)]
 struct Witness<'a> {
     text: MemorySink,
+    pieces: u8,
     taken: &'a Cell<usize>,
-    seen: Option<usize>,
+    seen: usize,
 }
 
 impl Sink for Witness<'_> {
     fn write(&mut self, piece: &[u8]) -> Option<usize> {
-        self.seen = Some(self.taken.get());
+        self.pieces = self.pieces.saturating_add(1);
+        self.seen = self.taken.get();
         self.text.write(piece)
     }
-}
-
-/// Gives its bytes one by one, and then fails.
-#[derive(Drop)]
-struct FailingSource<'a> {
-    bytes: &'a [u8],
-}
-
-impl Source for FailingSource<'_> {
-    fn read(&mut self, piece: &mut [u8]) -> Option<usize> {
-        let (first, others) = self.bytes.split_first()?;
-        if piece.is_empty() {
-            return Some(0);
-        }
-        piece[0] = *first;
-        self.bytes = others;
-        Some(1)
-    }
-}
-
-/// Runs the program on a source that fails; compares what is told and the status.
-fn check_failed_read<R: Threads + Wait + Sync + AllocGlobal + Abort>(
-    rt: &R,
-    out: &mut MemorySink,
-    err: &mut MemorySink,
-) -> Result<(), AllocError> {
-    let words = words(rt.alloc(), "")?;
-    let mut reader = FailingSource {
-        bytes: b"report\nreport\n",
-    };
-    let status = tool(rt, words, &mut reader, out, err, &files(rt.alloc()));
-    check_status(rt, err, status, "accrun: 20 Read\n", 2, "a failed read");
-    Ok(())
 }
 
 #[test]
 fn a_failed_read_runs_nothing(rt: HostRuntime) -> Result<(), Fail> {
     let mut out = MemorySink::new(rt.alloc());
     let mut err = MemorySink::new(rt.alloc());
-    check_failed_read(&rt, &mut out, &mut err)?;
+    let mut reader = Trickle {
+        bytes: b"report\nreport\n",
+        fails: true,
+    };
+    let words = words(rt.alloc(), "")?;
+    let status = tool(
+        &rt,
+        words,
+        &mut reader,
+        &mut out,
+        &mut err,
+        &pictures_with(&[]),
+    );
+    check_status(&rt, &err, status, "accrun: 20 Read\n", 2, "a failed read");
     assert!(rt; out.as_slice().is_empty());
     Ok(())
 }
@@ -109,70 +92,28 @@ type OutputRow = (
     usize,
 );
 
+/// What is told of an output that cannot be written.
+const WRITE: &str = "accrun: 21 Write\n";
+
+/// What is told of a fault behind the first line.
+const FAULT: &str = "accrun: line 2: UnknownName\n";
+
 /// All that a buffer kept back is handed on, where that can be done, and else this is told.
 const OUTPUTS: &[OutputRow] = &[
     (100, true, "", "report\n", "", 0, 50),
     (100, true, "", "array a 1\nupdate self(a)\n", "", 1, 37),
-    (
-        100,
-        true,
-        "",
-        "report\nshow a\n",
-        "accrun: line 2: UnknownName\n",
-        2,
-        50,
-    ),
-    (0, true, "", "report\n", "accrun: 21 Write\n", 2, 0),
-    (2, true, "", "report\n", "accrun: 21 Write\n", 2, 2),
-    (100, false, "", "report\n", "accrun: 21 Write\n", 2, 50),
-    (
-        100,
-        false,
-        "",
-        "array a 1\nupdate self(a)\n",
-        "accrun: 21 Write\n",
-        2,
-        37,
-    ),
-    (
-        100,
-        false,
-        "",
-        "report\nshow a\n",
-        "accrun: line 2: UnknownName\n",
-        2,
-        50,
-    ),
+    (100, true, "", "report\nshow a\n", FAULT, 2, 50),
+    (0, true, "", "report\n", WRITE, 2, 0),
+    (2, true, "", "report\n", WRITE, 2, 2),
+    (100, false, "", "report\n", WRITE, 2, 50),
+    (100, false, "", "array a 1\nupdate self(a)\n", WRITE, 2, 37),
+    (100, false, "", "report\nshow a\n", FAULT, 2, 50),
     // What is printed is longer than the buffer, which is full before the line ends.
     (10_000, true, "", "array a 4100\nshow a\n", "", 0, 8201),
-    (
-        5_000,
-        true,
-        "",
-        "array a 4100\nshow a\n",
-        "accrun: 21 Write\n",
-        2,
-        5_000,
-    ),
+    (5_000, true, "", "array a 4100\nshow a\n", WRITE, 2, 5_000),
     // A program that cannot be taken whole is told; of a script at fault nothing is taken.
-    (
-        100,
-        true,
-        "--emit c",
-        "array a 1\n",
-        "accrun: 21 Write\n",
-        2,
-        100,
-    ),
-    (
-        100,
-        true,
-        "--emit c",
-        "array a 1\nshow b\n",
-        "accrun: line 2: UnknownName\n",
-        2,
-        0,
-    ),
+    (100, true, "--emit c", "array a 1\n", WRITE, 2, 100),
+    (100, true, "--emit c", "array a 1\nshow b\n", FAULT, 2, 0),
 ];
 
 /// Runs the script of a row over standard output; compares what is told, when, the status, and what was taken.
@@ -187,14 +128,15 @@ fn check_output_over<R: Threads + Wait + Sync + AllocGlobal + Abort, O: Output>(
     let mut reader = MemorySource::new(script.as_bytes());
     let mut err = Witness {
         text: MemorySink::new(rt.alloc()),
+        pieces: 0,
         taken,
-        seen: None,
+        seen: wanted,
     };
-    let found = tool(rt, words, &mut reader, out, &mut err, &files(rt.alloc()));
+    let found = tool(rt, words, &mut reader, out, &mut err, &pictures_with(&[]));
     check_status(rt, &err.text, found, told, status, script);
     same(rt, taken.get(), wanted, script);
-    let is_told = !told.is_empty();
-    same(rt, err.seen, is_told.then_some(wanted), script);
+    same(rt, err.pieces, u8::from(!told.is_empty()), script);
+    same(rt, err.seen, wanted, script);
     Ok(())
 }
 
@@ -220,40 +162,5 @@ fn output_is_flushed_and_its_failure_told(rt: HostRuntime) -> Result<(), Fail> {
     for row in OUTPUTS {
         check_output(&rt, *row)?;
     }
-    Ok(())
-}
-
-/// Takes one write, of a whole line, and fails before and after it.
-#[derive(Drop)]
-struct OneLineSink {
-    lines: u32,
-}
-
-impl Sink for OneLineSink {
-    fn write(&mut self, piece: &[u8]) -> Option<usize> {
-        if self.lines > 0 || !piece.ends_with(b"\n") {
-            return None;
-        }
-        self.lines += 1;
-        Some(piece.len())
-    }
-}
-
-/// Runs a line at fault, and answers the status.
-fn run_fault<R: Threads + Wait + Sync + AllocGlobal>(
-    rt: &R,
-    err: &mut OneLineSink,
-) -> Result<u8, AllocError> {
-    let words = words(rt.alloc(), "")?;
-    let mut reader = MemorySource::new(b"array\n");
-    let mut out = MemorySink::new(rt.alloc());
-    Ok(tool(rt, words, &mut reader, &mut out, err, &files(rt.alloc())))
-}
-
-#[test]
-fn a_fault_is_told_in_one_piece(rt: HostRuntime) -> Result<(), Fail> {
-    let mut err = OneLineSink { lines: 0 };
-    let status = run_fault(&rt, &mut err)?;
-    assert_eq!(rt; (status, err.lines), (2, 1));
     Ok(())
 }

@@ -1,12 +1,17 @@
-//! Rows of scripts that are emitted as programs.
+//! Scripts that are emitted as programs.
 
-use super::rows::Row;
+use super::{check_status, pictures_with, run_tool, same};
+use acc_script::MemorySink;
+use std::process::Abort;
+use std::sync::Wait;
+use std::test::Fail;
+use std::thread::Threads;
 
 /// A script, the declarations of its arrays in C, and all of the program from `main` on.
-pub type ProgramRow = (&'static str, &'static str, &'static str, &'static str);
+type Row = (&'static str, &'static str, &'static str, &'static str);
 
 /// Scripts and their programs; in front the other options than `--emit c`.
-pub const PROGRAMS: [ProgramRow; 4] = [
+const PROGRAMS: [Row; 4] = [
     // A region is a block. A question has its line, and the bytes that have to come.
     (
         "",
@@ -192,97 +197,37 @@ pub const PROGRAMS: [ProgramRow; 4] = [
     ),
 ];
 
-/// Scripts that cannot be emitted, and those that have a fault: nothing is written.
-pub const NO_PROGRAMS: [Row; 13] = [
-    (
-        "--emit c --devices 2",
-        "set device_num(0)\nset device_num(1)\n",
-        "",
-        "accrun: line 2 cannot be emitted: a program has device 0 alone\n",
-        2,
-    ),
-    (
-        "--emit c",
-        "array a 4\nwait\nupdate self(a)\n",
-        "",
-        "accrun: line 3 cannot be emitted: the statement is refused\n",
-        2,
-    ),
-    (
-        "--emit c",
-        "array a 4\narray b 16\nenter data copyin(a[0:8])\n",
-        "",
-        "accrun: line 3 cannot be emitted: a section does not lie in one array\n",
-        2,
-    ),
-    (
-        "--emit c",
-        "array a 4\nshow a[1:4]\n",
-        "",
-        "accrun: line 2 cannot be emitted: a section does not lie in one array\n",
-        2,
-    ),
-    (
-        "--emit c",
-        "array s 8\narray t 8\nwrite s[0] 1010000000000000\nenter data copyin(s)\nenter data copyin(t via s[0])\n",
-        "",
-        "accrun: line 5 cannot be emitted: a pointer is attached that no 'point' wrote\n",
-        2,
-    ),
-    (
-        "--emit c",
-        "array s 8\narray t 8\npoint s[0] to t[0]\nwrite s[7] 00\nenter data copyin(s) copyin(t) attach(s[0])\n",
-        "",
-        "accrun: line 5 cannot be emitted: a pointer is attached that no 'point' wrote\n",
-        2,
-    ),
-    (
-        "--emit c",
-        "array a 4\nenter data create(a)\nupdate self(a) async(1)\nexit data delete(a) async(2)\n",
-        "",
-        "accrun: line 4 cannot be emitted: the outcome depends on when a queued copy is made\n",
-        2,
-    ),
-    (
-        "--emit c --until-refusal",
-        "array a 4\nwait",
-        "",
-        "accrun: line 3 cannot be emitted: no statement was refused\n",
-        2,
-    ),
-    (
-        "--emit c --until-refusal",
-        "array a 4\nenter data copyin(a) async(16)\n",
-        "",
-        "accrun: line 2 cannot be emitted: the refusal comes from a limit of this table\n",
-        2,
-    ),
-    (
-        "--emit c --until-refusal --device 16",
-        "array a 17\nenter data copyin(a)\n",
-        "",
-        "accrun: line 2 cannot be emitted: the refusal comes from a limit of this table\n",
-        2,
-    ),
-    (
-        "--emit c",
-        "array a 4\nshow a\nshow b\n",
-        "",
-        "accrun: line 3: UnknownName\n",
-        2,
-    ),
-    (
-        "--emit c --until-refusal",
-        "array a 4\ndata copyin(a)\n",
-        "",
-        "accrun: line 3: Unclosed\n",
-        2,
-    ),
-    (
-        "--emit c --host 24",
-        "wait\n",
-        "",
-        "accrun: 2 BadConfig\n",
-        2,
-    ),
-];
+/// The program of a row has its declarations, and ends with its `main`.
+fn check_program<R: Threads + Wait + Sync + AllocGlobal + Abort>(
+    rt: &R,
+    row: Row,
+) -> Result<(), Fail> {
+    let (options, script, declarations, body) = row;
+    let mut out = MemorySink::new(rt.alloc());
+    let mut err = MemorySink::new(rt.alloc());
+    let options = format!(in rt.alloc(); "--emit c {options}")?;
+    let found = run_tool(
+        rt,
+        &options,
+        script.as_bytes(),
+        &mut out,
+        &mut err,
+        &pictures_with(&[]),
+    )?;
+    check_status(rt, &err, found, "", 0, script);
+    let text = str::from_utf8(out.as_slice())?;
+    let (front, back) = text
+        .split_at_checked(text.len().saturating_sub(body.len()))
+        .unwrap_or((text, ""));
+    same(rt, front.contains(declarations), true, script);
+    same(rt, back, body, script);
+    Ok(())
+}
+
+#[test]
+fn scripts_are_emitted_as_programs(rt: HostRuntime) -> Result<(), Fail> {
+    for row in &PROGRAMS {
+        check_program(&rt, *row)?;
+    }
+    Ok(())
+}

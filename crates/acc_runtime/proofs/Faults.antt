@@ -40,15 +40,19 @@ stopped_from rounds tickets done p q fresh (inr h) = inr (omega (arith, h.0, fre
 -- what came of the rounds of a thread, and its shares
 pub worked : (rounds : ℕ) (p q : Shares) (r : Result ⊤ Fault) (fault : Option Fault) → fault ≡ result_err r → HasRounds rounds p → q.made + q.tickets ≡ p.made + p.tickets
     → OnOk r (q.made ≡ p.made + 2 * rounds) → OnOk r (q.allowance ≡ p.allowance) → OnErr r ((done : ℕ) × (done < rounds) × HasStopped done p q) → IsWorked rounds q fault
-worked rounds p q (Ok x) fault is fresh kept made back stopped = record {
-  kept = omega (arith, kept, fresh.1, fresh.2);
-  made = λ none. omega (arith, made, fresh.2);
-  back = λ none. back ∙ fresh.0;
-  stopped = (rounds, inl (omega (arith, made, fresh.2), back ∙ fresh.0));
-}
+worked rounds p q (Ok x) fault is fresh kept made back stopped =
+    let all : q.made ≡ p.made + 2 * rounds = made in
+    let region : q.allowance ≡ 1 = back ∙ fresh.0 in
+    let whole : q.made ≡ 2 * rounds = omega (arith, all, fresh.2) in
+    record {
+      kept = omega (arith, kept, fresh.1, fresh.2);
+      made = λ none. whole;
+      back = λ none. region;
+      stopped = (rounds, inl (whole, region));
+    }
 worked rounds p q (Err e) fault is fresh kept made back stopped = record {
   kept = omega (arith, kept, fresh.1, fresh.2);
-  made = λ none. absurd cc;
-  back = λ none. absurd cc;
+  made = λ none. (let some : Some e ≡ None = sym is ∙ none in absurd cc);
+  back = λ none. (let some : Some e ≡ None = sym is ∙ none in absurd cc);
   stopped = (stopped.0, stopped_from rounds (2 * rounds) stopped.0 p q fresh stopped.2);
 }

@@ -2,4 +2,3 @@ pub mod Crossing
 pub mod Sharing
 pub mod Settling
 pub mod Faults
-pub mod Lengths

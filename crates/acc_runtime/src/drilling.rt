@@ -101,7 +101,6 @@ fn make_rounds<Regions: Ledger, Tickets: Ledger, Events: Ledger, R: Wait + Alloc
 }
 
 /// What one thread does.
-#[tactic(auto, using(crate::proofs::Faults::worked))]
 fn work<Regions: Ledger, Tickets: Ledger, Events: Ledger, R: Wait + AllocGlobal, G: Gate<R>>(
     rt: &R,
     runtime: &Runtime<Regions, Tickets, Events>,
@@ -114,7 +113,8 @@ fn work<Regions: Ledger, Tickets: Ledger, Events: Ledger, R: Wait + AllocGlobal,
     ensures { IsWorked rounds worker.new.caller worker.new.fault }
 {
     gate.before(rt, number);
-    worker.fault = make_rounds(rt, runtime, &mut worker.caller, rounds).err();
+    let outcome = make_rounds(rt, runtime, &mut worker.caller, rounds);
+    worker.fault = outcome.err();
     gate.after(rt, number);
 }
 
@@ -237,13 +237,13 @@ fn merge_all<Regions: Ledger, Tickets: Ledger, Events: Ledger>(
 }
 
 /// What a table says of the array, to a caller with this allowance.
-#[tactic(auto, using(acc_table::proofs::Tallied::none_told))]
 fn tell(table: &Table, allowance: u64) -> Drilled
     ensures allowance { result.allowance ≡ allowance }
     ensures told { IsTold table.now result }
     ensures structured { AllByRecursion (λ (r : Range). r.structured ≡ 0) (view 0 table.now.state).records.ranges → result.structured ≡ 0 }
 {
-    let counters = table.counters(DEVICE, ARRAY).unwrap_or(Counters {
+    let told = table.counters(DEVICE, ARRAY);
+    let counters = told.unwrap_or(Counters {
         structured: 0,
         dynamic: 0,
     });
@@ -323,5 +323,6 @@ pub fn drill<
     if let Some(fault) = merge_all(caller, workers, rounds) {
         return Err(fault);
     }
-    Ok(look(rt, runtime, caller))
+    let left = look(rt, runtime, caller);
+    Ok(left)
 }

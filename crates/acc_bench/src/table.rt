@@ -170,7 +170,7 @@ impl<R: AllocGlobal> Subject<R> for Ranges {
             Work::Fold => pair(table, alloc, last, 1),
             Work::Count => pair(table, alloc, at, 1),
             Work::Update => update(table, alloc, at, None),
-            Work::Queue(each) if round % each == 0 => apply(table, wait()),
+            Work::Queue(each) if round.is_multiple_of(*each) => apply(table, wait()),
             Work::Queue(_) => update(table, alloc, at, Some(0)),
             Work::IsPresent => Ok(u64::from(table.is_present(0, section_at(at)))),
         }

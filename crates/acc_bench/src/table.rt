@@ -143,7 +143,6 @@ impl<R: AllocGlobal> Subject<R> for Ranges {
 
     const ROWS: &'static [(&'static str, Work)] = &[
         ("absent, enter data and exit data", Work::Map(1)),
-        ("the same of 8 items", Work::Map(8)),
         ("the same of 64 items", Work::Map(64)),
         ("the same of 1 item, with rebases", Work::Fold),
         ("present, enter data and exit data", Work::Count),

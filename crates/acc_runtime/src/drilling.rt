@@ -113,8 +113,7 @@ fn work<Regions: Ledger, Tickets: Ledger, Events: Ledger, R: Wait + AllocGlobal,
     ensures { IsWorked rounds worker.new.caller worker.new.fault }
 {
     gate.before(rt, number);
-    let outcome = make_rounds(rt, runtime, &mut worker.caller, rounds);
-    worker.fault = outcome.err();
+    worker.fault = make_rounds(rt, runtime, &mut worker.caller, rounds).err();
     gate.after(rt, number);
 }
 
@@ -323,6 +322,5 @@ pub fn drill<
     if let Some(fault) = merge_all(caller, workers, rounds) {
         return Err(fault);
     }
-    let left = look(rt, runtime, caller);
-    Ok(left)
+    Ok(look(rt, runtime, caller))
 }

@@ -48,7 +48,7 @@ worked rounds p q (Ok x) fault is fresh kept made back stopped =
       kept = omega (arith, kept, fresh.1, fresh.2);
       made = λ none. whole;
       back = λ none. region;
-      stopped = (rounds, inl (whole, region));
+      stopped = (rounds, inl (omega (arith, whole), region));
     }
 worked rounds p q (Err e) fault is fresh kept made back stopped = record {
   kept = omega (arith, kept, fresh.1, fresh.2);

@@ -40,11 +40,11 @@ impl Blocks {
 
     /// Makes all blocks, and holes between them.
     fn fill(&mut self) -> Result<(), Fault> {
-        for _ in 0..2 * self.count {
+        for _ in 0..self.count.saturating_mul(2) {
             self.born(16)?;
         }
         for number in 0..self.count {
-            self.end(2 * number + 1);
+            self.end(number.wrapping_mul(2).wrapping_add(1));
         }
         Ok(())
     }

@@ -98,7 +98,7 @@ fn repeat<S: Subject<R>, R>(
     work: &S::Work,
     part: u32,
 ) -> Result<u64, Fault> {
-    let first = u64::from(part) * u64::from(S::ROUNDS);
+    let first = u64::from(part).wrapping_mul(u64::from(S::ROUNDS));
     let mut found = 0u64;
     for number in 0..u64::from(S::ROUNDS) {
         let more = subject.round(rt, work, first.wrapping_add(number))?;

@@ -143,7 +143,6 @@ impl<R: AllocGlobal> Subject<R> for Ranges {
 
     const ROWS: &'static [(&'static str, Work)] = &[
         ("absent, enter data and exit data", Work::Map(1)),
-        ("the same of 8 items", Work::Map(8)),
         ("the same of 64 items", Work::Map(64)),
         ("the same of 1 item, with rebases", Work::Fold),
         ("present, enter data and exit data", Work::Count),
@@ -170,7 +169,7 @@ impl<R: AllocGlobal> Subject<R> for Ranges {
             Work::Fold => pair(table, alloc, last, 1),
             Work::Count => pair(table, alloc, at, 1),
             Work::Update => update(table, alloc, at, None),
-            Work::Queue(each) if round % each == 0 => apply(table, wait()),
+            Work::Queue(each) if round.is_multiple_of(*each) => apply(table, wait()),
             Work::Queue(_) => update(table, alloc, at, Some(0)),
             Work::IsPresent => Ok(u64::from(table.is_present(0, section_at(at)))),
         }

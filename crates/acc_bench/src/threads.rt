@@ -61,7 +61,7 @@ fn play<
         caller: &mut caller,
         number: 0,
     };
-    first.time(work, threads.clamp(1, 64))
+    first.time(work, threads)
 }
 
 /// A thread of a number, which makes calls on 16 bytes of its own.
@@ -83,12 +83,12 @@ impl<
     fn time(&mut self, work: Work, threads: usize) -> Result<Duration> {
         let start = Instant::now(self.rt)?;
         self.share(work, threads)?;
-        let taken = each_since(self.rt, start, ROUNDS as u32 * threads as u32, 0)?;
-        let left = self.runtime.look(
-            self.rt,
-            self.caller,
-            |table| (table.regions(), table.used(0)),
-        );
+        let rounds = (ROUNDS as u32).saturating_mul(threads as u32);
+        let taken = each_since(self.rt, start, rounds, 0)?;
+        let rt = self.rt;
+        let left = self
+            .runtime
+            .look(rt, self.caller, |table| (table.regions(), table.used(0)));
         if left != (0, 0) {
             return Err(anyhow!("a call was refused"));
         }
@@ -97,6 +97,7 @@ impl<
 
     /// Shares the table among so many threads, and takes their shares back.
     fn share(&mut self, work: Work, threads: usize) -> Result<(), Fault> {
+        let threads = threads.clamp(1, 64);
         if let Work::Drills = work {
             drill(self.rt, self.runtime, self.caller, threads, ROUNDS, &Open)?;
             return Ok(());

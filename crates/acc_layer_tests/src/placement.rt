@@ -1,6 +1,5 @@
 //! Placement, by rows and against a plain list of the ranges that are taken.
 
-ghost use Rattle.std.specs.Prelude.{◌<◌};
 ghost use Rattle.acc_base.specs.Limits.{IsFromOne, IsSize};
 
 use crate::calls::{Subject, is_as_wanted};
@@ -163,11 +162,8 @@ fn step(space: &mut Space, number: u64) -> Result<bool, Fault> {
 }
 
 /// The number after this one in a fixed list of 2,147,483,646 numbers.
-fn following(number: u64) -> u64
-    requires { number < 2147483647 }
-    ensures { result < 2147483647 }
-{
-    number * 48271 % 2147483647
+fn following(number: u64) -> u64 {
+    number.wrapping_mul(48_271) % 2_147_483_647
 }
 
 /// The first of so many steps at which the space and the list did not agree, or `None`.

@@ -1,9 +1,11 @@
 -- What the threads of a drill leave: the first fault that one met, and their shares.
-use Rattle.std.proofs.Common.{ℕ, ◌≡◌, ◌+◌, ◌*◌, ◌≤◌, refl, sym, ◌∙◌, ap, List, [], ◌∷◌, ◌++◌, map, Option, None, Some, inl, inr, arith}
+use Rattle.std.proofs.Common.{ℕ, ◌≡◌, ◌+◌, ◌*◌, ◌<◌, ◌≤◌, refl, sym, ◌∙◌, ap, List, [], ◌∷◌, ◌++◌, map, Option, None, Some, Result, Ok, Err, inl, inr, arith}
+use Rattle.std.specs.Prelude.{⊤, OnOk, OnErr}
+use Rattle.std.specs.Result.{result_err}
 use Rattle.std.specs.Option.{option_or}
 use Rattle.acc_base.specs.declared.faults.Fault.{Fault}
 use Rattle.acc_runtime.specs.Shares.{Shares}
-use Rattle.acc_runtime.specs.Drills.{HasRounds, HasStopped, first_fault}
+use Rattle.acc_runtime.specs.Drills.{HasRounds, HasStopped, IsWorked, first_fault}
 
 or_either : (a b c : Option Fault) → option_or (option_or a b) c ≡ option_or a (option_or b c)
 or_either None b c = refl
@@ -34,3 +36,19 @@ stopped_with tickets done p (inr h) = (omega (arith, h.1), omega (arith, h.0))
 pub stopped_from : (rounds tickets done : ℕ) (p q : Shares) → HasRounds rounds p → HasStopped done p q → HasStopped done (record { allowance = 1; tickets = tickets; made = 0 }) q
 stopped_from rounds tickets done p q fresh (inl h) = inl (omega (arith, h.0, fresh.2), omega (arith, h.1, fresh.0))
 stopped_from rounds tickets done p q fresh (inr h) = inr (omega (arith, h.0, fresh.2), omega (arith, h.1, fresh.0))
+
+-- what came of the rounds of a thread, and its shares
+pub worked : (rounds : ℕ) (p q : Shares) (r : Result ⊤ Fault) (fault : Option Fault) → fault ≡ result_err r → HasRounds rounds p → q.made + q.tickets ≡ p.made + p.tickets
+    → OnOk r (q.made ≡ p.made + 2 * rounds) → OnOk r (q.allowance ≡ p.allowance) → OnErr r ((done : ℕ) × (done < rounds) × HasStopped done p q) → IsWorked rounds q fault
+worked rounds p q (Ok x) fault is fresh kept made back stopped = record {
+  kept = omega (arith, kept, fresh.1, fresh.2);
+  made = λ none. omega (arith, made, fresh.2);
+  back = λ none. back ∙ fresh.0;
+  stopped = (rounds, inl (omega (arith, made, fresh.2), back ∙ fresh.0));
+}
+worked rounds p q (Err e) fault is fresh kept made back stopped = record {
+  kept = omega (arith, kept, fresh.1, fresh.2);
+  made = λ none. absurd cc;
+  back = λ none. absurd cc;
+  stopped = (stopped.0, stopped_from rounds (2 * rounds) stopped.0 p q fresh stopped.2);
+}

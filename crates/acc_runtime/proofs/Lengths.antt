@@ -1,13 +1,10 @@
--- A lease, and a copy of host memory, is as long as the section that was asked for.
-use Rattle.std.proofs.Common.{ℕ, ◌≡◌, ◌≤◌, ◌-◌, refl, sym, ◌∙◌, ap, subst, Bool, true, false, cond, List, length, take, drop, Some, None, Result, Ok, Err, arith}
-use Rattle.std.specs.Prelude.{◌||◌, ⊤, MatchResult}
-use Rattle.std.proofs.lemmas.Bool.Decides.{nat_tests}
-use Rattle.std.proofs.lemmas.List.{length-take-le, length-drop}
+-- A lease is as long as the section that was asked for.
+use Rattle.std.proofs.Common.{ℕ, ◌≡◌, refl, sym, ◌∙◌, ap, subst, Some, Result, Ok, Err}
+use Rattle.std.specs.Prelude.{MatchResult, IfOk}
 use Rattle.acc_clauses.specs.Words.{Section, Event, Found, Fault}
 use Rattle.acc_base.specs.declared.calls.Call.TheVariants.{Lend}
 use Rattle.acc_base.specs.declared.mappings.Found.TheVariants.{Inside}
 use Rattle.acc_base.specs.declared.events.Event.TheVariants as events
-use Rattle.acc_base.specs.Section.{is_empty, is_within, host_memory, host_base}
 use Rattle.acc_base.specs.Results.{◌>>◌}
 use Rattle.acc_base.specs.Limits.{limits_on}
 use Rattle.acc_base.specs.Loans.{Leased, not_lent}
@@ -22,8 +19,10 @@ use Rattle.acc_base.proofs.Results.{then_ok, ok_same}
 use Rattle.acc_table.specs.declared.calls.Reply.{Reply}
 use Rattle.acc_table.specs.declared.calls.Reply.TheVariants as replies
 use Rattle.acc_table.specs.Calls.{reply_of, IsCarriedOut, IsDone}
-use Rattle.acc_table.specs.Queries.{host_read_of}
 use Rattle.acc_table.proofs.Replying.{made_of}
+use Rattle.acc_runtime.specs.Shares.{Shares}
+use Rattle.acc_runtime.specs.Acts.{IsActed}
+use Rattle.acc_runtime.specs.Shared.{WasAccepted}
 
 -- ---- a lease
 
@@ -55,15 +54,13 @@ lease_long w region section lease next h = go (judge w (Lend region section)) re
     go (Ok v) is x = by v is x
     go (Err fault) is x = absurd x
 
--- ---- a copy
+-- what a call lent, on the table and on one that was shared
+pub lent_long : {E : Type 0} (r : Result Leased E) (p q : Shares) (w v : World) (region : ℕ) (section : Section)
+    → IfOk r (λ lease. IsActed p w (Lend region section) (replies.Lease lease) q v) → IfOk r (λ (lease : Leased). lease.len ≡ section.len)
+lent_long (Ok lease) p q w v region section acted = lease_long w region section lease v acted.done
+lent_long (Err back) p q w v region section acted = tt
 
-pub copy_long : (s : Section) (host bytes : List ℕ) → host_read_of s host ≡ Some bytes → length bytes ≡ s.len
-copy_long s host bytes h = go (is_empty s || is_within s (host_memory (length host))) refl h
-  where
-    go : (t : Bool) → (is_empty s || is_within s (host_memory (length host))) ≡ t → cond t (Some (take s.len (drop (s.start - host_base) host))) None ≡ Some bytes → length bytes ≡ s.len
-    go true e is =
-        let fits : s.len ≤ length host - (s.start - host_base) = grind (arith, nat_tests) in
-        let room : s.len ≤ length (drop (s.start - host_base) host) = rw (length-drop (s.start - host_base) host) fits in
-        let same : take s.len (drop (s.start - host_base) host) ≡ bytes = cc in
-        ap length (sym same) ∙ length-take-le s.len (drop (s.start - host_base) host) room
-    go false e is = absurd cc
+pub was_lent_long : {E : Type 0} (r : Result Leased E) (p q : Shares) (region : ℕ) (section : Section)
+    → IfOk r (λ lease. WasAccepted p (Lend region section) (replies.Lease lease) q) → IfOk r (λ (lease : Leased). lease.len ≡ section.len)
+was_lent_long (Ok lease) p q region section accepted = lease_long accepted.before region section lease accepted.next accepted.acted.done
+was_lent_long (Err back) p q region section accepted = tt

@@ -101,6 +101,7 @@ fn make_rounds<Regions: Ledger, Tickets: Ledger, Events: Ledger, R: Wait + Alloc
 }
 
 /// What one thread does.
+#[tactic(auto, using(crate::proofs::Faults::worked))]
 fn work<Regions: Ledger, Tickets: Ledger, Events: Ledger, R: Wait + AllocGlobal, G: Gate<R>>(
     rt: &R,
     runtime: &Runtime<Regions, Tickets, Events>,

@@ -183,6 +183,7 @@ impl<Regions: Ledger, Tickets: Ledger, Events: Ledger> Locked<Regions, Tickets, 
         section: Section,
     ) -> Result<Lease, Fault>
         ensures done { IfOk result (λ lease. IsActed caller.old self.old (Lend region.now section) (Lent lease) caller.new self.new) }
+        ensures len { IfOk result (λ lease. lease.len ≡ section.len) }
         ensures refused { IfErr result (IsDenied caller.old self.old (Lend region.now section)) }
         ensures same { OnErr result ((self.new ≡ self.old) × (caller.new ≡ caller.old)) }
     {

@@ -252,6 +252,7 @@ impl<Regions: Ledger, Tickets: Ledger, Events: Ledger> Runtime<Regions, Tickets,
         section: Section,
     ) -> Result<Lease, Fault>
         ensures accepted { IfOk result (λ lease. WasAccepted caller.old (Lend region.now section) (Lent lease) caller.new) }
+        ensures len { IfOk result (λ lease. lease.len ≡ section.len) }
         ensures refused { IfErr result (WasRefused caller.old (Lend region.now section)) }
         ensures same { OnErr result (caller.new ≡ caller.old) }
     {

@@ -45,11 +45,13 @@ impl Environment {
         ensures only { IfErr result (λ fault. fault ≡ Memory) }
     {
         config.laws();
+        let queues = Queues::new(alloc, config.queue_cap())?;
+        let device = Device::new(alloc, (number + 1) * DEVICE_BASE, config.device())?;
         Ok(Environment {
             present: Present::new(alloc, config.counter_max()),
-            device: Device::new(alloc, (number + 1) * DEVICE_BASE, config.device())?,
+            device,
             attached: Attached::new(alloc, config.counter_max()),
-            queues: Queues::new(alloc, config.queue_cap())?,
+            queues,
         })
     }
 }

@@ -1,3 +1,5 @@
 pub mod Crossing
 pub mod Sharing
 pub mod Settling
+pub mod Faults
+pub mod Lengths

@@ -24,6 +24,7 @@ use Rattle.acc_base.proofs.Views.{view-own, view-other}
 use Rattle.acc_base.proofs.Births.{births_most, births-drained}
 use Rattle.acc_clauses.specs.Contents.{Contents}
 use Rattle.acc_table.specs.declared.devices.Devices.{Devices}
+use Rattle.acc_table.specs.declared.tables.Kept.{Kept}
 use Rattle.acc_table.specs.Devices.{whole_of, IsParkedFor, AreSet}
 use Rattle.acc_clauses.specs.Planned.{Planned, IsPlanOf}
 use Rattle.acc_clauses.proofs.Events.{planned_asked}
@@ -222,6 +223,10 @@ pub record AreDevicesOf (l : Limits) (base : Base) (x : Devices) (trace : List E
   pub set : AreSet l x
   pub kept : IsKept (world_in l base x trace)
   pub same : world_in l base x trace ≡ w
+
+-- what is in the box is what a call on the box hands out
+pub opened : (k j : Kept) (w : World) → j ≡ k → IsKept (world_in k.config k.base k.devices k.trace.items) × AreSet k.config k.devices → world_in k.config k.base k.devices k.trace.items ≡ w → AreDevicesOf j.config j.base j.devices j.trace.items w
+opened k j w e h is = subst (λ (o : Kept). AreDevicesOf o.config o.base o.devices o.trace.items w) (sym e) (record { set = h.1; kept = h.0; same = is })
 
 -- so are they where another one was put in use
 pub selected : (l : Limits) (base : Base) (y x : Devices) (trace : List Event) (w : World) → IsKept (world_in l base y trace) × AreSet l y → world_in l base y trace ≡ w → AreSet l x → whole_of x ≡ whole_of y → AreDevicesOf l base x trace w

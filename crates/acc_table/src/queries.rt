@@ -48,7 +48,7 @@ impl Table {
         ensures none { IfNone result (self.now.limits.devices ≤ device) }
         ensures new { IfNone result (device_at device self.now.state.devices ≡ new_device) }
     {
-        self.devices.view(device)
+        self.kept.devices.view(device)
     }
 
     /// Where the section lies among the mapped ranges of a device, by its addresses: it has none, one range has them all, no
@@ -149,7 +149,7 @@ impl Table {
     pub fn host_read(&self, section: Section) -> Option<&[u8]>
         ensures { option_map (λ bytes. bytes.now) result ≡ host_read_of section self.now.state.host }
     {
-        self.devices.store.host_read(section)
+        self.kept.devices.store.host_read(section)
     }
 
     /// The bytes that a device has of a section, as many as it is long. `None` where the section is not inside one
@@ -211,7 +211,7 @@ impl Table {
     pub fn regions(&self) -> u64
         ensures { result ≡ open_regions self.now.state }
     {
-        self.devices.regions()
+        self.kept.devices.regions()
     }
 
     /// The device on which the region of a number is open; 0 where no such region is open.
@@ -219,7 +219,7 @@ impl Table {
         ensures value { result ≡ device_of_region number self.now.state }
         ensures there { result < self.now.limits.devices }
     {
-        self.devices.device_of_region(number)
+        self.kept.devices.device_of_region(number)
     }
 
     /// The device for which a directive is: the one that it names, or that of the region that it leaves; 0 where no such
@@ -271,7 +271,7 @@ impl Table {
         ensures { result ≡ event_count self.now.history }
     {
         self.laws();
-        self.base.events() + self.trace.len() as u64
+        self.kept.base.events() + self.kept.trace.len() as u64
     }
 
     /// How many more events there may be.
@@ -286,20 +286,20 @@ impl Table {
     pub fn base(&self) -> &Base
         ensures { result.now ≡ self.now.history.base }
     {
-        &self.base
+        &self.kept.base
     }
 
     /// The stored events, in the order in which they came: those since the base.
     pub fn trace(&self) -> &[Event]
         ensures { result.now ≡ self.now.history.trace }
     {
-        &self.trace
+        &self.kept.trace
     }
 
     /// The limits.
     pub fn config(&self) -> Config
         ensures { result ≡ self.now.limits }
     {
-        self.config
+        self.kept.config
     }
 }

@@ -24,11 +24,13 @@ impl Table {
         ensures same { OnErr result (self.new ≡ self.old) }
         ensures err { IfErr result (λ fault. fault ≡ Memory) }
     {
-        let folded = self.trace.len() as u64;
-        let alloc = *self.trace.allocator();
-        let base = self.devices.base(alloc, &self.config, self.events())?;
-        self.base = base;
-        self.trace.clear();
+        let events = self.events();
+        let kept = &mut *self.kept;
+        let folded = kept.trace.len() as u64;
+        let alloc = *kept.trace.allocator();
+        let base = kept.devices.base(alloc, &kept.config, events)?;
+        kept.base = base;
+        kept.trace.clear();
         Ok(folded)
     }
 }

@@ -32,6 +32,13 @@ use std::marker::Model;
 /// One call is one event or no change. Contracts see a table as a world: its limits, its history and what its devices have.
 #[derive(Drop)]
 pub struct Table {
+    // One pointer: so a table is moved, and its owners are checked, as cheaply as a number.
+    pub(crate) kept: Box<Kept>,
+}
+
+/// What a table has.
+#[derive(Drop)]
+pub(crate) struct Kept {
     pub(crate) config: Config,
     pub(crate) devices: Devices,
     pub(crate) base: Base,
@@ -48,9 +55,9 @@ impl Model for Table {
 
     ghost Value = { World };
 
-    ghost view = { λ t. world_of t.config t.base (whole_of t.devices) t.trace.items };
+    ghost view = { λ t. world_of t.kept.value.config t.kept.value.base (whole_of t.kept.value.devices) t.kept.value.trace.items };
 
-    ghost invariant = { λ t. IsKept (world_of t.config t.base (whole_of t.devices) t.trace.items) × AreSet t.config t.devices };
+    ghost invariant = { λ t. IsKept (world_of t.kept.value.config t.kept.value.base (whole_of t.kept.value.devices) t.kept.value.trace.items) × AreSet t.kept.value.config t.kept.value.devices };
 }
 
 impl Table {
@@ -66,12 +73,15 @@ impl Table {
         config.laws();
         let devices = Devices::new(alloc, &config)?;
         let base = devices.base(alloc, &config, 0)?;
-        Ok(Table {
+        let kept = Kept {
             config,
             devices,
             base,
             trace: Vec::new(alloc),
             plan: Plan::new(),
+        };
+        Ok(Table {
+            kept: Box::new(alloc, kept)?,
         })
     }
 
@@ -86,7 +96,7 @@ impl Table {
         ensures accounted { IsAccounted self.now }
         ensures bounds { IsWithinBounds self.now.limits }
     {
-        self.config.laws();
+        self.kept.config.laws();
     }
 
     /// The blocks of a device and the holes that [`Table::hole`] answers are the device, with no address in two of them.
@@ -94,7 +104,7 @@ impl Table {
     pub fn holes_laws(&self, device: u64)
         ensures { device < self.now.limits.devices → IsDevice (device_memory (limits_on device self.now.limits)) (view device self.now.state).records.blocks }
     {
-        if let Some(view) = self.devices.view(device) {
+        if let Some(view) = self.kept.devices.view(device) {
             view.laws();
         }
     }
@@ -179,16 +189,17 @@ impl Table {
             Ok(device) => device,
             Err(fault) => return Err((directive, fault)),
         };
-        self.devices.select(device);
-        let store = &mut self.devices.store;
-        carry_out(store, &mut self.trace, &mut self.plan, device, directive)
+        let kept = &mut *self.kept;
+        kept.devices.select(device);
+        let store = &mut kept.devices.store;
+        carry_out(store, &mut kept.trace, &mut kept.plan, device, directive)
     }
 
     /// There is a ticket for one more event.
     pub(crate) fn admit_ticket(&self) -> Result<(), Fault>
         ensures { result ≡ ticket self.now }
     {
-        if self.config.tickets() <= self.events() {
+        if self.kept.config.tickets() <= self.events() {
             Err(Fault::NoTickets { left: 0 })
         } else {
             Ok(())
@@ -201,7 +212,7 @@ impl Table {
     {
         match directive {
             Directive::Enter { .. } => {
-                if self.config.regions() <= self.regions() {
+                if self.kept.config.regions() <= self.regions() {
                     Err(Fault::NoAllowance { left: 0 })
                 } else {
                     Ok(())
@@ -215,8 +226,8 @@ impl Table {
     pub(crate) fn admit_event(&self) -> Result<(), Fault>
         ensures { result ≡ trace_room self.now }
     {
-        let events = self.trace.len() as u64;
-        if self.config.trace_cap() <= events {
+        let events = self.kept.trace.len() as u64;
+        if self.kept.config.trace_cap() <= events {
             Err(Fault::TraceFull { len: events })
         } else {
             Ok(())
@@ -227,7 +238,7 @@ impl Table {
     fn admit_device(&self, device: u64) -> Result<(), Fault>
         ensures { result ≡ device_there self.now device }
     {
-        if self.config.devices() <= device {
+        if self.kept.config.devices() <= device {
             Err(Fault::NoDevice { device })
         } else {
             Ok(())
@@ -255,7 +266,7 @@ impl Table {
     {
         self.admit_ticket()?;
         self.admit_event()?;
-        self.devices.store.check_host(0, section)
+        self.kept.devices.store.check_host(0, section)
     }
 
     /// Writes into host memory, or hands the bytes back with what that is refused for.
@@ -271,8 +282,9 @@ impl Table {
         };
         match self.admit_write(section) {
             Ok(()) => {
-                let full = self.config.full();
-                write_host(&mut self.devices.store, &mut self.trace, full, addr, bytes)?;
+                let kept = &mut *self.kept;
+                let full = kept.config.full();
+                write_host(&mut kept.devices.store, &mut kept.trace, full, addr, bytes)?;
                 Ok(Reply::Done)
             }
             Err(fault) => Err((bytes, fault)),
@@ -288,8 +300,9 @@ impl Table {
     {
         self.admit_ticket()?;
         self.admit_event()?;
-        self.devices.select(device);
-        self.devices.store.plan_loan(region, section)
+        let kept = &mut *self.kept;
+        kept.devices.select(device);
+        kept.devices.store.plan_loan(region, section)
     }
 
     /// Lends the block of a section, and answers its lease.
@@ -300,10 +313,11 @@ impl Table {
     {
         let device = self.device_of_region(region);
         let loan = self.admit_loan(device, region, section)?;
-        self.devices.select(device);
+        let kept = &mut *self.kept;
+        kept.devices.select(device);
         lend(
-            &mut self.devices.store,
-            &mut self.trace,
+            &mut kept.devices.store,
+            &mut kept.trace,
             device,
             region,
             section,
@@ -321,13 +335,14 @@ impl Table {
         self.admit_ticket()?;
         self.admit_event()?;
         let device = lease.device();
-        if self.config.devices() <= device {
+        let kept = &mut *self.kept;
+        if kept.config.devices() <= device {
             return Err(Fault::NoLease {
                 serial: lease.serial(),
             });
         }
-        self.devices.select(device);
-        self.devices.store.check_lease(lease)
+        kept.devices.select(device);
+        kept.devices.store.check_lease(lease)
     }
 
     /// Brings a lease back, or hands it back with what it is refused for.
@@ -338,9 +353,10 @@ impl Table {
     {
         match self.admit_lease(&lease) {
             Ok(()) => {
-                let full = self.config.full();
-                self.devices.select(lease.device());
-                gather(&mut self.devices.store, &mut self.trace, full, lease)
+                let kept = &mut *self.kept;
+                let full = kept.config.full();
+                kept.devices.select(lease.device());
+                gather(&mut kept.devices.store, &mut kept.trace, full, lease)
             }
             Err(fault) => Err((lease, fault)),
         }

@@ -11,7 +11,7 @@ use Rattle.acc_table.specs.declared.calls.Turn.TheVariants.{Back}
 use Rattle.acc_table.specs.Turns.{is_meant, asked_by}
 use Rattle.acc_table.specs.Turning.{IsRefusalOf, IsTurnMade}
 use Rattle.acc_table.proofs.Verdicts.{with_store, world_in}
-use Rattle.acc_table.proofs.Keeping.{AreDevicesOf, selected}
+use Rattle.acc_table.proofs.Keeping.{opened, AreDevicesOf, selected}
 use Rattle.acc_table.proofs.Judging.{of_view}
 use Rattle.acc_table.proofs.Running.{IsBackAt, IsReturned, back_at, none_back, serial_told, wanted_of, same_back, returned, back_kept, back_made}
 use Rattle.acc_table.proofs.tables.Table.bring_back.Goals as goal
@@ -40,11 +40,12 @@ overwrite-requires c =
 
 pub take_back-requires-clause-ready : goal.take_back-requires-clause-ready
 take_back-requires-clause-ready c =
-    let l : Limits = c.self.inside.config in
-    let base : Base = c.self.inside.base in
+    let o = opened c.self.inside.kept.value c.deref_mut-kept.result.now c.args.self.now c.deref_mut-kept.ensures.value c.self.invariant (c.self.view_is ∙ c.in_ok-admit_lease.ensures.same) in
+    let l : Limits = c.deref_mut-kept.result.now.config in
+    let base : Base = c.deref_mut-kept.result.now.base in
     let x : Devices = c.select.new.self in
-    let trace : List Event = c.self.inside.trace.items in
-    let t : AreDevicesOf l base x trace c.args.self.now = selected l base c.self.inside.devices x trace c.args.self.now c.self.invariant (c.self.view_is ∙ c.in_ok-admit_lease.ensures.same) (c.select.ensures.set l c.self.invariant.1) c.select.ensures.same in
+    let trace : List Event = c.deref_mut-kept.result.now.trace.items in
+    let t : AreDevicesOf l base x trace c.args.self.now = selected l base c.deref_mut-kept.result.now.devices x trace c.args.self.now (o.kept, o.set) o.same (c.select.ensures.set l o.set) c.select.ensures.same in
     let w : World = world_in l base x trace in
     let back : IsBackAt c.args.serial c.args.bytes c.args.leases.now.items c.in-Some.at c.index-lease.result.now = back_at c.deref.ensures.value c.place_of.ensures c.in-Some.is c.index-lease.ensures in
     let lease : IsReturned w c.args.serial c.args.bytes c.args.leases.now.items c.in-Some.at c.overwrite.new.self = returned back c.remove-lease.ensures.value c.overwrite.ensures c.as_slice.ensures t.same c.laws.ensures c.in_ok-admit_lease.ensures.judged in
@@ -53,11 +54,12 @@ take_back-requires-clause-ready c =
 
 pub take_back-requires-clause-stored : goal.take_back-requires-clause-stored
 take_back-requires-clause-stored c =
-    let l : Limits = c.self.inside.config in
-    let base : Base = c.self.inside.base in
+    let o = opened c.self.inside.kept.value c.deref_mut-kept.result.now c.args.self.now c.deref_mut-kept.ensures.value c.self.invariant (c.self.view_is ∙ c.in_ok-admit_lease.ensures.same) in
+    let l : Limits = c.deref_mut-kept.result.now.config in
+    let base : Base = c.deref_mut-kept.result.now.base in
     let x : Devices = c.select.new.self in
-    let trace : List Event = c.self.inside.trace.items in
-    let t : AreDevicesOf l base x trace c.args.self.now = selected l base c.self.inside.devices x trace c.args.self.now c.self.invariant (c.self.view_is ∙ c.in_ok-admit_lease.ensures.same) (c.select.ensures.set l c.self.invariant.1) c.select.ensures.same in
+    let trace : List Event = c.deref_mut-kept.result.now.trace.items in
+    let t : AreDevicesOf l base x trace c.args.self.now = selected l base c.deref_mut-kept.result.now.devices x trace c.args.self.now (o.kept, o.set) o.same (c.select.ensures.set l o.set) c.select.ensures.same in
     let w : World = world_in l base x trace in
     let back : IsBackAt c.args.serial c.args.bytes c.args.leases.now.items c.in-Some.at c.index-lease.result.now = back_at c.deref.ensures.value c.place_of.ensures c.in-Some.is c.index-lease.ensures in
     let lease : IsReturned w c.args.serial c.args.bytes c.args.leases.now.items c.in-Some.at c.overwrite.new.self = returned back c.remove-lease.ensures.value c.overwrite.ensures c.as_slice.ensures t.same c.laws.ensures c.in_ok-admit_lease.ensures.judged in
@@ -65,13 +67,19 @@ take_back-requires-clause-stored c =
     let full : c.full.result ≡ x.store.limits.full = c.full.ensures ∙ ap (λ (m : Limits). m.full) (sym t.set.used) in
     c.recorded-bytes.ensures ∙ (ap (λ (b : Bool). recorded b c.args.bytes) full ∙ ap (recorded x.store.limits.full) lease.stored)
 
+pub invariant_of-self : goal.invariant_of-self
+invariant_of-self c =
+    let o = opened c.self.inside.kept.value c.deref_mut-kept.result.now c.args.self.now c.deref_mut-kept.ensures.value c.self.invariant (c.self.view_is ∙ c.in_ok-admit_lease.ensures.same) in
+    rw c.reserve.ensures.items (o.kept, o.set)
+
 pub invariant_of-self-2 : goal.invariant_of-self-2
 invariant_of-self-2 c =
-    let l : Limits = c.self.inside.config in
-    let base : Base = c.self.inside.base in
+    let o = opened c.self.inside.kept.value c.deref_mut-kept.result.now c.args.self.now c.deref_mut-kept.ensures.value c.self.invariant (c.self.view_is ∙ c.in_ok-admit_lease.ensures.same) in
+    let l : Limits = c.deref_mut-kept.result.now.config in
+    let base : Base = c.deref_mut-kept.result.now.base in
     let x : Devices = c.select.new.self in
-    let trace : List Event = c.self.inside.trace.items in
-    let t : AreDevicesOf l base x trace c.args.self.now = selected l base c.self.inside.devices x trace c.args.self.now c.self.invariant (c.self.view_is ∙ c.in_ok-admit_lease.ensures.same) (c.select.ensures.set l c.self.invariant.1) c.select.ensures.same in
+    let trace : List Event = c.deref_mut-kept.result.now.trace.items in
+    let t : AreDevicesOf l base x trace c.args.self.now = selected l base c.deref_mut-kept.result.now.devices x trace c.args.self.now (o.kept, o.set) o.same (c.select.ensures.set l o.set) c.select.ensures.same in
     let w : World = world_in l base x trace in
     let back : IsBackAt c.args.serial c.args.bytes c.args.leases.now.items c.in-Some.at c.index-lease.result.now = back_at c.deref.ensures.value c.place_of.ensures c.in-Some.is c.index-lease.ensures in
     let lease : IsReturned w c.args.serial c.args.bytes c.args.leases.now.items c.in-Some.at c.overwrite.new.self = returned back c.remove-lease.ensures.value c.overwrite.ensures c.as_slice.ensures t.same c.laws.ensures c.in_ok-admit_lease.ensures.judged in
@@ -80,11 +88,12 @@ invariant_of-self-2 c =
 
 pub returns-clause-done : goal.returns-clause-done
 returns-clause-done c =
-    let l : Limits = c.self.inside.config in
-    let base : Base = c.self.inside.base in
+    let o = opened c.self.inside.kept.value c.deref_mut-kept.result.now c.args.self.now c.deref_mut-kept.ensures.value c.self.invariant (c.self.view_is ∙ c.in_ok-admit_lease.ensures.same) in
+    let l : Limits = c.deref_mut-kept.result.now.config in
+    let base : Base = c.deref_mut-kept.result.now.base in
     let x : Devices = c.select.new.self in
-    let trace : List Event = c.self.inside.trace.items in
-    let t : AreDevicesOf l base x trace c.args.self.now = selected l base c.self.inside.devices x trace c.args.self.now c.self.invariant (c.self.view_is ∙ c.in_ok-admit_lease.ensures.same) (c.select.ensures.set l c.self.invariant.1) c.select.ensures.same in
+    let trace : List Event = c.deref_mut-kept.result.now.trace.items in
+    let t : AreDevicesOf l base x trace c.args.self.now = selected l base c.deref_mut-kept.result.now.devices x trace c.args.self.now (o.kept, o.set) o.same (c.select.ensures.set l o.set) c.select.ensures.same in
     let w : World = world_in l base x trace in
     let back : IsBackAt c.args.serial c.args.bytes c.args.leases.now.items c.in-Some.at c.index-lease.result.now = back_at c.deref.ensures.value c.place_of.ensures c.in-Some.is c.index-lease.ensures in
     let lease : IsReturned w c.args.serial c.args.bytes c.args.leases.now.items c.in-Some.at c.overwrite.new.self = returned back c.remove-lease.ensures.value c.overwrite.ensures c.as_slice.ensures t.same c.laws.ensures c.in_ok-admit_lease.ensures.judged in

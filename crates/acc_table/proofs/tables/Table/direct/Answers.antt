@@ -13,41 +13,45 @@ use Rattle.acc_table.specs.Devices.{whole_of}
 use Rattle.acc_table.specs.Calls.{IsDone, IsRefusal}
 use Rattle.acc_table.specs.Making.{admitted, planned_verdict, MayBeToldOf, IsCommitted}
 use Rattle.acc_table.proofs.Verdicts.{with_store, world_in, device_admitted, directive_done, directive_judged, directive_refused}
-use Rattle.acc_table.proofs.Keeping.{AreDevicesOf, selected, births_fit, region_fits, kept_carried}
+use Rattle.acc_table.proofs.Keeping.{opened, AreDevicesOf, selected, births_fit, region_fits, kept_carried}
 use Rattle.acc_table.proofs.tables.Table.direct.Goals as goal
 
 pub select-requires-clause-there : goal.select-requires-clause-there
 select-requires-clause-there c =
+    let o = opened c.self.inside.kept.value c.deref_mut-kept.result.now c.args.self.now c.deref_mut-kept.ensures.value c.self.invariant c.self.view_is in
     let there : device_for c.args.directive c.args.self.now.state < c.args.self.now.limits.devices = device_admitted c.args.self.now c.args.directive c.in-Ok.ensures.1 in
     let known : c.in-Ok.device < c.args.self.now.limits.devices = omega (arith, there, c.in-Ok.ensures.0) in
-    let of_config : c.in-Ok.device < c.self.inside.config.devices = subst (λ (w : World). c.in-Ok.device < w.limits.devices) (sym c.self.view_is) known in
-    omega (arith, of_config, c.self.invariant.1.count)
+    let of_config : c.in-Ok.device < c.deref_mut-kept.result.now.config.devices = subst (λ (w : World). c.in-Ok.device < w.limits.devices) (sym o.same) known in
+    omega (arith, of_config, o.set.count)
 
 pub carry_out-requires-clause-births : goal.carry_out-requires-clause-births
 carry_out-requires-clause-births c =
-    let l : Limits = c.self.inside.config in
-    let base : Base = c.self.inside.base in
+    let o = opened c.self.inside.kept.value c.deref_mut-kept.result.now c.args.self.now c.deref_mut-kept.ensures.value c.self.invariant c.self.view_is in
+    let l : Limits = c.deref_mut-kept.result.now.config in
+    let base : Base = c.deref_mut-kept.result.now.base in
     let x : Devices = c.select.new.self in
-    let trace : List Event = c.self.inside.trace.items in
-    let t : AreDevicesOf l base x trace c.args.self.now = selected l base c.self.inside.devices x trace c.args.self.now c.self.invariant c.self.view_is (c.select.ensures.set l c.self.invariant.1) c.select.ensures.same in
+    let trace : List Event = c.deref_mut-kept.result.now.trace.items in
+    let t : AreDevicesOf l base x trace c.args.self.now = selected l base c.deref_mut-kept.result.now.devices x trace c.args.self.now (o.kept, o.set) o.same (c.select.ensures.set l o.set) c.select.ensures.same in
     births_fit l base x trace c.args.self.now t
 
 pub carry_out-requires-clause-regions : goal.carry_out-requires-clause-regions
 carry_out-requires-clause-regions c =
-    let l : Limits = c.self.inside.config in
-    let base : Base = c.self.inside.base in
+    let o = opened c.self.inside.kept.value c.deref_mut-kept.result.now c.args.self.now c.deref_mut-kept.ensures.value c.self.invariant c.self.view_is in
+    let l : Limits = c.deref_mut-kept.result.now.config in
+    let base : Base = c.deref_mut-kept.result.now.base in
     let x : Devices = c.select.new.self in
-    let trace : List Event = c.self.inside.trace.items in
-    let t : AreDevicesOf l base x trace c.args.self.now = selected l base c.self.inside.devices x trace c.args.self.now c.self.invariant c.self.view_is (c.select.ensures.set l c.self.invariant.1) c.select.ensures.same in
+    let trace : List Event = c.deref_mut-kept.result.now.trace.items in
+    let t : AreDevicesOf l base x trace c.args.self.now = selected l base c.deref_mut-kept.result.now.devices x trace c.args.self.now (o.kept, o.set) o.same (c.select.ensures.set l o.set) c.select.ensures.same in
     region_fits l base x trace c.args.self.now t
 
 pub invariant_of-self : goal.invariant_of-self
 invariant_of-self c =
-    let l : Limits = c.self.inside.config in
-    let base : Base = c.self.inside.base in
+    let o = opened c.self.inside.kept.value c.deref_mut-kept.result.now c.args.self.now c.deref_mut-kept.ensures.value c.self.invariant c.self.view_is in
+    let l : Limits = c.deref_mut-kept.result.now.config in
+    let base : Base = c.deref_mut-kept.result.now.base in
     let x : Devices = c.select.new.self in
-    let trace : List Event = c.self.inside.trace.items in
-    let t : AreDevicesOf l base x trace c.args.self.now = selected l base c.self.inside.devices x trace c.args.self.now c.self.invariant c.self.view_is (c.select.ensures.set l c.self.invariant.1) c.select.ensures.same in
+    let trace : List Event = c.deref_mut-kept.result.now.trace.items in
+    let t : AreDevicesOf l base x trace c.args.self.now = selected l base c.deref_mut-kept.result.now.devices x trace c.args.self.now (o.kept, o.set) o.same (c.select.ensures.set l o.set) c.select.ensures.same in
     let d : Directive = c.args.directive in
     let r : Result Reply (Directive × Fault) = c.carry_out.result in
     let p : Planned = c.carry_out.new.plan in
@@ -62,11 +66,12 @@ invariant_of-self c =
 
 pub returns-clause-done : goal.returns-clause-done
 returns-clause-done c =
-    let l : Limits = c.self.inside.config in
-    let base : Base = c.self.inside.base in
+    let o = opened c.self.inside.kept.value c.deref_mut-kept.result.now c.args.self.now c.deref_mut-kept.ensures.value c.self.invariant c.self.view_is in
+    let l : Limits = c.deref_mut-kept.result.now.config in
+    let base : Base = c.deref_mut-kept.result.now.base in
     let x : Devices = c.select.new.self in
-    let trace : List Event = c.self.inside.trace.items in
-    let t : AreDevicesOf l base x trace c.args.self.now = selected l base c.self.inside.devices x trace c.args.self.now c.self.invariant c.self.view_is (c.select.ensures.set l c.self.invariant.1) c.select.ensures.same in
+    let trace : List Event = c.deref_mut-kept.result.now.trace.items in
+    let t : AreDevicesOf l base x trace c.args.self.now = selected l base c.deref_mut-kept.result.now.devices x trace c.args.self.now (o.kept, o.set) o.same (c.select.ensures.set l o.set) c.select.ensures.same in
     let d : Directive = c.args.directive in
     let r : Result Reply (Directive × Fault) = c.carry_out.result in
     let p : Planned = c.carry_out.new.plan in
@@ -81,11 +86,12 @@ returns-clause-done c =
 
 pub returns-clause-refused : goal.returns-clause-refused
 returns-clause-refused c =
-    let l : Limits = c.self.inside.config in
-    let base : Base = c.self.inside.base in
+    let o = opened c.self.inside.kept.value c.deref_mut-kept.result.now c.args.self.now c.deref_mut-kept.ensures.value c.self.invariant c.self.view_is in
+    let l : Limits = c.deref_mut-kept.result.now.config in
+    let base : Base = c.deref_mut-kept.result.now.base in
     let x : Devices = c.select.new.self in
-    let trace : List Event = c.self.inside.trace.items in
-    let t : AreDevicesOf l base x trace c.args.self.now = selected l base c.self.inside.devices x trace c.args.self.now c.self.invariant c.self.view_is (c.select.ensures.set l c.self.invariant.1) c.select.ensures.same in
+    let trace : List Event = c.deref_mut-kept.result.now.trace.items in
+    let t : AreDevicesOf l base x trace c.args.self.now = selected l base c.deref_mut-kept.result.now.devices x trace c.args.self.now (o.kept, o.set) o.same (c.select.ensures.set l o.set) c.select.ensures.same in
     let d : Directive = c.args.directive in
     let r : Result Reply (Directive × Fault) = c.carry_out.result in
     let for : x.current ≡ device_for d (whole_of x) = c.select.ensures.current ∙ (c.in-Ok.ensures.0 ∙ ap (λ (w : World). device_for d w.state) (sym t.same)) in

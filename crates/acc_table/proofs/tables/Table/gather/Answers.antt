@@ -12,28 +12,30 @@ use Rattle.acc_table.specs.declared.devices.Devices.{Devices}
 use Rattle.acc_table.specs.Calls.{IsDone}
 use Rattle.acc_table.specs.Making.{IsMadeInto}
 use Rattle.acc_table.proofs.Verdicts.{with_store, world_in, done_either}
-use Rattle.acc_table.proofs.Keeping.{AreDevicesOf, selected, kept_alone, kept_either}
+use Rattle.acc_table.proofs.Keeping.{opened, AreDevicesOf, selected, kept_alone, kept_either}
 use Rattle.acc_table.proofs.Judging.{of_view}
 use Rattle.acc_table.proofs.tables.Table.gather.Goals as goal
 
 pub gather-requires-clause-full : goal.gather-requires-clause-full
 gather-requires-clause-full c =
-    let l : Limits = c.self.inside.config in
-    let base : Base = c.self.inside.base in
+    let o = opened c.self.inside.kept.value c.deref_mut-kept.result.now c.args.self.now c.deref_mut-kept.ensures.value c.self.invariant (c.self.view_is ∙ c.in-Ok.ensures.same) in
+    let l : Limits = c.deref_mut-kept.result.now.config in
+    let base : Base = c.deref_mut-kept.result.now.base in
     let x : Devices = c.select.new.self in
-    let trace : List Event = c.self.inside.trace.items in
-    let t : AreDevicesOf l base x trace c.args.self.now = selected l base c.self.inside.devices x trace c.args.self.now c.self.invariant (c.self.view_is ∙ c.in-Ok.ensures.same) (c.select.ensures.set l c.self.invariant.1) c.select.ensures.same in
+    let trace : List Event = c.deref_mut-kept.result.now.trace.items in
+    let t : AreDevicesOf l base x trace c.args.self.now = selected l base c.deref_mut-kept.result.now.devices x trace c.args.self.now (o.kept, o.set) o.same (c.select.ensures.set l o.set) c.select.ensures.same in
     let lease : Leased = c.args.lease in
     let on : x.current ≡ lease.device = c.select.ensures.current ∙ c.device.ensures in
     c.full-full.ensures ∙ ap (λ (m : Limits). m.full) (sym t.set.used)
 
 pub gather-requires-clause-ready : goal.gather-requires-clause-ready
 gather-requires-clause-ready c =
-    let l : Limits = c.self.inside.config in
-    let base : Base = c.self.inside.base in
+    let o = opened c.self.inside.kept.value c.deref_mut-kept.result.now c.args.self.now c.deref_mut-kept.ensures.value c.self.invariant (c.self.view_is ∙ c.in-Ok.ensures.same) in
+    let l : Limits = c.deref_mut-kept.result.now.config in
+    let base : Base = c.deref_mut-kept.result.now.base in
     let x : Devices = c.select.new.self in
-    let trace : List Event = c.self.inside.trace.items in
-    let t : AreDevicesOf l base x trace c.args.self.now = selected l base c.self.inside.devices x trace c.args.self.now c.self.invariant (c.self.view_is ∙ c.in-Ok.ensures.same) (c.select.ensures.set l c.self.invariant.1) c.select.ensures.same in
+    let trace : List Event = c.deref_mut-kept.result.now.trace.items in
+    let t : AreDevicesOf l base x trace c.args.self.now = selected l base c.deref_mut-kept.result.now.devices x trace c.args.self.now (o.kept, o.set) o.same (c.select.ensures.set l o.set) c.select.ensures.same in
     let lease : Leased = c.args.lease in
     let on : x.current ≡ lease.device = c.select.ensures.current ∙ c.device.ensures in
     let ready = subst (λ (w : World). gather_event w.limits.full lease (view lease.device w.state) ≡ Ok (gathered w.limits.full lease)) (sym t.same) c.in-Ok.ensures.judged.0 in
@@ -41,11 +43,12 @@ gather-requires-clause-ready c =
 
 pub invariant_of-self : goal.invariant_of-self
 invariant_of-self c =
-    let l : Limits = c.self.inside.config in
-    let base : Base = c.self.inside.base in
+    let o = opened c.self.inside.kept.value c.deref_mut-kept.result.now c.args.self.now c.deref_mut-kept.ensures.value c.self.invariant (c.self.view_is ∙ c.in-Ok.ensures.same) in
+    let l : Limits = c.deref_mut-kept.result.now.config in
+    let base : Base = c.deref_mut-kept.result.now.base in
     let x : Devices = c.select.new.self in
-    let trace : List Event = c.self.inside.trace.items in
-    let t : AreDevicesOf l base x trace c.args.self.now = selected l base c.self.inside.devices x trace c.args.self.now c.self.invariant (c.self.view_is ∙ c.in-Ok.ensures.same) (c.select.ensures.set l c.self.invariant.1) c.select.ensures.same in
+    let trace : List Event = c.deref_mut-kept.result.now.trace.items in
+    let t : AreDevicesOf l base x trace c.args.self.now = selected l base c.deref_mut-kept.result.now.devices x trace c.args.self.now (o.kept, o.set) o.same (c.select.ensures.set l o.set) c.select.ensures.same in
     let lease : Leased = c.args.lease in
     let on : x.current ≡ lease.device = c.select.ensures.current ∙ c.device.ensures in
     let new : Contents = c.gather.new.store in
@@ -57,11 +60,12 @@ invariant_of-self c =
 
 pub returns-in-Ok-clause-done : goal.returns-in-Ok-clause-done
 returns-in-Ok-clause-done c =
-    let l : Limits = c.self.inside.config in
-    let base : Base = c.self.inside.base in
+    let o = opened c.self.inside.kept.value c.deref_mut-kept.result.now c.args.self.now c.deref_mut-kept.ensures.value c.self.invariant (c.self.view_is ∙ c.in-Ok.ensures.same) in
+    let l : Limits = c.deref_mut-kept.result.now.config in
+    let base : Base = c.deref_mut-kept.result.now.base in
     let x : Devices = c.select.new.self in
-    let trace : List Event = c.self.inside.trace.items in
-    let t : AreDevicesOf l base x trace c.args.self.now = selected l base c.self.inside.devices x trace c.args.self.now c.self.invariant (c.self.view_is ∙ c.in-Ok.ensures.same) (c.select.ensures.set l c.self.invariant.1) c.select.ensures.same in
+    let trace : List Event = c.deref_mut-kept.result.now.trace.items in
+    let t : AreDevicesOf l base x trace c.args.self.now = selected l base c.deref_mut-kept.result.now.devices x trace c.args.self.now (o.kept, o.set) o.same (c.select.ensures.set l o.set) c.select.ensures.same in
     let lease : Leased = c.args.lease in
     let on : x.current ≡ lease.device = c.select.ensures.current ∙ c.device.ensures in
     let new : Contents = c.gather.new.store in

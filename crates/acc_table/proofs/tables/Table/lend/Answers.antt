@@ -12,17 +12,18 @@ use Rattle.acc_clauses.specs.Lending.{IsLoanPlanned}
 use Rattle.acc_table.specs.declared.devices.Devices.{Devices}
 use Rattle.acc_table.specs.Calls.{IsDone}
 use Rattle.acc_table.proofs.Verdicts.{with_store, world_in, done_either}
-use Rattle.acc_table.proofs.Keeping.{AreDevicesOf, selected, serial_fits, kept_alone, kept_either}
+use Rattle.acc_table.proofs.Keeping.{opened, AreDevicesOf, selected, serial_fits, kept_alone, kept_either}
 use Rattle.acc_table.proofs.Judging.{of_view}
 use Rattle.acc_table.proofs.tables.Table.lend.Goals as goal
 
 pub lend-requires-clause-planned : goal.lend-requires-clause-planned
 lend-requires-clause-planned c =
-    let l : Limits = c.self.inside.config in
-    let base : Base = c.self.inside.base in
+    let o = opened c.self.inside.kept.value c.deref_mut-kept.result.now c.args.self.now c.deref_mut-kept.ensures.value c.self.invariant (c.self.view_is ∙ c.in_ok-loan.ensures.same) in
+    let l : Limits = c.deref_mut-kept.result.now.config in
+    let base : Base = c.deref_mut-kept.result.now.base in
     let x : Devices = c.select.new.self in
-    let trace : List Event = c.self.inside.trace.items in
-    let t : AreDevicesOf l base x trace c.args.self.now = selected l base c.self.inside.devices x trace c.args.self.now c.self.invariant (c.self.view_is ∙ c.in_ok-loan.ensures.same) (c.select.ensures.set l c.self.invariant.1) c.select.ensures.same in
+    let trace : List Event = c.deref_mut-kept.result.now.trace.items in
+    let t : AreDevicesOf l base x trace c.args.self.now = selected l base c.deref_mut-kept.result.now.devices x trace c.args.self.now (o.kept, o.set) o.same (c.select.ensures.set l o.set) c.select.ensures.same in
     let d = c.device_of_region-device.result in
     let on : x.current ≡ d = c.select.ensures.current in
     let loan : Loan = c.in_ok-loan.loan in
@@ -33,11 +34,12 @@ lend-requires-clause-planned c =
 
 pub lend-requires-clause-serial : goal.lend-requires-clause-serial
 lend-requires-clause-serial c =
-    let l : Limits = c.self.inside.config in
-    let base : Base = c.self.inside.base in
+    let o = opened c.self.inside.kept.value c.deref_mut-kept.result.now c.args.self.now c.deref_mut-kept.ensures.value c.self.invariant (c.self.view_is ∙ c.in_ok-loan.ensures.same) in
+    let l : Limits = c.deref_mut-kept.result.now.config in
+    let base : Base = c.deref_mut-kept.result.now.base in
     let x : Devices = c.select.new.self in
-    let trace : List Event = c.self.inside.trace.items in
-    let t : AreDevicesOf l base x trace c.args.self.now = selected l base c.self.inside.devices x trace c.args.self.now c.self.invariant (c.self.view_is ∙ c.in_ok-loan.ensures.same) (c.select.ensures.set l c.self.invariant.1) c.select.ensures.same in
+    let trace : List Event = c.deref_mut-kept.result.now.trace.items in
+    let t : AreDevicesOf l base x trace c.args.self.now = selected l base c.deref_mut-kept.result.now.devices x trace c.args.self.now (o.kept, o.set) o.same (c.select.ensures.set l o.set) c.select.ensures.same in
     let d = c.device_of_region-device.result in
     let on : x.current ≡ d = c.select.ensures.current in
     let loan : Loan = c.in_ok-loan.loan in
@@ -46,11 +48,12 @@ lend-requires-clause-serial c =
 
 pub invariant_of-self : goal.invariant_of-self
 invariant_of-self c =
-    let l : Limits = c.self.inside.config in
-    let base : Base = c.self.inside.base in
+    let o = opened c.self.inside.kept.value c.deref_mut-kept.result.now c.args.self.now c.deref_mut-kept.ensures.value c.self.invariant (c.self.view_is ∙ c.in_ok-loan.ensures.same) in
+    let l : Limits = c.deref_mut-kept.result.now.config in
+    let base : Base = c.deref_mut-kept.result.now.base in
     let x : Devices = c.select.new.self in
-    let trace : List Event = c.self.inside.trace.items in
-    let t : AreDevicesOf l base x trace c.args.self.now = selected l base c.self.inside.devices x trace c.args.self.now c.self.invariant (c.self.view_is ∙ c.in_ok-loan.ensures.same) (c.select.ensures.set l c.self.invariant.1) c.select.ensures.same in
+    let trace : List Event = c.deref_mut-kept.result.now.trace.items in
+    let t : AreDevicesOf l base x trace c.args.self.now = selected l base c.deref_mut-kept.result.now.devices x trace c.args.self.now (o.kept, o.set) o.same (c.select.ensures.set l o.set) c.select.ensures.same in
     let d = c.device_of_region-device.result in
     let on : x.current ≡ d = c.select.ensures.current in
     let loan : Loan = c.in_ok-loan.loan in
@@ -63,11 +66,12 @@ invariant_of-self c =
 
 pub returns-clause-done : goal.returns-clause-done
 returns-clause-done c =
-    let l : Limits = c.self.inside.config in
-    let base : Base = c.self.inside.base in
+    let o = opened c.self.inside.kept.value c.deref_mut-kept.result.now c.args.self.now c.deref_mut-kept.ensures.value c.self.invariant (c.self.view_is ∙ c.in_ok-loan.ensures.same) in
+    let l : Limits = c.deref_mut-kept.result.now.config in
+    let base : Base = c.deref_mut-kept.result.now.base in
     let x : Devices = c.select.new.self in
-    let trace : List Event = c.self.inside.trace.items in
-    let t : AreDevicesOf l base x trace c.args.self.now = selected l base c.self.inside.devices x trace c.args.self.now c.self.invariant (c.self.view_is ∙ c.in_ok-loan.ensures.same) (c.select.ensures.set l c.self.invariant.1) c.select.ensures.same in
+    let trace : List Event = c.deref_mut-kept.result.now.trace.items in
+    let t : AreDevicesOf l base x trace c.args.self.now = selected l base c.deref_mut-kept.result.now.devices x trace c.args.self.now (o.kept, o.set) o.same (c.select.ensures.set l o.set) c.select.ensures.same in
     let d = c.device_of_region-device.result in
     let on : x.current ≡ d = c.select.ensures.current in
     let loan : Loan = c.in_ok-loan.loan in

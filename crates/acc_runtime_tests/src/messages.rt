@@ -166,8 +166,8 @@ pub fn serve_both<
     R: Abort + Clock + Threads + Wait + AllocGlobal + Sync,
 >(actor: &mut Actor<Regions, Tickets, Events, R>, first: usize) -> Result<(), Fault> {
     actor.make_all(&QUEUED);
-    let one = actor.caller.split(0, 1)?;
-    let two = actor.caller.split(0, 1)?;
+    let one = actor.caller.split(0, 10)?;
+    let two = actor.caller.split(0, 10)?;
     let (rt, runtime) = (actor.rt, actor.runtime);
     let meeting = Meeting::new(first);
     let meeting = &meeting;

@@ -79,8 +79,6 @@ pub enum Deed {
     Write(u8),
     /// Whether each byte of the array in host memory is this one.
     Reads(u8),
-    /// Bytes of host memory are read: how many.
-    ReadFrom(Section),
     /// The array is lent in the region that was entered last: the loan's serial number.
     Lend,
     /// A kernel adds 1 to each byte that is lent.
@@ -188,7 +186,6 @@ impl<'a, Regions: Ledger, Tickets: Ledger, Events: Ledger, R: Wait + AllocGlobal
             Deed::Step(queue) => self.step(queue),
             Deed::Write(byte) => self.write(byte),
             Deed::Reads(byte) => self.reads(byte),
-            Deed::ReadFrom(section) => self.read_from(section),
             Deed::Lend => self.lend(),
             Deed::Add => Ok(self.add()),
             Deed::Gather => self.gather(),
@@ -277,11 +274,6 @@ impl<'a, Regions: Ledger, Tickets: Ledger, Events: Ledger, R: Wait + AllocGlobal
     fn reads(&self, byte: u8) -> Result<u64, Fault> {
         let bytes = self.runtime.host_read(self.rt, ARRAY)?;
         Ok(u64::from(bytes.as_slice() == [byte; 16].as_slice()))
-    }
-
-    fn read_from(&self, section: Section) -> Result<u64, Fault> {
-        let bytes = self.runtime.host_read(self.rt, section)?;
-        Ok(bytes.len() as u64)
     }
 
     fn lend(&mut self) -> Result<u64, Fault> {

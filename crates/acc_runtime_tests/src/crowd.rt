@@ -108,6 +108,6 @@ pub fn run_and_look<
 
 #[test]
 fn eight_threads_leave_nothing_mapped(rt: HostRuntime) -> Result<(), Fail> {
-    on_a_new_runtime(&rt, Scene::Crowd, limits(64, 16_000))?;
+    on_a_new_runtime(&rt, Scene::Crowd, limits(64, 16_000)?)?;
     Ok(())
 }

@@ -297,7 +297,7 @@ fn run_each<R: Abort + Clock + Threads + Wait + AllocGlobal + Sync>(
     drills: &[Drilling],
 ) -> Result<(), Fault> {
     for drilling in drills {
-        on_a_new_runtime(rt, Scene::Drill(*drilling), limits_of(drilling))?;
+        on_a_new_runtime(rt, Scene::Drill(*drilling), limits_of(drilling)?)?;
     }
     Ok(())
 }
@@ -324,7 +324,7 @@ fn a_drill_tells_the_fault_of_its_first_thread(rt: HostRuntime) -> Result<(), Fa
 #[test]
 fn a_refused_growth_ends_a_drill(rt: HostRuntime) -> Result<(), Fail> {
     for drilling in &SHORT {
-        again_on_a_new_runtime(&rt, Scene::Drill(*drilling), limits_of(drilling))?;
+        again_on_a_new_runtime(&rt, Scene::Drill(*drilling), limits_of(drilling)?)?;
     }
     Ok(())
 }

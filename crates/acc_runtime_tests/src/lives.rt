@@ -278,8 +278,8 @@ fn each_call_makes_its_event(rt: HostRuntime) -> Result<(), Fail> {
     for folds in [false, true] {
         let retries = false;
         let life = Scene::Life(Mode { folds, retries });
-        on_a_new_runtime(&rt, life, limits(64, 100))?;
-        on_a_new_runtime(&rt, life, other_limits())?;
+        on_a_new_runtime(&rt, life, limits(64, 100)?)?;
+        on_a_new_runtime(&rt, life, other_limits()?)?;
     }
     Ok(())
 }
@@ -291,8 +291,8 @@ fn live_again<R: Abort + Clock + Threads + Wait + AllocGlobal + Sync>(
 ) -> Result<(), Fault> {
     let retries = true;
     let life = Scene::Life(Mode { folds, retries });
-    again_on_a_new_runtime(rt, life, limits(64, 100))?;
-    again_on_a_new_runtime(rt, life, other_limits())
+    again_on_a_new_runtime(rt, life, limits(64, 100)?)?;
+    again_on_a_new_runtime(rt, life, other_limits()?)
 }
 
 #[test]

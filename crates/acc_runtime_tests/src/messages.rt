@@ -80,7 +80,7 @@ pub fn tell<
 
 #[test]
 fn a_thread_finds_what_another_tells_it_of(rt: HostRuntime) -> Result<(), Fail> {
-    on_a_new_runtime(&rt, Scene::Tell, limits(64, 100))?;
+    on_a_new_runtime(&rt, Scene::Tell, limits(64, 100)?)?;
     Ok(())
 }
 
@@ -125,7 +125,7 @@ pub fn hand_over<
 
 #[test]
 fn a_thread_exits_from_what_another_entered(rt: HostRuntime) -> Result<(), Fail> {
-    on_a_new_runtime(&rt, Scene::HandOver, limits(64, 100))?;
+    on_a_new_runtime(&rt, Scene::HandOver, limits(64, 100)?)?;
     Ok(())
 }
 
@@ -142,27 +142,19 @@ const SERVED: Served = Served {
     refusals: 0,
 };
 
-/// Serves a queue under the number of a worker, who takes part in a meeting.
+/// Serves a queue under the number of a worker, who takes part in a meeting, and gives its caller back.
 fn serve_own<Regions: Ledger, Tickets: Ledger, Events: Ledger, R: Clock + Wait + AllocGlobal>(
-    rt: &R,
-    runtime: &Runtime<Regions, Tickets, Events>,
-    caller: &mut Caller<Regions, Tickets, Events>,
-    meeting: &Meeting,
-    number: usize,
-) -> Result<Served, Fault> {
-    let gate = Numbered { meeting, number };
-    let from = bells(rt, rt.alloc(), &[3 + number as u64])?;
-    Ok(serve(rt, runtime, caller, from, &gate))
-}
-
-/// What the first worker does, with a caller that it gives back.
-fn serve_apart<Regions: Ledger, Tickets: Ledger, Events: Ledger, R: Clock + Wait + AllocGlobal>(
     rt: &R,
     runtime: &Runtime<Regions, Tickets, Events>,
     mut caller: Caller<Regions, Tickets, Events>,
     meeting: &Meeting,
+    number: usize,
 ) -> (Caller<Regions, Tickets, Events>, Result<Served, Fault>) {
-    let served = serve_own(rt, runtime, &mut caller, meeting, 0);
+    let gate = Numbered { meeting, number };
+    let served = match bells(rt, rt.alloc(), &[3 + number as u64 % 2]) {
+        Ok(from) => Ok(serve(rt, runtime, &mut caller, from, &gate)),
+        Err(fault) => Err(fault),
+    };
     (caller, served)
 }
 
@@ -174,17 +166,19 @@ pub fn serve_both<
     R: Abort + Clock + Threads + Wait + AllocGlobal + Sync,
 >(actor: &mut Actor<Regions, Tickets, Events, R>, first: usize) -> Result<(), Fault> {
     actor.make_all(&QUEUED);
-    let other = actor.caller.split(0, 10)?;
+    let one = actor.caller.split(0, 10)?;
+    let two = actor.caller.split(0, 10)?;
     let (rt, runtime) = (actor.rt, actor.runtime);
     let meeting = Meeting::new(first);
     let meeting = &meeting;
-    let ((other, one), two) = join(
+    let ((one, served), (two, other)) = join(
         rt,
-        move || serve_apart(rt, runtime, other, meeting),
-        || serve_own(rt, runtime, &mut actor.caller, meeting, 1),
+        move || serve_own(rt, runtime, one, meeting, 0),
+        move || serve_own(rt, runtime, two, meeting, 1),
     );
-    actor.caller.merge(other);
-    same(rt, (one, two), (Ok(SERVED), Ok(SERVED)));
+    actor.caller.merge(one);
+    actor.caller.merge(two);
+    same(rt, (served, other), (Ok(SERVED), Ok(SERVED)));
     same(rt, (actor.caller.made(), meeting.took_place(2)), (5, true));
     Ok(())
 }
@@ -192,7 +186,7 @@ pub fn serve_both<
 #[test]
 fn either_worker_waits_for_the_other(rt: HostRuntime) -> Result<(), Fail> {
     for first in [0, 1] {
-        on_a_new_runtime(&rt, Scene::Workers(first), limits(64, 100))?;
+        on_a_new_runtime(&rt, Scene::Workers(first), limits(64, 100)?)?;
     }
     Ok(())
 }

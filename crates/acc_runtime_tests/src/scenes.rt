@@ -25,8 +25,8 @@ pub enum Scene {
     Drill(drills::Drilling),
     /// Callers that are split and merged, and refused by their own shares.
     Shares,
-    /// Regions of two devices, and the whole of host memory.
-    Calls,
+    /// Regions of two devices.
+    Devices,
     /// Two workers, of which one is held until that of the number is done.
     Workers(usize),
     /// A thread that is told of what another did.
@@ -89,7 +89,7 @@ impl<
             Scene::Bells { retries } => serving::ring(self, retries),
             Scene::Drill(drilling) => self.run_drill(drilling),
             Scene::Shares => shares::split_and_merge(self),
-            Scene::Calls => shares::call(self),
+            Scene::Devices => shares::enter_both(self),
             Scene::Workers(first) => messages::serve_both(self, first),
             Scene::Tell => messages::tell(self),
             Scene::HandOver => messages::hand_over(self),
@@ -102,9 +102,8 @@ impl<
 pub fn on_a_new_runtime<R: Abort + Clock + Threads + Wait + AllocGlobal + Sync>(
     rt: &R,
     scene: Scene,
-    config: Result<Config, Fault>,
+    config: Config,
 ) -> Result<(), Fault> {
-    let config = config?;
     let blanks = blanks(&config);
     play_on_new::<Brand, Brand, Brand, R>(rt, scene, config, blanks)
 }
@@ -113,7 +112,7 @@ pub fn on_a_new_runtime<R: Abort + Clock + Threads + Wait + AllocGlobal + Sync>(
 pub fn again_on_a_new_runtime<R: Abort + Clock + Threads + Wait + AllocGlobal + Sync>(
     rt: &R,
     scene: Scene,
-    config: Result<Config, Fault>,
+    config: Config,
 ) -> Result<(), Fault> {
     match on_a_new_runtime(rt, scene, config) {
         Err(Fault::Memory) => on_a_new_runtime(rt, scene, config),

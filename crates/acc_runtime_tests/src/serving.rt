@@ -199,17 +199,17 @@ pub fn ring<Regions: Ledger, Tickets: Ledger, Events: Ledger, R: Abort + Wait + 
 #[test]
 fn queues_are_served_as_the_words_say(rt: HostRuntime) -> Result<(), Fail> {
     let ring = Scene::Bells { retries: false };
-    on_a_new_runtime(&rt, ring, limits(64, 100))?;
-    on_a_new_runtime(&rt, ring, two_devices())?;
-    on_a_new_runtime(&rt, ring, other_limits())?;
+    on_a_new_runtime(&rt, ring, limits(64, 100)?)?;
+    on_a_new_runtime(&rt, ring, two_devices()?)?;
+    on_a_new_runtime(&rt, ring, other_limits()?)?;
     Ok(())
 }
 
 #[test]
 fn a_refused_growth_is_counted_by_a_worker(rt: HostRuntime) -> Result<(), Fail> {
     let ring = Scene::Bells { retries: true };
-    again_on_a_new_runtime(&rt, ring, limits(64, 100))?;
-    again_on_a_new_runtime(&rt, ring, two_devices())?;
-    again_on_a_new_runtime(&rt, ring, other_limits())?;
+    again_on_a_new_runtime(&rt, ring, limits(64, 100)?)?;
+    again_on_a_new_runtime(&rt, ring, two_devices()?)?;
+    again_on_a_new_runtime(&rt, ring, other_limits()?)?;
     Ok(())
 }

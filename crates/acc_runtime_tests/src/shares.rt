@@ -4,7 +4,7 @@
 use crate::actors::{Actor, Deed};
 use crate::same;
 use crate::scenes::{Scene, limits, on_a_new_runtime, two_devices};
-use acc_base::{Fault, HOST_BASE, RegionClause, Section};
+use acc_base::{Fault, RegionClause};
 use std::process::Abort;
 use std::sync::Wait;
 use std::sync::ledger::Ledger;
@@ -61,27 +61,12 @@ pub fn split_and_merge<
 
 #[test]
 fn callers_are_refused_by_their_own_shares(rt: HostRuntime) -> Result<(), Fail> {
-    on_a_new_runtime(&rt, Scene::Shares, limits(64, 100))?;
+    on_a_new_runtime(&rt, Scene::Shares, limits(64, 100)?)?;
     Ok(())
 }
 
-/// All of host memory is read, and nothing from where there is none. Then a region is entered on each of two devices, and
-/// the second one is exited first.
-const CALLS: [(Deed, Result<u64, Fault>); 15] = [
-    (
-        Deed::ReadFrom(Section {
-            start: HOST_BASE,
-            len: 4_096,
-        }),
-        Ok(4_096),
-    ),
-    (
-        Deed::ReadFrom(Section {
-            start: u64::MAX,
-            len: 0,
-        }),
-        Ok(0),
-    ),
+/// A region is entered on each of two devices, and the one that was entered last is exited first.
+const BOTH: [(Deed, Result<u64, Fault>); 13] = [
     (Deed::On(1), Ok(0)),
     (Deed::Enter(RegionClause::Copy), Ok(1)),
     (Deed::Structured, Ok(1)),
@@ -97,17 +82,17 @@ const CALLS: [(Deed, Result<u64, Fault>); 15] = [
     (Deed::Structured, Ok(0)),
 ];
 
-/// Makes those calls, behind which the caller has the whole allowance.
-pub fn call<Regions: Ledger, Tickets: Ledger, Events: Ledger, R: Abort + Wait + AllocGlobal>(
+/// Makes those calls. Behind them the caller has the whole allowance.
+pub fn enter_both<Regions: Ledger, Tickets: Ledger, Events: Ledger, R: Abort + Wait + AllocGlobal>(
     actor: &mut Actor<Regions, Tickets, Events, R>,
 ) -> Result<(), Fault> {
-    actor.make_all(&CALLS);
+    actor.make_all(&BOTH);
     same(actor.rt, actor.shares(), (64, 96, 4));
     Ok(())
 }
 
 #[test]
 fn no_structured_counter_counts_with_the_whole_allowance(rt: HostRuntime) -> Result<(), Fail> {
-    on_a_new_runtime(&rt, Scene::Calls, two_devices())?;
+    on_a_new_runtime(&rt, Scene::Devices, two_devices()?)?;
     Ok(())
 }

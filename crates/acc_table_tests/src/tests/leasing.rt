@@ -38,7 +38,21 @@ fn told_by(lease: &Lease) -> ToldBy {
     }
 }
 
-/// Brings a lease back, and answers what that is refused for. A refused lease comes back as it was.
+/// The call that came back brings the lease as it was.
+fn came_back(rt: &impl Abort, row: &str, call: Call, before: ToldBy) {
+    match call {
+        Call::Gather(lease) => {
+            same(rt, row, told_by(&lease), before);
+            lease.abandon();
+        }
+        other => {
+            abandon(other);
+            panic!(rt; "{row}: another call came back")
+        }
+    }
+}
+
+/// Brings a lease back, and answers what that is refused for.
 fn gather(rt: &impl Abort, row: &str, table: &mut Table, lease: Lease) -> Option<Fault> {
     let before = told_by(&lease);
     match apply_twice(rt, row, table, Call::Gather(lease)) {
@@ -46,14 +60,9 @@ fn gather(rt: &impl Abort, row: &str, table: &mut Table, lease: Lease) -> Option
             reply.abandon();
             None
         }
-        Err((Call::Gather(lease), fault)) => {
-            same(rt, row, told_by(&lease), before);
-            lease.abandon();
+        Err((call, fault)) => {
+            came_back(rt, row, call, before);
             Some(fault)
-        }
-        Err((call, _)) => {
-            abandon(call);
-            panic!(rt; "{row}: another call came back")
         }
     }
 }

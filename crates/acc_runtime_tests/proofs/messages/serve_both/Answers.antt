@@ -5,5 +5,5 @@ use Rattle.acc_runtime.proofs.callers.Caller.TheSendSync.{the_send as caller_sen
 use Rattle.acc_runtime_tests.proofs.gates.Meeting.TheSendSync.{the_sync as meeting_sync}
 use Rattle.acc_runtime_tests.proofs.messages.serve_both.Goals as goal
 
-pub join-other-requires-send-F : goal.join-other-requires-send-F
-join-other-requires-send-F g c κs within = search (sendable, crosses, runtime_sync, caller_send, meeting_sync) depth 40 fits 10000
+pub join-one-requires-send-F : goal.join-one-requires-send-F
+join-one-requires-send-F g c κs within = search (sendable, crosses, runtime_sync, caller_send, meeting_sync) depth 40 fits 10000

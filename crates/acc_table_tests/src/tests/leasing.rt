@@ -6,7 +6,7 @@ use crate::tests::same;
 use crate::tests::turns::{table_of, turn_of};
 use acc_base::Fault;
 use acc_lend::{Add, run_one};
-use acc_table::{Call, Lease, Table, Turn, abandon, abandon_all};
+use acc_table::{Answer, Call, Lease, Table, Turn, abandon, abandon_all};
 use std::alloc::{AllocError, Global};
 use std::process::Abort;
 
@@ -100,7 +100,17 @@ fn turns_of(alloc: Global, device: u64, asks: &[Ask]) -> Result<Vec<Turn>, Alloc
     Ok(turns)
 }
 
-/// The lease that a table has out behind these turns.
+/// No turn was refused memory.
+fn are_made(outcome: Result<Vec<Answer>, Fault>) -> bool {
+    match outcome {
+        Ok(answers) => answers
+            .iter()
+            .all(|answer| !matches!(answer, Answer::Refused(Fault::Memory))),
+        Err(_) => false,
+    }
+}
+
+/// The lease that a table has out behind these turns, where none was refused memory.
 fn lent_by(
     alloc: Global,
     table: &mut Table,
@@ -109,10 +119,9 @@ fn lent_by(
 ) -> Result<Option<Lease>, Fault> {
     let turns = turns_of(alloc, device, asks)?;
     let mut leases = Vec::new(alloc);
-    let outcome = table.run(turns, &mut leases);
-    let lease = leases.pop();
+    let is_whole = are_made(table.run(turns, &mut leases));
+    let lease = if is_whole { leases.pop() } else { None };
     abandon_all(leases);
-    drop(outcome);
     Ok(lease)
 }
 

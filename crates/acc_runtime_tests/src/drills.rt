@@ -1,7 +1,7 @@
 //! Drills: what they answer and leave, what their threads do, and that these work at the same time.
 
 use crate::actors::{Actor, Deed};
-use crate::gates::{Meeting, Watch};
+use crate::gates::Meeting;
 use crate::lives::{MAPPED, reads};
 use crate::same;
 use crate::scenes::{Scene, again_on_a_new_runtime, limits, on_a_new_runtime};
@@ -39,8 +39,8 @@ pub enum Around {
     /// So they do, and the array is lent in a region of the caller's, so the first thread cannot exit. The counters are at
     /// their limit then, so the other cannot enter.
     Loan(usize),
-    /// The table is looked at, before and after the work of one thread that makes one round, and the trace is read.
-    Look,
+    /// Nothing, and the trace of one thread that makes one round is read behind it.
+    Trace,
 }
 
 /// Threads that are not held.
@@ -64,7 +64,7 @@ const LONG: [Drilling; 2] = [
 /// Short drills, two of them with too few shares for their threads.
 const SHORT: [Drilling; 4] = [
     ((2, 13), (2, 3), Around::Nothing, Ok([2, 13, 0, 1]), (2, 13)),
-    ((64, 100), (1, 1), Around::Look, Ok([64, 3, 0, 1]), (64, 3)),
+    ((64, 100), (1, 1), Around::Trace, Ok([64, 3, 0, 1]), (64, 3)),
     (
         (1, 100),
         (2, 3),
@@ -146,9 +146,6 @@ const FAULTS: [Drilling; 2] = [
     ),
 ];
 
-/// How many events there are before and after the round of a single thread.
-const LOOKS: [u64; 2] = [1, 3];
-
 /// The trace behind that.
 const TRACE: [&str; 3] = [
     MAPPED,
@@ -222,14 +219,6 @@ impl<
         self.drill_held(work, first)
     }
 
-    /// Drills with a gate that looks.
-    fn drill_watched(&mut self, work: (usize, u64)) -> Result<Drilled, Fault> {
-        let watch = Watch::new(self.runtime, self.caller.split(0, 0)?, &LOOKS);
-        let left = self.drill(work, &watch);
-        same(self.rt, watch.saw_all() || left == Err(Fault::Memory), true);
-        left
-    }
-
     /// The trace is the one wanted.
     fn check_trace(&mut self) -> Result<(), Fault> {
         let alloc = self.rt.alloc();
@@ -244,11 +233,10 @@ impl<
 
     fn drill_as(&mut self, work: (usize, u64), around: Around) -> Result<Drilled, Fault> {
         match around {
-            Around::Nothing => self.drill(work, &Open),
+            Around::Nothing | Around::Trace => self.drill(work, &Open),
             Around::Region => self.drill_inside(work),
             Around::Meeting(first) => self.drill_held(work, first),
             Around::Loan(first) => self.drill_lent(work, first),
-            Around::Look => self.drill_watched(work),
         }
     }
 
@@ -277,7 +265,7 @@ impl<
         let (allowance, _, made) = self.shares();
         same(self.rt, (found, (allowance, made)), (wanted, kept));
         match around {
-            Around::Look => self.check_trace(),
+            Around::Trace => self.check_trace(),
             _ => Ok(()),
         }
     }

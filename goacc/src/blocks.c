@@ -44,6 +44,10 @@ static size_t window_count, window_room;
 /* All windows lie between these device addresses. */
 static uintptr_t lowest = UINTPTR_MAX, highest;
 
+/* The blocks that acc_map_data gave an address of the program. */
+static lwa_block **moved;
+static size_t moved_count, moved_room;
+
 static range *free_ranges;
 static size_t free_count, free_room, next_free;
 static bool started;
@@ -189,6 +193,11 @@ lwa_block *lwa_on_device(uintptr_t device, uintptr_t *at)
             *at = windows[i].at + (device - windows[i].device);
         }
     }
+    for (size_t i = 0; i < moved_count; i++) {
+        if (device - moved[i]->device < moved[i]->len) {
+            *at = moved[i]->at + (device - moved[i]->device);
+        }
+    }
     block = lwa_meets(*at, 1);
     return block != NULL && lwa_device_of(block, *at) == device ? block : NULL;
 }
@@ -208,10 +217,10 @@ void lwa_give_found(const lwa_block *block)
     const uintptr_t end = block->device + block->len;
 
     for (uintptr_t at = first; at + LWA_POINTER <= end; at += LWA_POINTER) {
-        const uintptr_t value = *(const uintptr_t *)at;
+        uintptr_t value, of_program;
         lwa_block *found;
-        uintptr_t of_program;
 
+        memcpy(&value, (const void *)at, LWA_POINTER);
         if (value - lowest < highest - lowest) {
             found = lwa_on_device(value, &of_program);
             if (found != NULL) {
@@ -240,6 +249,31 @@ lwa_block *lwa_born(uintptr_t at, size_t len, uint64_t told, uintptr_t device)
     return block;
 }
 
+static void forget_moved(lwa_block *block)
+{
+    for (size_t i = 0; i < moved_count; i++) {
+        if (moved[i] == block) {
+            moved[i] = moved[--moved_count];
+        }
+    }
+    block->moved = false;
+}
+
+void lwa_move(lwa_block *block, uintptr_t at)
+{
+    tdelete(block, &tree, compare);
+    forget_moved(block);
+    block->at = at;
+    if (at != block->device) {
+        moved = lwa_grown(moved, moved_count, &moved_room, sizeof *moved);
+        moved[moved_count++] = block;
+        block->moved = true;
+    }
+    if (tsearch(block, &tree, compare) == NULL) {
+        lwa_unserved("no memory for the library's own lists");
+    }
+}
+
 static void drop(lwa_block *block)
 {
     free(block->pointers);
@@ -258,6 +292,7 @@ static void drop_unused(lwa_block *block)
 void lwa_ended(lwa_block *block)
 {
     tdelete(block, &tree, compare);
+    forget_moved(block);
     block->mapped = false;
     for (lwa_block **next = &given; block->given; next = &(*next)->next_given) {
         if (*next == block) {
@@ -297,6 +332,7 @@ void lwa_forget_blocks(void)
     tdestroy(tree, drop_node);
     tree = NULL;
     given = NULL;
+    moved_count = 0;
     for (size_t i = 0; i < window_count; i++) {
         munmap((void *)windows[i].device, windows[i].len);
     }

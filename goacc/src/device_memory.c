@@ -145,15 +145,37 @@ LWA_EXPORT void acc_memcpy_from_device_async(void *to, void *address, size_t len
     from_device("acc_memcpy_from_device_async", LWA_FROM, to, address, len, async);
 }
 
-/* A block of the table has its bytes from one place alone, so another's cannot be mapped. */
+/* All of a block of acc_malloc is mapped to the program's bytes, or is so no more. The counters stay. */
 LWA_EXPORT void acc_map_data(void *at, void *address, size_t len)
 {
+    lwa_block *block;
+    uintptr_t start;
+
     lwa_take("acc_map_data", LWA_FROM);
-    lwa_unserved("this routine is not served (%p, %p, %zu)", at, address, len);
+    if (lwa_is_for_table()) {
+        block = lwa_on_device((uintptr_t)address, &start);
+        if (block == NULL || is_of_program(block) || start != block->at || len != block->len) {
+            lwa_unserved("the %zu bytes at %p are not all of what acc_malloc gave", len, address);
+        }
+        if (at == NULL || lwa_meets((uintptr_t)at, len) != NULL) {
+            lwa_unserved("some of the %zu bytes at %p are mapped already, or it is a null pointer", len, at);
+        }
+        lwa_move(block, (uintptr_t)at);
+    }
+    lwa_leave();
 }
 
 LWA_EXPORT void acc_unmap_data(void *at)
 {
+    lwa_block *block;
+
     lwa_take("acc_unmap_data", LWA_FROM);
-    lwa_unserved("this routine is not served (%p)", at);
+    if (lwa_is_for_table()) {
+        block = lwa_meets((uintptr_t)at, 1);
+        if (block == NULL || !block->moved || block->at != (uintptr_t)at) {
+            lwa_unserved("%p is not an address that acc_map_data has mapped", at);
+        }
+        lwa_move(block, block->device);
+    }
+    lwa_leave();
 }

@@ -1,4 +1,7 @@
 /* The routines of devices and of queues (OpenACC 3.3, section 3.2), as GCC 12's openacc.h has them. */
+#include <stdlib.h>
+#include <strings.h>
+
 #include "inner.h"
 
 /* The numbers of openacc.h. */
@@ -14,12 +17,17 @@ enum {
 /* async without a number. */
 #define ASYNC_WITHOUT_NUMBER (-1)
 
-/* The device that the directives of this thread are for is the host, which shares its memory. */
-static _Thread_local bool host_chosen;
+/* Which device the directives of this thread are for: the host, which shares its memory, or the table's. */
+static _Thread_local enum { BY_ENVIRONMENT, HOST, TABLE } chosen;
 
 bool lwa_is_for_table(void)
 {
-    return !host_chosen;
+    const char *type = getenv("ACC_DEVICE_TYPE");
+
+    if (chosen == BY_ENVIRONMENT) {
+        chosen = type != NULL && strcasecmp(type, "host") == 0 ? HOST : TABLE;
+    }
+    return chosen == TABLE;
 }
 
 /* ---- Devices ---- */
@@ -45,7 +53,7 @@ LWA_EXPORT void acc_init(int type)
 {
     lwa_take("acc_init", LWA_FROM);
     want_type(type);
-    host_chosen = is_host_type(type);
+    chosen = is_host_type(type) ? HOST : TABLE;
     lwa_leave();
 }
 
@@ -74,7 +82,7 @@ LWA_EXPORT void acc_set_device_type(int type)
 {
     lwa_take("acc_set_device_type", LWA_FROM);
     want_type(type);
-    host_chosen = is_host_type(type);
+    chosen = is_host_type(type) ? HOST : TABLE;
     lwa_leave();
 }
 
@@ -90,7 +98,7 @@ LWA_EXPORT void acc_set_device_num(int number, int type)
     if (number != 0) {
         lwa_unserved("there is no device of the number %d; there is device 0", number);
     }
-    host_chosen = is_host_type(type);
+    chosen = is_host_type(type) ? HOST : TABLE;
     lwa_leave();
 }
 

@@ -36,7 +36,7 @@ static bool may_map(const lwa_directive *d, const lwa_item *item)
    never mapped. A section that is partly present is told so: with an address of a block, and the one before it. */
 static void tell_section(const lwa_directive *d, lwa_item *item)
 {
-    const lwa_block *met = lwa_meets(item->at, item->len);
+    lwa_block *met = lwa_meets(item->at, item->len);
     const bool maps = met == NULL && may_map(d, item);
 
     if (item->len > UINTPTR_MAX - item->at
@@ -53,6 +53,7 @@ static void tell_section(const lwa_directive *d, lwa_item *item)
         item->told.start = met->told - 1;
         item->told.len = 2;
     } else {
+        item->block = met;
         item->told.start = met->told + (item->at - met->at);
         item->told.len = item->len;
     }
@@ -72,7 +73,6 @@ static void tell(const lwa_directive *d, lwa_item *item)
         return;
     }
     if (item->len != 0) {
-        item->block = lwa_inside(item->at, item->len);
         tell_section(d, item);
     }
     if (item->pointer != 0) {
@@ -99,7 +99,7 @@ static void before(const lwa_directive *d, const lwa_item *item)
 
     if (enters(d)) {
         if (now && told && item->block == NULL && copies_in(item->clause) && item->len != 0 && may_map(d, item)) {
-            lwa_mirror_in(item->at, item->told.start, item->len);
+            lwa_write(item->told.start, (const void *)item->at, item->len);
         }
         lwa_aim(item);
     } else if (item->clause == LW_DEVICE) {

@@ -51,6 +51,7 @@ typedef struct lwa_block {
     uint64_t told;    /* the table's address */
     uintptr_t device; /* the device address */
     bool mapped;
+    bool moved;       /* by acc_map_data: of the device addresses it alone follows the program's so */
     size_t waiting; /* the copies that wait */
     size_t kernels; /* the kernels that have it; while there are some it is lent */
     uint64_t lease;
@@ -175,6 +176,9 @@ uint64_t lwa_outside(void);
 
 /* A section that is mapped now, at table addresses that were taken for it. */
 lwa_block *lwa_born(uintptr_t at, size_t len, uint64_t told, uintptr_t device);
+
+/* Gives a block of acc_malloc, which has all of its bytes, another address of the program; its device address for none. */
+void lwa_move(lwa_block *block, uintptr_t at);
 
 /* It is mapped no more; and a copy of it waits no more. */
 void lwa_ended(lwa_block *block);

@@ -101,6 +101,21 @@ static void add_pointer(lwa_items *items, uintptr_t at, size_t bias, bool leave)
     last->bias = (intptr_t)bias;
 }
 
+/* A descriptor of Fortran begins with the pointer to the array before it, of which the next map tells how far it points
+   before it. The device has a copy of it with that pointer. */
+static void add_descriptor(lwa_items *items, const lwa_maps *maps, size_t i, lwa_way way)
+{
+    const bool told = i + 1 < maps->count && kind_of(maps, i + 1) == KIND_POINTER;
+    lwa_item *item;
+
+    if (way != LWA_UPDATE) {
+        lwa_add_item(items, way == LWA_EXIT_DATA ? LW_DELETE : LW_COPYIN, (uintptr_t)maps->at[i], maps->sizes[i]);
+        item = &items->at[items->count - 1];
+        item->pointer = item->at;
+        item->bias = told ? (intptr_t)maps->sizes[i + 1] : 0;
+    }
+}
+
 /* Adds the item of one map, where it is one. Nothing is done with a null pointer. */
 static void add_map(lwa_items *items, const lwa_maps *maps, size_t i, lwa_way way)
 {
@@ -115,6 +130,9 @@ static void add_map(lwa_items *items, const lwa_maps *maps, size_t i, lwa_way wa
     case KIND_MEMBER_POINTER:
     case KIND_USE_DEVICE:
     case KIND_USE_DEVICE_IF_PRESENT:
+        return;
+    case KIND_DESCRIPTOR:
+        add_descriptor(items, maps, i, way);
         return;
     case KIND_ATTACH:
     case KIND_DETACH:

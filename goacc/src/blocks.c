@@ -327,17 +327,12 @@ static void drop_node(void *block)
     drop(block);
 }
 
+/* The windows stay, since a kernel may run while the program ends. */
 void lwa_forget_blocks(void)
 {
     tdestroy(tree, drop_node);
     tree = NULL;
     given = NULL;
     moved_count = 0;
-    for (size_t i = 0; i < window_count; i++) {
-        munmap((void *)windows[i].device, windows[i].len);
-    }
-    window_count = 0;
-    lowest = UINTPTR_MAX;
-    highest = 0;
     started = false;
 }
